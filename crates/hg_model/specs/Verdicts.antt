@@ -1,0 +1,159 @@
+-- The verdict on an offered event: the trace rules and the limits, in the order in which they are tested.
+use Rattle.std.specs.Prelude.{◌≡◌, ℕ, ◌+◌, ◌^◌, Bool, false, ◌&&◌, ◌||◌, not, ◌==◌, nat_lt, nat_le, List, [], ◌∷◌, length, slice_index, if◌then◌else◌}
+use Rattle.std.specs.List.{list_any}
+use Rattle.hg_model.specs.declared.event.Event.{Event}
+use Rattle.hg_model.specs.declared.event.Event.TheVariants.{Fork, Join, Lock, RdLock, Unlock, Read, Write, Alloc, Free}
+use Rattle.hg_model.specs.declared.event.Named.{Named}
+use Rattle.hg_model.specs.declared.state.HeldLock.{HeldLock}
+use Rattle.hg_model.specs.declared.state.ThreadState.{ThreadState}
+use Rattle.hg_model.specs.declared.state.TraceState.{TraceState}
+use Rattle.hg_model.specs.declared.verdict.Refusal.{Refusal}
+use Rattle.hg_model.specs.declared.verdict.Refusal.TheVariants.{Gap, BadNumber, BadLength, AddressEnd, NoThread, ChildUsed, SelfJoin, ChildNotAlive, ChildHoldsLocks, AlreadyHeld, LockBusy, NotHeld, FullHeld, FullSegments, FullEvents}
+use Rattle.hg_model.specs.declared.verdict.Verdict.{Verdict}
+use Rattle.hg_model.specs.declared.verdict.Verdict.TheVariants.{Accept, Duplicate, Refuse}
+use Rattle.hg_model.specs.Contents.{Content, summary}
+
+-- What a verdict depends on.
+pub record Standing : Type 0 where
+  pub events : ℕ
+  pub segments : ℕ
+  pub threads : List ThreadState
+  pub last : ℕ → ℕ
+
+abbrev pub standing_of : Content → Standing
+standing_of c = record { events = c.events; segments = length c.segments; threads = c.threads; last = c.last }
+
+abbrev pub standing : TraceState → Standing
+standing s = record { events = s.events; segments = s.segments; threads = s.threads; last = slice_index s.last }
+
+-- The content has the parts of the trace state.
+pub record HasParts (c : Content) (s : TraceState) : Type 0 where
+  pub events : s.events ≡ c.events
+  pub segments : s.segments ≡ length c.segments
+  pub threads : s.threads ≡ c.threads
+  pub last : (source : ℕ) → slice_index s.last source ≡ c.last source
+
+-- the thread that acts
+abbrev pub actor : Event → ℕ
+actor (Fork p c) = p
+actor (Join p c) = p
+actor (Lock t l) = t
+actor (RdLock t l) = t
+actor (Unlock t l) = t
+actor (Read a) = a.t
+actor (Write a) = a.t
+actor (Alloc b) = b.t
+actor (Free b) = b.t
+
+-- a thread of this number was started, and the test holds of it
+abbrev pub has_thread : List ThreadState → ℕ → (ThreadState → Bool) → Bool
+has_thread threads t test = list_any (λ x. (x.number == t) && test x) threads
+
+abbrev pub has_lock : List HeldLock → ℕ → Bool
+has_lock hs l = list_any (λ h. h.lock == l) hs
+
+abbrev pub has_lock_for_writing : List HeldLock → ℕ → Bool
+has_lock_for_writing hs l = list_any (λ h. (h.lock == l) && h.write) hs
+
+abbrev pub is_above_limit : ℕ → Bool
+is_above_limit n = nat_lt 1023 n
+
+abbrev pub bad_number : ℕ → Event → Bool
+bad_number source (Fork p c) = is_above_limit source || is_above_limit p || is_above_limit c
+bad_number source (Join p c) = is_above_limit source || is_above_limit p || is_above_limit c
+bad_number source e = is_above_limit source || is_above_limit (actor e)
+
+abbrev pub bad_length : Event → Bool
+bad_length (Read a) = (a.len == 0) || nat_lt 64 a.len
+bad_length (Write a) = (a.len == 0) || nat_lt 64 a.len
+bad_length (Alloc b) = (b.len == 0) || nat_lt 1024 b.len
+bad_length (Free b) = (b.len == 0) || nat_lt 1024 b.len
+bad_length _ = false
+
+abbrev pub passes_end : ℕ → ℕ → Bool
+passes_end at len = nat_lt (2 ^ 64) (at + len)
+
+abbrev pub past_address_end : Event → Bool
+past_address_end (Read a) = passes_end a.at a.len
+past_address_end (Write a) = passes_end a.at a.len
+past_address_end (Alloc b) = passes_end b.at b.len
+past_address_end (Free b) = passes_end b.at b.len
+past_address_end _ = false
+
+abbrev pub no_thread : List ThreadState → Event → Bool
+no_thread threads e = not (has_thread threads (actor e) (λ x. x.alive))
+
+abbrev pub child_used : List ThreadState → Event → Bool
+child_used threads (Fork p c) = list_any (λ x. x.number == c) threads
+child_used threads _ = false
+
+abbrev pub self_join : Event → Bool
+self_join (Join p c) = p == c
+self_join _ = false
+
+abbrev pub child_not_alive : List ThreadState → Event → Bool
+child_not_alive threads (Join p c) = not (has_thread threads c (λ x. x.alive))
+child_not_alive threads _ = false
+
+abbrev pub child_holds_locks : List ThreadState → Event → Bool
+child_holds_locks threads (Join p c) = has_thread threads c (λ x. nat_lt 0 (length x.held))
+child_holds_locks threads _ = false
+
+abbrev pub already_held : List ThreadState → Event → Bool
+already_held threads (Lock t l) = has_thread threads t (λ x. has_lock x.held l)
+already_held threads (RdLock t l) = has_thread threads t (λ x. has_lock x.held l)
+already_held threads _ = false
+
+-- a lock needs that nobody holds it, a read lock that nobody writes under it
+abbrev pub lock_busy : List ThreadState → Event → Bool
+lock_busy threads (Lock t l) = list_any (λ x. has_lock x.held l) threads
+lock_busy threads (RdLock t l) = list_any (λ x. has_lock_for_writing x.held l) threads
+lock_busy threads _ = false
+
+abbrev pub not_held : List ThreadState → Event → Bool
+not_held threads (Unlock t l) = not (has_thread threads t (λ x. has_lock x.held l))
+not_held threads _ = false
+
+abbrev pub full_held : List ThreadState → Event → Bool
+full_held threads (Lock t l) = has_thread threads t (λ x. nat_le 64 (length x.held))
+full_held threads (RdLock t l) = has_thread threads t (λ x. nat_le 64 (length x.held))
+full_held threads _ = false
+
+-- a fork opens two segments and a join one
+abbrev pub full_segments : ℕ → Event → Bool
+full_segments segments (Fork p c) = nat_lt 1048576 (segments + 2)
+full_segments segments (Join p c) = nat_lt 1048576 (segments + 1)
+full_segments segments _ = false
+
+-- What may stand against an event, in the order of testing: its form, the threads, and then the locks and limits.
+abbrev pub lock_causes : Standing → Event → List (Bool × Refusal)
+lock_causes s e =
+    (already_held s.threads e, AlreadyHeld) ∷ (lock_busy s.threads e, LockBusy) ∷ (not_held s.threads e, NotHeld)
+    ∷ (full_held s.threads e, FullHeld) ∷ (full_segments s.segments e, FullSegments) ∷ (nat_le (2 ^ 58) s.events, FullEvents) ∷ []
+
+abbrev pub thread_causes : Standing → Event → List (Bool × Refusal)
+thread_causes s e =
+    (no_thread s.threads e, NoThread) ∷ (child_used s.threads e, ChildUsed) ∷ (self_join e, SelfJoin)
+    ∷ (child_not_alive s.threads e, ChildNotAlive) ∷ (child_holds_locks s.threads e, ChildHoldsLocks) ∷ lock_causes s e
+
+abbrev pub causes : Standing → Named → List (Bool × Refusal)
+causes s n =
+    (bad_number n.source n.event, BadNumber) ∷ (bad_length n.event, BadLength) ∷ (past_address_end n.event, AddressEnd)
+    ∷ thread_causes s n.event
+
+-- the first cause that applies
+abbrev pub first_cause : List (Bool × Refusal) → Verdict
+first_cause [] = Accept
+first_cause (cause ∷ later) = if cause.0 then Refuse cause.1 else first_cause later
+
+-- A number at or below the last accepted one of its source is a duplicate, and one that is not the next one a gap.
+abbrev pub verdict : Standing → Named → Verdict
+verdict s n =
+    if nat_le n.number (s.last n.source) then Duplicate (s.last n.source)
+    else if nat_lt (s.last n.source + 1) n.number then Refuse (Gap (s.last n.source + 1))
+    else first_cause (causes s n)
+
+-- Each event of the trace is accepted after those before it.
+abbrev pub IsAccepted : List Named → Type 0
+IsAccepted [] = Unit {0}
+IsAccepted (n ∷ past) = IsAccepted past × (verdict (standing_of (summary past)) n ≡ Accept)

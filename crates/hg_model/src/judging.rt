@@ -1,0 +1,319 @@
+//! The verdict on an offered event.
+
+ghost use Rattle.std.specs.Prelude.{◌≡◌, ◌+◌, ◌==◌, ◌&&◌, nat_lt, nat_le, length, not, slice_index};
+ghost use Rattle.std.specs.List.{list_any};
+ghost use Rattle.hg_model.specs.Contents.{Content};
+ghost use Rattle.hg_model.specs.Verdicts as rules;
+
+use crate::event::{Event, Named};
+use crate::limits::{
+    GREATEST_ACCESS, GREATEST_BLOCK, GREATEST_NUMBER, MOST_EVENTS, MOST_HELD, MOST_SEGMENTS,
+};
+use crate::state::{HeldLocks, LastNumbers, ThreadState, Threads, TraceState};
+use crate::verdict::{Refusal, Verdict};
+
+/// Whether the next event of the trace may be this one: the verdict of any content with the parts of this state.
+pub fn judge(state: &TraceState, named: &Named) -> Verdict
+    ensures { (c : Content) → rules.HasParts c state.now → result ≡ rules.verdict (rules.standing_of c) named.now }
+{
+    judge_standing(state, named)
+}
+
+fn judge_standing(state: &TraceState, named: &Named) -> Verdict
+    ensures { result ≡ rules.verdict (rules.standing state.now) named.now }
+{
+    let last = last_of(&state.last, named.source);
+    if named.number <= last {
+        return Verdict::Duplicate(last);
+    }
+    if named.number - last > 1 {
+        return Verdict::Refuse(Refusal::Gap(last + 1));
+    }
+    let event = named.event;
+    if has_bad_number(named.source, event) {
+        return Verdict::Refuse(Refusal::BadNumber);
+    }
+    if has_bad_length(event) {
+        return Verdict::Refuse(Refusal::BadLength);
+    }
+    if is_past_address_end(event) {
+        return Verdict::Refuse(Refusal::AddressEnd);
+    }
+    judge_threads(state, event)
+}
+
+/// The causes that lie in the threads, and then those in the locks and limits.
+fn judge_threads(state: &TraceState, event: Event) -> Verdict
+    ensures { result ≡ rules.first_cause (rules.thread_causes (rules.standing state.now) event) }
+{
+    let threads = &state.threads;
+    if !is_alive(threads, actor_of(event)) {
+        return Verdict::Refuse(Refusal::NoThread);
+    }
+    if is_child_used(threads, event) {
+        return Verdict::Refuse(Refusal::ChildUsed);
+    }
+    if is_self_join(event) {
+        return Verdict::Refuse(Refusal::SelfJoin);
+    }
+    if is_child_not_alive(threads, event) {
+        return Verdict::Refuse(Refusal::ChildNotAlive);
+    }
+    if is_child_holding(threads, event) {
+        return Verdict::Refuse(Refusal::ChildHoldsLocks);
+    }
+    judge_locks(state, event)
+}
+
+fn judge_locks(state: &TraceState, event: Event) -> Verdict
+    ensures { result ≡ rules.first_cause (rules.lock_causes (rules.standing state.now) event) }
+{
+    let threads = &state.threads;
+    if is_already_held(threads, event) {
+        return Verdict::Refuse(Refusal::AlreadyHeld);
+    }
+    if is_busy(threads, event) {
+        return Verdict::Refuse(Refusal::LockBusy);
+    }
+    if is_not_held(threads, event) {
+        return Verdict::Refuse(Refusal::NotHeld);
+    }
+    if is_full_of_locks(threads, event) {
+        return Verdict::Refuse(Refusal::FullHeld);
+    }
+    if is_full_of_segments(state.segments, event) {
+        return Verdict::Refuse(Refusal::FullSegments);
+    }
+    if state.events >= MOST_EVENTS {
+        return Verdict::Refuse(Refusal::FullEvents);
+    }
+    Verdict::Accept
+}
+
+fn last_of(last: &LastNumbers, source: u16) -> u64
+    ensures { result ≡ slice_index last.now source }
+{
+    let numbers = last.as_slice();
+    let place = usize::from(source);
+    if place < numbers.len() {
+        numbers[place]
+    } else {
+        0
+    }
+}
+
+fn actor_of(event: Event) -> u16
+    ensures { result ≡ rules.actor event }
+{
+    match event {
+        Event::Fork { p, c: _ } => p,
+        Event::Join { p, c: _ } => p,
+        Event::Lock { t, l: _ } => t,
+        Event::RdLock { t, l: _ } => t,
+        Event::Unlock { t, l: _ } => t,
+        Event::Read(a) => a.t,
+        Event::Write(a) => a.t,
+        Event::Alloc(b) => b.t,
+        Event::Free(b) => b.t,
+    }
+}
+
+fn has_bad_number(source: u16, event: Event) -> bool
+    ensures { result ≡ rules.bad_number source event }
+{
+    if source > GREATEST_NUMBER || actor_of(event) > GREATEST_NUMBER {
+        return true;
+    }
+    match event {
+        Event::Fork { p: _, c } => c > GREATEST_NUMBER,
+        Event::Join { p: _, c } => c > GREATEST_NUMBER,
+        _ => false,
+    }
+}
+
+fn has_bad_length(event: Event) -> bool
+    ensures { result ≡ rules.bad_length event }
+{
+    match event {
+        Event::Read(a) => a.len == 0 || a.len > GREATEST_ACCESS,
+        Event::Write(a) => a.len == 0 || a.len > GREATEST_ACCESS,
+        Event::Alloc(b) => b.len == 0 || b.len > GREATEST_BLOCK,
+        Event::Free(b) => b.len == 0 || b.len > GREATEST_BLOCK,
+        _ => false,
+    }
+}
+
+fn passes_end(at: u64, len: u16) -> bool
+    ensures { result ≡ rules.passes_end at len }
+{
+    u128::from(at) + u128::from(len) > 18_446_744_073_709_551_616
+}
+
+fn is_past_address_end(event: Event) -> bool
+    ensures { result ≡ rules.past_address_end event }
+{
+    match event {
+        Event::Read(a) => passes_end(a.at, u16::from(a.len)),
+        Event::Write(a) => passes_end(a.at, u16::from(a.len)),
+        Event::Alloc(b) => passes_end(b.at, b.len),
+        Event::Free(b) => passes_end(b.at, b.len),
+        _ => false,
+    }
+}
+
+fn has_lock(held: &HeldLocks, l: u16) -> bool
+    ensures { result ≡ rules.has_lock held.now l }
+{
+    held.as_slice().iter().any(|h| h.lock == l)
+}
+
+fn has_lock_for_writing(held: &HeldLocks, l: u16) -> bool
+    ensures { result ≡ rules.has_lock_for_writing held.now l }
+{
+    held.as_slice().iter().any(|h| h.lock == l && h.write)
+}
+
+fn count_of(held: &HeldLocks) -> usize
+    ensures { result ≡ length held.now }
+{
+    held.as_slice().len()
+}
+
+fn is_alive(threads: &Threads, t: u16) -> bool
+    ensures { result ≡ rules.has_thread threads.now t (λ x. x.alive) }
+{
+    threads.as_slice().iter().any(|x| x.number == t && x.alive)
+}
+
+fn is_used(threads: &Threads, t: u16) -> bool
+    ensures { result ≡ list_any (λ x. x.number == t) threads.now }
+{
+    threads.as_slice().iter().any(|x| x.number == t)
+}
+
+fn holds(threads: &Threads, t: u16, l: u16) -> bool
+    ensures { result ≡ rules.has_thread threads.now t (λ x. rules.has_lock x.held l) }
+{
+    threads
+        .as_slice()
+        .iter()
+        .any(|x| x.number == t && has_lock(&x.held, l))
+}
+
+fn is_held(threads: &Threads, l: u16) -> bool
+    ensures { result ≡ list_any (λ x. rules.has_lock x.held l) threads.now }
+{
+    threads.as_slice().iter().any(|x| has_lock(&x.held, l))
+}
+
+fn is_held_for_writing(threads: &Threads, l: u16) -> bool
+    ensures { result ≡ list_any (λ x. rules.has_lock_for_writing x.held l) threads.now }
+{
+    threads
+        .as_slice()
+        .iter()
+        .any(|x| has_lock_for_writing(&x.held, l))
+}
+
+fn holds_some(threads: &Threads, t: u16) -> bool
+    ensures { result ≡ rules.has_thread threads.now t (λ x. nat_lt 0 (length x.held)) }
+{
+    threads
+        .as_slice()
+        .iter()
+        .any(|x| x.number == t && count_of(&x.held) > 0)
+}
+
+fn holds_most(threads: &Threads, t: u16) -> bool
+    ensures { result ≡ rules.has_thread threads.now t (λ x. nat_le 64 (length x.held)) }
+{
+    threads
+        .as_slice()
+        .iter()
+        .any(|x| x.number == t && count_of(&x.held) >= MOST_HELD)
+}
+
+fn is_child_used(threads: &Threads, event: Event) -> bool
+    ensures { result ≡ rules.child_used threads.now event }
+{
+    match event {
+        Event::Fork { p: _, c } => is_used(threads, c),
+        _ => false,
+    }
+}
+
+fn is_self_join(event: Event) -> bool
+    ensures { result ≡ rules.self_join event }
+{
+    match event {
+        Event::Join { p, c } => p == c,
+        _ => false,
+    }
+}
+
+fn is_child_not_alive(threads: &Threads, event: Event) -> bool
+    ensures { result ≡ rules.child_not_alive threads.now event }
+{
+    match event {
+        Event::Join { p: _, c } => !is_alive(threads, c),
+        _ => false,
+    }
+}
+
+fn is_child_holding(threads: &Threads, event: Event) -> bool
+    ensures { result ≡ rules.child_holds_locks threads.now event }
+{
+    match event {
+        Event::Join { p: _, c } => holds_some(threads, c),
+        _ => false,
+    }
+}
+
+fn is_already_held(threads: &Threads, event: Event) -> bool
+    ensures { result ≡ rules.already_held threads.now event }
+{
+    match event {
+        Event::Lock { t, l } => holds(threads, t, l),
+        Event::RdLock { t, l } => holds(threads, t, l),
+        _ => false,
+    }
+}
+
+fn is_busy(threads: &Threads, event: Event) -> bool
+    ensures { result ≡ rules.lock_busy threads.now event }
+{
+    match event {
+        Event::Lock { t: _, l } => is_held(threads, l),
+        Event::RdLock { t: _, l } => is_held_for_writing(threads, l),
+        _ => false,
+    }
+}
+
+fn is_not_held(threads: &Threads, event: Event) -> bool
+    ensures { result ≡ rules.not_held threads.now event }
+{
+    match event {
+        Event::Unlock { t, l } => !holds(threads, t, l),
+        _ => false,
+    }
+}
+
+fn is_full_of_locks(threads: &Threads, event: Event) -> bool
+    ensures { result ≡ rules.full_held threads.now event }
+{
+    match event {
+        Event::Lock { t, l: _ } => holds_most(threads, t),
+        Event::RdLock { t, l: _ } => holds_most(threads, t),
+        _ => false,
+    }
+}
+
+fn is_full_of_segments(segments: u32, event: Event) -> bool
+    ensures { result ≡ rules.full_segments segments event }
+{
+    match event {
+        Event::Fork { p: _, c: _ } => u64::from(segments) + 2 > u64::from(MOST_SEGMENTS),
+        Event::Join { p: _, c: _ } => u64::from(segments) + 1 > u64::from(MOST_SEGMENTS),
+        _ => false,
+    }
+}
