@@ -1,12 +1,12 @@
 -- What an accepted event meets, and what it does to the threads.
-use Rattle.std.proofs.Common.{◌≡◌, ℕ, ◌+◌, Bool, true, false, cond, ◌||◌, ◌&&◌, nat_eq, nat_le, nat_lt, List, [], ◌∷◌, map, refl, sym, ap, ◌∙◌, subst, ⊎_elim, eqb-true}
-use Rattle.std.proofs.lemmas.Bool.{or_cases, or_parts, or_left, or_right, and_parts, false≢true, not-false, false_from_ne_true}
+use Rattle.std.proofs.Common.{◌≡◌, ℕ, ◌+◌, Bool, true, false, cond, not, ◌||◌, ◌&&◌, nat_eq, nat_le, nat_lt, List, [], ◌∷◌, length, map, refl, sym, ap, ◌∙◌, subst, ⊎_elim, eqb-true}
+use Rattle.std.proofs.lemmas.Bool.{or_cases, or_parts, or_left, or_right, and_parts, and_from, not_from_false, false≢true, not-false, false_from_ne_true}
 use Rattle.std.specs.List.{list_any, AllByRecursion}
 use Rattle.hg_model.specs.declared.event.Event.{Event}
 use Rattle.hg_model.specs.declared.event.Event.TheVariants.{Fork, Join, Lock, RdLock, Unlock, Read, Write, Alloc, Free}
 use Rattle.hg_model.specs.declared.event.Named.{Named}
-use Rattle.hg_model.specs.declared.state.ThreadState.{ThreadState}
-use Rattle.hg_model.specs.declared.state.HeldLock.{HeldLock}
+use Rattle.hg_model.specs.declared.thread.ThreadState.{ThreadState}
+use Rattle.hg_model.specs.declared.held.HeldLock.{HeldLock}
 use Rattle.hg_model.specs.declared.verdict.Refusal.{Refusal}
 use Rattle.hg_model.specs.declared.verdict.Refusal.TheVariants.{Gap}
 use Rattle.hg_model.specs.declared.verdict.Verdict.{Verdict}
@@ -16,7 +16,7 @@ use Rattle.hg_model.specs.Sets.{with_member}
 use Rattle.hg_model.specs.Segments.{segments_of, used, not_joined}
 use Rattle.hg_model.specs.declared.segment.Segment.{Segment}
 use Rattle.hg_model.specs.Contents.{events_of, thread_of, threads_of, summary}
-use Rattle.hg_model.specs.Verdicts.{Standing, standing_of, actor, has_thread, child_used, child_not_alive, first_cause, causes, verdict, IsAccepted}
+use Rattle.hg_model.specs.Verdicts.{Standing, standing_of, actor, has_thread, no_thread, child_used, child_not_alive, full_held, first_cause, causes, verdict, IsAccepted, MayFollow}
 use Rattle.hg_model.specs.Change.{threads_after, with_thread}
 use Rattle.hg_model.proofs.Owners.{Owns, used_own}
 
@@ -199,3 +199,28 @@ threads_law past (Read a) h blank = refl
 threads_law past (Write a) h blank = refl
 threads_law past (Alloc b) h blank = refl
 threads_law past (Free b) h blank = refl
+
+-- an acting thread that is alive and not full of locks
+room_from : (threads : List ThreadState) (t : ℕ) (p q : ThreadState → Bool) → has_thread threads t p ≡ true → has_thread threads t q ≡ false → has_thread threads t (λ x. not (q x)) ≡ true
+room_from [] t p q some none = absurd (false≢true some)
+room_from (x ∷ threads) t p q some none =
+    let parts = or_parts (nat_eq x.number t && q x) (has_thread threads t q) none in
+    ⊎_elim
+    (λ here. let is = and_parts (nat_eq x.number t) (p x) here in
+    or_left (nat_eq x.number t && not (q x)) _ (and_from (nat_eq x.number t) (not (q x)) is.0 (not_from_false (q x) (ap (λ b. b && q x) (sym is.0) ∙ parts.0))))
+    (λ later. or_right (nat_eq x.number t && not (q x)) _ (room_from threads t p q later parts.1))
+    (or_cases (nat_eq x.number t && p x) _ some)
+
+pub room_for_lock : (threads : List ThreadState) (t l : ℕ) → MayFollow threads (Lock t l) → has_thread threads t (λ x. not (nat_le 64 (length x.held))) ≡ true
+room_for_lock threads t l (s, n, same, is, accepted) =
+    let none = no_cause s n accepted in
+    let alive : has_thread threads t (λ x. x.alive) ≡ true = not-false (has_thread threads t (λ x. x.alive)) ((λ i. no_thread (sym same i) (sym is i)) ∙ none.1.1.1.0) in
+    let room : has_thread threads t (λ x. nat_le 64 (length x.held)) ≡ false = (λ i. full_held (sym same i) (sym is i)) ∙ none.1.1.1.1.1.1.1.1.1.1.1.0 in
+    room_from threads t (λ x. x.alive) (λ x. nat_le 64 (length x.held)) alive room
+
+pub room_for_read_lock : (threads : List ThreadState) (t l : ℕ) → MayFollow threads (RdLock t l) → has_thread threads t (λ x. not (nat_le 64 (length x.held))) ≡ true
+room_for_read_lock threads t l (s, n, same, is, accepted) =
+    let none = no_cause s n accepted in
+    let alive : has_thread threads t (λ x. x.alive) ≡ true = not-false (has_thread threads t (λ x. x.alive)) ((λ i. no_thread (sym same i) (sym is i)) ∙ none.1.1.1.0) in
+    let room : has_thread threads t (λ x. nat_le 64 (length x.held)) ≡ false = (λ i. full_held (sym same i) (sym is i)) ∙ none.1.1.1.1.1.1.1.1.1.1.1.0 in
+    room_from threads t (λ x. x.alive) (λ x. nat_le 64 (length x.held)) alive room

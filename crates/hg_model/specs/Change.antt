@@ -3,8 +3,8 @@ use Rattle.std.specs.Prelude.{ℕ, ◌+◌, Bool, true, false, ◌==◌, ◌&&�
 use Rattle.hg_model.specs.declared.event.Event.{Event}
 use Rattle.hg_model.specs.declared.event.Event.TheVariants.{Fork, Join, Lock, RdLock, Unlock, Read, Write, Alloc, Free}
 use Rattle.hg_model.specs.declared.event.Named.{Named}
-use Rattle.hg_model.specs.declared.state.HeldLock.{HeldLock}
-use Rattle.hg_model.specs.declared.state.ThreadState.{ThreadState}
+use Rattle.hg_model.specs.declared.held.HeldLock.{HeldLock}
+use Rattle.hg_model.specs.declared.thread.ThreadState.{ThreadState}
 use Rattle.hg_model.specs.declared.report.Report.{Report}
 use Rattle.hg_model.specs.Locks.{with_hold, without_lock, counted}
 use Rattle.hg_model.specs.Segments.{of_thread, present, opened, thread_at}
@@ -33,9 +33,12 @@ abbrev pub with_thread : ThreadState → List ThreadState → List ThreadState
 with_thread t [] = t ∷ []
 with_thread t (x ∷ xs) = if nat_lt t.number x.number then t ∷ x ∷ xs else if t.number == x.number then x ∷ xs else x ∷ with_thread t xs
 
+abbrev pub dead : ThreadState → ThreadState
+dead x = record { number = x.number; alive = false; held = x.held }
+
 abbrev pub threads_after : Event → List ThreadState → List ThreadState
 threads_after (Fork p c) threads = with_thread (record { number = c; alive = true; held = [] }) threads
-threads_after (Join p c) threads = change c (λ x. record { number = x.number; alive = false; held = x.held }) threads
+threads_after (Join p c) threads = change c dead threads
 threads_after (Lock t l) threads = change t (λ x. with_held x (with_hold (record { lock = l; write = true }) x.held)) threads
 threads_after (RdLock t l) threads = change t (λ x. with_held x (with_hold (record { lock = l; write = false }) x.held)) threads
 threads_after (Unlock t l) threads = change t (λ x. with_held x (without_lock l x.held)) threads

@@ -2,7 +2,9 @@
 use Rattle.std.specs.Prelude.{ℕ, Bool, true, false, ◌&&◌, ◌==◌, not, List, [], ◌∷◌, map, filter, Option, Some, None, if◌then◌else◌, nat_lt}
 use Rattle.hg_model.specs.declared.event.Event.{Event}
 use Rattle.hg_model.specs.declared.event.Event.TheVariants.{Lock, RdLock, Unlock}
-use Rattle.hg_model.specs.declared.state.HeldLock.{HeldLock}
+use Rattle.std.specs.List.{list_any}
+use Rattle.std.specs.List.Sorted.{IsStrictlyIncreasing}
+use Rattle.hg_model.specs.declared.held.HeldLock.{HeldLock}
 
 -- The mode in which thread t holds lock l, true for writing: the last event among lock, rdlock and unlock of t and l decides.
 abbrev pub mode_held : List Event → ℕ → ℕ → Option Bool
@@ -33,3 +35,15 @@ held (_ ∷ past) t = held past t
 abbrev pub counted : Bool → List HeldLock → List ℕ
 counted true hs = map (λ h. h.lock) (filter (λ h. h.write) hs)
 counted false hs = map (λ h. h.lock) hs
+
+-- the lock is among them, in any mode
+abbrev pub has_lock : List HeldLock → ℕ → Bool
+has_lock hs l = list_any (λ h. h.lock == l) hs
+
+-- the lock is among them in write mode
+abbrev pub has_lock_for_writing : List HeldLock → ℕ → Bool
+has_lock_for_writing hs l = list_any (λ h. (h.lock == l) && h.write) hs
+
+-- no lock stands twice, and each stands behind those of lesser number
+abbrev pub IsByRisingLock : List HeldLock → Type 0
+IsByRisingLock hs = IsStrictlyIncreasing (map (λ h. h.lock) hs)

@@ -4,14 +4,14 @@ use Rattle.std.specs.List.{list_any}
 use Rattle.hg_model.specs.declared.event.Event.{Event}
 use Rattle.hg_model.specs.declared.event.Event.TheVariants.{Fork, Join, Lock, RdLock, Unlock, Read, Write, Alloc, Free}
 use Rattle.hg_model.specs.declared.event.Named.{Named}
-use Rattle.hg_model.specs.declared.state.HeldLock.{HeldLock}
-use Rattle.hg_model.specs.declared.state.ThreadState.{ThreadState}
-use Rattle.hg_model.specs.declared.state.TraceState.{TraceState}
+use Rattle.hg_model.specs.Locks.{has_lock, has_lock_for_writing}
+use Rattle.hg_model.specs.declared.thread.ThreadState.{ThreadState}
 use Rattle.hg_model.specs.declared.verdict.Refusal.{Refusal}
 use Rattle.hg_model.specs.declared.verdict.Refusal.TheVariants.{Gap, BadNumber, BadLength, AddressEnd, NoThread, ChildUsed, SelfJoin, ChildNotAlive, ChildHoldsLocks, AlreadyHeld, LockBusy, NotHeld, FullHeld, FullSegments, FullEvents}
 use Rattle.hg_model.specs.declared.verdict.Verdict.{Verdict}
 use Rattle.hg_model.specs.declared.verdict.Verdict.TheVariants.{Accept, Duplicate, Refuse}
 use Rattle.hg_model.specs.Contents.{Content, summary}
+use Rattle.hg_model.specs.Parts.{Parts}
 
 -- What a verdict depends on.
 pub record Standing : Type 0 where
@@ -23,15 +23,8 @@ pub record Standing : Type 0 where
 abbrev pub standing_of : Content → Standing
 standing_of c = record { events = c.events; segments = length c.segments; threads = c.threads; last = c.last }
 
-abbrev pub standing : TraceState → Standing
-standing s = record { events = s.events; segments = s.segments; threads = s.threads; last = slice_index s.last }
-
--- The content has the parts of the trace state.
-pub record HasParts (c : Content) (s : TraceState) : Type 0 where
-  pub events : s.events ≡ c.events
-  pub segments : s.segments ≡ length c.segments
-  pub threads : s.threads ≡ c.threads
-  pub last : (source : ℕ) → slice_index s.last source ≡ c.last source
+abbrev pub standing : Parts → Standing
+standing p = record { events = p.events; segments = p.segments; threads = p.threads; last = slice_index p.last }
 
 -- the thread that acts
 abbrev pub actor : Event → ℕ
@@ -48,12 +41,6 @@ actor (Free b) = b.t
 -- a thread of this number was started, and the test holds of it
 abbrev pub has_thread : List ThreadState → ℕ → (ThreadState → Bool) → Bool
 has_thread threads t test = list_any (λ x. (x.number == t) && test x) threads
-
-abbrev pub has_lock : List HeldLock → ℕ → Bool
-has_lock hs l = list_any (λ h. h.lock == l) hs
-
-abbrev pub has_lock_for_writing : List HeldLock → ℕ → Bool
-has_lock_for_writing hs l = list_any (λ h. (h.lock == l) && h.write) hs
 
 abbrev pub is_above_limit : ℕ → Bool
 is_above_limit n = nat_lt 1023 n
@@ -157,3 +144,7 @@ verdict s n =
 abbrev pub IsAccepted : List Named → Type 0
 IsAccepted [] = Unit {0}
 IsAccepted (n ∷ past) = IsAccepted past × (verdict (standing_of (summary past)) n ≡ Accept)
+
+-- Where the threads are these, some verdict accepts the event.
+abbrev pub MayFollow : List ThreadState → Event → Type 0
+MayFollow threads e = (s : Standing) × (n : Named) × (s.threads ≡ threads) × (n.event ≡ e) × (verdict s n ≡ Accept)

@@ -3,18 +3,20 @@
 ghost use Rattle.std.specs.Prelude.{◌≡◌, ◌+◌, ◌==◌, ◌&&◌, nat_lt, nat_le, length, not, slice_index};
 ghost use Rattle.std.specs.List.{list_any};
 ghost use Rattle.hg_model.specs.Contents.{Content};
+ghost use Rattle.hg_model.specs.Parts.{HasParts};
 ghost use Rattle.hg_model.specs.Verdicts as rules;
 
 use crate::event::{Event, Named};
 use crate::limits::{
     GREATEST_ACCESS, GREATEST_BLOCK, GREATEST_NUMBER, MOST_EVENTS, MOST_HELD, MOST_SEGMENTS,
 };
-use crate::state::{HeldLocks, LastNumbers, ThreadState, Threads, TraceState};
+use crate::state::TraceState;
+use crate::table::ThreadTable;
 use crate::verdict::{Refusal, Verdict};
 
 /// Whether the next event of the trace may be this one: the verdict of any content with the parts of this state.
 pub fn judge(state: &TraceState, named: &Named) -> Verdict
-    ensures { (c : Content) → rules.HasParts c state.now → result ≡ rules.verdict (rules.standing_of c) named.now }
+    ensures { (c : Content) → HasParts c state.now → result ≡ rules.verdict (rules.standing_of c) named.now }
 {
     judge_standing(state, named)
 }
@@ -22,7 +24,7 @@ pub fn judge(state: &TraceState, named: &Named) -> Verdict
 fn judge_standing(state: &TraceState, named: &Named) -> Verdict
     ensures { result ≡ rules.verdict (rules.standing state.now) named.now }
 {
-    let last = last_of(&state.last, named.source);
+    let last = state.last(named.source);
     if named.number <= last {
         return Verdict::Duplicate(last);
     }
@@ -47,7 +49,7 @@ fn judge_threads(state: &TraceState, event: Event) -> Verdict
     ensures { result ≡ rules.first_cause (rules.thread_causes (rules.standing state.now) event) }
 {
     let threads = &state.threads;
-    if !is_alive(threads, actor_of(event)) {
+    if !threads.is_alive(actor_of(event)) {
         return Verdict::Refuse(Refusal::NoThread);
     }
     if is_child_used(threads, event) {
@@ -81,25 +83,13 @@ fn judge_locks(state: &TraceState, event: Event) -> Verdict
     if is_full_of_locks(threads, event) {
         return Verdict::Refuse(Refusal::FullHeld);
     }
-    if is_full_of_segments(state.segments, event) {
+    if is_full_of_segments(state.segments(), event) {
         return Verdict::Refuse(Refusal::FullSegments);
     }
-    if state.events >= MOST_EVENTS {
+    if state.events() >= MOST_EVENTS {
         return Verdict::Refuse(Refusal::FullEvents);
     }
     Verdict::Accept
-}
-
-fn last_of(last: &LastNumbers, source: u16) -> u64
-    ensures { result ≡ slice_index last.now source }
-{
-    let numbers = last.as_slice();
-    let place = usize::from(source);
-    if place < numbers.len() {
-        numbers[place]
-    } else {
-        0
-    }
 }
 
 fn actor_of(event: Event) -> u16
@@ -161,83 +151,11 @@ fn is_past_address_end(event: Event) -> bool
     }
 }
 
-fn has_lock(held: &HeldLocks, l: u16) -> bool
-    ensures { result ≡ rules.has_lock held.now l }
-{
-    held.as_slice().iter().any(|h| h.lock == l)
-}
-
-fn has_lock_for_writing(held: &HeldLocks, l: u16) -> bool
-    ensures { result ≡ rules.has_lock_for_writing held.now l }
-{
-    held.as_slice().iter().any(|h| h.lock == l && h.write)
-}
-
-fn count_of(held: &HeldLocks) -> usize
-    ensures { result ≡ length held.now }
-{
-    held.as_slice().len()
-}
-
-fn is_alive(threads: &Threads, t: u16) -> bool
-    ensures { result ≡ rules.has_thread threads.now t (λ x. x.alive) }
-{
-    threads.as_slice().iter().any(|x| x.number == t && x.alive)
-}
-
-fn is_used(threads: &Threads, t: u16) -> bool
-    ensures { result ≡ list_any (λ x. x.number == t) threads.now }
-{
-    threads.as_slice().iter().any(|x| x.number == t)
-}
-
-fn holds(threads: &Threads, t: u16, l: u16) -> bool
-    ensures { result ≡ rules.has_thread threads.now t (λ x. rules.has_lock x.held l) }
-{
-    threads
-        .as_slice()
-        .iter()
-        .any(|x| x.number == t && has_lock(&x.held, l))
-}
-
-fn is_held(threads: &Threads, l: u16) -> bool
-    ensures { result ≡ list_any (λ x. rules.has_lock x.held l) threads.now }
-{
-    threads.as_slice().iter().any(|x| has_lock(&x.held, l))
-}
-
-fn is_held_for_writing(threads: &Threads, l: u16) -> bool
-    ensures { result ≡ list_any (λ x. rules.has_lock_for_writing x.held l) threads.now }
-{
-    threads
-        .as_slice()
-        .iter()
-        .any(|x| has_lock_for_writing(&x.held, l))
-}
-
-fn holds_some(threads: &Threads, t: u16) -> bool
-    ensures { result ≡ rules.has_thread threads.now t (λ x. nat_lt 0 (length x.held)) }
-{
-    threads
-        .as_slice()
-        .iter()
-        .any(|x| x.number == t && count_of(&x.held) > 0)
-}
-
-fn holds_most(threads: &Threads, t: u16) -> bool
-    ensures { result ≡ rules.has_thread threads.now t (λ x. nat_le 64 (length x.held)) }
-{
-    threads
-        .as_slice()
-        .iter()
-        .any(|x| x.number == t && count_of(&x.held) >= MOST_HELD)
-}
-
-fn is_child_used(threads: &Threads, event: Event) -> bool
+fn is_child_used(threads: &ThreadTable, event: Event) -> bool
     ensures { result ≡ rules.child_used threads.now event }
 {
     match event {
-        Event::Fork { p: _, c } => is_used(threads, c),
+        Event::Fork { p: _, c } => threads.is_used(c),
         _ => false,
     }
 }
@@ -251,59 +169,59 @@ fn is_self_join(event: Event) -> bool
     }
 }
 
-fn is_child_not_alive(threads: &Threads, event: Event) -> bool
+fn is_child_not_alive(threads: &ThreadTable, event: Event) -> bool
     ensures { result ≡ rules.child_not_alive threads.now event }
 {
     match event {
-        Event::Join { p: _, c } => !is_alive(threads, c),
+        Event::Join { p: _, c } => !threads.is_alive(c),
         _ => false,
     }
 }
 
-fn is_child_holding(threads: &Threads, event: Event) -> bool
+fn is_child_holding(threads: &ThreadTable, event: Event) -> bool
     ensures { result ≡ rules.child_holds_locks threads.now event }
 {
     match event {
-        Event::Join { p: _, c } => holds_some(threads, c),
+        Event::Join { p: _, c } => threads.holds_some(c),
         _ => false,
     }
 }
 
-fn is_already_held(threads: &Threads, event: Event) -> bool
+fn is_already_held(threads: &ThreadTable, event: Event) -> bool
     ensures { result ≡ rules.already_held threads.now event }
 {
     match event {
-        Event::Lock { t, l } => holds(threads, t, l),
-        Event::RdLock { t, l } => holds(threads, t, l),
+        Event::Lock { t, l } => threads.holds(t, l),
+        Event::RdLock { t, l } => threads.holds(t, l),
         _ => false,
     }
 }
 
-fn is_busy(threads: &Threads, event: Event) -> bool
+fn is_busy(threads: &ThreadTable, event: Event) -> bool
     ensures { result ≡ rules.lock_busy threads.now event }
 {
     match event {
-        Event::Lock { t: _, l } => is_held(threads, l),
-        Event::RdLock { t: _, l } => is_held_for_writing(threads, l),
+        Event::Lock { t: _, l } => threads.is_held(l),
+        Event::RdLock { t: _, l } => threads.is_held_for_writing(l),
         _ => false,
     }
 }
 
-fn is_not_held(threads: &Threads, event: Event) -> bool
+fn is_not_held(threads: &ThreadTable, event: Event) -> bool
     ensures { result ≡ rules.not_held threads.now event }
 {
     match event {
-        Event::Unlock { t, l } => !holds(threads, t, l),
+        Event::Unlock { t, l } => !threads.holds(t, l),
         _ => false,
     }
 }
 
-fn is_full_of_locks(threads: &Threads, event: Event) -> bool
+fn is_full_of_locks(threads: &ThreadTable, event: Event) -> bool
     ensures { result ≡ rules.full_held threads.now event }
 {
     match event {
-        Event::Lock { t, l: _ } => holds_most(threads, t),
-        Event::RdLock { t, l: _ } => holds_most(threads, t),
+        Event::Lock { t, l: _ } => threads.holds_most(t),
+        Event::RdLock { t, l: _ } => threads.holds_most(t),
         _ => false,
     }
 }

@@ -1,115 +1,115 @@
 //! What the trace rules need of the events so far.
 
-ghost use Rattle.std.specs.Prelude.{◌≡◌};
+ghost use Rattle.std.specs.Prelude.{◌≡◌, IfOk, List, length, slice_index};
+ghost use Rattle.hg_model.specs.declared.segment.Segment.{Segment};
+ghost use Rattle.hg_model.specs.Segments.{opened};
+ghost use Rattle.std.specs.List.Sorted.{IsStrictlyIncreasing};
+ghost use Rattle.hg_model.specs.Contents.{Content};
+ghost use Rattle.hg_model.specs.Parts.{HasParts};
+ghost use Rattle.hg_model.specs.Verdicts as rules;
+ghost use Rattle.hg_model.specs.Change.{after, empty_content, locks_of};
 
+use crate::event::{Event, Named};
+use crate::limits::SOURCE_NUMBERS;
+use crate::table::ThreadTable;
+use crate::verdict::Verdict;
+use std::alloc::{AllocError, Global};
 use std::marker::Model;
 
-/// A lock that a thread holds.
-#[derive(Clone, Copy, Debug, PartialEq, Eq, Drop)]
-pub struct HeldLock {
-    pub lock: u16,
-    pub write: bool,
-}
-
-/// The locks that a thread holds, by rising lock number.
-#[derive(Drop)]
-pub struct HeldLocks {
-    holds: Vec<HeldLock>,
-}
-
-impl Model for HeldLocks {
-    ghost use Rattle.std.specs.Prelude.{List};
-    ghost use Rattle.hg_model.specs.declared.state.HeldLock.{HeldLock};
-
-    ghost Value = { List HeldLock };
-
-    ghost view = { λ s. s.holds.items };
-}
-
-impl HeldLocks {
-    pub fn from_vec(holds: Vec<HeldLock>) -> Self
-        ensures { result ≡ holds.items }
-    {
-        HeldLocks { holds }
-    }
-
-    pub fn as_slice(&self) -> &[HeldLock]
-        ensures { result.now ≡ self.now }
-    {
-        self.holds.as_slice()
-    }
-}
-
-/// A thread that was started, dead or alive.
-#[derive(Drop)]
-pub struct ThreadState {
-    pub number: u16,
-    pub alive: bool,
-    pub held: HeldLocks,
-}
-
-/// The threads that were started, in the order in which they were.
-#[derive(Drop)]
-pub struct Threads {
-    threads: Vec<ThreadState>,
-}
-
-impl Model for Threads {
-    ghost use Rattle.std.specs.Prelude.{List};
-    ghost use Rattle.hg_model.specs.declared.state.ThreadState.{ThreadState};
-
-    ghost Value = { List ThreadState };
-
-    ghost view = { λ s. s.threads.items };
-}
-
-impl Threads {
-    pub fn from_vec(threads: Vec<ThreadState>) -> Self
-        ensures { result ≡ threads.items }
-    {
-        Threads { threads }
-    }
-
-    pub fn as_slice(&self) -> &[ThreadState]
-        ensures { result.now ≡ self.now }
-    {
-        self.threads.as_slice()
-    }
-}
-
-/// The last accepted number of each source, 0 past the end.
-#[derive(Drop)]
-pub struct LastNumbers {
-    numbers: Vec<u64>,
-}
-
-impl Model for LastNumbers {
-    ghost use Rattle.std.specs.Prelude.{List, ℕ};
-
-    ghost Value = { List ℕ };
-
-    ghost view = { λ s. s.numbers.items };
-}
-
-impl LastNumbers {
-    pub fn from_vec(numbers: Vec<u64>) -> Self
-        ensures { result ≡ numbers.items }
-    {
-        LastNumbers { numbers }
-    }
-
-    pub fn as_slice(&self) -> &[u64]
-        ensures { result.now ≡ self.now }
-    {
-        self.numbers.as_slice()
-    }
-}
-
-/// What the verdict on the next event depends on.
+/// What the verdict on the next event depends on. A contract sees its parts: the counts of events and of
+/// segments, the threads by rising number, and the last accepted number of each source.
+///
+/// It is made at once, and following an event takes no memory.
 #[derive(Drop)]
 pub struct TraceState {
-    pub events: u64,
-    pub segments: u32,
-    pub threads: Threads,
-    pub last: LastNumbers,
+    events: u64,
+    segments: u32,
+    pub(crate) threads: ThreadTable,
+    last: Vec<u64>,
+}
+
+impl Model for TraceState {
+    ghost use Rattle.std.specs.Prelude.{◌≡◌, ◌≤◌, length};
+    ghost use Rattle.hg_model.specs.Parts.{Parts};
+
+    ghost Value = { Parts };
+
+    ghost view = { λ s. record { events = s.events; segments = s.segments; threads = s.threads; last = s.last.items } };
+
+    ghost invariant = { λ s. (length s.last.items ≡ 1024) × (s.segments ≤ 1048576) };
+}
+
+impl TraceState {
+    /// The state of an empty trace: thread 0 is alive in segment 0.
+    pub fn new(alloc: Global) -> Result<Self, AllocError>
+        ensures { IfOk result (λ s. HasParts empty_content s) }
+    {
+        Ok(TraceState {
+            events: 0,
+            segments: 1,
+            threads: ThreadTable::new(alloc)?,
+            last: vec![in alloc; 0; SOURCE_NUMBERS]?,
+        })
+    }
+
+    /// How many events were accepted.
+    #[inline]
+    pub fn events(&self) -> u64
+        ensures { result ≡ self.now.events }
+    {
+        self.events
+    }
+
+    /// How many segments there are.
+    #[inline]
+    pub fn segments(&self) -> u32
+        ensures { result ≡ self.now.segments }
+    {
+        self.segments
+    }
+
+    /// The last accepted number of a source, 0 where it sent nothing.
+    #[inline]
+    pub fn last(&self, source: u16) -> u64
+        ensures { result ≡ slice_index self.now.last source }
+    {
+        let place = usize::from(source);
+        if place < self.last.len() {
+            self.last[place]
+        } else {
+            0
+        }
+    }
+
+    /// The locks that count for an access by that thread (Eraser): all that it holds for a read, those held in
+    /// write mode for a write.
+    #[inline]
+    pub fn counted(&self, t: u16, write: bool) -> &[u16]
+        ensures value { result.now ≡ locks_of self.now.threads t write }
+        ensures rising { IsStrictlyIncreasing result.now }
+    {
+        self.threads.counted(t, write)
+    }
+
+    /// Counts an accepted event. It takes no memory.
+    pub fn follow(&mut self, named: &Named)
+        requires { rules.verdict (rules.standing self.old) named.now ≡ Verdict.Accept }
+        ensures { (c : Content) → HasParts c self.old → HasParts (after c named.now) self.new }
+    {
+        self.events += 1;
+        self.segments += opened_by(named.event);
+        self.last[usize::from(named.source)] = named.number;
+        self.threads.follow(named.event);
+    }
+}
+
+/// How many segments an event opens.
+fn opened_by(event: Event) -> u32
+    ensures { (segments : List Segment) → result ≡ length (opened segments event) }
+{
+    match event {
+        Event::Fork { p: _, c: _ } => 2,
+        Event::Join { p: _, c: _ } => 1,
+        _ => 0,
+    }
 }

@@ -1,0 +1,10 @@
+use Rattle.std.proofs.Common.{sym, ◌∙◌}
+use Rattle.hg_model.specs.declared.thread.ThreadState.{ThreadState}
+use Rattle.hg_model.specs.Locks.{has_lock}
+use Rattle.hg_model.proofs.table.ThreadTable.holds.Goals as goal
+
+pub returns-in-Some : goal.returns-in-Some
+returns-in-Some c = c.has.ensures ∙ sym (c.in-Some.ensures.test (λ (x : ThreadState). has_lock x.held c.args.l))
+
+pub returns-in-None : goal.returns-in-None
+returns-in-None c = sym (c.in-None.ensures.test (λ (x : ThreadState). has_lock x.held c.args.l))

@@ -1,0 +1,156 @@
+//! The locks that one thread holds.
+
+ghost use Rattle.std.specs.Prelude.{◌≡◌, ◌<◌, ◌≤◌, false, length, nat_le, [], MatchOption};
+ghost use Rattle.std.specs.List.{position_or_len, remove};
+ghost use Rattle.std.specs.List.Sorted.{IsStrictlyIncreasing};
+ghost use Rattle.hg_model.specs.Locks.{counted, with_hold, without_lock, has_lock, has_lock_for_writing, IsByRisingLock};
+ghost use Rattle.arrayvec.specs.ArrayVec.{array_vec_len};
+
+use crate::limits::MOST_HELD;
+use arrayvec::ArrayVec;
+use std::marker::Model;
+
+/// A lock that a thread holds, in write mode or only for reading.
+#[derive(Clone, Copy, Debug, Default, PartialEq, Eq)]
+pub struct HeldLock {
+    pub lock: u16,
+    pub write: bool,
+}
+
+/// The locks that a thread holds, at most 64, by rising lock number. A contract sees the list of them.
+///
+/// Beside it stand the two lists of lock numbers that count for an access, so that neither is made for it.
+#[derive(Drop)]
+pub struct HeldLocks {
+    holds: ArrayVec<HeldLock, MOST_HELD>,
+    any: ArrayVec<u16, MOST_HELD>,
+    writing: ArrayVec<u16, MOST_HELD>,
+}
+
+impl Model for HeldLocks {
+    ghost use Rattle.std.specs.Prelude.{◌≡◌, ◌≤◌, List, true, false, length};
+    ghost use Rattle.hg_model.specs.declared.held.HeldLock.{HeldLock};
+
+    ghost Value = { List HeldLock };
+
+    ghost use Rattle.hg_model.specs.Locks.{counted, IsByRisingLock};
+
+    ghost view = { λ h. h.holds.items };
+
+    ghost invariant = { λ h. (h.any.items ≡ counted false h.holds.items)
+        × (h.writing.items ≡ counted true h.holds.items)
+        × IsByRisingLock h.holds.items
+        × (length h.holds.items ≤ 64) };
+}
+
+impl HeldLocks {
+    /// No lock.
+    pub fn new() -> Self
+        ensures { result ≡ [] }
+    {
+        HeldLocks {
+            holds: ArrayVec::new(),
+            any: ArrayVec::new(),
+            writing: ArrayVec::new(),
+        }
+    }
+
+    pub fn as_slice(&self) -> &[HeldLock]
+        ensures value { result.now ≡ self.now }
+        ensures rising { IsByRisingLock self.now }
+        ensures most { length self.now ≤ 64 }
+    {
+        self.holds.as_slice()
+    }
+
+    /// The locks that count for an access (Eraser): all for a read, those held in write mode for a write.
+    #[inline]
+    pub fn counted(&self, write: bool) -> &[u16]
+        ensures value { result.now ≡ counted write self.now }
+        ensures rising { IsStrictlyIncreasing result.now }
+    {
+        if write {
+            self.writing.as_slice()
+        } else {
+            self.any.as_slice()
+        }
+    }
+
+    pub fn has(&self, lock: u16) -> bool
+        ensures { result ≡ has_lock self.now lock }
+    {
+        self.holds.as_slice().iter().any(|h| h.lock == lock)
+    }
+
+    pub fn has_for_writing(&self, lock: u16) -> bool
+        ensures { result ≡ has_lock_for_writing self.now lock }
+    {
+        self.holds
+            .as_slice()
+            .iter()
+            .any(|h| h.lock == lock && h.write)
+    }
+
+    /// Adds a lock that is not held yet.
+    pub fn add(&mut self, held: HeldLock)
+        requires room { length self.old < 64 }
+        requires absent { has_lock self.old held.lock ≡ false }
+        ensures { self.new ≡ with_hold held self.old }
+    {
+        let place = place_of(self.holds.as_slice(), held.lock);
+        self.holds.insert(place, held);
+        refill(&mut self.any, self.holds.as_slice(), false);
+        refill(&mut self.writing, self.holds.as_slice(), true);
+    }
+
+    /// Gives up a lock, and nothing where it is not held.
+    pub fn remove(&mut self, lock: u16)
+        ensures { self.new ≡ without_lock lock self.old }
+    {
+        if let Some(place) = index_of(self.holds.as_slice(), lock) {
+            self.holds.remove(place);
+            refill(&mut self.any, self.holds.as_slice(), false);
+            refill(&mut self.writing, self.holds.as_slice(), true);
+        }
+    }
+}
+
+/// How many of the locks come before this one, which is the place where it stands or belongs.
+fn place_of(holds: &[HeldLock], lock: u16) -> usize
+    ensures place { result ≡ position_or_len (λ h. nat_le lock h.lock) holds.now }
+    ensures within { result ≤ length holds.now }
+{
+    for (i, h) in holds.iter().enumerate() {
+        if lock <= h.lock {
+            return i;
+        }
+    }
+    holds.len()
+}
+
+/// Where the lock stands.
+fn index_of(holds: &[HeldLock], lock: u16) -> Option<usize>
+    requires { IsByRisingLock holds.now }
+    ensures { MatchOption result (without_lock lock holds.now ≡ holds.now)
+        (λ i. (i < length holds.now) × (remove holds.now i ≡ without_lock lock holds.now)) }
+{
+    let place = place_of(holds, lock);
+    if place < holds.len() && holds[place].lock == lock {
+        Some(place)
+    } else {
+        None
+    }
+}
+
+/// Puts the numbers of these locks into the list, or of those held in write mode alone.
+fn refill(list: &mut ArrayVec<u16, MOST_HELD>, holds: &[HeldLock], write: bool)
+    requires { length holds.now ≤ 64 }
+    ensures { list.new.items ≡ counted write holds.now }
+{
+    list.clear();
+    for h in holds {
+        if h.write || !write {
+            list.push(h.lock);
+        }
+    }
+}
