@@ -13,7 +13,8 @@ use Rattle.hg_model.specs.Sharing.{Sharing, Unshared, SharedFrom, sharing, locks
 use Rattle.hg_model.specs.declared.word.WordState.{WordState}
 use Rattle.hg_model.specs.declared.word.WordState.TheVariants.{New, Exclusive}
 use Rattle.hg_model.specs.Change.{touched}
-use Rattle.hg_model.proofs.Graph.{IsRising, reaches_stable}
+use Rattle.hg_model.proofs.Graph.{reaches_stable}
+use Rattle.hg_model.specs.Paths.{IsRising}
 
 -- segments that are opened later share no word
 pub sharing_stable : (xs ys : List Segment) → IsRising xs → (items : List HistoryItem) → AllByRecursion (λ i. i.segment < length xs) items → sharing (xs ++ ys) items ≡ sharing xs items
