@@ -1,5 +1,5 @@
 -- Eraser's states of a word, with ownership that passes along happens-before, and its candidate lockset.
-use Rattle.std.specs.Prelude.{ℕ, Bool, true, false, ◌&&◌, List, [], ◌∷◌, ◌++◌, map, filter, Option, Some, None, if◌then◌else◌}
+use Rattle.std.specs.Prelude.{ℕ, Bool, true, false, ◌&&◌, List, [], ◌∷◌, ◌++◌, map, filter, Option, Some, None, if◌then◌else◌, slice_index}
 use Rattle.std.specs.List.{list_any, list_all}
 use Rattle.hg_model.specs.Sets.{set_of, contains, is_empty}
 use Rattle.hg_model.specs.declared.segment.Segment.{Segment}
@@ -18,6 +18,10 @@ abbrev pub sharing : List Segment → List HistoryItem → Sharing
 sharing segments [] = Unshared
 sharing segments (x ∷ []) = Unshared
 sharing segments (x ∷ y ∷ items) = if reaches segments x.segment y.segment then sharing segments (y ∷ items) else SharedFrom x y items
+
+-- the segment of the item at a place (0 past the end)
+abbrev pub segment_at : List HistoryItem → ℕ → ℕ
+segment_at items k = slice_index (map (λ i. i.segment) items) k
 
 -- The candidate lockset: what the counted locks of all these items have in common.
 abbrev pub lockset : List HistoryItem → List ℕ
