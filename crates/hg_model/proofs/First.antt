@@ -1,10 +1,10 @@
 -- The tables of an empty trace.
-use Rattle.std.proofs.Common.{◌≡◌, ℕ, zero, suc, ◌+◌, ◌<◌, Bool, true, false, cond, nat_lt, List, [], ◌∷◌, length, get_or, Option, Some, None, replicate, refl, sym, ap, ◌∙◌, subst, arith}
+use Rattle.std.proofs.Common.{◌≡◌, ℕ, zero, suc, ◌+◌, true, List, [], ◌∷◌, length, get_or, Option, Some, None, replicate, refl, sym, ap, ◌∙◌, subst, arith}
 use Rattle.std.proofs.lemmas.List.{get_or-replicate, length-replicate}
 use Rattle.hg_model.specs.declared.thread.ThreadState.{ThreadState}
 use Rattle.hg_model.specs.declared.table.LockUse.{LockUse}
 use Rattle.hg_model.specs.declared.table.LockUse.TheVariants.{Reading, Writing}
-use Rattle.hg_model.specs.Tables.{started, IsNumbered, holders, writers, use_of, TablesAgree}
+use Rattle.hg_model.specs.Tables.{started, IsNumbered, writers, use_of, TablesAgree}
 
 abbrev pub thread_0 : ThreadState
 thread_0 = record { number = 0; alive = true; held = [] }

@@ -1,8 +1,7 @@
 -- The computed definitions in the plain words that they stand for.
-use Rattle.std.proofs.Common.{◌≡◌, ℕ, zero, suc, ◌+◌, ◌-◌, ◌<◌, ◌≤◌, Bool, true, false, cond, ◌||◌, ◌&&◌, nat_eq, nat_lt, List, [], ◌∷◌, ◌++◌, length, map, filter, drop, slice_get, get_or, Option, Some, refl, sym, ap, ◌∙◌, subst, arith, add-one}
+use Rattle.std.proofs.Common.{◌≡◌, ℕ, zero, suc, ◌<◌, Bool, true, false, cond, ◌||◌, ◌&&◌, nat_eq, nat_lt, List, [], ◌∷◌, ◌++◌, length, filter, slice_get, refl, sym, ap, ◌∙◌, subst, arith}
 use Rattle.std.proofs.lemmas.Bool.{false≢true, eqb-true, and_right}
-use Rattle.std.proofs.lemmas.List.{get_or_append_left}
-use Rattle.std.specs.List.{list_any, list_all, fold}
+use Rattle.std.specs.List.{list_all, fold}
 use Rattle.hg_model.specs.declared.segment.Segment.{Segment}
 use Rattle.hg_model.specs.declared.word.HistoryItem.{HistoryItem}
 use Rattle.hg_model.specs.Sets.{with_member, set_of, contains}

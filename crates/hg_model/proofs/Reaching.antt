@@ -1,5 +1,5 @@
 -- What reaches what, over any rising graph: for the crates above.
-use Rattle.std.proofs.Common.{◌≡◌, ◌≢◌, ℕ, zero, suc, ◌<◌, ◌≤◌, true, nat_eq, List, length, Contains, subst, ⊎_elim, arith, eqb-true}
+use Rattle.std.proofs.Common.{◌≡◌, ◌≢◌, ℕ, zero, suc, ◌≤◌, true, nat_eq, List, ⊎_elim, arith, eqb-true}
 use Rattle.std.proofs.lemmas.Bool.{or_cases}
 use Rattle.std.proofs.lemmas.List.Folds.{Any-from_list_any}
 use Rattle.hg_model.specs.declared.segment.Segment.{Segment}

@@ -1,6 +1,6 @@
 -- Locks by rising number: where a lock stands or belongs, and what stays rising.
-use Rattle.std.proofs.Common.{◌≡◌, ℕ, zero, suc, ◌+◌, ◌<◌, ◌≤◌, Bool, true, false, cond, not, nat_eq, nat_lt, nat_le, List, [], ◌∷◌, ◌++◌, length, map, filter, take, drop, get_or, refl, sym, ap, ◌∙◌, arith, add-one, one-add, subst}
-use Rattle.std.proofs.lemmas.Bool.{ltb-true, ltb-false, leb-true, leb-false, lt-ltb, le-ltb, ne_eqb, eqb-true, eqb-false, eq-eqb, or_parts, lt-leb}
+use Rattle.std.proofs.Common.{◌≡◌, ℕ, zero, suc, ◌+◌, ◌<◌, ◌≤◌, Bool, true, false, cond, not, nat_eq, nat_lt, nat_le, List, [], ◌∷◌, length, map, filter, get_or, refl, sym, ap, ◌∙◌, arith, add-one, one-add, subst}
+use Rattle.std.proofs.lemmas.Bool.{ltb-true, ltb-false, leb-true, leb-false, lt-ltb, le-ltb, ne_eqb, eqb-true, eqb-false, eq-eqb, or_parts}
 use Rattle.std.specs.List.{position_or_len, insert, remove}
 use Rattle.std.specs.List.Sorted.{IsStrictlyIncreasing}
 use Rattle.hg_model.specs.declared.held.HeldLock.{HeldLock}

@@ -8,7 +8,7 @@ use Rattle.hg_model.specs.declared.held.HeldLock.{HeldLock}
 use Rattle.hg_model.specs.declared.thread.ThreadState.{ThreadState}
 use Rattle.hg_model.specs.declared.table.LockUse.{LockUse}
 use Rattle.hg_model.specs.declared.table.LockUse.TheVariants.{Reading, Writing}
-use Rattle.hg_model.specs.Locks.{with_hold, without_lock, has_lock, has_lock_for_writing}
+use Rattle.hg_model.specs.Locks.{with_hold, without_lock, has_lock}
 use Rattle.hg_model.specs.Change.{change, with_held, with_thread, dead}
 use Rattle.hg_model.specs.Verdicts.{has_thread}
 use Rattle.hg_model.specs.Tables.{started, holders, writers, use_of, readers_in, TablesAgree, test_at}

@@ -1,17 +1,15 @@
 -- The table of locks agrees with the threads, before and after a change of one thread.
-use Rattle.std.proofs.Common.{◌≡◌, ◌≢◌, ℕ, zero, suc, ◌+◌, ◌<◌, ◌≤◌, Bool, true, false, cond, not, ◌&&◌, ◌||◌, nat_eq, nat_lt, nat_le, List, [], ◌∷◌, length, map, filter, set, get_or, count_by, Option, Some, None, option_map, refl, sym, ap, ◌∙◌, subst, ⊎_elim, arith, length-set, get_or-set_same, get_or-set_other}
-use Rattle.std.proofs.lemmas.Bool.{ne_eqb, eq-eqb, eqb-true, eqb-false, lt-ltb, le-ltb, false≢true, ltb-true, ltb-false, leb-true, leb-false, cases_eq, or_parts, and_parts, false_from_ne_true, not-true, or_right, or_left}
-use Rattle.std.proofs.lemmas.List.Sums.{sum_by-cons, count_by-le-length}
+use Rattle.std.proofs.Common.{◌≡◌, ◌≢◌, ℕ, ◌<◌, ◌≤◌, Bool, true, false, cond, ◌&&◌, ◌||◌, nat_eq, nat_lt, List, [], ◌∷◌, filter, set, get_or, count_by, Option, Some, None, refl, sym, ap, ◌∙◌, subst, ⊎_elim, arith, length-set, get_or-set_same, get_or-set_other}
+use Rattle.std.proofs.lemmas.Bool.{ne_eqb, eqb-false, lt-ltb, ltb-true, ltb-false, cases_eq, or_parts, and_parts, or_right, or_left}
+use Rattle.std.proofs.lemmas.List.Sums.{sum_by-cons}
 use Rattle.std.specs.List.{list_any}
 use Rattle.hg_model.specs.declared.held.HeldLock.{HeldLock}
 use Rattle.hg_model.specs.declared.thread.ThreadState.{ThreadState}
 use Rattle.hg_model.specs.declared.table.LockUse.{LockUse}
 use Rattle.hg_model.specs.declared.table.LockUse.TheVariants.{Reading, Writing}
-use Rattle.hg_model.specs.Locks.{with_hold, without_lock, has_lock, has_lock_for_writing}
-use Rattle.hg_model.specs.Change.{change, with_held, with_thread, dead}
-use Rattle.hg_model.specs.Verdicts.{has_thread}
-use Rattle.hg_model.specs.Tables.{started, IsNumbered, holders, writers, use_of, TablesAgree, test_at}
-use Rattle.hg_model.proofs.Slots.{found_at, number_at, numbered_set, started_set, started_added, one_if, count_set, count_added, any_is_count, length_started}
+use Rattle.hg_model.specs.Locks.{with_hold, has_lock, has_lock_for_writing}
+use Rattle.hg_model.specs.Tables.{started, holders, writers, use_of, TablesAgree}
+use Rattle.hg_model.proofs.Slots.{number_at, numbered_set, one_if, count_set, count_added, any_is_count}
 
 abbrev pub has : ℕ → ThreadState → Bool
 has l x = has_lock x.held l

@@ -1,8 +1,7 @@
-use Rattle.std.proofs.Common.{sym, ap, ◌∙◌, subst, arith, ◌<◌, length, ◌≡◌, get_or, ℕ, false}
+use Rattle.std.proofs.Common.{sym, subst, arith, ◌<◌, length, ◌≡◌, get_or, ℕ, false}
 use Rattle.std.specs.List.{remove}
-use Rattle.hg_model.specs.declared.held.HeldLock.{HeldLock}
-use Rattle.hg_model.specs.Locks.{without_lock, IsByRisingLock}
-use Rattle.hg_model.proofs.Rising.{place, removed, kept, from_increasing}
+use Rattle.hg_model.specs.Locks.{without_lock}
+use Rattle.hg_model.proofs.Rising.{removed, kept, from_increasing}
 use Rattle.hg_model.proofs.held.index_of.Goals as goal
 use Rattle.hg_model.proofs.held.index_of.Goals.{else-place-holds-via-then-place-holds+else-holds-place, else-place-holds-via-else-place-holds}
 

@@ -1,4 +1,4 @@
-use Rattle.std.proofs.Common.{false, sym, refl, ◌≡◌, nat_le, get_or, arith}
+use Rattle.std.proofs.Common.{false, sym, nat_le, arith}
 use Rattle.std.proofs.lemmas.Bool.{le-leb}
 use Rattle.std.proofs.lemmas.List.Sums.{position_or_len_is}
 use Rattle.hg_model.specs.declared.held.HeldLock.{HeldLock}

@@ -1,4 +1,4 @@
-use Rattle.std.proofs.Common.{◌≡◌, ◌∷◌, ◌-◌, [], Some, None, true, replicate, vec_capacity}
+use Rattle.std.proofs.Common.{◌≡◌, ◌∷◌, ◌-◌, [], Some, None, true, replicate}
 use Rattle.hg_model.proofs.table.first_slots.Given as goal
 
 -- thread 0 and then an empty place for each turn

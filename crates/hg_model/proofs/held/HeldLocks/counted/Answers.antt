@@ -1,4 +1,4 @@
-use Rattle.std.proofs.Common.{true, false, subst, sym, ◌∙◌}
+use Rattle.std.proofs.Common.{true, subst, sym, ◌∙◌}
 use Rattle.std.specs.List.Sorted.{IsStrictlyIncreasing}
 use Rattle.hg_model.proofs.Rising.{counted_rises}
 use Rattle.hg_model.proofs.held.HeldLocks.counted.Goals as goal

@@ -1,13 +1,10 @@
-use Rattle.std.proofs.Common.{◌≡◌, ℕ, ◌+◌, ◌≤◌, false, List, [], length, refl, sym, ap, ◌∙◌, arith, length-set}
+use Rattle.std.proofs.Common.{◌≡◌, ℕ, ◌+◌, ◌≤◌, false, [], length, refl, sym, ap, ◌∙◌, arith, length-set}
 use Rattle.std.proofs.lemmas.Bool.{ltb-false}
 use Rattle.hg_model.specs.declared.event.Event.{Event}
 use Rattle.hg_model.specs.declared.event.Event.TheVariants.{Fork, Join, Lock, RdLock, Unlock, Read, Write, Alloc, Free}
-use Rattle.hg_model.specs.declared.verdict.Verdict.TheVariants.{Accept}
-use Rattle.hg_model.specs.declared.event.Named.{Named}
-use Rattle.hg_model.specs.Parts.{Parts, HasParts}
-use Rattle.hg_model.specs.Contents.{Content}
+use Rattle.hg_model.specs.Parts.{Parts}
 use Rattle.hg_model.specs.Segments.{opened}
-use Rattle.hg_model.specs.Verdicts.{standing, full_segments, verdict}
+use Rattle.hg_model.specs.Verdicts.{standing, full_segments}
 use Rattle.hg_model.proofs.Accepted.{no_cause}
 use Rattle.hg_model.proofs.state.TraceState.follow.Goals as goal
 

@@ -1,5 +1,4 @@
-use Rattle.std.proofs.Common.{◌≡◌, ℕ, zero, suc, List, [], ◌∷◌, get_or, replicate, refl, sym, ap, ◌∙◌}
-use Rattle.hg_model.specs.Parts.{HasParts}
+use Rattle.std.proofs.Common.{◌≡◌, ℕ, zero, suc, get_or, replicate, refl, ap, ◌∙◌}
 use Rattle.hg_model.proofs.state.TraceState.new.Goals as goal
 
 zeros : (n i : ℕ) → get_or (replicate n zero) i zero ≡ zero

@@ -1,5 +1,4 @@
 use Rattle.std.proofs.Common.{◌≡◌, true, sym, ap, ◌∙◌, subst, option_map, None, arith}
-use Rattle.hg_model.specs.declared.thread.ThreadState.{ThreadState}
 use Rattle.hg_model.specs.Change.{change, dead}
 use Rattle.hg_model.specs.Verdicts.{has_thread}
 use Rattle.hg_model.specs.Tables.{started, TablesAgree}

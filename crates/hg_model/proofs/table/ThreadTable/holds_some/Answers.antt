@@ -1,4 +1,4 @@
-use Rattle.std.proofs.Common.{◌≡◌, sym, ap, ◌∙◌, nat_lt, length, List}
+use Rattle.std.proofs.Common.{sym, ap, ◌∙◌, nat_lt, length, List}
 use Rattle.hg_model.specs.declared.held.HeldLock.{HeldLock}
 use Rattle.hg_model.specs.declared.thread.ThreadState.{ThreadState}
 use Rattle.hg_model.proofs.table.ThreadTable.holds_some.Goals as goal

@@ -1,6 +1,5 @@
-use Rattle.std.proofs.Common.{sym, ◌∙◌}
+use Rattle.std.proofs.Common.{sym}
 use Rattle.hg_model.specs.declared.thread.ThreadState.{ThreadState}
-use Rattle.hg_model.specs.Locks.{has_lock}
 use Rattle.hg_model.proofs.table.ThreadTable.is_alive.Goals as goal
 
 pub returns-in-Some : goal.returns-in-Some

@@ -1,4 +1,4 @@
-use Rattle.std.proofs.Common.{◌≡◌, ℕ, Bool, true, false, ◌&&◌, nat_eq, List, refl, sym, ap, ◌∙◌, Option, Some, None, Bor}
+use Rattle.std.proofs.Common.{◌≡◌, ℕ, Bool, true, false, ◌&&◌, nat_eq, List, refl, sym, ◌∙◌, Option, Some, None, Bor}
 use Rattle.std.specs.List.{list_any}
 use Rattle.std.specs.Option.{option_copied, is_some}
 use Rattle.hg_model.specs.declared.thread.ThreadState.{ThreadState}

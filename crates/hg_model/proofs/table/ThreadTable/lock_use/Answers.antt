@@ -1,4 +1,4 @@
-use Rattle.std.proofs.Common.{◌≡◌, ℕ, ◌<◌, ◌+◌, sym, ap, ◌∙◌, get_or, arith, List, length}
+use Rattle.std.proofs.Common.{◌≡◌, ℕ, ◌<◌, ap, ◌∙◌, get_or, arith, List, length}
 use Rattle.std.proofs.lemmas.List.{get_or_read}
 use Rattle.hg_model.specs.declared.thread.ThreadState.{ThreadState}
 use Rattle.hg_model.specs.declared.table.LockUse.{LockUse}

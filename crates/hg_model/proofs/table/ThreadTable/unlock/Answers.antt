@@ -1,12 +1,10 @@
-use Rattle.std.proofs.Common.{◌≡◌, ◌+◌, ◌-◌, ◌<◌, true, false, sym, refl, ap, ◌∙◌, arith, List, get_or, set, length}
-use Rattle.std.specs.List.{list_any}
-use Rattle.hg_model.specs.declared.thread.ThreadState.{ThreadState}
+use Rattle.std.proofs.Common.{◌-◌, ◌<◌, ap, ◌∙◌, arith, get_or}
 use Rattle.hg_model.specs.declared.table.LockUse.TheVariants.{Reading, Writing}
 use Rattle.hg_model.specs.Change.{change}
 use Rattle.hg_model.specs.Verdicts.{has_thread}
-use Rattle.hg_model.specs.Tables.{started, TablesAgree, readers_in}
-use Rattle.hg_model.proofs.Uses.{has, writes}
-use Rattle.hg_model.proofs.Steps.{has_room, holding, giving, locked, read_locked, unlocked, few_readers, left_by, room_at, entry_read, lacks, lacks_at, standing_at, slot_in}
+use Rattle.hg_model.specs.Tables.{readers_in}
+use Rattle.hg_model.proofs.Uses.{has}
+use Rattle.hg_model.proofs.Steps.{giving, unlocked, left_by, entry_read, standing_at, slot_in}
 use Rattle.hg_model.proofs.table.ThreadTable.unlock.Goals as goal
 
 pub index_mut-requires : goal.index_mut-requires
