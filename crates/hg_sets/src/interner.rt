@@ -14,9 +14,10 @@ pub(crate) struct Interner {
 }
 
 impl Interner {
-    ghost use Rattle.std.specs.Prelude.{◌≡◌, ◌<◌, ◌≤◌, [], ◌∷◌, length, Contains, MatchOption, IfOk};
+    ghost use Rattle.std.specs.Prelude.{◌≡◌, ◌<◌, ◌≤◌, [], ◌∷◌, length, nat_lt, if◌then◌else◌, Contains, MatchOption, IfOk};
     ghost use Rattle.std.specs.List.Sorted.{IsStrictlyIncreasing};
     ghost use Rattle.hg_model.specs.Sets.{common, with_member};
+    ghost use Rattle.hg_sets.specs.declared.fault.SetFault.TheVariants.{Full};
     ghost use Rattle.hg_sets.specs.Interning.{set_at, StandsAt, Interns};
     ghost use Rattle.hg_sets.specs.Soundness.{table_of, IsSound};
 
@@ -67,9 +68,7 @@ impl Interner {
         if let Some(id) = self.lists.find(members) {
             return Ok(id);
         }
-        if self.lists.len() >= self.limit {
-            return Err(SetFault::Full);
-        }
+        self.check_room()?;
         self.scratch.clear();
         self.scratch.extend_from_slice(members)?;
         self.add_scratch()
@@ -85,10 +84,19 @@ impl Interner {
         if let Some(id) = self.lists.find(self.scratch.as_slice()) {
             return Ok(id);
         }
-        if self.lists.len() >= self.limit {
-            return Err(SetFault::Full);
-        }
+        self.check_room()?;
         self.add_scratch()
+    }
+
+    /// Full where no set more may be added.
+    fn check_room(&self) -> Result<(), SetFault>
+        ensures { result ≡ (if nat_lt (length self.now.lists) self.now.limit then Ok tt else Err Full) }
+    {
+        if self.lists.len() < self.limit {
+            Ok(())
+        } else {
+            Err(SetFault::Full)
+        }
     }
 
     /// Adds the set in the buffer, which is absent.
