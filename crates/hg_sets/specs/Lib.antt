@@ -1,0 +1,4 @@
+pub mod Interning
+pub mod Soundness
+pub mod Remembered
+pub mod Consistency

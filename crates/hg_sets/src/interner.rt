@@ -1,0 +1,143 @@
+//! Interning over the lists, with a buffer for the set that is asked for.
+
+use crate::fault::SetFault;
+use crate::lists::Lists;
+use crate::merging::{write_common, write_joined};
+use std::alloc::{AllocError, Global};
+
+/// Distinct sets, at most `limit` of them, and a buffer.
+#[derive(Drop)]
+pub(crate) struct Interner {
+    limit: u32,
+    lists: Lists,
+    scratch: Vec<u16>,
+}
+
+impl Interner {
+    ghost use Rattle.std.specs.Prelude.{◌≡◌, ◌<◌, ◌≤◌, [], ◌∷◌, length, nat_lt, if◌then◌else◌, Contains, MatchOption, IfOk};
+    ghost use Rattle.std.specs.List.Sorted.{IsStrictlyIncreasing};
+    ghost use Rattle.hg_model.specs.Sets.{common, with_member};
+    ghost use Rattle.hg_sets.specs.declared.fault.SetFault.TheVariants.{Full};
+    ghost use Rattle.hg_sets.specs.Interning.{set_at, StandsAt, Interns};
+    ghost use Rattle.hg_sets.specs.Soundness.{table_of, IsSound};
+
+    /// The table with the empty set alone.
+    pub(crate) fn with_limit(alloc: Global, limit: u32) -> Result<Self, AllocError>
+        requires least { 1 ≤ limit }
+        requires greatest { limit ≤ 262144 }
+        ensures table { IfOk result (λ i. table_of i ≡ record { limit = limit; sets = [] ∷ [] }) }
+        ensures sound { IfOk result IsSound }
+    {
+        let scratch = Vec::with_capacity(alloc, 64)?;
+        let mut lists = Lists::new(alloc);
+        lists.push(&[])?;
+        Ok(Interner {
+            limit,
+            lists,
+            scratch,
+        })
+    }
+
+    #[inline]
+    pub(crate) fn len(&self) -> u32
+        ensures { result ≡ length self.now.lists }
+    {
+        self.lists.len()
+    }
+
+    #[inline]
+    pub(crate) fn members(&self, id: u32) -> &[u16]
+        requires { id < length self.now.lists }
+        ensures { result.now ≡ set_at self.now.lists id }
+    {
+        self.lists.get(id)
+    }
+
+    pub(crate) fn find(&self, members: &[u16]) -> Option<u32>
+        ensures { MatchOption result (¬ Contains self.now.lists members.now) (StandsAt self.now.lists members.now) }
+    {
+        self.lists.find(members)
+    }
+
+    pub(crate) fn intern(&mut self, members: &[u16]) -> Result<u32, SetFault>
+        requires sound { IsSound self.old }
+        requires rising { IsStrictlyIncreasing members.now }
+        ensures exact { Interns (table_of self.old) members.now result (table_of self.new) }
+        ensures sound { IsSound self.new }
+    {
+        if let Some(id) = self.lists.find(members) {
+            return Ok(id);
+        }
+        self.check_room()?;
+        self.scratch.clear();
+        self.scratch.extend_from_slice(members)?;
+        self.add_scratch()
+    }
+
+    /// The number of the set in the buffer.
+    fn intern_scratch(&mut self) -> Result<u32, SetFault>
+        requires sound { IsSound self.old }
+        requires rising { IsStrictlyIncreasing self.old.scratch.items }
+        ensures exact { Interns (table_of self.old) self.old.scratch.items result (table_of self.new) }
+        ensures sound { IsSound self.new }
+    {
+        if let Some(id) = self.lists.find(self.scratch.as_slice()) {
+            return Ok(id);
+        }
+        self.check_room()?;
+        self.add_scratch()
+    }
+
+    /// Full where no set more may be added.
+    fn check_room(&self) -> Result<(), SetFault>
+        ensures { result ≡ (if nat_lt (length self.now.lists) self.now.limit then Ok tt else Err Full) }
+    {
+        if self.lists.len() < self.limit {
+            Ok(())
+        } else {
+            Err(SetFault::Full)
+        }
+    }
+
+    /// Adds the set in the buffer, which is absent.
+    fn add_scratch(&mut self) -> Result<u32, SetFault>
+        requires sound { IsSound self.old }
+        requires rising { IsStrictlyIncreasing self.old.scratch.items }
+        requires absent { ¬ Contains self.old.lists self.old.scratch.items }
+        requires below { length self.old.lists < self.old.limit }
+        ensures exact { Interns (table_of self.old) self.old.scratch.items result (table_of self.new) }
+        ensures sound { IsSound self.new }
+    {
+        let id = self.lists.len();
+        self.scratch.reserve(1)?;
+        self.lists.push(self.scratch.as_slice())?;
+        Ok(id)
+    }
+
+    pub(crate) fn join(&mut self, a: u32, member: u16) -> Result<u32, SetFault>
+        requires sound { IsSound self.old }
+        requires known { a < length self.old.lists }
+        ensures exact { Interns (table_of self.old) (with_member (set_at self.old.lists a) member) result (table_of self.new) }
+        ensures sound { IsSound self.new }
+    {
+        let members = self.lists.get(a);
+        match members.binary_search(&member) {
+            Ok(_) => Ok(a),
+            Err(at) => {
+                write_joined(members, at, member, &mut self.scratch);
+                self.intern_scratch()
+            }
+        }
+    }
+
+    pub(crate) fn meet(&mut self, a: u32, others: &[u16]) -> Result<u32, SetFault>
+        requires sound { IsSound self.old }
+        requires known { a < length self.old.lists }
+        requires rising { IsStrictlyIncreasing others.now }
+        ensures exact { Interns (table_of self.old) (common (set_at self.old.lists a) others.now) result (table_of self.new) }
+        ensures sound { IsSound self.new }
+    {
+        write_common(self.lists.get(a), others, &mut self.scratch);
+        self.intern_scratch()
+    }
+}

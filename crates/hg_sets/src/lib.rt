@@ -1,0 +1,14 @@
+//! A table of interned sets of numbers: thread sets and locksets, each stored once and named by a number.
+#![tactic(auto)]
+
+mod fault;
+mod interner;
+mod lists;
+mod memo;
+mod merging;
+mod table;
+#[cfg(test)]
+mod tests;
+
+pub use fault::SetFault;
+pub use table::{MOST_SETS, SetTable};
