@@ -1,0 +1,9 @@
+mod Plans
+mod Sequences
+mod Reports
+mod Stepping
+mod Accesses
+mod Passing
+mod Threads
+mod Answering
+mod Others

@@ -1,0 +1,5 @@
+pub mod Words
+pub mod Making
+pub mod Planning
+pub mod Shown
+pub mod Engine

@@ -1,0 +1,8 @@
+//! The detector: thread segments, locks held and shadow words, changed by each accepted event of a trace.
+#![tactic(auto)]
+
+mod engine;
+mod kept;
+mod plan;
+mod setting;
+pub mod words;

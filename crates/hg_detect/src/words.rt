@@ -1,0 +1,102 @@
+//! Shadow memory, as the detector sees it.
+
+ghost use Rattle.std.specs.Prelude.{◌≡◌, ◌+◌, ◌^◌, ◌<◌, ◌≤◌, ◌==◌, ℕ, length, OnOk, IfErr, if◌then◌else◌};
+ghost use Rattle.hg_model.specs.History.{overlaps};
+ghost use Rattle.hg_cells.specs.Cells.{IsWithin};
+ghost use Rattle.hg_detect.specs.Words.{SameCells, ForOverlapped, KeepsLaw};
+ghost use Rattle.hg_model.specs.declared.verdict.Refusal.{Refusal as RefusalOf};
+ghost use Rattle.hg_model.specs.declared.verdict.Refusal.TheVariants.{FullSets};
+ghost use Rattle.hg_cells.specs.declared.cell.Cell.{Cell as CellOf};
+ghost use Rattle.hg_cells.specs.declared.cell.Cell.TheVariants.{New};
+
+use hg_cells::Cell;
+use hg_model::verdict::Refusal;
+use hg_sets::SetTable;
+
+/// A map from words to their cells. Words are numbered: word w is the four bytes from the address 4 * w on.
+///
+/// An event first brings the words that it overlaps, then keeps them, and then sets them. What can fail is in the
+/// first two, and neither changes a cell.
+pub trait Words {
+    /// The cell of each word.
+    ghost cell_of: { Self → ℕ → CellOf };
+
+    /// The map may be asked to bring words where there are so many segments and so many sets.
+    ghost may_bring: { Self → ℕ → ℕ → Type 0 };
+
+    /// What the map reads back is what it was given, and each cell names only segments and sets that exist, where
+    /// there are so many of each.
+    ghost is_faithful: { Self → ℕ → ℕ → Type 0 };
+
+    /// The word was brought, and may be read.
+    ghost is_brought: { Self → ℕ → Type 0 };
+
+    /// The word was kept, and may be set.
+    ghost is_kept: { Self → ℕ → Type 0 };
+
+    /// What `bring` and `keep` may answer in place of Ok.
+    ghost may_refuse: { RefusalOf → Type 0 };
+
+    /// Makes the words readable that `len` bytes from `at` on overlap, and checks that their cells name only segments
+    /// and sets that exist.
+    fn bring(&mut self, at: u64, len: u16, segments: u32, sets: &SetTable) -> Result<(), Refusal>
+        requires lawful { may_bring self.old segments (length sets.now.sets) }
+        requires some { 0 < len }
+        requires few { len ≤ 1024 }
+        requires within { at + len ≤ 2 ^ 64 }
+        ensures cells { (n m : ℕ) → is_faithful self.old n m → SameCells (cell_of self.old) (cell_of self.new) }
+        ensures brought { OnOk result (ForOverlapped at len (is_brought self.new)) }
+        ensures named { OnOk result (ForOverlapped at len (λ w. IsWithin segments (length sets.now.sets) (cell_of self.new w))) }
+        ensures lawful { KeepsLaw (may_bring self.old) (may_bring self.new) }
+        ensures faithful { KeepsLaw (is_faithful self.old) (is_faithful self.new) }
+        ensures refusal { IfErr result may_refuse };
+
+    /// Makes the words settable that `len` bytes from `at` on overlap.
+    fn keep(&mut self, at: u64, len: u16) -> Result<(), Refusal>
+        requires brought { ForOverlapped at len (is_brought self.old) }
+        requires some { 0 < len }
+        requires few { len ≤ 1024 }
+        requires within { at + len ≤ 2 ^ 64 }
+        ensures cells { SameCells (cell_of self.old) (cell_of self.new) }
+        ensures kept { OnOk result (ForOverlapped at len (is_kept self.new)) }
+        ensures lawful { KeepsLaw (may_bring self.old) (may_bring self.new) }
+        ensures faithful { KeepsLaw (is_faithful self.old) (is_faithful self.new) }
+        ensures refusal { IfErr result may_refuse };
+
+    /// The cell of a word.
+    fn get(&self, word: u64) -> Cell
+        requires { is_brought self.now word }
+        ensures { result ≡ cell_of self.now word };
+
+    /// Gives a word its cell.
+    fn set(&mut self, word: u64, cell: Cell)
+        requires { is_kept self.old word }
+        ensures cells { (w : ℕ) → cell_of self.new w ≡ (if w == word then cell else cell_of self.old w) }
+        ensures kept { (w : ℕ) → is_kept self.old w → is_kept self.new w }
+        ensures lawful { (segments sets : ℕ) → IsWithin segments sets cell → may_bring self.old segments sets → may_bring self.new segments sets }
+        ensures faithful { (segments sets : ℕ) → IsWithin segments sets cell → is_faithful self.old segments sets → is_faithful self.new segments sets };
+
+    /// Makes the words new that `len` bytes from `at` on overlap.
+    fn reset(&mut self, at: u64, len: u16)
+        requires kept { ForOverlapped at len (is_kept self.old) }
+        requires some { 0 < len }
+        requires few { len ≤ 1024 }
+        requires within { at + len ≤ 2 ^ 64 }
+        ensures cells { (w : ℕ) → cell_of self.new w ≡ (if overlaps at len w then New else cell_of self.old w) }
+        ensures lawful { KeepsLaw (may_bring self.old) (may_bring self.new) }
+        ensures faithful { KeepsLaw (is_faithful self.old) (is_faithful self.new) };
+
+    /// More segments and sets are no obstacle.
+    ghost brings_more: { (words : Self) (segments sets more_segments more_sets : ℕ) → segments ≤ more_segments → sets ≤ more_sets
+        → may_bring words segments sets → may_bring words more_segments more_sets };
+
+    /// A map stays faithful where segments and sets are added.
+    ghost more_faithful: { (words : Self) (segments sets more_segments more_sets : ℕ) → segments ≤ more_segments → sets ≤ more_sets
+        → is_faithful words segments sets → is_faithful words more_segments more_sets };
+
+    /// Each cell of a faithful map names only segments and sets that exist.
+    ghost faithful_within: { (words : Self) (segments sets : ℕ) → is_faithful words segments sets → (w : ℕ) → IsWithin segments sets (cell_of words w) };
+
+    /// Whether the table of sets is full is not asked of the map.
+    ghost not_full: { may_refuse FullSets → ⊥ };
+}
