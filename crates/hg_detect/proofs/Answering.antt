@@ -173,3 +173,7 @@ access_answers {W} cell_of may_bring is_faithful may_refuse old mid new n write 
 
     at_new : (P : W → ℕ → ℕ → Type 0) → P new.words (length old.graph) (length mid.sets.sets) → AtPresent P (shown_of new)
     at_new P h = subst (λ (t : Table). P new.words (length new.graph) (length t.sets)) (sym sets) (subst (λ (g : List Segment). P new.words (length g) (length mid.sets.sets)) (sym graph_same) h)
+
+-- The state has the parts of the content.
+pub has_parts : {W : Type 0} (cell_of : W → ℕ → Cell) (e : Engine W) → IsSound e → HasParts (content cell_of (shown_of e)) e.state
+has_parts cell_of e s = record { events = refl; segments = s.segments; threads = refl; last = λ source. refl }

@@ -74,18 +74,22 @@ quiet_answers {W} cell_of may_bring is_faithful may_refuse old new n quiet f act
   where
     old_content : Content
     old_content = content cell_of (shown_of old)
+
     parts : HasParts (after old_content n) new.state
     parts = f.parts old_content (record { events = refl; segments = s.segments; threads = refl; last = λ source. refl })
+
     grown : (P : W → ℕ → ℕ → Type 0) → Grows P → P new.words (length old.graph) (length old.sets.sets) → AtPresent P (shown_of new)
     grown P grows h =
         grows new.words (length old.graph) (length old.sets.sets) (length new.graph) (length new.sets.sets) (omega (arith, ap (λ (xs : List Segment). length xs) f.graph, length-append old.graph (opened old.graph n.event)))
         (omega (arith, ap (λ (t : Table). length t.sets) f.sets)) h
+
     reports : map (report_of new.sets.sets) new.kept.items ≡ take 65536 (map (report_of old.sets.sets) old.kept.items ++ new_reports old_content n.event)
     reports =
         ap (λ (t : Table). map (report_of t.sets) new.kept.items) f.sets
         ∙ ap (λ (xs : List KeptReport). map (report_of old.sets.sets) xs) f.kept
         ∙ sym (take_all 65536 (map (report_of old.sets.sets) old.kept.items) (let few = s.few in omega (arith, length-map old.kept.items (report_of old.sets.sets))))
         ∙ ap (λ (xs : List Report). take 65536 xs) (sym (append-nil (map (report_of old.sets.sets) old.kept.items)) ∙ ap (λ (xs : List Report). map (report_of old.sets.sets) old.kept.items ++ xs) (sym (quiet.reports old_content)))
+
     total : new.total ≡ old.total + length (new_reports old_content n.event)
     total = omega (arith, f.total, ap (λ (xs : List Report). length xs) (quiet.reports old_content))
 

@@ -3,3 +3,4 @@ pub mod Making
 pub mod Planning
 pub mod Shown
 pub mod Engine
+pub mod Answering

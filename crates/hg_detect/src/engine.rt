@@ -1,15 +1,18 @@
 //! The parts of a detector, and what an accepted event does to them.
 
-ghost use Rattle.std.specs.Prelude.{◌≡◌, ◌⊎◌, ℕ, ◌+◌, ◌-◌, ◌/◌, ◌*◌, ◌≤◌, ◌<◌, ◌^◌, ◌++◌, take, length, vec_capacity, IfErr, OnOk, OnErr, Ok, if◌then◌else◌};
+ghost use Rattle.std.specs.Prelude.{◌≡◌, ◌⊎◌, ℕ, ◌+◌, ◌-◌, ◌/◌, ◌*◌, ◌≤◌, ◌<◌, ◌^◌, ◌++◌, [], ◌∷◌, All, IfOk, get_or, take, length, vec_capacity, IfErr, OnOk, OnErr, Ok, if◌then◌else◌};
 ghost use Rattle.std.specs.List.{range_with_len};
-ghost use Rattle.hg_model.specs.Segments.{present};
-ghost use Rattle.hg_model.specs.Change.{locks_of};
+ghost use Rattle.hg_model.specs.Segments.{of_thread, present};
+ghost use Rattle.hg_model.specs.Parts.{HasParts};
+ghost use Rattle.hg_model.specs.Change.{empty_content, locks_of};
 ghost use Rattle.hg_sets.specs.Interning.{AreSets, KeepsNumbers};
 ghost use Rattle.hg_cells.specs.Cells.{IsWithin};
+ghost use Rattle.hg_cells.specs.declared.cell.Cell.TheVariants.{New};
+ghost use Rattle.hg_detect.specs.declared.kept.KeptReport.{KeptReport as KeptReportOf};
 ghost use Rattle.hg_detect.specs.Words.{KeepsLaw, SameCells};
 ghost use Rattle.hg_detect.specs.Making.{AsksBy};
 ghost use Rattle.hg_detect.specs.Planning.{ArePlanned, wanted};
-ghost use Rattle.hg_detect.specs.Shown.{HasRoom};
+ghost use Rattle.hg_detect.specs.Shown.{HasRoom, content, report_of};
 ghost use Rattle.hg_model.specs.Verdicts as rules;
 ghost use Rattle.hg_detect.specs.Engine.{Answers, AtPresent, IsOnLock, IsSound, actor_of, set_refusal, shown_of};
 
@@ -19,10 +22,15 @@ use crate::setting::set_words;
 use crate::words::Words;
 use hg_graph::Graph;
 use hg_model::event::{Access, Block, Event, Named};
+use hg_model::report::Report;
+use hg_model::sets::NumberSet;
 use hg_model::state::TraceState;
 use hg_model::verdict::{Refusal, Verdict};
 use hg_sets::{SetFault, SetTable};
-use std::alloc::AllocError;
+use std::alloc::{AllocError, Global};
+
+/// How many words one access overlaps at most.
+const MOST_WORDS: usize = 17;
 
 /// The parts of a detector.
 #[derive(Drop)]
@@ -36,7 +44,53 @@ pub(crate) struct Engine<W> {
     pub(crate) total: u64,
 }
 
+impl<W> Engine<W> {
+    /// A kept report.
+    pub(crate) fn report(&self, alloc: Global, index: usize) -> Result<Report, AllocError>
+        requires known { All (λ r. r.threads < length self.now.sets.sets) self.now.kept.items }
+        requires within { index < length self.now.kept.items }
+        ensures { IfOk result (λ r. (d : KeptReportOf) → r ≡ report_of self.now.sets.sets (get_or self.now.kept.items index d)) }
+    {
+        let kept = self.kept[index];
+        let mut threads = Vec::new(alloc);
+        threads.extend_from_slice(self.sets.members(kept.threads))?;
+        Ok(Report {
+            event: kept.event,
+            write: kept.write,
+            thread: kept.thread,
+            word: kept.word,
+            threads: NumberSet::from_vec(threads),
+        })
+    }
+}
+
 impl<W: Words> Engine<W> {
+    /// The engine of an empty trace, over a map whose words are all new.
+    pub(crate) fn new(alloc: Global, words: W, most_sets: u32) -> Result<Self, W>
+        requires fresh { (w : ℕ) → W.cell_of words w ≡ New }
+        requires least { 1 ≤ most_sets }
+        requires greatest { most_sets ≤ 262144 }
+        ensures content { IfOk result (λ e. content W.cell_of (shown_of e) ≡ empty_content) }
+        ensures sets { IfOk result (λ e. e.sets ≡ record { limit = most_sets; sets = [] ∷ [] }) }
+        ensures graph { IfOk result (λ e. length e.graph ≡ 1) }
+        ensures words { IfOk result (λ e. e.words ≡ words) }
+        ensures sound { IfOk result IsSound }
+        ensures handed_back { IfErr result (λ w. w ≡ words) }
+    {
+        match empty_parts(alloc, most_sets) {
+            Ok((state, graph, sets, plan)) => Ok(Engine {
+                state,
+                graph,
+                sets,
+                words,
+                plan,
+                kept: Vec::new(alloc),
+                total: 0,
+            }),
+            Err(_) => Err(words),
+        }
+    }
+
     /// Plans an access to the words from `first` on and before `end`, and makes room for what it changes.
     fn prepare(&mut self, access: &Access, write: bool, first: u64, end: u64) -> Result<(), Refusal>
         requires sound { IsSound self.old }
@@ -185,6 +239,27 @@ impl<W: Words> Engine<W> {
             }
         }
     }
+}
+
+/// The state, the graph, the sets and the room for a plan, of an empty trace.
+fn empty_parts(
+    alloc: Global,
+    most_sets: u32,
+) -> Result<(TraceState, Graph, SetTable, Vec<Planned>), AllocError>
+    requires least { 1 ≤ most_sets }
+    requires greatest { most_sets ≤ 262144 }
+    ensures state { IfOk result (λ p. HasParts empty_content p.0) }
+    ensures graph { IfOk result (λ p. p.1 ≡ of_thread 0 [] ∷ []) }
+    ensures sets { IfOk result (λ p. p.2 ≡ record { limit = most_sets; sets = [] ∷ [] }) }
+    ensures are_sets { IfOk result (λ p. AreSets p.2) }
+    ensures plan { IfOk result (λ p. 17 ≤ vec_capacity p.3) }
+{
+    Ok((
+        TraceState::new(alloc)?,
+        Graph::new(alloc)?,
+        SetTable::with_limit(alloc, most_sets)?,
+        Vec::with_capacity(alloc, MOST_WORDS)?,
+    ))
 }
 
 /// The refusal that a fault of the set table is answered with.

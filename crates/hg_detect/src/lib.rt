@@ -1,6 +1,7 @@
 //! The detector: thread segments, locks held and shadow words, changed by each accepted event of a trace.
 #![tactic(auto)]
 
+pub mod detector;
 mod engine;
 mod kept;
 mod plan;

@@ -24,4 +24,4 @@ returns g c =
     (c.reset.ensures.lawful k m (kept.lawful k m (brought.lawful k m c.requires.lawful)))
     (λ x y h. c.reset.ensures.faithful x y (kept.faithful x y (brought.faithful x y h)))
     (λ h w. block_words (content words.cell_of (shown_of old)) old.sets.sets n.event b (words.cell_of c.keep.new.self) (words.cell_of c.reset.new.self) c.requires.event c.reset.ensures.cells
-        (λ v. ap (λ x. meaning old.sets.sets x) (sym (kept.cells v ∙ brought.cells k m h v))) w)
+    (λ v. ap (λ x. meaning old.sets.sets x) (sym (kept.cells v ∙ brought.cells k m h v))) w)
