@@ -63,6 +63,7 @@ pub fn reset(page: &mut Page, from: usize, to: usize)
     requires in_order { from ≤ to }
     requires in_page { to ≤ PAGE_WORDS }
     ensures cells { page.new ≡ with_new page.old from to }
+    ensures words_before { length page.old ≡ PAGE_WORDS }
     ensures words { length page.new ≡ PAGE_WORDS }
 {
     for word in from..to {

@@ -7,3 +7,5 @@ mod Passing
 mod Threads
 mod Answering
 mod Others
+mod Places
+mod Writing

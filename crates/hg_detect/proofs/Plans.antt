@@ -18,6 +18,7 @@ use Rattle.hg_cells.specs.declared.cell.Touch.{Touch}
 use Rattle.hg_cells.specs.Cells.{meaning, IsWithin, TellsTruth, OwnerIsTrue, SetsAreTrue}
 use Rattle.hg_detect.specs.declared.plan.Planned.{Planned}
 use Rattle.hg_detect.specs.Planning.{Actor, IsParted, IsPlanned, touch_of, touched_by}
+use Rattle.hg_detect.specs.PagedLaws.{within_more}
 use Rattle.hg_detect.specs.Making.{Asks, sets_in}
 
 -- a table that keeps its numbers has no fewer sets
@@ -27,12 +28,6 @@ no_fewer old new k =
     (λ some. let s = k.sets (length old.sets - 1) (omega arith) in let lt = s.0 in omega arith)
     (λ none. omega arith)
     (cases_lt 0 (length old.sets))
-
-pub within_more : (n m more_n more_m : ℕ) (cell : Cell) → n ≤ more_n → m ≤ more_m → IsWithin n m cell → IsWithin more_n more_m cell
-within_more n m more_n more_m New a b h = tt
-within_more n m more_n more_m (Exclusive s) a b h = omega arith
-within_more n m more_n more_m (SharedRead t l) a b h = (let x = h.0 in omega arith, let y = h.1 in omega arith)
-within_more n m more_n more_m (SharedModified t l) a b h = (let x = h.0 in omega arith, let y = h.1 in omega arith)
 
 -- a cell keeps its meaning
 pub meaning_kept : (n : ℕ) (old new : Table) (cell : Cell) → KeepsNumbers old new → IsWithin n (length old.sets) cell → meaning new.sets cell ≡ meaning old.sets cell

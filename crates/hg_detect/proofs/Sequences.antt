@@ -13,7 +13,8 @@ use Rattle.hg_cells.specs.Cells.{meaning, IsWithin}
 use Rattle.hg_detect.specs.declared.plan.Planned.{Planned}
 use Rattle.hg_detect.specs.Planning.{Actor, ArePlanned, IsPlanned, touched_by, wanted}
 use Rattle.hg_detect.specs.Making.{Asks, sets_in}
-use Rattle.hg_detect.proofs.Plans.{from_before, kept_twice, meaning_kept, no_fewer, within_more}
+use Rattle.hg_detect.proofs.Plans.{from_before, kept_twice, meaning_kept, no_fewer}
+use Rattle.hg_detect.specs.PagedLaws.{within_more}
 
 -- the words from one place up to another, by the first of them
 pub range_next : (w end : ℕ) → w < end → range_with_len w (end - w) ≡ w ∷ range_with_len (w + 1) (end - (w + 1))

@@ -4,3 +4,5 @@ pub mod Planning
 pub mod Shown
 pub mod Engine
 pub mod Answering
+pub mod Paged
+pub mod PagedLaws

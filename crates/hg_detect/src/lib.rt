@@ -4,6 +4,7 @@
 pub mod detector;
 mod engine;
 mod kept;
+pub mod paged;
 mod plan;
 mod setting;
 pub mod words;

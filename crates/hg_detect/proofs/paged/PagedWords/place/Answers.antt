@@ -1,0 +1,12 @@
+use Rattle.std.proofs.Common.{◌≡◌, Some, ap, ◌∙◌, sym, subst, nat_eq}
+use Rattle.indexmap.specs.IndexMap.{get}
+use Rattle.hg_detect.proofs.Places.{placed}
+use Rattle.hg_detect.proofs.paged.PagedWords.place.Goals as goal
+
+pub returns-then-key-number : goal.returns-then-key-number
+returns-then-key-number c =
+    let page = c.in-Some.field-0-1.now in
+    (page, sym c.in-Some.ensures.entry ∙ ap (λ k. Some (k, page)) c.if-key-number.true, ap (λ k. get nat_eq c.args.self.now.pages k) (sym c.if-key-number.true) ∙ c.in-Some.ensures.value)
+
+pub returns : goal.returns
+returns c = placed c.args.self.now.pages c.args.number c.get_index_of.result c.get_index_of.ensures.index c.get_index_of.ensures.found c.get_index_of.ensures.value

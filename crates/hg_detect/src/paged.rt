@@ -1,0 +1,218 @@
+//! A map of words in memory.
+
+ghost use Rattle.std.specs.Prelude.{◌≡◌, ℕ, ◌+◌, ◌/◌, ◌<◌, ◌≤◌, ◌^◌, true, Some, None, is_some, length, IfOk, IfErr, OnOk, MatchOption, option_copied, slice_get, nat_eq, nat_le, nat_lt, ◌==◌, ◌&&◌, ◌-◌, ◌%◌, if◌then◌else◌};
+ghost use Rattle.indexmap.specs.IndexMap.{get, keys, values};
+ghost use Rattle.hg_model.specs.declared.verdict.Refusal.TheVariants.{OutOfMemory};
+ghost use Rattle.hg_cells.specs.declared.cell.Cell.TheVariants.{New};
+ghost use Rattle.hg_cells.specs.Cells.{IsWithin};
+ghost use Rattle.hg_detect.specs.Paged.{AreWithin, HasPage, StandsIn, cell_in, page_of};
+ghost use Rattle.hg_detect.specs.PagedLaws.{each_within, more_within, never_full};
+
+use crate::words::Words;
+use hg_cells::{Cell, PAGE_WORDS, Page, reset};
+use hg_model::verdict::Refusal;
+use hg_sets::SetTable;
+use indexmap::IndexMap;
+use std::alloc::{AllocError, Global};
+
+/// How many bytes of memory a page stands for.
+const PAGE_BYTES: u64 = 1024;
+
+/// How many words a page has.
+const WORDS: u64 = PAGE_WORDS as u64;
+
+/// How many places of pages are remembered.
+const HINTS: usize = 16_384;
+
+/// A map of words that grows by the pages that are touched: 3 KiB for each 1,024 bytes.
+///
+/// A page is found by a hint, a small row of places by the last bits of a page's number. A hint that is wrong costs a
+/// look-up, and says nothing else.
+#[derive(Drop)]
+pub struct PagedWords {
+    alloc: Global,
+    pages: IndexMap<u64, Box<Page>>,
+    hints: Vec<u32>,
+}
+
+impl PagedWords {
+    /// The map whose words are all new.
+    pub fn new(alloc: Global) -> Result<Self, AllocError>
+        ensures fresh { IfOk result (λ words. (w : ℕ) → cell_in words w ≡ New) }
+        ensures within { IfOk result (λ words. (segments sets : ℕ) → AreWithin words segments sets) }
+    {
+        Ok(PagedWords {
+            alloc,
+            pages: IndexMap::new(alloc),
+            hints: vec![in alloc; 0; HINTS]?,
+        })
+    }
+
+    /// The place of a page.
+    #[inline]
+    fn place(&self, number: u64) -> Option<usize>
+        ensures { MatchOption result (get nat_eq self.now.pages number ≡ None) (λ place. StandsIn self.now.pages number place) }
+    {
+        let hint = self.hint(number);
+        if let Some((key, _)) = self.pages.get_index(hint) {
+            if *key == number {
+                return Some(hint);
+            }
+        }
+        self.pages.get_index_of(&number)
+    }
+
+    /// Where the page may be.
+    #[inline]
+    fn hint(&self, number: u64) -> usize {
+        match self.hints.get(slot(number)) {
+            Some(hint) => *hint as usize,
+            None => 0,
+        }
+    }
+
+    /// The cell of a word.
+    #[inline]
+    fn cell(&self, word: u64) -> Cell
+        ensures { result ≡ cell_in self.now word }
+    {
+        let number = word / WORDS;
+        let place = (word % WORDS) as usize;
+        if let Some((key, page)) = self.pages.get_index(self.hint(number)) {
+            if *key == number {
+                return page.get(place);
+            }
+        }
+        match self.pages.get(&number) {
+            Some(page) => page.get(place),
+            None => Cell::New,
+        }
+    }
+
+    /// Notes the place of a page that is present.
+    fn note(&mut self, number: u64)
+        ensures { self.new.pages ≡ self.old.pages }
+    {
+        if let Some(place) = self.place(number) {
+            if let Some(hint) = self.hints.get_mut(slot(number)) {
+                *hint = u32::try_from(place).unwrap_or(0);
+            }
+        }
+    }
+
+    /// Adds a page, whose words are new, where it is absent.
+    fn add(&mut self, number: u64) -> Result<(), Refusal>
+        ensures cells { (w : ℕ) → cell_in self.new w ≡ cell_in self.old w }
+        ensures pages { (n : ℕ) → is_some (page_of self.old n) ≡ true → is_some (page_of self.new n) ≡ true }
+        ensures added { OnOk result (is_some (page_of self.new number) ≡ true) }
+        ensures refusal { IfErr result (λ r. r ≡ OutOfMemory) }
+    {
+        if self.place(number).is_some() {
+            return Ok(());
+        }
+        let Ok(page) = Box::new(self.alloc, Page::new()) else {
+            return Err(Refusal::OutOfMemory);
+        };
+        match self.pages.insert(number, page) {
+            Ok(_) => {
+                self.note(number);
+                Ok(())
+            }
+            Err(_) => Err(Refusal::OutOfMemory),
+        }
+    }
+
+    /// Makes the words of a page from one place up to another new.
+    fn renew(&mut self, number: u64, from: u64, to: u64)
+        requires page { is_some (page_of self.old number) ≡ true }
+        requires in_order { from ≤ to }
+        requires in_page { to ≤ 256 }
+        ensures cells { (w : ℕ) → cell_in self.new w ≡ (if (w / 256 == number) && (nat_le from (w % 256) && nat_lt (w % 256) to) then New else cell_in self.old w) }
+        ensures pages { (n : ℕ) → is_some (page_of self.old n) ≡ true → is_some (page_of self.new n) ≡ true }
+    {
+        if let Some(place) = self.place(number) {
+            if let Some(page) = self.pages.get_index_mut(place) {
+                reset(page, from as usize, to as usize);
+            }
+        }
+    }
+}
+
+impl Words for PagedWords {
+    ghost cell_of = { cell_in };
+
+    ghost may_bring = { AreWithin };
+
+    ghost is_faithful = { AreWithin };
+
+    ghost is_brought = { λ _ _. Unit {0} };
+
+    ghost is_kept = { HasPage };
+
+    ghost may_refuse = { λ r. r ≡ OutOfMemory };
+
+    ghost brings_more = { more_within };
+
+    ghost more_faithful = { more_within };
+
+    ghost faithful_within = { each_within };
+
+    ghost not_full = { never_full };
+
+    fn bring(&mut self, at: u64, len: u16, segments: u32, sets: &SetTable) -> Result<(), Refusal> {
+        let (first, last) = pages_of(at, len);
+        self.note(first);
+        if last != first {
+            self.note(last);
+        }
+        Ok(())
+    }
+
+    fn keep(&mut self, at: u64, len: u16) -> Result<(), Refusal> {
+        let (first, last) = pages_of(at, len);
+        self.add(first)?;
+        if last != first {
+            self.add(last)?;
+        }
+        Ok(())
+    }
+
+    fn get(&self, word: u64) -> Cell {
+        self.cell(word)
+    }
+
+    fn set(&mut self, word: u64, cell: Cell) {
+        if let Some(place) = self.place(word / WORDS) {
+            if let Some(page) = self.pages.get_index_mut(place) {
+                page.set((word % WORDS) as usize, cell);
+            }
+        }
+    }
+
+    fn reset(&mut self, at: u64, len: u16) {
+        let (first, last) = pages_of(at, len);
+        let from = at / 4;
+        let end = (at + u64::from(len - 1)) / 4 + 1;
+        self.renew(first, from % WORDS, (end - first * WORDS).min(WORDS));
+        if last != first {
+            self.renew(last, 0, end - last * WORDS);
+        }
+    }
+}
+
+/// The numbers of the first and of the last page that `len` bytes from `at` on overlap.
+#[inline]
+fn pages_of(at: u64, len: u16) -> (u64, u64)
+    requires some { 0 < len }
+    requires within { at + len ≤ 2 ^ 64 }
+    ensures first { result.0 ≡ at / 1024 }
+    ensures last { result.1 ≡ (at + (len - 1)) / 1024 }
+{
+    (at / PAGE_BYTES, (at + u64::from(len - 1)) / PAGE_BYTES)
+}
+
+/// Where the hint of a page is.
+#[inline]
+fn slot(number: u64) -> usize {
+    number as usize % HINTS
+}
