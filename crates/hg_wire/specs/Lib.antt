@@ -1,0 +1,6 @@
+pub mod Numbers
+pub mod Verbs
+pub mod Lines
+pub mod Streams
+pub mod Reports
+pub mod Laws

@@ -1,0 +1,49 @@
+-- The verbs of the trace text.
+use Rattle.std.specs.Prelude.{ℕ, List, [], ◌∷◌, codes, slice_index}
+use Rattle.hg_model.specs.declared.event.Access.{Access}
+use Rattle.hg_model.specs.declared.event.Block.{Block}
+use Rattle.hg_model.specs.declared.event.Event.{Event}
+use Rattle.hg_model.specs.declared.event.Event.TheVariants.{Fork, Join, Lock, RdLock, Unlock, Read, Write, Alloc, Free}
+
+-- A verb: its text, the width of each operand in bits, and the event that the values of the operands make.
+pub record VerbRow : Type 0 where
+  pub text : List ℕ
+  pub widths : List ℕ
+  pub event : List ℕ → Event
+
+-- a thread and a child or a lock
+abbrev pub pair_widths : List ℕ
+pair_widths = 16 ∷ 16 ∷ []
+
+-- a thread, an address and a length
+abbrev pub access_widths : List ℕ
+access_widths = 16 ∷ 64 ∷ 8 ∷ []
+
+abbrev pub block_widths : List ℕ
+block_widths = 16 ∷ 64 ∷ 16 ∷ []
+
+abbrev pub of_pair : (ℕ → ℕ → Event) → List ℕ → Event
+of_pair make values = make (slice_index values 0) (slice_index values 1)
+
+abbrev pub of_access : (Access → Event) → List ℕ → Event
+of_access make values = make (record { t = slice_index values 0; at = slice_index values 1; len = slice_index values 2 })
+
+abbrev pub of_block : (Block → Event) → List ℕ → Event
+of_block make values = make (record { t = slice_index values 0; at = slice_index values 1; len = slice_index values 2 })
+
+abbrev pub row : List ℕ → List ℕ → (List ℕ → Event) → VerbRow
+row text widths event = record { text = text; widths = widths; event = event }
+
+-- The nine verbs.
+abbrev pub verbs : List VerbRow
+verbs =
+    row (codes "fork") pair_widths (of_pair (λ p c. Fork p c))
+    ∷ row (codes "join") pair_widths (of_pair (λ p c. Join p c))
+    ∷ row (codes "lock") pair_widths (of_pair (λ t l. Lock t l))
+    ∷ row (codes "rdlock") pair_widths (of_pair (λ t l. RdLock t l))
+    ∷ row (codes "unlock") pair_widths (of_pair (λ t l. Unlock t l))
+    ∷ row (codes "read") access_widths (of_access (λ a. Read a))
+    ∷ row (codes "write") access_widths (of_access (λ a. Write a))
+    ∷ row (codes "alloc") block_widths (of_block (λ b. Alloc b))
+    ∷ row (codes "free") block_widths (of_block (λ b. Free b))
+    ∷ []

@@ -1,0 +1,13 @@
+//! Laws of the grammar, each the promise of a function without a body.
+
+ghost use Rattle.hg_wire.specs.Laws.{EventsAreSpelled, FaultsAreFirst};
+
+/// A line gives an event exactly where its bytes spell that event.
+pub fn events_are_spelled()
+    ensures { EventsAreSpelled }
+{}
+
+/// A line gives a fault exactly where that is the first fault that it has.
+pub fn faults_are_first()
+    ensures { FaultsAreFirst }
+{}
