@@ -1,5 +1,5 @@
 -- A line is read exactly where its bytes spell an event, and else its first fault is told.
-use Rattle.std.proofs.Common.{◌≡◌, ℕ, ◌*◌, ◌^◌, ◌<◌, ◌≤◌, true, false, nat_lt, ltb, List, [], ◌∷◌, ◌++◌, length, Option, Some, None, Result, Ok, Err, refl, sym, ◌∙◌, ap, subst, arith, inl, inr, Contains, option_map}
+use Rattle.std.proofs.Common.{◌≡◌, ℕ, ◌*◌, ◌^◌, ◌<◌, ◌≤◌, true, false, nat_lt, ltb, List, [], ◌∷◌, ◌++◌, length, Option, Some, None, Result, Ok, Err, refl, sym, ◌∙◌, ap, subst, arith, inl, inr, Contains, option_map, ok_or}
 use Rattle.std.proofs.lemmas.Bool.{cond-true, cond-false, cases_Bool, eqb-true, eq-eqb, ltb-true, ltb-false, lt-ltb, le-ltb, and_parts, and_from, false_from_ne_true, true≢false}
 use Rattle.std.proofs.lemmas.Option.{option_and_then_some, cond_some}
 use Rattle.std.proofs.lemmas.List.{length-append}
@@ -8,11 +8,12 @@ use Rattle.hg_model.specs.declared.event.Event.{Event}
 use Rattle.hg_wire.specs.declared.line.LineFault.{LineFault}
 use Rattle.hg_wire.specs.declared.line.LineFault.TheVariants.{TooLong, Verb, Count, Number}
 use Rattle.hg_wire.specs.Numbers.{IsNumber, number_of}
-use Rattle.hg_wire.specs.Verbs.{VerbRow, verbs}
-use Rattle.hg_wire.specs.Lines.{AreOperands, IsLine, IsWord, HasWords, HasFault, words_of, verb_named, operand_of, values_of, are_counted, event_or_fault, of_verb, of_words, line_of}
+use Rattle.hg_wire.specs.declared.verb.Verb as source
+use Rattle.hg_wire.specs.Verbs.{row_of, verbs}
+use Rattle.hg_wire.specs.Lines.{AreOperands, IsLine, IsWord, HasWords, HasFault, first_word, words_of, verb_named, operand_of, values_of, are_counted, operands_of, result_map, of_verb, of_words, line_of}
 use Rattle.hg_wire.proofs.NumberLemmas.{number_spelled, number_reads, number_no_byte, number_nonempty, number_short}
 use Rattle.hg_wire.proofs.WordLemmas.{NoByte, led_by, Parts, split_parts, split_joined}
-use Rattle.hg_wire.proofs.VerbLemmas.{listed_is_verb, named_is_listed, nothing_named, named_by_none}
+use Rattle.hg_wire.proofs.VerbLemmas.{each_is_verb, named_has_text, nothing_named, named_by_none}
 
 -- ---- operands
 
@@ -82,85 +83,87 @@ fits : (bytes : List ℕ) → length bytes ≤ 256 → line_of bytes ≡ of_word
 unfolding line_of
 fits bytes short = cond-false _ _ _ (le-ltb _ _ short)
 
--- a line of a listed verb and words
-spelled_words : (bytes : List ℕ) (verb : VerbRow) (words : List (List ℕ)) → Contains verbs verb → AllByRecursion (NoByte 32) words
-    → bytes ≡ verb.text ++ led_by 32 words → of_words (words_of bytes) ≡ of_verb (Some verb) words
-spelled_words bytes verb words listed spaceless spelled =
-    let is = listed_is_verb verb listed in
-    ap (λ b. of_words (words_of b)) spelled ∙ (ap of_words (split_joined 32 verb.text words is.spaceless spaceless) ∙ ap (λ v. of_verb v words) is.named)
+-- a line of a verb and words
+spelled_words : (bytes : List ℕ) (verb : source.Verb) (words : List (List ℕ)) → AllByRecursion (NoByte 32) words
+    → bytes ≡ (row_of verb).text ++ led_by 32 words → of_words (words_of bytes) ≡ of_verb (Some verb) words
+spelled_words bytes verb words spaceless spelled =
+    let is = each_is_verb verb in
+    ap (λ b. of_words (words_of b)) spelled ∙ (ap of_words (split_joined 32 (row_of verb).text words is.spaceless spaceless) ∙ ap (λ v. of_verb v words) is.named)
 
 pub event_reads : (bytes : List ℕ) (event : Event) → IsLine bytes event → line_of bytes ≡ Ok event
 event_reads bytes event h =
-    let words = operands_are_words h.verb.widths h.words h.values h.operands in
+    let row = row_of h.verb in
+    let words = operands_are_words row.widths h.words h.values h.operands in
     let counted = and_from _ _ (eq-eqb _ _ words.0) (all_counted h.words words.1) in
-    fits bytes h.short ∙ (spelled_words bytes h.verb h.words h.listed (all_spaceless h.words words.1) h.spelled
-    ∙ (cond-true _ _ _ counted ∙ (ap (event_or_fault h.verb) (values_read h.verb.widths h.words h.values h.operands) ∙ ap Ok (sym h.made))))
+    let read : operands_of row.widths h.words ≡ Ok h.values =
+      cond-true _ _ _ counted ∙ ap (λ values. ok_or values Number) (values_read row.widths h.words h.values h.operands) in
+    fits bytes h.short ∙ (spelled_words bytes h.verb h.words (all_spaceless h.words words.1) h.spelled ∙ (ap (result_map row.event) read ∙ ap Ok (sym h.made)))
 
 -- what a result says of the bytes
 abbrev pub Means : List ℕ → Result Event LineFault → Type 0
 Means bytes (Ok event) = IsLine bytes event
 Means bytes (Err fault) = HasFault bytes fault
 
--- the words are counted just where they are the verb's
-counted_words : (bytes first : List ℕ) (rest : List (List ℕ)) (verb : VerbRow) → Parts 32 bytes first rest → verb.text ≡ first → are_counted verb rest ≡ true → HasWords bytes verb rest
+-- words that are counted are the verb's
+counted_words : (bytes first : List ℕ) (rest : List (List ℕ)) (verb : source.Verb) → Parts 32 bytes first rest → (row_of verb).text ≡ first
+    → are_counted (row_of verb).widths rest ≡ true → HasWords bytes verb rest
 counted_words bytes first rest verb parts text counted =
     let p = and_parts _ _ counted in
     record { spelled = parts.joined ∙ ap (λ t. t ++ led_by 32 rest) (sym text); counted = eqb-true _ _ p.0; each = all_words rest parts.nones p.1 }
 
-means_values : (bytes : List ℕ) (verb : VerbRow) (words : List (List ℕ)) (values : Option (List ℕ)) → length bytes ≤ 256 → Contains verbs verb → HasWords bytes verb words
-    → values_of verb.widths words ≡ values → Means bytes (event_or_fault verb values)
-means_values bytes verb words None short listed has e =
-    (short, (verb, listed, words, has, λ values operands. let read = values_read verb.widths words values operands in absurd (let bad : None ≡ Some values = sym e ∙ read in cc)))
-means_values bytes verb words (Some values) short listed has e =
-    record { verb = verb; listed = listed; words = words; values = values; operands = values_spelled verb.widths words values has.counted e; spelled = has.spelled; made = refl; short = short }
-
--- words that are not the verb's are counted as such
-miscounted : (bytes first : List ℕ) (rest : List (List ℕ)) (verb : VerbRow) → Parts 32 bytes first rest → Contains verbs verb → ((words : List (List ℕ)) → ¬ HasWords bytes verb words)
-    → verb.text ≡ first → are_counted verb rest ≡ false
-miscounted bytes first rest verb parts listed none text = false_from_ne_true _ (λ e. none rest (counted_words bytes first rest verb parts text e))
-
 -- only the words after the first one can be the verb's
-only_words : (bytes first : List ℕ) (rest words : List (List ℕ)) (verb : VerbRow) → Parts 32 bytes first rest → HasWords bytes verb words → NoByte 32 verb.text → rest ≡ words
-only_words bytes first rest words verb parts has spaceless =
-    let split : words_of bytes ≡ verb.text ∷ words = ap words_of has.spelled ∙ split_joined 32 verb.text words spaceless (all_spaceless words has.each) in
-    let same : first ∷ rest ≡ verb.text ∷ words = sym parts.split ∙ split in
+only_words : (bytes first : List ℕ) (rest words : List (List ℕ)) (verb : source.Verb) → Parts 32 bytes first rest → HasWords bytes verb words → rest ≡ words
+only_words bytes first rest words verb parts has =
+    let split : words_of bytes ≡ (row_of verb).text ∷ words =
+      ap words_of has.spelled ∙ split_joined 32 (row_of verb).text words (each_is_verb verb).spaceless (all_spaceless words has.each) in
+    let same : first ∷ rest ≡ (row_of verb).text ∷ words = sym parts.split ∙ split in
     cc
 
-means_counted : (bytes first : List ℕ) (rest : List (List ℕ)) (verb : VerbRow) → length bytes ≤ 256 → Parts 32 bytes first rest → Contains verbs verb → verb.text ≡ first
+means_values : (bytes : List ℕ) (verb : source.Verb) (words : List (List ℕ)) (values : Option (List ℕ)) → length bytes ≤ 256 → HasWords bytes verb words
+    → values_of (row_of verb).widths words ≡ values → Means bytes (result_map (row_of verb).event (ok_or values Number))
+means_values bytes verb words None short has e =
+    (short, (verb, words, has, λ values operands.
+      let read = values_read (row_of verb).widths words values operands in absurd (let bad : None ≡ Some values = sym e ∙ read in cc)))
+means_values bytes verb words (Some values) short has e =
+    record {
+      verb = verb;
+      words = words;
+      values = values;
+      operands = values_spelled (row_of verb).widths words values has.counted e;
+      spelled = has.spelled;
+      made = refl;
+      short = short;
+    }
+
+means_counted : (bytes first : List ℕ) (rest : List (List ℕ)) (verb : source.Verb) → length bytes ≤ 256 → Parts 32 bytes first rest → (row_of verb).text ≡ first
     → Means bytes (of_verb (Some verb) rest)
-means_counted bytes first rest verb short parts listed text =
-    elim (cases_Bool (are_counted verb rest)) [
-      | inl counted ↦ subst (Means bytes) (sym (cond-true _ _ _ counted)) (means_values bytes verb rest _ short listed (counted_words bytes first rest verb parts text counted) refl)
-      | inr not_counted ↦ subst (Means bytes) (sym (cond-false _ _ _ not_counted)) (
-        short,
-        (
-          verb,
-          listed,
-          text ∙ sym parts.before,
-          λ words has. let same = only_words bytes first rest words verb parts has (listed_is_verb verb listed).spaceless in
-              let counted : are_counted verb rest ≡ true = rw same (and_from _ _ (eq-eqb _ _ has.counted) (all_counted words has.each)) in
-              absurd (true≢false (sym counted ∙ not_counted)),
-        ),
-      )
+means_counted bytes first rest verb short parts text =
+    let widths = (row_of verb).widths in
+    let P : Result (List ℕ) LineFault → Type 0 = λ r. Means bytes (result_map (row_of verb).event r) in
+    elim (cases_Bool (are_counted widths rest)) [
+      inl counted ↦ subst P (sym (cond-true _ _ _ counted)) (means_values bytes verb rest _ short (counted_words bytes first rest verb parts text counted) refl)
+      | inr not_counted ↦ subst P (sym (cond-false _ _ _ not_counted)) (short, (verb, text ∙ sym parts.before,
+          λ words has. let same = only_words bytes first rest words verb parts has in
+            let counted : are_counted widths rest ≡ true = rw same (and_from _ _ (eq-eqb _ _ has.counted) (all_counted words has.each)) in
+            absurd (true≢false (sym counted ∙ not_counted))))
     ]
 
-means_verb : (bytes first : List ℕ) (rest : List (List ℕ)) (named : Option VerbRow) → length bytes ≤ 256 → Parts 32 bytes first rest → verb_named first ≡ named
+means_verb : (bytes first : List ℕ) (rest : List (List ℕ)) (named : Option source.Verb) → length bytes ≤ 256 → Parts 32 bytes first rest → verb_named first ≡ named
     → Means bytes (of_verb named rest)
-means_verb bytes first rest None short parts e = (short, λ verb listed is. named_by_none first e verb listed (is ∙ parts.before))
-means_verb bytes first rest (Some verb) short parts e =
-    let p = named_is_listed first verb e in means_counted bytes first rest verb short parts p.0 p.1
+means_verb bytes first rest None short parts e = (short, λ verb is. named_by_none first e verb (is ∙ parts.before))
+means_verb bytes first rest (Some verb) short parts e = means_counted bytes first rest verb short parts (named_has_text first verb e)
 
 -- What is read of a line is true of it.
 pub means : (bytes : List ℕ) → Means bytes (line_of bytes)
 unfolding line_of
 means bytes = elim (cases_Bool (ltb 256 (length bytes))) [
-  | inl long ↦ subst (Means bytes) (sym (cond-true _ _ _ long)) (ltb-true _ _ long)
+  inl long ↦ subst (Means bytes) (sym (cond-true _ _ _ long)) (ltb-true _ _ long)
   | inr fitting ↦ (
       let short : length bytes ≤ 256 = ltb-false _ _ fitting in
       let p = split_parts 32 bytes in
       let is : line_of bytes ≡ of_verb (verb_named p.0) p.1 = cond-false _ _ _ fitting ∙ ap of_words p.2.split in
       subst (Means bytes) (sym is) (means_verb bytes p.0 p.1 _ short p.2 refl)
-      )
+    )
 ]
 
 no_values : {A : Type 0} (o : Option A) → ((x : A) → ¬ (o ≡ Some x)) → o ≡ None
@@ -173,16 +176,20 @@ unfolding line_of
 fault_is_told bytes TooLong h = cond-true _ _ _ (lt-ltb _ _ h)
 fault_is_told bytes Verb h =
     let p = split_parts 32 bytes in
-    fits bytes h.0 ∙ (ap of_words p.2.split ∙ ap (λ named. of_verb named p.1) (nothing_named p.0 (λ verb listed is. h.1 verb listed (is ∙ sym p.2.before))))
+    fits bytes h.0 ∙ (ap of_words p.2.split ∙ ap (λ named. of_verb named p.1) (nothing_named p.0 (λ verb is. h.1 verb (is ∙ sym p.2.before))))
 fault_is_told bytes Count h =
     let p = split_parts 32 bytes in
-    let text = h.1.2 ∙ p.2.before in
-    let named : verb_named p.0 ≡ Some h.1.0 = ap verb_named (sym text) ∙ (listed_is_verb h.1.0 h.1.1).named in
-    fits bytes h.0 ∙ (ap of_words p.2.split ∙ (ap (λ n. of_verb n p.1) named ∙ cond-false _ _ _ (miscounted bytes p.0 p.1 h.1.0 p.2 h.1.1 h.1.3 text)))
+    let verb = h.1.0 in
+    let text = h.1.1 ∙ p.2.before in
+    let named : verb_named p.0 ≡ Some verb = ap verb_named (sym text) ∙ (each_is_verb verb).named in
+    let miscounted : are_counted (row_of verb).widths p.1 ≡ false = false_from_ne_true _ (λ e. h.1.2 p.1 (counted_words bytes p.0 p.1 verb p.2 text e)) in
+    fits bytes h.0 ∙ (ap of_words p.2.split ∙ (ap (λ n. of_verb n p.1) named ∙ ap (result_map (row_of verb).event) (cond-false _ _ _ miscounted)))
 fault_is_told bytes Number h =
     let verb = h.1.0 in
-    let words = h.1.2 in
-    let has = h.1.3 in
-    let none : values_of verb.widths words ≡ None = no_values (values_of verb.widths words) (λ values e. h.1.4 values (values_spelled verb.widths words values has.counted e)) in
-    fits bytes h.0 ∙ (spelled_words bytes verb words h.1.1 (all_spaceless words has.each) has.spelled
-    ∙ (cond-true _ _ _ (and_from _ _ (eq-eqb _ _ has.counted) (all_counted words has.each)) ∙ ap (event_or_fault verb) none))
+    let words = h.1.1 in
+    let has = h.1.2 in
+    let row = row_of verb in
+    let none : values_of row.widths words ≡ None = no_values (values_of row.widths words) (λ values e. h.1.3 values (values_spelled row.widths words values has.counted e)) in
+    let read : operands_of row.widths words ≡ Err Number =
+      cond-true _ _ _ (and_from _ _ (eq-eqb _ _ has.counted) (all_counted words has.each)) ∙ ap (λ values. ok_or values Number) none in
+    fits bytes h.0 ∙ (spelled_words bytes verb words (all_spaceless words has.each) has.spelled ∙ ap (result_map row.event) read)

@@ -4,15 +4,11 @@ use Rattle.std.proofs.lemmas.Bool.{cond-true, cond-false, cases_Bool, eqb-false,
 use Rattle.std.proofs.lemmas.Slice.Eq.{bytes_eq-Decides}
 use Rattle.std.specs.List.{AllByRecursion, list_all, find}
 use Rattle.std.specs.Str.{bytes_eq}
-use Rattle.hg_wire.specs.Verbs.{VerbRow, verbs}
+use Rattle.hg_wire.specs.declared.verb.Verb.{Verb}
+use Rattle.hg_wire.specs.declared.verb.Verb.TheVariants.{Fork, Join, Lock, RdLock, Unlock, Read, Write, Alloc, Free}
+use Rattle.hg_wire.specs.Verbs.{row_of, verbs}
 use Rattle.hg_wire.specs.Lines.{verb_named}
 use Rattle.hg_wire.proofs.WordLemmas.{NoByte}
-
--- what holds of each row holds of a row of the list
-pub each_contained : {X : Type 0} (P : X → Type 0) (xs : List X) (x : X) → AllByRecursion P xs → Contains xs x → P x
-each_contained P [] x h (k, lt, e) = absurd (omega arith)
-each_contained P (y ∷ ys) x h (zero, lt, e) = subst P e h.0
-each_contained P (y ∷ ys) x h (suc k, lt, e) = each_contained P ys x h.1 (k, omega arith, e)
 
 -- what a search finds
 pub find_some : {X : Type 0} (p : X → Bool) (xs : List X) (x : X) → find p xs ≡ Some x → Contains xs x × (p x ≡ true)
@@ -33,53 +29,39 @@ no_byte_tested c [] h = tt
 no_byte_tested c (b ∷ bytes) h = let p = and_parts _ _ h in (eqb-false b c (not-true _ p.0), no_byte_tested c bytes p.1)
 
 -- what is true of each verb
-pub record IsVerb (verb : VerbRow) : Type 0 where
-  pub spaceless : NoByte 32 verb.text
-  pub short : length verb.text ≤ 6
-  pub few : length verb.widths ≤ 3
-  pub named : verb_named verb.text ≡ Some verb
+pub record IsVerb (verb : Verb) : Type 0 where
+  pub spaceless : NoByte 32 (row_of verb).text
+  pub short : length (row_of verb).text ≤ 6
+  pub few : length (row_of verb).widths ≤ 3
+  pub named : verb_named (row_of verb).text ≡ Some verb
 
-is_verb : (verb : VerbRow) → list_all (λ b. not (eqb b 32)) verb.text ≡ true → leb (length verb.text) 6 ≡ true → leb (length verb.widths) 3 ≡ true
-    → verb_named verb.text ≡ Some verb → IsVerb verb
+is_verb : (verb : Verb) → list_all (λ b. not (eqb b 32)) (row_of verb).text ≡ true → leb (length (row_of verb).text) 6 ≡ true → leb (length (row_of verb).widths) 3 ≡ true
+    → verb_named (row_of verb).text ≡ Some verb → IsVerb verb
 is_verb verb spaceless short few named =
-    record { spaceless = no_byte_tested 32 verb.text spaceless; short = leb-true _ _ short; few = leb-true _ _ few; named = named }
+    record { spaceless = no_byte_tested 32 (row_of verb).text spaceless; short = leb-true _ _ short; few = leb-true _ _ few; named = named }
 
-each_is_verb : AllByRecursion IsVerb verbs
+pub each_is_verb : (verb : Verb) → IsVerb verb
 unfolding verb_named
-each_is_verb = (
-  is_verb _ refl refl refl refl,
-  (
-    is_verb _ refl refl refl refl,
-    (
-      is_verb _ refl refl refl refl,
-      (
-        is_verb _ refl refl refl refl,
-        (
-          is_verb _ refl refl refl refl,
-          (
-            is_verb _ refl refl refl refl,
-            (
-              is_verb _ refl refl refl refl,
-              (is_verb _ refl refl refl refl, (is_verb _ refl refl refl refl, tt)),
-            ),
-          ),
-        ),
-      ),
-    ),
-  ),
-)
+each_is_verb Fork = is_verb Fork refl refl refl refl
+each_is_verb Join = is_verb Join refl refl refl refl
+each_is_verb Lock = is_verb Lock refl refl refl refl
+each_is_verb RdLock = is_verb RdLock refl refl refl refl
+each_is_verb Unlock = is_verb Unlock refl refl refl refl
+each_is_verb Read = is_verb Read refl refl refl refl
+each_is_verb Write = is_verb Write refl refl refl refl
+each_is_verb Alloc = is_verb Alloc refl refl refl refl
+each_is_verb Free = is_verb Free refl refl refl refl
 
-pub listed_is_verb : (verb : VerbRow) → Contains verbs verb → IsVerb verb
-listed_is_verb verb c = each_contained IsVerb verbs verb each_is_verb c
-
-pub named_is_listed : (word : List ℕ) (verb : VerbRow) → verb_named word ≡ Some verb → Contains verbs verb × (verb.text ≡ word)
+pub named_has_text : (word : List ℕ) (verb : Verb) → verb_named word ≡ Some verb → (row_of verb).text ≡ word
 unfolding verb_named
-named_is_listed word verb e = let p = find_some (λ v. bytes_eq v.text word) verbs verb e in (p.0, (bytes_eq-Decides verb.text word).0 p.1)
+named_has_text word verb e =
+    let p = find_some (λ v. bytes_eq (row_of v).text word) verbs verb e in (bytes_eq-Decides (row_of verb).text word).0 p.1
 
-pub nothing_named : (word : List ℕ) → ((verb : VerbRow) → Contains verbs verb → verb.text ≢ word) → verb_named word ≡ None
+pub nothing_named : (word : List ℕ) → ((verb : Verb) → (row_of verb).text ≢ word) → verb_named word ≡ None
 unfolding verb_named
 nothing_named word h =
-    find_none (λ v. bytes_eq v.text word) verbs (λ verb c. false_from_ne_true _ (λ e. h verb c ((bytes_eq-Decides verb.text word).0 e)))
+    find_none (λ v. bytes_eq (row_of v).text word) verbs (λ verb c. false_from_ne_true _ (λ e. h verb ((bytes_eq-Decides (row_of verb).text word).0 e)))
 
-pub named_by_none : (word : List ℕ) → verb_named word ≡ None → (verb : VerbRow) → Contains verbs verb → verb.text ≢ word
-named_by_none word e verb c is = let named = (listed_is_verb verb c).named in let again : verb_named word ≡ Some verb = ap verb_named (sym is) ∙ named in cc
+pub named_by_none : (word : List ℕ) → verb_named word ≡ None → (verb : Verb) → (row_of verb).text ≢ word
+named_by_none word e verb is =
+    let again : verb_named word ≡ Some verb = ap verb_named (sym is) ∙ (each_is_verb verb).named in cc

@@ -1,12 +1,13 @@
 -- One line of the trace text, without its line end.
-use Rattle.std.specs.Prelude.{◌≡◌, ℕ, ◌<◌, ◌≤◌, ◌^◌, Bool, ◌&&◌, ◌==◌, nat_lt, List, [], ◌∷◌, ◌++◌, length, Contains, find, Option, Some, None, option_and_then, option_map, Result, Ok, Err, if◌then◌else◌, ⊤, ◌≢◌}
+use Rattle.std.specs.Prelude.{◌≡◌, ℕ, ◌<◌, ◌≤◌, ◌^◌, Bool, ◌&&◌, ◌==◌, nat_lt, List, [], ◌∷◌, ◌++◌, length, find, Option, Some, None, option_and_then, option_map, ok_or, Result, Ok, Err, if◌then◌else◌, ⊤, ◌≢◌}
 use Rattle.std.specs.List.{slice_split, list_all, flat_map, before_first, AllByRecursion}
 use Rattle.std.specs.Str.{bytes_eq}
 use Rattle.hg_model.specs.declared.event.Event.{Event}
 use Rattle.hg_wire.specs.declared.line.LineFault.{LineFault}
 use Rattle.hg_wire.specs.declared.line.LineFault.TheVariants.{TooLong, Verb, Count, Number}
 use Rattle.hg_wire.specs.Numbers.{IsNumber, number_of}
-use Rattle.hg_wire.specs.Verbs.{VerbRow, verbs}
+use Rattle.hg_wire.specs.declared.verb.Verb as source
+use Rattle.hg_wire.specs.Verbs.{row_of, verbs}
 
 -- Each word spells the value at its place, which fits the width at its place.
 abbrev pub AreOperands : List ℕ → List (List ℕ) → List ℕ → Type 0
@@ -14,15 +15,14 @@ AreOperands [] [] [] = ⊤
 AreOperands (width ∷ widths) (word ∷ words) (value ∷ values) = IsNumber word value × (value < 2 ^ width) × AreOperands widths words values
 AreOperands _ _ _ = ⊥
 
--- The bytes spell the event: a verb, and for each of its operands one space and a number.
+-- The bytes spell the event: a verb, and for each of its operands one space and a number that fits.
 pub record IsLine (bytes : List ℕ) (event : Event) : Type 0 where
-  pub verb : VerbRow
-  pub listed : Contains verbs verb
+  pub verb : source.Verb
   pub words : List (List ℕ)
   pub values : List ℕ
-  pub operands : AreOperands verb.widths words values
-  pub spelled : bytes ≡ verb.text ++ flat_map (λ word. 32 ∷ word) words
-  pub made : event ≡ verb.event values
+  pub operands : AreOperands (row_of verb).widths words values
+  pub spelled : bytes ≡ (row_of verb).text ++ flat_map (λ word. 32 ∷ word) words
+  pub made : event ≡ (row_of verb).event values
   pub short : length bytes ≤ 256
 
 -- one byte or more, none of them a space
@@ -30,9 +30,9 @@ abbrev pub IsWord : List ℕ → Type 0
 IsWord word = (0 < length word) × AllByRecursion (λ b. b ≢ 32) word
 
 -- The bytes are the verb, and for each of its operands one space and a word.
-pub record HasWords (bytes : List ℕ) (verb : VerbRow) (words : List (List ℕ)) : Type 0 where
-  pub spelled : bytes ≡ verb.text ++ flat_map (λ word. 32 ∷ word) words
-  pub counted : length words ≡ length verb.widths
+pub record HasWords (bytes : List ℕ) (verb : source.Verb) (words : List (List ℕ)) : Type 0 where
+  pub spelled : bytes ≡ (row_of verb).text ++ flat_map (λ word. 32 ∷ word) words
+  pub counted : length words ≡ length (row_of verb).widths
   pub each : AllByRecursion IsWord words
 
 -- what stands before the first space, or all
@@ -42,19 +42,19 @@ first_word bytes = before_first (λ b. b == 32) bytes
 -- The fault is the first one that the bytes have.
 abbrev pub HasFault : List ℕ → LineFault → Type 0
 HasFault bytes TooLong = 256 < length bytes
-HasFault bytes Verb = (length bytes ≤ 256) × ((verb : VerbRow) → Contains verbs verb → verb.text ≢ first_word bytes)
+HasFault bytes Verb = (length bytes ≤ 256) × ((verb : source.Verb) → (row_of verb).text ≢ first_word bytes)
 HasFault bytes Count = (length bytes ≤ 256)
-    × ((verb : VerbRow) × Contains verbs verb × (verb.text ≡ first_word bytes) × ((words : List (List ℕ)) → ¬ HasWords bytes verb words))
+    × ((verb : source.Verb) × ((row_of verb).text ≡ first_word bytes) × ((words : List (List ℕ)) → ¬ HasWords bytes verb words))
 HasFault bytes Number = (length bytes ≤ 256)
-    × ((verb : VerbRow) × Contains verbs verb × (words : List (List ℕ)) × HasWords bytes verb words × ((values : List ℕ) → ¬ AreOperands verb.widths words values))
+    × ((verb : source.Verb) × (words : List (List ℕ)) × HasWords bytes verb words × ((values : List ℕ) → ¬ AreOperands (row_of verb).widths words values))
 
 -- the words of a line, with one space between each two
 abbrev pub words_of : List ℕ → List (List ℕ)
 words_of line = slice_split (λ b. b == 32) line
 
 -- the verb that the word names
-unfoldable pub verb_named : List ℕ → Option VerbRow
-verb_named word = find (λ verb. bytes_eq verb.text word) verbs
+unfoldable pub verb_named : List ℕ → Option source.Verb
+verb_named word = find (λ verb. bytes_eq (row_of verb).text word) verbs
 
 -- the number that the word spells, where it fits the width
 abbrev pub operand_of : ℕ → List ℕ → Option ℕ
@@ -65,17 +65,21 @@ abbrev pub values_of : List ℕ → List (List ℕ) → Option (List ℕ)
 values_of (width ∷ widths) (word ∷ words) = option_and_then (λ n. option_map (λ ns. n ∷ ns) (values_of widths words)) (operand_of width word)
 values_of _ _ = Some []
 
--- the words are as many as the verb's operands, and none is empty
-abbrev pub are_counted : VerbRow → List (List ℕ) → Bool
-are_counted verb words = (length words == length verb.widths) && list_all (λ word. nat_lt 0 (length word)) words
+-- the words are as many as the widths, and none is empty
+abbrev pub are_counted : List ℕ → List (List ℕ) → Bool
+are_counted widths words = (length words == length widths) && list_all (λ word. nat_lt 0 (length word)) words
 
-abbrev pub event_or_fault : VerbRow → Option (List ℕ) → Result Event LineFault
-event_or_fault verb None = Err Number
-event_or_fault verb (Some values) = Ok (verb.event values)
+-- the values of the operands that the words spell, or the first of their faults
+abbrev pub operands_of : List ℕ → List (List ℕ) → Result (List ℕ) LineFault
+operands_of widths words = if are_counted widths words then ok_or (values_of widths words) Number else Err Count
 
-abbrev pub of_verb : Option VerbRow → List (List ℕ) → Result Event LineFault
+abbrev pub result_map : {A B : Type 0} → (A → B) → Result A LineFault → Result B LineFault
+result_map f (Ok x) = Ok (f x)
+result_map f (Err fault) = Err fault
+
+abbrev pub of_verb : Option source.Verb → List (List ℕ) → Result Event LineFault
 of_verb None words = Err Verb
-of_verb (Some verb) words = if are_counted verb words then event_or_fault verb (values_of verb.widths words) else Err Count
+of_verb (Some verb) words = result_map (row_of verb).event (operands_of (row_of verb).widths words)
 
 abbrev pub of_words : List (List ℕ) → Result Event LineFault
 of_words [] = Err Verb
@@ -84,3 +88,15 @@ of_words (word ∷ words) = of_verb (verb_named word) words
 -- The event that a line spells, or the first of its faults.
 unfoldable pub line_of : List ℕ → Result Event LineFault
 line_of line = if nat_lt 256 (length line) then Err TooLong else of_words (words_of line)
+
+-- The bytes are a space and a word for each value, and then the rest.
+pub record HasOperands (widths bytes values rest : List ℕ) : Type 0 where
+  pub words : List (List ℕ)
+  pub operands : AreOperands widths words values
+  pub joined : bytes ≡ flat_map (λ word. 32 ∷ word) words ++ rest
+
+-- The bytes spell the event, and then come the rest.
+pub record HasEvent (bytes : List ℕ) (event : Event) (rest : List ℕ) : Type 0 where
+  pub text : List ℕ
+  pub spelled : IsLine text event
+  pub joined : bytes ≡ text ++ rest

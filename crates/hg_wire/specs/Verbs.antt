@@ -3,6 +3,8 @@ use Rattle.std.specs.Prelude.{ℕ, List, [], ◌∷◌, codes, slice_index}
 use Rattle.hg_model.specs.declared.event.Access.{Access}
 use Rattle.hg_model.specs.declared.event.Block.{Block}
 use Rattle.hg_model.specs.declared.event.Event.{Event}
+use Rattle.hg_wire.specs.declared.verb.Verb.{Verb}
+use Rattle.hg_wire.specs.declared.verb.Verb.TheVariants as verb
 use Rattle.hg_model.specs.declared.event.Event.TheVariants.{Fork, Join, Lock, RdLock, Unlock, Read, Write, Alloc, Free}
 
 -- A verb: its text, the width of each operand in bits, and the event that the values of the operands make.
@@ -34,16 +36,17 @@ of_block make values = make (record { t = slice_index values 0; at = slice_index
 abbrev pub row : List ℕ → List ℕ → (List ℕ → Event) → VerbRow
 row text widths event = record { text = text; widths = widths; event = event }
 
+abbrev pub row_of : Verb → VerbRow
+row_of verb.Fork = row (codes "fork") pair_widths (of_pair (λ p c. Fork p c))
+row_of verb.Join = row (codes "join") pair_widths (of_pair (λ p c. Join p c))
+row_of verb.Lock = row (codes "lock") pair_widths (of_pair (λ t l. Lock t l))
+row_of verb.RdLock = row (codes "rdlock") pair_widths (of_pair (λ t l. RdLock t l))
+row_of verb.Unlock = row (codes "unlock") pair_widths (of_pair (λ t l. Unlock t l))
+row_of verb.Read = row (codes "read") access_widths (of_access (λ a. Read a))
+row_of verb.Write = row (codes "write") access_widths (of_access (λ a. Write a))
+row_of verb.Alloc = row (codes "alloc") block_widths (of_block (λ b. Alloc b))
+row_of verb.Free = row (codes "free") block_widths (of_block (λ b. Free b))
+
 -- The nine verbs.
-abbrev pub verbs : List VerbRow
-verbs =
-    row (codes "fork") pair_widths (of_pair (λ p c. Fork p c))
-    ∷ row (codes "join") pair_widths (of_pair (λ p c. Join p c))
-    ∷ row (codes "lock") pair_widths (of_pair (λ t l. Lock t l))
-    ∷ row (codes "rdlock") pair_widths (of_pair (λ t l. RdLock t l))
-    ∷ row (codes "unlock") pair_widths (of_pair (λ t l. Unlock t l))
-    ∷ row (codes "read") access_widths (of_access (λ a. Read a))
-    ∷ row (codes "write") access_widths (of_access (λ a. Write a))
-    ∷ row (codes "alloc") block_widths (of_block (λ b. Alloc b))
-    ∷ row (codes "free") block_widths (of_block (λ b. Free b))
-    ∷ []
+abbrev pub verbs : List Verb
+verbs = verb.Fork ∷ verb.Join ∷ verb.Lock ∷ verb.RdLock ∷ verb.Unlock ∷ verb.Read ∷ verb.Write ∷ verb.Alloc ∷ verb.Free ∷ []

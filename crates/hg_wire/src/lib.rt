@@ -3,5 +3,8 @@
 
 pub mod laws;
 pub mod line;
+mod number;
+mod operands;
 pub mod reader;
 pub mod report;
+pub mod verb;
