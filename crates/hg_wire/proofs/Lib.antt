@@ -4,3 +4,4 @@ pub mod WordLemmas
 pub mod VerbLemmas
 pub mod LineLemmas
 pub mod OperandLemmas
+pub mod EventLemmas

@@ -1,5 +1,5 @@
 -- A line is read exactly where its bytes spell an event, and else its first fault is told.
-use Rattle.std.proofs.Common.{◌≡◌, ℕ, ◌*◌, ◌^◌, ◌<◌, ◌≤◌, true, false, nat_lt, ltb, List, [], ◌∷◌, ◌++◌, length, Option, Some, None, Result, Ok, Err, refl, sym, ◌∙◌, ap, subst, arith, inl, inr, Contains, option_map, ok_or}
+use Rattle.std.proofs.Common.{◌≡◌, ℕ, ◌*◌, ◌^◌, ◌<◌, ◌≤◌, true, false, nat_lt, ltb, List, [], ◌∷◌, ◌++◌, length, Option, Some, None, Result, Ok, Err, refl, sym, ◌∙◌, ap, subst, arith, inl, inr, option_map, ok_or}
 use Rattle.std.proofs.lemmas.Bool.{cond-true, cond-false, cases_Bool, eqb-true, eq-eqb, ltb-true, ltb-false, lt-ltb, le-ltb, and_parts, and_from, false_from_ne_true, true≢false}
 use Rattle.std.proofs.lemmas.Option.{option_and_then_some, cond_some}
 use Rattle.std.proofs.lemmas.List.{length-append}
@@ -9,8 +9,8 @@ use Rattle.hg_wire.specs.declared.line.LineFault.{LineFault}
 use Rattle.hg_wire.specs.declared.line.LineFault.TheVariants.{TooLong, Verb, Count, Number}
 use Rattle.hg_wire.specs.Numbers.{IsNumber, number_of}
 use Rattle.hg_wire.specs.declared.verb.Verb as source
-use Rattle.hg_wire.specs.Verbs.{row_of, verbs}
-use Rattle.hg_wire.specs.Lines.{AreOperands, IsLine, IsWord, HasWords, HasFault, first_word, words_of, verb_named, operand_of, values_of, are_counted, operands_of, result_map, of_verb, of_words, line_of}
+use Rattle.hg_wire.specs.Verbs.{row_of}
+use Rattle.hg_wire.specs.Lines.{AreOperands, IsLine, IsWord, HasWords, HasFault, words_of, verb_named, operand_of, values_of, are_counted, operands_of, result_map, of_verb, of_words, line_of}
 use Rattle.hg_wire.proofs.NumberLemmas.{number_spelled, number_reads, number_no_byte, number_nonempty, number_short}
 use Rattle.hg_wire.proofs.WordLemmas.{NoByte, led_by, Parts, split_parts, split_joined}
 use Rattle.hg_wire.proofs.VerbLemmas.{each_is_verb, named_has_text, nothing_named, named_by_none}
@@ -96,7 +96,7 @@ event_reads bytes event h =
     let words = operands_are_words row.widths h.words h.values h.operands in
     let counted = and_from _ _ (eq-eqb _ _ words.0) (all_counted h.words words.1) in
     let read : operands_of row.widths h.words ≡ Ok h.values =
-      cond-true _ _ _ counted ∙ ap (λ values. ok_or values Number) (values_read row.widths h.words h.values h.operands) in
+    cond-true _ _ _ counted ∙ ap (λ values. ok_or values Number) (values_read row.widths h.words h.values h.operands) in
     fits bytes h.short ∙ (spelled_words bytes h.verb h.words (all_spaceless h.words words.1) h.spelled ∙ (ap (result_map row.event) read ∙ ap Ok (sym h.made)))
 
 -- what a result says of the bytes
@@ -115,15 +115,22 @@ counted_words bytes first rest verb parts text counted =
 only_words : (bytes first : List ℕ) (rest words : List (List ℕ)) (verb : source.Verb) → Parts 32 bytes first rest → HasWords bytes verb words → rest ≡ words
 only_words bytes first rest words verb parts has =
     let split : words_of bytes ≡ (row_of verb).text ∷ words =
-      ap words_of has.spelled ∙ split_joined 32 (row_of verb).text words (each_is_verb verb).spaceless (all_spaceless words has.each) in
+    ap words_of has.spelled ∙ split_joined 32 (row_of verb).text words (each_is_verb verb).spaceless (all_spaceless words has.each) in
     let same : first ∷ rest ≡ (row_of verb).text ∷ words = sym parts.split ∙ split in
     cc
 
 means_values : (bytes : List ℕ) (verb : source.Verb) (words : List (List ℕ)) (values : Option (List ℕ)) → length bytes ≤ 256 → HasWords bytes verb words
     → values_of (row_of verb).widths words ≡ values → Means bytes (result_map (row_of verb).event (ok_or values Number))
-means_values bytes verb words None short has e =
-    (short, (verb, words, has, λ values operands.
-      let read = values_read (row_of verb).widths words values operands in absurd (let bad : None ≡ Some values = sym e ∙ read in cc)))
+means_values bytes verb words None short has e = (
+  short,
+  (
+    verb,
+    words,
+    has,
+    λ values operands.
+        let read = values_read (row_of verb).widths words values operands in absurd (let bad : None ≡ Some values = sym e ∙ read in cc),
+  ),
+)
 means_values bytes verb words (Some values) short has e =
     record {
       verb = verb;
@@ -141,11 +148,17 @@ means_counted bytes first rest verb short parts text =
     let widths = (row_of verb).widths in
     let P : Result (List ℕ) LineFault → Type 0 = λ r. Means bytes (result_map (row_of verb).event r) in
     elim (cases_Bool (are_counted widths rest)) [
-      inl counted ↦ subst P (sym (cond-true _ _ _ counted)) (means_values bytes verb rest _ short (counted_words bytes first rest verb parts text counted) refl)
-      | inr not_counted ↦ subst P (sym (cond-false _ _ _ not_counted)) (short, (verb, text ∙ sym parts.before,
+      | inl counted ↦ subst P (sym (cond-true _ _ _ counted)) (means_values bytes verb rest _ short (counted_words bytes first rest verb parts text counted) refl)
+      | inr not_counted ↦ subst P (sym (cond-false _ _ _ not_counted)) (
+        short,
+        (
+          verb,
+          text ∙ sym parts.before,
           λ words has. let same = only_words bytes first rest words verb parts has in
-            let counted : are_counted widths rest ≡ true = rw same (and_from _ _ (eq-eqb _ _ has.counted) (all_counted words has.each)) in
-            absurd (true≢false (sym counted ∙ not_counted))))
+              let counted : are_counted widths rest ≡ true = rw same (and_from _ _ (eq-eqb _ _ has.counted) (all_counted words has.each)) in
+              absurd (true≢false (sym counted ∙ not_counted)),
+        ),
+      )
     ]
 
 means_verb : (bytes first : List ℕ) (rest : List (List ℕ)) (named : Option source.Verb) → length bytes ≤ 256 → Parts 32 bytes first rest → verb_named first ≡ named
@@ -157,13 +170,13 @@ means_verb bytes first rest (Some verb) short parts e = means_counted bytes firs
 pub means : (bytes : List ℕ) → Means bytes (line_of bytes)
 unfolding line_of
 means bytes = elim (cases_Bool (ltb 256 (length bytes))) [
-  inl long ↦ subst (Means bytes) (sym (cond-true _ _ _ long)) (ltb-true _ _ long)
+  | inl long ↦ subst (Means bytes) (sym (cond-true _ _ _ long)) (ltb-true _ _ long)
   | inr fitting ↦ (
       let short : length bytes ≤ 256 = ltb-false _ _ fitting in
       let p = split_parts 32 bytes in
       let is : line_of bytes ≡ of_verb (verb_named p.0) p.1 = cond-false _ _ _ fitting ∙ ap of_words p.2.split in
       subst (Means bytes) (sym is) (means_verb bytes p.0 p.1 _ short p.2 refl)
-    )
+      )
 ]
 
 no_values : {A : Type 0} (o : Option A) → ((x : A) → ¬ (o ≡ Some x)) → o ≡ None
@@ -191,5 +204,5 @@ fault_is_told bytes Number h =
     let row = row_of verb in
     let none : values_of row.widths words ≡ None = no_values (values_of row.widths words) (λ values e. h.1.3 values (values_spelled row.widths words values has.counted e)) in
     let read : operands_of row.widths words ≡ Err Number =
-      cond-true _ _ _ (and_from _ _ (eq-eqb _ _ has.counted) (all_counted words has.each)) ∙ ap (λ values. ok_or values Number) none in
+    cond-true _ _ _ (and_from _ _ (eq-eqb _ _ has.counted) (all_counted words has.each)) ∙ ap (λ values. ok_or values Number) none in
     fits bytes h.0 ∙ (spelled_words bytes verb words (all_spaceless words has.each) has.spelled ∙ ap (result_map row.event) read)

@@ -1,8 +1,8 @@
 -- Operands that follow one another.
-use Rattle.std.proofs.Common.{◌≡◌, ℕ, suc, ◌+◌, ◌^◌, ◌<◌, ◌≤◌, List, [], ◌∷◌, ◌++◌, length, get_or, refl, sym, ◌∙◌, ap, subst, arith}
+use Rattle.std.proofs.Common.{◌≡◌, ℕ, ◌^◌, ◌<◌, ◌≤◌, List, [], ◌∷◌, ◌++◌, length, get_or, refl, sym, ◌∙◌, ap}
 use Rattle.std.proofs.lemmas.List.{append_assoc, append-nil}
 use Rattle.std.proofs.lemmas.Slice.{first_rest}
-use Rattle.std.specs.List.{between, flat_map}
+use Rattle.std.specs.List.{between}
 use Rattle.hg_wire.specs.Numbers.{HasNumber}
 use Rattle.hg_wire.specs.Lines.{AreOperands, HasOperands}
 use Rattle.hg_wire.proofs.WordLemmas.{led_by}
@@ -13,7 +13,7 @@ one_operand bytes n rest some space h =
       words = h.text ∷ [];
       operands = (h.spelled, h.fits, tt);
       joined = first_rest bytes 0 some ∙ (ap (λ b. b ∷ between 1 (length bytes) bytes) space ∙ (ap (λ more. 32 ∷ more) h.joined
-      ∙ ap (λ text. 32 ∷ (text ++ rest)) (sym (append-nil h.text))));
+          ∙ ap (λ text. 32 ∷ (text ++ rest)) (sym (append-nil h.text))));
     }
 
 narrowed : (width n : ℕ) (words : List (List ℕ)) → n < 2 ^ width → AreOperands (64 ∷ []) words (n ∷ []) → AreOperands (width ∷ []) words (n ∷ [])
@@ -43,5 +43,5 @@ operands_follow width n widths values bytes middle rest h k =
       words = h.words ++ k.words;
       operands = one_more width n widths values h.words k.words h.operands k.operands;
       joined = h.joined ∙ (ap (λ more. led_by 32 h.words ++ more) k.joined ∙ (sym (append_assoc (led_by 32 h.words) (led_by 32 k.words) rest)
-      ∙ ap (λ bytes. bytes ++ rest) (sym (led_by-append h.words k.words))));
+          ∙ ap (λ bytes. bytes ++ rest) (sym (led_by-append h.words k.words))));
     }

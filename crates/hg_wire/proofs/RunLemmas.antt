@@ -1,5 +1,5 @@
 -- A run of digits that is read from the left.
-use Rattle.std.proofs.Common.{◌≡◌, ℕ, zero, suc, ◌+◌, ◌-◌, ◌*◌, ◌^◌, ◌%◌, ◌<◌, ◌≤◌, List, [], ◌∷◌, ◌++◌, length, get_or, codes, refl, sym, ◌∙◌, ap, subst, arith, inl, inr}
+use Rattle.std.proofs.Common.{◌≡◌, ℕ, suc, ◌+◌, ◌-◌, ◌*◌, ◌^◌, ◌%◌, ◌<◌, ◌≤◌, List, [], ◌∷◌, ◌++◌, length, get_or, codes, refl, sym, ◌∙◌, ap, subst, arith}
 use Rattle.std.proofs.Math.Nat.{pow-suc, pow-le-pow_right, mod-eq_of_lt}
 use Rattle.std.proofs.lemmas.Int.Digits.{digits_push, digits_value_push, digits_value-lt}
 use Rattle.std.proofs.lemmas.List.{append_assoc, length-append, length_push}
@@ -8,7 +8,7 @@ use Rattle.std.proofs.lemmas.Slice.{first_rest, between_to_end}
 use Rattle.std.specs.Char.{digit_value}
 use Rattle.std.specs.List.{between}
 use Rattle.std.specs.Str.Parse.{AllDigits, digits_value}
-use Rattle.hg_wire.specs.Numbers.{value_of, IsNumeral, HasNumeral, HasNumber, IsNumber, Decimal, Hexadecimal}
+use Rattle.hg_wire.specs.Numbers.{HasNumeral, HasNumber, Decimal, Hexadecimal}
 use Rattle.hg_wire.proofs.NumberLemmas.{digits_value_is}
 
 -- digits stand before the rest, and the value is theirs as long as they are not too many
@@ -38,12 +38,12 @@ run_grows base most bytes more first value next fits small is h =
       each = digits_push base h.digits first h.each small;
       joined = h.joined ∙ sym (append_assoc h.digits (first ∷ []) more);
       read = λ room. (
-        let room' : length h.digits < most = omega (arith, length_push h.digits first) in
-        let read : value ≡ digits_value base h.digits = h.read (omega arith) in
-        let below : value < base ^ length h.digits = rw read (digits_value-lt base h.digits h.each) in
-        is ∙ (wrapped value base (digit_value first) most (length h.digits) below small room' fits
-        ∙ (ap (λ v. v * base + digit_value first) read ∙ sym (digits_value_push base h.digits first)))
-      );
+          let room' : length h.digits < most = omega (arith, length_push h.digits first) in
+          let read : value ≡ digits_value base h.digits = h.read (omega arith) in
+          let below : value < base ^ length h.digits = rw read (digits_value-lt base h.digits h.each) in
+          is ∙ (wrapped value base (digit_value first) most (length h.digits) below small room' fits
+          ∙ (ap (λ v. v * base + digit_value first) read ∙ sym (digits_value_push base h.digits first)))
+          );
     }
 
 pub run_steps : (base most : ℕ) (bytes rest : List ℕ) (value digit factor added : ℕ) → base ^ most ≤ 2 ^ 64 → 0 < length rest → digit ≡ digit_value (get_or rest 0 0) → digit < base
@@ -52,7 +52,7 @@ run_steps base most bytes rest value digit factor added fits some is small base_
     let here = subst (λ r. HasRun base most bytes r value) (first_rest rest 0 some) h in
     let digit_is : digit_value (get_or rest 0 0) ≡ added = sym is ∙ sym added_is in
     run_grows base most bytes (between 1 (length rest) rest) (get_or rest 0 0) value _ fits (subst (λ d. d < base) is small)
-        (ap (λ f. (value * f % 2 ^ 64 + added) % 2 ^ 64) base_is ∙ ap (λ d. (value * base % 2 ^ 64 + d) % 2 ^ 64) (sym digit_is)) here
+    (ap (λ f. (value * f % 2 ^ 64 + added) % 2 ^ 64) base_is ∙ ap (λ d. (value * base % 2 ^ 64 + d) % 2 ^ 64) (sym digit_is)) here
 
 pub run_ends : (base most : ℕ) (bytes rest : List ℕ) (value : ℕ) → value < 2 ^ 64 → HasRun base most bytes rest value → 1 ≤ length bytes - length rest → length bytes - length rest ≤ most
     → HasNumeral base most bytes value rest

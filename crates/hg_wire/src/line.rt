@@ -1,5 +1,12 @@
 //! One line of the trace text.
 
+ghost use Rattle.std.specs.Prelude.{IfSome};
+ghost use Rattle.hg_wire.specs.Lines.{HasEvent};
+
+use crate::operands::{access_in_front, block_in_front, pair_in_front};
+use crate::verb::Verb;
+use hg_model::event::Event;
+
 /// What is wrong with a line of the trace text, in the order in which it is tested (this project's profile).
 #[derive(Clone, Copy, Debug, PartialEq, Eq, Drop)]
 pub enum LineFault {
@@ -11,4 +18,56 @@ pub enum LineFault {
     Count,
     /// A number is misspelt or does not fit its field.
     Number,
+}
+
+/// The event that the bytes begin with, and what follows it. (`None` says nothing of the bytes.)
+#[inline(always)]
+pub fn event_in_front(bytes: &[u8]) -> Option<(Event, &[u8])>
+    ensures { IfSome result (λ found. HasEvent bytes.now found.0 found.1.now) }
+{
+    if let Some(operands) = Verb::Write.after(bytes) {
+        let (access, rest) = access_in_front(operands)?;
+        return Some((Event::Write(access), rest));
+    }
+    if let Some(operands) = Verb::Read.after(bytes) {
+        let (access, rest) = access_in_front(operands)?;
+        return Some((Event::Read(access), rest));
+    }
+    if let Some(operands) = Verb::Lock.after(bytes) {
+        let (t, l, rest) = pair_in_front(operands)?;
+        return Some((Event::Lock { t, l }, rest));
+    }
+    if let Some(operands) = Verb::Unlock.after(bytes) {
+        let (t, l, rest) = pair_in_front(operands)?;
+        return Some((Event::Unlock { t, l }, rest));
+    }
+    rare_event_in_front(bytes)
+}
+
+/// The same of the verbs that are less common.
+#[inline(always)]
+fn rare_event_in_front(bytes: &[u8]) -> Option<(Event, &[u8])>
+    ensures { IfSome result (λ found. HasEvent bytes.now found.0 found.1.now) }
+{
+    if let Some(operands) = Verb::RdLock.after(bytes) {
+        let (t, l, rest) = pair_in_front(operands)?;
+        return Some((Event::RdLock { t, l }, rest));
+    }
+    if let Some(operands) = Verb::Alloc.after(bytes) {
+        let (block, rest) = block_in_front(operands)?;
+        return Some((Event::Alloc(block), rest));
+    }
+    if let Some(operands) = Verb::Free.after(bytes) {
+        let (block, rest) = block_in_front(operands)?;
+        return Some((Event::Free(block), rest));
+    }
+    if let Some(operands) = Verb::Fork.after(bytes) {
+        let (p, c, rest) = pair_in_front(operands)?;
+        return Some((Event::Fork { p, c }, rest));
+    }
+    if let Some(operands) = Verb::Join.after(bytes) {
+        let (p, c, rest) = pair_in_front(operands)?;
+        return Some((Event::Join { p, c }, rest));
+    }
+    None
 }

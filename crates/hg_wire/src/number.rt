@@ -46,7 +46,9 @@ fn numeral_in_front(base: u8, most: usize, bytes: &[u8]) -> Option<(u64, &[u8])>
         if digit >= base {
             break;
         }
-        value = value.wrapping_mul(u64::from(base)).wrapping_add(u64::from(digit));
+        value = value
+            .wrapping_mul(u64::from(base))
+            .wrapping_add(u64::from(digit));
         rest = more;
     }
     let count = bytes.len() - rest.len();

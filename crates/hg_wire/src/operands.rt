@@ -4,9 +4,8 @@ ghost use Rattle.std.specs.Prelude.{◌≡◌, [], ◌∷◌, IfSome};
 ghost use Rattle.hg_wire.specs.Lines.{HasOperands};
 ghost use Rattle.hg_wire.specs.Verbs.{pair_widths, access_widths, block_widths};
 
-use hg_model::event::{Access, Block};
-
 use crate::number::number_in_front;
+use hg_model::event::{Access, Block};
 
 /// A space and a number of 64 bits, and what follows.
 #[inline(always)]

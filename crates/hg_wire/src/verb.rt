@@ -1,5 +1,7 @@
 //! The verbs of the trace text.
 
+ghost use Rattle.std.specs.Prelude.{◌≡◌, ◌++◌, IfSome};
+
 /// A verb of the trace text (this project's profile).
 #[derive(Clone, Copy, Debug, PartialEq, Eq, Drop)]
 pub enum Verb {
@@ -12,4 +14,35 @@ pub enum Verb {
     Write,
     Alloc,
     Free,
+}
+
+impl Verb {
+    ghost use Rattle.hg_wire.specs.Verbs.{row_of};
+    ghost use Rattle.hg_wire.specs.Lines.{verb_named};
+
+    /// The verb as it is spelled.
+    #[inline(always)]
+    pub fn text(self) -> &'static [u8]
+        ensures { result.now ≡ (row_of self).text }
+    {
+        match self {
+            Verb::Fork => b"fork",
+            Verb::Join => b"join",
+            Verb::Lock => b"lock",
+            Verb::RdLock => b"rdlock",
+            Verb::Unlock => b"unlock",
+            Verb::Read => b"read",
+            Verb::Write => b"write",
+            Verb::Alloc => b"alloc",
+            Verb::Free => b"free",
+        }
+    }
+
+    /// What follows the verb in bytes that begin with it.
+    #[inline(always)]
+    pub fn after(self, bytes: &[u8]) -> Option<&[u8]>
+        ensures { IfSome result (λ rest. bytes.now ≡ (row_of self).text ++ rest.now) }
+    {
+        bytes.strip_prefix(self.text())
+    }
 }

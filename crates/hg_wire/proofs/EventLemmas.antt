@@ -1,0 +1,22 @@
+-- A verb and its operands make an event.
+use Rattle.std.proofs.Common.{◌≡◌, ℕ, ◌≤◌, List, ◌++◌, length, refl, sym, ◌∙◌, ap, arith}
+use Rattle.std.proofs.lemmas.List.{append_assoc, length-append}
+use Rattle.hg_wire.specs.declared.verb.Verb.{Verb}
+use Rattle.hg_wire.specs.Verbs.{row_of}
+use Rattle.hg_wire.specs.Lines.{HasOperands, HasEvent}
+use Rattle.hg_wire.proofs.WordLemmas.{led_by}
+use Rattle.hg_wire.proofs.VerbLemmas.{each_is_verb}
+use Rattle.hg_wire.proofs.LineLemmas.{operands_are_words}
+
+pub event_follows : (verb : Verb) (bytes operands values rest : List ℕ) → bytes ≡ (row_of verb).text ++ operands → HasOperands (row_of verb).widths operands values rest
+    → HasEvent bytes ((row_of verb).event values) rest
+event_follows verb bytes operands values rest begins h =
+    let text = (row_of verb).text in
+    let is = each_is_verb verb in
+    let few = (operands_are_words (row_of verb).widths h.words values h.operands).2 in
+    let short : length (text ++ led_by 32 h.words) ≤ 256 = omega (arith, length-append text (led_by 32 h.words), is.short, is.few) in
+    record {
+      text = text ++ led_by 32 h.words;
+      spelled = record { verb = verb; words = h.words; values = values; operands = h.operands; spelled = refl; made = refl; short = short };
+      joined = begins ∙ (ap (λ more. text ++ more) h.joined ∙ sym (append_assoc text (led_by 32 h.words) rest));
+    }
