@@ -1,12 +1,13 @@
 -- A verb and its operands make an event.
-use Rattle.std.proofs.Common.{◌≡◌, ℕ, ◌≤◌, List, ◌++◌, length, refl, sym, ◌∙◌, ap, arith}
-use Rattle.std.proofs.lemmas.List.{append_assoc, length-append}
+use Rattle.std.proofs.Common.{◌≡◌, ℕ, ◌<◌, ◌≤◌, List, [], ◌++◌, length, Ok, refl, sym, ◌∙◌, ap, arith}
+use Rattle.std.proofs.lemmas.List.{append_assoc, append-nil, length-append, nil_from_length}
+use Rattle.hg_model.specs.declared.event.Event.{Event}
 use Rattle.hg_wire.specs.declared.verb.Verb.{Verb}
 use Rattle.hg_wire.specs.Verbs.{row_of}
-use Rattle.hg_wire.specs.Lines.{HasOperands, HasEvent}
+use Rattle.hg_wire.specs.Lines.{HasOperands, HasEvent, line_of}
 use Rattle.hg_wire.proofs.WordLemmas.{led_by}
 use Rattle.hg_wire.proofs.VerbLemmas.{each_is_verb}
-use Rattle.hg_wire.proofs.LineLemmas.{operands_are_words}
+use Rattle.hg_wire.proofs.LineLemmas.{operands_are_words, event_reads}
 
 pub event_follows : (verb : Verb) (bytes operands values rest : List ℕ) → bytes ≡ (row_of verb).text ++ operands → HasOperands (row_of verb).widths operands values rest
     → HasEvent bytes ((row_of verb).event values) rest
@@ -20,3 +21,10 @@ event_follows verb bytes operands values rest begins h =
       spelled = record { verb = verb; words = h.words; values = values; operands = h.operands; spelled = refl; made = refl; short = short };
       joined = begins ∙ (ap (λ more. text ++ more) h.joined ∙ sym (append_assoc text (led_by 32 h.words) rest));
     }
+
+-- an event and nothing more is a line
+pub event_alone : (bytes : List ℕ) (event : Event) (rest : List ℕ) → HasEvent bytes event rest → length rest < 1 → line_of bytes ≡ Ok event
+event_alone bytes event rest h none =
+    let nothing : rest ≡ [] = nil_from_length rest (omega arith) in
+    let alone : bytes ≡ h.text = h.joined ∙ (ap (λ more. h.text ++ more) nothing ∙ append-nil h.text) in
+    ap line_of alone ∙ event_reads h.text event h.spelled

@@ -1,7 +1,9 @@
 pub mod NumberLemmas
 pub mod RunLemmas
+pub mod WholeLemmas
 pub mod WordLemmas
 pub mod VerbLemmas
 pub mod LineLemmas
 pub mod OperandLemmas
 pub mod EventLemmas
+pub mod CountLemmas

@@ -1,7 +1,11 @@
 -- The words of a line, and the line of some words.
-use Rattle.std.proofs.Common.{◌≡◌, ◌≢◌, ℕ, suc, ◌+◌, true, false, eqb, List, [], ◌∷◌, ◌++◌, refl, ◌∙◌, ap, arith, inl, inr}
-use Rattle.std.proofs.lemmas.Bool.{cond-true, cond-false, cases_Bool, eqb-true, eqb-false, ne_eqb, eq-eqb}
-use Rattle.std.specs.List.{slice_split, onto_first, before_first, AllByRecursion, flat_map, position_or_len}
+use Rattle.std.proofs.Common.{◌≡◌, ◌≢◌, ℕ, suc, ◌+◌, ◌<◌, ◌≤◌, Bool, true, false, eqb, ltb, List, [], ◌∷◌, ◌++◌, length, take, drop, Some, None, refl, sym, ◌∙◌, ap, arith, inl, inr}
+use Rattle.std.proofs.lemmas.Bool.{cond-true, cond-false, cases_Bool, eqb-true, eqb-false, ne_eqb, eq-eqb, ltb-true, ltb-false}
+use Rattle.std.proofs.lemmas.List.Splits.{slice_split_none, slice_split_first}
+use Rattle.std.proofs.lemmas.List.Sums.{fails_before_first}
+use Rattle.std.proofs.lemmas.Option.{cond_some}
+use Rattle.std.proofs.lemmas.Slice.{between_to_end}
+use Rattle.std.specs.List.{slice_split, onto_first, before_first, AllByRecursion, flat_map, position_or_len, position, between}
 
 -- no byte is c
 abbrev pub NoByte : ℕ → List ℕ → Type 0
@@ -70,3 +74,26 @@ before_joined c [] [] none = refl
 before_joined c [] (word ∷ rest) none = before_at c c (word ++ led_by c rest) (eq-eqb c c refl)
 before_joined c (x ∷ xs) rest none =
     before_past c x (xs ++ led_by c rest) (ne_eqb x c none.0) ∙ ap (λ bytes. x ∷ bytes) (before_joined c xs rest none.1)
+
+-- a line with no space is one word
+pub no_space : (line : List ℕ) → None ≡ position (λ b. eqb b 32) line → slice_split (λ b. eqb b 32) line ≡ line ∷ []
+no_space line e =
+    let p : ℕ → Bool = λ b. eqb b 32 in
+    let past : length line ≤ position_or_len p line = (
+    elim (cases_Bool (ltb (position_or_len p line) (length line))) [
+      | inl before ↦ absurd (let found : position p line ≡ Some (position_or_len p line) = cond-true _ _ _ before in
+          let bad : None ≡ Some (position_or_len p line) = e ∙ found in cc)
+      | inr past ↦ ltb-false _ _ past
+    ]) in
+    slice_split_none p line (λ k d lt. fails_before_first p line k d (omega arith))
+
+-- else the first word ends at the first space
+pub first_word_ends : (line : List ℕ) (at : ℕ) → Some at ≡ position (λ b. eqb b 32) line
+    → slice_split (λ b. eqb b 32) line ≡ take at line ∷ slice_split (λ b. eqb b 32) (between (at + 1) (length line) line)
+first_word_ends line at e =
+    let p : ℕ → Bool = λ b. eqb b 32 in
+    let found = cond_some _ _ _ (sym e) in
+    let within : position_or_len p line < length line = ltb-true _ _ found.0 in
+    let rest : between (at + 1) (length line) line ≡ drop (at + 1) line = between_to_end line (at + 1) (length line) (omega arith) in
+    let is : position_or_len p line ≡ at = found.1 in
+    slice_split_first p line 0 within ∙ (ap (λ k. take k line ∷ slice_split p (drop (k + 1) line)) is ∙ ap (λ r. take at line ∷ slice_split p r) (sym rest))

@@ -1,6 +1,7 @@
 -- One line of the trace text, without its line end.
 use Rattle.std.specs.Prelude.{◌≡◌, ℕ, ◌<◌, ◌≤◌, ◌^◌, Bool, ◌&&◌, ◌==◌, nat_lt, List, [], ◌∷◌, ◌++◌, length, find, Option, Some, None, option_and_then, option_map, ok_or, Result, Ok, Err, if◌then◌else◌, ⊤, ◌≢◌}
 use Rattle.std.specs.List.{slice_split, list_all, flat_map, before_first, AllByRecursion}
+use Rattle.std.specs.Borrow.{Bor}
 use Rattle.std.specs.Str.{bytes_eq}
 use Rattle.hg_model.specs.declared.event.Event.{Event}
 use Rattle.hg_wire.specs.declared.line.LineFault.{LineFault}
@@ -56,9 +57,13 @@ words_of line = slice_split (λ b. b == 32) line
 unfoldable pub verb_named : List ℕ → Option source.Verb
 verb_named word = find (λ verb. bytes_eq (row_of verb).text word) verbs
 
+-- the number, where it fits the width
+abbrev pub fitting : ℕ → Option ℕ → Option ℕ
+fitting width number = option_and_then (λ n. if nat_lt n (2 ^ width) then Some n else None) number
+
 -- the number that the word spells, where it fits the width
 abbrev pub operand_of : ℕ → List ℕ → Option ℕ
-operand_of width word = option_and_then (λ n. if nat_lt n (2 ^ width) then Some n else None) (number_of word)
+operand_of width word = fitting width (number_of word)
 
 -- the values of words that are as many as the widths, where each has one
 abbrev pub values_of : List ℕ → List (List ℕ) → Option (List ℕ)
@@ -100,3 +105,8 @@ pub record HasEvent (bytes : List ℕ) (event : Event) (rest : List ℕ) : Type 
   pub text : List ℕ
   pub spelled : IsLine text event
   pub joined : bytes ≡ text ++ rest
+
+-- the words of what follows a space, where one was found
+abbrev pub words_after : Option (Bor (List ℕ)) → List (List ℕ)
+words_after None = []
+words_after (Some line) = words_of line.now

@@ -7,4 +7,5 @@ mod number;
 mod operands;
 pub mod reader;
 pub mod report;
-pub mod verb;
+mod verb;
+mod words;

@@ -1,10 +1,11 @@
 //! One line of the trace text.
 
-ghost use Rattle.std.specs.Prelude.{IfSome};
-ghost use Rattle.hg_wire.specs.Lines.{HasEvent};
+ghost use Rattle.std.specs.Prelude.{◌≡◌, IfSome};
+ghost use Rattle.hg_wire.specs.Lines.{HasEvent, line_of};
 
 use crate::operands::{access_in_front, block_in_front, pair_in_front};
 use crate::verb::Verb;
+use crate::words::line_by_words;
 use hg_model::event::Event;
 
 /// What is wrong with a line of the trace text, in the order in which it is tested (this project's profile).
@@ -20,9 +21,24 @@ pub enum LineFault {
     Number,
 }
 
+/// The most bytes of a line that is neither empty nor a comment, its line end not counted.
+pub const MOST_LINE_BYTES: usize = 256;
+
+/// The event that a line of the trace text spells, or the first of its faults (this project's profile).
+/// The line comes without its line feed and the carriage return before that.
+#[inline]
+pub fn read_line(line: &[u8]) -> Result<Event, LineFault>
+    ensures { result ≡ line_of line.now }
+{
+    if let Some((event, [])) = event_in_front(line) {
+        return Ok(event);
+    }
+    line_by_words(line)
+}
+
 /// The event that the bytes begin with, and what follows it. (`None` says nothing of the bytes.)
 #[inline(always)]
-pub fn event_in_front(bytes: &[u8]) -> Option<(Event, &[u8])>
+pub(crate) fn event_in_front(bytes: &[u8]) -> Option<(Event, &[u8])>
     ensures { IfSome result (λ found. HasEvent bytes.now found.0 found.1.now) }
 {
     if let Some(operands) = Verb::Write.after(bytes) {

@@ -2,7 +2,8 @@
 
 ghost use Rattle.std.specs.Prelude.{◌≡◌, ◌≤◌, ◌^◌, ◌<◌, IfSome};
 ghost use Rattle.std.specs.Char.{digit_value};
-ghost use Rattle.hg_wire.specs.Numbers.{HasNumeral, HasNumber};
+ghost use Rattle.hg_wire.specs.Numbers.{HasNumeral, HasNumber, numeral};
+ghost use Rattle.hg_wire.specs.Lines.{fitting, operand_of};
 
 /// The value of each byte as a digit of base 36, in either case, and 36 for the bytes that are none.
 #[rattlefmt::skip]
@@ -66,5 +67,35 @@ pub fn number_in_front(bytes: &[u8]) -> Option<(u64, &[u8])>
     match bytes {
         [b'0', b'x', digits @ ..] => numeral_in_front(16, 16, digits),
         _ => numeral_in_front(10, 19, bytes),
+    }
+}
+
+/// The number that a numeral of at most `most` digits stands for, where it has 64 bits.
+fn number_of_numeral(base: u8, most: usize, digits: &[u8]) -> Option<u64>
+    requires digits { base ≤ 16 }
+    requires few { most ≤ 20 }
+    ensures { result ≡ fitting 64 (numeral base most digits.now) }
+{
+    if digits.is_empty() || digits.len() > most {
+        return None;
+    }
+    let mut value = 0u128;
+    for byte in digits {
+        let digit = value_of_digit(*byte);
+        if digit >= base {
+            return None;
+        }
+        value = value * u128::from(base) + u128::from(digit);
+    }
+    u64::try_from(value).ok()
+}
+
+/// The number that a word spells, where it has 64 bits.
+pub fn number_of_word(word: &[u8]) -> Option<u64>
+    ensures { result ≡ operand_of 64 word.now }
+{
+    match word {
+        [b'0', b'x', digits @ ..] => number_of_numeral(16, 16, digits),
+        _ => number_of_numeral(10, 20, word),
     }
 }

@@ -16,6 +16,18 @@ pub enum Verb {
     Free,
 }
 
+const VERBS: [Verb; 9] = [
+    Verb::Fork,
+    Verb::Join,
+    Verb::Lock,
+    Verb::RdLock,
+    Verb::Unlock,
+    Verb::Read,
+    Verb::Write,
+    Verb::Alloc,
+    Verb::Free,
+];
+
 impl Verb {
     ghost use Rattle.hg_wire.specs.Verbs.{row_of};
     ghost use Rattle.hg_wire.specs.Lines.{verb_named};
@@ -44,5 +56,13 @@ impl Verb {
         ensures { IfSome result (λ rest. bytes.now ≡ (row_of self).text ++ rest.now) }
     {
         bytes.strip_prefix(self.text())
+    }
+
+    /// The verb that the word is, if it is one.
+    #[tactic(auto, unfolding(crate::specs::Lines::verb_named))]
+    pub fn named(word: &[u8]) -> Option<Verb>
+        ensures { result ≡ verb_named word.now }
+    {
+        VERBS.iter().copied().find(|verb| verb.text() == word)
     }
 }
