@@ -7,3 +7,4 @@ pub mod LineLemmas
 pub mod OperandLemmas
 pub mod EventLemmas
 pub mod CountLemmas
+pub mod PieceLemmas
