@@ -8,3 +8,4 @@ pub mod OperandLemmas
 pub mod EventLemmas
 pub mod CountLemmas
 pub mod PieceLemmas
+pub mod HeldLemmas

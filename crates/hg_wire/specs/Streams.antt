@@ -1,5 +1,5 @@
 -- The lines of a trace text, and what is read of them.
-use Rattle.std.specs.Prelude.{ℕ, ◌+◌, Bool, true, not, ◌==◌, List, [], ◌∷◌, length, map, filter, slice_index, if◌then◌else◌}
+use Rattle.std.specs.Prelude.{ℕ, ◌+◌, Bool, true, not, ◌==◌, nat_lt, List, [], ◌∷◌, ◌++◌, length, take, map, filter, slice_index, if◌then◌else◌}
 use Rattle.std.specs.List.{slice_split, enumerate_from}
 use Rattle.std.specs.Str.Lines.{strip_carriage_return}
 use Rattle.hg_wire.specs.declared.reader.Reading.{Reading}
@@ -19,17 +19,43 @@ lines_of stream = map strip_carriage_return (without_empty_end (slice_split (λ 
 abbrev pub is_skipped : List ℕ → Bool
 is_skipped line = if length line == 0 then true else slice_index line 0 == 35
 
--- The lines that are read, each with its number: lines are counted from n + 1 on, and all of them are.
-abbrev pub event_lines_after : ℕ → List ℕ → List (ℕ × List ℕ)
-event_lines_after n stream = filter (λ numbered. not (is_skipped numbered.1)) (enumerate_from (n + 1) (lines_of stream))
-
 abbrev pub reading_of : ℕ × List ℕ → Reading
 reading_of numbered = record { line = numbered.0; event = line_of numbered.1 }
 
--- What is read of a stream of which n lines came before.
+-- What is read of some lines, each with its number.
+abbrev pub readings_in : List (ℕ × List ℕ) → List Reading
+readings_in lines = map reading_of (filter (λ numbered. not (is_skipped numbered.1)) lines)
+
+-- What is read of a stream of which n lines came before: lines are counted from n + 1 on, and all of them are.
 abbrev pub readings_after : ℕ → List ℕ → List Reading
-readings_after n stream = map reading_of (event_lines_after n stream)
+readings_after n stream = readings_in (enumerate_from (n + 1) (lines_of stream))
 
 -- What is read of a whole stream.
 abbrev pub readings : List ℕ → List Reading
 readings stream = readings_after 0 stream
+
+-- How far a stream has come: how many lines have ended, and what has come of the line that has not.
+-- (A line that is too long to be an event is as good as its first 257 bytes and one byte more, so that it may be held as those.)
+pub record Pending : Type 0 where
+  pub lines : ℕ
+  pub begun : List ℕ
+
+abbrev pub at_start : Pending
+at_start = record { lines = 0; begun = [] }
+
+-- What is read of the rest of a stream.
+abbrev pub readings_from : Pending → List ℕ → List Reading
+readings_from pending rest = readings_after pending.lines (pending.begun ++ rest)
+
+-- The lines that end in the rest of a stream, each with its number, and shown by its first 257 bytes at most.
+abbrev pub lines_from : Pending → List ℕ → List (ℕ × List ℕ)
+lines_from pending rest = enumerate_from (pending.lines + 1) (map (take 257) (lines_of (pending.begun ++ rest)))
+
+-- what is held of the bytes of a line: its first 257, and a 0 for those after them
+abbrev pub held : List ℕ → List ℕ
+held bytes = if nat_lt 257 (length bytes) then take 257 bytes ++ 0 ∷ [] else bytes
+
+-- How far a splitter has come, and the last line that has ended, as it is shown.
+pub record Splitting : Type 0 where
+  pub pending : Pending
+  pub last : List ℕ

@@ -1,6 +1,7 @@
 //! The language of bytes: the text of traces and reports.
 #![tactic(auto)]
 
+mod held;
 pub mod laws;
 pub mod line;
 mod number;
