@@ -1,10 +1,10 @@
 -- A verb and its operands make an event.
-use Rattle.std.proofs.Common.{◌≡◌, ℕ, ◌<◌, ◌≤◌, List, [], ◌++◌, length, Ok, refl, sym, ◌∙◌, ap, arith}
+use Rattle.std.proofs.Common.{◌≡◌, ℕ, ◌<◌, ◌≤◌, List, [], ◌++◌, length, Ok, refl, sym, ◌∙◌, ap, arith, ◌-◌, inl, inr}
 use Rattle.std.proofs.lemmas.List.{append_assoc, append-nil, length-append, nil_from_length}
 use Rattle.hg_model.specs.declared.event.Event.{Event}
 use Rattle.hg_wire.specs.declared.verb.Verb.{Verb}
 use Rattle.hg_wire.specs.Verbs.{row_of}
-use Rattle.hg_wire.specs.Lines.{HasOperands, HasEvent, line_of}
+use Rattle.hg_wire.specs.Lines.{HasOperands, HasEvent, HasEventLine, EndsLineBefore, line_of}
 use Rattle.hg_wire.proofs.WordLemmas.{led_by}
 use Rattle.hg_wire.proofs.VerbLemmas.{each_is_verb}
 use Rattle.hg_wire.proofs.LineLemmas.{operands_are_words, event_reads}
@@ -28,3 +28,23 @@ event_alone bytes event rest h none =
     let nothing : rest ≡ [] = nil_from_length rest (omega arith) in
     let alone : bytes ≡ h.text = h.joined ∙ (ap (λ more. h.text ++ more) nothing ∙ append-nil h.text) in
     ap line_of alone ∙ event_reads h.text event h.spelled
+
+-- an event and a line feed are a line of a stream
+pub event_line : (bytes : List ℕ) (event : Event) (middle rest : List ℕ) → HasEvent bytes event middle → EndsLineBefore middle rest → HasEventLine bytes event (length bytes - length rest)
+event_line bytes event middle rest h ends =
+    record {
+      text = h.text;
+      spelled = h.spelled;
+      middle = middle;
+      rest = rest;
+      joined = h.joined;
+      ends = ends;
+      count = (
+          let shorter : length rest ≤ length middle = shorter_after middle rest ends in
+          omega (arith, ap length h.joined, length-append h.text middle)
+          );
+    }
+  where
+    shorter_after : (middle rest : List ℕ) → EndsLineBefore middle rest → length rest ≤ length middle
+    shorter_after middle rest (inl e) = omega (arith, ap length e)
+    shorter_after middle rest (inr e) = omega (arith, ap length e)

@@ -9,3 +9,5 @@ pub mod EventLemmas
 pub mod CountLemmas
 pub mod PieceLemmas
 pub mod HeldLemmas
+pub mod StreamLemmas
+pub mod SplitterLemmas

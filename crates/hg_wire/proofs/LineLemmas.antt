@@ -12,7 +12,8 @@ use Rattle.hg_wire.specs.declared.verb.Verb as source
 use Rattle.hg_wire.specs.Verbs.{row_of}
 use Rattle.hg_wire.specs.Lines.{AreOperands, IsLine, IsWord, HasWords, HasFault, words_of, verb_named, operand_of, values_of, are_counted, operands_of, result_map, of_verb, of_words, line_of}
 use Rattle.hg_wire.proofs.NumberLemmas.{number_spelled, number_reads, number_no_byte, number_nonempty, number_short}
-use Rattle.hg_wire.proofs.WordLemmas.{NoByte, led_by, Parts, split_parts, split_joined}
+use Rattle.hg_wire.specs.Words.{NoByte}
+use Rattle.hg_wire.proofs.WordLemmas.{led_by, Parts, split_parts, split_joined}
 use Rattle.hg_wire.proofs.VerbLemmas.{each_is_verb, named_has_text, nothing_named, named_by_none}
 
 -- ---- operands

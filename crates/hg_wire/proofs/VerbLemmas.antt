@@ -8,7 +8,7 @@ use Rattle.hg_wire.specs.declared.verb.Verb.{Verb}
 use Rattle.hg_wire.specs.declared.verb.Verb.TheVariants.{Fork, Join, Lock, RdLock, Unlock, Read, Write, Alloc, Free}
 use Rattle.hg_wire.specs.Verbs.{row_of, verbs}
 use Rattle.hg_wire.specs.Lines.{verb_named}
-use Rattle.hg_wire.proofs.WordLemmas.{NoByte}
+use Rattle.hg_wire.specs.Words.{NoByte}
 
 -- what a search finds
 pub find_some : {X : Type 0} (p : X → Bool) (xs : List X) (x : X) → find p xs ≡ Some x → Contains xs x × (p x ≡ true)

@@ -1,15 +1,12 @@
 -- The words of a line, and the line of some words.
-use Rattle.std.proofs.Common.{◌≡◌, ◌≢◌, ℕ, suc, ◌+◌, ◌<◌, ◌≤◌, Bool, true, false, eqb, ltb, List, [], ◌∷◌, ◌++◌, length, take, drop, Some, None, refl, sym, ◌∙◌, ap, arith, inl, inr}
+use Rattle.std.proofs.Common.{◌≡◌, ℕ, suc, ◌+◌, ◌<◌, ◌≤◌, Bool, true, false, eqb, ltb, List, [], ◌∷◌, ◌++◌, length, take, drop, Some, None, refl, sym, ◌∙◌, ap, arith, inl, inr}
 use Rattle.std.proofs.lemmas.Bool.{cond-true, cond-false, cases_Bool, eqb-true, eqb-false, ne_eqb, eq-eqb, ltb-true, ltb-false}
 use Rattle.std.proofs.lemmas.List.Splits.{slice_split_none, slice_split_first}
 use Rattle.std.proofs.lemmas.List.Sums.{fails_before_first}
 use Rattle.std.proofs.lemmas.Option.{cond_some}
 use Rattle.std.proofs.lemmas.Slice.{between_to_end}
+use Rattle.hg_wire.specs.Words.{NoByte}
 use Rattle.std.specs.List.{slice_split, onto_first, before_first, AllByRecursion, flat_map, position_or_len, position, between}
-
--- no byte is c
-abbrev pub NoByte : ℕ → List ℕ → Type 0
-NoByte c bytes = AllByRecursion (λ b. b ≢ c) bytes
 
 -- for each word the byte c, and then the word
 abbrev pub led_by : ℕ → List (List ℕ) → List ℕ

@@ -1,11 +1,12 @@
 -- One line of the trace text, without its line end.
-use Rattle.std.specs.Prelude.{◌≡◌, ℕ, ◌<◌, ◌≤◌, ◌^◌, Bool, ◌&&◌, ◌==◌, nat_lt, List, [], ◌∷◌, ◌++◌, length, find, Option, Some, None, option_and_then, option_map, ok_or, Result, Ok, Err, if◌then◌else◌, ⊤, ◌≢◌}
+use Rattle.std.specs.Prelude.{◌≡◌, ℕ, ◌+◌, ◌<◌, ◌≤◌, ◌^◌, Bool, ◌&&◌, ◌==◌, nat_lt, List, [], ◌∷◌, ◌++◌, length, find, Option, Some, None, option_and_then, option_map, ok_or, Result, Ok, Err, if◌then◌else◌, ⊤, ◌≢◌, ◌⊎◌}
 use Rattle.std.specs.List.{slice_split, list_all, flat_map, before_first, AllByRecursion}
 use Rattle.std.specs.Borrow.{Bor}
 use Rattle.std.specs.Str.{bytes_eq}
 use Rattle.hg_model.specs.declared.event.Event.{Event}
 use Rattle.hg_wire.specs.declared.line.LineFault.{LineFault}
 use Rattle.hg_wire.specs.declared.line.LineFault.TheVariants.{TooLong, Verb, Count, Number}
+use Rattle.hg_wire.specs.Words.{NoByte}
 use Rattle.hg_wire.specs.Numbers.{IsNumber, number_of}
 use Rattle.hg_wire.specs.declared.verb.Verb as source
 use Rattle.hg_wire.specs.Verbs.{row_of, verbs}
@@ -28,7 +29,7 @@ pub record IsLine (bytes : List ℕ) (event : Event) : Type 0 where
 
 -- one byte or more, none of them a space
 abbrev pub IsWord : List ℕ → Type 0
-IsWord word = (0 < length word) × AllByRecursion (λ b. b ≢ 32) word
+IsWord word = (0 < length word) × NoByte 32 word
 
 -- The bytes are the verb, and for each of its operands one space and a word.
 pub record HasWords (bytes : List ℕ) (verb : source.Verb) (words : List (List ℕ)) : Type 0 where
@@ -110,3 +111,17 @@ pub record HasEvent (bytes : List ℕ) (event : Event) (rest : List ℕ) : Type 
 abbrev pub words_after : Option (Bor (List ℕ)) → List (List ℕ)
 words_after None = []
 words_after (Some line) = words_of line.now
+
+-- The bytes are a line feed, perhaps with one carriage return before it, and then the rest.
+abbrev pub EndsLineBefore : List ℕ → List ℕ → Type 0
+EndsLineBefore bytes rest = (bytes ≡ 10 ∷ rest) ⊎ (bytes ≡ 13 ∷ 10 ∷ rest)
+
+-- The first so many bytes are a line that spells the event, with its line feed.
+pub record HasEventLine (bytes : List ℕ) (event : Event) (used : ℕ) : Type 0 where
+  pub text : List ℕ
+  pub spelled : IsLine text event
+  pub middle : List ℕ
+  pub rest : List ℕ
+  pub joined : bytes ≡ text ++ middle
+  pub ends : EndsLineBefore middle rest
+  pub count : used + length rest ≡ length bytes

@@ -1,8 +1,10 @@
 -- The lines of a trace text, and what is read of them.
-use Rattle.std.specs.Prelude.{ℕ, ◌+◌, Bool, true, not, ◌==◌, nat_lt, List, [], ◌∷◌, ◌++◌, length, take, map, filter, slice_index, if◌then◌else◌}
+use Rattle.std.specs.Prelude.{◌≡◌, ℕ, ◌+◌, ◌<◌, ◌≤◌, Bool, true, not, ◌==◌, nat_lt, List, [], ◌∷◌, ◌++◌, length, take, drop, map, filter, slice_index, if◌then◌else◌}
 use Rattle.std.specs.List.{slice_split, enumerate_from}
 use Rattle.std.specs.Str.Lines.{strip_carriage_return}
 use Rattle.hg_wire.specs.declared.reader.Reading.{Reading}
+use Rattle.hg_wire.specs.declared.reader.Taken.{Taken}
+use Rattle.hg_wire.specs.declared.reader.Taken.TheVariants.{Line, More}
 use Rattle.hg_wire.specs.Lines.{line_of}
 
 -- the parts between line feeds: what follows the last of them is a line where it is not empty
@@ -59,3 +61,38 @@ held bytes = if nat_lt 257 (length bytes) then take 257 bytes ++ 0 ∷ [] else b
 pub record Splitting : Type 0 where
   pub pending : Pending
   pub last : List ℕ
+
+-- Taking so many bytes of the piece ends one line.
+pub record EndsLine (old new : Splitting) (piece : List ℕ) (used : ℕ) : Type 0 where
+  pub some : 0 < used
+  pub within : used ≤ length piece
+  pub counted : new.pending.lines ≡ old.pending.lines + 1
+  pub line : (more : List ℕ) → lines_from old.pending (piece ++ more) ≡ (new.pending.lines, new.last) ∷ lines_from new.pending (drop used piece ++ more)
+
+-- Taking all of the piece ends no line.
+pub record EndsNoLine (old new : Splitting) (piece : List ℕ) : Type 0 where
+  pub counted : new.pending.lines ≡ old.pending.lines
+  pub lines : (more : List ℕ) → lines_from old.pending (piece ++ more) ≡ lines_from new.pending more
+
+-- At the end of the stream the line that lacks its line feed ends.
+pub record EndsLastLine (old new : Splitting) : Type 0 where
+  pub counted : new.pending.lines ≡ old.pending.lines + 1
+  pub begun : new.pending.begun ≡ []
+  pub line : lines_from old.pending [] ≡ (new.pending.lines, new.last) ∷ []
+
+-- Taking so many bytes of the piece gives one reading.
+pub record GivesReading (old new : Pending) (piece : List ℕ) (reading : Reading) (used : ℕ) : Type 0 where
+  pub some : 0 < used
+  pub within : used ≤ length piece
+  pub counted : new.lines ≤ old.lines + used
+  pub readings : (more : List ℕ) → readings_from old (piece ++ more) ≡ reading ∷ readings_from new (drop used piece ++ more)
+
+-- Taking all of the piece gives none.
+pub record GivesNoReading (old new : Pending) (piece : List ℕ) : Type 0 where
+  pub counted : new.lines ≤ old.lines + length piece
+  pub readings : (more : List ℕ) → readings_from old (piece ++ more) ≡ readings_from new more
+
+-- What is taken of a piece.
+abbrev pub Takes : Pending → Pending → List ℕ → Taken → Type 0
+Takes old new piece (Line reading used) = GivesReading old new piece reading used
+Takes old new piece More = GivesNoReading old new piece

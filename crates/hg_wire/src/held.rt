@@ -1,6 +1,6 @@
 //! What is held of a line that has not ended.
 
-ghost use Rattle.std.specs.Prelude.{◌≡◌, ◌++◌, ◌==◌, [], length, take, IfOk};
+ghost use Rattle.std.specs.Prelude.{◌≡◌, ◌++◌, ◌==◌, [], length, take, IfOk, IsTrue, ◌↔◌};
 ghost use Rattle.std.specs.Str.Lines.{strip_carriage_return};
 
 use std::alloc::{AllocError, Global};
@@ -44,6 +44,12 @@ impl HeldLine {
     {
         self.bytes.clear();
         self.is_cut = false;
+    }
+
+    pub fn is_empty(&self) -> bool
+        ensures { IsTrue result ↔ (self.now ≡ []) }
+    {
+        self.bytes.is_empty()
     }
 
     /// Adds bytes, and takes no memory.

@@ -8,5 +8,6 @@ mod number;
 mod operands;
 pub mod reader;
 pub mod report;
+pub mod splitter;
 mod verb;
 mod words;

@@ -1,7 +1,7 @@
 //! One line of the trace text.
 
 ghost use Rattle.std.specs.Prelude.{◌≡◌, IfSome};
-ghost use Rattle.hg_wire.specs.Lines.{HasEvent, line_of};
+ghost use Rattle.hg_wire.specs.Lines.{HasEvent, HasEventLine, EndsLineBefore, line_of};
 
 use crate::operands::{access_in_front, block_in_front, pair_in_front};
 use crate::verb::Verb;
@@ -58,6 +58,28 @@ pub(crate) fn event_in_front(bytes: &[u8]) -> Option<(Event, &[u8])>
         return Some((Event::Unlock { t, l }, rest));
     }
     rare_event_in_front(bytes)
+}
+
+/// The event whose line the bytes begin with, and how many bytes that line takes with its line feed. (`None` says nothing of the bytes.)
+#[inline(always)]
+pub(crate) fn event_line_in_front(bytes: &[u8]) -> Option<(Event, usize)>
+    ensures { IfSome result (λ found. HasEventLine bytes.now found.0 found.1) }
+{
+    let (event, rest) = event_in_front(bytes)?;
+    let after = after_line_end(rest)?;
+    Some((event, bytes.len() - after.len()))
+}
+
+/// What follows the line feed that the bytes begin with, perhaps behind one carriage return.
+#[inline(always)]
+fn after_line_end(bytes: &[u8]) -> Option<&[u8]>
+    ensures { IfSome result (λ rest. EndsLineBefore bytes.now rest.now) }
+{
+    match bytes {
+        [b'\n', rest @ ..] => Some(rest),
+        [b'\r', b'\n', rest @ ..] => Some(rest),
+        _ => None,
+    }
 }
 
 /// The same of the verbs that are less common.
