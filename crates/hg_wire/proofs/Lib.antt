@@ -11,3 +11,4 @@ pub mod PieceLemmas
 pub mod HeldLemmas
 pub mod StreamLemmas
 pub mod SplitterLemmas
+pub mod ReaderLemmas

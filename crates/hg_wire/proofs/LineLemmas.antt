@@ -14,7 +14,7 @@ use Rattle.hg_wire.specs.Lines.{AreOperands, IsLine, IsWord, HasWords, HasFault,
 use Rattle.hg_wire.proofs.NumberLemmas.{number_spelled, number_reads, number_no_byte, number_nonempty, number_short}
 use Rattle.hg_wire.specs.Words.{NoByte}
 use Rattle.hg_wire.proofs.WordLemmas.{led_by, Parts, split_parts, split_joined}
-use Rattle.hg_wire.proofs.VerbLemmas.{each_is_verb, named_has_text, nothing_named, named_by_none}
+use Rattle.hg_wire.proofs.VerbLemmas.{each_is_verb, verb_spaceless, named_has_text, nothing_named, named_by_none}
 
 -- ---- operands
 
@@ -89,7 +89,7 @@ spelled_words : (bytes : List ℕ) (verb : source.Verb) (words : List (List ℕ)
     → bytes ≡ (row_of verb).text ++ led_by 32 words → of_words (words_of bytes) ≡ of_verb (Some verb) words
 spelled_words bytes verb words spaceless spelled =
     let is = each_is_verb verb in
-    ap (λ b. of_words (words_of b)) spelled ∙ (ap of_words (split_joined 32 (row_of verb).text words is.spaceless spaceless) ∙ ap (λ v. of_verb v words) is.named)
+    ap (λ b. of_words (words_of b)) spelled ∙ (ap of_words (split_joined 32 (row_of verb).text words (verb_spaceless verb) spaceless) ∙ ap (λ v. of_verb v words) is.named)
 
 pub event_reads : (bytes : List ℕ) (event : Event) → IsLine bytes event → line_of bytes ≡ Ok event
 event_reads bytes event h =
@@ -116,7 +116,7 @@ counted_words bytes first rest verb parts text counted =
 only_words : (bytes first : List ℕ) (rest words : List (List ℕ)) (verb : source.Verb) → Parts 32 bytes first rest → HasWords bytes verb words → rest ≡ words
 only_words bytes first rest words verb parts has =
     let split : words_of bytes ≡ (row_of verb).text ∷ words =
-    ap words_of has.spelled ∙ split_joined 32 (row_of verb).text words (each_is_verb verb).spaceless (all_spaceless words has.each) in
+    ap words_of has.spelled ∙ split_joined 32 (row_of verb).text words (verb_spaceless verb) (all_spaceless words has.each) in
     let same : first ∷ rest ≡ (row_of verb).text ∷ words = sym parts.split ∙ split in
     cc
 

@@ -1,5 +1,5 @@
 -- The lines of a trace text, and what is read of them.
-use Rattle.std.specs.Prelude.{◌≡◌, ℕ, ◌+◌, ◌<◌, ◌≤◌, Bool, true, not, ◌==◌, nat_lt, List, [], ◌∷◌, ◌++◌, length, take, drop, map, filter, slice_index, if◌then◌else◌}
+use Rattle.std.specs.Prelude.{◌≡◌, ℕ, ◌+◌, ◌<◌, ◌≤◌, Bool, true, not, ◌==◌, nat_lt, List, [], ◌∷◌, ◌++◌, length, take, drop, map, filter, if◌then◌else◌}
 use Rattle.std.specs.List.{slice_split, enumerate_from}
 use Rattle.std.specs.Str.Lines.{strip_carriage_return}
 use Rattle.hg_wire.specs.declared.reader.Reading.{Reading}
@@ -19,7 +19,8 @@ lines_of stream = map strip_carriage_return (without_empty_end (slice_split (λ 
 
 -- an empty line, and a line that begins with `#`, is skipped
 abbrev pub is_skipped : List ℕ → Bool
-is_skipped line = if length line == 0 then true else slice_index line 0 == 35
+is_skipped [] = true
+is_skipped (b ∷ line) = b == 35
 
 abbrev pub reading_of : ℕ × List ℕ → Reading
 reading_of numbered = record { line = numbered.0; event = line_of numbered.1 }

@@ -1,6 +1,6 @@
 //! The lines of a stream that comes in pieces.
 
-ghost use Rattle.std.specs.Prelude.{◌≡◌, ◌+◌, ◌<◌, ◌^◌, ◌++◌, ◌∷◌, [], List, ℕ, IfOk, IfSome, IfNone, IsTrue, ◌↔◌};
+ghost use Rattle.std.specs.Prelude.{◌≡◌, ◌+◌, ◌<◌, ◌^◌, ◌++◌, ◌∷◌, [], List, ℕ, IfOk, IfSome, IfNone, IsTrue, ◌↔◌, length};
 ghost use Rattle.std.specs.Bool.{OnTrue, OnFalse};
 
 use crate::held::HeldLine;
@@ -85,7 +85,7 @@ impl Splitter {
     /// Takes the piece up to and with its first line feed, which ends a line, or all of it where it has none.
     /// The answer says how many bytes were taken where a line has ended.
     pub fn take(&mut self, piece: &[u8]) -> Option<usize>
-        requires { self.old.pending.lines + 1 < 2 ^ 64 }
+        requires { self.old.pending.lines + length piece.now < 2 ^ 64 }
         ensures line { IfSome result (EndsLine self.old self.new piece.now) }
         ensures none { IfNone result (EndsNoLine self.old self.new piece.now) }
     {
