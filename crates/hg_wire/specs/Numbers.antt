@@ -29,6 +29,18 @@ numeral base most digits =
 abbrev pub number_of : List ℕ → Option ℕ
 number_of bytes = if starts_with nat_eq bytes (codes "0x") then numeral 16 16 (drop 2 bytes) else numeral 10 20 bytes
 
+-- Digits stand before the rest, and the value is theirs unless they are too many.
+pub record HasRun (base most : ℕ) (bytes rest : List ℕ) (value : ℕ) : Type 0 where
+  pub digits : List ℕ
+  pub each : AllDigits base digits
+  pub joined : bytes ≡ digits ++ rest
+  pub read : length digits ≤ most → value ≡ digits_value base digits
+
+-- The four bytes are hexadecimal digits, which write the value.
+pub record IsFourDigits (a b c d value : ℕ) : Type 0 where
+  pub each : AllDigits 16 (a ∷ b ∷ c ∷ d ∷ [])
+  pub read : value ≡ digit_value a * 4096 + digit_value b * 256 + digit_value c * 16 + digit_value d
+
 -- The bytes are a numeral of the number n of 64 bits, and then the rest.
 pub record HasNumeral (base most : ℕ) (bytes : List ℕ) (n : ℕ) (rest : List ℕ) : Type 0 where
   pub digits : List ℕ

@@ -1,8 +1,8 @@
 //! Numbers of the trace text.
 
-ghost use Rattle.std.specs.Prelude.{◌≡◌, ◌≤◌, ◌^◌, ◌<◌, IfSome};
+ghost use Rattle.std.specs.Prelude.{◌≡◌, ◌≤◌, IfSome, length, drop};
 ghost use Rattle.std.specs.Char.{digit_value};
-ghost use Rattle.hg_wire.specs.Numbers.{HasNumeral, HasNumber, numeral};
+ghost use Rattle.hg_wire.specs.Numbers.{HasRun, HasNumeral, HasNumber, IsFourDigits, numeral};
 ghost use Rattle.hg_wire.specs.Lines.{fitting, operand_of};
 
 /// The value of each byte as a digit of base 36, in either case, and 36 for the bytes that are none.
@@ -33,30 +33,93 @@ fn value_of_digit(byte: u8) -> u8
     DIGIT_VALUES[usize::from(byte)]
 }
 
-/// The numeral of at most `most` digits that the bytes begin with, and what follows it.
+/// The value of a decimal digit, and more than 9 for any other byte.
 #[inline(always)]
-fn numeral_in_front(base: u8, most: usize, bytes: &[u8]) -> Option<(u64, &[u8])>
-    requires digits { base ≤ 16 }
-    requires fits { base ^ most ≤ 2 ^ 64 }
-    ensures { IfSome result (λ found. HasNumeral base most bytes.now found.0 found.1.now) }
+fn value_of_decimal_digit(byte: u8) -> u8
+    ensures { result ≤ 9 → digit_value byte ≡ result }
+{
+    byte.wrapping_sub(b'0')
+}
+
+/// The decimal number that the bytes begin with, and what follows it, where it has at most 19 digits.
+#[inline(always)]
+fn decimal_in_front(bytes: &[u8]) -> Option<(u64, &[u8])>
+    ensures { IfSome result (λ found. HasNumeral 10 19 bytes.now found.0 found.1.now) }
 {
     let mut value = 0u64;
-    let mut rest = bytes;
-    while let [first, more @ ..] = rest {
-        let digit = value_of_digit(*first);
-        if digit >= base {
+    let mut count = 0;
+    while count < bytes.len() {
+        let digit = value_of_decimal_digit(bytes[count]);
+        if digit > 9 {
             break;
         }
-        value = value
-            .wrapping_mul(u64::from(base))
-            .wrapping_add(u64::from(digit));
-        rest = more;
+        value = value.wrapping_mul(10).wrapping_add(u64::from(digit));
+        count += 1;
     }
-    let count = bytes.len() - rest.len();
-    if count == 0 || count > most {
+    if count == 0 || count > 19 {
         return None;
     }
-    Some((value, rest))
+    Some((value, &bytes[count..]))
+}
+
+/// The number that four hexadecimal digits write, where they are digits.
+#[inline(always)]
+fn number_of_four(a: u8, b: u8, c: u8, d: u8) -> Option<u64>
+    ensures { IfSome result (IsFourDigits a b c d) }
+{
+    let a = u64::from(value_of_digit(a));
+    let b = u64::from(value_of_digit(b));
+    let c = u64::from(value_of_digit(c));
+    let d = u64::from(value_of_digit(d));
+    if a | b | c | d > 15 {
+        return None;
+    }
+    Some(a * 4096 + b * 256 + c * 16 + d)
+}
+
+/// The number that the hexadecimal digits in front of the bytes write, taken by four, and how many they are.
+/// (It is right as long as they are at most 16.)
+#[inline(always)]
+fn fours_in_front(bytes: &[u8]) -> (u64, usize)
+    ensures within { result.1 ≤ length bytes.now }
+    ensures digits { HasRun 16 16 bytes.now (drop result.1 bytes.now) result.0 }
+{
+    let mut value = 0u64;
+    let mut count = 0;
+    while bytes.len() - count >= 4 {
+        let next = number_of_four(
+            bytes[count],
+            bytes[count + 1],
+            bytes[count + 2],
+            bytes[count + 3],
+        );
+        let Some(four) = next else {
+            break;
+        };
+        value = value.wrapping_mul(65_536).wrapping_add(four);
+        count += 4;
+    }
+    (value, count)
+}
+
+/// The hexadecimal number that the bytes begin with, and what follows it, where it has at most 16 digits.
+#[inline(always)]
+fn hexadecimal_in_front(bytes: &[u8]) -> Option<(u64, &[u8])>
+    ensures { IfSome result (λ found. HasNumeral 16 16 bytes.now found.0 found.1.now) }
+{
+    let (mut value, mut count) = fours_in_front(bytes);
+    while count < bytes.len() {
+        let digit = value_of_digit(bytes[count]);
+        if digit > 15 {
+            break;
+        }
+        value = value.wrapping_mul(16).wrapping_add(u64::from(digit));
+        count += 1;
+    }
+    if count == 0 || count > 16 {
+        return None;
+    }
+    Some((value, &bytes[count..]))
 }
 
 /// The number that the bytes begin with, and what follows it. (A decimal number of 20 digits is not looked for.)
@@ -65,8 +128,8 @@ pub fn number_in_front(bytes: &[u8]) -> Option<(u64, &[u8])>
     ensures { IfSome result (λ found. HasNumber bytes.now found.0 found.1.now) }
 {
     match bytes {
-        [b'0', b'x', digits @ ..] => numeral_in_front(16, 16, digits),
-        _ => numeral_in_front(10, 19, bytes),
+        [b'0', b'x', digits @ ..] => hexadecimal_in_front(digits),
+        _ => decimal_in_front(bytes),
     }
 }
 
