@@ -1,9 +1,10 @@
 -- A verb and its operands make an event.
-use Rattle.std.proofs.Common.{◌≡◌, ℕ, ◌<◌, ◌≤◌, List, [], ◌++◌, length, Ok, refl, sym, ◌∙◌, ap, arith, ◌-◌, inl, inr}
+use Rattle.std.proofs.Common.{Bool, true, false, cond, subst, ◌≡◌, ℕ, ◌<◌, ◌≤◌, List, [], ◌++◌, length, Ok, refl, sym, ◌∙◌, ap, arith, ◌-◌, inl, inr}
 use Rattle.std.proofs.lemmas.List.{append_assoc, append-nil, length-append, nil_from_length}
 use Rattle.hg_model.specs.declared.event.Event.{Event}
 use Rattle.hg_wire.specs.declared.verb.Verb.{Verb}
-use Rattle.hg_wire.specs.Verbs.{row_of}
+use Rattle.hg_wire.specs.declared.verb.Verb.TheVariants.{Write, Read, Alloc, Free}
+use Rattle.hg_wire.specs.Verbs.{row_of, access_widths, block_widths}
 use Rattle.hg_wire.specs.Lines.{HasOperands, HasEvent, HasEventLine, EndsLineBefore, line_of}
 use Rattle.hg_wire.proofs.WordLemmas.{led_by}
 use Rattle.hg_wire.proofs.VerbLemmas.{each_is_verb}
@@ -48,3 +49,19 @@ event_line bytes event middle rest h ends =
     shorter_after : (middle rest : List ℕ) → EndsLineBefore middle rest → length rest ≤ length middle
     shorter_after middle rest (inl e) = omega (arith, ap length e)
     shorter_after middle rest (inr e) = omega (arith, ap length e)
+
+-- the same of an event and widths that are known to be the verb's
+pub event_of_verb : (verb : Verb) (widths bytes operands values rest : List ℕ) (event : Event) → (row_of verb).widths ≡ widths → event ≡ (row_of verb).event values
+    → bytes ≡ (row_of verb).text ++ operands → HasOperands widths operands values rest → HasEvent bytes event rest
+event_of_verb verb widths bytes operands values rest event same is begins h =
+    let P : Event → Type 0 = λ e. HasEvent bytes e rest in
+    let fitting : HasOperands (row_of verb).widths operands values rest = subst (λ ws. HasOperands ws operands values rest) (sym same) h in
+    subst P (sym is) (event_follows verb bytes operands values rest begins fitting)
+
+pub access_widths_are : (is_write : Bool) → (row_of (cond is_write Write Read)).widths ≡ access_widths
+access_widths_are true = refl
+access_widths_are false = refl
+
+pub block_widths_are : (is_alloc : Bool) → (row_of (cond is_alloc Alloc Free)).widths ≡ block_widths
+block_widths_are true = refl
+block_widths_are false = refl

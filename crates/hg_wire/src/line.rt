@@ -4,7 +4,10 @@ ghost use Rattle.std.specs.Prelude.{◌≡◌, IfSome};
 ghost use Rattle.hg_wire.specs.Lines.{HasEvent, HasEventLine, EndsLineBefore, line_of};
 
 use crate::operands::{access_in_front, block_in_front, pair_in_front};
-use crate::verb::Verb;
+use crate::verb::{
+    access_event, access_verb_in_front, block_event, block_verb_in_front, pair_event,
+    pair_verb_in_front,
+};
 use crate::words::line_by_words;
 use hg_model::event::Event;
 
@@ -41,23 +44,17 @@ pub fn read_line(line: &[u8]) -> Result<Event, LineFault>
 pub(crate) fn event_in_front(bytes: &[u8]) -> Option<(Event, &[u8])>
     ensures { IfSome result (λ found. HasEvent bytes.now found.0 found.1.now) }
 {
-    if let Some(operands) = Verb::Write.after(bytes) {
+    if let Some((is_write, operands)) = access_verb_in_front(bytes) {
         let (access, rest) = access_in_front(operands)?;
-        return Some((Event::Write(access), rest));
+        return Some((access_event(is_write, access), rest));
     }
-    if let Some(operands) = Verb::Read.after(bytes) {
-        let (access, rest) = access_in_front(operands)?;
-        return Some((Event::Read(access), rest));
+    if let Some((verb, operands)) = pair_verb_in_front(bytes) {
+        let (first, second, rest) = pair_in_front(operands)?;
+        return Some((pair_event(verb, first, second)?, rest));
     }
-    if let Some(operands) = Verb::Lock.after(bytes) {
-        let (t, l, rest) = pair_in_front(operands)?;
-        return Some((Event::Lock { t, l }, rest));
-    }
-    if let Some(operands) = Verb::Unlock.after(bytes) {
-        let (t, l, rest) = pair_in_front(operands)?;
-        return Some((Event::Unlock { t, l }, rest));
-    }
-    rare_event_in_front(bytes)
+    let (is_alloc, operands) = block_verb_in_front(bytes)?;
+    let (block, rest) = block_in_front(operands)?;
+    Some((block_event(is_alloc, block), rest))
 }
 
 /// The event whose line the bytes begin with, and how many bytes that line takes with its line feed. (`None` says nothing of the bytes.)
@@ -80,32 +77,4 @@ fn after_line_end(bytes: &[u8]) -> Option<&[u8]>
         [b'\r', b'\n', rest @ ..] => Some(rest),
         _ => None,
     }
-}
-
-/// The same of the verbs that are less common.
-#[inline(always)]
-fn rare_event_in_front(bytes: &[u8]) -> Option<(Event, &[u8])>
-    ensures { IfSome result (λ found. HasEvent bytes.now found.0 found.1.now) }
-{
-    if let Some(operands) = Verb::RdLock.after(bytes) {
-        let (t, l, rest) = pair_in_front(operands)?;
-        return Some((Event::RdLock { t, l }, rest));
-    }
-    if let Some(operands) = Verb::Alloc.after(bytes) {
-        let (block, rest) = block_in_front(operands)?;
-        return Some((Event::Alloc(block), rest));
-    }
-    if let Some(operands) = Verb::Free.after(bytes) {
-        let (block, rest) = block_in_front(operands)?;
-        return Some((Event::Free(block), rest));
-    }
-    if let Some(operands) = Verb::Fork.after(bytes) {
-        let (p, c, rest) = pair_in_front(operands)?;
-        return Some((Event::Fork { p, c }, rest));
-    }
-    if let Some(operands) = Verb::Join.after(bytes) {
-        let (p, c, rest) = pair_in_front(operands)?;
-        return Some((Event::Join { p, c }, rest));
-    }
-    None
 }
