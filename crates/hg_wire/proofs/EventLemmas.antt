@@ -3,23 +3,24 @@ use Rattle.std.proofs.Common.{Bool, true, false, cond, subst, ◌≡◌, ℕ, �
 use Rattle.std.proofs.lemmas.List.{append_assoc, append-nil, length-append, nil_from_length}
 use Rattle.hg_model.specs.declared.event.Event.{Event}
 use Rattle.hg_wire.specs.declared.verb.Verb.{Verb}
-use Rattle.hg_wire.specs.declared.verb.Verb.TheVariants.{Write, Read, Alloc, Free}
-use Rattle.hg_wire.specs.Verbs.{row_of, access_widths, block_widths}
+use Rattle.hg_wire.specs.Verbs.{row_of, Makes}
 use Rattle.hg_wire.specs.Lines.{HasOperands, HasEvent, HasEventLine, EndsLineBefore, line_of}
 use Rattle.hg_wire.proofs.WordLemmas.{led_by}
 use Rattle.hg_wire.proofs.VerbLemmas.{each_is_verb}
 use Rattle.hg_wire.proofs.LineLemmas.{operands_are_words, event_reads}
+use Rattle.hg_wire.proofs.OperandLemmas.{refit_operands}
 
-pub event_follows : (verb : Verb) (bytes operands values rest : List ℕ) → bytes ≡ (row_of verb).text ++ operands → HasOperands (row_of verb).widths operands values rest
-    → HasEvent bytes ((row_of verb).event values) rest
-event_follows verb bytes operands values rest begins h =
+pub event_follows : (verb : Verb) (wide bytes operands values rest : List ℕ) (event : Event) → bytes ≡ (row_of verb).text ++ operands → HasOperands wide operands values rest → Makes verb values event
+    → HasEvent bytes event rest
+event_follows verb wide bytes operands values rest event begins wide_enough makes =
+    let h = refit_operands wide (row_of verb).widths operands values rest makes.0 wide_enough in
     let text = (row_of verb).text in
     let is = each_is_verb verb in
     let few = (operands_are_words (row_of verb).widths h.words values h.operands).2 in
     let short : length (text ++ led_by 32 h.words) ≤ 256 = omega (arith, length-append text (led_by 32 h.words), is.short, is.few) in
     record {
       text = text ++ led_by 32 h.words;
-      spelled = record { verb = verb; words = h.words; values = values; operands = h.operands; spelled = refl; made = refl; short = short };
+      spelled = record { verb = verb; words = h.words; values = values; operands = h.operands; spelled = refl; made = makes.1; short = short };
       joined = begins ∙ (ap (λ more. text ++ more) h.joined ∙ sym (append_assoc text (led_by 32 h.words) rest));
     }
 
@@ -49,19 +50,3 @@ event_line bytes event middle rest h ends =
     shorter_after : (middle rest : List ℕ) → EndsLineBefore middle rest → length rest ≤ length middle
     shorter_after middle rest (inl e) = omega (arith, ap length e)
     shorter_after middle rest (inr e) = omega (arith, ap length e)
-
--- the same of an event and widths that are known to be the verb's
-pub event_of_verb : (verb : Verb) (widths bytes operands values rest : List ℕ) (event : Event) → (row_of verb).widths ≡ widths → event ≡ (row_of verb).event values
-    → bytes ≡ (row_of verb).text ++ operands → HasOperands widths operands values rest → HasEvent bytes event rest
-event_of_verb verb widths bytes operands values rest event same is begins h =
-    let P : Event → Type 0 = λ e. HasEvent bytes e rest in
-    let fitting : HasOperands (row_of verb).widths operands values rest = subst (λ ws. HasOperands ws operands values rest) (sym same) h in
-    subst P (sym is) (event_follows verb bytes operands values rest begins fitting)
-
-pub access_widths_are : (is_write : Bool) → (row_of (cond is_write Write Read)).widths ≡ access_widths
-access_widths_are true = refl
-access_widths_are false = refl
-
-pub block_widths_are : (is_alloc : Bool) → (row_of (cond is_alloc Alloc Free)).widths ≡ block_widths
-block_widths_are true = refl
-block_widths_are false = refl

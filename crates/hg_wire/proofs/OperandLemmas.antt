@@ -4,6 +4,7 @@ use Rattle.std.proofs.lemmas.List.{append_assoc, append-nil}
 use Rattle.std.proofs.lemmas.Slice.{first_rest}
 use Rattle.std.specs.List.{between}
 use Rattle.hg_wire.specs.Numbers.{HasNumber}
+use Rattle.hg_wire.specs.Verbs.{AllFit}
 use Rattle.hg_wire.specs.Lines.{AreOperands, HasOperands}
 use Rattle.hg_wire.proofs.WordLemmas.{led_by}
 
@@ -16,13 +17,21 @@ one_operand bytes n rest some space h =
           ∙ ap (λ text. 32 ∷ (text ++ rest)) (sym (append-nil h.text))));
     }
 
-narrowed : (width n : ℕ) (words : List (List ℕ)) → n < 2 ^ width → AreOperands (64 ∷ []) words (n ∷ []) → AreOperands (width ∷ []) words (n ∷ [])
-narrowed width n [] small h = absurd h
-narrowed width n (word ∷ []) small h = (h.0, small, tt)
-narrowed width n (word ∷ next ∷ words) small h = absurd h.2
+refitted : (wide widths values : List ℕ) (words : List (List ℕ)) → AllFit widths values → AreOperands wide words values → AreOperands widths words values
+refitted [] [] [] [] fit h = tt
+refitted (w ∷ wide) (width ∷ widths) (n ∷ values) (word ∷ words) fit h = (h.0, fit.0, refitted wide widths values words fit.1 h.2)
+refitted wide [] (n ∷ values) words fit h = absurd fit
+refitted wide (width ∷ widths) [] words fit h = absurd fit
+refitted (w ∷ wide) [] [] [] fit h = absurd h
+refitted (w ∷ wide) [] [] (word ∷ words) fit h = absurd h
+refitted [] [] [] (word ∷ words) fit h = absurd h
+refitted [] (width ∷ widths) (n ∷ values) [] fit h = absurd h
+refitted [] (width ∷ widths) (n ∷ values) (word ∷ words) fit h = absurd h
+refitted (w ∷ wide) (width ∷ widths) (n ∷ values) [] fit h = absurd h
 
-pub narrow_operand : (width n : ℕ) (bytes rest : List ℕ) → n < 2 ^ width → HasOperands (64 ∷ []) bytes (n ∷ []) rest → HasOperands (width ∷ []) bytes (n ∷ []) rest
-narrow_operand width n bytes rest small h = record { words = h.words; operands = narrowed width n h.words small h.operands; joined = h.joined }
+-- operands that fit other widths
+pub refit_operands : (wide widths bytes values rest : List ℕ) → AllFit widths values → HasOperands wide bytes values rest → HasOperands widths bytes values rest
+refit_operands wide widths bytes values rest fit h = record { words = h.words; operands = refitted wide widths values h.words fit h.operands; joined = h.joined }
 
 one_more : (width n : ℕ) (widths values : List ℕ) (words more : List (List ℕ)) → AreOperands (width ∷ []) words (n ∷ []) → AreOperands widths more values
     → AreOperands (width ∷ widths) (words ++ more) (n ∷ values)

@@ -1,10 +1,12 @@
 -- The verbs of the trace text.
-use Rattle.std.specs.Prelude.{ℕ, List, [], ◌∷◌, codes, slice_index}
+use Rattle.std.specs.Prelude.{◌≡◌, ◌<◌, ◌^◌, ℕ, List, [], ◌∷◌, codes, slice_index, if◌then◌else◌, ⊤}
 use Rattle.hg_model.specs.declared.event.Access.{Access}
 use Rattle.hg_model.specs.declared.event.Block.{Block}
 use Rattle.hg_model.specs.declared.event.Event.{Event}
 use Rattle.hg_wire.specs.declared.verb.Verb.{Verb}
 use Rattle.hg_wire.specs.declared.verb.Verb.TheVariants as verb
+use Rattle.hg_wire.specs.declared.verb.VerbKind.{VerbKind}
+use Rattle.hg_wire.specs.declared.verb.VerbKind.TheVariants as kind
 use Rattle.hg_model.specs.declared.event.Event.TheVariants.{Fork, Join, Lock, RdLock, Unlock, Read, Write, Alloc, Free}
 
 -- A verb: its text, the width of each operand in bits, and the event that the values of the operands make.
@@ -50,3 +52,19 @@ row_of verb.Free = row (codes "free") block_widths (of_block (λ b. Free b))
 -- The nine verbs.
 abbrev pub verbs : List Verb
 verbs = verb.Fork ∷ verb.Join ∷ verb.Lock ∷ verb.RdLock ∷ verb.Unlock ∷ verb.Read ∷ verb.Write ∷ verb.Alloc ∷ verb.Free ∷ []
+
+-- The verb of a kind.
+abbrev pub verb_of : VerbKind → Verb
+verb_of (kind.Pair verb) = verb
+verb_of (kind.Access is_write) = if is_write then verb.Write else verb.Read
+verb_of (kind.Block is_alloc) = if is_alloc then verb.Alloc else verb.Free
+
+-- As many values as widths, and each fits.
+abbrev pub AllFit : List ℕ → List ℕ → Type 0
+AllFit [] [] = ⊤
+AllFit (width ∷ widths) (value ∷ values) = (value < 2 ^ width) × AllFit widths values
+AllFit _ _ = ⊥
+
+-- The values fit the operands of the verb, which makes the event of them.
+abbrev pub Makes : Verb → List ℕ → Event → Type 0
+Makes verb values event = AllFit (row_of verb).widths values × (event ≡ (row_of verb).event values)

@@ -3,11 +3,8 @@
 ghost use Rattle.std.specs.Prelude.{◌≡◌, IfSome};
 ghost use Rattle.hg_wire.specs.Lines.{HasEvent, HasEventLine, EndsLineBefore, line_of};
 
-use crate::operands::{access_in_front, block_in_front, pair_in_front};
-use crate::verb::{
-    access_event, access_verb_in_front, block_event, block_verb_in_front, pair_event,
-    pair_verb_in_front,
-};
+use crate::operands::{long_in_front, short_in_front};
+use crate::verb::{VerbKind, pair_event, sized_event, verb_in_front};
 use crate::words::line_by_words;
 use hg_model::event::Event;
 
@@ -44,17 +41,14 @@ pub fn read_line(line: &[u8]) -> Result<Event, LineFault>
 pub(crate) fn event_in_front(bytes: &[u8]) -> Option<(Event, &[u8])>
     ensures { IfSome result (λ found. HasEvent bytes.now found.0 found.1.now) }
 {
-    if let Some((is_write, operands)) = access_verb_in_front(bytes) {
-        let (access, rest) = access_in_front(operands)?;
-        return Some((access_event(is_write, access), rest));
-    }
-    if let Some((verb, operands)) = pair_verb_in_front(bytes) {
-        let (first, second, rest) = pair_in_front(operands)?;
+    let (kind, operands) = verb_in_front(bytes)?;
+    let (first, rest) = short_in_front(operands)?;
+    let (second, rest) = long_in_front(rest)?;
+    if let VerbKind::Pair { verb } = kind {
         return Some((pair_event(verb, first, second)?, rest));
     }
-    let (is_alloc, operands) = block_verb_in_front(bytes)?;
-    let (block, rest) = block_in_front(operands)?;
-    Some((block_event(is_alloc, block), rest))
+    let (third, rest) = short_in_front(rest)?;
+    Some((sized_event(kind, first, second, third)?, rest))
 }
 
 /// The event whose line the bytes begin with, and how many bytes that line takes with its line feed. (`None` says nothing of the bytes.)

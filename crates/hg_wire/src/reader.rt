@@ -55,7 +55,7 @@ impl EventReader {
 
     /// Takes the next piece of the stream, up to and with the first line in it that is neither empty nor a comment.
     /// The rest of the piece is taken by further calls. Lines are counted, so that their number is to stay below 2^64.
-    #[inline]
+    #[inline(always)]
     pub fn take(&mut self, piece: &[u8]) -> Taken
         requires { self.old.lines + length piece.now < 2 ^ 64 }
         ensures { Takes self.old self.new piece.now result }

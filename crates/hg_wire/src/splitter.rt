@@ -49,6 +49,7 @@ impl Splitter {
     }
 
     /// How many lines have ended.
+    #[inline(always)]
     pub fn lines(&self) -> u64
         ensures { result ≡ self.now.pending.lines }
     {
@@ -63,7 +64,7 @@ impl Splitter {
     }
 
     /// Whether no line has begun that has not ended.
-    #[inline]
+    #[inline(always)]
     pub fn is_between_lines(&self) -> bool
         ensures { IsTrue result ↔ (self.now.pending.begun ≡ []) }
     {
@@ -71,7 +72,7 @@ impl Splitter {
     }
 
     /// Counts a line that was taken from the stream elsewhere, as a whole and between lines.
-    #[inline]
+    #[inline(always)]
     pub fn count_line(&mut self)
         requires { self.old.pending.lines + 1 < 2 ^ 64 }
         ensures { self.new ≡ record {

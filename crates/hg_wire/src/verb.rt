@@ -1,7 +1,7 @@
 //! The verbs of the trace text.
 
-ghost use Rattle.std.specs.Prelude.{◌≡◌, ◌++◌, [], ◌∷◌, IfSome, if◌then◌else◌};
-ghost use Rattle.hg_wire.specs.Verbs.{row_of, pair_widths};
+ghost use Rattle.std.specs.Prelude.{◌≡◌, ◌++◌, [], ◌∷◌, IfSome};
+ghost use Rattle.hg_wire.specs.Verbs.{row_of, verb_of, Makes};
 
 use hg_model::event::{Access, Block, Event};
 
@@ -70,31 +70,40 @@ impl Verb {
     }
 }
 
-/// Whether the bytes begin with `write`, where they do or begin with `read`, and what follows.
+/// A verb by the kind of its operands.
+#[derive(Clone, Copy, Debug, PartialEq, Eq, Drop)]
+pub enum VerbKind {
+    /// `fork`, `join`, `lock`, `rdlock` or `unlock`: a thread and a child or a lock.
+    Pair { verb: Verb },
+    /// `read` or `write`: a thread, an address and a length of 8 bits.
+    Access { is_write: bool },
+    /// `alloc` or `free`: a thread, an address and a length of 16 bits.
+    Block { is_alloc: bool },
+}
+
+/// The verb that the bytes begin with, and what follows.
 #[inline(always)]
-pub fn access_verb_in_front(bytes: &[u8]) -> Option<(bool, &[u8])>
-    ensures { IfSome result (λ found. bytes.now ≡ (row_of (if found.0 then Verb.Write else Verb.Read)).text ++ found.1.now) }
+pub fn verb_in_front(bytes: &[u8]) -> Option<(VerbKind, &[u8])>
+    ensures { IfSome result (λ found. bytes.now ≡ (row_of (verb_of found.0)).text ++ found.1.now) }
 {
     if let Some(rest) = Verb::Write.after(bytes) {
-        return Some((true, rest));
+        return Some((VerbKind::Access { is_write: true }, rest));
     }
-    Some((false, Verb::Read.after(bytes)?))
-}
-
-/// Whether the bytes begin with `alloc`, where they do or begin with `free`, and what follows.
-#[inline(always)]
-pub fn block_verb_in_front(bytes: &[u8]) -> Option<(bool, &[u8])>
-    ensures { IfSome result (λ found. bytes.now ≡ (row_of (if found.0 then Verb.Alloc else Verb.Free)).text ++ found.1.now) }
-{
+    if let Some(rest) = Verb::Read.after(bytes) {
+        return Some((VerbKind::Access { is_write: false }, rest));
+    }
     if let Some(rest) = Verb::Alloc.after(bytes) {
-        return Some((true, rest));
+        return Some((VerbKind::Block { is_alloc: true }, rest));
     }
-    Some((false, Verb::Free.after(bytes)?))
+    if let Some(rest) = Verb::Free.after(bytes) {
+        return Some((VerbKind::Block { is_alloc: false }, rest));
+    }
+    let (verb, rest) = pair_verb_in_front(bytes)?;
+    Some((VerbKind::Pair { verb }, rest))
 }
 
-/// The verb of two operands that the bytes begin with, and what follows.
 #[inline(always)]
-pub fn pair_verb_in_front(bytes: &[u8]) -> Option<(Verb, &[u8])>
+fn pair_verb_in_front(bytes: &[u8]) -> Option<(Verb, &[u8])>
     ensures { IfSome result (λ found. bytes.now ≡ (row_of found.0).text ++ found.1.now) }
 {
     if let Some(rest) = Verb::Lock.after(bytes) {
@@ -112,34 +121,15 @@ pub fn pair_verb_in_front(bytes: &[u8]) -> Option<(Verb, &[u8])>
     Some((Verb::Join, Verb::Join.after(bytes)?))
 }
 
+/// The event of a verb that takes two operands, where they fit.
 #[inline(always)]
-pub fn access_event(is_write: bool, access: Access) -> Event
-    ensures { result ≡ (row_of (if is_write then Verb.Write else Verb.Read)).event (access.t ∷ access.at ∷ access.len ∷ []) }
+pub fn pair_event(verb: Verb, first: u16, second: u64) -> Option<Event>
+    ensures { IfSome result (λ event. Makes verb (first ∷ second ∷ []) event) }
 {
-    if is_write {
-        Event::Write(access)
-    } else {
-        Event::Read(access)
+    if second > 0xffff {
+        return None;
     }
-}
-
-#[inline(always)]
-pub fn block_event(is_alloc: bool, block: Block) -> Event
-    ensures { result ≡ (row_of (if is_alloc then Verb.Alloc else Verb.Free)).event (block.t ∷ block.at ∷ block.len ∷ []) }
-{
-    if is_alloc {
-        Event::Alloc(block)
-    } else {
-        Event::Free(block)
-    }
-}
-
-/// The event of a verb of two operands.
-#[inline(always)]
-pub fn pair_event(verb: Verb, first: u16, second: u16) -> Option<Event>
-    ensures { IfSome result (λ event. ((row_of verb).widths ≡ pair_widths)
-        × (event ≡ (row_of verb).event (first ∷ second ∷ []))) }
-{
+    let second = second as u16;
     match verb {
         Verb::Fork => Some(Event::Fork {
             p: first,
@@ -162,5 +152,43 @@ pub fn pair_event(verb: Verb, first: u16, second: u16) -> Option<Event>
             l: second,
         }),
         Verb::Read | Verb::Write | Verb::Alloc | Verb::Free => None,
+    }
+}
+
+/// The event of a verb that takes three operands, where they fit.
+#[inline(always)]
+pub fn sized_event(kind: VerbKind, t: u16, at: u64, len: u16) -> Option<Event>
+    ensures { IfSome result (λ event. Makes (verb_of kind) (t ∷ at ∷ len ∷ []) event) }
+{
+    match kind {
+        VerbKind::Pair { verb: _ } => None,
+        VerbKind::Access { is_write } => access_event(is_write, t, at, len),
+        VerbKind::Block { is_alloc } => Some(block_event(is_alloc, t, at, len)),
+    }
+}
+
+#[inline(always)]
+fn access_event(is_write: bool, t: u16, at: u64, len: u16) -> Option<Event>
+    ensures { IfSome result (λ event. Makes (verb_of (VerbKind.Access is_write)) (t ∷ at ∷ len ∷ []) event) }
+{
+    if len > 0xff {
+        return None;
+    }
+    let len = len as u8;
+    let access = Access { t, at, len };
+    match is_write {
+        true => Some(Event::Write(access)),
+        false => Some(Event::Read(access)),
+    }
+}
+
+#[inline(always)]
+fn block_event(is_alloc: bool, t: u16, at: u64, len: u16) -> Event
+    ensures { Makes (verb_of (VerbKind.Block is_alloc)) (t ∷ at ∷ len ∷ []) result }
+{
+    let block = Block { t, at, len };
+    match is_alloc {
+        true => Event::Alloc(block),
+        false => Event::Free(block),
     }
 }
