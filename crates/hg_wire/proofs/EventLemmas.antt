@@ -1,5 +1,5 @@
 -- A verb and its operands make an event.
-use Rattle.std.proofs.Common.{Bool, true, false, cond, subst, ◌≡◌, ℕ, ◌<◌, ◌≤◌, List, [], ◌++◌, length, Ok, refl, sym, ◌∙◌, ap, arith, ◌-◌, inl, inr}
+use Rattle.std.proofs.Common.{◌≡◌, ℕ, ◌<◌, ◌≤◌, List, [], ◌++◌, length, Ok, refl, sym, ◌∙◌, ap, arith, ◌-◌, inl, inr}
 use Rattle.std.proofs.lemmas.List.{append_assoc, append-nil, length-append, nil_from_length}
 use Rattle.hg_model.specs.declared.event.Event.{Event}
 use Rattle.hg_wire.specs.declared.verb.Verb.{Verb}

@@ -9,5 +9,10 @@ mod operands;
 pub mod reader;
 pub mod report;
 pub mod splitter;
+#[cfg(test)]
+mod tests;
 mod verb;
 mod words;
+
+#[cfg(test)]
+mod stream_tests;
