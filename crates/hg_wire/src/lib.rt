@@ -10,9 +10,8 @@ pub mod reader;
 pub mod report;
 pub mod splitter;
 #[cfg(test)]
+mod stream_tests;
+#[cfg(test)]
 mod tests;
 mod verb;
 mod words;
-
-#[cfg(test)]
-mod stream_tests;

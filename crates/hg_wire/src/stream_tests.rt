@@ -2,12 +2,11 @@ ghost use Rattle.std.specs.Prelude.{◌≡◌, ◌+◌, ◌<◌, ◌≤◌, ◌^
 ghost use Rattle.std.specs.List.{flat_map};
 ghost use Rattle.hg_wire.specs.Streams.{readings, readings_from};
 
+use crate::line::LineFault;
+use crate::reader::{EventReader, Reading, Taken};
 use hg_model::event::{Access, Event};
 use std::alloc::{AllocError, Global};
 use std::test::Fail;
-
-use crate::line::LineFault;
-use crate::reader::{EventReader, Reading, Taken};
 
 /// Appends what is read of the next piece of a stream.
 fn put_readings(
