@@ -6,7 +6,7 @@ ghost use Rattle.std.specs.Str.Lines.{strip_carriage_return};
 use std::alloc::{AllocError, Global};
 use std::marker::Model;
 
-/// How many bytes of a line are held: one more than an event may have, and one more for a carriage return.
+/// How many bytes of a line are held: as many as an event may have, and a carriage return or one too many.
 const MOST_HELD_BYTES: usize = 257;
 
 /// The bytes of a line, up to 257 of them, in memory that was reserved for them.

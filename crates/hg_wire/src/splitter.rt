@@ -125,6 +125,6 @@ impl Splitter {
     {
         mem::swap(&mut self.line, &mut self.last);
         self.line.clear();
-        self.lines += 1;
+        self.count_line();
     }
 }
