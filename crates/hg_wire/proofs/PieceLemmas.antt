@@ -1,0 +1,51 @@
+-- Pieces that make a line.
+use Rattle.std.proofs.Common.{◌≡◌, List, ℕ, zero, suc, ◌+◌, ◌-◌, ◌*◌, ◌/◌, ◌%◌, ◌^◌, ◌<◌, ◌≤◌, bit_and, length, take, get_or, map, [], ◌∷◌, ◌++◌, refl, sym, ◌∙◌, ap, arith}
+use Rattle.std.proofs.Math.Nat.{pow-suc, pow-zero}
+use Rattle.std.proofs.lemmas.Nat.{pow-add, and_mask}
+use Rattle.std.proofs.lemmas.Slice.{first_rest}
+use Rattle.std.specs.Char.{digit_char}
+use Rattle.std.specs.Fmt.{decimal}
+use Rattle.std.specs.List.{between, flat_map, join_with_byte}
+use Rattle.std.proofs.lemmas.List.{append_assoc, append-nil}
+
+pub six_pieces : (a b c d e f a' b' c' d' e' f' : List ℕ) → a ≡ a' → b ≡ b' → c ≡ c' → d ≡ d' → e ≡ e' → f ≡ f'
+    → a ++ (b ++ (c ++ (d ++ (e ++ (f ++ []))))) ≡ a' ++ b' ++ c' ++ d' ++ e' ++ f'
+six_pieces a b c d e f a' b' c' d' e' f' p q r s t u = rw (p, q, r, s, t, u) (simp (append_assoc, append-nil))
+
+-- a hexadecimal digit is four bits
+pow_sixteen : (k : ℕ) → 2 ^ (4 * k) ≡ 16 ^ k
+pow_sixteen zero = pow-zero 2 ∙ sym (pow-zero 16)
+pow_sixteen (suc k) =
+    let four : 4 * suc k ≡ 4 * k + 4 = omega arith in
+    ap (λ e. 2 ^ e) four ∙ (pow-add 2 (4 * k) 4 ∙ (ap (λ p. p * 16) (pow_sixteen k) ∙ sym (pow-suc 16 k)))
+
+pub digit_of_shifted : (word i : ℕ) → i < 16 → digit_char (bit_and (word / 2 ^ (60 - 4 * i)) 15) ≡ digit_char (word / 16 ^ (15 - i) % 16)
+digit_of_shifted word i within =
+    let place : 60 - 4 * i ≡ 4 * (15 - i) = omega arith in
+    let power : 2 ^ (60 - 4 * i) ≡ 16 ^ (15 - i) = ap (λ e. 2 ^ e) place ∙ pow_sixteen (15 - i) in
+    ap digit_char (and_mask (word / 2 ^ (60 - 4 * i)) 4 ∙ ap (λ p. word / p % 16) power)
+
+take_past : (i : ℕ) (xs : List ℕ) → length xs ≤ i → take i xs ≡ xs
+take_past zero [] h = refl
+take_past (suc i) [] h = refl
+take_past zero (x ∷ xs) h = absurd (omega arith)
+take_past (suc i) (x ∷ xs) h = ap (λ ys. x ∷ ys) (take_past i xs (omega arith))
+
+-- each number after the first is led by a comma
+joined_from : (t : ℕ) (ts : List ℕ) → join_with_byte 44 (map decimal (t ∷ ts)) ≡ decimal t ++ flat_map (λ n. 44 ∷ decimal n) ts
+joined_from t [] = sym (append-nil (decimal t))
+joined_from t (u ∷ ts) = ap (λ more. decimal t ++ (44 ∷ more)) (joined_from u ts)
+
+pub numbers_joined : (old middle new numbers : List ℕ) (i : ℕ) → 1 ≤ length numbers → middle ≡ old ++ decimal (get_or numbers 0 0)
+    → length (between 1 (length numbers) numbers) ≤ i → new ≡ middle ++ flat_map (λ n. 44 ∷ decimal n) (take i (between 1 (length numbers) numbers))
+    → new ≡ old ++ join_with_byte 44 (map decimal numbers)
+numbers_joined old middle new numbers i some first ends is =
+    let others = between 1 (length numbers) numbers in
+    let all : take i others ≡ others = take_past i others ends in
+    is ∙ (ap (λ ns. middle ++ flat_map (λ n. 44 ∷ decimal n) ns) all ∙ (ap (λ m. m ++ flat_map (λ n. 44 ∷ decimal n) others) first
+    ∙ (append_assoc old (decimal (get_or numbers 0 0)) (flat_map (λ n. 44 ∷ decimal n) others)
+    ∙ ap (λ text. old ++ text) (sym (joined_from (get_or numbers 0 0) others) ∙ ap (λ ns. join_with_byte 44 (map decimal ns)) (sym (first_rest numbers 0 some))))))
+
+pub ten_pieces : (a b c d e f g h i j a' b' c' d' e' f' g' h' i' j' : List ℕ) → a ≡ a' → b ≡ b' → c ≡ c' → d ≡ d' → e ≡ e' → f ≡ f' → g ≡ g' → h ≡ h' → i ≡ i' → j ≡ j'
+    → a ++ (b ++ (c ++ (d ++ (e ++ (f ++ (g ++ (h ++ (i ++ (j ++ ([])))))))))) ≡ a' ++ b' ++ c' ++ d' ++ e' ++ f' ++ g' ++ h' ++ i' ++ j'
+ten_pieces a b c d e f g h i j a' b' c' d' e' f' g' h' i' j' pa pb pc pd pe pf pg ph pi pj = rw (pa, pb, pc, pd, pe, pf, pg, ph, pi, pj) (simp (append_assoc, append-nil))

@@ -1,0 +1,140 @@
+-- A run of digits that is read from the left.
+use Rattle.std.proofs.Common.{◌≡◌, ℕ, ◌+◌, ◌-◌, ◌*◌, ◌^◌, ◌%◌, ◌<◌, ◌≤◌, List, [], ◌∷◌, ◌++◌, length, get_or, drop, bit_or, codes, refl, sym, ◌∙◌, ap, subst, arith}
+use Rattle.std.proofs.Math.Nat.{pow-le-pow_right, mod-eq_of_lt}
+use Rattle.std.proofs.lemmas.Int.Digits.{digits_push, digits_value_push, digits_value-lt}
+use Rattle.std.proofs.lemmas.List.{append_assoc, drop_more, length-append, length-drop, length_push}
+use Rattle.std.proofs.lemmas.Nat.{le_or_l, le_or_r}
+use Rattle.std.proofs.lemmas.Slice.{between_to_end}
+use Rattle.std.specs.Char.{digit_value}
+use Rattle.std.specs.List.{between}
+use Rattle.std.specs.Str.Parse.{AllDigits, digits_value}
+use Rattle.hg_wire.specs.Numbers.{HasRun, IsFourDigits, HasNumeral, HasNumber, Decimal, Hexadecimal}
+use Rattle.hg_wire.proofs.NumberLemmas.{digits_value_is}
+
+pub run_starts : (base most : ℕ) (bytes : List ℕ) → HasRun base most bytes bytes 0
+run_starts base most bytes = record { digits = []; each = tt; joined = refl; read = λ _. refl }
+
+-- no sum wraps that is the value of few digits
+unwrapped : (base most value factor digit : ℕ) (digits : List ℕ) → 0 < base → base ^ most ≤ 2 ^ 64 → AllDigits base digits → length digits ≤ most
+    → digits_value base digits ≡ value * factor + digit → (value * factor % 2 ^ 64 + digit) % 2 ^ 64 ≡ digits_value base digits
+unwrapped base most value factor digit digits some fits each few is =
+    let below : digits_value base digits < base ^ length digits = digits_value-lt base digits each in
+    let within : base ^ length digits ≤ base ^ most = pow-le-pow_right {n = base} some {i = length digits} {j = most} few in
+    let product : value * factor % 2 ^ 64 ≡ value * factor = mod-eq_of_lt (omega arith) in
+    rw product (mod-eq_of_lt (omega arith) ∙ sym is)
+
+pub run_grows : (base most : ℕ) (bytes more : List ℕ) (first value digit : ℕ) → base ^ most ≤ 2 ^ 64 → digit_value first ≡ digit → digit < base → HasRun base most bytes (first ∷ more) value
+    → HasRun base most bytes more ((value * base % 2 ^ 64 + digit) % 2 ^ 64)
+run_grows base most bytes more first value digit fits is small h =
+    let each : AllDigits base (h.digits ++ first ∷ []) = digits_push base h.digits first h.each (subst (λ d. d < base) (sym is) small) in
+    record {
+      digits = h.digits ++ first ∷ [];
+      each = each;
+      joined = h.joined ∙ sym (append_assoc h.digits (first ∷ []) more);
+      read = λ room. (
+          let read : value ≡ digits_value base h.digits = h.read (omega (arith, length_push h.digits first)) in
+          let whole : digits_value base (h.digits ++ first ∷ []) ≡ value * base + digit =
+          digits_value_push base h.digits first ∙ (ap (λ d. digits_value base h.digits * base + d) is ∙ ap (λ v. v * base + digit) (sym read)) in
+          unwrapped base most value base digit (h.digits ++ first ∷ []) (omega arith) fits each room whole
+          );
+    }
+
+-- the same at a place
+pub run_on : (base most : ℕ) (bytes : List ℕ) (i value digit : ℕ) → base ^ most ≤ 2 ^ 64 → i < length bytes → digit_value (get_or bytes i 0) ≡ digit → digit < base
+    → HasRun base most bytes (drop i bytes) value → HasRun base most bytes (drop (i + 1) bytes) ((value * base % 2 ^ 64 + digit) % 2 ^ 64)
+run_on base most bytes i value digit fits within is small h =
+    run_grows base most bytes (drop (i + 1) bytes) (get_or bytes i 0) value digit fits is small (subst (λ r. HasRun base most bytes r value) (drop_more bytes i 0 within) h)
+
+-- four digits at once
+pub run_grows_by_four : (bytes more : List ℕ) (a b c d value four : ℕ) → IsFourDigits a b c d four → HasRun 16 16 bytes (a ∷ b ∷ c ∷ d ∷ more) value
+    → HasRun 16 16 bytes more ((value * 65536 % 2 ^ 64 + four) % 2 ^ 64)
+run_grows_by_four bytes more a b c d value four f h =
+    let one = h.digits ++ a ∷ [] in
+    let two = one ++ b ∷ [] in
+    let three = two ++ c ∷ [] in
+    let all = three ++ d ∷ [] in
+    let each : AllDigits 16 all =
+    digits_push 16 three d (digits_push 16 two c (digits_push 16 one b (digits_push 16 h.digits a h.each f.each.0) f.each.1.0) f.each.1.1.0) f.each.1.1.1.0 in
+    record {
+      digits = all;
+      each = each;
+      joined = h.joined ∙ (sym (append_assoc h.digits (a ∷ []) (b ∷ c ∷ d ∷ more)) ∙ (sym (append_assoc one (b ∷ []) (c ∷ d ∷ more))
+          ∙ (sym (append_assoc two (c ∷ []) (d ∷ more)) ∙ sym (append_assoc three (d ∷ []) more))));
+      read = λ room. (
+          let count : length all ≡ length h.digits + 4 = omega (arith, length_push three d, length_push two c, length_push one b, length_push h.digits a) in
+          let read : value ≡ digits_value 16 h.digits = h.read (omega arith) in
+          let whole : digits_value 16 all ≡ value * 65536 + four =
+          omega (arith, digits_value_push 16 three d, digits_value_push 16 two c, digits_value_push 16 one b, digits_value_push 16 h.digits a, f.read) in
+          unwrapped 16 16 value 65536 four all (omega arith) (omega arith) each room whole
+          );
+    }
+
+drop_next : (bytes : List ℕ) (i k : ℕ) → i + k < length bytes → drop (i + k) bytes ≡ get_or bytes (i + k) 0 ∷ drop (i + (k + 1)) bytes
+drop_next bytes i k within =
+    let next : i + k + 1 ≡ i + (k + 1) = omega arith in
+    drop_more bytes (i + k) 0 within ∙ ap (λ n. get_or bytes (i + k) 0 ∷ drop n bytes) next
+
+pub run_on_by_four : (bytes : List ℕ) (i value four : ℕ) → 4 ≤ length bytes - i
+    → IsFourDigits (get_or bytes i 0) (get_or bytes (i + 1) 0) (get_or bytes (i + 2) 0) (get_or bytes (i + 3) 0) four → HasRun 16 16 bytes (drop i bytes) value
+    → HasRun 16 16 bytes (drop (i + 4) bytes) ((value * 65536 % 2 ^ 64 + four) % 2 ^ 64)
+run_on_by_four bytes i value four room f h =
+    let parts : drop i bytes ≡ get_or bytes i 0 ∷ get_or bytes (i + 1) 0 ∷ get_or bytes (i + 2) 0 ∷ get_or bytes (i + 3) 0 ∷ drop (i + 4) bytes =
+    drop_more bytes i 0 (omega arith) ∙ ap (λ r. get_or bytes i 0 ∷ r)
+    (drop_next bytes i 1 (omega arith) ∙ ap (λ r. get_or bytes (i + 1) 0 ∷ r)
+    (drop_next bytes i 2 (omega arith) ∙ ap (λ r. get_or bytes (i + 2) 0 ∷ r) (drop_next bytes i 3 (omega arith)))) in
+    run_grows_by_four bytes (drop (i + 4) bytes) _ _ _ _ value four f (subst (λ r. HasRun 16 16 bytes r value) parts h)
+
+pub run_ends : (base most : ℕ) (bytes : List ℕ) (i value : ℕ) → value < 2 ^ 64 → 1 ≤ i → i ≤ most → i ≤ length bytes → HasRun base most bytes (drop i bytes) value
+    → HasNumeral base most bytes value (between i (length bytes) bytes)
+run_ends base most bytes i value fits some few within h =
+    let count : length bytes ≡ length h.digits + length (drop i bytes) = ap length h.joined ∙ length-append h.digits (drop i bytes) in
+    let is : length h.digits ≡ i = omega (arith, length-drop i bytes) in
+    let few' : length h.digits ≤ most = omega arith in
+    let rest : between i (length bytes) bytes ≡ drop i bytes = between_to_end bytes i (length bytes) (omega arith) in
+    record {
+      digits = h.digits;
+      numeral = record { some = omega arith; few = few'; each = h.each };
+      value = h.read few' ∙ digits_value_is base h.digits;
+      fits = fits;
+      joined = h.joined ∙ ap (λ r. h.digits ++ r) (sym rest);
+    }
+
+-- ---- digits
+
+pub four_digits : (a b c d x y z w : ℕ) → x ≡ digit_value a → y ≡ digit_value b → z ≡ digit_value c → w ≡ digit_value d → bit_or (bit_or (bit_or x y) z) w ≤ 15
+    → IsFourDigits a b c d (x * 4096 + y * 256 + z * 16 + w)
+four_digits a b c d x y z w p q r s low =
+    let first : x ≤ 15 = omega (arith, le_or_l x y, le_or_l (bit_or x y) z, le_or_l (bit_or (bit_or x y) z) w) in
+    let second : y ≤ 15 = omega (arith, le_or_r x y, le_or_l (bit_or x y) z, le_or_l (bit_or (bit_or x y) z) w) in
+    let third : z ≤ 15 = omega (arith, le_or_r (bit_or x y) z, le_or_l (bit_or (bit_or x y) z) w) in
+    let fourth : w ≤ 15 = omega (arith, le_or_r (bit_or (bit_or x y) z) w) in
+    record {
+      each = (below_sixteen a x p first, (below_sixteen b y q second, (below_sixteen c z r third, (below_sixteen d w s fourth, tt))));
+      read = rw (← p, ← q, ← r, ← s) refl;
+    }
+  where
+    below_sixteen : (byte value : ℕ) → value ≡ digit_value byte → value ≤ 15 → digit_value byte < 16
+    below_sixteen byte value is small = subst (λ v. v < 16) is (omega arith)
+
+-- ---- numbers
+
+after_two : (bytes : List ℕ) (a b : ℕ) → 2 ≤ length bytes → get_or bytes 0 0 ≡ a → get_or bytes 1 0 ≡ b → bytes ≡ a ∷ b ∷ between 2 (length bytes) bytes
+after_two [] a b long first second = absurd (omega arith)
+after_two (x ∷ []) a b long first second = absurd (omega arith)
+after_two (x ∷ y ∷ bytes) a b long first second =
+    let whole : between 2 (length (x ∷ y ∷ bytes)) (x ∷ y ∷ bytes) ≡ bytes = between_to_end (x ∷ y ∷ bytes) 2 (length (x ∷ y ∷ bytes)) (omega arith) in
+    rw whole (let a_is : x ≡ a = first in let b_is : y ≡ b = second in cc)
+
+pub decimal_number : (bytes : List ℕ) (n : ℕ) (rest : List ℕ) → HasNumeral 10 19 bytes n rest → HasNumber bytes n rest
+decimal_number bytes n rest h =
+    record { text = h.digits; spelled = Decimal (record { some = h.numeral.some; few = omega (arith, h.numeral.few); each = h.numeral.each }) h.value; fits = h.fits; joined = h.joined }
+
+pub hexadecimal_number : (bytes : List ℕ) (n : ℕ) (rest : List ℕ) → 2 ≤ length bytes → get_or bytes 0 0 ≡ 48 → get_or bytes 1 0 ≡ 120
+    → HasNumeral 16 16 (between 2 (length bytes) bytes) n rest → HasNumber bytes n rest
+hexadecimal_number bytes n rest long first second h =
+    record {
+      text = codes "0x" ++ h.digits;
+      spelled = Hexadecimal h.digits refl h.numeral h.value;
+      fits = h.fits;
+      joined = after_two bytes 48 120 long first second ∙ ap (λ more. 48 ∷ 120 ∷ more) h.joined;
+    }

@@ -1,0 +1,7 @@
+use Rattle.std.proofs.Common.{arith}
+use Rattle.hg_wire.proofs.PieceLemmas.{numbers_joined}
+use Rattle.hg_wire.proofs.report.put_threads.Goals as goal
+
+pub returns-clause-ok : goal.returns-clause-ok
+returns-clause-ok c =
+    numbers_joined c.args.out.now.items _ _ c.args.threads.now c.loop-thread.thread-index c.in-len1-up.len_at_least c.in_ok-put_number_after.ensures.ok (omega arith) c.loop-thread.invariant.0

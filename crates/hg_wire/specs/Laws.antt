@@ -1,0 +1,18 @@
+-- The laws of the grammar, which empty public functions promise.
+use Rattle.std.specs.Prelude.{◌≡◌, ℕ, ◌↔◌, List, Ok, Err}
+use Rattle.hg_model.specs.declared.event.Event.{Event}
+use Rattle.hg_wire.specs.declared.line.LineFault.{LineFault}
+use Rattle.hg_wire.specs.Lines.{IsLine, HasFault, line_of}
+use Rattle.hg_wire.specs.Streams.{readings, readings_from, at_start}
+
+-- An event is read of just the lines that spell it.
+abbrev pub EventsAreSpelled : Type 0
+EventsAreSpelled = (bytes : List ℕ) (event : Event) → (line_of bytes ≡ Ok event) ↔ IsLine bytes event
+
+-- A fault is told of just the lines of which it is the first.
+abbrev pub FaultsAreFirst : Type 0
+FaultsAreFirst = (bytes : List ℕ) (fault : LineFault) → (line_of bytes ≡ Err fault) ↔ HasFault bytes fault
+
+-- What is read from the start of a stream on is what is read of all of it.
+abbrev pub StreamsAreWhole : Type 0
+StreamsAreWhole = (stream : List ℕ) → readings_from at_start stream ≡ readings stream

@@ -1,0 +1,7 @@
+pub mod Words
+pub mod Numbers
+pub mod Verbs
+pub mod Lines
+pub mod Streams
+pub mod Reports
+pub mod Laws

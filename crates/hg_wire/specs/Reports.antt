@@ -1,0 +1,27 @@
+-- The lines that a run prints, without their line feeds.
+use Rattle.std.specs.Prelude.{ℕ, ◌-◌, ◌/◌, ◌%◌, ◌^◌, Bool, List, ◌++◌, map, codes, if◌then◌else◌}
+use Rattle.std.specs.List.{join_with_byte, range_with_len}
+use Rattle.std.specs.Char.{digit_char}
+use Rattle.std.specs.Fmt.{decimal}
+use Rattle.hg_model.specs.declared.report.Report.{Report}
+
+-- Sixteen hexadecimal digits, the highest first: the digit at the place i from the left counts 16 ^ (15 - i).
+abbrev pub sixteen_digits : ℕ → List ℕ
+sixteen_digits n = map (λ i. digit_char (n / 16 ^ (15 - i) % 16)) (range_with_len 0 16)
+
+abbrev pub access_name : Bool → List ℕ
+access_name write = if write then codes " write" else codes " read"
+
+-- the line of a report up to its threads
+abbrev pub report_front : ℕ → Report → List ℕ
+report_front k report =
+    codes "race " ++ decimal k ++ codes " event " ++ decimal report.event ++ access_name report.write ++ codes " thread " ++ decimal report.thread
+    ++ codes " word 0x" ++ sixteen_digits report.word ++ codes " threads "
+
+-- The line of the report that is kept as number k.
+abbrev pub report_line : ℕ → Report → List ℕ
+report_line k report = report_front k report ++ join_with_byte 44 (map decimal report.threads)
+
+-- The last line of a run that was not refused.
+abbrev pub end_line : ℕ → ℕ → ℕ → List ℕ
+end_line events races segments = codes "end events " ++ decimal events ++ codes " races " ++ decimal races ++ codes " segments " ++ decimal segments

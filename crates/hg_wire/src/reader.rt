@@ -1,0 +1,119 @@
+//! The events of a stream of trace text.
+
+ghost use Rattle.std.specs.Prelude.{◌≡◌, ◌+◌, ◌<◌, ◌^◌, ◌∷◌, [], List, ℕ, length, option_to_list, IfOk};
+ghost use Rattle.hg_wire.specs.Streams.{Takes, readings_in};
+
+use crate::line::{LineFault, event_line_in_front, read_line};
+use crate::splitter::Splitter;
+use hg_model::event::Event;
+use std::alloc::{AllocError, Global};
+use std::marker::Model;
+
+/// A line that is neither empty nor a comment, and what it says.
+#[derive(Clone, Copy, Debug, PartialEq, Eq, Drop)]
+pub struct Reading {
+    /// The line's number in its stream, from 1 on.
+    pub line: u64,
+    pub event: Result<Event, LineFault>,
+}
+
+/// What was taken of a piece.
+#[derive(Clone, Copy, Debug, PartialEq, Eq, Drop)]
+pub enum Taken {
+    /// A line was read, and `used` bytes of the piece were taken.
+    Line { reading: Reading, used: usize },
+    /// All of the piece was taken, and no line in it was left to read.
+    More,
+}
+
+/// Reads the events of a stream of trace text, however it is cut into pieces (this project's profile).
+/// Once it is made, a reader takes no memory.
+#[derive(Drop)]
+pub struct EventReader {
+    splitter: Splitter,
+}
+
+impl Model for EventReader {
+    ghost use Rattle.hg_wire.specs.Streams.{Pending};
+
+    ghost Value = { Pending };
+
+    ghost view = { λ r. r.splitter.pending };
+}
+
+impl EventReader {
+    ghost use Rattle.hg_wire.specs.Streams.{at_start, readings_from, Takes};
+
+    /// A reader at the start of a stream.
+    pub fn new(alloc: Global) -> Result<Self, AllocError>
+        ensures { IfOk result (λ reader. reader ≡ at_start) }
+    {
+        Ok(EventReader {
+            splitter: Splitter::new(alloc)?,
+        })
+    }
+
+    /// Takes the next piece of the stream, up to and with the first line in it that is neither empty nor a comment.
+    /// The rest of the piece is taken by further calls. Lines are counted, so that their number is to stay below 2^64.
+    #[inline(always)]
+    pub fn take(&mut self, piece: &[u8]) -> Taken
+        requires { self.old.lines + length piece.now < 2 ^ 64 }
+        ensures { Takes self.old self.new piece.now result }
+    {
+        if self.splitter.is_between_lines() {
+            if let Some((event, used)) = event_line_in_front(piece) {
+                self.splitter.count_line();
+                let line = self.splitter.lines();
+                let reading = Reading {
+                    line,
+                    event: Ok(event),
+                };
+                return Taken::Line { reading, used };
+            }
+        }
+        take_by_lines(&mut self.splitter, piece)
+    }
+
+    /// What the last line says, which may lack its line feed, where it is neither empty nor a comment.
+    pub fn finish(mut self) -> Option<Reading>
+        requires { self.lines + 1 < 2 ^ 64 }
+        ensures { readings_from self [] ≡ option_to_list result }
+    {
+        if self.splitter.finish() {
+            reading_of_last(&self.splitter)
+        } else {
+            None
+        }
+    }
+}
+
+/// What the last line that has ended says, where it is neither empty nor a comment.
+fn reading_of_last(splitter: &Splitter) -> Option<Reading>
+    ensures { option_to_list result ≡ readings_in ((splitter.now.pending.lines, splitter.now.last) ∷ []) }
+{
+    let line = splitter.lines();
+    match splitter.last() {
+        [] | [b'#', ..] => None,
+        bytes => Some(Reading {
+            line,
+            event: read_line(bytes),
+        }),
+    }
+}
+
+/// The same as `EventReader::take`, line by line.
+#[inline(never)]
+fn take_by_lines(splitter: &mut Splitter, piece: &[u8]) -> Taken
+    requires { splitter.old.pending.lines + length piece.now < 2 ^ 64 }
+    ensures { Takes splitter.old.pending splitter.new.pending piece.now result }
+{
+    let mut rest = piece;
+    while let Some(used) = splitter.take(rest) {
+        rest = &rest[used..];
+        if let Some(reading) = reading_of_last(splitter) {
+            let used = piece.len() - rest.len();
+            return Taken::Line { reading, used };
+        }
+    }
+    Taken::More
+}

@@ -1,0 +1,130 @@
+//! The lines of a stream that comes in pieces.
+
+ghost use Rattle.std.specs.Prelude.{◌≡◌, ◌+◌, ◌<◌, ◌^◌, ◌++◌, ◌∷◌, [], List, ℕ, IfOk, IfSome, IfNone, IsTrue, ◌↔◌, length};
+ghost use Rattle.std.specs.Bool.{OnTrue, OnFalse};
+
+use crate::held::HeldLine;
+use memchr::memchr;
+use std::alloc::{AllocError, Global};
+use std::marker::Model;
+use std::mem;
+
+/// Divides a stream into its lines, however it is cut into pieces (this project's profile).
+/// A line is shown without its line feed and the one carriage return that may stand before it, by at most 257 bytes.
+/// Once it is made, a splitter takes no memory.
+#[derive(Drop)]
+pub struct Splitter {
+    lines: u64,
+    line: HeldLine,
+    last: HeldLine,
+}
+
+impl Model for Splitter {
+    ghost use Rattle.std.specs.Prelude.{take};
+    ghost use Rattle.std.specs.Str.Lines.{strip_carriage_return};
+    ghost use Rattle.hg_wire.specs.Words.{NoByte};
+    ghost use Rattle.hg_wire.specs.Streams.{Splitting};
+
+    ghost Value = { Splitting };
+
+    ghost view = { λ s. record { pending = record { lines = s.lines; begun = s.line }; last = take 257 (strip_carriage_return s.last) } };
+
+    ghost invariant = { λ s. NoByte 10 s.line };
+}
+
+impl Splitter {
+    ghost use Rattle.std.specs.Prelude.{take};
+    ghost use Rattle.std.specs.Str.Lines.{strip_carriage_return};
+    ghost use Rattle.hg_wire.specs.Streams.{at_start, lines_from, EndsLine, EndsNoLine, EndsLastLine};
+
+    /// A splitter at the start of a stream.
+    pub fn new(alloc: Global) -> Result<Self, AllocError>
+        ensures { IfOk result (λ splitter. splitter.pending ≡ at_start) }
+    {
+        Ok(Splitter {
+            lines: 0,
+            line: HeldLine::new(alloc)?,
+            last: HeldLine::new(alloc)?,
+        })
+    }
+
+    /// How many lines have ended.
+    #[inline(always)]
+    pub fn lines(&self) -> u64
+        ensures { result ≡ self.now.pending.lines }
+    {
+        self.lines
+    }
+
+    /// The last line that has ended, as it is shown.
+    pub fn last(&self) -> &[u8]
+        ensures { result.now ≡ self.now.last }
+    {
+        self.last.shown()
+    }
+
+    /// Whether no line has begun that has not ended.
+    #[inline(always)]
+    pub fn is_between_lines(&self) -> bool
+        ensures { IsTrue result ↔ (self.now.pending.begun ≡ []) }
+    {
+        self.line.is_empty()
+    }
+
+    /// Counts a line that was taken from the stream elsewhere, as a whole and between lines.
+    #[inline(always)]
+    pub fn count_line(&mut self)
+        requires { self.old.pending.lines + 1 < 2 ^ 64 }
+        ensures { self.new ≡ record {
+          pending = record { lines = self.old.pending.lines + 1; begun = self.old.pending.begun };
+          last = self.old.last;
+        } }
+    {
+        self.lines += 1;
+    }
+
+    /// Takes the piece up to and with its first line feed, which ends a line, or all of it where it has none.
+    /// The answer says how many bytes were taken where a line has ended.
+    pub fn take(&mut self, piece: &[u8]) -> Option<usize>
+        requires { self.old.pending.lines + length piece.now < 2 ^ 64 }
+        ensures line { IfSome result (EndsLine self.old self.new piece.now) }
+        ensures none { IfNone result (EndsNoLine self.old self.new piece.now) }
+    {
+        match memchr(b'\n', piece) {
+            None => {
+                self.line.push(piece);
+                None
+            }
+            Some(end) => {
+                self.line.push(&piece[..end]);
+                self.end_line();
+                Some(end + 1)
+            }
+        }
+    }
+
+    /// Ends the line that lacks its line feed, and answers whether there was one: at the end of a stream.
+    pub fn finish(&mut self) -> bool
+        requires { self.old.pending.lines + 1 < 2 ^ 64 }
+        ensures line { OnTrue result (EndsLastLine self.old self.new) }
+        ensures none { OnFalse result ((self.new ≡ self.old) × (lines_from self.old.pending [] ≡ [])) }
+    {
+        if self.line.is_empty() {
+            return false;
+        }
+        self.end_line();
+        true
+    }
+
+    fn end_line(&mut self)
+        requires { self.old.pending.lines + 1 < 2 ^ 64 }
+        ensures { self.new ≡ record {
+          pending = record { lines = self.old.pending.lines + 1; begun = [] };
+          last = take 257 (strip_carriage_return self.old.pending.begun);
+        } }
+    {
+        mem::swap(&mut self.line, &mut self.last);
+        self.line.clear();
+        self.count_line();
+    }
+}
