@@ -90,6 +90,7 @@ impl<W: Words> Detector<W> {
         ensures content { AtPresent W.is_faithful self.old → OnOk result (content W.cell_of self.new ≡ after (content W.cell_of self.old) named.now) }
         ensures unchanged { AtPresent W.is_faithful self.old → OnErr result (content W.cell_of self.new ≡ content W.cell_of self.old) }
         ensures sets { AtPresent W.is_faithful self.old → AsksBy self.old.sets (sets_asked (content W.cell_of self.old) named.now.event) result self.new.sets }
+        ensures few { length self.old.kept ≤ 65536 }
         ensures cause { IfErr result (λ r. (r ≡ Refusal.FullSets) ⊎ ((r ≡ Refusal.OutOfMemory) ⊎ W.may_refuse r)) }
         ensures lawful { AtPresent W.may_bring self.new }
         ensures faithful { AtPresent W.is_faithful self.old → AtPresent W.is_faithful self.new }
@@ -107,6 +108,7 @@ impl<W: Words> Detector<W> {
             → rules.IsAccepted (named.now ∷ past) × (content W.cell_of self.new ≡ summary (named.now ∷ past)) }
         ensures sets { AtPresent W.is_faithful self.old → rules.verdict (rules.standing_of (content W.cell_of self.old)) named.now ≡ Verdict.Accept
             → AsksBy self.old.sets (sets_asked (content W.cell_of self.old) named.now.event) (done result) self.new.sets }
+        ensures few { result ≡ Ok Answer.Accepted → length self.old.kept ≤ 65536 }
         ensures lawful { AtPresent W.may_bring self.new }
         ensures faithful { AtPresent W.is_faithful self.old → AtPresent W.is_faithful self.new }
     {
@@ -126,7 +128,8 @@ impl<W> Detector<W> {
 
     /// How many reports are kept: at most 65,536.
     pub fn kept(&self) -> usize
-        ensures { result ≡ length self.now.kept }
+        ensures count { result ≡ length self.now.kept }
+        ensures few { length self.now.kept ≤ 65536 }
     {
         self.engine.kept.len()
     }
