@@ -1,2 +1,4 @@
-mod Steps
 mod Pieces
+mod Printed
+mod Steps
+mod Underway

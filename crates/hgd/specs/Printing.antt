@@ -1,12 +1,11 @@
 -- What a run prints.
-use Rattle.std.specs.Prelude.{ℕ, ◌+◌, List, [], ◌∷◌, ◌++◌, length, map, codes}
-use Rattle.std.specs.List.{flat_map, enumerate_from, join_with_byte}
-use Rattle.std.specs.Fmt.{decimal}
+use Rattle.std.specs.Prelude.{◌≡◌, ℕ, ◌+◌, Bool, true, false, Option, List, [], ◌∷◌, ◌++◌, length}
+use Rattle.std.specs.Io.KnownBytes.{Appends}
 use Rattle.hg_model.specs.declared.report.Report.{Report}
 use Rattle.hg_model.specs.declared.segment.Segment.{Segment}
 use Rattle.hg_model.specs.Codes.{code_of}
 use Rattle.hg_model.specs.Contents.{Content}
-use Rattle.hg_wire.specs.Reports.{report_line, end_line}
+use Rattle.hg_wire.specs.Reports.{bad_line, end_line, fault_line, refused_line, report_line, segment_line}
 use Rattle.hgd.specs.declared.checker.Ending.{Ending}
 use Rattle.hgd.specs.declared.checker.Ending.TheVariants.{Ended, Refused, Bad}
 
@@ -18,13 +17,6 @@ line_text line = line ++ 10 ∷ []
 abbrev pub reports_text : ℕ → List Report → List ℕ
 reports_text k [] = []
 reports_text k (report ∷ reports) = line_text (report_line k report) ++ reports_text (k + 1) reports
-
--- the line of an event that was refused, and that of one that was not understood
-abbrev pub refused_line : ℕ → ℕ → List ℕ
-refused_line line code = codes "refused line " ++ decimal line ++ codes " code " ++ decimal code
-
-abbrev pub bad_line : ℕ → List ℕ
-bad_line line = codes "bad line " ++ decimal line
 
 -- the last line of `check`
 abbrev pub last_line : Content → Ending → List ℕ
@@ -41,15 +33,7 @@ abbrev pub status_of : Ending → ℕ
 status_of Ended = 0
 status_of _ = 2
 
--- numbers with a comma between each two, or a hyphen for none
-abbrev pub numbers_text : List ℕ → List ℕ
-numbers_text [] = codes "-"
-numbers_text (n ∷ numbers) = join_with_byte 44 (map decimal (n ∷ numbers))
-
--- the line of a segment
-abbrev pub segment_line : ℕ → Segment → List ℕ
-segment_line number segment = codes "segment " ++ decimal number ++ codes " thread " ++ decimal segment.thread ++ codes " after " ++ numbers_text segment.before
-
+-- the lines of segments, the first of which is number k
 abbrev pub segments_text : ℕ → List Segment → List ℕ
 segments_text k [] = []
 segments_text k (segment ∷ segments) = line_text (segment_line k segment) ++ segments_text (k + 1) segments
@@ -66,4 +50,19 @@ graph_text c end = segments_text 0 c.segments ++ stop_text end
 
 -- the line of a fault
 abbrev pub fault_text : ℕ → List ℕ
-fault_text code = line_text (codes "fault " ++ decimal code)
+fault_text code = line_text (fault_line code)
+
+-- The goal is what is to be printed in all since the output was as it was at first: some of it was written, some is held, and the rest is to come.
+pub record IsDue (first now : Option (List ℕ)) (held rest goal : List ℕ) : Type 0 where
+  pub written : List ℕ
+  pub appended : Appends first now written
+  pub whole : written ++ (held ++ rest) ≡ goal
+
+-- What comes next is held, and then less is to come.
+abbrev pub HoldsNext : List ℕ → List ℕ → List ℕ → List ℕ → Type 0
+HoldsNext old new more less = (first now : Option (List ℕ)) (rest goal : List ℕ) → IsDue first now old (more ++ rest) goal → IsDue first now new (less ++ rest) goal
+
+-- what a run prints while it reads: its reports, or nothing
+abbrev pub live_text : Bool → Content → List ℕ
+live_text true c = reports_text 1 c.reports
+live_text false c = []

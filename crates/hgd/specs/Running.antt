@@ -1,5 +1,5 @@
 -- How far checking has come.
-use Rattle.std.specs.Prelude.{◌≡◌, ◌⊎◌, ℕ, ◌+◌, ◌≤◌, List, ◌++◌, length, cond, Option, Some, Result, Ok, Err}
+use Rattle.std.specs.Prelude.{◌≡◌, ◌⊎◌, ℕ, ◌+◌, ◌≤◌, List, ◌++◌, length, cond, Option, Some, None, Result, Ok, Err, ⊤}
 use Rattle.hg_model.specs.declared.event.Event.{Event}
 use Rattle.hg_model.specs.declared.verdict.Refusal.{Refusal}
 use Rattle.hg_model.specs.declared.verdict.Refusal.TheVariants as refusal
@@ -13,7 +13,7 @@ use Rattle.hg_detect.specs.Making.{AsksBy, sets_asked}
 use Rattle.hgd.specs.declared.checker.Ending.{Ending}
 use Rattle.hgd.specs.declared.checker.Ending.TheVariants.{Refused}
 use Rattle.hg_wire.specs.Streams.{Pending, readings_from}
-use Rattle.hgd.specs.Checking.{LeadsTo, next_named}
+use Rattle.hgd.specs.Checking.{ChecksTo, LeadsTo, next_named}
 use Rattle.hg_model.specs.declared.report.Report.{Report}
 use Rattle.hg_model.specs.Contents.{Content}
 use Rattle.hg_detect.specs.declared.detector.Detector.{Detector}
@@ -58,4 +58,28 @@ pub record Reaches (old : Pending) (before : Detector PagedWords) (piece : List 
 -- Whatever follows the piece, it ends with this content and in this way.
 pub record EndsIn (old : Pending) (before : Detector PagedWords) (piece : List ℕ) (now : Detector PagedWords) (end : Ending) : Type 0 where
   pub leads : (more : List ℕ) → LeadsTo (readings_from old (piece ++ more)) before.sets (content_of before) (content_of now) end
+  pub reports : ReportsGrow (content_of before) (content_of now)
+
+-- Whatever the known rest of an input leads to from here, all of the input leads to.
+abbrev pub LeadsFrom : Option (List ℕ) → Option (List ℕ) → Pending → Detector PagedWords → Type 0
+LeadsFrom None rest p d = ⊤
+LeadsFrom (Some all) None p d = ⊥
+LeadsFrom (Some all) (Some rest) p d = (last : Content) (end : Ending) → LeadsTo (readings_from p rest) d.sets (content_of d) last end → ChecksTo all last end
+
+-- all of an input, where it is known, leads to this content and ends in this way
+abbrev pub Leads : Option (List ℕ) → Content → Ending → Type 0
+Leads None c end = ⊤
+Leads (Some all) c end = ChecksTo all c end
+
+-- A read of at most so many bytes brought a run from here to there.
+pub record Advances (known left : Option (List ℕ)) (old : Pending) (before : Detector PagedWords) (new : Pending) (now : Detector PagedWords) (room : ℕ) : Type 0 where
+  pub leads : (all : Option (List ℕ)) → LeadsFrom all known old before → LeadsFrom all left new now
+  pub lines : new.lines ≤ old.lines + room
+  pub events : (content_of now).last 0 ≤ (content_of before).last 0 + room
+  pub reports : ReportsGrow (content_of before) (content_of now)
+  pub whole : IsWhole now
+
+-- A read came upon the line that ends the run.
+pub record Stopped (known : Option (List ℕ)) (old : Pending) (before now : Detector PagedWords) (end : Ending) : Type 0 where
+  pub leads : (all : Option (List ℕ)) → LeadsFrom all known old before → Leads all (content_of now) end
   pub reports : ReportsGrow (content_of before) (content_of now)

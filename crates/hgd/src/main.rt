@@ -2,6 +2,9 @@
 #![tactic(auto)]
 
 pub mod checker;
+pub mod printing;
+pub mod run;
+pub mod streams;
 
 use std::io;
 
