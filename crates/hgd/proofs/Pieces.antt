@@ -20,11 +20,12 @@ reports_grow_on a b c first second =
 
 pub reaches_first : (old : Pending) (d : Detector PagedWords) (piece : List ℕ) → IsWhole d → Reaches old d piece old d piece
 reaches_first old d piece whole = record {
-    leads = λ more last end h. h;
-    lines = omega arith;
-    events = omega arith;
-    reports = reports_stay (content_of d);
-    whole = whole }
+  leads = λ more last end h. h;
+  lines = omega arith;
+  events = omega arith;
+  reports = reports_stay (content_of d);
+  whole = whole;
+}
 
 -- What applying the event of a reading gave, where it was accepted.
 pub record WentOn (before now : Detector PagedWords) (reading : Reading) : Type 0 where
@@ -36,25 +37,28 @@ pub record WentOn (before now : Detector PagedWords) (reading : Reading) : Type 
 pub reaches_on : (old mid new : Pending) (d e f : Detector PagedWords) (piece rest : List ℕ) (reading : Reading) (used : ℕ)
     → Reaches old d piece mid e rest → GivesReading mid new rest reading used → WentOn e f reading → Reaches old d piece new f (drop used rest)
 reaches_on old mid new d e f piece rest reading used so_far gives on = record {
-    leads = λ more last end h. so_far.leads more last end
-        (subst (λ xs. LeadsTo xs e.sets (content_of e) last end) (sym (gives.readings more)) (on.leads (readings_from new (drop used rest ++ more)) last end h));
-    lines = omega (arith, so_far.lines, gives.counted, gives.within, length-drop used rest);
-    events = omega (arith, so_far.events, on.events, gives.some, gives.within, length-drop used rest);
-    reports = reports_grow_on (content_of d) (content_of e) (content_of f) so_far.reports on.reports;
-    whole = on.whole }
+  leads = λ more last end h. so_far.leads more last end
+      (subst (λ xs. LeadsTo xs e.sets (content_of e) last end) (sym (gives.readings more)) (on.leads (readings_from new (drop used rest ++ more)) last end h));
+  lines = omega (arith, so_far.lines, gives.counted, gives.within, length-drop used rest);
+  events = omega (arith, so_far.events, on.events, gives.some, gives.within, length-drop used rest);
+  reports = reports_grow_on (content_of d) (content_of e) (content_of f) so_far.reports on.reports;
+  whole = on.whole;
+}
 
 pub reaches_end : (old mid new : Pending) (d e : Detector PagedWords) (piece rest : List ℕ) → Reaches old d piece mid e rest → GivesNoReading mid new rest → Reaches old d piece new e []
 reaches_end old mid new d e piece rest so_far gives = record {
-    leads = λ more last end h. so_far.leads more last end (subst (λ xs. LeadsTo xs e.sets (content_of e) last end) (sym (gives.readings more)) h);
-    lines = omega (arith, so_far.lines, gives.counted);
-    events = omega (arith, so_far.events);
-    reports = so_far.reports;
-    whole = so_far.whole }
+  leads = λ more last end h. so_far.leads more last end (subst (λ xs. LeadsTo xs e.sets (content_of e) last end) (sym (gives.readings more)) h);
+  lines = omega (arith, so_far.lines, gives.counted);
+  events = omega (arith, so_far.events);
+  reports = so_far.reports;
+  whole = so_far.whole;
+}
 
 pub ends_in : (old mid new : Pending) (d e f : Detector PagedWords) (piece rest : List ℕ) (reading : Reading) (used : ℕ) (end : Ending)
     → Reaches old d piece mid e rest → GivesReading mid new rest reading used
     → ((later : List Reading) → LeadsTo (reading ∷ later) e.sets (content_of e) (content_of f) end) → ReportsGrow (content_of e) (content_of f) → EndsIn old d piece f end
 ends_in old mid new d e f piece rest reading used end so_far gives ends reports = record {
-    leads = λ more. so_far.leads more (content_of f) end
-        (subst (λ xs. LeadsTo xs e.sets (content_of e) (content_of f) end) (sym (gives.readings more)) (ends (readings_from new (drop used rest ++ more))));
-    reports = reports_grow_on (content_of d) (content_of e) (content_of f) so_far.reports reports }
+  leads = λ more. so_far.leads more (content_of f) end
+      (subst (λ xs. LeadsTo xs e.sets (content_of e) (content_of f) end) (sym (gives.readings more)) (ends (readings_from new (drop used rest ++ more))));
+  reports = reports_grow_on (content_of d) (content_of e) (content_of f) so_far.reports reports;
+}

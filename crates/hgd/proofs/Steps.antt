@@ -98,10 +98,11 @@ pub reports_grow : (old new : Detector PagedWords) (e : Event) (a : Answer) → 
 reports_grow old new e a w =
     let accepts = was_accepted old new e a w in
     let few = w.few (ap (λ (x : Answer). Ok x) accepts.1) in
-    let more = new_reports (content_of old) e in
-    (take (65536 - length (content_of old).reports) more,
-     ap (λ (c : Content). c.reports) (content_after old new e a w)
-     ∙ take_more_than 65536 (content_of old).reports more (omega (arith, few, length-map old.kept (report_of old.sets.sets))))
+    let more = new_reports (content_of old) e in (
+      take (65536 - length (content_of old).reports) more,
+      ap (λ (c : Content). c.reports) (content_after old new e a w)
+          ∙ take_more_than 65536 (content_of old).reports more (omega (arith, few, length-map old.kept (report_of old.sets.sets))),
+    )
 
 -- the count of accepted events grows by one at most
 pub counted : (old new : Detector PagedWords) (e : Event) (r : Result Answer Refusal) → WasOffered old new e r → (content_of new).last 0 ≤ (content_of old).last 0 + 1
@@ -125,7 +126,7 @@ leads_to_end old new e line r later given end w stops given_end =
     ⊎_elim
     (λ memory. absurd (never (sym memory.1 ∙ given_end)))
     (λ other. subst (λ x. Answered (verdict (standing_of (content_of old)) (next_named (content_of old) e)) old.sets (content_of old) e line later (content_of new) x) (ended_is (sym other.1 ∙ given_end))
-        (leads_to_refusal old new e line r later w other.0))
+    (leads_to_refusal old new e line r later w other.0))
     stops
   where
     never : ◌≡◌ {A = Result (Option Ending) Refusal} (Err refusal.OutOfMemory) (Ok (Some end)) → ⊥

@@ -12,8 +12,8 @@ use Rattle.hg_wire.specs.Reports.{report_line}
 use Rattle.hg_wire.specs.Streams.{Pending, at_start, readings, readings_from}
 use Rattle.hgd.specs.declared.checker.Ending.{Ending}
 use Rattle.hgd.specs.Checking.{LeadsTo, first_table}
-use Rattle.hgd.specs.Printing.{IsDue, line_text, live_text, reports_text}
-use Rattle.hgd.specs.Running.{Advances, IsWhole, Leads, LeadsFrom, ReportsGrow, content_of}
+use Rattle.hgd.specs.Printing.{IsDue, Leads, line_text, live_text, reports_text}
+use Rattle.hgd.specs.Running.{Advances, IsWhole, LeadsFrom, ReportsGrow, content_of}
 use Rattle.hgd.proofs.Printed.{due_more}
 
 reports_text_on : (k : ℕ) (xs ys : List Report) → reports_text k (xs ++ ys) ≡ reports_text k xs ++ reports_text (k + length xs) ys
@@ -68,13 +68,14 @@ leads_at_first (Some all) p d start empty sets = λ last end h.
 pub underway_first : (known first : Option (List ℕ)) (held : List ℕ) (live : Bool) (p : Pending) (d : Detector PagedWords) (size : ℕ)
     → IsWhole d → content_of d ≡ empty_content → d.sets ≡ first_table → p ≡ at_start → size ≡ 65536 → IsUnderway known known first first held held live p d 0 0 size
 underway_first known first held live p d size whole empty sets start full = record {
-    leads = leads_at_first known p d start empty sets;
-    lines = omega (arith, ap (λ (q : Pending). q.lines) start);
-    events = omega (arith, ap (λ (c : Content). c.last 0) empty);
-    whole = whole;
-    due = λ begun h. subst (λ t. IsDue begun first held [] t) (nothing_live live ∙ ap (λ c. live_text live c) (sym empty)) h;
-    count = sym (ap (λ (c : Content). length c.reports) empty);
-    full = full }
+  leads = leads_at_first known p d start empty sets;
+  lines = omega (arith, ap (λ (q : Pending). q.lines) start);
+  events = omega (arith, ap (λ (c : Content). c.last 0) empty);
+  whole = whole;
+  due = λ begun h. subst (λ t. IsDue begun first held [] t) (nothing_live live ∙ ap (λ c. live_text live c) (sym empty)) h;
+  count = sym (ap (λ (c : Content). length c.reports) empty);
+  full = full;
+}
 
 pub underway_on : (known left later first now new : Option (List ℕ)) (before held kept : List ℕ) (live : Bool) (p q : Pending) (d e : Detector PagedWords) (printed count reads size resized : ℕ)
     → IsUnderway known left first now before held live p d printed reads size → Advances left later p d q e size → resized ≡ size
@@ -82,13 +83,14 @@ pub underway_on : (known left later first now new : Option (List ℕ)) (before h
     → count ≡ length (content_of e).reports
     → IsUnderway known later first new before kept live q e count (reads + 1) resized
 underway_on known left later first now new before held kept live p q d e printed count reads size resized u a same print counted = record {
-    leads = a.leads known u.leads;
-    lines = omega (arith, u.lines, a.lines, u.full);
-    events = omega (arith, u.events, a.events, u.full);
-    whole = a.whole;
-    due = λ start h. print start (content_of d) u.count a.reports (u.due start h);
-    count = counted;
-    full = same ∙ u.full }
+  leads = a.leads known u.leads;
+  lines = omega (arith, u.lines, a.lines, u.full);
+  events = omega (arith, u.events, a.events, u.full);
+  whole = a.whole;
+  due = λ start h. print start (content_of d) u.count a.reports (u.due start h);
+  count = counted;
+  full = same ∙ u.full;
+}
 
 -- at the end of the input, its last line ends the run
 pub leads_at_end : (known left : Option (List ℕ)) (p : Pending) (d : Detector PagedWords) (c : Content) (end : Ending)

@@ -1,5 +1,5 @@
 -- What a run prints.
-use Rattle.std.specs.Prelude.{◌≡◌, ℕ, ◌+◌, Bool, true, false, Option, List, [], ◌∷◌, ◌++◌, length}
+use Rattle.std.specs.Prelude.{◌≡◌, ℕ, ◌+◌, Bool, true, false, Option, Some, None, ⊤, List, [], ◌∷◌, ◌++◌, length}
 use Rattle.std.specs.Io.KnownBytes.{Appends}
 use Rattle.hg_model.specs.declared.report.Report.{Report}
 use Rattle.hg_model.specs.declared.segment.Segment.{Segment}
@@ -8,6 +8,12 @@ use Rattle.hg_model.specs.Contents.{Content}
 use Rattle.hg_wire.specs.Reports.{bad_line, end_line, fault_line, refused_line, report_line, segment_line}
 use Rattle.hgd.specs.declared.checker.Ending.{Ending}
 use Rattle.hgd.specs.declared.checker.Ending.TheVariants.{Ended, Refused, Bad}
+use Rattle.hgd.specs.Checking.{ChecksTo}
+
+-- all of an input, where it is known, leads to this content and ends in this way
+abbrev pub Leads : Option (List ℕ) → Content → Ending → Type 0
+Leads None c end = ⊤
+Leads (Some all) c end = ChecksTo all c end
 
 -- a line and its line feed
 abbrev pub line_text : List ℕ → List ℕ
@@ -66,3 +72,9 @@ HoldsNext old new more less = (first now : Option (List ℕ)) (rest goal : List 
 abbrev pub live_text : Bool → Content → List ℕ
 live_text true c = reports_text 1 c.reports
 live_text false c = []
+
+-- A run printed what the definitions give for the input, where that is known, and nothing else.
+pub record Prints (text : Content → Ending → List ℕ) (known old new : Option (List ℕ)) (end : Ending) : Type 0 where
+  pub last : Content
+  pub leads : Leads known last end
+  pub printed : Appends old new (text last end)

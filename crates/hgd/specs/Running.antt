@@ -13,6 +13,7 @@ use Rattle.hg_detect.specs.Making.{AsksBy, sets_asked}
 use Rattle.hgd.specs.declared.checker.Ending.{Ending}
 use Rattle.hgd.specs.declared.checker.Ending.TheVariants.{Refused}
 use Rattle.hg_wire.specs.Streams.{Pending, readings_from}
+use Rattle.hgd.specs.Printing.{Leads}
 use Rattle.hgd.specs.Checking.{ChecksTo, LeadsTo, next_named}
 use Rattle.hg_model.specs.declared.report.Report.{Report}
 use Rattle.hg_model.specs.Contents.{Content}
@@ -49,7 +50,7 @@ Stops line r given = ((r ≡ refusal.OutOfMemory) × (given ≡ Err refusal.OutO
 -- From how far a text and its detector had come with a piece before them, they have come this far with the rest of it before them: whatever follows, what that leads to from here is what it led to from there.
 pub record Reaches (old : Pending) (before : Detector PagedWords) (piece : List ℕ) (new : Pending) (now : Detector PagedWords) (rest : List ℕ) : Type 0 where
   pub leads : (more : List ℕ) (last : Content) (end : Ending) → LeadsTo (readings_from new (rest ++ more)) now.sets (content_of now) last end
-    → LeadsTo (readings_from old (piece ++ more)) before.sets (content_of before) last end
+      → LeadsTo (readings_from old (piece ++ more)) before.sets (content_of before) last end
   pub lines : new.lines + length rest ≤ old.lines + length piece
   pub events : (content_of now).last 0 + length rest ≤ (content_of before).last 0 + length piece
   pub reports : ReportsGrow (content_of before) (content_of now)
@@ -65,11 +66,6 @@ abbrev pub LeadsFrom : Option (List ℕ) → Option (List ℕ) → Pending → D
 LeadsFrom None rest p d = ⊤
 LeadsFrom (Some all) None p d = ⊥
 LeadsFrom (Some all) (Some rest) p d = (last : Content) (end : Ending) → LeadsTo (readings_from p rest) d.sets (content_of d) last end → ChecksTo all last end
-
--- all of an input, where it is known, leads to this content and ends in this way
-abbrev pub Leads : Option (List ℕ) → Content → Ending → Type 0
-Leads None c end = ⊤
-Leads (Some all) c end = ChecksTo all c end
 
 -- A read of at most so many bytes brought a run from here to there.
 pub record Advances (known left : Option (List ℕ)) (old : Pending) (before : Detector PagedWords) (new : Pending) (now : Detector PagedWords) (room : ℕ) : Type 0 where

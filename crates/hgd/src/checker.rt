@@ -16,7 +16,7 @@ use hg_wire::reader::{EventReader, Reading, Taken};
 use std::alloc::{AllocError, Global};
 
 /// How many sets of threads and of locks there may be.
-const MOST_SETS: u32 = 262_144;
+pub const MOST_SETS: u32 = 262_144;
 
 /// How checking a trace text ended.
 #[derive(Clone, Copy, Debug, PartialEq, Eq)]

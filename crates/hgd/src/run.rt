@@ -7,8 +7,8 @@ ghost use Rattle.hg_model.specs.Contents.{Content};
 ghost use Rattle.hg_wire.specs.Streams.{at_start, readings_from};
 ghost use Rattle.hgd.specs.declared.checker.Ending.{Ending as EndingOf};
 ghost use Rattle.hgd.specs.Checking.{LeadsTo, first_table};
-ghost use Rattle.hgd.specs.Printing.{IsDue, live_text};
-ghost use Rattle.hgd.specs.Running.{Advances, IsWhole, Leads, LeadsFrom, ReportsGrow, Stopped as StoppedAt, content_of};
+ghost use Rattle.hgd.specs.Printing.{IsDue, Leads, live_text};
+ghost use Rattle.hgd.specs.Running.{Advances, IsWhole, LeadsFrom, ReportsGrow, Stopped as StoppedAt, content_of};
 ghost use Rattle.hgd.specs.Streaming.{HasCause};
 
 use crate::checker::{Ending, MemoryDetector, apply, push};

@@ -23,7 +23,6 @@ returns-in-Ok-offer-clause-counted c = counted c.args.detector.now c.offer.new.d
 pub returns-in-Ok-offer-clause-reports : goal.returns-in-Ok-offer-clause-reports
 returns-in-Ok-offer-clause-reports c = reports_grow c.args.detector.now c.offer.new.detector c.in-Ok.event c.in-Ok-offer.field-0 (taken c)
 
-
 pub returns-in-Err-clause-ended : goal.returns-in-Err-clause-ended
 returns-in-Err-clause-ended c later end h =
     subst (λ x. IsRead x c.args.detector.now.sets (content_of c.args.detector.now) c.args.reading.now.line (λ t d. LeadsTo later t d (content_of c.offer.new.detector) end) (content_of c.offer.new.detector) end) (sym c.in-Ok.is)

@@ -18,7 +18,7 @@ pub returns-in-Ok-clause-ok : goal.returns-in-Ok-clause-ok
 returns-in-Ok-clause-ok c =
     on_ok_weaker c.hold_report.result
     (λ h. holds_next c.args.held.now.items c.hold_report.new.held.items (reports_text (c.args.index + 1) (drop c.args.index (content_of c.args.detector.now).reports))
-        (line_text (report_line (c.args.index + 1) c.in-Ok.report)) (reports_text (c.args.index + 1 + 1) (drop (c.args.index + 1) (content_of c.args.detector.now).reports)) h
-        (next_report (content_of c.args.detector.now).reports c.args.index (c.args.index + 1) c.in-Ok.report
-            (subst (λ n. c.args.index < n) (sym (length-map c.args.detector.now.kept (report_of c.args.detector.now.sets.sets))) c.requires.within) (c.in-Ok.ensures c.in-Ok.report)))
+    (line_text (report_line (c.args.index + 1) c.in-Ok.report)) (reports_text (c.args.index + 1 + 1) (drop (c.args.index + 1) (content_of c.args.detector.now).reports)) h
+    (next_report (content_of c.args.detector.now).reports c.args.index (c.args.index + 1) c.in-Ok.report
+    (subst (λ n. c.args.index < n) (sym (length-map c.args.detector.now.kept (report_of c.args.detector.now.sets.sets))) c.requires.within) (c.in-Ok.ensures c.in-Ok.report)))
     c.hold_report.ensures.ok

@@ -22,7 +22,7 @@ loop-reads-preserved g c =
     c.loop-reads.printed c.print_new.new.printed c.loop-reads.reads (length c.loop-reads.buffer.items) _
     c.loop-reads.invariant
     (subst (λ (n : ℕ). Advances (g.R.Read.remaining c.loop-reads.input.stream) (g.R.Read.remaining c.advance-progress.new.input.stream) c.loop-reads.reader c.loop-reads.detector c.advance-progress.new.reader c.advance-progress.new.detector n)
-        (ap length c.as_mut_slice.ensures.value) (c.in_ok-progress.ensures.underway (ap Ok c.in-Underway.is)))
+    (ap length c.as_mut_slice.ensures.value) (c.in_ok-progress.ensures.underway (ap Ok c.in-Underway.is)))
     (resized c.loop-reads.buffer.len c.advance-progress.new.buffer c.loop-reads.buffer.items (c.advance-progress.ensures.size ∙ ap length c.as_mut_slice.ensures.value) (sym c.as_mut_slice.ensures.len ∙ ap length c.as_mut_slice.ensures.value))
     c.in_ok-print_new.ensures.printed c.in_ok-print_new.ensures.count
 
@@ -30,7 +30,6 @@ pub returns-in-AtEnd-clause-printed : goal.returns-in-AtEnd-clause-printed
 returns-in-AtEnd-clause-printed g c first p =
     on_ok_weaker c.finish-end.result
     (λ grow. c.in_ok-print_new-in-AtEnd.ensures.printed first (content_of c.advance-progress.new.detector) c.in_ok-print_new.ensures.count grow
-        (c.in_ok-print_new.ensures.printed first (content_of c.loop-reads.detector) c.loop-reads.invariant.count (c.in_ok-progress.ensures.at_end (ap Ok c.in-AtEnd.is)).0.reports
-            (c.loop-reads.invariant.due first p)))
+    (c.in_ok-print_new.ensures.printed first (content_of c.loop-reads.detector) c.loop-reads.invariant.count (c.in_ok-progress.ensures.at_end (ap Ok c.in-AtEnd.is)).0.reports
+    (c.loop-reads.invariant.due first p)))
     c.finish-end.ensures.reports
-
