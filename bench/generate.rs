@@ -284,6 +284,28 @@ fn thread_sets(trace: &mut Trace, random: &mut Random) -> Step {
     }
 }
 
+/// Thread 1 writes words that thread 0 owned under every set of 18 locks but two, in Gray code: from
+/// some 541,000 events on the table of sets is just full (262,144, with the empty set and one thread set).
+fn full_sets(trace: &mut Trace, random: &mut Random) -> Step {
+    trace.fork(0, 1)?;
+    for step in 1..=262_142_u64 {
+        let word = TABLES + 4 * (step - 1);
+        if step % 16 == 1 {
+            trace.write(0, word, 64)?;
+        }
+        let lock = step.trailing_zeros() as u64;
+        if (step ^ (step >> 1)) >> lock & 1 == 1 {
+            trace.lock(1, 100 + lock)?;
+        } else {
+            trace.unlock(1, 100 + lock)?;
+        }
+        trace.write(1, word, 4)?;
+    }
+    loop {
+        trace.read(0, STACKS + random.below(64) * 4, 4)?;
+    }
+}
+
 /// 8 threads allocate, fill, use and free 100,000 blocks of 16 to 192 bytes, four events a round.
 fn heap(trace: &mut Trace, random: &mut Random) -> Step {
     trace.fork_up_to(8)?;
@@ -404,6 +426,7 @@ fn write_trace(wanted: &Wanted) -> Result<(), String> {
         "readers" => readers(&mut trace, &mut random),
         "locksets" => locksets(&mut trace, &mut random),
         "thread-sets" => thread_sets(&mut trace, &mut random),
+        "full-sets" => full_sets(&mut trace, &mut random),
         "heap" => heap(&mut trace, &mut random),
         "copies" => copies(&mut trace, &mut random),
         "few" => few(&mut trace, &mut random),
