@@ -27,6 +27,17 @@ test:
 bench: build/hgd
 	bench/compare
 
+# The bench's own programs, for the processors that `rt` builds for.
+RUSTC := rustc --edition 2021 -C opt-level=3 -C codegen-units=1 -C panic=abort -C target-cpu=x86-64-v2
+
+build/bench/yardstick: $(wildcard bench/yardstick/*.rs)
+	mkdir -p build/bench
+	$(RUSTC) bench/yardstick/main.rs -o $@
+
+build/bench/%: bench/%.rs
+	mkdir -p build/bench
+	$(RUSTC) $< -o $@
+
 picture: build/hgd
 	build/hgd graph < examples/two-rounds-of-work.trace | tools/graph-to-dot | dot -Tsvg > docs/graph-example.svg
 

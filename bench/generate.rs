@@ -5,7 +5,7 @@
 //! The trace has exactly N events, each of which the trace rules accept. `README.md` says what each
 //! shape is for. C, 1 to 1023, is the number of threads that the shape `waves` forks.
 //!
-//! Build: rustc -O generate.rs -o generate
+//! Built by `make build/bench/generate`.
 
 use std::io::{self, BufWriter, StdoutLock, Write};
 use std::process::ExitCode;

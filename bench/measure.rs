@@ -7,7 +7,7 @@
 //! plus the signal, where one ended it). A program of its own, and a small one, since the peak that Linux
 //! gives of a child is at least that of the process that started it.
 //!
-//! Build: rustc -O measure.rs -o measure   (Linux on 64 bits)
+//! Built by `make build/bench/measure`, for Linux on 64 bits.
 
 use std::fs::File;
 use std::process::{exit, Command};

@@ -7,9 +7,7 @@
 //!     yardstick parse < trace    reads the events and adds up their numbers
 //!     yardstick lines < trace    counts line feeds: what reading the input alone costs
 //!
-//! Built by `bench/compare`, or by hand:
-//!
-//!     rustc --edition 2021 -C opt-level=3 -C codegen-units=1 -C panic=abort main.rs -o yardstick
+//! Built by `make build/bench/yardstick`.
 //!
 //! Statuses are those of `hgd`: 0 done, 2 a refused or bad line, 3 a failed stream, 4 a bad command
 //! line. Want of memory ends it by a signal.
