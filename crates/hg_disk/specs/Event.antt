@@ -1,5 +1,5 @@
 -- The calls of a disk, with their answers and bytes.
-use Rattle.std.specs.Prelude.{◌≡◌, ℕ, List, [], ◌∷◌}
+use Rattle.std.specs.Prelude.{ℕ, List, [], ◌∷◌}
 use Rattle.hg_disk.specs.declared.call.Answered.{Answered}
 
 -- a call with its answer, and the bytes that it was given

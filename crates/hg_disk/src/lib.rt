@@ -2,6 +2,8 @@
 #![tactic(auto)]
 
 mod call;
+mod disk;
 mod record;
 
 pub use call::{Answer, Answered, Call};
+pub use disk::{Disk, DiskFault};
