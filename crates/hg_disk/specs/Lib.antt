@@ -1,2 +1,4 @@
 pub mod Event
+pub mod History
+pub mod Kept
 pub mod State

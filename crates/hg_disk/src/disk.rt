@@ -1,8 +1,11 @@
 //! The trait of a disk.
-ghost use Rattle.std.specs.Prelude.{◌≡◌, ◌+◌, ◌≤◌, ◌^◌, ◌∷◌, Bool, List, ℕ, length, take, drop, IsTrue, OnOk, OnErr};
+ghost use Rattle.std.specs.Prelude.{◌≡◌, ◌+◌, ◌≤◌, ◌^◌, ◌∷◌, ◌↔◌, Bool, List, ℕ, length, take, drop, IsTrue, OnOk, OnErr};
 ghost use Rattle.hg_disk.specs.State.{DiskState, IsImage, SameImages, after_write, after_cut, after_sync, counted};
 
 use thiserror::Error;
+
+/// The greatest length of a disk, in bytes.
+pub const MAX_LEN: u64 = 1 << 62;
 
 /// A call of a disk failed.
 #[derive(Clone, Copy, Debug, PartialEq, Eq, Error)]
@@ -67,4 +70,12 @@ pub trait Disk {
 
     /// What a read gives is one of the images.
     ghost has_its_bytes: { (d : Self) → IsImage (state d) (state d).contents };
+}
+
+// Whether so many bytes at this offset lie within the greatest length.
+pub(crate) fn is_within(at: u64, len: usize) -> bool
+    ensures { IsTrue result ↔ (at + len ≤ 2 ^ 62) }
+{
+    let len = len as u64;
+    len <= MAX_LEN && at <= MAX_LEN - len
 }

@@ -3,7 +3,9 @@
 
 mod call;
 mod disk;
+mod file;
 mod record;
 
 pub use call::{Answer, Answered, Call};
-pub use disk::{Disk, DiskFault};
+pub use disk::{Disk, DiskFault, MAX_LEN};
+pub use file::FileDisk;
