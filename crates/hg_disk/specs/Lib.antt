@@ -1,4 +1,6 @@
 pub mod Event
 pub mod History
 pub mod Kept
+pub mod Room
 pub mod State
+pub mod Tape

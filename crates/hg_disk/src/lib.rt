@@ -5,6 +5,7 @@ mod call;
 mod disk;
 mod file;
 mod record;
+mod tape;
 
 pub use call::{Answer, Answered, Call};
 pub use disk::{Disk, DiskFault, MAX_LEN};
