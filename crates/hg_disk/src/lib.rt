@@ -4,6 +4,7 @@
 mod call;
 mod disk;
 mod file;
+mod overwrite;
 mod record;
 mod tape;
 
