@@ -11,6 +11,6 @@ put_within file at bytes within = same_lists _ _ (grind (arith, places)) (λ k d
 -- in a file that was grown for it
 pub grown_put : (file : List ℕ) (at : ℕ) (bytes : List ℕ) → length file < at + length bytes
     → take at (take (at + length bytes) file ++ replicate (at + length bytes - length file) 0)
-      ++ (bytes ++ drop (at + length bytes) (take (at + length bytes) file ++ replicate (at + length bytes - length file) 0))
+    ++ (bytes ++ drop (at + length bytes) (take (at + length bytes) file ++ replicate (at + length bytes - length file) 0))
     ≡ overwritten file at bytes
 grown_put file at bytes beyond = same_lists _ _ (grind (arith, places)) (λ k d lt. grind (arith, places))

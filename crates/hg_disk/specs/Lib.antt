@@ -1,6 +1,7 @@
 pub mod Event
 pub mod History
 pub mod Kept
+pub mod Memory
 pub mod Room
 pub mod State
 pub mod Tape

@@ -4,6 +4,7 @@
 mod call;
 mod disk;
 mod file;
+mod memory;
 mod overwrite;
 mod record;
 mod tape;
@@ -11,3 +12,4 @@ mod tape;
 pub use call::{Answer, Answered, Call};
 pub use disk::{Disk, DiskFault, MAX_LEN};
 pub use file::FileDisk;
+pub use memory::MemDisk;
