@@ -1,1 +1,2 @@
 pub mod Overwriting
+pub mod Rooming

@@ -1,8 +1,9 @@
 //! A disk in memory.
-ghost use Rattle.std.specs.Prelude.{◌≡◌, ◌+◌, ◌-◌, ◌<◌, ◌≤◌, ◌^◌, ◌∷◌, ℕ, [], true, length, take, drop, IsTrue, IsOk, IfOk, OnOk, OnErr};
-ghost use Rattle.hg_disk.specs.Event.{answer_of};
-ghost use Rattle.hg_disk.specs.State.{settled};
-ghost use Rattle.hg_disk.specs.History.{replay, states_before, failures_in, after_call};
+ghost use Rattle.std.specs.Prelude.{◌≡◌, ◌+◌, ◌-◌, ◌<◌, ◌≤◌, ◌^◌, ◌∷◌, ℕ, [], true, length, take, drop, IsTrue, IsOk, IfOk, OnOk, OnErr, if◌then◌else◌};
+ghost use Rattle.std.specs.Vec.{vec_capacity};
+ghost use Rattle.hg_disk.specs.Room.{TapeHasRoom};
+ghost use Rattle.hg_disk.specs.State.{SameImages, overwritten, after_write, after_cut, after_sync, counted};
+ghost use Rattle.hg_disk.specs.History.{replay, states_before, failures_in};
 ghost use Rattle.hg_disk.specs.Kept.{has_contents};
 
 use crate::call::Call;
@@ -76,6 +77,8 @@ impl MemDisk {
 }
 
 impl Disk for MemDisk {
+    ghost use Rattle.hg_disk.specs.Memory.{state_of, past_of, failures_of, HasRoom, room_taken};
+
     ghost is_honest = { true };
 
     ghost state = { λ m. replay m.start.items m.tape.history.events };
@@ -99,7 +102,15 @@ impl Disk for MemDisk {
         self.tape.keep(Call::Read, &[], true)
     }
 
-    fn write_at(&mut self, at: u64, bytes: &[u8]) -> Result<(), DiskFault> {
+    fn write_at(&mut self, at: u64, bytes: &[u8]) -> Result<(), DiskFault>
+        ensures ok { OnOk result (state_of self.new ≡ after_write at bytes.now (state_of self.old)) }
+        ensures err { OnErr result (SameImages (after_write at bytes.now (state_of self.old)) (state_of self.new)) }
+        ensures fits { OnOk result (at + length bytes.now ≤ 2 ^ 62) }
+        ensures clock { past_of self.new ≡ state_of self.old ∷ past_of self.old }
+        ensures failures { failures_of self.new ≡ counted result (failures_of self.old) }
+        ensures unchanged { OnErr result ((state_of self.new).contents ≡ (state_of self.old).contents) }
+        ensures room { (n b : ℕ) → HasRoom self.old (n + 1) (room_taken (state_of self.old).contents at bytes.now + b) → at + length bytes.now ≤ 2 ^ 62 → IsOk result × HasRoom self.new n b }
+    {
         let call = Call::Write {
             at,
             len: bytes.len(),
@@ -107,9 +118,7 @@ impl Disk for MemDisk {
         if !self.tape.makes_room(call, bytes) {
             return Err(DiskFault);
         }
-        let is_done = is_within(at, bytes.len())
-            && self.tape.makes_room_for_bytes(bytes.len())
-            && overwrite(&mut self.bytes, at as usize, bytes).is_ok();
+        let is_done = writes(&mut self.tape, &mut self.bytes, at, bytes);
         self.tape.keep(call, bytes, is_done)
     }
 
@@ -127,4 +136,24 @@ impl Disk for MemDisk {
         }
         self.tape.keep(Call::Sync, &[], true)
     }
+}
+
+// Writes the bytes, and makes room to keep them. It tells whether it did; if not, the file has its bytes still.
+fn writes(tape: &mut Tape, file: &mut Vec<u8>, at: u64, bytes: &[u8]) -> bool
+    requires { TapeHasRoom tape.old 1 0 }
+    ensures fits { IsTrue result → at + length bytes.now ≤ 2 ^ 62 }
+    ensures record { tape.new.history.events ≡ tape.old.history.events }
+    ensures file { file.new.items ≡ (if result then overwritten file.old.items at bytes.now else file.old.items) }
+    ensures made { TapeHasRoom tape.new 1 (if result then length bytes.now else 0) }
+    ensures room { (n b : ℕ) → TapeHasRoom tape.old (n + 1) (length bytes.now + b) → at + length bytes.now ≤ 2 ^ 62 → at + length bytes.now ≤ vec_capacity file.old → IsTrue result }
+    ensures stays { (n b : ℕ) → TapeHasRoom tape.old (n + 1) (length bytes.now + b) → TapeHasRoom tape.new (n + 1) (length bytes.now + b) }
+    ensures capacity { vec_capacity file.old ≤ vec_capacity file.new }
+{
+    if !is_within(at, bytes.len()) {
+        return false;
+    }
+    if !tape.makes_room_for_bytes(bytes.len()) {
+        return false;
+    }
+    overwrite(file, at as usize, bytes).is_ok()
 }
