@@ -93,7 +93,14 @@ impl Disk for MemDisk {
         self.bytes.len() as u64
     }
 
-    fn read_at(&mut self, at: u64, buf: &mut [u8]) -> Result<(), DiskFault> {
+    fn read_at(&mut self, at: u64, buf: &mut [u8]) -> Result<(), DiskFault>
+        requires { at + length buf.old ≤ length (state_of self.old).contents }
+        ensures bytes { OnOk result (buf.new ≡ take (length buf.old) (drop at (state_of self.old).contents)) }
+        ensures state { state_of self.new ≡ state_of self.old }
+        ensures clock { past_of self.new ≡ state_of self.old ∷ past_of self.old }
+        ensures failures { failures_of self.new ≡ counted result (failures_of self.old) }
+        ensures room { (n b : ℕ) → HasRoom self.old (n + 1) b → IsOk result × HasRoom self.new n b }
+    {
         if !self.tape.makes_room(Call::Read, &[]) {
             return Err(DiskFault);
         }
@@ -122,7 +129,15 @@ impl Disk for MemDisk {
         self.tape.keep(call, bytes, is_done)
     }
 
-    fn cut(&mut self, to: u64) -> Result<(), DiskFault> {
+    fn cut(&mut self, to: u64) -> Result<(), DiskFault>
+        requires { to ≤ length (state_of self.old).contents }
+        ensures ok { OnOk result (state_of self.new ≡ after_cut to (state_of self.old)) }
+        ensures err { OnErr result (SameImages (after_cut to (state_of self.old)) (state_of self.new)) }
+        ensures clock { past_of self.new ≡ state_of self.old ∷ past_of self.old }
+        ensures failures { failures_of self.new ≡ counted result (failures_of self.old) }
+        ensures unchanged { OnErr result ((state_of self.new).contents ≡ (state_of self.old).contents) }
+        ensures room { (n b : ℕ) → HasRoom self.old (n + 1) b → IsOk result × HasRoom self.new n b }
+    {
         if !self.tape.makes_room(Call::Cut { to }, &[]) {
             return Err(DiskFault);
         }
@@ -130,7 +145,13 @@ impl Disk for MemDisk {
         self.tape.keep(Call::Cut { to }, &[], true)
     }
 
-    fn sync(&mut self) -> Result<(), DiskFault> {
+    fn sync(&mut self) -> Result<(), DiskFault>
+        ensures ok { OnOk result (state_of self.new ≡ after_sync (state_of self.old)) }
+        ensures err { OnErr result (state_of self.new ≡ state_of self.old) }
+        ensures clock { past_of self.new ≡ state_of self.old ∷ past_of self.old }
+        ensures failures { failures_of self.new ≡ counted result (failures_of self.old) }
+        ensures room { (n b : ℕ) → HasRoom self.old (n + 1) b → IsOk result × HasRoom self.new n b }
+    {
         if !self.tape.makes_room(Call::Sync, &[]) {
             return Err(DiskFault);
         }
