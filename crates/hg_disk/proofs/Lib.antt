@@ -1,2 +1,3 @@
 pub mod Overwriting
 pub mod Rooming
+pub mod Moments

@@ -1,0 +1,71 @@
+-- What a crash may leave over several calls.
+use Rattle.std.proofs.Common.{◌≡◌, ℕ, List, [], ◌∷◌, ◌++◌, refl, sym, ◌∙◌, ap, subst}
+use Rattle.std.proofs.lemmas.List.{append_assoc}
+use Rattle.hg_disk.specs.State.{DiskState, IsImage, SameImages, after_write, after_cut, after_sync}
+use Rattle.hg_disk.specs.Moments.{Leaves, EachLeaves, history, HasGone, LeavesOnly}
+use Rattle.hg_disk.specs.declared.disk.Disk as disk
+
+each-append : (P : List ℕ → Type 0) (later earlier : List DiskState) → EachLeaves P later → EachLeaves P earlier → EachLeaves P (later ++ earlier)
+each-append P [] earlier new old = old
+each-append P (s ∷ later) earlier new old = (new.0, each-append P later earlier new.1 old)
+
+each_weaker : (P Q : List ℕ → Type 0) (states : List DiskState) → ((image : List ℕ) → P image → Q image) → EachLeaves P states → EachLeaves Q states
+each_weaker P Q [] implies has = tt
+each_weaker P Q (s ∷ earlier) implies has = (λ image is. implies image (has.0 image is), each_weaker P Q earlier implies has.1)
+
+-- the images of a state with the same bytes at the sync and the same changes since
+pub same_images : (s t : DiskState) (image : List ℕ) → SameImages s t → IsImage t image → IsImage s image
+same_images s t image same is = record { clean = moved.clean; long = moved.long; kept = moved.kept }
+  where
+    unread : t ≡ record s { contents = t.contents }
+    unread = λ i. record { contents = t.contents; synced = same.synced i; since = same.since i }
+
+    moved : IsImage (record s { contents = t.contents }) image
+    moved = subst (λ (u : DiskState). IsImage u image) unread is
+
+newest : DiskState → List DiskState → DiskState
+newest s [] = s
+newest s (t ∷ earlier) = t
+
+newest_leaves : (P : List ℕ → Type 0) (old : DiskState) (earlier later : List DiskState) → Leaves P old → EachLeaves P later → Leaves P (newest old (later ++ (old ∷ earlier)))
+unfolding newest
+newest_leaves P old earlier [] first each = first
+newest_leaves P old earlier (s ∷ later) first each = each.0
+
+module _ {D : Type 0} (g : disk.Ghosts D) where
+  -- before the first call
+  pub started : (d : D) (P : List ℕ → Type 0) → Leaves P (g.state d) → LeavesOnly g d d P
+  started d P now = record { later = []; has_gone = refl; first = now; each = tt }
+
+  -- one call
+  pub one_call : (old new : D) (P : List ℕ → Type 0) → g.past new ≡ (g.state old ∷ g.past old) → Leaves P (g.state old) → Leaves P (g.state new) → LeavesOnly g old new P
+  one_call old new P clock before after = record {
+    later = g.state new ∷ [];
+    has_gone = ap (λ (past : List DiskState). g.state new ∷ past) clock;
+    first = before;
+    each = (after, tt);
+  }
+
+  -- two runs of calls, one after the other
+  pub joined : (old mid new : D) (P : List ℕ → Type 0) → LeavesOnly g old mid P → LeavesOnly g mid new P → LeavesOnly g old new P
+  joined old mid new P one two = record {
+    later = two.later ++ one.later;
+    has_gone = two.has_gone ∙ ap (λ (past : List DiskState). two.later ++ past) one.has_gone ∙ sym (append_assoc two.later one.later (history g old));
+    first = one.first;
+    each = each-append P two.later one.later two.each one.each;
+  }
+
+  pub weaker : (old new : D) (P Q : List ℕ → Type 0) → LeavesOnly g old new P → ((image : List ℕ) → P image → Q image) → LeavesOnly g old new Q
+  weaker old new P Q has implies = record {
+    later = has.later;
+    has_gone = has.has_gone;
+    first = λ image is. implies image (has.first image is);
+    each = each_weaker P Q has.later implies has.each;
+  }
+
+  -- what a crash may leave after the last call
+  pub at_end : (old new : D) (P : List ℕ → Type 0) → LeavesOnly g old new P → Leaves P (g.state new)
+  unfolding newest
+  at_end old new P has =
+      let now : g.state new ≡ newest (g.state old) (has.later ++ history g old) = ap (newest (g.state old)) has.has_gone in
+      subst (Leaves P) (sym now) (newest_leaves P (g.state old) (g.past old) has.later has.first has.each)
