@@ -1,17 +1,10 @@
 -- What a crash may leave over several calls.
-use Rattle.std.proofs.Common.{◌≡◌, ℕ, List, [], ◌∷◌, ◌++◌, refl, sym, ◌∙◌, ap, subst}
+use Rattle.std.proofs.Common.{◌≡◌, ℕ, Result, Ok, Err, OnOk, OnErr, List, [], ◌∷◌, ◌++◌, refl, sym, ◌∙◌, ap, subst}
 use Rattle.std.proofs.lemmas.List.{append_assoc}
 use Rattle.hg_disk.specs.State.{DiskState, IsImage, SameImages, after_write, after_cut, after_sync}
+use Rattle.hg_disk.specs.Kept.{image_of_write, image_of_cut}
 use Rattle.hg_disk.specs.Moments.{Leaves, EachLeaves, history, HasGone, LeavesOnly}
 use Rattle.hg_disk.specs.declared.disk.Disk as disk
-
-each-append : (P : List ℕ → Type 0) (later earlier : List DiskState) → EachLeaves P later → EachLeaves P earlier → EachLeaves P (later ++ earlier)
-each-append P [] earlier new old = old
-each-append P (s ∷ later) earlier new old = (new.0, each-append P later earlier new.1 old)
-
-each_weaker : (P Q : List ℕ → Type 0) (states : List DiskState) → ((image : List ℕ) → P image → Q image) → EachLeaves P states → EachLeaves Q states
-each_weaker P Q [] implies has = tt
-each_weaker P Q (s ∷ earlier) implies has = (λ image is. implies image (has.0 image is), each_weaker P Q earlier implies has.1)
 
 -- the images of a state with the same bytes at the sync and the same changes since
 pub same_images : (s t : DiskState) (image : List ℕ) → SameImages s t → IsImage t image → IsImage s image
@@ -22,6 +15,29 @@ same_images s t image same is = record { clean = moved.clean; long = moved.long;
 
     moved : IsImage (record s { contents = t.contents }) image
     moved = subst (λ (u : DiskState). IsImage u image) unread is
+
+-- what a call counts as, whether it answered Ok or failed
+pub as_counted : {T E : Type 0} (result : Result T E) (s t : DiskState) → OnOk result (t ≡ s) → OnErr result (SameImages s t) → SameImages s t
+as_counted (Ok value) s t ok err = record { synced = ap (λ (u : DiskState). u.synced) ok; since = ap (λ (u : DiskState). u.since) ok }
+as_counted (Err error) s t ok err = err
+
+-- what a sync that answered Ok leaves was an image before it
+pub synced_image : (s t : DiskState) → IsImage s s.contents → t ≡ after_sync s → Leaves (IsImage s) t
+synced_image s t bytes is image leaves =
+    let settled : IsImage (after_sync s) image = subst (λ (u : DiskState). IsImage u image) is leaves in
+    subst (IsImage s) (sym (settled.clean refl)) bytes
+
+after_a_sync : {T E : Type 0} (result : Result T E) (s t : DiskState) → IsImage s s.contents → OnOk result (t ≡ after_sync s) → OnErr result (SameImages s t) → Leaves (IsImage s) t
+after_a_sync (Ok value) s t bytes ok err = synced_image s t bytes ok
+after_a_sync (Err error) s t bytes ok err = λ image. same_images s t image err
+
+each-append : (P : List ℕ → Type 0) (later earlier : List DiskState) → EachLeaves P later → EachLeaves P earlier → EachLeaves P (later ++ earlier)
+each-append P [] earlier new old = old
+each-append P (s ∷ later) earlier new old = (new.0, each-append P later earlier new.1 old)
+
+each_weaker : (P Q : List ℕ → Type 0) (states : List DiskState) → ((image : List ℕ) → P image → Q image) → EachLeaves P states → EachLeaves Q states
+each_weaker P Q [] implies has = tt
+each_weaker P Q (s ∷ earlier) implies has = (λ image is. implies image (has.0 image is), each_weaker P Q earlier implies has.1)
 
 newest : DiskState → List DiskState → DiskState
 newest s [] = s
@@ -69,3 +85,27 @@ module _ {D : Type 0} (g : disk.Ghosts D) where
   at_end old new P has =
       let now : g.state new ≡ newest (g.state old) (has.later ++ history g old) = ap (newest (g.state old)) has.has_gone in
       subst (Leaves P) (sym now) (newest_leaves P (g.state old) (g.past old) has.later has.first has.each)
+
+  -- a write: what it may leave torn
+  pub write_leaves : {T E : Type 0} (old new : D) (at : ℕ) (bytes : List ℕ) (result : Result T E) → OnOk result (g.state new ≡ after_write at bytes (g.state old))
+      → OnErr result (SameImages (after_write at bytes (g.state old)) (g.state new)) → g.past new ≡ (g.state old ∷ g.past old) → LeavesOnly g old new (IsImage (after_write at bytes (g.state old)))
+  write_leaves old new at bytes result ok err clock =
+      one_call old new (IsImage (after_write at bytes (g.state old))) clock (image_of_write at bytes (g.state old))
+      (λ image. same_images (after_write at bytes (g.state old)) (g.state new) image (as_counted result _ _ ok err))
+
+  -- a cut
+  pub cut_leaves : {T E : Type 0} (old new : D) (to : ℕ) (result : Result T E) → OnOk result (g.state new ≡ after_cut to (g.state old))
+      → OnErr result (SameImages (after_cut to (g.state old)) (g.state new)) → g.past new ≡ (g.state old ∷ g.past old) → LeavesOnly g old new (IsImage (after_cut to (g.state old)))
+  cut_leaves old new to result ok err clock =
+      one_call old new (IsImage (after_cut to (g.state old))) clock (image_of_cut to (g.state old))
+      (λ image. same_images (after_cut to (g.state old)) (g.state new) image (as_counted result _ _ ok err))
+
+  -- a sync: it adds no image
+  pub sync_leaves : {T E : Type 0} (old new : D) (result : Result T E) → ((d : D) → IsImage (g.state d) (g.state d).contents) → OnOk result (g.state new ≡ after_sync (g.state old))
+      → OnErr result (SameImages (g.state old) (g.state new)) → g.past new ≡ (g.state old ∷ g.past old) → LeavesOnly g old new (IsImage (g.state old))
+  sync_leaves old new result has_its_bytes ok err clock =
+      one_call old new (IsImage (g.state old)) clock (λ image is. is) (after_a_sync result (g.state old) (g.state new) (has_its_bytes old) ok err)
+
+  -- a read
+  pub read_leaves : (old new : D) → g.state new ≡ g.state old → g.past new ≡ (g.state old ∷ g.past old) → LeavesOnly g old new (IsImage (g.state old))
+  read_leaves old new same clock = one_call old new (IsImage (g.state old)) clock (λ image is. is) (λ image is. subst (λ (s : DiskState). IsImage s image) same is)

@@ -3,6 +3,7 @@
 
 mod call;
 mod disk;
+mod durable;
 mod file;
 mod memory;
 mod overwrite;
@@ -11,5 +12,6 @@ mod tape;
 
 pub use call::{Answer, Answered, Call};
 pub use disk::{Disk, DiskFault, MAX_LEN};
+pub use durable::write_through;
 pub use file::FileDisk;
 pub use memory::MemDisk;
