@@ -1,6 +1,7 @@
 pub mod Event
 pub mod History
 pub mod Kept
+pub mod Laws
 pub mod Memory
 pub mod Moments
 pub mod Room

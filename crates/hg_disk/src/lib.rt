@@ -5,6 +5,7 @@ mod call;
 mod disk;
 mod durable;
 mod file;
+pub mod laws;
 mod memory;
 mod overwrite;
 mod record;
