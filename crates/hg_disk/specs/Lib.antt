@@ -1,4 +1,6 @@
 pub mod Event
+pub mod Fuse
+pub mod FuseImages
 pub mod History
 pub mod Kept
 pub mod Laws

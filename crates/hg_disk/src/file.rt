@@ -1,10 +1,9 @@
 //! A file of the operating system.
-ghost use Rattle.std.specs.Prelude.{◌≡◌, ◌+◌, ◌-◌, ◌<◌, ◌≤◌, ◌^◌, ◌∷◌, false, [], is_ok, length, replicate};
-ghost use Rattle.hg_disk.specs.Event.{event, answer_of};
+ghost use Rattle.std.specs.Prelude.{◌≡◌, ◌+◌, ◌-◌, ◌<◌, ◌≤◌, ◌^◌, ◌∷◌, false, length, replicate};
 ghost use Rattle.hg_disk.specs.History.{replay, states_before, failures_in};
 ghost use Rattle.hg_disk.specs.Kept.{has_contents};
 
-use crate::call::{Answer, Answered, Call};
+use crate::call::Call;
 use crate::disk::{MAX_LEN, is_within};
 use crate::record::Record;
 use crate::{Disk, DiskFault};
@@ -39,36 +38,6 @@ impl FileDisk {
     }
 }
 
-// Puts the call on record, with its bytes and its answer.
-fn noted(
-    history: &mut Record,
-    call: Call,
-    bytes: &[u8],
-    outcome: io::Result<()>,
-) -> Result<(), DiskFault>
-    ensures same { is_ok result ≡ is_ok outcome }
-    ensures noted { history.new.events ≡ event call (answer_of result) bytes.now ∷ history.old.events }
-{
-    if outcome.is_err() {
-        history.note(
-            &[Answered {
-                call,
-                answer: Answer::Failed,
-            }],
-            bytes,
-        );
-        return Err(DiskFault);
-    }
-    history.note(
-        &[Answered {
-            call,
-            answer: Answer::Done,
-        }],
-        bytes,
-    );
-    Ok(())
-}
-
 impl Disk for FileDisk {
     ghost is_honest = { false };
 
@@ -86,7 +55,7 @@ impl Disk for FileDisk {
 
     fn read_at(&mut self, at: u64, buf: &mut [u8]) -> Result<(), DiskFault> {
         let outcome = self.file.read_exact_at(buf, at);
-        noted(&mut self.history, Call::Read, &[], outcome)
+        self.history.note_answer(Call::Read, &[], outcome.is_ok())
     }
 
     fn write_at(&mut self, at: u64, bytes: &[u8]) -> Result<(), DiskFault> {
@@ -94,30 +63,24 @@ impl Disk for FileDisk {
             at,
             len: bytes.len(),
         };
-        if !is_within(at, bytes.len()) {
-            return noted(
-                &mut self.history,
-                call,
-                bytes,
-                Err(io::ErrorKind::FileTooLarge.into()),
-            );
-        }
-        let outcome = written(&self.file, self.len, at, bytes);
-        noted(&mut self.history, call, bytes, outcome)?;
+        let is_done = is_within(at, bytes.len())
+            && written(&self.file, self.len, at, bytes).is_ok();
+        self.history.note_answer(call, bytes, is_done)?;
         self.len = self.len.max(at + bytes.len() as u64);
         Ok(())
     }
 
     fn cut(&mut self, to: u64) -> Result<(), DiskFault> {
         let outcome = self.file.set_len(to);
-        noted(&mut self.history, Call::Cut { to }, &[], outcome)?;
+        self.history
+            .note_answer(Call::Cut { to }, &[], outcome.is_ok())?;
         self.len = to;
         Ok(())
     }
 
     fn sync(&mut self) -> Result<(), DiskFault> {
         let outcome = self.file.sync_all();
-        noted(&mut self.history, Call::Sync, &[], outcome)
+        self.history.note_answer(Call::Sync, &[], outcome.is_ok())
     }
 }
 

@@ -59,13 +59,7 @@ impl Tape {
     {
         if self.is_full || self.calls.reserve(1).is_err() {
             self.is_full = true;
-            self.history.note(
-                &[Answered {
-                    call,
-                    answer: Answer::Refused,
-                }],
-                bytes,
-            );
+            self.history.note_refusal(call, bytes);
             return false;
         }
         true
@@ -98,7 +92,6 @@ impl Tape {
             self.written.extend_from_slice(bytes).unwrap();
         }
         self.calls.push_reserved(Answered { call, answer });
-        self.history.note(&[Answered { call, answer }], bytes);
-        if is_done { Ok(()) } else { Err(DiskFault) }
+        self.history.note_answer(call, bytes, is_done)
     }
 }
