@@ -1,12 +1,13 @@
 -- What a `FuseDisk` shows.
-use Rattle.std.specs.Prelude.{◌≡◌, ℕ, zero, suc, ◌+◌, min, Bool, true, false, if◌then◌else◌, Option, Some, None, List, [], ◌∷◌, length}
-use Rattle.hg_disk.specs.State.{DiskState, Change}
+use Rattle.std.specs.Prelude.{◌≡◌, ℕ, zero, suc, ◌+◌, min, Bool, true, false, if◌then◌else◌, Option, Some, None, List, [], ◌∷◌, length, Result, IsErr}
+use Rattle.hg_disk.specs.State.{DiskState, Change, counted}
 use Rattle.hg_disk.specs.State.Change.{Written, CutTo}
 use Rattle.hg_disk.specs.Event.{Event}
 use Rattle.hg_disk.specs.declared.call.Call.{Call}
 use Rattle.hg_disk.specs.declared.call.Call.TheVariants.{Read, Write, Cut, Sync}
 use Rattle.hg_disk.specs.declared.call.Answer.{Answer}
 use Rattle.hg_disk.specs.declared.call.Answer.TheVariants.{Done, Failed, Refused}
+use Rattle.hg_disk.specs.declared.disk.Disk as disk
 use Rattle.hg_disk.specs.declared.fuse.FuseDisk.{FuseDisk}
 
 -- whether a call was refused
@@ -98,3 +99,20 @@ module _ {D : Type 0} where
 
   abbrev pub stops : FuseDisk D → Bool
   stops f = f.stops
+
+module _ {D : Type 0} (g : disk.Ghosts D) where
+  abbrev pub fuse_state : FuseDisk D → DiskState
+  fuse_state f = shown f.history.events (g.state f.inner) (g.past f.inner)
+
+  abbrev pub fuse_past : FuseDisk D → List DiskState
+  fuse_past f = shown_past f.history.events (g.state f.inner) (g.past f.inner)
+
+  abbrev pub fuse_failures : FuseDisk D → ℕ
+  fuse_failures f = g.failures f.inner + refusals_in f.history.events
+
+  -- It refused the call, or it passed it on and answered what the inner disk did.
+  pub record Burns {T E : Type 0} (old new : FuseDisk D) (result : Result T E) : Type 0 where
+    pub refused : is_next (calls_left old) ≡ true → IsErr result × (inner_of new ≡ inner_of old)
+    pub passed : is_next (calls_left old) ≡ false → g.failures (inner_of new) ≡ counted result (g.failures (inner_of old))
+    pub left : calls_left new ≡ left_after (stops old) (calls_left old)
+    pub stops_still : stops new ≡ stops old

@@ -1,5 +1,6 @@
 //! A disk that fails at a chosen call.
-ghost use Rattle.std.specs.Prelude.{◌≡◌, ◌+◌, ◌-◌, ◌<◌, ◌≤◌, ◌^◌, ◌∷◌, length, true, false, Some, if◌then◌else◌};
+ghost use Rattle.std.specs.Prelude.{◌≡◌, ◌+◌, ◌-◌, ◌<◌, ◌≤◌, ◌^◌, ◌∷◌, length, take, drop, true, false, IsTrue, Some, OnOk, OnErr, if◌then◌else◌};
+ghost use Rattle.hg_disk.specs.State.{SameImages, after_write, after_cut, after_sync, counted};
 ghost use Rattle.hg_disk.specs.Event.{event};
 ghost use Rattle.hg_disk.specs.Fuse.{is_next, left_after};
 
@@ -93,7 +94,7 @@ fn refuses(
 }
 
 impl<D: Disk> Disk for FuseDisk<D> {
-    ghost use Rattle.hg_disk.specs.Fuse.{shown, shown_past, refusals_in};
+    ghost use Rattle.hg_disk.specs.Fuse.{shown, shown_past, refusals_in, fuse_state, fuse_past, fuse_failures, Burns};
     ghost use Rattle.hg_disk.specs.FuseImages.{shown_image};
 
     ghost is_honest = { D.Disk.is_honest };
@@ -110,7 +111,14 @@ impl<D: Disk> Disk for FuseDisk<D> {
         self.inner.len()
     }
 
-    fn read_at(&mut self, at: u64, buf: &mut [u8]) -> Result<(), DiskFault> {
+    fn read_at(&mut self, at: u64, buf: &mut [u8]) -> Result<(), DiskFault>
+        requires { at + length buf.old ≤ length (fuse_state ⟦<D as Disk>⟧ self.old).contents }
+        ensures bytes { IsTrue D.is_honest → OnOk result (buf.new ≡ take (length buf.old) (drop at (fuse_state ⟦<D as Disk>⟧ self.old).contents)) }
+        ensures state { fuse_state ⟦<D as Disk>⟧ self.new ≡ fuse_state ⟦<D as Disk>⟧ self.old }
+        ensures clock { fuse_past ⟦<D as Disk>⟧ self.new ≡ fuse_state ⟦<D as Disk>⟧ self.old ∷ fuse_past ⟦<D as Disk>⟧ self.old }
+        ensures failures { fuse_failures ⟦<D as Disk>⟧ self.new ≡ counted result (fuse_failures ⟦<D as Disk>⟧ self.old) }
+        ensures fuse { Burns ⟦<D as Disk>⟧ self.old self.new result }
+    {
         if refuses(
             &mut self.calls_left,
             self.stops,
@@ -124,7 +132,14 @@ impl<D: Disk> Disk for FuseDisk<D> {
         self.history.note_answer(Call::Read, &[], answer.is_ok())
     }
 
-    fn write_at(&mut self, at: u64, bytes: &[u8]) -> Result<(), DiskFault> {
+    fn write_at(&mut self, at: u64, bytes: &[u8]) -> Result<(), DiskFault>
+        ensures ok { OnOk result (fuse_state ⟦<D as Disk>⟧ self.new ≡ after_write at bytes.now (fuse_state ⟦<D as Disk>⟧ self.old)) }
+        ensures err { OnErr result (SameImages (after_write at bytes.now (fuse_state ⟦<D as Disk>⟧ self.old)) (fuse_state ⟦<D as Disk>⟧ self.new)) }
+        ensures fits { OnOk result (at + length bytes.now ≤ 2 ^ 62) }
+        ensures clock { fuse_past ⟦<D as Disk>⟧ self.new ≡ fuse_state ⟦<D as Disk>⟧ self.old ∷ fuse_past ⟦<D as Disk>⟧ self.old }
+        ensures failures { fuse_failures ⟦<D as Disk>⟧ self.new ≡ counted result (fuse_failures ⟦<D as Disk>⟧ self.old) }
+        ensures fuse { Burns ⟦<D as Disk>⟧ self.old self.new result }
+    {
         let call = Call::Write {
             at,
             len: bytes.len(),
@@ -142,7 +157,14 @@ impl<D: Disk> Disk for FuseDisk<D> {
         self.history.note_answer(call, bytes, answer.is_ok())
     }
 
-    fn cut(&mut self, to: u64) -> Result<(), DiskFault> {
+    fn cut(&mut self, to: u64) -> Result<(), DiskFault>
+        requires { to ≤ length (fuse_state ⟦<D as Disk>⟧ self.old).contents }
+        ensures ok { OnOk result (fuse_state ⟦<D as Disk>⟧ self.new ≡ after_cut to (fuse_state ⟦<D as Disk>⟧ self.old)) }
+        ensures err { OnErr result (SameImages (after_cut to (fuse_state ⟦<D as Disk>⟧ self.old)) (fuse_state ⟦<D as Disk>⟧ self.new)) }
+        ensures clock { fuse_past ⟦<D as Disk>⟧ self.new ≡ fuse_state ⟦<D as Disk>⟧ self.old ∷ fuse_past ⟦<D as Disk>⟧ self.old }
+        ensures failures { fuse_failures ⟦<D as Disk>⟧ self.new ≡ counted result (fuse_failures ⟦<D as Disk>⟧ self.old) }
+        ensures fuse { Burns ⟦<D as Disk>⟧ self.old self.new result }
+    {
         if refuses(
             &mut self.calls_left,
             self.stops,
@@ -157,7 +179,13 @@ impl<D: Disk> Disk for FuseDisk<D> {
             .note_answer(Call::Cut { to }, &[], answer.is_ok())
     }
 
-    fn sync(&mut self) -> Result<(), DiskFault> {
+    fn sync(&mut self) -> Result<(), DiskFault>
+        ensures ok { OnOk result (fuse_state ⟦<D as Disk>⟧ self.new ≡ after_sync (fuse_state ⟦<D as Disk>⟧ self.old)) }
+        ensures err { OnErr result (SameImages (fuse_state ⟦<D as Disk>⟧ self.old) (fuse_state ⟦<D as Disk>⟧ self.new)) }
+        ensures clock { fuse_past ⟦<D as Disk>⟧ self.new ≡ fuse_state ⟦<D as Disk>⟧ self.old ∷ fuse_past ⟦<D as Disk>⟧ self.old }
+        ensures failures { fuse_failures ⟦<D as Disk>⟧ self.new ≡ counted result (fuse_failures ⟦<D as Disk>⟧ self.old) }
+        ensures fuse { Burns ⟦<D as Disk>⟧ self.old self.new result }
+    {
         if refuses(
             &mut self.calls_left,
             self.stops,
