@@ -1,5 +1,5 @@
 -- What the images of a write keep.
-use Rattle.std.proofs.Common.{◌≡◌, ◌⊎◌, inl, inr, ⊎_elim, ◌<◌, ◌≤◌, ◌+◌, ◌-◌, ℕ, true, List, ◌++◌, length, take, drop, replicate, get_or, sym, ◌∙◌, ap, arith, length-append, take-append-drop, length-drop}
+use Rattle.std.proofs.Common.{◌≡◌, ◌⊎◌, inl, inr, ⊎_elim, ◌<◌, ◌≤◌, ◌+◌, ◌-◌, ℕ, List, ◌++◌, length, take, drop, replicate, get_or, sym, ◌∙◌, ap, arith, length-append, take-append-drop, length-drop}
 use Rattle.std.proofs.lemmas.Bool.Decides.{nat_tests}
 use Rattle.std.proofs.lemmas.List.{places, ext_get_or, get_or_append_left, get_or-append-add, get_or-drop, drop-drop, length-take-le, take_at, drop_at}
 use Rattle.hg_disk.specs.State.{IsImage, settled, overwritten, after_write}

@@ -2,7 +2,7 @@
 use Rattle.std.proofs.Common.{◌≡◌, ◌<◌, ◌≤◌, ◌+◌, ℕ, min, nat_lt, nat_le, Bool, true, false, ◌&&◌, ◌||◌, List, ◌++◌, length, take, drop, get_or, refl, sym, ◌∙◌, ap, arith, length-append, length-drop, take-append-drop}
 use Rattle.std.proofs.lemmas.Bool.Decides.{nat_tests}
 use Rattle.std.proofs.lemmas.List.{get_or-drop, get_or-append-add, get_or_append_left, length-take-le, length-take}
-use Rattle.hg_disk.specs.State.{DiskState, IsImage, least, is_written, settled, after_write, after_cut}
+use Rattle.hg_disk.specs.State.{DiskState, IsImage, is_written, settled, after_write, after_cut}
 use Rattle.hg_disk.specs.Laws.{Holds, Keeps}
 use Rattle.hg_disk.specs.Kept.{length-overwritten}
 use Rattle.hg_disk.proofs.Images.{begins_as}

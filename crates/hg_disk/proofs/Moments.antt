@@ -3,7 +3,7 @@ use Rattle.std.proofs.Common.{◌≡◌, ℕ, Result, Ok, Err, OnOk, OnErr, List
 use Rattle.std.proofs.lemmas.List.{append_assoc}
 use Rattle.hg_disk.specs.State.{DiskState, IsImage, SameImages, after_write, after_cut, after_sync}
 use Rattle.hg_disk.specs.Kept.{image_of_write, image_of_cut}
-use Rattle.hg_disk.specs.Moments.{Leaves, EachLeaves, history, HasGone, LeavesOnly}
+use Rattle.hg_disk.specs.Moments.{Leaves, EachLeaves, history, LeavesOnly}
 use Rattle.hg_disk.specs.declared.disk.Disk as disk
 
 -- the images of a state with the same bytes at the sync and the same changes since

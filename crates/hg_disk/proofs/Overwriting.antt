@@ -1,5 +1,5 @@
 -- A write in place.
-use Rattle.std.proofs.Common.{◌≡◌, ◌<◌, ◌≤◌, ◌+◌, ◌-◌, ℕ, List, ◌++◌, length, take, drop, replicate, get_or, arith, rules}
+use Rattle.std.proofs.Common.{◌≡◌, ◌<◌, ◌≤◌, ◌+◌, ◌-◌, ℕ, List, ◌++◌, length, take, drop, replicate, arith}
 use Rattle.std.proofs.lemmas.List.{places, same_lists}
 use Rattle.hg_disk.specs.State.{overwritten}
 

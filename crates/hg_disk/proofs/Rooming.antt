@@ -1,5 +1,5 @@
 -- Room that a write takes.
-use Rattle.std.proofs.Common.{◌≡◌, ◌≤◌, ◌+◌, ◌-◌, ℕ, List, length, arith}
+use Rattle.std.proofs.Common.{◌≤◌, ◌+◌, ℕ, List, length, arith}
 use Rattle.std.proofs.lemmas.List.{places}
 use Rattle.hg_disk.specs.Memory.{room_taken}
 use Rattle.hg_disk.specs.Room.{TapeHasRoom}

@@ -6,7 +6,7 @@ use Rattle.hg_disk.specs.declared.call.Call.{Call}
 use Rattle.hg_disk.specs.declared.call.Answer.{Answer}
 use Rattle.hg_disk.specs.declared.call.Answer.TheVariants.{Done, Failed}
 
--- a call with its answer, and the bytes that it was given
+-- a call with its answer, and of a write that took effect its bytes
 pub record Event : Type 0 where
   pub told : Answered
   pub bytes : List ℕ

@@ -45,25 +45,25 @@ on_top (change ∷ changes) earlier = change ∷ earlier changes
 
 -- The changes after a call, given those that the inner disk made, and how those before the call come about where it
 -- was refused (`stayed`) and where it was passed on (`earlier`).
-abbrev pub with_call : Call → Answer → ℕ → ℕ → (List Change → List Change) → (List Change → List Change) → List Change → List Change
-with_call Read Refused len size stayed earlier inner = stayed inner
-with_call Read Done len size stayed earlier inner = earlier inner
-with_call Read Failed len size stayed earlier inner = earlier inner
-with_call (Write at n) Refused len size stayed earlier inner = Written (min at size) (at + len) ∷ stayed inner
-with_call (Write at n) Done len size stayed earlier inner = on_top inner earlier
-with_call (Write at n) Failed len size stayed earlier inner = on_top inner earlier
-with_call (Cut to) Refused len size stayed earlier inner = CutTo to ∷ stayed inner
-with_call (Cut to) Done len size stayed earlier inner = on_top inner earlier
-with_call (Cut to) Failed len size stayed earlier inner = on_top inner earlier
-with_call Sync Refused len size stayed earlier inner = stayed inner
-with_call Sync Done len size stayed earlier inner = inner
-with_call Sync Failed len size stayed earlier inner = earlier inner
+abbrev pub with_call : Call → Answer → ℕ → (List Change → List Change) → (List Change → List Change) → List Change → List Change
+with_call Read Refused size stayed earlier inner = stayed inner
+with_call Read Done size stayed earlier inner = earlier inner
+with_call Read Failed size stayed earlier inner = earlier inner
+with_call (Write at len) Refused size stayed earlier inner = Written (min at size) (at + len) ∷ stayed inner
+with_call (Write at len) Done size stayed earlier inner = on_top inner earlier
+with_call (Write at len) Failed size stayed earlier inner = on_top inner earlier
+with_call (Cut to) Refused size stayed earlier inner = CutTo to ∷ stayed inner
+with_call (Cut to) Done size stayed earlier inner = on_top inner earlier
+with_call (Cut to) Failed size stayed earlier inner = on_top inner earlier
+with_call Sync Refused size stayed earlier inner = stayed inner
+with_call Sync Done size stayed earlier inner = inner
+with_call Sync Failed size stayed earlier inner = earlier inner
 
 -- The changes since the sync, those of the refused calls among those that the inner disk made: its states and the
 -- calls come the newest first.
 abbrev pub with_refused : List Event → List DiskState → List Change → List Change
 with_refused [] states inner = inner
-with_refused (e ∷ calls) states inner = with_call e.told.call e.told.answer (length e.bytes) (size_now states) (with_refused calls states) (with_refused calls (before states)) inner
+with_refused (e ∷ calls) states inner = with_call e.told.call e.told.answer (size_now states) (with_refused calls states) (with_refused calls (before states)) inner
 
 -- The state after the calls, of which the refused ones count as failed: all but that is the inner disk's state.
 abbrev pub shown : List Event → DiskState → List DiskState → DiskState

@@ -1,5 +1,5 @@
 -- The images of a `FuseDisk`: those of the inner disk are among them.
-use Rattle.std.proofs.Common.{◌≡◌, ◌≤◌, ◌+◌, ℕ, min, Bool, true, false, ◌||◌, List, [], ◌∷◌, length, refl, ◌∙◌, ap, arith}
+use Rattle.std.proofs.Common.{◌≡◌, ◌≤◌, ◌+◌, ℕ, min, Bool, true, false, ◌||◌, List, [], ◌∷◌, length, refl, arith}
 use Rattle.hg_disk.specs.State.{DiskState, Change, IsImage, least, is_written}
 use Rattle.hg_disk.specs.State.Change.{Written, CutTo}
 use Rattle.hg_disk.specs.Event.{Event}
@@ -47,24 +47,24 @@ adds_on_top : (inner : List Change) (earlier : List Change → List Change) → 
 adds_on_top [] earlier adds = adds []
 adds_on_top (change ∷ changes) earlier adds = adds_under change changes (earlier changes) (adds changes)
 
-adds_call : (call : Call) (answer : Answer) (len size : ℕ) (stayed earlier : List Change → List Change) → ((few : List Change) → Adds few (stayed few)) → ((few : List Change) → Adds few (earlier few))
-    → (inner : List Change) → Adds inner (with_call call answer len size stayed earlier inner)
-adds_call Read Refused len size stayed earlier s e inner = s inner
-adds_call Read Done len size stayed earlier s e inner = e inner
-adds_call Read Failed len size stayed earlier s e inner = e inner
-adds_call (Write at n) Refused len size stayed earlier s e inner = adds_change (Written (min at size) (at + len)) inner (stayed inner) (s inner)
-adds_call (Write at n) Done len size stayed earlier s e inner = adds_on_top inner earlier e
-adds_call (Write at n) Failed len size stayed earlier s e inner = adds_on_top inner earlier e
-adds_call (Cut to) Refused len size stayed earlier s e inner = adds_change (CutTo to) inner (stayed inner) (s inner)
-adds_call (Cut to) Done len size stayed earlier s e inner = adds_on_top inner earlier e
-adds_call (Cut to) Failed len size stayed earlier s e inner = adds_on_top inner earlier e
-adds_call Sync Refused len size stayed earlier s e inner = s inner
-adds_call Sync Done len size stayed earlier s e inner = adds_none inner
-adds_call Sync Failed len size stayed earlier s e inner = e inner
+adds_call : (call : Call) (answer : Answer) (size : ℕ) (stayed earlier : List Change → List Change) → ((few : List Change) → Adds few (stayed few)) → ((few : List Change) → Adds few (earlier few))
+    → (inner : List Change) → Adds inner (with_call call answer size stayed earlier inner)
+adds_call Read Refused size stayed earlier s e inner = s inner
+adds_call Read Done size stayed earlier s e inner = e inner
+adds_call Read Failed size stayed earlier s e inner = e inner
+adds_call (Write at len) Refused size stayed earlier s e inner = adds_change (Written (min at size) (at + len)) inner (stayed inner) (s inner)
+adds_call (Write at len) Done size stayed earlier s e inner = adds_on_top inner earlier e
+adds_call (Write at len) Failed size stayed earlier s e inner = adds_on_top inner earlier e
+adds_call (Cut to) Refused size stayed earlier s e inner = adds_change (CutTo to) inner (stayed inner) (s inner)
+adds_call (Cut to) Done size stayed earlier s e inner = adds_on_top inner earlier e
+adds_call (Cut to) Failed size stayed earlier s e inner = adds_on_top inner earlier e
+adds_call Sync Refused size stayed earlier s e inner = s inner
+adds_call Sync Done size stayed earlier s e inner = adds_none inner
+adds_call Sync Failed size stayed earlier s e inner = e inner
 
 adds_refused : (calls : List Event) (states : List DiskState) (inner : List Change) → Adds inner (with_refused calls states inner)
 adds_refused [] states inner = adds_none inner
-adds_refused (e ∷ calls) states inner = adds_call e.told.call e.told.answer (length e.bytes) (size_now states) (with_refused calls states) (with_refused calls (before states)) (adds_refused calls states) (adds_refused calls (before states)) inner
+adds_refused (e ∷ calls) states inner = adds_call e.told.call e.told.answer (size_now states) (with_refused calls states) (with_refused calls (before states)) (adds_refused calls states) (adds_refused calls (before states)) inner
 
 pub adds_image : (s : DiskState) (more : List Change) (image : List ℕ) → Adds s.since more → IsImage s image → IsImage (record s { since = more }) image
 adds_image s more image adds is = record {

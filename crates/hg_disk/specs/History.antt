@@ -1,25 +1,29 @@
 -- The states that a disk goes through under its calls.
-use Rattle.std.specs.Prelude.{ℕ, ◌+◌, ◌-◌, if◌then◌else◌, Bool, true, false, List, [], ◌∷◌, ◌++◌, length, drop}
+use Rattle.std.specs.Prelude.{ℕ, ◌+◌, min, if◌then◌else◌, Bool, true, false, List, [], ◌∷◌, length}
 use Rattle.hg_disk.specs.State.{DiskState, settled, after_write, after_cut, after_sync}
+use Rattle.hg_disk.specs.State.Change.{Written, CutTo}
 use Rattle.hg_disk.specs.Event.{Event}
 use Rattle.hg_disk.specs.declared.call.Call.{Call}
 use Rattle.hg_disk.specs.declared.call.Call.TheVariants.{Read, Write, Cut, Sync}
 use Rattle.hg_disk.specs.declared.call.Answer.{Answer}
 use Rattle.hg_disk.specs.declared.call.Answer.TheVariants.{Done, Failed, Refused}
 
--- what `done` leaves on the disk, with what a read gave before
-abbrev pub unread : DiskState → DiskState → DiskState
-unread before done = record { contents = before.contents; synced = done.synced; since = done.since }
+-- A write that failed counts as a write of its range, a cut that failed as a cut; neither changes what a read gives.
+abbrev pub after_failed_write : ℕ → ℕ → DiskState → DiskState
+after_failed_write at len s = record { contents = s.contents; synced = s.synced; since = Written (min at (length s.contents)) (at + len) ∷ s.since }
 
--- A call that failed changes no byte that a read gives. For a crash it counts as made, but for a sync.
+abbrev pub after_failed_cut : ℕ → DiskState → DiskState
+after_failed_cut to s = record { contents = s.contents; synced = s.synced; since = CutTo to ∷ s.since }
+
+-- the state after a call; one that was refused counts as one that failed
 abbrev pub after_call : Call → Answer → List ℕ → DiskState → DiskState
 after_call Read answer bytes s = s
 after_call (Write at len) Done bytes s = after_write at bytes s
-after_call (Write at len) Failed bytes s = unread s (after_write at bytes s)
-after_call (Write at len) Refused bytes s = unread s (after_write at bytes s)
+after_call (Write at len) Failed bytes s = after_failed_write at len s
+after_call (Write at len) Refused bytes s = after_failed_write at len s
 after_call (Cut to) Done bytes s = after_cut to s
-after_call (Cut to) Failed bytes s = unread s (after_cut to s)
-after_call (Cut to) Refused bytes s = unread s (after_cut to s)
+after_call (Cut to) Failed bytes s = after_failed_cut to s
+after_call (Cut to) Refused bytes s = after_failed_cut to s
 after_call Sync Done bytes s = after_sync s
 after_call Sync Failed bytes s = s
 after_call Sync Refused bytes s = s

@@ -1,11 +1,10 @@
 -- What a read gives is one of the images.
-use Rattle.std.proofs.Common.{◌≡◌, ◌⊎◌, ⊎_elim, ◌<◌, ◌≤◌, ◌+◌, ◌-◌, ℕ, min, nat_lt, nat_le, Bool, true, false, ◌&&◌, ◌||◌, List, [], ◌∷◌, length, take, drop, get_or, refl, sym, ◌∙◌, ap, arith}
+use Rattle.std.proofs.Common.{◌≡◌, ◌⊎◌, ⊎_elim, ◌<◌, ◌≤◌, ◌+◌, ℕ, min, nat_lt, nat_le, Bool, true, false, ◌&&◌, ◌||◌, List, [], ◌∷◌, length, take, get_or, refl, ◌∙◌, arith}
 use Rattle.std.proofs.lemmas.Bool.Decides.{nat_tests}
 use Rattle.std.proofs.lemmas.List.{places}
-use Rattle.hg_disk.specs.State.{DiskState, Change, IsImage, settled, overwritten, least, is_written, after_write, after_cut, after_sync}
-use Rattle.hg_disk.specs.State.Change.{Written, CutTo}
+use Rattle.hg_disk.specs.State.{DiskState, Change, IsImage, settled, overwritten, is_written, after_write, after_cut}
 use Rattle.hg_disk.specs.Event.{Event}
-use Rattle.hg_disk.specs.History.{unread, after_call, replay}
+use Rattle.hg_disk.specs.History.{after_failed_write, after_failed_cut, after_call, replay}
 use Rattle.hg_disk.specs.declared.call.Call.{Call}
 use Rattle.hg_disk.specs.declared.call.Call.TheVariants.{Read, Write, Cut, Sync}
 use Rattle.hg_disk.specs.declared.call.Answer.{Answer}
@@ -66,17 +65,24 @@ cut_image to s was = record {
 }
 
 -- the images do not depend on what a read gives
-pub unread_image : (before done : DiskState) (image : List ℕ) → IsImage done image → IsImage (unread before done) image
-unread_image before done image is = record { clean = is.clean; long = is.long; kept = is.kept }
+pub failed_write_image : (at len : ℕ) (s : DiskState) (image : List ℕ) → IsImage s image → IsImage (after_failed_write at len s) image
+failed_write_image at len s image was = record {
+  clean = changed;
+  long = was.long;
+  kept = λ i lt h. was.kept i lt (or_false (is_written s.since i) _ h).0;
+}
+
+pub failed_cut_image : (to : ℕ) (s : DiskState) (image : List ℕ) → IsImage s image → IsImage (after_failed_cut to s) image
+failed_cut_image to s image was = record { clean = changed; long = omega (arith, was.long); kept = λ i lt h. was.kept i (omega (arith, lt)) h }
 
 call_image : (call : Call) (answer : Answer) (bytes : List ℕ) (s : DiskState) → IsImage s s.contents → IsImage (after_call call answer bytes s) (after_call call answer bytes s).contents
 call_image Read answer bytes s was = was
 call_image (Write at len) Done bytes s was = write_image at bytes s was
-call_image (Write at len) Failed bytes s was = unread_image s (after_write at bytes s) s.contents (image_of_write at bytes s s.contents was)
-call_image (Write at len) Refused bytes s was = unread_image s (after_write at bytes s) s.contents (image_of_write at bytes s s.contents was)
+call_image (Write at len) Failed bytes s was = failed_write_image at len s s.contents was
+call_image (Write at len) Refused bytes s was = failed_write_image at len s s.contents was
 call_image (Cut to) Done bytes s was = cut_image to s was
-call_image (Cut to) Failed bytes s was = unread_image s (after_cut to s) s.contents (image_of_cut to s s.contents was)
-call_image (Cut to) Refused bytes s was = unread_image s (after_cut to s) s.contents (image_of_cut to s s.contents was)
+call_image (Cut to) Failed bytes s was = failed_cut_image to s s.contents was
+call_image (Cut to) Refused bytes s was = failed_cut_image to s s.contents was
 call_image Sync Done bytes s was = settled_image s.contents
 call_image Sync Failed bytes s was = was
 call_image Sync Refused bytes s was = was

@@ -1,12 +1,10 @@
 -- What a `MemDisk` shows.
-use Rattle.std.specs.Prelude.{◌≡◌, ◌+◌, ◌-◌, ◌≤◌, ℕ, max, List, length}
+use Rattle.std.specs.Prelude.{◌+◌, ◌-◌, ◌≤◌, ℕ, max, List, length}
 use Rattle.std.specs.Vec.{vec_capacity}
 use Rattle.hg_disk.specs.Event.{Event}
 use Rattle.hg_disk.specs.State.{DiskState}
 use Rattle.hg_disk.specs.History.{replay, states_before, failures_in}
 use Rattle.hg_disk.specs.Room.{TapeHasRoom}
-use Rattle.hg_disk.specs.Tape.{kept, calls_in}
-use Rattle.hg_disk.specs.declared.call.Answered.{Answered}
 use Rattle.hg_disk.specs.declared.memory.MemDisk.{MemDisk}
 
 -- the bytes that it was made with

@@ -1,5 +1,5 @@
 -- What a crash may leave from one moment of a disk to another.
-use Rattle.std.specs.Prelude.{◌≡◌, ℕ, List, [], ◌∷◌, ◌++◌, length}
+use Rattle.std.specs.Prelude.{◌≡◌, ℕ, List, [], ◌∷◌, ◌++◌}
 use Rattle.hg_disk.specs.State.{DiskState, IsImage}
 use Rattle.hg_disk.specs.declared.disk.Disk as disk
 

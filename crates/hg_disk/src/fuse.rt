@@ -1,5 +1,5 @@
 //! A disk that fails at a chosen call.
-ghost use Rattle.std.specs.Prelude.{◌≡◌, ◌+◌, ◌-◌, ◌<◌, ◌≤◌, ◌^◌, ◌∷◌, length, take, drop, true, false, IsTrue, Some, OnOk, OnErr, if◌then◌else◌};
+ghost use Rattle.std.specs.Prelude.{◌≡◌, ◌+◌, ◌-◌, ◌<◌, ◌≤◌, ◌^◌, ◌∷◌, [], length, take, drop, true, false, IsTrue, Some, OnOk, OnErr, if◌then◌else◌};
 ghost use Rattle.hg_disk.specs.State.{SameImages, after_write, after_cut, after_sync, counted};
 ghost use Rattle.hg_disk.specs.Event.{event};
 ghost use Rattle.hg_disk.specs.Fuse.{is_next, left_after};
@@ -19,7 +19,7 @@ pub struct FuseDisk<D: Disk> {
 }
 
 impl<D: Disk> FuseDisk<D> {
-    ghost use Rattle.hg_disk.specs.Fuse.{inner_of, calls_left, stops};
+    ghost use Rattle.hg_disk.specs.Fuse.{inner_of, calls_left, stops, fuse_state, fuse_past, fuse_failures};
 
     /// Fails the k-th call from now on, counted from 1.
     pub fn once(inner: D, k: u64) -> FuseDisk<D>
@@ -27,6 +27,9 @@ impl<D: Disk> FuseDisk<D> {
         ensures inner { inner_of result ≡ inner }
         ensures calls { calls_left result ≡ Some (k - 1) }
         ensures stops { stops result ≡ false }
+        ensures state { fuse_state ⟦<D as Disk>⟧ result ≡ D.state inner }
+        ensures past { fuse_past ⟦<D as Disk>⟧ result ≡ D.past inner }
+        ensures failures { fuse_failures ⟦<D as Disk>⟧ result ≡ D.failures inner }
     {
         FuseDisk {
             inner,
@@ -42,6 +45,9 @@ impl<D: Disk> FuseDisk<D> {
         ensures inner { inner_of result ≡ inner }
         ensures calls { calls_left result ≡ Some (k - 1) }
         ensures stops { stops result ≡ true }
+        ensures state { fuse_state ⟦<D as Disk>⟧ result ≡ D.state inner }
+        ensures past { fuse_past ⟦<D as Disk>⟧ result ≡ D.past inner }
+        ensures failures { fuse_failures ⟦<D as Disk>⟧ result ≡ D.failures inner }
     {
         FuseDisk {
             inner,
@@ -66,16 +72,10 @@ impl<D: Disk> FuseDisk<D> {
 }
 
 // Counts a call, and tells whether it is refused. It then goes on record.
-fn refuses(
-    calls_left: &mut Option<u64>,
-    stops: bool,
-    history: &mut Record,
-    call: Call,
-    bytes: &[u8],
-) -> bool
+fn refuses(calls_left: &mut Option<u64>, stops: bool, history: &mut Record, call: Call) -> bool
     ensures which { result ≡ is_next calls_left.old }
     ensures left { calls_left.new ≡ left_after stops calls_left.old }
-    ensures noted { history.new.events ≡ (if result then event call Answer.Refused bytes.now ∷ history.old.events else history.old.events) }
+    ensures noted { history.new.events ≡ (if result then event call Answer.Refused [] ∷ history.old.events else history.old.events) }
 {
     match *calls_left {
         None => false,
@@ -83,7 +83,7 @@ fn refuses(
             if !stops {
                 *calls_left = None;
             }
-            history.note_refusal(call, bytes);
+            history.note_refusal(call);
             true
         }
         Some(n) => {
@@ -124,7 +124,6 @@ impl<D: Disk> Disk for FuseDisk<D> {
             self.stops,
             &mut self.history,
             Call::Read,
-            &[],
         ) {
             return Err(DiskFault);
         }
@@ -144,13 +143,7 @@ impl<D: Disk> Disk for FuseDisk<D> {
             at,
             len: bytes.len(),
         };
-        if refuses(
-            &mut self.calls_left,
-            self.stops,
-            &mut self.history,
-            call,
-            bytes,
-        ) {
+        if refuses(&mut self.calls_left, self.stops, &mut self.history, call) {
             return Err(DiskFault);
         }
         let answer = self.inner.write_at(at, bytes);
@@ -170,7 +163,6 @@ impl<D: Disk> Disk for FuseDisk<D> {
             self.stops,
             &mut self.history,
             Call::Cut { to },
-            &[],
         ) {
             return Err(DiskFault);
         }
@@ -191,7 +183,6 @@ impl<D: Disk> Disk for FuseDisk<D> {
             self.stops,
             &mut self.history,
             Call::Sync,
-            &[],
         ) {
             return Err(DiskFault);
         }

@@ -101,7 +101,7 @@ impl Disk for MemDisk {
         ensures failures { failures_of self.new ≡ counted result (failures_of self.old) }
         ensures room { (n b : ℕ) → HasRoom self.old (n + 1) b → IsOk result × HasRoom self.new n b }
     {
-        if !self.tape.makes_room(Call::Read, &[]) {
+        if !self.tape.makes_room(Call::Read) {
             return Err(DiskFault);
         }
         let at = at as usize;
@@ -122,7 +122,7 @@ impl Disk for MemDisk {
             at,
             len: bytes.len(),
         };
-        if !self.tape.makes_room(call, bytes) {
+        if !self.tape.makes_room(call) {
             return Err(DiskFault);
         }
         let is_done = writes(&mut self.tape, &mut self.bytes, at, bytes);
@@ -138,7 +138,7 @@ impl Disk for MemDisk {
         ensures unchanged { OnErr result ((state_of self.new).contents ≡ (state_of self.old).contents) }
         ensures room { (n b : ℕ) → HasRoom self.old (n + 1) b → IsOk result × HasRoom self.new n b }
     {
-        if !self.tape.makes_room(Call::Cut { to }, &[]) {
+        if !self.tape.makes_room(Call::Cut { to }) {
             return Err(DiskFault);
         }
         self.bytes.truncate(to as usize);
@@ -152,7 +152,7 @@ impl Disk for MemDisk {
         ensures failures { failures_of self.new ≡ counted result (failures_of self.old) }
         ensures room { (n b : ℕ) → HasRoom self.old (n + 1) b → IsOk result × HasRoom self.new n b }
     {
-        if !self.tape.makes_room(Call::Sync, &[]) {
+        if !self.tape.makes_room(Call::Sync) {
             return Err(DiskFault);
         }
         self.tape.keep(Call::Sync, &[], true)

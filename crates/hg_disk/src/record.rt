@@ -1,5 +1,5 @@
 //! A list of calls that only clauses read.
-ghost use Rattle.std.specs.Prelude.{◌≡◌, List, [], ◌∷◌, ◌++◌, is_ok};
+ghost use Rattle.std.specs.Prelude.{◌≡◌, List, [], ◌∷◌, ◌++◌, is_ok, if◌then◌else◌};
 ghost use Rattle.std.specs.Borrow.{ftrue};
 ghost use Rattle.hg_disk.specs.Event.{Event, events_of, event, answer_of};
 
@@ -32,7 +32,7 @@ impl Record {
         ensures { self.new.events ≡ events_of _calls.now _bytes.now ++ self.old.events }
     {}
 
-    /// Adds a call that took effect or failed, with its bytes.
+    /// Adds a call that took effect or failed, and if it took effect its bytes.
     pub(crate) fn note_answer(
         &mut self,
         call: Call,
@@ -40,7 +40,7 @@ impl Record {
         is_done: bool,
     ) -> Result<(), DiskFault>
         ensures same { is_ok result ≡ is_done }
-        ensures noted { self.new.events ≡ event call (answer_of result) bytes.now ∷ self.old.events }
+        ensures noted { self.new.events ≡ event call (answer_of result) (if is_done then bytes.now else []) ∷ self.old.events }
     {
         if !is_done {
             self.note(
@@ -48,7 +48,7 @@ impl Record {
                     call,
                     answer: Answer::Failed,
                 }],
-                bytes,
+                &[],
             );
             return Err(DiskFault);
         }
@@ -62,16 +62,16 @@ impl Record {
         Ok(())
     }
 
-    /// Adds a call that was refused, with its bytes.
-    pub(crate) fn note_refusal(&mut self, call: Call, bytes: &[u8])
-        ensures { self.new.events ≡ event call Answer.Refused bytes.now ∷ self.old.events }
+    /// Adds a call that was refused.
+    pub(crate) fn note_refusal(&mut self, call: Call)
+        ensures { self.new.events ≡ event call Answer.Refused [] ∷ self.old.events }
     {
         self.note(
             &[Answered {
                 call,
                 answer: Answer::Refused,
             }],
-            bytes,
+            &[],
         );
     }
 }

@@ -2,7 +2,7 @@
 ghost use Rattle.std.specs.Prelude.{◌≡◌, ◌+◌, ◌<◌, ◌≤◌, ◌∷◌, ℕ, [], true, false, is_ok, length, IsTrue, IfOk, if◌then◌else◌};
 ghost use Rattle.std.specs.Vec.{vec_len, vec_capacity};
 ghost use Rattle.hg_disk.specs.Event.{event, answer_of};
-ghost use Rattle.hg_disk.specs.Tape.{kept, calls_in, written_in};
+ghost use Rattle.hg_disk.specs.Tape.{kept, calls_in, written_in, Fits, AllFit, AllFit_prop};
 
 use crate::DiskFault;
 use crate::call::{Answer, Answered, Call};
@@ -19,6 +19,7 @@ pub(crate) struct Tape {
     pub history: Record,
     ghost calls_kept: { calls.items ≡ calls_in (kept history.events) },
     ghost bytes_kept: { written.items ≡ written_in (kept history.events) },
+    ghost all_fit: { AllFit (kept history.events) } by { AllFit_prop (kept history.events) },
     ghost all_kept: { is_full ≡ false → kept history.events ≡ history.events },
 }
 
@@ -51,15 +52,15 @@ impl Tape {
     }
 
     /// Makes room for one more call. Where it finds none, the tape is full, and the call goes on record as refused.
-    pub fn makes_room(&mut self, call: Call, bytes: &[u8]) -> bool
-        ensures record { self.new.history.events ≡ (if result then self.old.history.events else event call Answer.Refused bytes.now ∷ self.old.history.events) }
+    pub fn makes_room(&mut self, call: Call) -> bool
+        ensures record { self.new.history.events ≡ (if result then self.old.history.events else event call Answer.Refused [] ∷ self.old.history.events) }
         ensures made { IsTrue result → TapeHasRoom self.new 1 0 }
         ensures room { (n b : ℕ) → TapeHasRoom self.old (n + 1) b → IsTrue result }
         ensures stays { (n b : ℕ) → TapeHasRoom self.old (n + 1) b → TapeHasRoom self.new (n + 1) b }
     {
         if self.is_full || self.calls.reserve(1).is_err() {
             self.is_full = true;
-            self.history.note_refusal(call, bytes);
+            self.history.note_refusal(call);
             return false;
         }
         true
@@ -78,9 +79,10 @@ impl Tape {
 
     /// Keeps a call with its bytes, which took effect or failed.
     pub fn keep(&mut self, call: Call, bytes: &[u8], is_done: bool) -> Result<(), DiskFault>
-        requires { TapeHasRoom self.old 1 (if is_done then length bytes.now else 0) }
+        requires room { TapeHasRoom self.old 1 (if is_done then length bytes.now else 0) }
+        requires fits { Fits call (if is_done then Answer.Done else Answer.Failed) (if is_done then bytes.now else []) }
         ensures result { is_ok result ≡ is_done }
-        ensures record { self.new.history.events ≡ event call (answer_of result) bytes.now ∷ self.old.history.events }
+        ensures record { self.new.history.events ≡ event call (answer_of result) (if is_done then bytes.now else []) ∷ self.old.history.events }
         ensures stays { (n b : ℕ) → TapeHasRoom self.old (n + 1) (length bytes.now + b) → TapeHasRoom self.new n b }
     {
         let answer = if is_done {

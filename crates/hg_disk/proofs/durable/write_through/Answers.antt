@@ -1,5 +1,4 @@
 use Rattle.hg_disk.specs.State.{IsImage, after_write}
-use Rattle.hg_disk.specs.Moments.{LeavesOnly}
 use Rattle.hg_disk.proofs.Moments.{write_leaves, sync_leaves, joined, weaker, at_end}
 use Rattle.hg_disk.proofs.durable.write_through.Goals as goal
 

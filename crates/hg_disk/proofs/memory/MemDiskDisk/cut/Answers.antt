@@ -1,4 +1,4 @@
-use Rattle.std.proofs.Common.{◌≡◌, ◌≤◌, ◌+◌, ℕ, arith, rules}
+use Rattle.std.proofs.Common.{◌+◌, arith, rules}
 use Rattle.hg_disk.proofs.Rooming.{less_room}
 use Rattle.hg_disk.proofs.memory.MemDiskDisk.cut.Goals as goal
 

@@ -1,7 +1,6 @@
-use Rattle.std.proofs.Common.{◌≡◌, ◌≤◌, ◌+◌, ℕ, IsTrue, List, length, ap, sym, ◌∙◌, arith, rules}
+use Rattle.std.proofs.Common.{◌≡◌, ◌≤◌, ◌+◌, length, ap, arith, rules}
 use Rattle.std.specs.Vec.{vec_capacity}
-use Rattle.hg_disk.specs.Memory.{HasRoom, room_taken, state_of}
-use Rattle.hg_disk.specs.Room.{TapeHasRoom}
+use Rattle.hg_disk.specs.Memory.{state_of}
 use Rattle.hg_disk.specs.State.{overwritten}
 use Rattle.hg_disk.proofs.Rooming.{less_room, length-overwritten_le}
 use Rattle.hg_disk.proofs.memory.MemDiskDisk.write_at.Goals as goal
