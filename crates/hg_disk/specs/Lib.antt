@@ -7,5 +7,7 @@ pub mod Laws
 pub mod Memory
 pub mod Moments
 pub mod Room
+pub mod Replay
 pub mod State
 pub mod Tape
+pub mod Tear

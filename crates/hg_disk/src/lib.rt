@@ -10,7 +10,9 @@ pub mod laws;
 mod memory;
 mod overwrite;
 mod record;
+mod replay;
 mod tape;
+mod tear;
 
 pub use call::{Answer, Answered, Call};
 pub use disk::{Disk, DiskFault, MAX_LEN};
@@ -18,3 +20,4 @@ pub use durable::write_through;
 pub use file::FileDisk;
 pub use fuse::FuseDisk;
 pub use memory::MemDisk;
+pub use tear::Tear;
