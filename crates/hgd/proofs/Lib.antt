@@ -2,3 +2,4 @@ mod Pieces
 mod Printed
 mod Steps
 mod Underway
+mod Unique

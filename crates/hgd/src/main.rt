@@ -3,6 +3,7 @@
 
 pub mod checker;
 pub mod commands;
+pub mod laws;
 pub mod printing;
 pub mod run;
 pub mod streams;
