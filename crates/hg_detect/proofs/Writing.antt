@@ -22,22 +22,22 @@ pub one_set : (old new : ℕ → Option (List Cell)) (word : ℕ) (cell : Cell) 
 one_set old new word cell cells there len writes w =
     ⊎_elim
     (λ (same : word / 256 ≡ w / 256).
-        let at = eq-eqb (word / 256) (w / 256) same in
-        let before : old (w / 256) ≡ Some cells = ap old (sym same) ∙ there in
-        ap (λ o. cell_at o (w % 256)) (writes (w / 256) ∙ ap (λ b. cond b (Some (set cells (word % 256) cell)) (old (w / 256))) at)
-        ∙ ⊎_elim
-          (λ (here : w ≡ word).
-              ap (λ x. get_or (set cells (word % 256) cell) (x % 256) New) here
-              ∙ get_or-set_same cells (word % 256) cell New (omega (arith, len))
-              ∙ sym (ap (λ b. cond b cell (cell_at (old (w / 256)) (w % 256))) (eq-eqb w word here)))
-          (λ (other : w ≡ word → ⊥).
-              get_or-set_other cells (word % 256) (w % 256) cell New (λ e. other (omega (arith, same, e)))
-              ∙ ap (λ o. cell_at o (w % 256)) (sym before)
-              ∙ sym (ap (λ b. cond b cell (cell_at (old (w / 256)) (w % 256))) (ne_eqb w word other)))
-          (cases_eq w word))
+    let at = eq-eqb (word / 256) (w / 256) same in
+    let before : old (w / 256) ≡ Some cells = ap old (sym same) ∙ there in
+    ap (λ o. cell_at o (w % 256)) (writes (w / 256) ∙ ap (λ b. cond b (Some (set cells (word % 256) cell)) (old (w / 256))) at)
+    ∙ ⊎_elim
+    (λ (here : w ≡ word).
+    ap (λ x. get_or (set cells (word % 256) cell) (x % 256) New) here
+    ∙ get_or-set_same cells (word % 256) cell New (omega (arith, len))
+    ∙ sym (ap (λ b. cond b cell (cell_at (old (w / 256)) (w % 256))) (eq-eqb w word here)))
+    (λ (other : w ≡ word → ⊥).
+    get_or-set_other cells (word % 256) (w % 256) cell New (λ e. other (omega (arith, same, e)))
+    ∙ ap (λ o. cell_at o (w % 256)) (sym before)
+    ∙ sym (ap (λ b. cond b cell (cell_at (old (w / 256)) (w % 256))) (ne_eqb w word other)))
+    (cases_eq w word))
     (λ (apart : word / 256 ≡ w / 256 → ⊥).
-        ap (λ o. cell_at o (w % 256)) (writes (w / 256) ∙ ap (λ b. cond b (Some (set cells (word % 256) cell)) (old (w / 256))) (ne_eqb (word / 256) (w / 256) apart))
-        ∙ sym (ap (λ b. cond b cell (cell_at (old (w / 256)) (w % 256))) (ne_eqb w word (λ e. apart (ap (λ x. x / 256) (sym e))))))
+    ap (λ o. cell_at o (w % 256)) (writes (w / 256) ∙ ap (λ b. cond b (Some (set cells (word % 256) cell)) (old (w / 256))) (ne_eqb (word / 256) (w / 256) apart))
+    ∙ sym (ap (λ b. cond b cell (cell_at (old (w / 256)) (w % 256))) (ne_eqb w word (λ e. apart (ap (λ x. x / 256) (sym e))))))
     (cases_eq (word / 256) (w / 256))
 
 -- some cells of a page are new
@@ -47,22 +47,22 @@ new_at cells from to i order within =
     ap (λ xs. get_or xs i New) (append_assoc (take from cells) (replicate (to - from) New) (drop to cells))
     ∙ ⊎_elim
     (λ (low : i < from).
-        get_or_append_left (take from cells) (replicate (to - from) New ++ drop to cells) New i (omega (arith, front))
-        ∙ get_or-take from cells i New low
-        ∙ sym (ap (λ b. cond b New (get_or cells i New)) (and_left (nat_le from i) (nat_lt i to) (lt-leb from i low))))
+    get_or_append_left (take from cells) (replicate (to - from) New ++ drop to cells) New i (omega (arith, front))
+    ∙ get_or-take from cells i New low
+    ∙ sym (ap (λ b. cond b New (get_or cells i New)) (and_left (nat_le from i) (nat_lt i to) (lt-leb from i low))))
     (λ (above : from ≤ i).
-        get_or-append_right (take from cells) (replicate (to - from) New ++ drop to cells) from i New front above
-        ∙ ⊎_elim
-          (λ (in_range : i < to).
-              get_or_append_left (replicate (to - from) New) (drop to cells) New (i - from) (omega (arith, length-replicate (to - from) New))
-              ∙ get_or-replicate (to - from) (i - from) New New (omega arith)
-              ∙ sym (ap (λ b. cond b New (get_or cells i New)) (and_from (nat_le from i) (nat_lt i to) (le-leb from i above) (lt-ltb i to in_range))))
-          (λ (high : to ≤ i). let back : to + (i - from - (to - from)) ≡ i = omega arith in
-              get_or-append_right (replicate (to - from) New) (drop to cells) (to - from) (i - from) New (length-replicate (to - from) New) (omega arith)
-              ∙ get_or-drop to cells (i - from - (to - from)) New
-              ∙ ap (λ (x : ℕ). get_or cells x New) back
-              ∙ sym (ap (λ b. cond b New (get_or cells i New)) (and_right (nat_le from i) (nat_lt i to) (le-ltb i to high))))
-          (cases_lt i to))
+    get_or-append_right (take from cells) (replicate (to - from) New ++ drop to cells) from i New front above
+    ∙ ⊎_elim
+    (λ (in_range : i < to).
+    get_or_append_left (replicate (to - from) New) (drop to cells) New (i - from) (omega (arith, length-replicate (to - from) New))
+    ∙ get_or-replicate (to - from) (i - from) New New (omega arith)
+    ∙ sym (ap (λ b. cond b New (get_or cells i New)) (and_from (nat_le from i) (nat_lt i to) (le-leb from i above) (lt-ltb i to in_range))))
+    (λ (high : to ≤ i). let back : to + (i - from - (to - from)) ≡ i = omega arith in
+    get_or-append_right (replicate (to - from) New) (drop to cells) (to - from) (i - from) New (length-replicate (to - from) New) (omega arith)
+    ∙ get_or-drop to cells (i - from - (to - from)) New
+    ∙ ap (λ (x : ℕ). get_or cells x New) back
+    ∙ sym (ap (λ b. cond b New (get_or cells i New)) (and_right (nat_le from i) (nat_lt i to) (le-ltb i to high))))
+    (cases_lt i to))
     (cases_lt i from)
 
 pub some_new : (old new : ℕ → Option (List Cell)) (number from to : ℕ) (cells : List Cell) → old number ≡ Some cells → length cells ≡ 256 → from ≤ to → to ≤ 256
@@ -71,14 +71,14 @@ pub some_new : (old new : ℕ → Option (List Cell)) (number from to : ℕ) (ce
 some_new old new number from to cells there len order within writes w =
     ⊎_elim
     (λ (same : number ≡ w / 256).
-        let before : old (w / 256) ≡ Some cells = ap old (sym same) ∙ there in
-        ap (λ o. cell_at o (w % 256)) (writes (w / 256) ∙ ap (λ b. cond b (Some (with_new cells from to)) (old (w / 256))) (eq-eqb number (w / 256) same))
-        ∙ new_at cells from to (w % 256) order (omega (arith, len))
-        ∙ ap (λ o. cond (nat_le from (w % 256) && nat_lt (w % 256) to) New (cell_at o (w % 256))) (sym before)
-        ∙ sym (ap (λ b. cond (b && (nat_le from (w % 256) && nat_lt (w % 256) to)) New (cell_at (old (w / 256)) (w % 256))) (eq-eqb (w / 256) number (sym same))))
+    let before : old (w / 256) ≡ Some cells = ap old (sym same) ∙ there in
+    ap (λ o. cell_at o (w % 256)) (writes (w / 256) ∙ ap (λ b. cond b (Some (with_new cells from to)) (old (w / 256))) (eq-eqb number (w / 256) same))
+    ∙ new_at cells from to (w % 256) order (omega (arith, len))
+    ∙ ap (λ o. cond (nat_le from (w % 256) && nat_lt (w % 256) to) New (cell_at o (w % 256))) (sym before)
+    ∙ sym (ap (λ b. cond (b && (nat_le from (w % 256) && nat_lt (w % 256) to)) New (cell_at (old (w / 256)) (w % 256))) (eq-eqb (w / 256) number (sym same))))
     (λ (apart : number ≡ w / 256 → ⊥).
-        ap (λ o. cell_at o (w % 256)) (writes (w / 256) ∙ ap (λ b. cond b (Some (with_new cells from to)) (old (w / 256))) (ne_eqb number (w / 256) apart))
-        ∙ sym (ap (λ b. cond (b && (nat_le from (w % 256) && nat_lt (w % 256) to)) New (cell_at (old (w / 256)) (w % 256))) (ne_eqb (w / 256) number (λ e. apart (sym e)))))
+    ap (λ o. cell_at o (w % 256)) (writes (w / 256) ∙ ap (λ b. cond b (Some (with_new cells from to)) (old (w / 256))) (ne_eqb number (w / 256) apart))
+    ∙ sym (ap (λ b. cond (b && (nat_le from (w % 256) && nat_lt (w % 256) to)) New (cell_at (old (w / 256)) (w % 256))) (ne_eqb (w / 256) number (λ e. apart (sym e)))))
     (cases_eq number (w / 256))
 
 -- a page that was present is present
@@ -113,13 +113,13 @@ pub page_added : {P S : Type 0} (cells_of : P → List Cell) (m new : IndexMap �
 page_added cells_of m new number page none fresh adds w =
     ap (λ o. cell_at (option_map cells_of o) (w % 256)) (adds (w / 256))
     ∙ ⊎_elim
-      (λ (here : number ≡ w / 256).
-          ap (λ b. cell_at (option_map cells_of (cond b (Some page) (get nat_eq m (w / 256)))) (w % 256)) (eq-eqb number (w / 256) here)
-          ∙ ap (λ xs. get_or xs (w % 256) New) fresh
-          ∙ get_or-replicate 256 (w % 256) New New (omega arith)
-          ∙ ap (λ o. cell_at (option_map cells_of o) (w % 256)) (sym none ∙ ap (λ n. get nat_eq m n) here))
-      (λ (other : number ≡ w / 256 → ⊥). ap (λ b. cell_at (option_map cells_of (cond b (Some page) (get nat_eq m (w / 256)))) (w % 256)) (ne_eqb number (w / 256) other))
-      (cases_eq number (w / 256))
+    (λ (here : number ≡ w / 256).
+    ap (λ b. cell_at (option_map cells_of (cond b (Some page) (get nat_eq m (w / 256)))) (w % 256)) (eq-eqb number (w / 256) here)
+    ∙ ap (λ xs. get_or xs (w % 256) New) fresh
+    ∙ get_or-replicate 256 (w % 256) New New (omega arith)
+    ∙ ap (λ o. cell_at (option_map cells_of o) (w % 256)) (sym none ∙ ap (λ n. get nat_eq m n) here))
+    (λ (other : number ≡ w / 256 → ⊥). ap (λ b. cell_at (option_map cells_of (cond b (Some page) (get nat_eq m (w / 256)))) (w % 256)) (ne_eqb number (w / 256) other))
+    (cases_eq number (w / 256))
 
 pub absent : {Q N : Type 0} (P : Q → Type 0) (r : Option Q) → is_some r ≡ false → MatchOption r N P → N
 absent P None h n = n

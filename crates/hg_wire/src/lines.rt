@@ -44,11 +44,7 @@ pub fn put_fault_line(code: u8, out: &mut Vec<u8>) -> Result<(), AllocError>
 }
 
 /// Appends the line of the segment that was opened as `number`, from 0 on. An `Err` leaves `out` as it was.
-pub fn put_segment_line(
-    number: u64,
-    segment: &Segment,
-    out: &mut Vec<u8>,
-) -> Result<(), AllocError>
+pub fn put_segment_line(number: u64, segment: &Segment, out: &mut Vec<u8>) -> Result<(), AllocError>
     ensures ok { OnOk result (out.new.items ≡ out.old.items ++ segment_line number segment.now) }
     ensures err { OnErr result (out.new.items ≡ out.old.items) }
 {

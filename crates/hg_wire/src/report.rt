@@ -73,7 +73,11 @@ fn digits_of_word(word: u64) -> [u8; 16]
 }
 
 /// Appends the bytes, and a number in decimal after them. An `Err` changes nothing.
-pub(crate) fn put_number_after(bytes: &[u8], number: u64, out: &mut Vec<u8>) -> Result<(), AllocError>
+pub(crate) fn put_number_after(
+    bytes: &[u8],
+    number: u64,
+    out: &mut Vec<u8>,
+) -> Result<(), AllocError>
     ensures ok { OnOk result (out.new.items ≡ out.old.items ++ (bytes.now ++ decimal number)) }
     ensures err { OnErr result (out.new.items ≡ out.old.items) }
 {

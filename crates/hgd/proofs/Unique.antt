@@ -28,26 +28,26 @@ interns_same : (old x y : Table) (set : List ℕ) (a b : ℕ) → Interns old se
 interns_same old x y set a b h k =
     ⊎_elim
     (λ found. ⊎_elim
-        (λ again. found.3 ∙ sym again.3)
-        (λ added. absurd (added.0 (contains_standing old.sets set found.0 found.1)))
-        k)
+    (λ again. found.3 ∙ sym again.3)
+    (λ added. absurd (added.0 (contains_standing old.sets set found.0 found.1)))
+    k)
     (λ added. ⊎_elim
-        (λ found. absurd (added.0 (contains_standing old.sets set found.0 found.1)))
-        (λ again. added.1.2 ∙ sym again.1.2)
-        k)
+    (λ found. absurd (added.0 (contains_standing old.sets set found.0 found.1)))
+    (λ again. added.1.2 ∙ sym again.1.2)
+    k)
     h
 
 not_both : (old x y : Table) (set : List ℕ) (id : ℕ) → Interns old set (Ok id) x → Interns old set (Err Full) y → ⊥
 not_both old x y set id h k =
     ⊎_elim
     (λ found. ⊎_elim
-        (λ again. err_is_not_ok Full again.0 again.2)
-        (λ full. full.0 (contains_standing old.sets set found.0 found.1))
-        k)
+    (λ again. err_is_not_ok Full again.0 again.2)
+    (λ full. full.0 (contains_standing old.sets set found.0 found.1))
+    k)
     (λ added. ⊎_elim
-        (λ again. err_is_not_ok Full again.0 again.2)
-        (λ full. let none : ⊥ = omega (arith, added.1.0, full.1.0) in none)
-        k)
+    (λ again. err_is_not_ok Full again.0 again.2)
+    (λ full. let none : ⊥ = omega (arith, added.1.0, full.1.0) in none)
+    k)
     h
 
 -- asking a table for sets in order leaves one table
@@ -56,9 +56,9 @@ asks_same [] old x y h k = h ∙ sym k
 asks_same (set ∷ sets) old x y h k =
     ⊎_elim
     (λ one. ⊎_elim
-        (λ other. asks_same sets other.1 x y (subst (λ (t : Table). Asks t sets None x) (interns_same old one.1 other.1 set one.0 other.0 one.2 other.2) one.3) other.3)
-        (λ refused. absurd (none_is_not_some refused.0 refused.2))
-        k)
+    (λ other. asks_same sets other.1 x y (subst (λ (t : Table). Asks t sets None x) (interns_same old one.1 other.1 set one.0 other.0 one.2 other.2) one.3) other.3)
+    (λ refused. absurd (none_is_not_some refused.0 refused.2))
+    k)
     (λ refused. absurd (none_is_not_some refused.0 refused.2))
     h
   where
@@ -71,14 +71,15 @@ asks_not_both [] old x y h k = k
 asks_not_both (set ∷ sets) old x y h k =
     ⊎_elim
     (λ one. ⊎_elim
-        (λ other. asks_not_both sets other.1 x y (subst (λ (t : Table). Asks t sets None x) (interns_same old one.1 other.1 set one.0 other.0 one.2 other.2) one.3) other.3)
-        (λ refused. not_both old one.1 y set one.0 one.2 (subst (λ f. Interns old set (Err f) y) (sym (fault_is refused.0 refused.2)) refused.1))
-        k)
+    (λ other. asks_not_both sets other.1 x y (subst (λ (t : Table). Asks t sets None x) (interns_same old one.1 other.1 set one.0 other.0 one.2 other.2) one.3) other.3)
+    (λ refused. not_both old one.1 y set one.0 one.2 (subst (λ f. Interns old set (Err f) y) (sym (fault_is refused.0 refused.2)) refused.1))
+    k)
     (λ refused. none_is_not_some refused.0 refused.2)
     h
   where
     none_is_not_some : (fault : SetFault) → ◌≡◌ {A = Option SetFault} None (Some fault) → ⊥
     none_is_not_some fault e = absurd (cc)
+
     fault_is : (fault : SetFault) → ◌≡◌ {A = Option SetFault} (Some Full) (Some fault) → Full ≡ fault
     fault_is fault e = cc
 
@@ -90,13 +91,13 @@ answered_same : (v : Verdict) (t : Table) (c : Content) (e : Event) (line : ℕ)
 answered_same Accept t c e line later other x y first second on h k =
     ⊎_elim
     (λ went. ⊎_elim
-        (λ again. on k.0 (after c (next_named c e)) (subst (λ (u : Table). later u (after c (next_named c e))) (asks_same (sets_asked c e) t h.0 k.0 went.0 again.0) went.1) again.1)
-        (λ full. absurd (asks_not_both (sets_asked c e) t h.0 k.0 went.0 full.0))
-        k.1)
+    (λ again. on k.0 (after c (next_named c e)) (subst (λ (u : Table). later u (after c (next_named c e))) (asks_same (sets_asked c e) t h.0 k.0 went.0 again.0) went.1) again.1)
+    (λ full. absurd (asks_not_both (sets_asked c e) t h.0 k.0 went.0 full.0))
+    k.1)
     (λ full. ⊎_elim
-        (λ went. absurd (asks_not_both (sets_asked c e) t k.0 h.0 went.0 full.0))
-        (λ again. (full.1.0 ∙ sym again.1.0, full.1.1 ∙ sym again.1.1))
-        k.1)
+    (λ went. absurd (asks_not_both (sets_asked c e) t k.0 h.0 went.0 full.0))
+    (λ again. (full.1.0 ∙ sym again.1.0, full.1.1 ∙ sym again.1.1))
+    k.1)
     h.1
 answered_same (Duplicate n) t c e line later other x y first second on h k = absurd h
 answered_same (Refuse r) t c e line later other x y first second on h k = (h.0 ∙ sym k.0, h.1 ∙ sym k.1)
