@@ -8,6 +8,8 @@ ghost use Rattle.hg_model.specs.Paths.{reaches as reaches_of};
 ghost use Rattle.hg_graph.specs.Graph.{names};
 
 mod sweep;
+#[cfg(test)]
+mod tests;
 
 use crate::sweep::sweep;
 use hg_model::segment::{Predecessors, Segment};

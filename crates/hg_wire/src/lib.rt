@@ -4,6 +4,7 @@
 mod held;
 pub mod laws;
 pub mod line;
+pub mod lines;
 mod number;
 mod operands;
 pub mod reader;

@@ -1,0 +1,5 @@
+pub mod Overwriting
+pub mod Rooming
+pub mod Moments
+pub mod Images
+pub mod Keeping

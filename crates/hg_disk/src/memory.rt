@@ -1,0 +1,180 @@
+//! A disk in memory.
+ghost use Rattle.std.specs.Prelude.{◌≡◌, ◌+◌, ◌-◌, ◌<◌, ◌≤◌, ◌^◌, ◌∷◌, ℕ, [], true, length, take, drop, IsTrue, IsOk, IfOk, OnOk, OnErr, if◌then◌else◌};
+ghost use Rattle.std.specs.Vec.{vec_capacity};
+ghost use Rattle.hg_disk.specs.Room.{TapeHasRoom};
+ghost use Rattle.hg_disk.specs.State.{SameImages, overwritten, after_write, after_cut, after_sync, counted};
+ghost use Rattle.hg_disk.specs.History.{replay, states_before, failures_in};
+ghost use Rattle.hg_disk.specs.Kept.{has_contents};
+
+use crate::call::Call;
+use crate::disk::is_within;
+use crate::overwrite::overwrite;
+use crate::tape::Tape;
+use crate::{Disk, DiskFault};
+use std::alloc::{AllocError, Global};
+
+/// A disk in memory, that keeps all its calls. It has the crash images of the model at each moment, and no others.
+///
+/// A call that is refused memory fails. If it was refused the memory to be kept itself, the disk is full: each call
+/// from then on fails too.
+#[derive(Drop)]
+pub struct MemDisk {
+    start: Vec<u8>,
+    bytes: Vec<u8>,
+    tape: Tape,
+    ghost shows: { bytes.items ≡ (replay start.items tape.history.events).contents },
+    ghost fits: { length bytes.items ≤ 2 ^ 62 },
+}
+
+impl MemDisk {
+    ghost use Rattle.hg_disk.specs.Memory.{start_of, history_of, HasRoom};
+
+    /// An empty disk.
+    pub fn new(alloc: Global) -> MemDisk
+        ensures start { start_of result ≡ [] }
+        ensures history { history_of result ≡ [] }
+    {
+        MemDisk {
+            start: Vec::new(alloc),
+            bytes: Vec::new(alloc),
+            tape: Tape::new(alloc),
+        }
+    }
+
+    /// An empty disk with room for so many calls, and for so many bytes that they write or by which they make the
+    /// file longer, whichever are more at each call. Calls within the room take no memory.
+    pub fn with_room(alloc: Global, calls: usize, bytes: usize) -> Result<MemDisk, AllocError>
+        ensures start { IfOk result (λ m. start_of m ≡ []) }
+        ensures history { IfOk result (λ m. history_of m ≡ []) }
+        ensures room { IfOk result (λ m. HasRoom m calls bytes) }
+    {
+        Ok(MemDisk {
+            start: Vec::new(alloc),
+            bytes: Vec::with_capacity(alloc, bytes)?,
+            tape: Tape::with_room(alloc, calls, bytes)?,
+        })
+    }
+
+    /// A disk with these bytes, all of them durable.
+    pub fn holding(alloc: Global, bytes: Vec<u8>) -> Result<MemDisk, AllocError>
+        requires { length bytes.items ≤ 2 ^ 62 }
+        ensures start { IfOk result (λ m. start_of m ≡ bytes.items) }
+        ensures history { IfOk result (λ m. history_of m ≡ []) }
+    {
+        Ok(MemDisk {
+            bytes: Vec::from_slice(alloc, &bytes)?,
+            start: bytes,
+            tape: Tape::new(alloc),
+        })
+    }
+
+    /// The bytes that a read gives.
+    pub fn bytes(&self) -> &[u8]
+        ensures { result.now ≡ (replay (start_of self.now) (history_of self.now)).contents }
+    {
+        &self.bytes
+    }
+}
+
+impl Disk for MemDisk {
+    ghost use Rattle.hg_disk.specs.Memory.{state_of, past_of, failures_of, HasRoom, room_taken};
+
+    ghost is_honest = { true };
+
+    ghost state = { λ m. replay m.start.items m.tape.history.events };
+
+    ghost past = { λ m. states_before m.start.items m.tape.history.events };
+
+    ghost failures = { λ m. failures_in m.tape.history.events };
+
+    ghost has_its_bytes = { λ m. has_contents m.start.items m.tape.history.events };
+
+    fn len(&self) -> u64 {
+        self.bytes.len() as u64
+    }
+
+    fn read_at(&mut self, at: u64, buf: &mut [u8]) -> Result<(), DiskFault>
+        requires { at + length buf.old ≤ length (state_of self.old).contents }
+        ensures bytes { OnOk result (buf.new ≡ take (length buf.old) (drop at (state_of self.old).contents)) }
+        ensures state { state_of self.new ≡ state_of self.old }
+        ensures clock { past_of self.new ≡ state_of self.old ∷ past_of self.old }
+        ensures failures { failures_of self.new ≡ counted result (failures_of self.old) }
+        ensures room { (n b : ℕ) → HasRoom self.old (n + 1) b → IsOk result × HasRoom self.new n b }
+    {
+        if !self.tape.makes_room(Call::Read) {
+            return Err(DiskFault);
+        }
+        let at = at as usize;
+        buf.copy_from_slice(&self.bytes[at..at + buf.len()]);
+        self.tape.keep(Call::Read, &[], true)
+    }
+
+    fn write_at(&mut self, at: u64, bytes: &[u8]) -> Result<(), DiskFault>
+        ensures ok { OnOk result (state_of self.new ≡ after_write at bytes.now (state_of self.old)) }
+        ensures err { OnErr result (SameImages (after_write at bytes.now (state_of self.old)) (state_of self.new)) }
+        ensures fits { OnOk result (at + length bytes.now ≤ 2 ^ 62) }
+        ensures clock { past_of self.new ≡ state_of self.old ∷ past_of self.old }
+        ensures failures { failures_of self.new ≡ counted result (failures_of self.old) }
+        ensures unchanged { OnErr result ((state_of self.new).contents ≡ (state_of self.old).contents) }
+        ensures room { (n b : ℕ) → HasRoom self.old (n + 1) (room_taken (state_of self.old).contents at bytes.now + b) → at + length bytes.now ≤ 2 ^ 62 → IsOk result × HasRoom self.new n b }
+    {
+        let call = Call::Write {
+            at,
+            len: bytes.len(),
+        };
+        if !self.tape.makes_room(call) {
+            return Err(DiskFault);
+        }
+        let is_done = writes(&mut self.tape, &mut self.bytes, at, bytes);
+        self.tape.keep(call, bytes, is_done)
+    }
+
+    fn cut(&mut self, to: u64) -> Result<(), DiskFault>
+        requires { to ≤ length (state_of self.old).contents }
+        ensures ok { OnOk result (state_of self.new ≡ after_cut to (state_of self.old)) }
+        ensures err { OnErr result (SameImages (after_cut to (state_of self.old)) (state_of self.new)) }
+        ensures clock { past_of self.new ≡ state_of self.old ∷ past_of self.old }
+        ensures failures { failures_of self.new ≡ counted result (failures_of self.old) }
+        ensures unchanged { OnErr result ((state_of self.new).contents ≡ (state_of self.old).contents) }
+        ensures room { (n b : ℕ) → HasRoom self.old (n + 1) b → IsOk result × HasRoom self.new n b }
+    {
+        if !self.tape.makes_room(Call::Cut { to }) {
+            return Err(DiskFault);
+        }
+        self.bytes.truncate(to as usize);
+        self.tape.keep(Call::Cut { to }, &[], true)
+    }
+
+    fn sync(&mut self) -> Result<(), DiskFault>
+        ensures ok { OnOk result (state_of self.new ≡ after_sync (state_of self.old)) }
+        ensures err { OnErr result (state_of self.new ≡ state_of self.old) }
+        ensures clock { past_of self.new ≡ state_of self.old ∷ past_of self.old }
+        ensures failures { failures_of self.new ≡ counted result (failures_of self.old) }
+        ensures room { (n b : ℕ) → HasRoom self.old (n + 1) b → IsOk result × HasRoom self.new n b }
+    {
+        if !self.tape.makes_room(Call::Sync) {
+            return Err(DiskFault);
+        }
+        self.tape.keep(Call::Sync, &[], true)
+    }
+}
+
+// Writes the bytes, and makes room to keep them. It tells whether it did; if not, the file has its bytes still.
+fn writes(tape: &mut Tape, file: &mut Vec<u8>, at: u64, bytes: &[u8]) -> bool
+    requires { TapeHasRoom tape.old 1 0 }
+    ensures fits { IsTrue result → at + length bytes.now ≤ 2 ^ 62 }
+    ensures record { tape.new.history.events ≡ tape.old.history.events }
+    ensures file { file.new.items ≡ (if result then overwritten file.old.items at bytes.now else file.old.items) }
+    ensures made { TapeHasRoom tape.new 1 (if result then length bytes.now else 0) }
+    ensures room { (n b : ℕ) → TapeHasRoom tape.old (n + 1) (length bytes.now + b) → at + length bytes.now ≤ 2 ^ 62 → at + length bytes.now ≤ vec_capacity file.old → IsTrue result }
+    ensures stays { (n b : ℕ) → TapeHasRoom tape.old (n + 1) (length bytes.now + b) → TapeHasRoom tape.new (n + 1) (length bytes.now + b) }
+    ensures capacity { vec_capacity file.old ≤ vec_capacity file.new }
+{
+    if !is_within(at, bytes.len()) {
+        return false;
+    }
+    if !tape.makes_room_for_bytes(bytes.len()) {
+        return false;
+    }
+    overwrite(file, at as usize, bytes).is_ok()
+}

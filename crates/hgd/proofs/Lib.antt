@@ -1,0 +1,4 @@
+mod Pieces
+mod Printed
+mod Steps
+mod Underway

@@ -1,0 +1,4 @@
+pub mod Checking
+pub mod Printing
+pub mod Running
+pub mod Streaming
