@@ -1,7 +1,8 @@
 //! Which of its images a disk in memory gives, and how a call changes it.
-ghost use Rattle.std.specs.Prelude.{◌≡◌, ◌+◌, ◌-◌, ◌<◌, ◌≤◌, ◌^◌, ◌∷◌, ◌++◌, ℕ, List, length, take, drop, replicate, OnOk, OnErr};
+ghost use Rattle.std.specs.Prelude.{◌≡◌, ◌+◌, ◌-◌, ◌<◌, ◌≤◌, ◌^◌, ◌∷◌, ◌++◌, [], ℕ, List, length, take, drop, replicate, OnOk, OnErr};
 ghost use Rattle.hg_disk.specs.State.{overwritten};
 ghost use Rattle.hg_disk.specs.Event.{Event, event};
+ghost use Rattle.hg_disk.specs.History.{replay};
 ghost use Rattle.hg_disk.specs.Blots.{blotted, blotted_within, cut_off};
 
 use crate::call::{Answer, Call};
@@ -55,6 +56,70 @@ impl Tear {
             Tear::Fill(byte) => blot_write(torn, at, bytes.len(), byte),
         }
     }
+
+    /// A cut that took effect.
+    pub(crate) fn cut(self, torn: &mut Vec<u8>, left: usize, to: usize)
+        ensures { (start : List ℕ) (earlier : List Event) → left ≡ left_of (limit_of self) earlier → IsTorn self start earlier torn.old.items → IsTorn self start (event (Call.Cut to) Answer.Done [] ∷ earlier) torn.new.items }
+    {
+        match self {
+            Tear::Lost => {}
+            Tear::Kept => torn.truncate(to),
+            Tear::Front(_) => cut_front(torn, left, to),
+            Tear::Fill(_) => torn.truncate(to),
+        }
+    }
+
+    /// A sync that took effect.
+    pub(crate) fn sync(self, torn: &mut Vec<u8>, contents: &[u8]) -> Result<(), AllocError>
+        ensures { OnOk result ((start : List ℕ) (earlier : List Event) → contents.now ≡ (replay start earlier).contents → IsTorn self start (event Call.Sync Answer.Done [] ∷ earlier) torn.new.items) }
+    {
+        torn.clear();
+        torn.extend_from_slice(contents)
+    }
+
+    /// A write that failed.
+    pub(crate) fn fail_write(self, torn: &mut Vec<u8>, at: u64, len: usize)
+        ensures { (start : List ℕ) (earlier : List Event) → IsTorn self start earlier torn.old.items → IsTorn self start (event (Call.Write at len) Answer.Failed [] ∷ earlier) torn.new.items }
+    {
+        if let Tear::Fill(byte) = self {
+            blot_within(torn, at as usize, len, byte);
+        }
+    }
+
+    /// A cut that failed.
+    pub(crate) fn fail_cut(self, torn: &mut Vec<u8>, to: u64)
+        ensures { (start : List ℕ) (earlier : List Event) → IsTorn self start earlier torn.old.items → IsTorn self start (event (Call.Cut to) Answer.Failed [] ∷ earlier) torn.new.items }
+    {
+        if let Tear::Fill(byte) = self {
+            blot_from(torn, to as usize, byte);
+        }
+    }
+}
+
+// Cuts the file, if bytes are left.
+fn cut_front(file: &mut Vec<u8>, left: usize, to: usize)
+    ensures none { left ≡ 0 → file.new.items ≡ file.old.items }
+    ensures some { 0 < left → file.new.items ≡ take to file.old.items }
+{
+    if left != 0 {
+        file.truncate(to);
+    }
+}
+
+// Puts the byte at the places of a write that lie within the file.
+fn blot_within(file: &mut Vec<u8>, at: usize, len: usize, byte: u8)
+    ensures { file.new.items ≡ blotted_within file.old.items at len byte }
+{
+    let end = at.saturating_add(len).min(file.len());
+    blot(file, at.min(file.len()), end, byte);
+}
+
+// Puts the byte at all places from this one on.
+fn blot_from(file: &mut Vec<u8>, to: usize, byte: u8)
+    ensures { file.new.items ≡ cut_off file.old.items to byte }
+{
+    let end = file.len();
+    blot(file, to.min(end), end, byte);
 }
 
 // Writes as many of the bytes as are left.
