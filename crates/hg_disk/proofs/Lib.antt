@@ -5,3 +5,5 @@ pub mod Images
 pub mod Keeping
 pub mod Filling
 pub mod Tearing
+pub mod Calling
+pub mod Tears
