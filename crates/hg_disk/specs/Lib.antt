@@ -1,3 +1,4 @@
+pub mod Blots
 pub mod Event
 pub mod Fuse
 pub mod FuseImages

@@ -1,7 +1,7 @@
 //! The calls of a disk made again, for an image.
-ghost use Rattle.std.specs.Prelude.{◌≡◌, ◌+◌, ◌-◌, ◌<◌, ◌≤◌, ◌^◌, ◌∷◌, ◌++◌, ℕ, List, [], length, take, drop, replicate, OnOk, IfOk};
+ghost use Rattle.std.specs.Prelude.{◌≡◌, ◌+◌, ◌≤◌, ◌^◌, ◌∷◌, ℕ, List, length, IfOk, OnOk, []};
 ghost use Rattle.hg_disk.specs.Event.{Event, event};
-ghost use Rattle.hg_disk.specs.State.{overwritten};
+ghost use Rattle.hg_disk.specs.Tape.{Fits};
 
 use crate::Tear;
 use crate::call::{Answer, Answered, Call};
@@ -18,26 +18,96 @@ pub(crate) struct Replay {
     pub left: usize,
 }
 
-// Puts the byte at each place from the one up to the other.
-fn blot(file: &mut Vec<u8>, from: usize, to: usize, byte: u8)
-    requires { (from ≤ to) × (to ≤ length file.old.items) }
-    ensures { file.new.items ≡ take from file.old.items ++ (replicate (to - from) byte ++ drop to file.old.items) }
-{
-    file[from..to].fill(byte);
-}
-
 impl Replay {
     ghost use Rattle.hg_disk.specs.Replay.{Stands};
 
     pub fn new(alloc: Global, start: &[u8], tear: Tear) -> Result<Replay, AllocError>
-        ensures { IfOk result (λ r. Stands r start.now []) }
+        ensures tear { IfOk result (λ r. r.tear ≡ tear) }
+        ensures stands { IfOk result (λ r. Stands r start.now []) }
     {
-        let left = if let Tear::Front(n) = tear { n } else { 0 };
         Ok(Replay {
             contents: Vec::from_slice(alloc, start)?,
             torn: Vec::from_slice(alloc, start)?,
             tear,
-            left,
+            left: tear.limit(),
         })
+    }
+
+    /// Makes the next call, which had this answer and wrote these bytes.
+    pub fn step(&mut self, told: Answered, bytes: &[u8]) -> Result<(), AllocError>
+        requires { Fits told.call told.answer bytes.now }
+        ensures tear { self.new.tear ≡ self.old.tear }
+        ensures stands { OnOk result ((start : List ℕ) (earlier : List Event) → Stands self.old start earlier → Stands self.new start (record { told = told; bytes = bytes.now } ∷ earlier)) }
+    {
+        match told.answer {
+            Answer::Done => self.make(told.call, bytes),
+            Answer::Failed => {
+                self.fail(told.call);
+                Ok(())
+            }
+            Answer::Refused => {
+                self.fail(told.call);
+                Ok(())
+            }
+        }
+    }
+
+    // A call that took effect.
+    fn make(&mut self, call: Call, bytes: &[u8]) -> Result<(), AllocError>
+        requires { Fits call Answer.Done bytes.now }
+        ensures tear { self.new.tear ≡ self.old.tear }
+        ensures stands { OnOk result ((start : List ℕ) (earlier : List Event) → Stands self.old start earlier → Stands self.new start (event call Answer.Done bytes.now ∷ earlier)) }
+    {
+        match call {
+            Call::Read => Ok(()),
+            Call::Write { at, len } => self.write(at, len, bytes),
+            Call::Cut { to } => {
+                self.cut(to);
+                Ok(())
+            }
+            Call::Sync => self.sync(),
+        }
+    }
+
+    fn write(&mut self, at: u64, len: usize, bytes: &[u8]) -> Result<(), AllocError>
+        requires { (len ≡ length bytes.now) × (at + len ≤ 2 ^ 62) }
+        ensures tear { self.new.tear ≡ self.old.tear }
+        ensures stands { OnOk result ((start : List ℕ) (earlier : List Event) → Stands self.old start earlier → Stands self.new start (event (Call.Write at len) Answer.Done bytes.now ∷ earlier)) }
+    {
+        self.tear
+            .write(&mut self.torn, self.left, at as usize, bytes)?;
+        overwrite(&mut self.contents, at as usize, bytes)?;
+        self.left = self.left.saturating_sub(len);
+        Ok(())
+    }
+
+    fn cut(&mut self, to: u64)
+        ensures tear { self.new.tear ≡ self.old.tear }
+        ensures stands { (start : List ℕ) (earlier : List Event) → Stands self.old start earlier → Stands self.new start (event (Call.Cut to) Answer.Done [] ∷ earlier) }
+    {
+        self.tear.cut(&mut self.torn, self.left, to as usize);
+        self.contents.truncate(to as usize);
+    }
+
+    fn sync(&mut self) -> Result<(), AllocError>
+        ensures tear { self.new.tear ≡ self.old.tear }
+        ensures stands { OnOk result ((start : List ℕ) (earlier : List Event) → Stands self.old start earlier → Stands self.new start (event Call.Sync Answer.Done [] ∷ earlier)) }
+    {
+        self.tear.sync(&mut self.torn, &self.contents)?;
+        self.left = self.tear.limit();
+        Ok(())
+    }
+
+    // A call that failed.
+    fn fail(&mut self, call: Call)
+        ensures tear { self.new.tear ≡ self.old.tear }
+        ensures stands { (start : List ℕ) (earlier : List Event) → Stands self.old start earlier → Stands self.new start (event call Answer.Failed [] ∷ earlier) }
+    {
+        match call {
+            Call::Read => {}
+            Call::Write { at, len } => self.tear.fail_write(&mut self.torn, at, len),
+            Call::Cut { to } => self.tear.fail_cut(&mut self.torn, to),
+            Call::Sync => {}
+        }
     }
 }
