@@ -4,6 +4,8 @@ use Rattle.std.specs.Vec.{vec_capacity}
 use Rattle.hg_disk.specs.Event.{Event}
 use Rattle.hg_disk.specs.State.{DiskState}
 use Rattle.hg_disk.specs.History.{replay, states_before, failures_in}
+use Rattle.hg_disk.specs.Tape.{kept, calls_in}
+use Rattle.hg_disk.specs.declared.call.Answered.{Answered}
 use Rattle.hg_disk.specs.Room.{TapeHasRoom}
 use Rattle.hg_disk.specs.declared.memory.MemDisk.{MemDisk}
 
@@ -14,6 +16,10 @@ start_of m = m.start.items
 -- its calls, the newest first
 abbrev pub history_of : MemDisk → List Event
 history_of m = m.tape.history.events
+
+-- those that it keeps as data, the oldest first: all up to the first one that found no memory to be kept
+abbrev pub calls_of : MemDisk → List Answered
+calls_of m = calls_in (kept m.tape.history.events)
 
 -- its state
 abbrev pub state_of : MemDisk → DiskState

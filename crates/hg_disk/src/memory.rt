@@ -2,15 +2,16 @@
 ghost use Rattle.std.specs.Prelude.{◌≡◌, ◌+◌, ◌-◌, ◌<◌, ◌≤◌, ◌^◌, ◌∷◌, ℕ, [], true, length, take, drop, IsTrue, IsOk, IfOk, OnOk, OnErr, if◌then◌else◌};
 ghost use Rattle.std.specs.Vec.{vec_capacity};
 ghost use Rattle.hg_disk.specs.Room.{TapeHasRoom};
-ghost use Rattle.hg_disk.specs.State.{SameImages, overwritten, after_write, after_cut, after_sync, counted};
+ghost use Rattle.hg_disk.specs.State.{IsImage, SameImages, overwritten, after_write, after_cut, after_sync, counted};
 ghost use Rattle.hg_disk.specs.History.{replay, states_before, failures_in};
 ghost use Rattle.hg_disk.specs.Kept.{has_contents};
 
-use crate::call::Call;
+use crate::call::{Answered, Call};
 use crate::disk::is_within;
 use crate::overwrite::overwrite;
+use crate::replay::Replay;
 use crate::tape::Tape;
-use crate::{Disk, DiskFault};
+use crate::{Disk, DiskFault, Tear};
 use std::alloc::{AllocError, Global};
 
 /// A disk in memory, that keeps all its calls. It has the crash images of the model at each moment, and no others.
@@ -27,7 +28,9 @@ pub struct MemDisk {
 }
 
 impl MemDisk {
-    ghost use Rattle.hg_disk.specs.Memory.{start_of, history_of, HasRoom};
+    ghost use Rattle.hg_disk.specs.Memory.{start_of, history_of, calls_of, state_of, past_of, HasRoom};
+    ghost use Rattle.hg_disk.specs.Tear.{IsTorn, first};
+    ghost use Rattle.hg_disk.specs.Moments.{at_moment};
 
     /// An empty disk.
     pub fn new(alloc: Global) -> MemDisk
@@ -66,6 +69,29 @@ impl MemDisk {
             start: bytes,
             tape: Tape::new(alloc),
         })
+    }
+
+    /// The calls with their answers, the oldest first: all up to the first one that found no memory to be kept.
+    pub fn calls(&self) -> &[Answered]
+        ensures { result.now ≡ calls_of self.now }
+    {
+        &self.tape.calls
+    }
+
+    /// An image of the disk after its first k calls, that is, at moment k.
+    pub fn image(&self, k: usize, tear: Tear) -> Result<Vec<u8>, AllocError>
+        requires { k ≤ length (calls_of self.now) }
+        ensures torn { IfOk result (λ v. IsTorn tear (start_of self.now) (first k (history_of self.now)) v.items) }
+        ensures image { IfOk result (λ v. IsImage (at_moment k (state_of self.now) (past_of self.now)) v.items) }
+    {
+        let mut replay = Replay::new(*self.start.allocator(), &self.start, tear)?;
+        let mut from = 0;
+        for i in 0..k {
+            let (told, bytes) = self.tape.call(i, from);
+            replay.step(told, bytes)?;
+            from += bytes.len();
+        }
+        Ok(replay.torn)
     }
 
     /// The bytes that a read gives.
