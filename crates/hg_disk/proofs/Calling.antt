@@ -134,7 +134,7 @@ reads events calls written i from n told are bytes fit lt at is len =
     let it : Next events i = next events i fit (omega (arith, lt, length-calls_in events)) in
     let same : it.call.told ≡ told = sym (is ∙ ap (λ (l : List Answered). get_or l i told) are ∙ it.told told) in
     let one : Reads events (written_in events) i (length (written_in (first i events))) (len_written told.call told.answer) told =
-        subst (λ (t : Answered). Reads events (written_in events) i (length (written_in (first i events))) (len_written t.call t.answer) t) same (reads_of events i it) in
+    subst (λ (t : Answered). Reads events (written_in events) i (length (written_in (first i events))) (len_written t.call t.answer) t) same (reads_of events i it) in
     let two : Reads events (written_in events) i (length (written_in (first i events))) n told = subst (λ (k : ℕ). Reads events (written_in events) i (length (written_in (first i events))) k told) (sym len) one in
     let three : Reads events (written_in events) i from n told = subst (λ (k : ℕ). Reads events (written_in events) i k n told) (sym at) two in
     subst (λ (l : List ℕ). Reads events l i from n told) (sym bytes) three
