@@ -1,9 +1,18 @@
 -- The calls of a disk, one after another.
-use Rattle.std.proofs.Common.{◌≡◌, ◌⊎◌, inl, inr, ⊎_elim, ◌<◌, ◌≤◌, ◌+◌, ◌-◌, ℕ, suc, List, [], ◌∷◌, ◌++◌, length, take, drop, get_or, refl, sym, ◌∙◌, ap, subst, arith, length-append}
-use Rattle.std.proofs.lemmas.List.{get_or_append_left, get_or_at, drop_at, take_at, drop-append-le, take-append-le, length-drop, append_assoc, take_all}
+use Rattle.std.proofs.Common.{◌≡◌, ◌⊎◌, ⊎_elim, ◌<◌, ◌≤◌, ◌+◌, ◌-◌, ℕ, zero, suc, List, [], ◌∷◌, ◌++◌, length, take, drop, get_or, refl, sym, ◌∙◌, ap, subst, arith, length-append}
+use Rattle.std.proofs.lemmas.List.{get_or_append_left, get_or_at, drop_at, drop-append-le, take-append-le, length-drop, take_all}
 use Rattle.hg_disk.specs.Event.{Event}
-use Rattle.hg_disk.specs.Tape.{calls_in, written_in, Fits, AllFit}
-use Rattle.hg_disk.specs.Tear.{first}
+use Rattle.hg_disk.specs.Len.{len_written}
+use Rattle.hg_disk.specs.Tape.{keep, kept, calls_in, written_in, Fits, AllFit}
+use Rattle.hg_disk.specs.State.{DiskState}
+use Rattle.hg_disk.specs.History.{replay, states_before}
+use Rattle.hg_disk.specs.Moments.{at_moment}
+use Rattle.hg_disk.specs.declared.call.Answer.{Answer}
+use Rattle.hg_disk.specs.declared.call.Answer.TheVariants.{Done, Failed, Refused}
+use Rattle.hg_disk.specs.Tear.{IsTorn, first}
+use Rattle.hg_disk.specs.Replay.{Stands}
+use Rattle.hg_disk.specs.declared.replay.Replay.{Replay}
+use Rattle.hg_disk.specs.declared.tear.Tear.{Tear}
 use Rattle.hg_disk.specs.declared.call.Answered.{Answered}
 
 pub length-calls_in : (events : List Event) → length (calls_in events) ≡ length events
@@ -64,3 +73,75 @@ pub next : (events : List Event) (i : ℕ) → AllFit events → i < length even
 next [] i fit lt = absurd (omega (arith, lt))
 next (e ∷ earlier) i fit lt =
     ⊎_elim (λ low. earlier_call e earlier i low (next earlier i fit.1 low)) (λ here. subst (Next (e ∷ earlier)) (sym here) (last_call e earlier fit.0)) (split_lt i (length earlier) lt)
+
+length-states_before : (start : List ℕ) (events : List Event) → length (states_before start events) ≡ length events
+length-states_before start [] = refl
+length-states_before start (e ∷ earlier) = ap suc (length-states_before start earlier)
+
+state_back : (start : List ℕ) (events : List Event) (j : ℕ) (d : DiskState) → j ≤ length events → get_or (replay start events ∷ states_before start events) j d ≡ replay start (drop j events)
+state_back start events zero d le = refl
+state_back start [] (suc j) d le = absurd (omega (arith, le))
+state_back start (e ∷ earlier) (suc j) d le = state_back start earlier j d (omega (arith, le))
+
+-- the state at a moment is that after so many calls
+pub state_at_moment : (start : List ℕ) (events : List Event) (k : ℕ) → at_moment k (replay start events) (states_before start events) ≡ replay start (first k events)
+state_at_moment start events k =
+    ap (λ (n : ℕ). get_or (replay start events ∷ states_before start events) (n - k) (replay start events)) (length-states_before start events)
+    ∙ state_back start events (length events - k) (replay start events) (omega arith)
+
+length-keep_le : (answer : Answer) (e : Event) (earlier before : List Event) → length before ≤ length earlier → length (keep answer e earlier before) ≤ length (e ∷ earlier)
+length-keep_le Done e earlier before le = omega arith
+length-keep_le Failed e earlier before le = omega arith
+length-keep_le Refused e earlier before le = omega (arith, le)
+
+length-kept_le : (events : List Event) → length (kept events) ≤ length events
+length-kept_le [] = omega arith
+length-kept_le (e ∷ earlier) = length-keep_le e.told.answer e earlier (kept earlier) (length-kept_le earlier)
+
+first_keep : (answer : Answer) (e : Event) (earlier before : List Event) (k : ℕ) → length before ≤ length earlier → (k ≤ length before → first k earlier ≡ first k before)
+    → k ≤ length (keep answer e earlier before) → first k (e ∷ earlier) ≡ first k (keep answer e earlier before)
+first_keep Done e earlier before k few same le = refl
+first_keep Failed e earlier before k few same le = refl
+first_keep Refused e earlier before k few same le = first_more e earlier k (omega (arith, le, few)) ∙ same le
+
+-- the first calls that are kept are the first of all
+pub first_kept : (events : List Event) (k : ℕ) → k ≤ length (kept events) → first k events ≡ first k (kept events)
+first_kept [] k le = refl
+first_kept (e ∷ earlier) k le = first_keep e.told.answer e earlier (kept earlier) k (length-kept_le earlier) (first_kept earlier k) le
+
+-- What is read of the kept calls: the call number i, and the next bytes, of which it wrote so many.
+pub record Reads (events : List Event) (written : List ℕ) (i from n : ℕ) (told : Answered) : Type 0 where
+  pub within : from + len_written told.call told.answer ≤ length written
+  pub next_is : first (i + 1) events ≡ record { told = told; bytes = take n (drop from written) } ∷ first i events
+  pub fits : Fits told.call told.answer (take n (drop from written))
+
+reads_of : (events : List Event) (i : ℕ) (n : Next events i) → Reads events (written_in events) i (length (written_in (first i events))) (len_written n.call.told.call n.call.told.answer) n.call.told
+reads_of events i n = record {
+  within = omega (arith, n.room, n.fits.len);
+  next_is = ap (λ (k : ℕ). first k events) one ∙ n.more ∙ ap (λ (bytes : List ℕ). record { told = n.call.told; bytes = bytes } ∷ first i events) (sym bytes);
+  fits = subst (λ (bytes : List ℕ). Fits n.call.told.call n.call.told.answer bytes) (sym bytes) n.fits;
+}
+  where
+    one : i + 1 ≡ suc i
+    one = omega arith
+
+    bytes : take (len_written n.call.told.call n.call.told.answer) (drop (length (written_in (first i events))) (written_in events)) ≡ n.call.bytes
+    bytes = ap (λ (k : ℕ). take k (drop (length (written_in (first i events))) (written_in events))) n.fits.len ∙ n.bytes
+
+pub reads : (events : List Event) (calls : List Answered) (written : List ℕ) (i from n : ℕ) (told : Answered) → calls ≡ calls_in events → written ≡ written_in events → AllFit events
+    → i < length (calls_in events) → from ≡ length (written_in (first i events)) → told ≡ get_or calls i told → n ≡ len_written told.call told.answer → Reads events written i from n told
+reads events calls written i from n told are bytes fit lt at is len =
+    let it : Next events i = next events i fit (omega (arith, lt, length-calls_in events)) in
+    let same : it.call.told ≡ told = sym (is ∙ ap (λ (l : List Answered). get_or l i told) are ∙ it.told told) in
+    let one : Reads events (written_in events) i (length (written_in (first i events))) (len_written told.call told.answer) told =
+    subst (λ (t : Answered). Reads events (written_in events) i (length (written_in (first i events))) (len_written t.call t.answer) t) same (reads_of events i it) in
+    let two : Reads events (written_in events) i (length (written_in (first i events))) n told = subst (λ (k : ℕ). Reads events (written_in events) i (length (written_in (first i events))) k told) (sym len) one in
+    let three : Reads events (written_in events) i from n told = subst (λ (k : ℕ). Reads events (written_in events) i k n told) (sym at) two in
+    subst (λ (l : List ℕ). Reads events l i from n told) (sym bytes) three
+
+-- the image where the replay stands after the first k calls
+pub torn_at : (start : List ℕ) (events : List Event) (k i : ℕ) (tear : Tear) (r : Replay) → k ≤ length (calls_in (kept events)) → i ≡ k → r.tear ≡ tear → Stands r start (first i (kept events))
+    → IsTorn tear start (first k events) r.torn.items
+torn_at start events k i tear r le here same stands =
+    let shown : first i (kept events) ≡ first k events = ap (λ (n : ℕ). first n (kept events)) here ∙ sym (first_kept events k (omega (arith, le, length-calls_in (kept events)))) in
+    subst (λ (t : Tear). IsTorn t start (first k events) r.torn.items) same (subst (λ (l : List Event). IsTorn r.tear start l r.torn.items) shown stands.torn)

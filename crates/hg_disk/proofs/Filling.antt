@@ -1,10 +1,10 @@
 -- A file in which each uncertain byte is the same, call by call.
-use Rattle.std.proofs.Common.{◌≡◌, ◌⊎◌, inl, inr, ⊎_elim, ◌<◌, ◌≤◌, ◌+◌, ◌-◌, ℕ, min, max, nat_lt, nat_le, Bool, true, false, ◌&&◌, ◌||◌, List, [], ◌∷◌, ◌++◌, length, take, drop, replicate, get_or, refl, sym, ◌∙◌, ap, arith}
+use Rattle.std.proofs.Common.{◌≡◌, ◌⊎◌, inl, inr, ⊎_elim, ◌<◌, ◌≤◌, ◌+◌, ℕ, min, max, nat_lt, nat_le, Bool, true, false, ◌&&◌, ◌||◌, List, length, take, get_or, refl, sym, ◌∙◌, ap, arith}
 use Rattle.std.proofs.lemmas.Bool.Decides.{nat_tests}
 use Rattle.std.proofs.lemmas.List.{places, length-take, get_or-take}
-use Rattle.hg_disk.specs.State.{DiskState, IsImage, least, is_written, settled, overwritten, after_write, after_cut, after_sync}
+use Rattle.hg_disk.specs.State.{DiskState, IsImage, least, is_written, overwritten, after_write, after_cut, after_sync}
 use Rattle.hg_disk.specs.History.{after_failed_write, after_failed_cut}
-use Rattle.hg_disk.specs.Kept.{overwritten_before, overwritten_behind, untouched, outside}
+use Rattle.hg_disk.specs.Kept.{untouched, outside}
 use Rattle.hg_disk.specs.Tear.{IsFilled}
 use Rattle.hg_disk.specs.Blots.{blotted, blotted_within, cut_off}
 

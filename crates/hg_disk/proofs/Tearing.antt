@@ -1,13 +1,12 @@
 -- An image of a disk, call by call.
-use Rattle.std.proofs.Common.{◌≡◌, ◌≤◌, ◌+◌, ℕ, Result, Ok, Err, OnOk, List, [], ◌∷◌, length, sym, subst}
+use Rattle.std.proofs.Common.{◌≡◌, ℕ, Result, Ok, Err, OnOk, List, [], ◌∷◌, length, sym, subst}
 use Rattle.hg_disk.specs.Blots.{blotted, blotted_within, limit_of}
 use Rattle.hg_disk.specs.Event.{Event, event}
 use Rattle.hg_disk.specs.History.{replay}
 use Rattle.hg_disk.specs.Kept.{has_contents}
-use Rattle.hg_disk.specs.State.{overwritten}
-use Rattle.hg_disk.specs.Tear.{IsTorn, IsFilled, left_of, front}
-use Rattle.hg_disk.specs.declared.call.Call.TheVariants.{Read, Write, Cut, Sync}
-use Rattle.hg_disk.specs.declared.call.Answer.TheVariants.{Done, Failed, Refused}
+use Rattle.hg_disk.specs.Tear.{IsTorn, IsFilled, left_of}
+use Rattle.hg_disk.specs.declared.call.Call.TheVariants.{Write}
+use Rattle.hg_disk.specs.declared.call.Answer.TheVariants.{Done, Failed}
 use Rattle.hg_disk.specs.declared.tear.Tear.{Tear}
 use Rattle.hg_disk.specs.declared.tear.Tear.TheVariants.{Fill}
 use Rattle.hg_disk.proofs.Filling.{filled_write, filled_failed_write}

@@ -1,7 +1,7 @@
 -- Each tear gives an image.
-use Rattle.std.proofs.Common.{◌≡◌, ◌⊎◌, inl, inr, ⊎_elim, ◌<◌, ◌≤◌, ◌+◌, ◌-◌, ◌==◌, ℕ, min, nat_lt, nat_le, Bool, true, false, ◌&&◌, ◌||◌, cond, if◌then◌else◌, List, [], ◌∷◌, length, take, get_or, refl, sym, ◌∙◌, ap, subst, arith}
+use Rattle.std.proofs.Common.{◌≡◌, ⊎_elim, ◌<◌, ◌≤◌, ◌+◌, ◌==◌, ℕ, Bool, true, false, ◌||◌, if◌then◌else◌, List, [], ◌∷◌, length, take, refl, sym, ◌∙◌, ap, subst, arith}
 use Rattle.std.proofs.lemmas.List.{ext_get_or, length-take, get_or-take}
-use Rattle.hg_disk.specs.State.{DiskState, Change, IsImage, least, is_written, settled, overwritten, after_write, after_cut, after_sync}
+use Rattle.hg_disk.specs.State.{DiskState, Change, IsImage, least, is_written, overwritten, after_write, after_cut}
 use Rattle.hg_disk.specs.State.Change.{Written, CutTo}
 use Rattle.hg_disk.specs.Event.{Event}
 use Rattle.hg_disk.specs.History.{after_call, replay}

@@ -5,6 +5,7 @@ pub mod FuseImages
 pub mod History
 pub mod Kept
 pub mod Laws
+pub mod Len
 pub mod Memory
 pub mod Moments
 pub mod Room

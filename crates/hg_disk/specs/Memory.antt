@@ -1,9 +1,11 @@
 -- What a `MemDisk` shows.
-use Rattle.std.specs.Prelude.{◌+◌, ◌-◌, ◌≤◌, ℕ, max, List, length}
+use Rattle.std.specs.Prelude.{◌≡◌, ◌+◌, ◌-◌, ◌≤◌, ℕ, Bool, false, max, List, length}
 use Rattle.std.specs.Vec.{vec_capacity}
 use Rattle.hg_disk.specs.Event.{Event}
 use Rattle.hg_disk.specs.State.{DiskState}
 use Rattle.hg_disk.specs.History.{replay, states_before, failures_in}
+use Rattle.hg_disk.specs.Tape.{kept, calls_in}
+use Rattle.hg_disk.specs.declared.call.Answered.{Answered}
 use Rattle.hg_disk.specs.Room.{TapeHasRoom}
 use Rattle.hg_disk.specs.declared.memory.MemDisk.{MemDisk}
 
@@ -14,6 +16,14 @@ start_of m = m.start.items
 -- its calls, the newest first
 abbrev pub history_of : MemDisk → List Event
 history_of m = m.tape.history.events
+
+-- whether the next call fails
+abbrev pub fails_next : MemDisk → Bool
+fails_next m = m.fails_next
+
+-- those that it keeps as data, the oldest first: all up to the first one that found no memory to be kept
+abbrev pub calls_of : MemDisk → List Answered
+calls_of m = calls_in (kept m.tape.history.events)
 
 -- its state
 abbrev pub state_of : MemDisk → DiskState
@@ -29,6 +39,7 @@ failures_of m = failures_in m.tape.history.events
 
 -- Its next calls take no memory: so many of them, that write or add so many bytes.
 pub record HasRoom (m : MemDisk) (calls bytes : ℕ) : Type 0 where
+  pub sound : m.fails_next ≡ false
   pub tape : TapeHasRoom m.tape calls bytes
   pub bytes_fit : length m.bytes.items + bytes ≤ vec_capacity m.bytes
 

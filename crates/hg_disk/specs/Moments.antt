@@ -1,5 +1,5 @@
 -- What a crash may leave from one moment of a disk to another.
-use Rattle.std.specs.Prelude.{◌≡◌, ℕ, List, [], ◌∷◌, ◌++◌}
+use Rattle.std.specs.Prelude.{◌-◌, length, get_or, ◌≡◌, ℕ, List, [], ◌∷◌, ◌++◌}
 use Rattle.hg_disk.specs.State.{DiskState, IsImage}
 use Rattle.hg_disk.specs.declared.disk.Disk as disk
 
@@ -11,6 +11,10 @@ Leaves P s = (image : List ℕ) → IsImage s image → P image
 abbrev pub EachLeaves : (List ℕ → Type 0) → List DiskState → Type 0
 EachLeaves P [] = Unit {0}
 EachLeaves P (s ∷ earlier) = Leaves P s × EachLeaves P earlier
+
+-- the state at moment k of a disk with this state now and these before, the newest first
+abbrev pub at_moment : ℕ → DiskState → List DiskState → DiskState
+at_moment k now past = get_or (now ∷ past) (length past - k) now
 
 module _ {D : Type 0} (g : disk.Ghosts D) where
   -- the states of the disk at all its moments up to this one, the newest first

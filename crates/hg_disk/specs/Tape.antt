@@ -1,10 +1,10 @@
 -- What of a disk's calls is kept as data.
-use Rattle.std.specs.Prelude.{◌≡◌, ◌+◌, ◌≤◌, ◌^◌, ℕ, List, [], ◌∷◌, ◌++◌, length}
+use Rattle.std.specs.Prelude.{◌≡◌, ◌≤◌, ◌^◌, ℕ, List, [], ◌∷◌, ◌++◌, length}
 use Rattle.std.proofs.Props.{props}
 use Rattle.hg_disk.specs.Event.{Event}
+use Rattle.hg_disk.specs.Len.{len_written, end_written}
 use Rattle.hg_disk.specs.declared.call.Answered.{Answered}
 use Rattle.hg_disk.specs.declared.call.Call.{Call}
-use Rattle.hg_disk.specs.declared.call.Call.TheVariants.{Read, Write, Cut, Sync}
 use Rattle.hg_disk.specs.declared.call.Answer.{Answer}
 use Rattle.hg_disk.specs.declared.call.Answer.TheVariants.{Done, Failed, Refused}
 
@@ -28,24 +28,6 @@ calls_in (e ∷ earlier) = calls_in earlier ++ e.told ∷ []
 abbrev pub written_in : List Event → List ℕ
 written_in [] = []
 written_in (e ∷ earlier) = written_in earlier ++ e.bytes
-
--- how many bytes a call with this answer wrote
-abbrev pub len_written : Call → Answer → ℕ
-len_written (Write at len) Done = len
-len_written (Write at len) Failed = 0
-len_written (Write at len) Refused = 0
-len_written Read answer = 0
-len_written (Cut to) answer = 0
-len_written Sync answer = 0
-
--- where the bytes end that it wrote
-abbrev pub end_written : Call → Answer → ℕ
-end_written (Write at len) Done = at + len
-end_written (Write at len) Failed = 0
-end_written (Write at len) Refused = 0
-end_written Read answer = 0
-end_written (Cut to) answer = 0
-end_written Sync answer = 0
 
 -- a call with the bytes that it wrote, within the greatest length
 pub record Fits (call : Call) (answer : Answer) (bytes : List ℕ) : Type 0 where

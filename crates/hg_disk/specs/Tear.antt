@@ -1,5 +1,5 @@
 -- The images that a `MemDisk` computes.
-use Rattle.std.specs.Prelude.{◌≡◌, ◌⊎◌, ◌<◌, ◌≤◌, ◌+◌, ◌-◌, ◌==◌, ℕ, true, false, if◌then◌else◌, List, [], ◌∷◌, length, take, drop, get_or}
+use Rattle.std.specs.Prelude.{◌≡◌, ◌⊎◌, ◌<◌, ◌≤◌, ◌-◌, ◌==◌, ℕ, true, false, if◌then◌else◌, List, [], ◌∷◌, length, take, drop, get_or}
 use Rattle.hg_disk.specs.State.{DiskState, least, is_written, overwritten}
 use Rattle.hg_disk.specs.Event.{Event}
 use Rattle.hg_disk.specs.History.{replay}

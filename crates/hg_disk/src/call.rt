@@ -1,4 +1,5 @@
 //! The calls of a disk and their answers, as a disk keeps them.
+ghost use Rattle.std.specs.Prelude.{◌≡◌};
 
 /// One of the four calls that can fail, without the bytes that it moved.
 #[derive(Clone, Copy, Debug, PartialEq, Eq)]
@@ -29,4 +30,18 @@ pub enum Answer {
 pub struct Answered {
     pub call: Call,
     pub answer: Answer,
+}
+
+impl Answered {
+    ghost use Rattle.hg_disk.specs.Len.{len_written};
+
+    /// How many bytes the call wrote.
+    pub fn len_written(self) -> usize
+        ensures { result ≡ len_written self.call self.answer }
+    {
+        match (self.call, self.answer) {
+            (Call::Write { at: _, len }, Answer::Done) => len,
+            _ => 0,
+        }
+    }
 }

@@ -1,7 +1,8 @@
 //! The calls of a disk, kept as data.
-ghost use Rattle.std.specs.Prelude.{◌≡◌, ◌+◌, ◌<◌, ◌≤◌, ◌∷◌, ℕ, [], true, false, is_ok, length, IsTrue, IfOk, if◌then◌else◌};
+ghost use Rattle.std.specs.Prelude.{◌≡◌, ◌+◌, ◌<◌, ◌≤◌, ◌^◌, ◌∷◌, ℕ, [], true, false, is_ok, length, IsTrue, IfOk, if◌then◌else◌};
 ghost use Rattle.std.specs.Vec.{vec_len, vec_capacity};
 ghost use Rattle.hg_disk.specs.Event.{event, answer_of};
+ghost use Rattle.hg_disk.specs.Tear.{first};
 ghost use Rattle.hg_disk.specs.Tape.{kept, calls_in, written_in, Fits, AllFit, AllFit_prop};
 
 use crate::DiskFault;
@@ -75,6 +76,19 @@ impl Tape {
         ensures stays { (n b : ℕ) → TapeHasRoom self.old (n + 1) (len + b) → TapeHasRoom self.new (n + 1) (len + b) }
     {
         self.written.reserve(len).is_ok()
+    }
+
+    /// The call number i, counted from 0, with the bytes that it wrote. The calls before it wrote `from` bytes.
+    pub fn call(&self, i: usize, from: usize) -> (Answered, &[u8])
+        requires there { i < length (calls_in (kept self.now.history.events)) }
+        requires from { from ≡ length (written_in (first i (kept self.now.history.events))) }
+        ensures next { first (i + 1) (kept self.now.history.events) ≡ record { told = result.0; bytes = result.1.now } ∷ first i (kept self.now.history.events) }
+        ensures fits { Fits result.0.call result.0.answer result.1.now }
+        ensures small { from + length result.1.now < 2 ^ 64 }
+    {
+        let told = self.calls[i];
+        let end = from + told.len_written();
+        (told, &self.written[from..end])
     }
 
     /// Keeps a call with its bytes, which took effect or failed.
