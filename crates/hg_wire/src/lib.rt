@@ -8,6 +8,9 @@ pub mod lines;
 mod number;
 mod operands;
 pub mod reader;
+pub mod record;
+#[cfg(test)]
+mod record_tests;
 pub mod report;
 pub mod splitter;
 #[cfg(test)]
