@@ -7,4 +7,6 @@ mod kept;
 pub mod paged;
 mod plan;
 mod setting;
+#[cfg(test)]
+mod tests;
 pub mod words;

@@ -244,6 +244,25 @@ fn a_read_is_reported_once_a_word_was_written(rt: HostRuntime) -> Result<(), Fai
     Ok(())
 }
 
+/// The example that docs/DEFINITIONS.md draws.
+#[test]
+fn the_drawn_example(rt: HostRuntime) -> Result<(), Fail> {
+    let events = [
+        write(0, 0x1000, 4),
+        fork(0, 1),
+        write(1, 0x1000, 4),
+        lock(0, 7),
+        write(0, 0x1000, 4),
+        unlock(0, 7),
+        read(1, 0x1000, 4),
+    ];
+    let before = state_of(rt.alloc(), &events[..6], 0x400)?;
+    assert!(rt; is_modified(&before, &[0, 1], &[7]));
+    let reports = reports_of(rt.alloc(), &events)?;
+    compare(&rt, &reports, &[Race(7, false, 1, 0x1000, &[0, 1])]);
+    Ok(())
+}
+
 #[test]
 fn the_state_has_the_threads_and_the_common_lock(rt: HostRuntime) -> Result<(), Fail> {
     let events = [
