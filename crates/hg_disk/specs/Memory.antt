@@ -1,5 +1,5 @@
 -- What a `MemDisk` shows.
-use Rattle.std.specs.Prelude.{◌≡◌, ◌+◌, ◌-◌, ◌≤◌, ℕ, Bool, false, max, List, length}
+use Rattle.std.specs.Prelude.{◌⊎◌, ◌++◌, ◌∷◌, [], Result, OnOk, OnErr, ◌≡◌, ◌+◌, ◌-◌, ◌≤◌, ℕ, Bool, false, max, List, length}
 use Rattle.std.specs.Vec.{vec_capacity}
 use Rattle.hg_disk.specs.Event.{Event}
 use Rattle.hg_disk.specs.State.{DiskState}
@@ -7,6 +7,8 @@ use Rattle.hg_disk.specs.History.{replay, states_before, failures_in}
 use Rattle.hg_disk.specs.Tape.{kept, calls_in}
 use Rattle.hg_disk.specs.declared.call.Answered.{Answered}
 use Rattle.hg_disk.specs.Room.{TapeHasRoom}
+use Rattle.hg_disk.specs.declared.call.Call.{Call}
+use Rattle.hg_disk.specs.declared.call.Answer.TheVariants.{Done, Failed}
 use Rattle.hg_disk.specs.declared.memory.MemDisk.{MemDisk}
 
 -- the bytes that it was made with
@@ -46,3 +48,9 @@ pub record HasRoom (m : MemDisk) (calls bytes : ℕ) : Type 0 where
 -- the bytes that a write takes of the room: those that it writes, or by which the length grows, if these are more
 abbrev pub room_taken : List ℕ → ℕ → List ℕ → ℕ
 room_taken file at bytes = max (length bytes) (at + length bytes - length file)
+
+-- A call is kept as data, but where it failed for want of the memory to keep it.
+pub record KeepsCall {T E : Type 0} (old new : MemDisk) (call : Call) (result : Result T E) : Type 0 where
+  pub done : OnOk result (calls_of new ≡ calls_of old ++ record { call = call; answer = Done } ∷ [])
+  pub failed : OnErr result ((calls_of new ≡ calls_of old ++ record { call = call; answer = Failed } ∷ []) ⊎ (calls_of new ≡ calls_of old))
+  pub failed_within_room : TapeHasRoom old.tape 1 0 → OnErr result (calls_of new ≡ calls_of old ++ record { call = call; answer = Failed } ∷ [])

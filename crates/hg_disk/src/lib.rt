@@ -13,6 +13,8 @@ mod record;
 mod replay;
 mod tape;
 mod tear;
+#[cfg(test)]
+mod tests;
 
 pub use call::{Answer, Answered, Call};
 pub use disk::{Disk, DiskFault, MAX_LEN};

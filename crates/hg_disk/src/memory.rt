@@ -119,7 +119,7 @@ impl MemDisk {
 }
 
 impl Disk for MemDisk {
-    ghost use Rattle.hg_disk.specs.Memory.{state_of, past_of, failures_of, fails_next, HasRoom, room_taken};
+    ghost use Rattle.hg_disk.specs.Memory.{state_of, past_of, failures_of, fails_next, HasRoom, KeepsCall, room_taken};
 
     ghost is_honest = { true };
 
@@ -141,6 +141,7 @@ impl Disk for MemDisk {
         ensures state { state_of self.new ≡ state_of self.old }
         ensures clock { past_of self.new ≡ state_of self.old ∷ past_of self.old }
         ensures failures { failures_of self.new ≡ counted result (failures_of self.old) }
+        ensures kept { KeepsCall self.old self.new Call.Read result }
         ensures next { (fails_next self.new ≡ false) × (IsTrue (fails_next self.old) → IsErr result) }
         ensures room { (n b : ℕ) → HasRoom self.old (n + 1) b → IsOk result × HasRoom self.new n b }
     {
@@ -160,6 +161,7 @@ impl Disk for MemDisk {
         ensures clock { past_of self.new ≡ state_of self.old ∷ past_of self.old }
         ensures failures { failures_of self.new ≡ counted result (failures_of self.old) }
         ensures unchanged { OnErr result ((state_of self.new).contents ≡ (state_of self.old).contents) }
+        ensures kept { KeepsCall self.old self.new (Call.Write at (length bytes.now)) result }
         ensures next { (fails_next self.new ≡ false) × (IsTrue (fails_next self.old) → IsErr result) }
         ensures room { (n b : ℕ) → HasRoom self.old (n + 1) (room_taken (state_of self.old).contents at bytes.now + b) → at + length bytes.now ≤ 2 ^ 62 → IsOk result × HasRoom self.new n b }
     {
@@ -182,6 +184,7 @@ impl Disk for MemDisk {
         ensures clock { past_of self.new ≡ state_of self.old ∷ past_of self.old }
         ensures failures { failures_of self.new ≡ counted result (failures_of self.old) }
         ensures unchanged { OnErr result ((state_of self.new).contents ≡ (state_of self.old).contents) }
+        ensures kept { KeepsCall self.old self.new (Call.Cut to) result }
         ensures next { (fails_next self.new ≡ false) × (IsTrue (fails_next self.old) → IsErr result) }
         ensures room { (n b : ℕ) → HasRoom self.old (n + 1) b → IsOk result × HasRoom self.new n b }
     {
@@ -198,6 +201,7 @@ impl Disk for MemDisk {
         ensures err { OnErr result (state_of self.new ≡ state_of self.old) }
         ensures clock { past_of self.new ≡ state_of self.old ∷ past_of self.old }
         ensures failures { failures_of self.new ≡ counted result (failures_of self.old) }
+        ensures kept { KeepsCall self.old self.new Call.Sync result }
         ensures next { (fails_next self.new ≡ false) × (IsTrue (fails_next self.old) → IsErr result) }
         ensures room { (n b : ℕ) → HasRoom self.old (n + 1) b → IsOk result × HasRoom self.new n b }
     {

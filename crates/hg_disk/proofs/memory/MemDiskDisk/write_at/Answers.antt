@@ -16,7 +16,7 @@ returns-clause-room c n b had fits =
     let is : c.writes-is_done.new.file.items ≡ overwritten file.items c.args.at bytes = search rules in (
       search rules,
       record {
-      sound = c.replace-is_sound.ensures.after;
+        sound = c.replace-is_sound.ensures.after;
         tape = c.keep.ensures.stays n b (c.writes-is_done.ensures.stays n b tape);
         bytes_fit = omega (arith, had.bytes_fit, shown, ap length is, length-overwritten_le file.items c.args.at bytes, c.writes-is_done.ensures.capacity);
       },
