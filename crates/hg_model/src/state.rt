@@ -1,18 +1,20 @@
 //! What the trace rules need of the events so far.
 
-ghost use Rattle.std.specs.Prelude.{◌≡◌, IfOk, List, length, slice_index};
+ghost use Rattle.std.specs.Prelude.{◌≡◌, ◌⊎◌, IfOk, IfErr, List, length, slice_index};
 ghost use Rattle.hg_model.specs.declared.segment.Segment.{Segment};
 ghost use Rattle.hg_model.specs.Segments.{opened};
 ghost use Rattle.std.specs.List.Sorted.{IsStrictlyIncreasing};
 ghost use Rattle.hg_model.specs.Contents.{Content};
-ghost use Rattle.hg_model.specs.Parts.{HasParts};
+ghost use Rattle.hg_model.specs.Parts.{HasParts, Parts};
+ghost use Rattle.hg_model.specs.Restoring.{AreInRange};
 ghost use Rattle.hg_model.specs.Verdicts as rules;
 ghost use Rattle.hg_model.specs.Change.{after, empty_content, locks_of};
 
 use crate::event::{Event, Named};
-use crate::limits::SOURCE_NUMBERS;
+use crate::limits::{MOST_EVENTS, MOST_SEGMENTS, SOURCE_NUMBERS};
 use crate::table::ThreadTable;
-use crate::verdict::Verdict;
+use crate::thread::ThreadState;
+use crate::verdict::{Refusal, Verdict};
 use std::alloc::{AllocError, Global};
 use std::marker::Model;
 
@@ -49,6 +51,35 @@ impl TraceState {
             segments: 1,
             threads: ThreadTable::new(alloc)?,
             last: vec![in alloc; 0; SOURCE_NUMBERS]?,
+        })
+    }
+
+    /// The state with these parts: at most 2^58 events and 1,048,576 segments, the threads by rising number, and the
+    /// last accepted number of each of the 1,024 sources.
+    ///
+    /// Damaged where a part is out of range: a number or a count, a dead thread that holds a lock, or a lock that one
+    /// thread holds for writing and another one in any mode. OutOfMemory where memory runs out.
+    pub fn restore(
+        alloc: Global,
+        events: u64,
+        segments: u32,
+        threads: &[ThreadState],
+        last: Vec<u64>,
+    ) -> Result<Self, Refusal>
+        ensures value { IfOk result (λ s. s ≡ record { events = events; segments = segments; threads = threads.now; last = last.items }) }
+        ensures range { IfOk result AreInRange }
+        ensures refusal { (p : Parts) → p ≡ record { events = events; segments = segments; threads = threads.now; last = last.items }
+            → IfErr result (λ r. ((r ≡ Refusal.Damaged) × (AreInRange p → ⊥)) ⊎ (r ≡ Refusal.OutOfMemory)) }
+    {
+        if events > MOST_EVENTS || segments > MOST_SEGMENTS || last.len() != SOURCE_NUMBERS {
+            return Err(Refusal::Damaged);
+        }
+        let threads = ThreadTable::restore(alloc, threads)?;
+        Ok(TraceState {
+            events,
+            segments,
+            threads,
+            last,
         })
     }
 

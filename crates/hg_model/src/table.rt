@@ -1,18 +1,20 @@
 //! The threads of a trace in a table by number, with the use of each lock.
 
-ghost use Rattle.std.specs.Prelude.{◌≡◌, ◌<◌, ◌==◌, true, false, length, None, slice_index_or, IfOk, nat_lt, nat_le, [], ◌∷◌, not, Some, IfSome, replicate};
+ghost use Rattle.std.specs.Prelude.{◌≡◌, ◌⊎◌, ◌<◌, ◌==◌, ◌++◌, true, false, length, None, slice_index_or, IfOk, IfErr, nat_lt, nat_le, [], ◌∷◌, not, Some, IfSome, is_some, replicate};
 ghost use Rattle.std.specs.Option.{option_copied, option_map};
-ghost use Rattle.std.specs.List.{list_any};
+ghost use Rattle.std.specs.List.{list_all, list_any};
 ghost use Rattle.std.specs.List.Sorted.{IsStrictlyIncreasing};
 ghost use Rattle.hg_model.specs.Locks.{with_hold, without_lock, has_lock, has_lock_for_writing};
 ghost use Rattle.hg_model.specs.Verdicts.{has_thread, MayFollow};
 ghost use Rattle.hg_model.specs.Change.{change, with_held, with_thread, dead, locks_of, threads_after};
+ghost use Rattle.hg_model.specs.Restoring.{AreThreads, excludes, fits, holds_alive, is_next};
 ghost use Rattle.hg_model.specs.Tables.{readers_in};
 
 use crate::event::Event;
 use crate::held::{HeldLock, HeldLocks};
 use crate::limits::{LOCK_NUMBERS, MOST_HELD, THREAD_NUMBERS};
 use crate::thread::ThreadState;
+use crate::verdict::Refusal;
 use std::alloc::{AllocError, Global};
 use std::marker::Model;
 
@@ -51,14 +53,88 @@ impl ThreadTable {
     ghost use Rattle.hg_model.specs.declared.thread.ThreadState.{ThreadState};
     ghost use Rattle.hg_model.specs.Tables.{test_at, counted_at, use_of};
 
+    /// No thread.
+    fn empty(alloc: Global) -> Result<Self, AllocError>
+        ensures { IfOk result (λ s. s ≡ []) }
+    {
+        Ok(ThreadTable {
+            slots: empty_slots(alloc)?,
+            uses: vec![in alloc; LockUse::Reading(0); LOCK_NUMBERS]?,
+        })
+    }
+
     /// Thread 0 alone, alive.
     pub(crate) fn new(alloc: Global) -> Result<Self, AllocError>
         ensures { IfOk result (λ s. s ≡ record { number = 0; alive = true; held = [] } ∷ []) }
     {
-        Ok(ThreadTable {
-            slots: first_slots(alloc)?,
-            uses: vec![in alloc; LockUse::Reading(0); LOCK_NUMBERS]?,
-        })
+        let mut table = ThreadTable::empty(alloc)?;
+        table.start(0);
+        Ok(table)
+    }
+
+    /// The table of these threads. Damaged where one of them may not stand behind those before it.
+    pub(crate) fn restore(alloc: Global, threads: &[ThreadState]) -> Result<Self, Refusal>
+        ensures value { IfOk result (λ s. (s ≡ threads.now) × AreThreads threads.now) }
+        ensures refusal { IfErr result (λ r. ((r ≡ Refusal.Damaged) × (AreThreads threads.now → ⊥)) ⊎ (r ≡ Refusal.OutOfMemory)) }
+    {
+        let Ok(mut table) = ThreadTable::empty(alloc) else {
+            return Err(Refusal::OutOfMemory);
+        };
+        for thread in threads {
+            if !table.add(thread) {
+                return Err(Refusal::Damaged);
+            }
+        }
+        Ok(table)
+    }
+
+    /// Adds a thread with its locks, where it may stand behind the others.
+    fn add(&mut self, thread: &ThreadState) -> bool
+        ensures answer { result ≡ fits self.old thread.now }
+        ensures added { result ≡ true → self.new ≡ self.old ++ thread.now ∷ [] }
+    {
+        if !self.is_next(thread.number) || !holds_alive_locks(thread) {
+            return false;
+        }
+        self.start(thread.number);
+        for hold in thread.held.as_slice() {
+            if !self.hold(thread.number, *hold) {
+                return false;
+            }
+        }
+        if !thread.alive {
+            self.end(thread.number);
+        }
+        true
+    }
+
+    /// Whether a thread of that number may stand behind those of the table.
+    fn is_next(&self, t: u16) -> bool
+        ensures { result ≡ is_next self.now t }
+    {
+        let place = usize::from(t);
+        place < THREAD_NUMBERS && are_empty(&self.slots[place..])
+    }
+
+    /// Gives a thread a lock that it does not hold, where no thread excludes that.
+    fn hold(&mut self, t: u16, hold: HeldLock) -> bool
+        requires used { has_thread self.old t (λ x. not (nat_le 64 (length x.held))) ≡ true }
+        requires absent { has_thread self.old t (λ x. has_lock x.held hold.lock) ≡ false }
+        ensures answer { result ≡ not (list_any (excludes hold) self.old) }
+        ensures held { result ≡ true → self.new ≡ change t (λ x. with_held x (with_hold hold x.held)) self.old }
+    {
+        if hold.write {
+            if self.is_held(hold.lock) {
+                return false;
+            }
+            self.lock(t, hold.lock);
+        } else {
+            if self.is_held_for_writing(hold.lock) {
+                return false;
+            }
+            self.read_lock(t, hold.lock);
+        }
+        true
     }
 
     /// Changes the threads by an event that was accepted.
@@ -248,6 +324,13 @@ fn slot(slots: &[Option<ThreadState>], t: u16) -> Option<&ThreadState>
     }
 }
 
+/// Whether no thread stands at these places.
+fn are_empty(slots: &[Option<ThreadState>]) -> bool
+    ensures { result ≡ list_all (λ slot. not (is_some slot)) slots.now }
+{
+    slots.iter().all(|slot| slot.is_none())
+}
+
 fn end_at(slot: &mut Option<ThreadState>)
     ensures { slot.new ≡ option_map dead slot.old }
 {
@@ -273,16 +356,18 @@ fn remove_at(slot: &mut Option<ThreadState>, lock: u16)
     }
 }
 
-fn first_slots(alloc: Global) -> Result<Vec<Option<ThreadState>>, AllocError>
-    ensures { IfOk result (λ v. v.items ≡ Some (record { number = 0; alive = true; held = [] }) ∷ replicate 1023 None) }
+/// Whether a thread is alive, or holds no lock.
+fn holds_alive_locks(thread: &ThreadState) -> bool
+    ensures { result ≡ holds_alive thread.now }
+{
+    thread.alive || thread.held.as_slice().len() == 0
+}
+
+fn empty_slots(alloc: Global) -> Result<Vec<Option<ThreadState>>, AllocError>
+    ensures { IfOk result (λ v. v.items ≡ replicate 1024 None) }
 {
     let mut slots = Vec::with_capacity(alloc, THREAD_NUMBERS)?;
-    slots.push(Some(ThreadState {
-        number: 0,
-        alive: true,
-        held: HeldLocks::new(),
-    }))?;
-    for _ in 1..THREAD_NUMBERS {
+    for _ in 0..THREAD_NUMBERS {
         slots.push(None)?;
     }
     Ok(slots)

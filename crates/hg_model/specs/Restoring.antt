@@ -1,0 +1,34 @@
+-- What restoring a trace state asks of its parts.
+use Rattle.std.specs.Prelude.{◌≡◌, ℕ, ◌≤◌, ◌^◌, Bool, true, ◌&&◌, ◌||◌, ◌==◌, not, nat_lt, List, length, take, slice_get, Some, if◌then◌else◌}
+use Rattle.std.specs.List.{list_any, list_all}
+use Rattle.hg_model.specs.declared.held.HeldLock.{HeldLock}
+use Rattle.hg_model.specs.declared.thread.ThreadState.{ThreadState}
+use Rattle.hg_model.specs.Locks.{has_lock, has_lock_for_writing}
+use Rattle.hg_model.specs.Parts.{Parts}
+
+-- the thread holds the same lock, and not both only read under it
+abbrev pub excludes : HeldLock → ThreadState → Bool
+excludes h x = if h.write then has_lock x.held h.lock else has_lock_for_writing x.held h.lock
+
+-- a number that is free, and above those of these threads
+abbrev pub is_next : List ThreadState → ℕ → Bool
+is_next threads t = nat_lt t 1024 && list_all (λ x. nat_lt x.number t) threads
+
+-- alive, or without a lock
+abbrev pub holds_alive : ThreadState → Bool
+holds_alive x = x.alive || (length x.held == 0)
+
+-- A thread may stand behind these: its number is greater, it holds no lock if it is dead, and no lock that one of them excludes.
+abbrev pub fits : List ThreadState → ThreadState → Bool
+fits threads x = is_next threads x.number && (holds_alive x && not (list_any (λ h. list_any (excludes h) threads) x.held))
+
+-- Each thread may stand behind those before it.
+abbrev pub AreThreads : List ThreadState → Type 0
+AreThreads threads = (k : ℕ) (x : ThreadState) → slice_get threads k ≡ Some x → fits (take k threads) x ≡ true
+
+-- The parts are in range: the counts, the threads, and a number for each source.
+pub record AreInRange (p : Parts) : Type 0 where
+  pub events : p.events ≤ 2 ^ 58
+  pub segments : p.segments ≤ 1048576
+  pub threads : AreThreads p.threads
+  pub last : length p.last ≡ 1024
