@@ -1,10 +1,10 @@
 -- What stays on the disk while other places are written.
-use Rattle.std.proofs.Common.{◌≡◌, ◌<◌, ◌≤◌, ◌+◌, ℕ, min, nat_lt, nat_le, Bool, true, false, ◌&&◌, ◌||◌, List, ◌++◌, length, take, drop, get_or, refl, sym, ◌∙◌, ap, arith, length-append, length-drop, take-append-drop}
+use Rattle.std.proofs.Common.{◌≡◌, ◌<◌, ◌≤◌, ◌+◌, ◌-◌, ℕ, min, nat_lt, nat_le, Bool, true, false, ◌&&◌, ◌||◌, List, ◌++◌, length, take, drop, replicate, get_or, refl, sym, ◌∙◌, ap, arith, length-append, length-drop, take-append-drop}
 use Rattle.std.proofs.lemmas.Bool.Decides.{nat_tests}
-use Rattle.std.proofs.lemmas.List.{get_or-drop, get_or-append-add, get_or_append_left, length-take-le, length-take}
-use Rattle.hg_disk.specs.State.{DiskState, IsImage, is_written, settled, after_write, after_cut}
+use Rattle.std.proofs.lemmas.List.{places, get_or-drop, get_or-take, get_or-append-add, get_or_append_left, length-take-le, length-take, drop_at, take_at, append_assoc}
+use Rattle.hg_disk.specs.State.{DiskState, IsImage, overwritten, is_written, settled, after_write, after_cut}
 use Rattle.hg_disk.specs.Laws.{Holds, Keeps}
-use Rattle.hg_disk.specs.Kept.{length-overwritten}
+use Rattle.hg_disk.specs.Kept.{length-overwritten, overwritten_before, overwritten_behind}
 use Rattle.hg_disk.proofs.Images.{begins_as}
 
 or_none : (a b : Bool) → a ≡ false → b ≡ false → (a || b) ≡ false
@@ -66,15 +66,59 @@ keeps_cut to s place bytes le was = record {
   same = was.same;
 }
 
+-- a list that has the bytes at each of their places
+holds_as : (file : List ℕ) (at : ℕ) (bytes : List ℕ) → at + length bytes ≤ length file → ((i : ℕ) → i < length bytes → get_or file (at + i) 0 ≡ get_or bytes i 0) → Holds file at bytes
+holds_as file at bytes long same =
+    let found = begins_as bytes (drop at file) (omega (arith, long, length-drop at file)) (λ i lt. get_or-drop at file i 0 ∙ same i lt) in
+    record {
+      before = take at file;
+      after = found.0;
+      place = length-take-le at file (omega (arith, long));
+      whole = sym (take-append-drop at file) ∙ ap (λ (l : List ℕ). take at file ++ l) found.1;
+    }
+
 -- so each image has them there
 pub keeps_image : (s : DiskState) (at : ℕ) (bytes image : List ℕ) → Keeps s at bytes → IsImage s image → Holds image at bytes
 keeps_image s at bytes image was is =
-    let long : at + length bytes ≤ length image = omega (arith, was.long, is.long) in
-    let found = begins_as bytes (drop at image) (omega (arith, long, length-drop at image)) (λ i lt.
-    get_or-drop at image i 0 ∙ is.kept (at + i) (omega (arith, lt, was.long)) (was.untouched i lt) ∙ was.same i lt) in
-    record {
-      before = take at image;
-      after = found.0;
-      place = length-take-le at image (omega (arith, long));
-      whole = sym (take-append-drop at image) ∙ ap (λ (l : List ℕ). take at image ++ l) found.1;
-    }
+    holds_as image at bytes (omega (arith, was.long, is.long)) (λ i lt. is.kept (at + i) (omega (arith, lt, was.long)) (was.untouched i lt) ∙ was.same i lt)
+
+held_end : (file : List ℕ) (at : ℕ) (bytes : List ℕ) → Holds file at bytes → at + length bytes ≤ length file
+held_end file at bytes has = omega (arith, ap length has.whole, has.place, length-append has.before (bytes ++ has.after), length-append bytes has.after)
+
+held_byte : (file : List ℕ) (at : ℕ) (bytes : List ℕ) (i : ℕ) → Holds file at bytes → i < length bytes → get_or file (at + i) 0 ≡ get_or bytes i 0
+held_byte file at bytes i has lt = ap (λ (l : List ℕ). get_or l (at + i) 0) has.whole ∙ held_at has.before bytes has.after at i has.place lt
+
+-- what a read gives there
+pub read_held : (file : List ℕ) (at : ℕ) (bytes : List ℕ) → Holds file at bytes → take (length bytes) (drop at file) ≡ bytes
+read_held file at bytes has =
+    ap (λ (l : List ℕ). take (length bytes) (drop at l)) has.whole ∙ ap (λ (l : List ℕ). take (length bytes) l) (drop_at has.before (bytes ++ has.after) at has.place)
+    ∙ take_at bytes has.after (length bytes) refl
+
+-- what was written is there
+pub holds_written : (file : List ℕ) (at : ℕ) (bytes : List ℕ) → Holds (overwritten file at bytes) at bytes
+holds_written file at bytes = record {
+  before = take at file ++ replicate (at - length file) 0;
+  after = drop (at + length bytes) file;
+  place = grind (arith, places);
+  whole = sym (append_assoc (take at file) (replicate (at - length file) 0) (bytes ++ drop (at + length bytes) file));
+}
+
+-- a write elsewhere
+pub holds_write_behind : (file : List ℕ) (at : ℕ) (written : List ℕ) (place : ℕ) (bytes : List ℕ) → place + length bytes ≤ at → Holds file place bytes → Holds (overwritten file at written) place bytes
+holds_write_behind file at written place bytes le has =
+    let end = held_end file place bytes has in
+    holds_as (overwritten file at written) place bytes (omega (arith, end, length-overwritten file at written)) (λ i lt.
+    overwritten_before file at written (place + i) (omega (arith, le, lt)) (omega (arith, end, lt)) ∙ held_byte file place bytes i has lt)
+
+pub holds_write_before : (file : List ℕ) (at : ℕ) (written : List ℕ) (place : ℕ) (bytes : List ℕ) → at + length written ≤ place → Holds file place bytes → Holds (overwritten file at written) place bytes
+holds_write_before file at written place bytes le has =
+    let end = held_end file place bytes has in
+    holds_as (overwritten file at written) place bytes (omega (arith, end, length-overwritten file at written)) (λ i lt.
+    overwritten_behind file at written (place + i) (omega (arith, le)) (omega (arith, end, lt)) ∙ held_byte file place bytes i has lt)
+
+-- a cut behind
+pub holds_cut : (file : List ℕ) (to place : ℕ) (bytes : List ℕ) → place + length bytes ≤ to → Holds file place bytes → Holds (take to file) place bytes
+holds_cut file to place bytes le has =
+    let end = held_end file place bytes has in
+    holds_as (take to file) place bytes (omega (arith, le, end, length-take to file)) (λ i lt.
+    get_or-take to file (place + i) 0 (omega (arith, le, lt)) ∙ held_byte file place bytes i has lt)
