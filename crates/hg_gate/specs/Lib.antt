@@ -1,0 +1,4 @@
+pub mod Batch
+pub mod Batches
+pub mod Fault
+pub mod Log
