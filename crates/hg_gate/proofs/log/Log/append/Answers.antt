@@ -1,5 +1,5 @@
-use Rattle.std.proofs.Common.{◌≡◌, ◌+◌, ℕ, List, [], ◌∷◌, ◌++◌, length, refl, ◌∙◌, ap, subst, arith}
-use Rattle.hg_disk.specs.State.{settled}
+use Rattle.std.proofs.Common.{◌≡◌, ◌+◌, ℕ, List, [], ◌∷◌, ◌++◌, length, refl, sym, ◌∙◌, ap, subst, arith}
+use Rattle.hg_disk.specs.State.{DiskState, settled}
 use Rattle.hg_disk.specs.Moments.{LeavesOnly}
 use Rattle.hg_disk.proofs.Moments.{joined}
 use Rattle.hg_gate.specs.Batches.{closed_gate, IsBody, IsBeforeOrAfter, spelled}
@@ -47,7 +47,7 @@ returns-clause-durable g c bodies h =
     let new = new_state g.D.Disk log bodies h body mid c.write_through-2.new.disk stands c.in_ok-write_through-2.ensures.durable in
     λ image is.
     settled_log (g.D.Disk.state c.write_through-2.new.disk) (bodies ++ body ∷ []) image (spelled (bodies ++ body ∷ []) ++ closed_gate ∷ behind g.D.Disk log bodies h body) new
-    (record { gate = closed_gate; rest = behind g.D.Disk log bodies h body; spelling = refl; closed = omega arith; each = each_push bodies body h.each fits }) is
+    (record { gate = closed_gate; rest = behind g.D.Disk log bodies h body; spelling = refl; closed = omega arith; each = each_push bodies body h.reads.has.each fits }) is
 
 pub returns-clause-added : goal.returns-clause-added
 returns-clause-added g c bodies h =
@@ -59,12 +59,13 @@ returns-clause-added g c bodies h =
     let stands = mid_state g.D.Disk log bodies h body mid (log.end + 1) c.deref.result.now refl framed c.in_ok-write_through.ensures.durable in
     let new = new_state g.D.Disk log bodies h body mid c.write_through-2.new.disk stands c.in_ok-write_through-2.ensures.durable in
     let size : c.len.result ≡ length (frame_of body) = omega (arith, c.len.ensures, ap length (c.fill.ensures.items ∙ ap frame_of c.body.ensures.same)) in
+    let file = spelled (bodies ++ body ∷ []) ++ closed_gate ∷ behind g.D.Disk log bodies h body in
+    let bytes : (g.D.Disk.state c.write_through-2.new.disk).contents ≡ file = ap (λ (s : DiskState). s.contents) new in
     record {
-      gate = closed_gate;
-      rest = behind g.D.Disk log bodies h body;
-      works = refl;
-      durable = new;
-      closed = omega arith;
-      end = omega (arith, h.end, size, new_end bodies h.gate h.rest h.closed h.each body);
-      each = each_push bodies body h.each fits;
+      reads = record {
+        works = refl;
+        has = record { gate = closed_gate; rest = behind g.D.Disk log bodies h body; spelling = bytes; closed = omega arith; each = each_push bodies body h.reads.has.each fits };
+        end = omega (arith, h.reads.end, size, new_end bodies h.reads.has.gate h.reads.has.rest h.reads.has.closed h.reads.has.each body);
+      };
+      durable = new ∙ ap settled (sym bytes);
     }
