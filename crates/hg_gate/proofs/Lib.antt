@@ -1,3 +1,4 @@
 pub mod Appending
 pub mod Crash
 pub mod Grammar
+pub mod Scanning

@@ -2,3 +2,4 @@ pub mod Batch
 pub mod Batches
 pub mod Fault
 pub mod Log
+pub mod Scan

@@ -6,6 +6,7 @@ mod batch;
 mod fault;
 pub mod laws;
 mod log;
+mod scan;
 
 pub use batch::{Batch, MAX_BODY_LEN};
 pub use fault::GateFault;
