@@ -2,3 +2,4 @@ pub mod Appending
 pub mod Crash
 pub mod Grammar
 pub mod Scanning
+pub mod Walking

@@ -18,3 +18,7 @@ failures_after (Err fault) n = after_fault fault n
 -- the faults of a call that takes no memory and reads nothing
 abbrev pub IsBrokenOrDevice : GateFault → Type 0
 IsBrokenOrDevice fault = (fault ≡ Broken) ⊎ (fault ≡ DeviceFault)
+
+-- the faults of a call that reads and takes no memory
+abbrev pub IsDamagedOrDevice : GateFault → Type 0
+IsDamagedOrDevice fault = (fault ≡ Damaged) ⊎ (fault ≡ DeviceFault)
