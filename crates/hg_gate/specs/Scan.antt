@@ -36,6 +36,11 @@ abbrev pub batch_len : Option ℕ → ℕ
 batch_len None = 0
 batch_len (Some n) = 5 + n
 
+-- If there is a batch, its body has a length that a body may have.
+abbrev pub HasBodyLength : Option ℕ → Type 0
+HasBodyLength None = Unit {0}
+HasBodyLength (Some n) = IsBodyLength n
+
 -- The front of the file, up to this place, is the header and open batches.
 pub record Walked (file : List ℕ) (at : ℕ) : Type 0 where
   pub bodies : List (List ℕ)

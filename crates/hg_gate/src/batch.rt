@@ -27,6 +27,14 @@ impl Batch {
         Ok(Batch { body })
     }
 
+    // A batch of so many bytes as it may have.
+    pub(crate) fn of(body: Vec<u8>) -> Batch
+        requires { IsBody body.items }
+        ensures { body_of result ≡ body.items }
+    {
+        Batch { body }
+    }
+
     /// Its bytes.
     pub fn body(&self) -> &[u8]
         ensures same { result.now ≡ body_of self.now }

@@ -10,4 +10,4 @@ mod scan;
 
 pub use batch::{Batch, MAX_BODY_LEN};
 pub use fault::GateFault;
-pub use log::Log;
+pub use log::{Batches, Log};

@@ -1,12 +1,13 @@
 //! A log of batches.
-ghost use Rattle.std.specs.Prelude.{◌≡◌, ◌⊎◌, ◌+◌, ◌≤◌, ◌^◌, ◌++◌, ◌∷◌, [], ℕ, List, length, vec_capacity, IsTrue, IfOk, IfErr, OnOk, OnErr, IsErrOf, Err};
-ghost use Rattle.hg_disk.specs.State.{settled};
+ghost use Rattle.std.specs.Prelude.{◌≡◌, ◌≢◌, ◌⊎◌, ◌+◌, ◌≤◌, ◌^◌, ◌++◌, ◌∷◌, [], ℕ, List, length, vec_capacity, IsTrue, IfOk, IfErr, OnOk, OnErr, IsErrOf, Err};
+ghost use Rattle.hg_disk.specs.State.{IsImage, settled};
 ghost use Rattle.hg_disk.specs.Moments.{Leaves, LeavesOnly};
 ghost use Rattle.hg_gate.specs.Batches.{IsLog, IsBeforeOrAfter, sized, closed_gate, header};
-ghost use Rattle.hg_gate.specs.Fault.{failures_after, IsBrokenOrDevice};
+ghost use Rattle.hg_gate.specs.Fault.{failures_after, IsBrokenOrDevice, IsDamagedOrDevice};
 
 use crate::batch::{Batch, MAX_BODY_LEN};
 use crate::fault::GateFault;
+use crate::scan::{HEAD_LEN, HEADER, find_end, read_head, read_vec};
 use hg_disk::{Disk, write_through};
 use std::alloc::{AllocError, Global};
 
@@ -50,7 +51,7 @@ fn fill(buffer: &mut Vec<u8>, body: &[u8])
 
 impl<D: Disk> Log<D> {
     ghost use Rattle.hg_gate.specs.Batch.{body_of};
-    ghost use Rattle.hg_gate.specs.Log.{Has, disk_of, is_broken};
+    ghost use Rattle.hg_gate.specs.Log.{Has, Reads, IsBehind, IsFirst, given, disk_of, disk_after, failures_of_making, is_broken};
 
     /// A log of no batches, on an empty disk. A refusal hands the disk back.
     pub fn create(alloc: Global, disk: D) -> Result<Log<D>, (GateFault, D)>
@@ -73,6 +74,32 @@ impl<D: Disk> Log<D> {
             is_broken: false,
             buffer,
         })
+    }
+
+    /// The log that a disk holds, with the batches that its bytes have. A refusal hands the disk back: `Damaged` where
+    /// the bytes are none of a log, `DeviceFault` or `OutOfMemory`. It changes nothing, and reads five bytes a batch.
+    pub fn attach(alloc: Global, disk: D) -> Result<Log<D>, (GateFault, D)>
+        ensures reads { IsTrue D.is_honest → IfOk result (λ log. (bodies : List (List ℕ)) × Reads log bodies) }
+        ensures damaged { IsTrue D.is_honest → IfErr result (λ e. e.0 ≡ GateFault.Damaged → (bodies : List (List ℕ)) → ¬ IsLog (D.state disk).contents bodies) }
+        ensures fault { IfErr result (λ e. IsDamagedOrDevice e.0 ⊎ (e.0 ≡ GateFault.OutOfMemory)) }
+        ensures device { D.failures (disk_after result) ≡ failures_of_making result (D.failures disk) }
+        ensures state { D.state (disk_after result) ≡ D.state disk }
+        ensures any_moment { LeavesOnly ⟦<D as Disk>⟧ disk (disk_after result) (IsImage (D.state disk)) }
+    {
+        let buffer = match Vec::with_capacity(alloc, MAX_FRAME) {
+            Ok(buffer) => buffer,
+            Err(AllocError) => return Err((GateFault::OutOfMemory, disk)),
+        };
+        let mut disk = disk;
+        match find_end(&mut disk) {
+            Ok(end) => Ok(Log {
+                disk,
+                end,
+                is_broken: false,
+                buffer,
+            }),
+            Err(fault) => Err((fault, disk)),
+        }
     }
 
     /// The disk.
@@ -119,4 +146,59 @@ impl<D: Disk> Log<D> {
         self.is_broken = false;
         Ok(())
     }
+
+    /// The batches, from the first on, for `next_batch`.
+    pub fn batches(&self) -> Result<Batches, GateFault>
+        ensures first { IfOk result (λ batches. IsBehind batches []) }
+        ensures fault { IfErr result (λ e. (e ≡ GateFault.Broken) × IsTrue (is_broken self.now)) }
+        ensures refuses { IsTrue (is_broken self.now) → result ≡ Err GateFault.Broken }
+    {
+        if self.is_broken {
+            return Err(GateFault::Broken);
+        }
+        Ok(Batches {
+            at: HEADER.len() as u64,
+        })
+    }
+
+    /// Reads the next batch, or none behind the last. After an `Err` it can be tried again. It makes two device calls
+    /// at most, and takes memory for the one batch alone.
+    pub fn next_batch(&mut self, batches: &mut Batches) -> Result<Option<Batch>, GateFault>
+        ensures next { (seen left : List (List ℕ)) → IsTrue D.is_honest → Reads self.old (seen ++ left) → IsBehind batches.old seen
+            → IfOk result (λ found. IsFirst found left × IsBehind batches.new (seen ++ given found)) }
+        ensures whole { (seen left : List (List ℕ)) → IsTrue D.is_honest → Reads self.old (seen ++ left) → IsBehind batches.old seen
+            → IfErr result (λ e. e ≢ GateFault.Damaged) }
+        ensures again { OnErr result (batches.new ≡ batches.old) }
+
+        // The log stays as it is.
+        ensures reads { (bodies : List (List ℕ)) → Reads self.old bodies → Reads self.new bodies }
+        ensures has { (bodies : List (List ℕ)) → Has self.old bodies → Has self.new bodies }
+        ensures state { D.state (disk_of self.new) ≡ D.state (disk_of self.old) }
+        ensures any_moment { LeavesOnly ⟦<D as Disk>⟧ (disk_of self.old) (disk_of self.new) (IsImage (D.state (disk_of self.old))) }
+        ensures device { D.failures (disk_of self.new) ≡ failures_after result (D.failures (disk_of self.old)) }
+        ensures broken { IsErrOf result GateFault.Broken → IsTrue (is_broken self.old) }
+        ensures refuses { IsTrue (is_broken self.old) → result ≡ Err GateFault.Broken }
+        ensures same { IsTrue (is_broken self.old) → self.new ≡ self.old }
+    {
+        if self.is_broken {
+            return Err(GateFault::Broken);
+        }
+        if batches.at > self.disk.len() {
+            return Err(GateFault::Damaged);
+        }
+        let Some(len) = read_head(&mut self.disk, batches.at)? else {
+            return Ok(None);
+        };
+        let at = batches.at + HEAD_LEN as u64;
+        let alloc = *self.buffer.allocator();
+        let body = read_vec(&mut self.disk, alloc, at, len as usize)?;
+        batches.at = at + len as u64;
+        Ok(Some(Batch::of(body)))
+    }
+}
+
+/// A place in a log: the next batch to be read.
+#[derive(Clone, Copy, Debug, PartialEq, Eq)]
+pub struct Batches {
+    at: u64,
 }

@@ -4,23 +4,25 @@ ghost use Rattle.hg_disk.specs.State.{IsImage};
 ghost use Rattle.hg_disk.specs.Moments.{LeavesOnly};
 ghost use Rattle.hg_gate.specs.Batches.{IsLog, IsBodyLength};
 ghost use Rattle.hg_gate.specs.Fault.{failures_after, IsDamagedOrDevice};
-ghost use Rattle.hg_gate.specs.Scan.{IsTail, IsHead, EndsAt, Walked, batch_len};
+ghost use Rattle.hg_gate.specs.Scan.{IsTail, IsHead, EndsAt, Walked, HasBodyLength, batch_len};
 
 use crate::batch::MAX_BODY_LEN;
 use crate::fault::GateFault;
 use crate::log::OPEN;
 use hg_disk::Disk;
+use std::alloc::Global;
 
 /// What a log begins with.
 pub(crate) const HEADER: [u8; 8] = *b"HGJRNL1\n";
 
 // A gate, and the length of a body.
-const HEAD_LEN: usize = 5;
+pub(crate) const HEAD_LEN: usize = 5;
 
 // The length of the body of the batch that begins with these bytes, or none at a gate that is closed. They are the
 // first five of the `room` bytes that the file has left, or all of them.
 fn parse_head(head: &[u8], room: u64) -> Result<Option<u32>, GateFault>
     ensures within { IfOk result (λ found. batch_len found ≤ room) }
+    ensures length { IfOk result HasBodyLength }
     ensures head { (tail : List ℕ) → head.now ≡ take 5 tail → room ≡ length tail → IfOk result (IsHead tail) }
     ensures damaged { (tail : List ℕ) → head.now ≡ take 5 tail → room ≡ length tail → IfErr result (λ _. (bodies : List (List ℕ)) → ¬ IsTail tail bodies) }
     ensures fault { IfErr result (λ e. e ≡ GateFault.Damaged) }
@@ -53,6 +55,7 @@ pub(crate) fn read_head<D: Disk>(disk: &mut D, at: u64) -> Result<Option<u32>, G
     requires { at ≤ length (D.state disk.old).contents }
     ensures within { IfOk result (λ found. at + batch_len found ≤ length (D.state disk.old).contents) }
     ensures fits { IfOk result (λ found. at + batch_len found ≤ 2 ^ 62) }
+    ensures length { IfOk result HasBodyLength }
     ensures head { IsTrue D.is_honest → IfOk result (IsHead (drop at (D.state disk.old).contents)) }
     ensures damaged { IsTrue D.is_honest → IsErrOf result GateFault.Damaged → (bodies : List (List ℕ)) → ¬ IsTail (drop at (D.state disk.old).contents) bodies }
     ensures fault { IfErr result IsDamagedOrDevice }
@@ -117,4 +120,24 @@ pub(crate) fn read_bytes<D: Disk>(disk: &mut D, at: u64, buf: &mut [u8]) -> Resu
 {
     disk.read_at(at, buf)?;
     Ok(())
+}
+
+// The `len` bytes from the offset `at` on.
+pub(crate) fn read_vec<D: Disk>(
+    disk: &mut D,
+    alloc: Global,
+    at: u64,
+    len: usize,
+) -> Result<Vec<u8>, GateFault>
+    requires { at + len ≤ length (D.state disk.old).contents }
+    ensures bytes { IsTrue D.is_honest → IfOk result (λ v. v.items ≡ take len (drop at (D.state disk.old).contents)) }
+    ensures len { IfOk result (λ v. length v.items ≡ len) }
+    ensures fault { IfErr result (λ e. (e ≡ GateFault.DeviceFault) ⊎ (e ≡ GateFault.OutOfMemory)) }
+    ensures device { D.failures disk.new ≡ failures_after result (D.failures disk.old) }
+    ensures state { D.state disk.new ≡ D.state disk.old }
+    ensures any_moment { LeavesOnly ⟦<D as Disk>⟧ disk.old disk.new (IsImage (D.state disk.old)) }
+{
+    let mut bytes = vec![in alloc; 0; len]?;
+    read_bytes(disk, at, &mut bytes)?;
+    Ok(bytes)
 }
