@@ -15,6 +15,13 @@ open_gate = 0xA5
 abbrev pub closed_gate : ℕ
 closed_gate = 0x5A
 
+-- a gate that is closed, and then anything
+pub record IsClosed (bytes : List ℕ) : Type 0 where
+  pub gate : ℕ
+  pub rest : List ℕ
+  pub spelling : bytes ≡ gate ∷ rest
+  pub closed : gate ≢ open_gate
+
 -- the lengths of a body
 abbrev pub IsBodyLength : ℕ → Type 0
 IsBodyLength n = (1 ≤ n) × (n ≤ 23552)

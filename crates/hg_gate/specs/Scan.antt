@@ -2,7 +2,7 @@
 use Rattle.std.specs.Prelude.{◌≡◌, ◌≢◌, ◌<◌, ◌≤◌, ◌+◌, ℕ, Option, Some, None, List, ◌∷◌, ◌++◌, length, drop}
 use Rattle.std.specs.List.{flat_map, AllByRecursion}
 use Rattle.std.specs.Int.{w32, to_be_bytes}
-use Rattle.hg_gate.specs.Batches.{open_gate, IsBodyLength, IsBody, batch, spelled, IsLog}
+use Rattle.hg_gate.specs.Batches.{open_gate, IsClosed, IsBodyLength, IsBody, batch, spelled, IsLog}
 
 -- open batches, a gate that is closed, and then anything
 pub record IsTail (bytes : List ℕ) (bodies : List (List ℕ)) : Type 0 where
@@ -11,13 +11,6 @@ pub record IsTail (bytes : List ℕ) (bodies : List (List ℕ)) : Type 0 where
   pub spelling : bytes ≡ flat_map batch bodies ++ gate ∷ rest
   pub closed : gate ≢ open_gate
   pub each : AllByRecursion IsBody bodies
-
--- a gate that is closed
-pub record IsClosed (bytes : List ℕ) : Type 0 where
-  pub gate : ℕ
-  pub rest : List ℕ
-  pub spelling : bytes ≡ gate ∷ rest
-  pub closed : gate ≢ open_gate
 
 -- an open gate, the length n of a body, so many bytes, and more
 pub record IsOpen (bytes : List ℕ) (n : ℕ) : Type 0 where

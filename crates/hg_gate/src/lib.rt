@@ -4,10 +4,12 @@
 
 mod batch;
 mod fault;
+mod gated;
 pub mod laws;
 mod log;
 mod scan;
 
 pub use batch::{Batch, MAX_BODY_LEN};
 pub use fault::GateFault;
+pub use gated::Gated;
 pub use log::{Batches, Log};

@@ -4,8 +4,8 @@ use Rattle.hg_disk.specs.State.{DiskState}
 use Rattle.hg_gate.specs.declared.batch.Batch.{Batch}
 use Rattle.hg_gate.specs.declared.fault.GateFault.{GateFault}
 use Rattle.hg_gate.specs.declared.fault.GateFault.TheVariants.{Damaged}
-use Rattle.hg_gate.specs.Batches.{spelled}
-use Rattle.hg_gate.specs.Scan.{IsHead, IsOpen, IsClosed}
+use Rattle.hg_gate.specs.Batches.{IsClosed, spelled}
+use Rattle.hg_gate.specs.Scan.{IsHead, IsOpen}
 use Rattle.hg_gate.proofs.Walking.{read_on}
 use Rattle.hg_gate.proofs.Reading.{tail_at, none_left, next_of, push_length}
 use Rattle.hg_gate.proofs.log.Log.next_batch.Goals as goal
