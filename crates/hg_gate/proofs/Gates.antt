@@ -73,6 +73,9 @@ pub on_ok : {T E : Type 0} {A B : Type 0} (result : Result T E) → (A → B) �
 on_ok (Ok value) f is = f is
 on_ok (Err error) f is = is
 
+pub was_ok : {T E : Type 0} {A : Type 0} (result : Result T E) (value : T) → result ≡ Ok value → OnOk result A → A
+was_ok {T} {E} {A} result value is = subst (λ (r : Result T E). OnOk r A) is
+
 -- the file after the two writes, the cut and the sync
 pub body_written : (s0 s1 s2 s3 s4 : DiskState) (gate to : ℕ) (rest body number : List ℕ) → number ≡ to_be_bytes w64 (length body) → s0 ≡ settled (gate ∷ rest) → s1 ≡ after_write 1 number s0 → s2 ≡ after_write 9 body s1
     → to ≡ 9 + length body → s3 ≡ after_cut to s2 → s4 ≡ after_sync s3 → s4 ≡ settled (gate ∷ framed body)

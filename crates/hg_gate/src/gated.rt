@@ -65,10 +65,9 @@ impl<D: Disk> Gated<D> {
         if self.is_broken {
             return Err(GateFault::Broken);
         }
-        self.is_broken = true;
-        write_through(&mut self.disk, 0, &[CLOSED])?;
-        self.is_broken = false;
-        Ok(())
+        let closed = write_through(&mut self.disk, 0, &[CLOSED]);
+        self.is_broken = closed.is_err();
+        Ok(closed?)
     }
 
     /// Puts a body behind the gate, which is to be closed, and ends the file there. It makes four device calls at most;
@@ -90,10 +89,9 @@ impl<D: Disk> Gated<D> {
         if self.is_broken {
             return Err(GateFault::Broken);
         }
-        self.is_broken = true;
-        replace_body(&mut self.disk, body)?;
-        self.is_broken = false;
-        Ok(())
+        let written = replace_body(&mut self.disk, body);
+        self.is_broken = written.is_err();
+        Ok(written?)
     }
 
     /// Opens the gate. It makes two device calls at most; after an `Err` a crash leaves the file closed, or open with the
@@ -116,10 +114,9 @@ impl<D: Disk> Gated<D> {
         if self.is_broken {
             return Err(GateFault::Broken);
         }
-        self.is_broken = true;
-        write_through(&mut self.disk, 0, &[OPEN])?;
-        self.is_broken = false;
-        Ok(())
+        let opened = write_through(&mut self.disk, 0, &[OPEN]);
+        self.is_broken = opened.is_err();
+        Ok(opened?)
     }
 
     /// The body, or none where the gate is closed. `Damaged` where the file is empty, or is open with a length that it

@@ -55,7 +55,7 @@ impl<D: Disk> Log<D> {
 
     /// A log of no batches, on an empty disk. A refusal hands the disk back.
     pub fn create(alloc: Global, disk: D) -> Result<Log<D>, (GateFault, D)>
-        requires { (D.state disk).contents ≡ [] }
+        requires { length (D.state disk).contents ≡ 0 }
         ensures empty { IfOk result (λ log. Has log [] × (D.state (disk_of log) ≡ settled (header ++ closed_gate ∷ [])) × (D.failures (disk_of log) ≡ D.failures disk)) }
         ensures device { IfErr result (λ e. e.0 ≡ GateFault.DeviceFault → D.failures e.1 ≡ D.failures disk + 1) }
         ensures memory { IfErr result (λ e. (e.0 ≡ GateFault.DeviceFault) ⊎ ((e.0 ≡ GateFault.OutOfMemory) × (e.1 ≡ disk))) }
