@@ -8,6 +8,9 @@ use Rattle.std.specs.Fmt.{decimal}
 use Rattle.std.specs.List.{between, flat_map, join_with_byte}
 use Rattle.std.proofs.lemmas.List.{append_assoc, append-nil}
 
+pub four_pieces : (a b c d a' b' c' d' : List ℕ) → a ≡ a' → b ≡ b' → c ≡ c' → d ≡ d' → a ++ (b ++ (c ++ (d ++ []))) ≡ a' ++ b' ++ c' ++ d'
+four_pieces a b c d a' b' c' d' p q r s = rw (p, q, r, s) (simp (append_assoc, append-nil))
+
 pub six_pieces : (a b c d e f a' b' c' d' e' f' : List ℕ) → a ≡ a' → b ≡ b' → c ≡ c' → d ≡ d' → e ≡ e' → f ≡ f'
     → a ++ (b ++ (c ++ (d ++ (e ++ (f ++ []))))) ≡ a' ++ b' ++ c' ++ d' ++ e' ++ f'
 six_pieces a b c d e f a' b' c' d' e' f' p q r s t u = rw (p, q, r, s, t, u) (simp (append_assoc, append-nil))

@@ -1,8 +1,10 @@
 -- The laws of the grammar, which empty public functions promise.
 use Rattle.std.specs.Prelude.{◌≡◌, ℕ, ◌↔◌, List, Ok, Err}
 use Rattle.hg_model.specs.declared.event.Event.{Event}
+use Rattle.hg_model.specs.declared.event.Named.{Named}
 use Rattle.hg_wire.specs.declared.line.LineFault.{LineFault}
 use Rattle.hg_wire.specs.Lines.{IsLine, HasFault, line_of}
+use Rattle.hg_wire.specs.Records.{BeginsWith}
 use Rattle.hg_wire.specs.Streams.{readings, readings_from, at_start}
 
 -- An event is read of just the lines that spell it.
@@ -16,3 +18,7 @@ FaultsAreFirst = (bytes : List ℕ) (fault : LineFault) → (line_of bytes ≡ E
 -- What is read from the start of a stream on is what is read of all of it.
 abbrev pub StreamsAreWhole : Type 0
 StreamsAreWhole = (stream : List ℕ) → readings_from at_start stream ≡ readings stream
+
+-- Bytes that begin with a record begin with no other, and what follows it is settled.
+abbrev pub RecordsAreUnique : Type 0
+RecordsAreUnique = (bytes : List ℕ) (a b : Named) (x y : List ℕ) → BeginsWith bytes a x → BeginsWith bytes b y → (a ≡ b) × (x ≡ y)

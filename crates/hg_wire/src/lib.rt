@@ -4,9 +4,13 @@
 mod held;
 pub mod laws;
 pub mod line;
+pub mod lines;
 mod number;
 mod operands;
 pub mod reader;
+pub mod record;
+#[cfg(test)]
+mod record_tests;
 pub mod report;
 pub mod splitter;
 #[cfg(test)]

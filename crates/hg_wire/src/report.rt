@@ -11,7 +11,7 @@ use itoa::Buffer;
 use std::alloc::AllocError;
 
 /// Appends the pieces. An `Err` changes nothing.
-fn put_all(pieces: &[&[u8]], out: &mut Vec<u8>) -> Result<(), AllocError>
+pub(crate) fn put_all(pieces: &[&[u8]], out: &mut Vec<u8>) -> Result<(), AllocError>
     ensures ok { OnOk result (out.new.items ≡ out.old.items ++ flat_map (λ piece. piece.now) pieces.now) }
     ensures err { OnErr result (out.new.items ≡ out.old.items) }
 {
@@ -73,7 +73,11 @@ fn digits_of_word(word: u64) -> [u8; 16]
 }
 
 /// Appends the bytes, and a number in decimal after them. An `Err` changes nothing.
-fn put_number_after(bytes: &[u8], number: u16, out: &mut Vec<u8>) -> Result<(), AllocError>
+pub(crate) fn put_number_after(
+    bytes: &[u8],
+    number: u64,
+    out: &mut Vec<u8>,
+) -> Result<(), AllocError>
     ensures ok { OnOk result (out.new.items ≡ out.old.items ++ (bytes.now ++ decimal number)) }
     ensures err { OnErr result (out.new.items ≡ out.old.items) }
 {
@@ -91,9 +95,9 @@ fn put_threads(threads: &[u16], out: &mut Vec<u8>) -> Result<(), AllocError>
         return Ok(());
     };
     let len = out.len();
-    put_number_after(b"", *first, out)?;
+    put_number_after(b"", u64::from(*first), out)?;
     for thread in others {
-        if let Err(error) = put_number_after(b",", *thread, out) {
+        if let Err(error) = put_number_after(b",", u64::from(*thread), out) {
             out.truncate(len);
             return Err(error);
         }

@@ -1,0 +1,9 @@
+pub mod Overwriting
+pub mod Rooming
+pub mod Moments
+pub mod Images
+pub mod Keeping
+pub mod Filling
+pub mod Tearing
+pub mod Calling
+pub mod Tears

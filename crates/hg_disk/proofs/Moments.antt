@@ -1,0 +1,111 @@
+-- What a crash may leave over several calls.
+use Rattle.std.proofs.Common.{◌≡◌, ℕ, Result, Ok, Err, OnOk, OnErr, List, [], ◌∷◌, ◌++◌, refl, sym, ◌∙◌, ap, subst}
+use Rattle.std.proofs.lemmas.List.{append_assoc}
+use Rattle.hg_disk.specs.State.{DiskState, IsImage, SameImages, after_write, after_cut, after_sync}
+use Rattle.hg_disk.specs.Kept.{image_of_write, image_of_cut}
+use Rattle.hg_disk.specs.Moments.{Leaves, EachLeaves, history, LeavesOnly}
+use Rattle.hg_disk.specs.declared.disk.Disk as disk
+
+-- the images of a state with the same bytes at the sync and the same changes since
+pub same_images : (s t : DiskState) (image : List ℕ) → SameImages s t → IsImage t image → IsImage s image
+same_images s t image same is = record { clean = moved.clean; long = moved.long; kept = moved.kept }
+  where
+    unread : t ≡ record s { contents = t.contents }
+    unread = λ i. record { contents = t.contents; synced = same.synced i; since = same.since i }
+
+    moved : IsImage (record s { contents = t.contents }) image
+    moved = subst (λ (u : DiskState). IsImage u image) unread is
+
+-- what a call counts as, whether it answered Ok or failed
+pub as_counted : {T E : Type 0} (result : Result T E) (s t : DiskState) → OnOk result (t ≡ s) → OnErr result (SameImages s t) → SameImages s t
+as_counted (Ok value) s t ok err = record { synced = ap (λ (u : DiskState). u.synced) ok; since = ap (λ (u : DiskState). u.since) ok }
+as_counted (Err error) s t ok err = err
+
+-- what a sync that answered Ok leaves was an image before it
+pub synced_image : (s t : DiskState) → IsImage s s.contents → t ≡ after_sync s → Leaves (IsImage s) t
+synced_image s t bytes is image leaves =
+    let settled : IsImage (after_sync s) image = subst (λ (u : DiskState). IsImage u image) is leaves in
+    subst (IsImage s) (sym (settled.clean refl)) bytes
+
+after_a_sync : {T E : Type 0} (result : Result T E) (s t : DiskState) → IsImage s s.contents → OnOk result (t ≡ after_sync s) → OnErr result (SameImages s t) → Leaves (IsImage s) t
+after_a_sync (Ok value) s t bytes ok err = synced_image s t bytes ok
+after_a_sync (Err error) s t bytes ok err = λ image. same_images s t image err
+
+each-append : (P : List ℕ → Type 0) (later earlier : List DiskState) → EachLeaves P later → EachLeaves P earlier → EachLeaves P (later ++ earlier)
+each-append P [] earlier new old = old
+each-append P (s ∷ later) earlier new old = (new.0, each-append P later earlier new.1 old)
+
+each_weaker : (P Q : List ℕ → Type 0) (states : List DiskState) → ((image : List ℕ) → P image → Q image) → EachLeaves P states → EachLeaves Q states
+each_weaker P Q [] implies has = tt
+each_weaker P Q (s ∷ earlier) implies has = (λ image is. implies image (has.0 image is), each_weaker P Q earlier implies has.1)
+
+newest : DiskState → List DiskState → DiskState
+newest s [] = s
+newest s (t ∷ earlier) = t
+
+newest_leaves : (P : List ℕ → Type 0) (old : DiskState) (earlier later : List DiskState) → Leaves P old → EachLeaves P later → Leaves P (newest old (later ++ (old ∷ earlier)))
+unfolding newest
+newest_leaves P old earlier [] first each = first
+newest_leaves P old earlier (s ∷ later) first each = each.0
+
+module _ {D : Type 0} (g : disk.Ghosts D) where
+  -- before the first call
+  pub started : (d : D) (P : List ℕ → Type 0) → Leaves P (g.state d) → LeavesOnly g d d P
+  started d P now = record { later = []; has_gone = refl; first = now; each = tt }
+
+  -- one call
+  pub one_call : (old new : D) (P : List ℕ → Type 0) → g.past new ≡ (g.state old ∷ g.past old) → Leaves P (g.state old) → Leaves P (g.state new) → LeavesOnly g old new P
+  one_call old new P clock before after = record {
+    later = g.state new ∷ [];
+    has_gone = ap (λ (past : List DiskState). g.state new ∷ past) clock;
+    first = before;
+    each = (after, tt);
+  }
+
+  -- two runs of calls, one after the other
+  pub joined : (old mid new : D) (P : List ℕ → Type 0) → LeavesOnly g old mid P → LeavesOnly g mid new P → LeavesOnly g old new P
+  joined old mid new P one two = record {
+    later = two.later ++ one.later;
+    has_gone = two.has_gone ∙ ap (λ (past : List DiskState). two.later ++ past) one.has_gone ∙ sym (append_assoc two.later one.later (history g old));
+    first = one.first;
+    each = each-append P two.later one.later two.each one.each;
+  }
+
+  pub weaker : (old new : D) (P Q : List ℕ → Type 0) → LeavesOnly g old new P → ((image : List ℕ) → P image → Q image) → LeavesOnly g old new Q
+  weaker old new P Q has implies = record {
+    later = has.later;
+    has_gone = has.has_gone;
+    first = λ image is. implies image (has.first image is);
+    each = each_weaker P Q has.later implies has.each;
+  }
+
+  -- what a crash may leave after the last call
+  pub at_end : (old new : D) (P : List ℕ → Type 0) → LeavesOnly g old new P → Leaves P (g.state new)
+  unfolding newest
+  at_end old new P has =
+      let now : g.state new ≡ newest (g.state old) (has.later ++ history g old) = ap (newest (g.state old)) has.has_gone in
+      subst (Leaves P) (sym now) (newest_leaves P (g.state old) (g.past old) has.later has.first has.each)
+
+  -- a write: what it may leave torn
+  pub write_leaves : {T E : Type 0} (old new : D) (at : ℕ) (bytes : List ℕ) (result : Result T E) → OnOk result (g.state new ≡ after_write at bytes (g.state old))
+      → OnErr result (SameImages (after_write at bytes (g.state old)) (g.state new)) → g.past new ≡ (g.state old ∷ g.past old) → LeavesOnly g old new (IsImage (after_write at bytes (g.state old)))
+  write_leaves old new at bytes result ok err clock =
+      one_call old new (IsImage (after_write at bytes (g.state old))) clock (image_of_write at bytes (g.state old))
+      (λ image. same_images (after_write at bytes (g.state old)) (g.state new) image (as_counted result _ _ ok err))
+
+  -- a cut
+  pub cut_leaves : {T E : Type 0} (old new : D) (to : ℕ) (result : Result T E) → OnOk result (g.state new ≡ after_cut to (g.state old))
+      → OnErr result (SameImages (after_cut to (g.state old)) (g.state new)) → g.past new ≡ (g.state old ∷ g.past old) → LeavesOnly g old new (IsImage (after_cut to (g.state old)))
+  cut_leaves old new to result ok err clock =
+      one_call old new (IsImage (after_cut to (g.state old))) clock (image_of_cut to (g.state old))
+      (λ image. same_images (after_cut to (g.state old)) (g.state new) image (as_counted result _ _ ok err))
+
+  -- a sync: it adds no image
+  pub sync_leaves : {T E : Type 0} (old new : D) (result : Result T E) → ((d : D) → IsImage (g.state d) (g.state d).contents) → OnOk result (g.state new ≡ after_sync (g.state old))
+      → OnErr result (SameImages (g.state old) (g.state new)) → g.past new ≡ (g.state old ∷ g.past old) → LeavesOnly g old new (IsImage (g.state old))
+  sync_leaves old new result has_its_bytes ok err clock =
+      one_call old new (IsImage (g.state old)) clock (λ image is. is) (after_a_sync result (g.state old) (g.state new) (has_its_bytes old) ok err)
+
+  -- a read
+  pub read_leaves : (old new : D) → g.state new ≡ g.state old → g.past new ≡ (g.state old ∷ g.past old) → LeavesOnly g old new (IsImage (g.state old))
+  read_leaves old new same clock = one_call old new (IsImage (g.state old)) clock (λ image is. is) (λ image is. subst (λ (s : DiskState). IsImage s image) same is)

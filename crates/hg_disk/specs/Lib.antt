@@ -1,0 +1,15 @@
+pub mod Blots
+pub mod Event
+pub mod Fuse
+pub mod FuseImages
+pub mod History
+pub mod Kept
+pub mod Laws
+pub mod Len
+pub mod Memory
+pub mod Moments
+pub mod Room
+pub mod Replay
+pub mod State
+pub mod Tape
+pub mod Tear

@@ -1,0 +1,33 @@
+-- What a crash may leave from one moment of a disk to another.
+use Rattle.std.specs.Prelude.{◌-◌, length, get_or, ◌≡◌, ℕ, List, [], ◌∷◌, ◌++◌}
+use Rattle.hg_disk.specs.State.{DiskState, IsImage}
+use Rattle.hg_disk.specs.declared.disk.Disk as disk
+
+-- each image of the state has P
+abbrev pub Leaves : (List ℕ → Type 0) → DiskState → Type 0
+Leaves P s = (image : List ℕ) → IsImage s image → P image
+
+-- each image of each of these states has P
+abbrev pub EachLeaves : (List ℕ → Type 0) → List DiskState → Type 0
+EachLeaves P [] = Unit {0}
+EachLeaves P (s ∷ earlier) = Leaves P s × EachLeaves P earlier
+
+-- the state at moment k of a disk with this state now and these before, the newest first
+abbrev pub at_moment : ℕ → DiskState → List DiskState → DiskState
+at_moment k now past = get_or (now ∷ past) (length past - k) now
+
+module _ {D : Type 0} (g : disk.Ghosts D) where
+  -- the states of the disk at all its moments up to this one, the newest first
+  abbrev pub history : D → List DiskState
+  history d = g.state d ∷ g.past d
+
+  -- Since it was `old`, the disk went through the states `later`, the newest first.
+  abbrev pub HasGone : D → D → List DiskState → Type 0
+  HasGone old new later = history new ≡ later ++ history old
+
+  -- A crash at any moment from `old` to `new`, both included, leaves bytes that have P.
+  pub record LeavesOnly (old new : D) (P : List ℕ → Type 0) : Type 0 where
+    pub later : List DiskState
+    pub has_gone : HasGone old new later
+    pub first : Leaves P (g.state old)
+    pub each : EachLeaves P later

@@ -1,0 +1,13 @@
+-- A disk's calls made again, for an image.
+use Rattle.std.specs.Prelude.{◌≡◌, ℕ, List}
+use Rattle.hg_disk.specs.Blots.{limit_of}
+use Rattle.hg_disk.specs.Event.{Event}
+use Rattle.hg_disk.specs.History.{replay}
+use Rattle.hg_disk.specs.Tear.{IsTorn, left_of}
+use Rattle.hg_disk.specs.declared.replay.Replay.{Replay}
+
+-- it stands where these calls lead
+pub record Stands (r : Replay) (start : List ℕ) (events : List Event) : Type 0 where
+  pub contents : r.contents.items ≡ (replay start events).contents
+  pub torn : IsTorn r.tear start events r.torn.items
+  pub left : r.left ≡ left_of (limit_of r.tear) events

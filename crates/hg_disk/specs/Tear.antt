@@ -1,0 +1,62 @@
+-- The images that a `MemDisk` computes.
+use Rattle.std.specs.Prelude.{◌≡◌, ◌⊎◌, ◌<◌, ◌≤◌, ◌-◌, ◌==◌, ℕ, true, false, if◌then◌else◌, List, [], ◌∷◌, length, take, drop, get_or}
+use Rattle.hg_disk.specs.State.{DiskState, least, is_written, overwritten}
+use Rattle.hg_disk.specs.Event.{Event}
+use Rattle.hg_disk.specs.History.{replay}
+use Rattle.hg_disk.specs.declared.call.Call.{Call}
+use Rattle.hg_disk.specs.declared.call.Call.TheVariants.{Read, Write, Cut, Sync}
+use Rattle.hg_disk.specs.declared.call.Answer.{Answer}
+use Rattle.hg_disk.specs.declared.call.Answer.TheVariants.{Done, Failed, Refused}
+use Rattle.hg_disk.specs.declared.tear.Tear.{Tear}
+use Rattle.hg_disk.specs.declared.tear.Tear.TheVariants.{Lost, Kept, Front, Fill}
+
+-- the first k calls, of calls that come the newest first
+abbrev pub first : ℕ → List Event → List Event
+first k events = drop (length events - k) events
+
+-- how many bytes are left of n after a call, where n were left after the last sync and `before` before the call
+abbrev pub left_by : Call → Answer → List ℕ → ℕ → ℕ → ℕ
+left_by (Write at len) Done bytes n before = before - length bytes
+left_by (Write at len) Failed bytes n before = before
+left_by (Write at len) Refused bytes n before = before
+left_by Sync Done bytes n before = n
+left_by Sync Failed bytes n before = before
+left_by Sync Refused bytes n before = before
+left_by Read answer bytes n before = before
+left_by (Cut to) answer bytes n before = before
+
+-- how many of n bytes the writes since the last sync that succeeded have left over
+abbrev pub left_of : ℕ → List Event → ℕ
+left_of n [] = n
+left_of n (e ∷ earlier) = left_by e.told.call e.told.answer e.bytes n (left_of n earlier)
+
+-- A call on the file of the calls before it, of which it may write so many bytes. A sync takes what a read gave.
+abbrev pub front_by : Call → Answer → List ℕ → ℕ → List ℕ → List ℕ → List ℕ
+front_by (Write at len) Done bytes left read file = if left == 0 then file else overwritten file at (take left bytes)
+front_by (Write at len) Failed bytes left read file = file
+front_by (Write at len) Refused bytes left read file = file
+front_by (Cut to) Done bytes left read file = if left == 0 then file else take to file
+front_by (Cut to) Failed bytes left read file = file
+front_by (Cut to) Refused bytes left read file = file
+front_by Sync Done bytes left read file = read
+front_by Sync Failed bytes left read file = file
+front_by Sync Refused bytes left read file = file
+front_by Read answer bytes left read file = file
+
+-- the file at the last sync, with the calls since then that took effect, until n bytes were written
+abbrev pub front : ℕ → List ℕ → List Event → List ℕ
+front n start [] = start
+front n start (e ∷ earlier) = front_by e.told.call e.told.answer e.bytes (left_of n earlier) (replay start earlier).contents (front n start earlier)
+
+-- what a read gives, but that each uncertain byte is b
+pub record IsFilled (b : ℕ) (s : DiskState) (image : List ℕ) : Type 0 where
+  pub size : length image ≡ length s.contents
+  pub certain : (i : ℕ) → i < length image → i < least s.since (length s.synced) → is_written s.since i ≡ false → get_or image i 0 ≡ get_or s.contents i 0
+  pub uncertain : (i : ℕ) → i < length image → (least s.since (length s.synced) ≤ i) ⊎ (is_written s.since i ≡ true) → get_or image i 0 ≡ b
+
+-- the image after the calls, of a disk that was made with the bytes `start`
+abbrev pub IsTorn : Tear → List ℕ → List Event → List ℕ → Type 0
+IsTorn Lost start events image = image ≡ (replay start events).synced
+IsTorn Kept start events image = image ≡ (replay start events).contents
+IsTorn (Front n) start events image = image ≡ front n start events
+IsTorn (Fill b) start events image = IsFilled b (replay start events) image

@@ -1,0 +1,25 @@
+//! Disks: what their calls promise, and what a crash may leave.
+#![tactic(auto)]
+
+mod call;
+mod disk;
+mod durable;
+mod file;
+mod fuse;
+pub mod laws;
+mod memory;
+mod overwrite;
+mod record;
+mod replay;
+mod tape;
+mod tear;
+#[cfg(test)]
+mod tests;
+
+pub use call::{Answer, Answered, Call};
+pub use disk::{Disk, DiskFault, MAX_LEN};
+pub use durable::write_through;
+pub use file::FileDisk;
+pub use fuse::FuseDisk;
+pub use memory::MemDisk;
+pub use tear::Tear;

@@ -1,0 +1,98 @@
+-- A walk over the batches of a log.
+use Rattle.std.proofs.Common.{◌≡◌, ◌≢◌, ◌<◌, ◌≤◌, ◌+◌, ◌^◌, ℕ, min, Result, IsErrOf, IfErr, List, [], ◌∷◌, ◌++◌, length, take, drop, get_or, IsTrue, refl, sym, ◌∙◌, ap, subst, arith, append_assoc, length-append, length-drop, take-append-drop}
+use Rattle.std.proofs.lemmas.List.{drop_at, take_at, take_min, length-take, length-take-le, append_cancel_left}
+use Rattle.std.specs.List.{flat_map, AllByRecursion}
+use Rattle.std.specs.Int.{w32, to_be_bytes}
+use Rattle.hg_disk.specs.declared.disk.Disk as disk
+use Rattle.hg_disk.specs.State.{DiskState, IsImage}
+use Rattle.hg_disk.specs.Moments.{LeavesOnly}
+use Rattle.hg_disk.proofs.Moments.{joined}
+use Rattle.hg_gate.specs.Batches.{header, open_gate, IsBody, IsBodyLength, sized, batch, spelled, IsLog}
+use Rattle.hg_gate.specs.Scan.{IsTail, IsOpen, Walked}
+use Rattle.hg_gate.proofs.Crash.{spelled_push, each_push}
+use Rattle.hg_gate.proofs.Grammar.{sized_apart}
+
+-- reads, one after the other
+pub read_on : {D : Type 0} (g : disk.Ghosts D) (old mid new : D) → LeavesOnly g old mid (IsImage (g.state old)) → g.state mid ≡ g.state old → LeavesOnly g mid new (IsImage (g.state mid)) → LeavesOnly g old new (IsImage (g.state old))
+read_on {D} g old mid new one same two = joined g old mid new (IsImage (g.state old)) one (subst (λ (s : DiskState). LeavesOnly g mid new (IsImage s)) same two)
+
+batch_length : (body : List ℕ) → length (batch body) ≡ 5 + length body
+batch_length body = omega (arith, length-append (to_be_bytes w32 (length body)) body)
+
+module _ (file : List ℕ) (at n : ℕ) (w : Walked file at) (o : IsOpen (drop at file) n) where
+  body : List ℕ
+  body = take n o.rest
+
+  more : List ℕ
+  more = drop n o.rest
+
+  body_length : length body ≡ n
+  unfolding body
+  body_length = length-take-le n o.rest (omega (arith, o.long))
+
+  one_more : file ≡ spelled (w.bodies ++ body ∷ []) ++ more
+  unfolding body more
+  one_more =
+      let split : to_be_bytes w32 n ++ o.rest ≡ to_be_bytes w32 n ++ (body ++ more) = ap (λ (l : List ℕ). to_be_bytes w32 n ++ l) (sym (take-append-drop n o.rest)) in
+      let named : to_be_bytes w32 n ++ (body ++ more) ≡ sized body ++ more =
+      ap (λ (k : ℕ). to_be_bytes w32 k ++ (body ++ more)) (sym body_length) ∙ sym (append_assoc (to_be_bytes w32 (length body)) body more) in
+      w.front ∙ ap (λ (l : List ℕ). spelled w.bodies ++ l) (o.spelling ∙ ap (λ (l : List ℕ). open_gate ∷ l) (split ∙ named)) ∙ sym (spelled_push w.bodies body more)
+
+  new_place : at + (5 + n) ≡ length (spelled (w.bodies ++ body ∷ []))
+  new_place = omega (arith, w.place, body_length, batch_length body, ap length (spelled_push w.bodies body []), length-append (spelled (w.bodies ++ body ∷ [])) [], length-append (spelled w.bodies) (batch body ++ []), length-append (batch body) [])
+
+  is_body : IsBody body
+  is_body = subst IsBodyLength (sym body_length) o.is_length
+
+  -- one batch more
+  pub walk_on : Walked file (at + (5 + n))
+  walk_on = record {
+    bodies = w.bodies ++ body ∷ [];
+    place = new_place;
+    front = one_more ∙ ap (λ (l : List ℕ). spelled (w.bodies ++ body ∷ []) ++ l) (sym (ap (λ (l : List ℕ). drop (at + (5 + n)) l) one_more ∙ drop_at (spelled (w.bodies ++ body ∷ [])) more (at + (5 + n)) (sym new_place)));
+    each = each_push w.bodies body w.each is_body;
+  }
+
+-- what is left of the batches
+pub record Left (seen bodies : List (List ℕ)) (tail : List ℕ) : Type 0 where
+  pub more : List (List ℕ)
+  pub all : bodies ≡ seen ++ more
+  pub is_tail : IsTail tail more
+
+strip : (seen bodies : List (List ℕ)) (tail : List ℕ) (gate : ℕ) (rest : List ℕ) → AllByRecursion IsBody seen → AllByRecursion IsBody bodies → gate ≢ open_gate
+    → flat_map batch bodies ++ gate ∷ rest ≡ flat_map batch seen ++ tail → Left seen bodies tail
+strip [] bodies tail gate rest each_seen each closed is = record {
+  more = bodies;
+  all = refl;
+  is_tail = record { gate = gate; rest = rest; spelling = sym is; closed = closed; each = each };
+}
+strip (s ∷ seen) [] tail gate rest each_seen each closed is = let same : gate ≡ open_gate = cc is in absurd (closed same)
+strip (s ∷ seen) (b ∷ bodies) tail gate rest each_seen each closed is =
+    let split_b : flat_map batch (b ∷ bodies) ++ gate ∷ rest ≡ batch b ++ (flat_map batch bodies ++ gate ∷ rest) = append_assoc (batch b) (flat_map batch bodies) (gate ∷ rest) in
+    let split_s : flat_map batch (s ∷ seen) ++ tail ≡ batch s ++ (flat_map batch seen ++ tail) = append_assoc (batch s) (flat_map batch seen) tail in
+    let tails : sized b ++ (flat_map batch bodies ++ gate ∷ rest) ≡ sized s ++ (flat_map batch seen ++ tail) = ap (λ (l : List ℕ). drop 1 l) (sym split_b ∙ is ∙ split_s) in
+    let both = sized_apart b s (flat_map batch bodies ++ gate ∷ rest) (flat_map batch seen ++ tail) (omega (arith, each.0.1)) (omega (arith, each_seen.0.1)) tails in
+    let left = strip seen bodies tail gate rest each_seen.1 each.1 closed both.rest in
+    record { more = left.more; all = λ i. both.front i ∷ left.all i; is_tail = left.is_tail }
+
+-- what stands behind the walk
+pub left_of : (file : List ℕ) (at : ℕ) (bodies : List (List ℕ)) (w : Walked file at) → IsLog file bodies → Left w.bodies bodies (drop at file)
+left_of file at bodies w has =
+    strip w.bodies bodies (drop at file) has.gate has.rest w.each has.each has.closed
+    (append_cancel_left header _ _ (sym (append_assoc header (flat_map batch bodies) (has.gate ∷ has.rest)) ∙ sym has.spelling ∙ w.front ∙ append_assoc header (flat_map batch w.bodies) (drop at file)))
+
+pub no_log : (file : List ℕ) (at : ℕ) → Walked file at → ((bodies : List (List ℕ)) → IsTail (drop at file) bodies → ⊥) → (bodies : List (List ℕ)) → IsLog file bodies → ⊥
+no_log file at w none bodies has = let left = left_of file at bodies w has in none left.more left.is_tail
+
+-- five bytes, or all that are left, read into a buffer
+pub read_front : (buf tail zeros : List ℕ) (room count : ℕ) → room ≡ length tail → count ≡ min room 5 → length zeros ≡ 5 → buf ≡ take (length (take count zeros)) tail → take count (buf ++ drop count zeros) ≡ take 5 tail
+read_front buf tail zeros room count room_is count_is five is =
+    let whole : length (take count zeros) ≡ count = omega (arith, length-take count zeros) in
+    let least : count ≡ min 5 (length tail) = omega arith in
+    let read : buf ≡ take count tail = is ∙ ap (λ (k : ℕ). take k tail) whole in
+    let size : length buf ≡ count = omega (arith, ap length read, length-take count tail) in
+    take_at buf (drop count zeros) count size ∙ read ∙ ap (λ (k : ℕ). take k tail) least ∙ take_min 5 tail
+
+-- what is known of an answer that is this fault
+pub told : {T E A : Type 0} (result : Result T E) (fault : E) → IsErrOf result fault → IfErr result (λ _. A) → A
+told {T} {E} {A} result fault is known = subst (λ (r : Result T E). IfErr r (λ (e : E). A)) is known

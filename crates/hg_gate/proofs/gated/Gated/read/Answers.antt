@@ -1,0 +1,44 @@
+use Rattle.std.proofs.Common.{◌≡◌, ◌⊎◌, ◌≤◌, ◌+◌, ◌∙◌, ℕ, List, Err, get_or, take, drop, length, sym, ap, subst, IsTrue, ⊎_elim, arith}
+use Rattle.std.specs.Int.{w64, to_be_bytes}
+use Rattle.hg_disk.specs.State.{DiskState}
+use Rattle.hg_gate.specs.declared.fault.GateFault.TheVariants.{Damaged}
+use Rattle.hg_gate.specs.Batches.{open_gate}
+use Rattle.hg_gate.specs.Gated.{IsOpenWith}
+use Rattle.hg_gate.proofs.Opening.{open_with, not_closed}
+use Rattle.hg_gate.proofs.Walking.{read_on}
+use Rattle.hg_gate.proofs.gated.Gated.read.Goals as goal
+
+pub returns-in_err-len-clause-damaged : goal.returns-in_err-len-clause-damaged
+returns-in_err-len-clause-damaged g c honest is body =
+    let file = (g.D.Disk.state c.args.self.now.disk).contents in
+    let same : c.in_err-len.field-0.0 ≡ Damaged = grind arith in
+    let gate : get_or file 0 0 ≡ open_gate = (c.in_ok-is_open.ensures.open honest).0 c.if-not-branch.false in
+    ⊎_elim (λ closed. not_closed file gate closed) (λ opened.
+    c.in_err-len.ensures.damaged honest (λ i. Err (same i)) body (subst (λ (s : DiskState). IsOpenWith body s.contents) (sym c.is_open.ensures.state) opened))
+
+pub returns-clause-read : goal.returns-clause-read
+returns-clause-read g c honest =
+    let file = (g.D.Disk.state c.args.self.now.disk).contents in
+    let n = c.in_ok-len.len in
+    let gate : get_or file 0 0 ≡ open_gate = (c.in_ok-is_open.ensures.open honest).0 c.if-not-branch.false in
+    let bytes : (g.D.Disk.state c.is_open.new.disk).contents ≡ file = ap (λ (s : DiskState). s.contents) c.is_open.ensures.state in
+    let later : (g.D.Disk.state c.read_length.new.disk).contents ≡ file = ap (λ (s : DiskState). s.contents) (c.read_length.ensures.state ∙ c.is_open.ensures.state) in
+    let within : 9 + n ≤ length file = omega (arith, c.in_ok-len.ensures.within, ap length bytes) in
+    open_with file c.in_ok-body.body.items n within gate (ap (λ (l : List ℕ). take 8 (drop 1 l)) (sym bytes) ∙ c.in_ok-len.ensures.bytes honest)
+    (c.in_ok-body.ensures.bytes honest ∙ ap (λ (l : List ℕ). take n (drop 9 l)) later)
+
+pub returns-in_err-len-clause-any_moment : goal.returns-in_err-len-clause-any_moment
+returns-in_err-len-clause-any_moment g c =
+    read_on g.D.Disk c.args.self.now.disk c.is_open.new.disk c.read_length.new.disk c.is_open.ensures.any_moment c.is_open.ensures.state c.read_length.ensures.any_moment
+
+pub returns-in_err-body-clause-any_moment : goal.returns-in_err-body-clause-any_moment
+returns-in_err-body-clause-any_moment g c =
+    read_on g.D.Disk c.args.self.now.disk c.read_length.new.disk c.read_vec.new.disk
+    (read_on g.D.Disk c.args.self.now.disk c.is_open.new.disk c.read_length.new.disk c.is_open.ensures.any_moment c.is_open.ensures.state c.read_length.ensures.any_moment)
+    (c.read_length.ensures.state ∙ c.is_open.ensures.state) c.read_vec.ensures.any_moment
+
+pub returns-clause-any_moment : goal.returns-clause-any_moment
+returns-clause-any_moment g c =
+    read_on g.D.Disk c.args.self.now.disk c.read_length.new.disk c.read_vec.new.disk
+    (read_on g.D.Disk c.args.self.now.disk c.is_open.new.disk c.read_length.new.disk c.is_open.ensures.any_moment c.is_open.ensures.state c.read_length.ensures.any_moment)
+    (c.read_length.ensures.state ∙ c.is_open.ensures.state) c.read_vec.ensures.any_moment

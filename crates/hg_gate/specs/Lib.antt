@@ -1,0 +1,6 @@
+pub mod Batch
+pub mod Batches
+pub mod Fault
+pub mod Gated
+pub mod Log
+pub mod Scan

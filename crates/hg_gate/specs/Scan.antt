@@ -1,0 +1,48 @@
+-- What stands in a log at a place behind its header.
+use Rattle.std.specs.Prelude.{◌≡◌, ◌≢◌, ◌<◌, ◌≤◌, ◌+◌, ℕ, Option, Some, None, List, ◌∷◌, ◌++◌, length, drop}
+use Rattle.std.specs.List.{flat_map, AllByRecursion}
+use Rattle.std.specs.Int.{w32, to_be_bytes}
+use Rattle.hg_gate.specs.Batches.{open_gate, IsClosed, IsBodyLength, IsBody, batch, spelled, IsLog}
+
+-- open batches, a gate that is closed, and then anything
+pub record IsTail (bytes : List ℕ) (bodies : List (List ℕ)) : Type 0 where
+  pub gate : ℕ
+  pub rest : List ℕ
+  pub spelling : bytes ≡ flat_map batch bodies ++ gate ∷ rest
+  pub closed : gate ≢ open_gate
+  pub each : AllByRecursion IsBody bodies
+
+-- an open gate, the length n of a body, so many bytes, and more
+pub record IsOpen (bytes : List ℕ) (n : ℕ) : Type 0 where
+  pub rest : List ℕ
+  pub spelling : bytes ≡ open_gate ∷ (to_be_bytes w32 n ++ rest)
+  pub is_length : IsBodyLength n
+  pub long : n < length rest
+
+-- a gate that is closed, or a batch with a body of length n and something behind it
+abbrev pub IsHead : List ℕ → Option ℕ → Type 0
+IsHead bytes None = IsClosed bytes
+IsHead bytes (Some n) = IsOpen bytes n
+
+-- the number of bytes up to the end of the batch, of whose body the length is n
+abbrev pub batch_len : Option ℕ → ℕ
+batch_len None = 0
+batch_len (Some n) = 5 + n
+
+-- If there is a batch, its body has a length that a body may have.
+abbrev pub HasBodyLength : Option ℕ → Type 0
+HasBodyLength None = Unit {0}
+HasBodyLength (Some n) = IsBodyLength n
+
+-- The front of the file, up to this place, is the header and open batches.
+pub record Walked (file : List ℕ) (at : ℕ) : Type 0 where
+  pub bodies : List (List ℕ)
+  pub place : at ≡ length (spelled bodies)
+  pub front : file ≡ spelled bodies ++ drop at file
+  pub each : AllByRecursion IsBody bodies
+
+-- The file's batches end at this place.
+pub record EndsAt (file : List ℕ) (at : ℕ) : Type 0 where
+  pub bodies : List (List ℕ)
+  pub has : IsLog file bodies
+  pub place : at ≡ length (spelled bodies)

@@ -1,0 +1,53 @@
+//! What is appended to a log at once.
+ghost use Rattle.std.specs.Prelude.{◌≡◌, ◌≤◌, length, IfOk, IfErr};
+ghost use Rattle.hg_gate.specs.Batches.{IsBody};
+
+/// The most bytes that a batch has.
+pub const MAX_BODY_LEN: usize = 23_552;
+
+/// 1 to 23,552 bytes.
+#[derive(Drop)]
+pub struct Batch {
+    body: Vec<u8>,
+    ghost some: { 1 ≤ length body.items },
+    ghost fits: { length body.items ≤ 23552 },
+}
+
+impl Batch {
+    ghost use Rattle.hg_gate.specs.Batch.{body_of};
+
+    /// Hands the bytes back where there are none, or more than 23,552.
+    pub fn new(body: Vec<u8>) -> Result<Batch, Vec<u8>>
+        ensures ok { IfOk result (λ batch. IsBody body.items × (body_of batch ≡ body.items)) }
+        ensures err { IfErr result (λ refused. ¬ IsBody body.items × (refused ≡ body)) }
+    {
+        if body.is_empty() || body.len() > MAX_BODY_LEN {
+            return Err(body);
+        }
+        Ok(Batch { body })
+    }
+
+    // A batch of so many bytes as it may have.
+    pub(crate) fn of(body: Vec<u8>) -> Batch
+        requires { IsBody body.items }
+        ensures { body_of result ≡ body.items }
+    {
+        Batch { body }
+    }
+
+    /// Its bytes.
+    pub fn body(&self) -> &[u8]
+        ensures same { result.now ≡ body_of self.now }
+        ensures fits { IsBody result.now }
+    {
+        &self.body
+    }
+
+    /// Its bytes, in the vector that it was made of.
+    pub fn into_body(self) -> Vec<u8>
+        ensures { result.items ≡ body_of self }
+    {
+        let Batch { body } = self;
+        body
+    }
+}

@@ -1,0 +1,212 @@
+//! A file whose first byte says whether the rest counts.
+ghost use Rattle.std.specs.Prelude.{◌≡◌, ◌≢◌, ◌⊎◌, ◌+◌, ◌<◌, ◌≤◌, ◌↔◌, ◌^◌, ◌++◌, ◌∷◌, [], ℕ, List, length, get_or, take, drop, true, false, IsTrue, OnOk, OnErr, IsErrOf, Err, IfOk, IfErr, MatchOption};
+ghost use Rattle.hg_disk.specs.State.{IsImage, settled, counted};
+ghost use Rattle.hg_disk.specs.Moments.{Leaves, LeavesOnly};
+ghost use Rattle.std.specs.Int.{w64, to_be_bytes};
+ghost use Rattle.hg_gate.specs.Gated.{framed, IsOpenWith};
+ghost use Rattle.hg_gate.specs.Batches.{open_gate, closed_gate, IsClosed};
+ghost use Rattle.hg_gate.specs.Fault.{failures_after, IsBrokenOrDevice, IsDamagedOrDevice};
+
+use crate::fault::GateFault;
+use crate::log::{CLOSED, OPEN};
+use crate::scan::{read_bytes, read_vec};
+use hg_disk::{Disk, DiskFault, write_through};
+use std::alloc::Global;
+
+// Where the body begins: behind the gate and its length.
+const BODY_AT: u64 = 9;
+
+/// A file that is closed, or open with a body: a gate, the length of the body in eight bytes, the greatest first, the
+/// body, and then anything.
+#[derive(Drop)]
+pub struct Gated<D: Disk> {
+    disk: D,
+    is_broken: bool,
+}
+
+impl<D: Disk> Gated<D> {
+    ghost use Rattle.hg_gate.specs.Gated.{Rests, IsClosedOrOpenWith, IsBehindGate, disk_of, is_broken};
+
+    /// The file on a disk, whatever its bytes are. It makes no device call.
+    pub fn attach(disk: D) -> Gated<D>
+        ensures disk { disk_of result ≡ disk }
+        ensures works { is_broken result ≡ false }
+    {
+        Gated {
+            disk,
+            is_broken: false,
+        }
+    }
+
+    /// The disk.
+    pub fn into_disks(self) -> D
+        ensures { result ≡ disk_of self }
+    {
+        let Gated { disk, is_broken: _ } = self;
+        disk
+    }
+
+    /// Closes the gate, which an empty file then has too. What stands behind it stays. It makes two device calls at
+    /// most; after an `Err` each later call but `into_disks` answers `Broken`.
+    pub fn close(&mut self) -> Result<(), GateFault>
+        ensures closed { (file : List ℕ) → Rests ⟦<D as Disk>⟧ self.old file → OnOk result (Rests ⟦<D as Disk>⟧ self.new (closed_gate ∷ drop 1 file)) }
+
+        // A crash at any moment of the call leaves what stands behind the gate.
+        ensures any_moment { (gate : ℕ) (rest : List ℕ) → Rests ⟦<D as Disk>⟧ self.old (gate ∷ rest)
+            → LeavesOnly ⟦<D as Disk>⟧ (disk_of self.old) (disk_of self.new) (IsBehindGate rest) }
+
+        ensures fault { IfErr result IsBrokenOrDevice }
+        ensures device { D.failures (disk_of self.new) ≡ failures_after result (D.failures (disk_of self.old)) }
+        ensures broken { IsErrOf result GateFault.Broken → IsTrue (is_broken self.old) }
+        ensures breaks { OnErr result (IsTrue (is_broken self.new)) }
+        ensures refuses { IsTrue (is_broken self.old) → result ≡ Err GateFault.Broken }
+        ensures same { IsTrue (is_broken self.old) → self.new ≡ self.old }
+    {
+        if self.is_broken {
+            return Err(GateFault::Broken);
+        }
+        let closed = write_through(&mut self.disk, 0, &[CLOSED]);
+        self.is_broken = closed.is_err();
+        Ok(closed?)
+    }
+
+    /// Puts a body behind the gate, which is to be closed, and ends the file there. It makes four device calls at most;
+    /// after an `Err` each later call but `into_disks` answers `Broken`.
+    pub fn write_body(&mut self, body: &[u8]) -> Result<(), GateFault>
+        ensures written { (gate : ℕ) (rest : List ℕ) → Rests ⟦<D as Disk>⟧ self.old (gate ∷ rest) → OnOk result (Rests ⟦<D as Disk>⟧ self.new (gate ∷ framed body.now)) }
+
+        // While the gate is closed, no image is open.
+        ensures any_moment { (gate : ℕ) (rest : List ℕ) → Rests ⟦<D as Disk>⟧ self.old (gate ∷ rest) → gate ≢ open_gate
+            → LeavesOnly ⟦<D as Disk>⟧ (disk_of self.old) (disk_of self.new) IsClosed }
+
+        ensures fault { IfErr result IsBrokenOrDevice }
+        ensures device { D.failures (disk_of self.new) ≡ failures_after result (D.failures (disk_of self.old)) }
+        ensures broken { IsErrOf result GateFault.Broken → IsTrue (is_broken self.old) }
+        ensures breaks { OnErr result (IsTrue (is_broken self.new)) }
+        ensures refuses { IsTrue (is_broken self.old) → result ≡ Err GateFault.Broken }
+        ensures same { IsTrue (is_broken self.old) → self.new ≡ self.old }
+    {
+        if self.is_broken {
+            return Err(GateFault::Broken);
+        }
+        let written = replace_body(&mut self.disk, body);
+        self.is_broken = written.is_err();
+        Ok(written?)
+    }
+
+    /// Opens the gate. It makes two device calls at most; after an `Err` a crash leaves the file closed, or open with the
+    /// body that stands there, and each later call but `into_disks` answers `Broken`.
+    pub fn open_gate(&mut self) -> Result<(), GateFault>
+        ensures opened { (gate : ℕ) (rest : List ℕ) → Rests ⟦<D as Disk>⟧ self.old (gate ∷ rest) → OnOk result (Rests ⟦<D as Disk>⟧ self.new (open_gate ∷ rest)) }
+        ensures durable { (gate : ℕ) (body rest : List ℕ) → Rests ⟦<D as Disk>⟧ self.old (gate ∷ (framed body ++ rest)) → OnOk result (Leaves (IsOpenWith body) (D.state (disk_of self.new))) }
+
+        // A crash at any moment of the call leaves the file closed, or open with the body that stands there.
+        ensures any_moment { (gate : ℕ) (body rest : List ℕ) → Rests ⟦<D as Disk>⟧ self.old (gate ∷ (framed body ++ rest))
+            → LeavesOnly ⟦<D as Disk>⟧ (disk_of self.old) (disk_of self.new) (IsClosedOrOpenWith body) }
+
+        ensures fault { IfErr result IsBrokenOrDevice }
+        ensures device { D.failures (disk_of self.new) ≡ failures_after result (D.failures (disk_of self.old)) }
+        ensures broken { IsErrOf result GateFault.Broken → IsTrue (is_broken self.old) }
+        ensures breaks { OnErr result (IsTrue (is_broken self.new)) }
+        ensures refuses { IsTrue (is_broken self.old) → result ≡ Err GateFault.Broken }
+        ensures same { IsTrue (is_broken self.old) → self.new ≡ self.old }
+    {
+        if self.is_broken {
+            return Err(GateFault::Broken);
+        }
+        let opened = write_through(&mut self.disk, 0, &[OPEN]);
+        self.is_broken = opened.is_err();
+        Ok(opened?)
+    }
+
+    /// The body, or none where the gate is closed. `Damaged` where the file is empty, or is open with a length that it
+    /// is too short for. After an `Err` it can be tried again. It makes three device calls at most.
+    pub fn read(&mut self, alloc: Global) -> Result<Option<Vec<u8>>, GateFault>
+        ensures read { IsTrue D.is_honest → IfOk result (λ found.
+            MatchOption found (IsClosed (D.state (disk_of self.old)).contents) (λ body. IsOpenWith body.items (D.state (disk_of self.old)).contents)) }
+        ensures damaged { IsTrue D.is_honest → IsErrOf result GateFault.Damaged → (body : List ℕ) → ¬ IsClosedOrOpenWith body (D.state (disk_of self.old)).contents }
+
+        // The file stays as it is.
+        ensures rests { (file : List ℕ) → Rests ⟦<D as Disk>⟧ self.old file → Rests ⟦<D as Disk>⟧ self.new file }
+        ensures state { D.state (disk_of self.new) ≡ D.state (disk_of self.old) }
+        ensures any_moment { LeavesOnly ⟦<D as Disk>⟧ (disk_of self.old) (disk_of self.new) (IsImage (D.state (disk_of self.old))) }
+        ensures device { D.failures (disk_of self.new) ≡ failures_after result (D.failures (disk_of self.old)) }
+        ensures works { is_broken self.new ≡ is_broken self.old }
+        ensures broken { IsErrOf result GateFault.Broken → IsTrue (is_broken self.old) }
+        ensures refuses { IsTrue (is_broken self.old) → result ≡ Err GateFault.Broken }
+        ensures same { IsTrue (is_broken self.old) → self.new ≡ self.old }
+    {
+        if self.is_broken {
+            return Err(GateFault::Broken);
+        }
+        if !is_open(&mut self.disk)? {
+            return Ok(None);
+        }
+        let len = read_length(&mut self.disk)?;
+        let body = read_vec(&mut self.disk, alloc, BODY_AT, len as usize)?;
+        Ok(Some(body))
+    }
+}
+
+// Puts a length and a body behind the first byte of a file, and ends it there.
+fn replace_body<D: Disk>(disk: &mut D, body: &[u8]) -> Result<(), DiskFault>
+    ensures written { (gate : ℕ) (rest : List ℕ) → D.state disk.old ≡ settled (gate ∷ rest) → OnOk result (D.state disk.new ≡ settled (gate ∷ framed body.now)) }
+    ensures any_moment { (gate : ℕ) (rest : List ℕ) → D.state disk.old ≡ settled (gate ∷ rest) → gate ≢ open_gate → LeavesOnly ⟦<D as Disk>⟧ disk.old disk.new IsClosed }
+    ensures failures { D.failures disk.new ≡ counted result (D.failures disk.old) }
+{
+    disk.write_at(1, &(body.len() as u64).to_be_bytes())?;
+    disk.write_at(BODY_AT, body)?;
+    disk.cut(BODY_AT + body.len() as u64)?;
+    disk.sync()
+}
+
+// Whether the first byte of a file is an open gate.
+fn is_open<D: Disk>(disk: &mut D) -> Result<bool, GateFault>
+    ensures some { OnOk result (1 ≤ length (D.state disk.old).contents) }
+    ensures open { IsTrue D.is_honest → IfOk result (λ is_open. IsTrue is_open ↔ (get_or (D.state disk.old).contents 0 0 ≡ open_gate)) }
+    ensures damaged { IsErrOf result GateFault.Damaged → (D.state disk.old).contents ≡ [] }
+    ensures fault { IfErr result IsDamagedOrDevice }
+    ensures device { D.failures disk.new ≡ failures_after result (D.failures disk.old) }
+    ensures state { D.state disk.new ≡ D.state disk.old }
+    ensures any_moment { LeavesOnly ⟦<D as Disk>⟧ disk.old disk.new (IsImage (D.state disk.old)) }
+{
+    if disk.len() == 0 {
+        return Err(GateFault::Damaged);
+    }
+    let mut gate = [0];
+    read_bytes(disk, 0, &mut gate)?;
+    Ok(gate[0] == OPEN)
+}
+
+// The length behind the first byte of a file. It is refused where the file is too short for it.
+fn read_length<D: Disk>(disk: &mut D) -> Result<u64, GateFault>
+    ensures within { IfOk result (λ len. 9 + len ≤ length (D.state disk.old).contents) }
+    ensures bytes { IsTrue D.is_honest → IfOk result (λ len. take 8 (drop 1 (D.state disk.old).contents) ≡ to_be_bytes w64 len) }
+    ensures damaged { IsTrue D.is_honest → IsErrOf result GateFault.Damaged → (body : List ℕ) → ¬ IsOpenWith body (D.state disk.old).contents }
+    ensures fault { IfErr result IsDamagedOrDevice }
+    ensures device { D.failures disk.new ≡ failures_after result (D.failures disk.old) }
+    ensures state { D.state disk.new ≡ D.state disk.old }
+    ensures any_moment { LeavesOnly ⟦<D as Disk>⟧ disk.old disk.new (IsImage (D.state disk.old)) }
+{
+    let file_len = disk.len();
+    if file_len < BODY_AT {
+        return Err(GateFault::Damaged);
+    }
+    let mut bytes = [0; 8];
+    read_bytes(disk, 1, &mut bytes)?;
+    let len = number_of(&bytes);
+    if len > file_len - BODY_AT {
+        return Err(GateFault::Damaged);
+    }
+    Ok(len)
+}
+
+// The number that eight bytes spell, the greatest first.
+fn number_of(bytes: &[u8]) -> u64
+    requires { length bytes.now ≡ 8 }
+    ensures { to_be_bytes w64 result ≡ bytes.now }
+{
+    u64::from_be_bytes([
+        bytes[0], bytes[1], bytes[2], bytes[3], bytes[4], bytes[5], bytes[6], bytes[7],
+    ])
+}

@@ -1,0 +1,204 @@
+//! A log of batches.
+ghost use Rattle.std.specs.Prelude.{◌≡◌, ◌≢◌, ◌⊎◌, ◌+◌, ◌≤◌, ◌^◌, ◌++◌, ◌∷◌, [], ℕ, List, length, vec_capacity, IsTrue, IfOk, IfErr, OnOk, OnErr, IsErrOf, Err};
+ghost use Rattle.hg_disk.specs.State.{IsImage, settled};
+ghost use Rattle.hg_disk.specs.Moments.{Leaves, LeavesOnly};
+ghost use Rattle.hg_gate.specs.Batches.{IsLog, IsBeforeOrAfter, sized, closed_gate, header};
+ghost use Rattle.hg_gate.specs.Fault.{failures_after, IsBrokenOrDevice, IsDamagedOrDevice};
+
+use crate::batch::{Batch, MAX_BODY_LEN};
+use crate::fault::GateFault;
+use crate::scan::{HEAD_LEN, HEADER, find_end, read_head, read_vec};
+use hg_disk::{Disk, write_through};
+use std::alloc::{AllocError, Global};
+
+/// The byte of an open gate. Every other byte is a closed one.
+pub(crate) const OPEN: u8 = 0xA5;
+
+/// The byte that closes a gate.
+pub(crate) const CLOSED: u8 = 0x5A;
+
+// The header and a closed gate.
+const START: [u8; 9] = *b"HGJRNL1\n\x5A";
+
+// A length, the longest body, and a gate.
+const MAX_FRAME: usize = 4 + MAX_BODY_LEN + 1;
+
+/// Batches on a disk, each of which is durable once its `append` has answered `Ok`. The file is a header, then the
+/// batches, each a gate that is open, a length in four bytes, the greatest first, and a body; then a gate that is
+/// closed, and then anything.
+#[derive(Drop)]
+pub struct Log<D: Disk> {
+    disk: D,
+    end: u64,
+    is_broken: bool,
+    buffer: Vec<u8>,
+    ghost small: { end ≤ 2 ^ 62 },
+    ghost room: { 23557 ≤ vec_capacity buffer },
+}
+
+// The length, the body and a closed gate. The room is there, so it can't fail.
+fn fill(buffer: &mut Vec<u8>, body: &[u8])
+    requires room { 23557 ≤ vec_capacity buffer.old }
+    requires fits { length body.now ≤ 23552 }
+    ensures items { buffer.new.items ≡ sized body.now ++ closed_gate ∷ [] }
+    ensures room { 23557 ≤ vec_capacity buffer.new }
+{
+    buffer.clear();
+    let _ = buffer.extend_from_slice(&(body.len() as u32).to_be_bytes());
+    let _ = buffer.extend_from_slice(body);
+    let _ = buffer.extend_from_slice(&[CLOSED]);
+}
+
+impl<D: Disk> Log<D> {
+    ghost use Rattle.hg_gate.specs.Batch.{body_of};
+    ghost use Rattle.hg_gate.specs.Log.{Has, Reads, IsBehind, IsFirst, given, disk_of, disk_after, failures_of_making, is_broken};
+
+    /// A log of no batches, on an empty disk. A refusal hands the disk back.
+    pub fn create(alloc: Global, disk: D) -> Result<Log<D>, (GateFault, D)>
+        requires { length (D.state disk).contents ≡ 0 }
+        ensures empty { IfOk result (λ log. Has log [] × (D.state (disk_of log) ≡ settled (header ++ closed_gate ∷ [])) × (D.failures (disk_of log) ≡ D.failures disk)) }
+        ensures device { IfErr result (λ e. e.0 ≡ GateFault.DeviceFault → D.failures e.1 ≡ D.failures disk + 1) }
+        ensures memory { IfErr result (λ e. (e.0 ≡ GateFault.DeviceFault) ⊎ ((e.0 ≡ GateFault.OutOfMemory) × (e.1 ≡ disk))) }
+    {
+        let buffer = match Vec::with_capacity(alloc, MAX_FRAME) {
+            Ok(buffer) => buffer,
+            Err(AllocError) => return Err((GateFault::OutOfMemory, disk)),
+        };
+        let mut disk = disk;
+        if write_through(&mut disk, 0, &START).is_err() {
+            return Err((GateFault::DeviceFault, disk));
+        }
+        Ok(Log {
+            disk,
+            end: 8,
+            is_broken: false,
+            buffer,
+        })
+    }
+
+    /// The log that a disk holds, with the batches that its bytes have. A refusal hands the disk back: `Damaged` where
+    /// the bytes are none of a log, `DeviceFault` or `OutOfMemory`. It changes nothing, and reads five bytes a batch.
+    pub fn attach(alloc: Global, disk: D) -> Result<Log<D>, (GateFault, D)>
+        ensures reads { IsTrue D.is_honest → IfOk result (λ log. (bodies : List (List ℕ)) × Reads log bodies) }
+        ensures damaged { IsTrue D.is_honest → IfErr result (λ e. e.0 ≡ GateFault.Damaged → (bodies : List (List ℕ)) → ¬ IsLog (D.state disk).contents bodies) }
+        ensures fault { IfErr result (λ e. IsDamagedOrDevice e.0 ⊎ (e.0 ≡ GateFault.OutOfMemory)) }
+        ensures device { D.failures (disk_after result) ≡ failures_of_making result (D.failures disk) }
+        ensures state { D.state (disk_after result) ≡ D.state disk }
+        ensures any_moment { LeavesOnly ⟦<D as Disk>⟧ disk (disk_after result) (IsImage (D.state disk)) }
+    {
+        let buffer = match Vec::with_capacity(alloc, MAX_FRAME) {
+            Ok(buffer) => buffer,
+            Err(AllocError) => return Err((GateFault::OutOfMemory, disk)),
+        };
+        let mut disk = disk;
+        match find_end(&mut disk) {
+            Ok(end) => Ok(Log {
+                disk,
+                end,
+                is_broken: false,
+                buffer,
+            }),
+            Err(fault) => Err((fault, disk)),
+        }
+    }
+
+    /// The disk.
+    pub fn into_disks(self) -> D
+        ensures { result ≡ disk_of self }
+    {
+        let Log {
+            disk,
+            end: _,
+            is_broken: _,
+            buffer: _,
+        } = self;
+        disk
+    }
+
+    /// Adds a batch. After an `Ok` it is durable. After an `Err` the log is broken, and a crash leaves the batches
+    /// from before, with the new one or without; each later call but `into_disks` answers `Broken`. It makes four
+    /// device calls at most.
+    pub fn append(&mut self, batch: &Batch) -> Result<(), GateFault>
+        ensures added { (bodies : List (List ℕ)) → Has self.old bodies → OnOk result (Has self.new (bodies ++ body_of batch.now ∷ [])) }
+        ensures durable { (bodies : List (List ℕ)) → Has self.old bodies → OnOk result (Leaves (λ image. IsLog image (bodies ++ body_of batch.now ∷ [])) (D.state (disk_of self.new))) }
+
+        // A crash at any moment of the call leaves the batches from before it, with the new one or without.
+        ensures any_moment { (bodies : List (List ℕ)) → Has self.old bodies
+            → LeavesOnly ⟦<D as Disk>⟧ (disk_of self.old) (disk_of self.new) (IsBeforeOrAfter bodies (body_of batch.now)) }
+
+        ensures fault { IfErr result IsBrokenOrDevice }
+        ensures device { D.failures (disk_of self.new) ≡ failures_after result (D.failures (disk_of self.old)) }
+        ensures broken { IsErrOf result GateFault.Broken → IsTrue (is_broken self.old) }
+        ensures breaks { OnErr result (IsTrue (is_broken self.new)) }
+
+        // A log that is broken stays as it is.
+        ensures refuses { IsTrue (is_broken self.old) → result ≡ Err GateFault.Broken }
+        ensures same { IsTrue (is_broken self.old) → self.new ≡ self.old }
+    {
+        if self.is_broken {
+            return Err(GateFault::Broken);
+        }
+        self.is_broken = true;
+        fill(&mut self.buffer, batch.body());
+        write_through(&mut self.disk, self.end + 1, &self.buffer)?;
+        write_through(&mut self.disk, self.end, &[OPEN])?;
+        self.end += self.buffer.len() as u64;
+        self.is_broken = false;
+        Ok(())
+    }
+
+    /// The batches, from the first on, for `next_batch`.
+    pub fn batches(&self) -> Result<Batches, GateFault>
+        ensures first { IfOk result (λ batches. IsBehind batches []) }
+        ensures fault { IfErr result (λ e. (e ≡ GateFault.Broken) × IsTrue (is_broken self.now)) }
+        ensures refuses { IsTrue (is_broken self.now) → result ≡ Err GateFault.Broken }
+    {
+        if self.is_broken {
+            return Err(GateFault::Broken);
+        }
+        Ok(Batches {
+            at: HEADER.len() as u64,
+        })
+    }
+
+    /// Reads the next batch, or none behind the last. After an `Err` it can be tried again. It makes two device calls
+    /// at most, and takes memory for the one batch alone.
+    pub fn next_batch(&mut self, batches: &mut Batches) -> Result<Option<Batch>, GateFault>
+        ensures next { (seen left : List (List ℕ)) → IsTrue D.is_honest → Reads self.old (seen ++ left) → IsBehind batches.old seen
+            → IfOk result (λ found. IsFirst found left × IsBehind batches.new (seen ++ given found)) }
+        ensures whole { (seen left : List (List ℕ)) → IsTrue D.is_honest → Reads self.old (seen ++ left) → IsBehind batches.old seen
+            → IfErr result (λ e. e ≢ GateFault.Damaged) }
+        ensures again { OnErr result (batches.new ≡ batches.old) }
+
+        // The log stays as it is.
+        ensures reads { (bodies : List (List ℕ)) → Reads self.old bodies → Reads self.new bodies }
+        ensures has { (bodies : List (List ℕ)) → Has self.old bodies → Has self.new bodies }
+        ensures state { D.state (disk_of self.new) ≡ D.state (disk_of self.old) }
+        ensures any_moment { LeavesOnly ⟦<D as Disk>⟧ (disk_of self.old) (disk_of self.new) (IsImage (D.state (disk_of self.old))) }
+        ensures device { D.failures (disk_of self.new) ≡ failures_after result (D.failures (disk_of self.old)) }
+        ensures broken { IsErrOf result GateFault.Broken → IsTrue (is_broken self.old) }
+        ensures refuses { IsTrue (is_broken self.old) → result ≡ Err GateFault.Broken }
+        ensures same { IsTrue (is_broken self.old) → self.new ≡ self.old }
+    {
+        if self.is_broken {
+            return Err(GateFault::Broken);
+        }
+        if batches.at > self.disk.len() {
+            return Err(GateFault::Damaged);
+        }
+        let Some(len) = read_head(&mut self.disk, batches.at)? else {
+            return Ok(None);
+        };
+        let at = batches.at + HEAD_LEN as u64;
+        let alloc = *self.buffer.allocator();
+        let body = read_vec(&mut self.disk, alloc, at, len as usize)?;
+        batches.at = at + len as u64;
+        Ok(Some(Batch::of(body)))
+    }
+}
+
+/// A place in a log: the next batch to be read.
+#[derive(Clone, Copy, Debug, PartialEq, Eq)]
+pub struct Batches {
+    at: u64,
+}

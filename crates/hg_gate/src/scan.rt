@@ -1,0 +1,143 @@
+//! Where the batches of a log end.
+ghost use Rattle.std.specs.Prelude.{◌≡◌, ◌⊎◌, ◌+◌, ◌<◌, ◌≤◌, ◌↔◌, ◌^◌, ◌∷◌, [], ℕ, List, length, take, drop, IsTrue, IfOk, IfErr, OnOk, IsErrOf};
+ghost use Rattle.hg_disk.specs.State.{IsImage};
+ghost use Rattle.hg_disk.specs.Moments.{LeavesOnly};
+ghost use Rattle.hg_gate.specs.Batches.{IsLog, IsBodyLength};
+ghost use Rattle.hg_gate.specs.Fault.{failures_after, IsDamagedOrDevice};
+ghost use Rattle.hg_gate.specs.Scan.{IsTail, IsHead, EndsAt, Walked, HasBodyLength, batch_len};
+
+use crate::batch::MAX_BODY_LEN;
+use crate::fault::GateFault;
+use crate::log::OPEN;
+use hg_disk::Disk;
+use std::alloc::Global;
+
+/// What a log begins with.
+pub(crate) const HEADER: [u8; 8] = *b"HGJRNL1\n";
+
+// A gate, and the length of a body.
+pub(crate) const HEAD_LEN: usize = 5;
+
+// The length of the body of the batch that begins with these bytes, or none at a gate that is closed. They are the
+// first five of the `room` bytes that the file has left, or all of them.
+fn parse_head(head: &[u8], room: u64) -> Result<Option<u32>, GateFault>
+    ensures within { IfOk result (λ found. batch_len found ≤ room) }
+    ensures length { IfOk result HasBodyLength }
+    ensures head { (tail : List ℕ) → head.now ≡ take 5 tail → room ≡ length tail → IfOk result (IsHead tail) }
+    ensures damaged { (tail : List ℕ) → head.now ≡ take 5 tail → room ≡ length tail → IfErr result (λ _. (bodies : List (List ℕ)) → ¬ IsTail tail bodies) }
+    ensures fault { IfErr result (λ e. e ≡ GateFault.Damaged) }
+{
+    if head.is_empty() {
+        return Err(GateFault::Damaged);
+    }
+    if head[0] != OPEN {
+        return Ok(None);
+    }
+    if head.len() < HEAD_LEN {
+        return Err(GateFault::Damaged);
+    }
+    let len = u32::from_be_bytes([head[1], head[2], head[3], head[4]]);
+    if !fits(len, room) {
+        return Err(GateFault::Damaged);
+    }
+    Ok(Some(len))
+}
+
+// Whether a batch whose body has this length ends before so many bytes, and the length is that of a body.
+fn fits(len: u32, room: u64) -> bool
+    ensures { IsTrue result ↔ (IsBodyLength len × (5 + len < room)) }
+{
+    1 <= len && len as usize <= MAX_BODY_LEN && 5 + (len as u64) < room
+}
+
+// What stands at this place of the file.
+pub(crate) fn read_head<D: Disk>(disk: &mut D, at: u64) -> Result<Option<u32>, GateFault>
+    requires { at ≤ length (D.state disk.old).contents }
+    ensures within { IfOk result (λ found. at + batch_len found ≤ length (D.state disk.old).contents) }
+    ensures fits { IfOk result (λ found. at + batch_len found ≤ 2 ^ 62) }
+    ensures length { IfOk result HasBodyLength }
+    ensures head { IsTrue D.is_honest → IfOk result (IsHead (drop at (D.state disk.old).contents)) }
+    ensures damaged { IsTrue D.is_honest → IsErrOf result GateFault.Damaged → (bodies : List (List ℕ)) → ¬ IsTail (drop at (D.state disk.old).contents) bodies }
+    ensures fault { IfErr result IsDamagedOrDevice }
+    ensures device { D.failures disk.new ≡ failures_after result (D.failures disk.old) }
+    ensures state { D.state disk.new ≡ D.state disk.old }
+    ensures any_moment { LeavesOnly ⟦<D as Disk>⟧ disk.old disk.new (IsImage (D.state disk.old)) }
+{
+    let room = disk.len() - at;
+    let count = room.min(HEAD_LEN as u64) as usize;
+    let mut head = [0; HEAD_LEN];
+    read_bytes(disk, at, &mut head[..count])?;
+    parse_head(&head[..count], room)
+}
+
+// The place of the first gate that is closed.
+pub(crate) fn find_end<D: Disk>(disk: &mut D) -> Result<u64, GateFault>
+    ensures found { IsTrue D.is_honest → IfOk result (EndsAt (D.state disk.old).contents) }
+    ensures fits { IfOk result (λ at. at ≤ 2 ^ 62) }
+    ensures damaged { IsTrue D.is_honest → IsErrOf result GateFault.Damaged → (bodies : List (List ℕ)) → ¬ IsLog (D.state disk.old).contents bodies }
+    ensures fault { IfErr result IsDamagedOrDevice }
+    ensures device { D.failures disk.new ≡ failures_after result (D.failures disk.old) }
+    ensures state { D.state disk.new ≡ D.state disk.old }
+    ensures any_moment { LeavesOnly ⟦<D as Disk>⟧ disk.old disk.new (IsImage (D.state disk.old)) }
+{
+    read_header(disk)?;
+    let mut at = HEADER.len() as u64;
+    while let Some(len) = read_head(disk, at)? {
+        at += (HEAD_LEN as u64) + len as u64;
+    }
+    Ok(at)
+}
+
+// Tells whether the file begins with the header.
+fn read_header<D: Disk>(disk: &mut D) -> Result<(), GateFault>
+    ensures found { IsTrue D.is_honest → OnOk result (Walked (D.state disk.old).contents 8) }
+    ensures within { OnOk result (8 ≤ length (D.state disk.old).contents) }
+    ensures damaged { IsTrue D.is_honest → IsErrOf result GateFault.Damaged → (bodies : List (List ℕ)) → ¬ IsLog (D.state disk.old).contents bodies }
+    ensures fault { IfErr result IsDamagedOrDevice }
+    ensures device { D.failures disk.new ≡ failures_after result (D.failures disk.old) }
+    ensures state { D.state disk.new ≡ D.state disk.old }
+    ensures any_moment { LeavesOnly ⟦<D as Disk>⟧ disk.old disk.new (IsImage (D.state disk.old)) }
+{
+    if disk.len() < HEADER.len() as u64 {
+        return Err(GateFault::Damaged);
+    }
+    let mut bytes = [0; HEADER.len()];
+    read_bytes(disk, 0, &mut bytes)?;
+    if bytes != HEADER {
+        return Err(GateFault::Damaged);
+    }
+    Ok(())
+}
+
+// Fills the buffer with the bytes from the offset `at` on.
+pub(crate) fn read_bytes<D: Disk>(disk: &mut D, at: u64, buf: &mut [u8]) -> Result<(), GateFault>
+    requires { at + length buf.old ≤ length (D.state disk.old).contents }
+    ensures bytes { IsTrue D.is_honest → OnOk result (buf.new ≡ take (length buf.old) (drop at (D.state disk.old).contents)) }
+    ensures fault { IfErr result (λ e. e ≡ GateFault.DeviceFault) }
+    ensures device { D.failures disk.new ≡ failures_after result (D.failures disk.old) }
+    ensures state { D.state disk.new ≡ D.state disk.old }
+    ensures any_moment { LeavesOnly ⟦<D as Disk>⟧ disk.old disk.new (IsImage (D.state disk.old)) }
+{
+    disk.read_at(at, buf)?;
+    Ok(())
+}
+
+// The `len` bytes from the offset `at` on.
+pub(crate) fn read_vec<D: Disk>(
+    disk: &mut D,
+    alloc: Global,
+    at: u64,
+    len: usize,
+) -> Result<Vec<u8>, GateFault>
+    requires { at + len ≤ length (D.state disk.old).contents }
+    ensures bytes { IsTrue D.is_honest → IfOk result (λ v. v.items ≡ take len (drop at (D.state disk.old).contents)) }
+    ensures len { IfOk result (λ v. length v.items ≡ len) }
+    ensures fault { IfErr result (λ e. (e ≡ GateFault.DeviceFault) ⊎ (e ≡ GateFault.OutOfMemory)) }
+    ensures device { D.failures disk.new ≡ failures_after result (D.failures disk.old) }
+    ensures state { D.state disk.new ≡ D.state disk.old }
+    ensures any_moment { LeavesOnly ⟦<D as Disk>⟧ disk.old disk.new (IsImage (D.state disk.old)) }
+{
+    let mut bytes = vec![in alloc; 0; len]?;
+    read_bytes(disk, at, &mut bytes)?;
+    Ok(bytes)
+}

@@ -1,0 +1,63 @@
+-- How an event is spelled in a journal: all numbers high byte first.
+use Rattle.std.specs.Prelude.{◌≡◌, ℕ, ◌<◌, ◌^◌, List, [], ◌∷◌, ◌++◌}
+use Rattle.std.specs.Int.{w16, w64, to_be_bytes}
+use Rattle.hg_model.specs.declared.event.Access.{Access}
+use Rattle.hg_model.specs.declared.event.Block.{Block}
+use Rattle.hg_model.specs.declared.event.Event.{Event}
+use Rattle.hg_model.specs.declared.event.Event.TheVariants.{Fork, Join, Lock, RdLock, Unlock, Read, Write, Alloc, Free}
+use Rattle.hg_model.specs.declared.event.Named.{Named}
+
+-- a thread, and another thread or a lock
+abbrev pub pair_text : ℕ → ℕ → List ℕ
+pair_text t n = to_be_bytes w16 t ++ to_be_bytes w16 n
+
+abbrev pub access_text : Access → List ℕ
+access_text a = to_be_bytes w16 a.t ++ (to_be_bytes w64 a.at ++ a.len ∷ [])
+
+abbrev pub block_text : Block → List ℕ
+block_text b = to_be_bytes w16 b.t ++ (to_be_bytes w64 b.at ++ to_be_bytes w16 b.len)
+
+-- the event's kind, its acting thread and its operands
+abbrev pub event_text : Event → List ℕ
+event_text (Fork p c) = 1 ∷ pair_text p c
+event_text (Join p c) = 2 ∷ pair_text p c
+event_text (Lock t l) = 3 ∷ pair_text t l
+event_text (RdLock t l) = 4 ∷ pair_text t l
+event_text (Unlock t l) = 5 ∷ pair_text t l
+event_text (Read a) = 6 ∷ access_text a
+event_text (Write a) = 7 ∷ access_text a
+event_text (Alloc b) = 8 ∷ block_text b
+event_text (Free b) = 9 ∷ block_text b
+
+-- The record of an event under its name.
+abbrev pub record_text : Named → List ℕ
+record_text n = to_be_bytes w16 n.source ++ (to_be_bytes w64 n.number ++ event_text n.event)
+
+abbrev pub PairFits : ℕ → ℕ → Type 0
+PairFits t n = (t < 2 ^ 16) × (n < 2 ^ 16)
+
+abbrev pub AccessFits : Access → Type 0
+AccessFits a = (a.t < 2 ^ 16) × ((a.at < 2 ^ 64) × (a.len < 2 ^ 8))
+
+abbrev pub BlockFits : Block → Type 0
+BlockFits b = (b.t < 2 ^ 16) × ((b.at < 2 ^ 64) × (b.len < 2 ^ 16))
+
+-- each field is within its width
+abbrev pub EventFits : Event → Type 0
+EventFits (Fork p c) = PairFits p c
+EventFits (Join p c) = PairFits p c
+EventFits (Lock t l) = PairFits t l
+EventFits (RdLock t l) = PairFits t l
+EventFits (Unlock t l) = PairFits t l
+EventFits (Read a) = AccessFits a
+EventFits (Write a) = AccessFits a
+EventFits (Alloc b) = BlockFits b
+EventFits (Free b) = BlockFits b
+
+-- What has a record.
+abbrev pub RecordFits : Named → Type 0
+RecordFits n = (n.source < 2 ^ 16) × ((n.number < 2 ^ 64) × EventFits n.event)
+
+-- The bytes begin with the record of this event.
+abbrev pub BeginsWith : List ℕ → Named → List ℕ → Type 0
+BeginsWith bytes n rest = RecordFits n × (bytes ≡ record_text n ++ rest)

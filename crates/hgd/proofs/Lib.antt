@@ -1,0 +1,5 @@
+mod Pieces
+mod Printed
+mod Steps
+mod Underway
+mod Unique
