@@ -1,8 +1,8 @@
 -- Answers of the calls that accept an event.
-use Rattle.std.proofs.Common.{◌≡◌, ℕ, ◌+◌, ◌-◌, ◌*◌, ◌/◌, ◌<◌, ◌≤◌, ◌^◌, Bool, cond, List, [], ◌∷◌, ◌++◌, length, take, refl, sym, ap, ◌∙◌, subst, inl, inr, ◌⊎◌, arith, All, slice_index, Option, None, Result, Ok, Err, IfErr, OnOk, OnErr, nat_eq}
+use Rattle.std.proofs.Common.{◌≡◌, ℕ, ◌+◌, ◌-◌, ◌/◌, ◌<◌, ◌≤◌, Bool, List, [], ◌++◌, length, take, refl, sym, ap, ◌∙◌, subst, ◌⊎◌, arith, All, Result, Ok, Err, IfErr, OnOk, OnErr, nat_eq}
 use Rattle.std.specs.Prelude.{vec_capacity}
 use Rattle.std.specs.List.{list_any}
-use Rattle.std.proofs.lemmas.List.{append-nil, length_push, length-take}
+use Rattle.std.proofs.lemmas.List.{append-nil, length-take}
 use Rattle.std.proofs.lemmas.List.Elements.{All-append, All-take, All-weaker}
 use Rattle.hg_model.specs.declared.segment.Segment.{Segment}
 use Rattle.hg_model.specs.declared.event.Access.{Access}
@@ -22,13 +22,13 @@ use Rattle.hg_detect.specs.declared.kept.KeptReport.{KeptReport}
 use Rattle.hg_detect.specs.declared.plan.Planned.{Planned}
 use Rattle.hg_detect.specs.Words.{KeepsLaw, SameCells}
 use Rattle.hg_detect.specs.Making.{AsksBy, sets_asked}
-use Rattle.hg_detect.specs.Shown.{Shown, content, found, given, report_of}
+use Rattle.hg_detect.specs.Shown.{content, found, given}
 use Rattle.hg_detect.specs.Engine.{Answers, AtPresent, IsSound, actor_of, shown_of}
 use Rattle.hg_detect.proofs.Plans.{meaning_kept, no_fewer}
 use Rattle.hg_model.specs.Segments.{opened}
 use Rattle.hg_model.specs.Verdicts.{standing}
 use Rattle.hg_detect.specs.Planning.{ArePlanned}
-use Rattle.hg_detect.proofs.Stepping.{content_kept, found_within, planned_within, stepped}
+use Rattle.hg_detect.proofs.Stepping.{content_kept, found_within, planned_within}
 use Rattle.hg_detect.proofs.Reports.{found_few}
 use Rattle.hg_detect.proofs.Accesses.{access_accepted, access_event, opens_none, same_threads}
 use Rattle.hg_detect.proofs.Passing.{AccessPasses}

@@ -14,7 +14,6 @@ use Rattle.hg_sets.specs.declared.fault.SetFault.TheVariants.{Full, OutOfMemory}
 use Rattle.hg_graph.specs.Graph.{names}
 use Rattle.hg_detect.specs.declared.engine.Engine.{Engine}
 use Rattle.hg_model.specs.declared.event.Named.{Named}
-use Rattle.hg_model.specs.Contents.{Content}
 use Rattle.hg_model.specs.Change.{after}
 use Rattle.hg_cells.specs.declared.cell.Cell.{Cell}
 use Rattle.hg_detect.specs.Making.{AsksBy, sets_asked}

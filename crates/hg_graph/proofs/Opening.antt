@@ -1,12 +1,12 @@
 -- What a graph keeps when it is made and when a segment is opened.
-use Rattle.std.proofs.Common.{◌≡◌, ◌≢◌, ℕ, zero, suc, ◌+◌, ◌<◌, ◌≤◌, Bool, true, false, cond, nat_eq, nat_lt, List, [], ◌∷◌, ◌++◌, length, set, get_or, Contains, refl, sym, ap, ◌∙◌, subst, ⊎_elim, arith, length-append, length-set, get_or-set_same, get_or-set_other, zero-add, add-zero, replicate}
+use Rattle.std.proofs.Common.{◌≡◌, ◌≢◌, ℕ, zero, suc, ◌+◌, ◌<◌, ◌≤◌, Bool, true, false, cond, nat_eq, nat_lt, List, [], ◌∷◌, ◌++◌, length, set, get_or, Contains, refl, sym, ap, ◌∙◌, subst, ⊎_elim, arith, length-set, get_or-set_same, get_or-set_other, zero-add, add-zero, replicate}
 use Rattle.std.proofs.lemmas.Bool.{false≢true, cases_eq, cases_lt, eq-eqb, ne_eqb, eqb-true, or_parts, or_cases, false_from_ne_true}
 use Rattle.std.proofs.lemmas.List.{get_or_append_left, get_or_push, get_or_read, length_push, length-replicate}
-use Rattle.std.proofs.lemmas.List.Folds.{list_any-append, list_any_at}
-use Rattle.std.specs.List.{list_any, AllByRecursion}
+use Rattle.std.proofs.lemmas.List.Folds.{list_any_at}
+use Rattle.std.specs.List.{AllByRecursion}
 use Rattle.hg_model.specs.declared.segment.Segment.{Segment}
 use Rattle.hg_model.specs.Segments.{of_thread, rising, thread_at, present, last_of}
-use Rattle.hg_model.specs.Paths.{before, IsRising, HasEdge, reaches}
+use Rattle.hg_model.specs.Paths.{IsRising, reaches}
 use Rattle.hg_model.proofs.Graph.{rising_append, reaches_stable, last_of_lt}
 use Rattle.hg_model.proofs.Owners.{present_push, greatest}
 use Rattle.hg_model.proofs.Reaching.{reaches_itself, reaches_on, reaches_le}

@@ -1,10 +1,9 @@
-use Rattle.std.proofs.Common.{◌≡◌, true, false, refl, sym, ap, ◌∙◌, subst, length}
+use Rattle.std.proofs.Common.{◌≡◌, true, false, refl, sym, subst, length}
 use Rattle.std.specs.Result.{result_err}
 use Rattle.hg_cells.specs.declared.cell.Cell.TheVariants.{Exclusive}
 use Rattle.hg_cells.specs.Cells.{IsWithin, meaning}
 use Rattle.hg_detect.specs.Making.{Asks, sets_in}
 use Rattle.hg_model.specs.Paths.{reaches}
-use Rattle.hg_sets.specs.Interning.{AreSets}
 use Rattle.hg_detect.specs.Planning.{IsPlanned, acting_of, touch_of, touched_by}
 use Rattle.hg_detect.proofs.Plans.{owned_new, owned_on, owned_planned, new_owner, true_owner}
 use Rattle.hg_detect.proofs.plan.plan_word.Goals as goal

@@ -1,4 +1,4 @@
-use Rattle.std.proofs.Common.{◌≡◌, ◌+◌, ◌<◌, ◌≤◌, ℕ, Ok, Err, sym, ap, ◌∙◌, subst, arith}
+use Rattle.std.proofs.Common.{◌≡◌, ◌≤◌, Ok, Err, ◌∙◌, arith}
 use Rattle.std.specs.Result.{result_err}
 use Rattle.hg_detect.specs.Planning.{acting_of}
 use Rattle.hg_detect.proofs.Sequences.{planned_next, planned_refused}

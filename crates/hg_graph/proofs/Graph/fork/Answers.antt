@@ -1,11 +1,10 @@
-use Rattle.std.proofs.Common.{◌≡◌, ℕ, ◌<◌, ◌+◌, ◌++◌, ◌∷◌, [], true, false, ap, ◌∙◌, sym, refl, subst, arith, get_or, set, List, length, Contains, ◌≤◌, Bool}
+use Rattle.std.proofs.Common.{ℕ, ◌+◌, ◌++◌, ◌∷◌, [], ap, ◌∙◌, sym, refl, arith, List, length, ◌≤◌, Bool}
 use Rattle.hg_model.specs.declared.segment.Segment.{Segment}
 use Rattle.std.proofs.lemmas.Bool.{false≢true}
 use Rattle.hg_model.specs.Segments.{of_thread, present}
-use Rattle.std.proofs.lemmas.List.{length_push}
 use Rattle.hg_graph.specs.Graph.{names}
 use Rattle.hg_graph.specs.Kept.{IsKept}
-use Rattle.hg_graph.proofs.Opening.{opened_one, opened_second, present_in, table_read, kept_at, told_apart, parent_stays}
+use Rattle.hg_graph.proofs.Opening.{opened_one, opened_second, present_in, table_read, kept_at, told_apart}
 use Rattle.hg_graph.proofs.Graph.fork.Goals as goal
 
 pub invariant_of-self-2 : goal.invariant_of-self-2

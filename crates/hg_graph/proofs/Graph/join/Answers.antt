@@ -1,7 +1,5 @@
-use Rattle.std.proofs.Common.{◌≡◌, ℕ, ◌<◌, ◌+◌, ◌++◌, ◌∷◌, [], true, false, ap, ◌∙◌, sym, subst, arith, get_or, set, List, length}
-use Rattle.std.proofs.lemmas.List.{get_or_read}
-use Rattle.hg_model.specs.Segments.{of_thread, present, rising}
-use Rattle.hg_graph.specs.Graph.{names}
+use Rattle.std.proofs.Common.{◌<◌, ap, ◌∙◌, arith, length}
+use Rattle.hg_model.specs.Segments.{present, rising}
 use Rattle.hg_graph.specs.Kept.{IsKept}
 use Rattle.hg_graph.proofs.Opening.{opened_one, present_in, rising_has, table_read, kept_at}
 use Rattle.hg_model.proofs.Graph.{each_rising}

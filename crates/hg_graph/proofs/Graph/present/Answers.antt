@@ -1,6 +1,5 @@
-use Rattle.std.proofs.Common.{◌≡◌, ℕ, ◌<◌, ap, ◌∙◌, sym, subst, arith, get_or, List, length}
+use Rattle.std.proofs.Common.{◌≡◌, ℕ, ap, ◌∙◌, arith, get_or, length}
 use Rattle.std.proofs.lemmas.List.{get_or_read}
-use Rattle.hg_model.specs.declared.segment.Segment.{Segment}
 use Rattle.hg_model.specs.Segments.{present}
 use Rattle.hg_graph.proofs.Opening.{present_in}
 use Rattle.hg_graph.proofs.Graph.present.Goals as goal

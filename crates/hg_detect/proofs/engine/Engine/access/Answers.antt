@@ -1,12 +1,9 @@
-use Rattle.std.proofs.Common.{◌≡◌, ◌<◌, ◌≤◌, ◌+◌, ◌-◌, ◌*◌, ◌/◌, ◌^◌, ℕ, Ok, Err, Result, refl, sym, ap, ◌∙◌, subst, arith, length, take, ◌++◌, All}
-use Rattle.std.specs.List.{range_with_len}
+use Rattle.std.proofs.Common.{◌≡◌, ◌+◌, ◌/◌, ℕ, Ok, Err, refl, ap, ◌∙◌, subst, arith, length, take, ◌++◌, All}
 use Rattle.hg_model.specs.Verdicts.{standing}
-use Rattle.hg_detect.specs.Making.{AsksBy, sets_asked}
-use Rattle.hg_detect.specs.Engine.{Answers, AtPresent, actor_of, shown_of}
-use Rattle.hg_detect.specs.Planning.{wanted}
-use Rattle.hg_detect.specs.Shown.{content, found, given}
+use Rattle.hg_detect.specs.Engine.{actor_of, shown_of}
+use Rattle.hg_detect.specs.Shown.{found, given}
 use Rattle.hg_cells.specs.Cells.{IsWithin}
-use Rattle.hg_detect.proofs.Accesses.{access_accepted, asked_from, last_word}
+use Rattle.hg_detect.proofs.Accesses.{asked_from, last_word}
 use Rattle.hg_detect.proofs.Passing.{access_passes}
 use Rattle.hg_detect.proofs.Answering.{Keeps, access_answers, refused_answers}
 use Rattle.hg_detect.proofs.Reports.{found_few}
