@@ -22,9 +22,11 @@ use Rattle.hg_model.specs.Contents.{Content}
 use Rattle.hg_model.specs.Verdicts.{verdict, standing_of}
 use Rattle.std.specs.Option.{option_and_then}
 
+-- the threads with thread t changed
 abbrev pub change : ℕ → (ThreadState → ThreadState) → List ThreadState → List ThreadState
 change t f threads = map (λ x. if t == x.number then f x else x) threads
 
+-- the thread with these locks
 abbrev pub with_held : ThreadState → List HeldLock → ThreadState
 with_held x hs = record { number = x.number; alive = x.alive; held = hs }
 
@@ -33,9 +35,11 @@ abbrev pub with_thread : ThreadState → List ThreadState → List ThreadState
 with_thread t [] = t ∷ []
 with_thread t (x ∷ xs) = if nat_lt t.number x.number then t ∷ x ∷ xs else if t.number == x.number then x ∷ xs else x ∷ with_thread t xs
 
+-- the thread, dead
 abbrev pub dead : ThreadState → ThreadState
 dead x = record { number = x.number; alive = false; held = x.held }
 
+-- the threads after one event
 abbrev pub threads_after : Event → List ThreadState → List ThreadState
 threads_after (Fork p c) threads = with_thread (record { number = c; alive = true; held = [] }) threads
 threads_after (Join p c) threads = change c dead threads
@@ -79,10 +83,12 @@ word_after c _ w = c.words w
 abbrev pub becomes_racy : Content → Event → ℕ → Bool
 becomes_racy c e w = is_racy (word_after c e w) && not (is_racy (c.words w))
 
+-- the reports of an access: the words that it makes racy, rising
 abbrev pub reported_after : Content → Event → ℕ → Bool → ℕ → ℕ → List Report
 reported_after c e t write at len =
     map (λ w. record { event = c.events + 1; write = write; thread = t; word = 4 * w; threads = threads_in (word_after c e w) }) (filter (becomes_racy c e) (words_of at len))
 
+-- the reports of one event
 abbrev pub new_reports : Content → Event → List Report
 new_reports c (Read a) = reported_after c (Read a) a.t false a.at a.len
 new_reports c (Write a) = reported_after c (Write a) a.t true a.at a.len
@@ -105,6 +111,7 @@ after c n =
 abbrev pub empty_content : Content
 empty_content = record { events = 0; segments = of_thread 0 [] ∷ []; threads = record { number = 0; alive = true; held = [] } ∷ []; words = λ w. New; reports = []; total = 0; last = λ s. 0 }
 
+-- whether a verdict accepts
 abbrev pub is_accept : Verdict → Bool
 is_accept Accept = true
 is_accept _ = false

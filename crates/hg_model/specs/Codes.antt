@@ -3,6 +3,7 @@ use Rattle.std.specs.Prelude.{ℕ}
 use Rattle.hg_model.specs.declared.verdict.Refusal.{Refusal}
 use Rattle.hg_model.specs.declared.verdict.Refusal.TheVariants.{Gap, BadNumber, BadLength, AddressEnd, NoThread, ChildUsed, SelfJoin, ChildNotAlive, ChildHoldsLocks, Broken, Damaged, AlreadyHeld, LockBusy, NotHeld, FullHeld, FullSegments, FullEvents, FullPending, FullSets, FullSlots, DeviceFault, OutOfMemory}
 
+-- the number of a refusal
 abbrev pub code_of : Refusal → ℕ
 code_of (Gap n) = 1
 code_of BadNumber = 2

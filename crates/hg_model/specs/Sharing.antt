@@ -38,12 +38,13 @@ abbrev pub owned : WordState → List HistoryItem → WordState
 owned state [] = state
 owned state (x ∷ items) = owned (Exclusive x.segment) items
 
--- the state of a word with this history
+-- the state by where sharing begins
 abbrev pub state_by : Sharing → List HistoryItem → WordState
 state_by Unshared items = owned New items
 state_by (SharedFrom previous first later) items =
     shared (list_any (λ i. i.write) (first ∷ later)) (set_of (map (λ i. i.thread) (previous ∷ first ∷ later))) (lockset (first ∷ later))
 
+-- The state of a word with this history.
 abbrev pub state : List Segment → List HistoryItem → WordState
 state segments items = state_by (sharing segments items) items
 
@@ -56,6 +57,7 @@ abbrev pub first_race : List HistoryItem → List HistoryItem → Option ℕ
 first_race front [] = None
 first_race front (x ∷ later) = if is_race (front ++ x ∷ []) then Some x.event else first_race (front ++ x ∷ []) later
 
+-- the reported item by where sharing begins: none where the word is not shared
 abbrev pub reported_by : Sharing → Option ℕ
 reported_by Unshared = None
 reported_by (SharedFrom previous first later) = first_race [] (first ∷ later)
@@ -64,6 +66,7 @@ reported_by (SharedFrom previous first later) = first_race [] (first ∷ later)
 abbrev pub reported_item : List Segment → List HistoryItem → Option ℕ
 reported_item segments items = reported_by (sharing segments items)
 
+-- the threads that share a word in this state
 abbrev pub threads_in : WordState → List ℕ
 threads_in New = []
 threads_in (Exclusive s) = []

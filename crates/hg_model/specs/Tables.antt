@@ -31,6 +31,7 @@ counted_at write (Some x) = counted write x.held
 abbrev pub holders : List ThreadState → ℕ → ℕ
 holders threads l = count_by (λ x. has_lock x.held l) threads
 
+-- how many hold it in write mode
 abbrev pub writers : List ThreadState → ℕ → ℕ
 writers threads l = count_by (λ x. has_lock_for_writing x.held l) threads
 

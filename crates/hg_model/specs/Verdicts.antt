@@ -20,9 +20,11 @@ pub record Standing : Type 0 where
   pub threads : List ThreadState
   pub last : ℕ → ℕ
 
+-- what a verdict reads of a content
 abbrev pub standing_of : Content → Standing
 standing_of c = record { events = c.events; segments = length c.segments; threads = c.threads; last = c.last }
 
+-- what a verdict reads of the parts of a trace state
 abbrev pub standing : Parts → Standing
 standing p = record { events = p.events; segments = p.segments; threads = p.threads; last = slice_index p.last }
 
@@ -42,14 +44,17 @@ actor (Free b) = b.t
 abbrev pub has_thread : List ThreadState → ℕ → (ThreadState → Bool) → Bool
 has_thread threads t test = list_any (λ x. (x.number == t) && test x) threads
 
+-- no number of a thread or a source is so great
 abbrev pub is_above_limit : ℕ → Bool
 is_above_limit n = nat_lt 1023 n
 
+-- the source or a thread of the event has a number above the limit
 abbrev pub bad_number : ℕ → Event → Bool
 bad_number source (Fork p c) = is_above_limit source || is_above_limit p || is_above_limit c
 bad_number source (Join p c) = is_above_limit source || is_above_limit p || is_above_limit c
 bad_number source e = is_above_limit source || is_above_limit (actor e)
 
+-- an access is of 1 to 64 bytes, a block of 1 to 1024
 abbrev pub bad_length : Event → Bool
 bad_length (Read a) = (a.len == 0) || nat_lt 64 a.len
 bad_length (Write a) = (a.len == 0) || nat_lt 64 a.len
@@ -57,9 +62,11 @@ bad_length (Alloc b) = (b.len == 0) || nat_lt 1024 b.len
 bad_length (Free b) = (b.len == 0) || nat_lt 1024 b.len
 bad_length _ = false
 
+-- the bytes pass the end of the addresses
 abbrev pub passes_end : ℕ → ℕ → Bool
 passes_end at len = nat_lt (2 ^ 64) (at + len)
 
+-- the bytes of the event do
 abbrev pub past_address_end : Event → Bool
 past_address_end (Read a) = passes_end a.at a.len
 past_address_end (Write a) = passes_end a.at a.len
@@ -67,25 +74,31 @@ past_address_end (Alloc b) = passes_end b.at b.len
 past_address_end (Free b) = passes_end b.at b.len
 past_address_end _ = false
 
+-- the acting thread is not alive
 abbrev pub no_thread : List ThreadState → Event → Bool
 no_thread threads e = not (has_thread threads (actor e) (λ x. x.alive))
 
+-- the forked thread was used before
 abbrev pub child_used : List ThreadState → Event → Bool
 child_used threads (Fork p c) = list_any (λ x. x.number == c) threads
 child_used threads _ = false
 
+-- a thread joins itself
 abbrev pub self_join : Event → Bool
 self_join (Join p c) = p == c
 self_join _ = false
 
+-- the joined thread is not alive
 abbrev pub child_not_alive : List ThreadState → Event → Bool
 child_not_alive threads (Join p c) = not (has_thread threads c (λ x. x.alive))
 child_not_alive threads _ = false
 
+-- the joined thread holds a lock
 abbrev pub child_holds_locks : List ThreadState → Event → Bool
 child_holds_locks threads (Join p c) = has_thread threads c (λ x. nat_lt 0 (length x.held))
 child_holds_locks threads _ = false
 
+-- the thread holds the lock that it asks for, in any mode
 abbrev pub already_held : List ThreadState → Event → Bool
 already_held threads (Lock t l) = has_thread threads t (λ x. has_lock x.held l)
 already_held threads (RdLock t l) = has_thread threads t (λ x. has_lock x.held l)
@@ -97,10 +110,12 @@ lock_busy threads (Lock t l) = list_any (λ x. has_lock x.held l) threads
 lock_busy threads (RdLock t l) = list_any (λ x. has_lock_for_writing x.held l) threads
 lock_busy threads _ = false
 
+-- the thread does not hold the lock that it gives up
 abbrev pub not_held : List ThreadState → Event → Bool
 not_held threads (Unlock t l) = not (has_thread threads t (λ x. has_lock x.held l))
 not_held threads _ = false
 
+-- the thread holds 64 locks
 abbrev pub full_held : List ThreadState → Event → Bool
 full_held threads (Lock t l) = has_thread threads t (λ x. nat_le 64 (length x.held))
 full_held threads (RdLock t l) = has_thread threads t (λ x. nat_le 64 (length x.held))
@@ -118,11 +133,13 @@ lock_causes s e =
     (already_held s.threads e, AlreadyHeld) ∷ (lock_busy s.threads e, LockBusy) ∷ (not_held s.threads e, NotHeld)
     ∷ (full_held s.threads e, FullHeld) ∷ (full_segments s.segments e, FullSegments) ∷ (nat_le (2 ^ 58) s.events, FullEvents) ∷ []
 
+-- the causes that lie in the threads, and then those in the locks and limits
 abbrev pub thread_causes : Standing → Event → List (Bool × Refusal)
 thread_causes s e =
     (no_thread s.threads e, NoThread) ∷ (child_used s.threads e, ChildUsed) ∷ (self_join e, SelfJoin)
     ∷ (child_not_alive s.threads e, ChildNotAlive) ∷ (child_holds_locks s.threads e, ChildHoldsLocks) ∷ lock_causes s e
 
+-- all causes, the first in the order of testing first
 abbrev pub causes : Standing → Named → List (Bool × Refusal)
 causes s n =
     (bad_number n.source n.event, BadNumber) ∷ (bad_length n.event, BadLength) ∷ (past_address_end n.event, AddressEnd)

@@ -8,6 +8,7 @@ use Rattle.hg_sets.specs.Remembered.{AreTrueJoins, AreTrueMeets}
 abbrev pub shown : Inside → Table
 shown t = table_of t.interner
 
+-- the sets are in order, and what is remembered is true
 pub record IsConsistent (t : Inside) : Type 0 where
   pub sound : IsSound t.interner
   pub joins : AreTrueJoins t.interner.lists t.joins.items

@@ -10,10 +10,12 @@ use Rattle.hg_sets.specs.declared.memo.TheConstants.{JOINS, MEETS, LONGEST}
 abbrev pub others_of : KnownMeet → List ℕ
 others_of known = take known.count known.others
 
+-- a remembered join is of a set that is there, and its answer is the set with the member
 pub record IsTrueJoin (sets : List (List ℕ)) (known : KnownJoin) : Type 0 where
   pub below : known.set < length sets
   pub answer : StandsAt sets (with_member (set_at sets known.set) known.member) known.answer
 
+-- a remembered meet is of a set that is there, and its answer is what the two have in common
 pub record IsTrueMeet (sets : List (List ℕ)) (known : KnownMeet) : Type 0 where
   pub short : known.count ≤ LONGEST
   pub below : known.set < length sets
