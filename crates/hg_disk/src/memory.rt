@@ -132,11 +132,11 @@ impl Disk for MemDisk {
 
     ghost is_honest = { true };
 
-    ghost state = { λ m. replay m.start.items m.tape.history.events };
+    ghost state = { state_of };
 
-    ghost past = { λ m. states_before m.start.items m.tape.history.events };
+    ghost past = { past_of };
 
-    ghost failures = { λ m. failures_in m.tape.history.events };
+    ghost failures = { failures_of };
 
     ghost has_its_bytes = { λ m. has_contents m.start.items m.tape.history.events };
 
