@@ -1,5 +1,6 @@
 pub mod Blots
 pub mod Event
+pub mod File
 pub mod Fuse
 pub mod FuseImages
 pub mod History

@@ -1,5 +1,5 @@
 -- What a `MemDisk` shows.
-use Rattle.std.specs.Prelude.{◌⊎◌, ◌++◌, ◌∷◌, [], Result, OnOk, OnErr, ◌≡◌, ◌+◌, ◌-◌, ◌≤◌, ℕ, Bool, false, max, List, length}
+use Rattle.std.specs.Prelude.{◌⊎◌, ◌++◌, ◌∷◌, [], Result, OnOk, OnErr, IsErr, true, ◌≡◌, ◌+◌, ◌-◌, ◌≤◌, ℕ, Bool, false, max, List, length}
 use Rattle.std.specs.Vec.{vec_capacity}
 use Rattle.hg_disk.specs.Event.{Event}
 use Rattle.hg_disk.specs.State.{DiskState}
@@ -22,6 +22,10 @@ history_of m = m.tape.history.events
 -- whether the next call fails
 abbrev pub fails_next : MemDisk → Bool
 fails_next m = m.fails_next
+
+-- whether a call found no memory to be kept
+abbrev pub is_full : MemDisk → Bool
+is_full m = m.tape.is_full
 
 -- those that it keeps as data, the oldest first: all up to the first one that found no memory to be kept
 abbrev pub calls_of : MemDisk → List Answered
@@ -49,8 +53,10 @@ pub record HasRoom (m : MemDisk) (calls bytes : ℕ) : Type 0 where
 abbrev pub room_taken : List ℕ → ℕ → List ℕ → ℕ
 room_taken file at bytes = max (length bytes) (at + length bytes - length file)
 
--- A call is kept as data, but where it failed for want of the memory to keep it.
+-- A call is kept as data, but where it failed for want of the memory to keep it, and then the disk is full. A full disk
+-- refuses each call.
 pub record KeepsCall {T E : Type 0} (old new : MemDisk) (call : Call) (result : Result T E) : Type 0 where
   pub done : OnOk result (calls_of new ≡ calls_of old ++ record { call = call; answer = Done } ∷ [])
-  pub failed : OnErr result ((calls_of new ≡ calls_of old ++ record { call = call; answer = Failed } ∷ []) ⊎ (calls_of new ≡ calls_of old))
+  pub failed : OnErr result ((calls_of new ≡ calls_of old ++ record { call = call; answer = Failed } ∷ []) ⊎ ((calls_of new ≡ calls_of old) × (is_full new ≡ true)))
   pub failed_within_room : TapeHasRoom old.tape 1 0 → OnErr result (calls_of new ≡ calls_of old ++ record { call = call; answer = Failed } ∷ [])
+  pub refused_when_full : is_full old ≡ true → IsErr result × (is_full new ≡ true)

@@ -1,6 +1,6 @@
 //! A file of the operating system.
-ghost use Rattle.std.specs.Prelude.{◌≡◌, ◌+◌, ◌-◌, ◌<◌, ◌≤◌, ◌^◌, ◌∷◌, false, length, replicate};
-ghost use Rattle.hg_disk.specs.History.{replay, states_before, failures_in};
+ghost use Rattle.std.specs.Prelude.{◌≡◌, ◌+◌, ◌-◌, ◌<◌, ◌≤◌, ◌^◌, ◌∷◌, false, [], length, replicate, IfOk};
+ghost use Rattle.hg_disk.specs.History.{replay};
 ghost use Rattle.hg_disk.specs.Kept.{has_contents};
 
 use crate::call::Call;
@@ -23,8 +23,14 @@ pub struct FileDisk {
 }
 
 impl FileDisk {
-    /// A file longer than 2^62 bytes is refused.
-    pub fn new(file: File) -> io::Result<FileDisk> {
+    ghost use Rattle.hg_disk.specs.File.{file_state, file_past, file_failures};
+
+    /// A disk of the file's present length, with no call made yet. A file longer than 2^62 bytes is refused.
+    pub fn new(file: File) -> io::Result<FileDisk>
+        ensures synced { IfOk result (λ f. (file_state f).since ≡ []) }
+        ensures past { IfOk result (λ f. file_past f ≡ []) }
+        ensures failures { IfOk result (λ f. file_failures f ≡ 0) }
+    {
         let len = file.metadata()?.len();
         if len > MAX_LEN {
             return Err(io::ErrorKind::FileTooLarge.into());
@@ -39,13 +45,15 @@ impl FileDisk {
 }
 
 impl Disk for FileDisk {
+    ghost use Rattle.hg_disk.specs.File.{file_state, file_past, file_failures};
+
     ghost is_honest = { false };
 
-    ghost state = { λ f. replay (replicate f.opened_len 0) f.history.events };
+    ghost state = { file_state };
 
-    ghost past = { λ f. states_before (replicate f.opened_len 0) f.history.events };
+    ghost past = { file_past };
 
-    ghost failures = { λ f. failures_in f.history.events };
+    ghost failures = { file_failures };
 
     ghost has_its_bytes = { λ f. has_contents (replicate f.opened_len 0) f.history.events };
 

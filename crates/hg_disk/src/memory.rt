@@ -30,13 +30,14 @@ pub struct MemDisk {
 }
 
 impl MemDisk {
-    ghost use Rattle.hg_disk.specs.Memory.{start_of, history_of, fails_next, calls_of, state_of, past_of, HasRoom};
+    ghost use Rattle.hg_disk.specs.Memory.{start_of, history_of, fails_next, is_full, calls_of, state_of, past_of, HasRoom};
     ghost use Rattle.hg_disk.specs.Tear.{IsTorn, first};
     ghost use Rattle.hg_disk.specs.Moments.{at_moment};
 
     /// An empty disk.
     pub fn new(alloc: Global) -> MemDisk
         ensures next { fails_next result ≡ false }
+        ensures room { is_full result ≡ false }
         ensures start { start_of result ≡ [] }
         ensures history { history_of result ≡ [] }
     {
@@ -67,6 +68,7 @@ impl MemDisk {
     pub fn holding(alloc: Global, bytes: Vec<u8>) -> Result<MemDisk, AllocError>
         requires { length bytes.items ≤ 2 ^ 62 }
         ensures next { IfOk result (λ m. fails_next m ≡ false) }
+        ensures room { IfOk result (λ m. is_full m ≡ false) }
         ensures start { IfOk result (λ m. start_of m ≡ bytes.items) }
         ensures history { IfOk result (λ m. history_of m ≡ []) }
     {
@@ -85,6 +87,13 @@ impl MemDisk {
         ensures history { history_of self.new ≡ history_of self.old }
     {
         self.fails_next = true;
+    }
+
+    /// Whether a call found no memory to be kept. Each call from then on fails.
+    pub fn is_full(&self) -> bool
+        ensures { result ≡ is_full self.now }
+    {
+        self.tape.is_full
     }
 
     /// The calls with their answers, the oldest first: all up to the first one that found no memory to be kept.
@@ -123,11 +132,11 @@ impl Disk for MemDisk {
 
     ghost is_honest = { true };
 
-    ghost state = { λ m. replay m.start.items m.tape.history.events };
+    ghost state = { state_of };
 
-    ghost past = { λ m. states_before m.start.items m.tape.history.events };
+    ghost past = { past_of };
 
-    ghost failures = { λ m. failures_in m.tape.history.events };
+    ghost failures = { failures_of };
 
     ghost has_its_bytes = { λ m. has_contents m.start.items m.tape.history.events };
 

@@ -1,5 +1,5 @@
 //! The calls of a disk, kept as data.
-ghost use Rattle.std.specs.Prelude.{◌≡◌, ◌+◌, ◌<◌, ◌≤◌, ◌^◌, ◌∷◌, ℕ, [], true, false, is_ok, length, IsTrue, IfOk, if◌then◌else◌};
+ghost use Rattle.std.specs.Prelude.{◌≡◌, ◌+◌, ◌<◌, ◌≤◌, ◌^◌, ◌∷◌, ℕ, [], true, false, not, is_ok, length, IsTrue, IfOk, if◌then◌else◌};
 ghost use Rattle.std.specs.Vec.{vec_len, vec_capacity};
 ghost use Rattle.hg_disk.specs.Event.{event, answer_of};
 ghost use Rattle.hg_disk.specs.Tear.{first};
@@ -56,6 +56,8 @@ impl Tape {
     pub fn makes_room(&mut self, call: Call) -> bool
         ensures record { self.new.history.events ≡ (if result then self.old.history.events else event call Answer.Refused [] ∷ self.old.history.events) }
         ensures made { IsTrue result → TapeHasRoom self.new 1 0 }
+        ensures full { self.new.is_full ≡ not result }
+        ensures refuses { self.old.is_full ≡ true → result ≡ false }
         ensures room { (n b : ℕ) → TapeHasRoom self.old (n + 1) b → IsTrue result }
         ensures stays { (n b : ℕ) → TapeHasRoom self.old (n + 1) b → TapeHasRoom self.new (n + 1) b }
     {
@@ -96,6 +98,7 @@ impl Tape {
         requires room { TapeHasRoom self.old 1 (if is_done then length bytes.now else 0) }
         requires fits { Fits call (if is_done then Answer.Done else Answer.Failed) (if is_done then bytes.now else []) }
         ensures result { is_ok result ≡ is_done }
+        ensures full { self.new.is_full ≡ self.old.is_full }
         ensures record { self.new.history.events ≡ event call (answer_of result) (if is_done then bytes.now else []) ∷ self.old.history.events }
         ensures stays { (n b : ℕ) → TapeHasRoom self.old (n + 1) (length bytes.now + b) → TapeHasRoom self.new n b }
     {

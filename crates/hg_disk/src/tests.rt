@@ -243,3 +243,35 @@ fn writes_a_file_as_memory(rt: HostRuntime) -> Result<(), Fail> {
     fs::remove_dir_all(&rt, FOLDER)?;
     Ok(())
 }
+
+// Whatever memory is refused, the bytes are those of the writes that answered Ok, and so is the image of each moment.
+#[test]
+fn keeps_what_it_answered(rt: HostRuntime) -> Result<(), Fail> {
+    let mut disk = MemDisk::new(rt.alloc());
+    let mut file = [0; 24];
+    let mut len = 0;
+    let mut files = [[0; 24]; 9];
+    let mut lens = [0; 9];
+    for i in 0..8 {
+        let at = [0, 5, 2, 9, 1, 14, 3, 20][i];
+        let bytes = [i as u8 + 1; 3];
+        if disk.write_at(at as u64, &bytes).is_ok() {
+            file[at..at + 3].copy_from_slice(&bytes);
+            len = len.max(at + 3);
+        }
+        assert_eq!(rt; disk.bytes(), &file[..len.min(24)]);
+        let moment = disk.calls().len();
+        if moment < 9 {
+            files[moment] = file;
+            lens[moment] = len;
+        }
+    }
+    for k in 0..9 {
+        if k <= disk.calls().len() && lens[k] <= 24 {
+            if let Ok(image) = disk.image(k, Tear::Kept) {
+                assert_eq!(rt; image.as_slice(), &files[k][..lens[k]]);
+            }
+        }
+    }
+    Ok(())
+}

@@ -1,9 +1,9 @@
 -- The two steps of an append.
-use Rattle.std.proofs.Common.{◌≡◌, ◌≢◌, ◌+◌, ℕ, List, [], ◌∷◌, ◌++◌, length, drop, refl, sym, ◌∙◌, ap, subst, arith}
+use Rattle.std.proofs.Common.{◌≡◌, ◌+◌, ℕ, List, [], ◌∷◌, ◌++◌, length, drop, refl, sym, ◌∙◌, ap, subst, arith}
 use Rattle.hg_disk.specs.declared.disk.Disk as disk
 use Rattle.hg_disk.specs.State.{DiskState, IsImage, settled, overwritten, after_write}
 use Rattle.hg_disk.specs.Moments.{Leaves, LeavesOnly}
-use Rattle.hg_disk.proofs.Moments.{weaker, joined}
+use Rattle.hg_disk.proofs.Moments.{weaker}
 use Rattle.hg_gate.specs.Batches.{open_gate, closed_gate, IsBody, IsLog, spelled, IsBeforeOrAfter}
 use Rattle.hg_gate.specs.declared.log.Log.{Log}
 use Rattle.hg_gate.specs.Log.{Has}

@@ -7,11 +7,11 @@ use Rattle.hg_disk.specs.declared.disk.Disk as disk
 use Rattle.hg_disk.specs.State.{DiskState, IsImage, SameImages, settled, overwritten, after_write, after_cut, after_sync}
 use Rattle.hg_disk.specs.Laws.{Keeps}
 use Rattle.hg_disk.specs.Moments.{LeavesOnly}
-use Rattle.hg_disk.proofs.Moments.{weaker, joined, write_leaves, cut_leaves, sync_leaves}
+use Rattle.hg_disk.proofs.Moments.{weaker, write_leaves, cut_leaves, sync_leaves}
 use Rattle.hg_disk.proofs.Images.{torn_middle, overwritten_at}
 use Rattle.hg_disk.proofs.Keeping.{keeps_settled, keeps_write_behind, keeps_cut, keeps_image}
 use Rattle.hg_gate.specs.Batches.{open_gate, IsClosed}
-use Rattle.hg_gate.specs.Gated.{framed, IsOpenWith, IsClosedOrOpenWith, IsBehindGate}
+use Rattle.hg_gate.specs.Gated.{framed, IsClosedOrOpenWith, IsBehindGate}
 use Rattle.hg_gate.proofs.Crash.{one}
 
 -- the gate is torn, and nothing behind it

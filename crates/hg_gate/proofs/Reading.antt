@@ -1,10 +1,10 @@
 -- Batch after batch, as a log has them.
-use Rattle.std.proofs.Common.{◌≡◌, ◌≢◌, ◌<◌, ◌≤◌, ◌+◌, ◌^◌, ℕ, List, [], ◌∷◌, ◌++◌, length, take, drop, get_or, refl, sym, ◌∙◌, ap, subst, arith, append_assoc, length-append, Option, Some, None}
-use Rattle.std.proofs.lemmas.List.{drop_at, take_at, drop-drop}
+use Rattle.std.proofs.Common.{◌≡◌, ◌≤◌, ◌+◌, ℕ, List, [], ◌∷◌, ◌++◌, length, take, drop, get_or, refl, sym, ◌∙◌, ap, arith, append_assoc, length-append}
+use Rattle.std.proofs.lemmas.List.{drop_at, take_at}
 use Rattle.std.proofs.lemmas.Grind.{flat_map-append}
 use Rattle.std.specs.List.{flat_map, AllByRecursion}
 use Rattle.std.specs.Int.{w32, to_be_bytes}
-use Rattle.hg_gate.specs.Batches.{header, open_gate, IsClosed, IsBody, sized, batch, spelled, IsLog}
+use Rattle.hg_gate.specs.Batches.{header, open_gate, IsClosed, IsBody, batch, spelled, IsLog}
 use Rattle.hg_gate.specs.Scan.{IsTail, IsOpen}
 use Rattle.hg_gate.proofs.Crash.{spelled_push}
 use Rattle.hg_gate.proofs.Grammar.{number_apart}

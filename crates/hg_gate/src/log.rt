@@ -77,9 +77,11 @@ impl<D: Disk> Log<D> {
     }
 
     /// The log that a disk holds, with the batches that its bytes have. A refusal hands the disk back: `Damaged` where
-    /// the bytes are none of a log, `DeviceFault` or `OutOfMemory`. It changes nothing, and reads five bytes a batch.
+    /// the bytes are none of a log, `DeviceFault` or `OutOfMemory`. It changes nothing, and reads five bytes a batch. What
+    /// it reads is durable where the disk was synced before.
     pub fn attach(alloc: Global, disk: D) -> Result<Log<D>, (GateFault, D)>
         ensures reads { IsTrue D.is_honest → IfOk result (λ log. (bodies : List (List ℕ)) × Reads log bodies) }
+        ensures has { IsTrue D.is_honest → D.state disk ≡ settled (D.state disk).contents → IfOk result (λ log. (bodies : List (List ℕ)) × Has log bodies) }
         ensures damaged { IsTrue D.is_honest → IfErr result (λ e. e.0 ≡ GateFault.Damaged → (bodies : List (List ℕ)) → ¬ IsLog (D.state disk).contents bodies) }
         ensures fault { IfErr result (λ e. IsDamagedOrDevice e.0 ⊎ (e.0 ≡ GateFault.OutOfMemory)) }
         ensures device { D.failures (disk_after result) ≡ failures_of_making result (D.failures disk) }

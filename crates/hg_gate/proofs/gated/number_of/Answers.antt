@@ -1,4 +1,4 @@
-use Rattle.std.proofs.Common.{◌<◌, ℕ, get_or, arith}
+use Rattle.std.proofs.Common.{arith}
 use Rattle.std.proofs.lemmas.Nat.{be_bytes_8}
 use Rattle.hg_gate.proofs.gated.number_of.Goals as goal
 

@@ -1,4 +1,4 @@
-use Rattle.std.proofs.Common.{◌+◌, ◌≤◌, refl, length, arith}
+use Rattle.std.proofs.Common.{◌+◌, refl, length, arith}
 use Rattle.hg_disk.proofs.Moments.{joined}
 use Rattle.hg_gate.specs.Batches.{IsClosed}
 use Rattle.hg_gate.proofs.Gates.{gate_kept, written_kept, cut_kept, write_shut, cut_shut, sync_shut, on_ok, body_written}

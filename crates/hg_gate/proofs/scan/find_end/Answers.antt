@@ -1,4 +1,4 @@
-use Rattle.std.proofs.Common.{◌≡◌, ◌+◌, ◌≤◌, ◌∙◌, rules, ◌^◌, ℕ, List, Err, Option, sym, length, drop, IsTrue, subst, ap, arith}
+use Rattle.std.proofs.Common.{◌≡◌, ◌+◌, ◌≤◌, ◌∙◌, rules, ◌^◌, ℕ, List, Err, Option, sym, length, drop, subst, ap, arith}
 use Rattle.hg_disk.specs.State.{DiskState}
 use Rattle.hg_gate.specs.declared.fault.GateFault.TheVariants.{Damaged}
 use Rattle.hg_gate.specs.Scan.{IsTail, IsHead, IsOpen, batch_len}

@@ -1,6 +1,5 @@
-use Rattle.std.proofs.Common.{◌≡◌, ◌+◌, ◌<◌, ◌^◌, ℕ, List, length, get_or, IsTrue, sym, subst, arith}
-use Rattle.hg_gate.specs.Scan.{batch_len}
-use Rattle.hg_gate.proofs.Scanning.{not_short, length_fits, number, head_is, four_bytes}
+use Rattle.std.proofs.Common.{arith}
+use Rattle.hg_gate.proofs.Scanning.{not_short, length_fits, head_is, four_bytes}
 use Rattle.hg_gate.proofs.scan.parse_head.Goals as goal
 
 pub returns-then-head-lt-HEAD_LEN-clause-damaged : goal.returns-then-head-lt-HEAD_LEN-clause-damaged

@@ -1,4 +1,4 @@
-use Rattle.std.proofs.Common.{◌≡◌, ◌+◌, ◌-◌, ◌∷◌, [], ◌∙◌, ℕ, List, length, drop, take, IsTrue, refl, subst, arith, length-drop}
+use Rattle.std.proofs.Common.{◌≡◌, ◌-◌, ◌∷◌, [], ℕ, List, length, drop, refl, arith, length-drop}
 use Rattle.hg_gate.specs.declared.fault.GateFault.TheVariants.{Damaged}
 use Rattle.hg_gate.specs.Scan.{IsTail}
 use Rattle.hg_gate.proofs.Walking.{read_front, told}

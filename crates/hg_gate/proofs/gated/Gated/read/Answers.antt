@@ -1,5 +1,4 @@
-use Rattle.std.proofs.Common.{◌≡◌, ◌⊎◌, ◌≤◌, ◌+◌, ◌∙◌, ℕ, List, Err, get_or, take, drop, length, sym, ap, subst, IsTrue, ⊎_elim, arith}
-use Rattle.std.specs.Int.{w64, to_be_bytes}
+use Rattle.std.proofs.Common.{◌≡◌, ◌≤◌, ◌+◌, ◌∙◌, ℕ, List, Err, get_or, take, drop, length, sym, ap, subst, ⊎_elim, arith}
 use Rattle.hg_disk.specs.State.{DiskState}
 use Rattle.hg_gate.specs.declared.fault.GateFault.TheVariants.{Damaged}
 use Rattle.hg_gate.specs.Batches.{open_gate}

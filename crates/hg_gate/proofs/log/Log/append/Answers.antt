@@ -1,9 +1,7 @@
-use Rattle.std.proofs.Common.{◌≡◌, ◌+◌, ℕ, List, [], ◌∷◌, ◌++◌, length, refl, sym, ◌∙◌, ap, subst, arith}
+use Rattle.std.proofs.Common.{◌≡◌, ◌+◌, [], ◌∷◌, ◌++◌, length, refl, sym, ◌∙◌, ap, subst, arith}
 use Rattle.hg_disk.specs.State.{DiskState, settled}
-use Rattle.hg_disk.specs.Moments.{LeavesOnly}
 use Rattle.hg_disk.proofs.Moments.{joined}
 use Rattle.hg_gate.specs.Batches.{closed_gate, IsBody, IsBeforeOrAfter, spelled}
-use Rattle.hg_gate.specs.Log.{Has}
 use Rattle.hg_gate.proofs.Appending.{settled_log, behind, staged, mid_state, opens, new_state}
 use Rattle.hg_gate.proofs.Crash.{frame_of, each_push, new_end}
 use Rattle.hg_gate.proofs.log.Log.append.Goals as goal

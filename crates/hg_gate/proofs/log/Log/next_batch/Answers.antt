@@ -1,4 +1,4 @@
-use Rattle.std.proofs.Common.{◌≡◌, ◌≢◌, ◌+◌, ◌∙◌, ◌++◌, ◌∷◌, [], ℕ, List, Option, Some, None, Result, Err, IfErr, refl, sym, ap, subst, length, drop, take, IsTrue, arith}
+use Rattle.std.proofs.Common.{◌≡◌, ◌≢◌, ◌+◌, ◌∙◌, ◌∷◌, ℕ, List, Option, Result, Err, IfErr, sym, ap, subst, length, drop, take, arith}
 use Rattle.std.proofs.lemmas.List.{append-nil, drop-drop}
 use Rattle.hg_disk.specs.State.{DiskState}
 use Rattle.hg_gate.specs.declared.batch.Batch.{Batch}
