@@ -14,11 +14,11 @@ pub struct Batch {
 }
 
 impl Batch {
-    ghost use Rattle.hg_gate.specs.Batch.{body_of};
+    ghost use Rattle.hg_gate.specs.Batch.{body_of, vec_of};
 
-    /// Hands the bytes back where there are none, or more than 23,552.
+    /// A batch of these bytes. Hands them back where there are none, or more than 23,552.
     pub fn new(body: Vec<u8>) -> Result<Batch, Vec<u8>>
-        ensures ok { IfOk result (λ batch. IsBody body.items × (body_of batch ≡ body.items)) }
+        ensures ok { IfOk result (λ batch. IsBody body.items × (vec_of batch ≡ body)) }
         ensures err { IfErr result (λ refused. ¬ IsBody body.items × (refused ≡ body)) }
     {
         if body.is_empty() || body.len() > MAX_BODY_LEN {
@@ -45,7 +45,7 @@ impl Batch {
 
     /// Its bytes, in the vector that it was made of.
     pub fn into_body(self) -> Vec<u8>
-        ensures { result.items ≡ body_of self }
+        ensures { result ≡ vec_of self }
     {
         let Batch { body } = self;
         body

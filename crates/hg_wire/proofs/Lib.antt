@@ -13,4 +13,4 @@ pub mod HeldLemmas
 pub mod StreamLemmas
 pub mod SplitterLemmas
 pub mod ReaderLemmas
-mod RecordLemmas
+pub mod RecordLemmas

@@ -1,6 +1,7 @@
 -- A record that is read is the record that was written, and what was written is read again.
-use Rattle.std.proofs.Common.{◌≡◌, ℕ, zero, suc, ◌+◌, ◌^◌, ◌<◌, ◌≤◌, Bool, true, false, cond, ltb, nat_eq, List, [], ◌∷◌, ◌++◌, length, get_or, take, drop, Option, Some, None, refl, sym, ap, subst, ◌∙◌, append_assoc, arith, inl, inr, ◌⊎◌}
+use Rattle.std.proofs.Common.{◌≡◌, ℕ, suc, ◌+◌, ◌^◌, ◌<◌, ◌≤◌, Bool, true, false, cond, ltb, nat_eq, List, [], ◌∷◌, ◌++◌, length, get_or, take, drop, Option, Some, None, refl, sym, ap, subst, ◌∙◌, append_assoc, arith, inl, inr, ◌⊎◌}
 use Rattle.std.specs.Int.{Width, w16, w64, byte_len, from_be_bytes, to_be_bytes}
+use Rattle.std.specs.List.{flat_map, AllByRecursion}
 use Rattle.std.proofs.lemmas.Bool.{cases_lt, eqb-true, ltb-false, le-ltb}
 use Rattle.std.proofs.lemmas.List.{take_at, drop_at, take-append-drop, length-append, length-take, get_or-drop, get_or-take, get_or_past}
 use Rattle.std.proofs.lemmas.Nat.{be_bytes_2, be_bytes_8, from_be_bytes-to_be_bytes_2, from_be_bytes-to_be_bytes_8}
@@ -309,3 +310,28 @@ pub one_record : (a b : Named) (x y : List ℕ) → RecordFits a → RecordFits 
 one_record a b x y fits again same =
     let is : (a, x) ≡ (b, y) = some_is (a, x) (b, y) (sym (record_again a x fits) ∙ (ap (λ bytes. record_at bytes) same ∙ record_again b y again)) in
     (ap (λ (p : Named × List ℕ). p.0) is, ap (λ (p : Named × List ℕ). p.1) is)
+
+-- Bytes that are the records of some events are the records of no others.
+pub one_list : (xs ys : List Named) → AllByRecursion RecordFits xs → AllByRecursion RecordFits ys → flat_map record_text xs ≡ flat_map record_text ys → xs ≡ ys
+one_list [] [] fits again same = refl
+one_list [] (y ∷ ys) fits again same = absurd cc
+one_list (x ∷ xs) [] fits again same = absurd cc
+one_list (x ∷ xs) (y ∷ ys) fits again same =
+    let first = one_record x y (flat_map record_text xs) (flat_map record_text ys) fits.0 again.0 same in
+    let later = one_list xs ys fits.1 again.1 first.1 in
+    λ i. first.0 i ∷ later i
+
+-- what is left of some events behind those that were seen
+pub record Parted (seen xs : List Named) (tail : List ℕ) : Type 0 where
+  pub more : List Named
+  pub all : xs ≡ seen ++ more
+  pub text : flat_map record_text more ≡ tail
+  pub fits : AllByRecursion RecordFits more
+
+pub parted : (seen xs : List Named) (tail : List ℕ) → AllByRecursion RecordFits seen → AllByRecursion RecordFits xs → flat_map record_text xs ≡ flat_map record_text seen ++ tail → Parted seen xs tail
+parted [] xs tail fits again same = record { more = xs; all = refl; text = same; fits = again }
+parted (s ∷ seen) [] tail fits again same = absurd cc
+parted (s ∷ seen) (x ∷ xs) tail fits again same =
+    let first = one_record x s (flat_map record_text xs) (flat_map record_text seen ++ tail) again.0 fits.0 (same ∙ append_assoc (record_text s) (flat_map record_text seen) tail) in
+    let later = parted seen xs tail fits.1 again.1 first.1 in
+    record { more = later.more; all = λ i. first.0 i ∷ later.all i; text = later.text; fits = later.fits }

@@ -1,6 +1,6 @@
 //! Laws of the grammar, each the promise of a function without a body.
 
-ghost use Rattle.hg_wire.specs.Laws.{EventsAreSpelled, FaultsAreFirst, RecordsAreUnique, StreamsAreWhole};
+ghost use Rattle.hg_wire.specs.Laws.{EventsAreSpelled, FaultsAreFirst, RecordListsAreUnique, RecordsAreUnique, StreamsAreWhole};
 
 /// A line gives an event exactly where its bytes spell that event.
 pub fn events_are_spelled()
@@ -20,4 +20,9 @@ pub fn streams_are_whole()
 /// No record begins another, and each has one spelling.
 pub fn records_are_unique()
     ensures { RecordsAreUnique }
+{}
+
+/// Bytes that are the records of some events are the records of no others.
+pub fn record_lists_are_unique()
+    ensures { RecordListsAreUnique }
 {}

@@ -1,14 +1,16 @@
 //! Events as a journal has them.
 
-ghost use Rattle.std.specs.Prelude.{◌≡◌, ◌++◌, ◌+◌, ◌∷◌, List, ℕ, Some, length, drop, OnOk, OnErr, IfSome, IfNone};
-ghost use Rattle.std.specs.Int.{w16, w64};
+ghost use Rattle.std.specs.Prelude.{◌≡◌, ◌≤◌, ◌++◌, ◌+◌, ◌∷◌, List, ℕ, Some, length, drop, vec_capacity, IsOk, OnOk, OnErr, IfSome, IfNone};
+ghost use Rattle.std.specs.Int.{w16, w64, to_be_bytes};
 ghost use Rattle.hg_model.specs.declared.event.Named.{Named as NamedOf};
-ghost use Rattle.hg_wire.specs.Records.{BeginsWith, access_text, block_text, event_text, pair_text, record_text};
+ghost use Rattle.hg_wire.specs.Records.{AccessFits, BeginsWith, BlockFits, EventFits, PairFits, RecordFits, access_text, block_text, event_text, pair_text, record_text};
 ghost use Rattle.hg_wire.specs.RecordReading.{Gives, access_at, block_at, byte_at, event_at, number_at, operands_at, record_at};
 
-use crate::report::put_all;
 use hg_model::event::{Access, Block, Event, Named};
 use std::alloc::AllocError;
+
+/// The most bytes that a record has.
+pub const MAX_RECORD_LEN: usize = 23;
 
 fn u16_at(bytes: &[u8]) -> Option<(u16, &[u8])>
     ensures { Gives (λ x. (x.0, x.1.now)) result (number_at w16 bytes.now) }
@@ -144,15 +146,17 @@ pub fn read_record(bytes: &[u8]) -> Option<(Named, usize)>
     }
 }
 
-/// Appends the record of an event. An `Err` leaves `out` as it was.
+/// Appends the record of an event. An `Err` leaves `out` as it was. It takes no memory where `out` has room for
+/// `MAX_RECORD_LEN` bytes more.
 pub fn put_record(named: &Named, out: &mut Vec<u8>) -> Result<(), AllocError>
     ensures ok { OnOk result (out.new.items ≡ out.old.items ++ record_text named.now) }
     ensures err { OnErr result (out.new.items ≡ out.old.items) }
+    ensures room { length out.old.items + 23 ≤ vec_capacity out.old → IsOk result }
+    ensures capacity { vec_capacity out.old ≤ vec_capacity out.new }
+    ensures fits { OnOk result (RecordFits named.now) }
 {
-    let source = named.source.to_be_bytes();
-    let number = named.number.to_be_bytes();
     let len = out.len();
-    put_all(&[source.as_slice(), number.as_slice()], out)?;
+    put_name(named.source, named.number, out)?;
     let event = put_event(&named.event, out);
     if event.is_err() {
         out.truncate(len);
@@ -160,10 +164,28 @@ pub fn put_record(named: &Named, out: &mut Vec<u8>) -> Result<(), AllocError>
     event
 }
 
+/// Appends an event's name. An `Err` changes nothing.
+fn put_name(source: u16, number: u64, out: &mut Vec<u8>) -> Result<(), AllocError>
+    ensures ok { OnOk result (out.new.items ≡ out.old.items ++ (to_be_bytes w16 source ++ to_be_bytes w64 number)) }
+    ensures err { OnErr result (out.new.items ≡ out.old.items) }
+    ensures room { length out.old.items + 10 ≤ vec_capacity out.old → IsOk result }
+    ensures capacity { vec_capacity out.old ≤ vec_capacity out.new }
+{
+    let source = source.to_be_bytes();
+    let number = number.to_be_bytes();
+    out.extend_from_slice(&[
+        source[0], source[1], number[0], number[1], number[2], number[3], number[4], number[5],
+        number[6], number[7],
+    ])
+}
+
 /// Appends an event's kind, thread and operands. An `Err` changes nothing.
 fn put_event(event: &Event, out: &mut Vec<u8>) -> Result<(), AllocError>
     ensures ok { OnOk result (out.new.items ≡ out.old.items ++ event_text event.now) }
     ensures err { OnErr result (out.new.items ≡ out.old.items) }
+    ensures room { length out.old.items + 13 ≤ vec_capacity out.old → IsOk result }
+    ensures capacity { vec_capacity out.old ≤ vec_capacity out.new }
+    ensures fits { EventFits event.now }
 {
     match event {
         Event::Fork { p, c } => put_pair(1, *p, *c, out),
@@ -171,25 +193,31 @@ fn put_event(event: &Event, out: &mut Vec<u8>) -> Result<(), AllocError>
         Event::Lock { t, l } => put_pair(3, *t, *l, out),
         Event::RdLock { t, l } => put_pair(4, *t, *l, out),
         Event::Unlock { t, l } => put_pair(5, *t, *l, out),
-        Event::Read(access) => put_access(6, access, out),
-        Event::Write(access) => put_access(7, access, out),
-        Event::Alloc(block) => put_block(8, block, out),
-        Event::Free(block) => put_block(9, block, out),
+        Event::Read(access) => put_access(6, *access, out),
+        Event::Write(access) => put_access(7, *access, out),
+        Event::Alloc(block) => put_block(8, *block, out),
+        Event::Free(block) => put_block(9, *block, out),
     }
 }
 
 fn put_pair(kind: u8, t: u16, n: u16, out: &mut Vec<u8>) -> Result<(), AllocError>
     ensures ok { OnOk result (out.new.items ≡ out.old.items ++ (kind ∷ pair_text t n)) }
     ensures err { OnErr result (out.new.items ≡ out.old.items) }
+    ensures room { length out.old.items + 5 ≤ vec_capacity out.old → IsOk result }
+    ensures capacity { vec_capacity out.old ≤ vec_capacity out.new }
+    ensures fits { PairFits t n }
 {
     let t = t.to_be_bytes();
     let n = n.to_be_bytes();
     out.extend_from_slice(&[kind, t[0], t[1], n[0], n[1]])
 }
 
-fn put_access(kind: u8, access: &Access, out: &mut Vec<u8>) -> Result<(), AllocError>
-    ensures ok { OnOk result (out.new.items ≡ out.old.items ++ (kind ∷ access_text access.now)) }
+fn put_access(kind: u8, access: Access, out: &mut Vec<u8>) -> Result<(), AllocError>
+    ensures ok { OnOk result (out.new.items ≡ out.old.items ++ (kind ∷ access_text access)) }
     ensures err { OnErr result (out.new.items ≡ out.old.items) }
+    ensures room { length out.old.items + 12 ≤ vec_capacity out.old → IsOk result }
+    ensures capacity { vec_capacity out.old ≤ vec_capacity out.new }
+    ensures fits { AccessFits access }
 {
     let t = access.t.to_be_bytes();
     let at = access.at.to_be_bytes();
@@ -198,9 +226,12 @@ fn put_access(kind: u8, access: &Access, out: &mut Vec<u8>) -> Result<(), AllocE
     ])
 }
 
-fn put_block(kind: u8, block: &Block, out: &mut Vec<u8>) -> Result<(), AllocError>
-    ensures ok { OnOk result (out.new.items ≡ out.old.items ++ (kind ∷ block_text block.now)) }
+fn put_block(kind: u8, block: Block, out: &mut Vec<u8>) -> Result<(), AllocError>
+    ensures ok { OnOk result (out.new.items ≡ out.old.items ++ (kind ∷ block_text block)) }
     ensures err { OnErr result (out.new.items ≡ out.old.items) }
+    ensures room { length out.old.items + 13 ≤ vec_capacity out.old → IsOk result }
+    ensures capacity { vec_capacity out.old ≤ vec_capacity out.new }
+    ensures fits { BlockFits block }
 {
     let t = block.t.to_be_bytes();
     let at = block.at.to_be_bytes();
