@@ -19,8 +19,10 @@ use std::mem;
 
 pub mod laws;
 
-/// The most events that are appended at once.
-pub const MAX_BATCH_EVENTS: usize = MAX_BODY_LEN / MAX_RECORD_LEN;
+/// The most events that are appended at once: so many records fit into a batch.
+pub const MAX_BATCH_EVENTS: usize = 1_024;
+
+const _: () = prove!(MAX_BATCH_EVENTS * MAX_RECORD_LEN <= MAX_BODY_LEN);
 
 /// The events on a disk. They lie in the batches of a log, of which each is the records of some events.
 #[derive(Drop)]
