@@ -1,5 +1,5 @@
 -- The images of a `FuseDisk`: those of the inner disk are among them.
-use Rattle.std.proofs.Common.{◌≡◌, ◌≤◌, ◌+◌, ℕ, min, Bool, true, false, ◌||◌, List, [], ◌∷◌, length, refl, arith}
+use Rattle.std.proofs.Common.{◌≡◌, ◌≤◌, ◌+◌, ℕ, min, Bool, true, false, ◌||◌, List, [], ◌∷◌, length, arith}
 use Rattle.hg_disk.specs.State.{DiskState, Change, IsImage, least, is_written}
 use Rattle.hg_disk.specs.State.Change.{Written, CutTo}
 use Rattle.hg_disk.specs.Event.{Event}

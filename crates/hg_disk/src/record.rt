@@ -20,6 +20,7 @@ pub(crate) struct Record {
 }
 
 impl Record {
+    /// Of a disk with no call made yet.
     pub(crate) fn new() -> Record
         ensures { result.events ≡ [] }
     {

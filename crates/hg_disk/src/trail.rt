@@ -23,6 +23,7 @@ impl<T> Model for Trail<T> {
 }
 
 impl<T: Drop> Trail<T> {
+    /// An empty list.
     pub fn new() -> Trail<T>
         ensures { result ≡ [] }
     {
@@ -32,6 +33,7 @@ impl<T: Drop> Trail<T> {
         }
     }
 
+    /// Adds the item.
     pub fn push(&mut self, item: T)
         ensures { self.new ≡ item ∷ self.old }
     {
