@@ -1,20 +1,10 @@
 -- The calls of a disk, with their answers and bytes.
-use Rattle.std.specs.Prelude.{ℕ, List, [], ◌∷◌}
+use Rattle.std.specs.Prelude.{ℕ, List}
 use Rattle.std.specs.Prelude.{Result, Ok, Err}
-use Rattle.hg_disk.specs.declared.call.Answered.{Answered}
 use Rattle.hg_disk.specs.declared.call.Call.{Call}
 use Rattle.hg_disk.specs.declared.call.Answer.{Answer}
 use Rattle.hg_disk.specs.declared.call.Answer.TheVariants.{Done, Failed}
-
--- a call with its answer, and of a write that took effect its bytes
-pub record Event : Type 0 where
-  pub told : Answered
-  pub bytes : List ℕ
-
--- each of these calls, with these bytes
-abbrev pub events_of : List Answered → List ℕ → List Event
-events_of [] bytes = []
-events_of (told ∷ more) bytes = record { told = told; bytes = bytes } ∷ events_of more bytes
+pub use Rattle.hg_disk.specs.declared.record.Event.{Event}
 
 -- one call with its answer and bytes
 abbrev pub event : Call → Answer → List ℕ → Event

@@ -1,10 +1,10 @@
 -- The images of a `FuseDisk`: those of the inner disk are among them.
-use Rattle.std.proofs.Common.{◌≡◌, ◌≤◌, ◌+◌, ℕ, min, Bool, true, false, ◌||◌, List, [], ◌∷◌, length, refl, arith}
+use Rattle.std.proofs.Common.{◌≡◌, ◌≤◌, ◌+◌, ℕ, min, Bool, true, false, ◌||◌, List, [], ◌∷◌, length, arith}
 use Rattle.hg_disk.specs.State.{DiskState, Change, IsImage, least, is_written}
 use Rattle.hg_disk.specs.State.Change.{Written, CutTo}
 use Rattle.hg_disk.specs.Event.{Event}
 use Rattle.hg_disk.specs.Fuse.{with_call, with_refused, on_top, before, size_now, shown}
-use Rattle.hg_disk.specs.Kept.{changed}
+use Rattle.hg_disk.specs.Kept.{changed, or_false}
 use Rattle.hg_disk.specs.declared.call.Call.{Call}
 use Rattle.hg_disk.specs.declared.call.Call.TheVariants.{Read, Write, Cut, Sync}
 use Rattle.hg_disk.specs.declared.call.Answer.{Answer}
@@ -19,27 +19,19 @@ pub record Adds (few many : List Change) : Type 0 where
 pub adds_none : (changes : List Change) → Adds changes changes
 adds_none changes = record { none = λ e. e; shorter = λ n. omega arith; wider = λ i h. h }
 
-left_false : (a b : Bool) → (a || b) ≡ false → a ≡ false
-left_false true b h = absurd (cc h)
-left_false false b h = refl
-
-right_false : (a b : Bool) → (a || b) ≡ false → b ≡ false
-right_false true b h = absurd (cc h)
-right_false false b h = h
-
 or_none : (a b : Bool) → a ≡ false → b ≡ false → (a || b) ≡ false
 or_none true b h k = absurd (cc h)
 or_none false b h k = k
 
 pub adds_change : (change : Change) (few many : List Change) → Adds few many → Adds few (change ∷ many)
-adds_change (Written first end) few many adds = record { none = changed; shorter = adds.shorter; wider = λ i h. adds.wider i (left_false (is_written many i) _ h) }
+adds_change (Written first end) few many adds = record { none = changed; shorter = adds.shorter; wider = λ i h. adds.wider i (or_false (is_written many i) _ h).0 }
 adds_change (CutTo to) few many adds = record { none = changed; shorter = λ n. let le = adds.shorter n in omega arith; wider = adds.wider }
 
 pub adds_under : (change : Change) (few many : List Change) → Adds few many → Adds (change ∷ few) (change ∷ many)
 adds_under (Written first end) few many adds = record {
   none = changed;
   shorter = adds.shorter;
-  wider = λ i h. or_none (is_written few i) _ (adds.wider i (left_false (is_written many i) _ h)) (right_false (is_written many i) _ h);
+  wider = λ i h. or_none (is_written few i) _ (adds.wider i (or_false (is_written many i) _ h).0) (or_false (is_written many i) _ h).1;
 }
 adds_under (CutTo to) few many adds = record { none = changed; shorter = λ n. let le = adds.shorter n in omega arith; wider = adds.wider }
 

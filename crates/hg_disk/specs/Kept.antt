@@ -23,7 +23,7 @@ length-overwritten file at bytes = grind (arith, places)
 pub changed : {A : Type 0} {c : Change} {earlier : List Change} → (c ∷ earlier) ≡ [] → A
 changed h = absurd (cc h)
 
-or_false : (a b : Bool) → (a || b) ≡ false → (a ≡ false) × (b ≡ false)
+pub or_false : (a b : Bool) → (a || b) ≡ false → (a ≡ false) × (b ≡ false)
 or_false true b h = absurd (cc h)
 or_false false b h = (refl, h)
 

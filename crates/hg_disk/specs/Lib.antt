@@ -14,3 +14,4 @@ pub mod Replay
 pub mod State
 pub mod Tape
 pub mod Tear
+pub mod Trail

@@ -15,6 +15,7 @@ mod tape;
 mod tear;
 #[cfg(test)]
 mod tests;
+mod trail;
 
 pub use call::{Answer, Answered, Call};
 pub use disk::{Disk, DiskFault, MAX_LEN};

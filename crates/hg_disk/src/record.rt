@@ -1,36 +1,33 @@
-//! A list of calls that only clauses read.
-ghost use Rattle.std.specs.Prelude.{◌≡◌, List, [], ◌∷◌, ◌++◌, is_ok, if◌then◌else◌};
-ghost use Rattle.std.specs.Borrow.{ftrue};
-ghost use Rattle.hg_disk.specs.Event.{Event, events_of, event, answer_of};
+//! The calls of a disk with the bytes that they wrote, for clauses alone.
+ghost use Rattle.std.specs.Prelude.{◌≡◌, [], ◌∷◌, is_ok, if◌then◌else◌};
+ghost use Rattle.hg_disk.specs.Event.{event, answer_of};
 
 use crate::DiskFault;
 use crate::call::{Answer, Answered, Call};
-use std::marker::{Model, PhantomData};
+use crate::trail::Trail;
 
-/// The calls of a disk, the newest first. It takes no memory, and only `note` changes it.
+/// A call with its answer, and of a write that took effect its bytes.
 #[derive(Drop)]
-pub(crate) struct Record {
-    marker: PhantomData<u8>,
-    pub ghost events: { List Event },
+pub(crate) struct Event {
+    pub told: Answered,
+    pub bytes: Trail<u8>,
 }
 
-impl Model for Record {
-    ghost also_owns = { λ _. ftrue };
+/// The calls of a disk, the newest first. It takes no memory, and it only grows.
+#[derive(Drop)]
+pub(crate) struct Record {
+    pub events: Trail<Event>,
 }
 
 impl Record {
+    /// Of a disk with no call made yet.
     pub(crate) fn new() -> Record
         ensures { result.events ≡ [] }
     {
         Record {
-            marker: PhantomData,
+            events: Trail::new(),
         }
     }
-
-    /// Adds the calls, each with these bytes.
-    pub(crate) fn note(&mut self, _calls: &[Answered], _bytes: &[u8])
-        ensures { self.new.events ≡ events_of _calls.now _bytes.now ++ self.old.events }
-    {}
 
     /// Adds a call that took effect or failed, and if it took effect its bytes.
     pub(crate) fn note_answer(
@@ -43,22 +40,10 @@ impl Record {
         ensures noted { self.new.events ≡ event call (answer_of result) (if is_done then bytes.now else []) ∷ self.old.events }
     {
         if !is_done {
-            self.note(
-                &[Answered {
-                    call,
-                    answer: Answer::Failed,
-                }],
-                &[],
-            );
+            self.note(call, Answer::Failed, &[]);
             return Err(DiskFault);
         }
-        self.note(
-            &[Answered {
-                call,
-                answer: Answer::Done,
-            }],
-            bytes,
-        );
+        self.note(call, Answer::Done, bytes);
         Ok(())
     }
 
@@ -66,12 +51,16 @@ impl Record {
     pub(crate) fn note_refusal(&mut self, call: Call)
         ensures { self.new.events ≡ event call Answer.Refused [] ∷ self.old.events }
     {
-        self.note(
-            &[Answered {
-                call,
-                answer: Answer::Refused,
-            }],
-            &[],
-        );
+        self.note(call, Answer::Refused, &[]);
+    }
+
+    // Adds a call with its answer and bytes.
+    fn note(&mut self, call: Call, answer: Answer, bytes: &[u8])
+        ensures { self.new.events ≡ event call answer bytes.now ∷ self.old.events }
+    {
+        self.events.push(Event {
+            told: Answered { call, answer },
+            bytes: Trail::of(bytes),
+        });
     }
 }
