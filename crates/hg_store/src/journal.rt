@@ -18,6 +18,8 @@ use std::alloc::{AllocError, Global};
 use std::mem;
 
 pub mod laws;
+#[cfg(test)]
+mod tests;
 
 /// The most events that are appended at once: so many records fit into a batch.
 pub const MAX_BATCH_EVENTS: usize = 1_024;
