@@ -1,5 +1,5 @@
 //! A journal: events on a disk, in batches, each of which is durable once it was appended.
-ghost use Rattle.std.specs.Prelude.{◌≡◌, ◌≢◌, ◌⊎◌, ◌+◌, ◌≤◌, ◌++◌, ◌∷◌, [], ℕ, List, length, drop, vec_capacity, IsTrue, IfOk, IfErr, IfSome, IfNone, OnOk, OnErr, IsErrOf, MatchBool, MatchOption, Err};
+ghost use Rattle.std.specs.Prelude.{◌≡◌, ◌≢◌, ◌⊎◌, ◌+◌, ◌≤◌, ◌++◌, ◌∷◌, [], ℕ, List, length, vec_capacity, IsTrue, IfOk, IfErr, IfSome, IfNone, OnOk, OnErr, IsErrOf, MatchBool, MatchOption, Err};
 ghost use Rattle.std.specs.List.{AllByRecursion};
 ghost use Rattle.hg_model.specs.declared.event.Named.{Named as NamedOf};
 ghost use Rattle.hg_disk.specs.State.{IsImage, settled};
@@ -18,6 +18,8 @@ use std::alloc::{AllocError, Global};
 use std::mem;
 
 pub mod laws;
+#[cfg(test)]
+mod tests;
 
 /// The most events that are appended at once: so many records fit into a batch.
 pub const MAX_BATCH_EVENTS: usize = 1_024;
@@ -95,8 +97,6 @@ impl JournalReader {
 }
 
 impl<D: Disk> Journal<D> {
-    ghost use Rattle.hg_gate.specs.Log as log;
-    ghost use Rattle.hg_gate.specs.Log.{IsBehind, IsFirst, given};
     ghost use Rattle.hg_store.specs.Reading.{IsAt, Keeps, Opens, disk_after, disk_of, failures_of_making, is_broken, rest_of};
 
     /// A journal of no events, on an empty disk. A refusal hands the disk back.
