@@ -1,5 +1,5 @@
 //! A log of batches.
-ghost use Rattle.std.specs.Prelude.{◌≡◌, ◌≢◌, ◌⊎◌, ◌+◌, ◌≤◌, ◌^◌, ◌++◌, ◌∷◌, [], ℕ, List, length, vec_capacity, IsTrue, IfOk, IfErr, OnOk, OnErr, IsErrOf, Err};
+ghost use Rattle.std.specs.Prelude.{◌≡◌, ◌≢◌, ◌⊎◌, ◌+◌, ◌≤◌, ◌^◌, ◌++◌, ◌∷◌, [], ℕ, List, length, vec_capacity, false, IsTrue, IfOk, IfErr, OnOk, OnErr, IsErrOf, Err};
 ghost use Rattle.hg_disk.specs.State.{IsImage, settled};
 ghost use Rattle.hg_disk.specs.Moments.{Leaves, LeavesOnly};
 ghost use Rattle.hg_gate.specs.Batches.{IsLog, IsBeforeOrAfter, sized, closed_gate, header};
@@ -83,6 +83,7 @@ impl<D: Disk> Log<D> {
         ensures reads { IsTrue D.is_honest → IfOk result (λ log. (bodies : List (List ℕ)) × Reads log bodies) }
         ensures has { IsTrue D.is_honest → D.state disk ≡ settled (D.state disk).contents → IfOk result (λ log. (bodies : List (List ℕ)) × Has log bodies) }
         ensures damaged { IsTrue D.is_honest → IfErr result (λ e. e.0 ≡ GateFault.Damaged → (bodies : List (List ℕ)) → ¬ IsLog (D.state disk).contents bodies) }
+        ensures works { IfOk result (λ log. is_broken log ≡ false) }
         ensures fault { IfErr result (λ e. IsDamagedOrDevice e.0 ⊎ (e.0 ≡ GateFault.OutOfMemory)) }
         ensures device { D.failures (disk_after result) ≡ failures_of_making result (D.failures disk) }
         ensures state { D.state (disk_after result) ≡ D.state disk }
@@ -132,6 +133,7 @@ impl<D: Disk> Log<D> {
         ensures device { D.failures (disk_of self.new) ≡ failures_after result (D.failures (disk_of self.old)) }
         ensures broken { IsErrOf result GateFault.Broken → IsTrue (is_broken self.old) }
         ensures breaks { OnErr result (IsTrue (is_broken self.new)) }
+        ensures works { OnOk result (is_broken self.new ≡ false) }
 
         // A log that is broken stays as it is.
         ensures refuses { IsTrue (is_broken self.old) → result ≡ Err GateFault.Broken }
@@ -173,6 +175,7 @@ impl<D: Disk> Log<D> {
         ensures again { OnErr result (batches.new ≡ batches.old) }
 
         // The log stays as it is.
+        ensures broken_or_not { is_broken self.new ≡ is_broken self.old }
         ensures reads { (bodies : List (List ℕ)) → Reads self.old bodies → Reads self.new bodies }
         ensures has { (bodies : List (List ℕ)) → Has self.old bodies → Has self.new bodies }
         ensures state { D.state (disk_of self.new) ≡ D.state (disk_of self.old) }

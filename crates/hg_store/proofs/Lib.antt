@@ -1,3 +1,11 @@
+pub mod Contents
 pub mod Filling
 pub mod Journaling
 pub mod Journals
+pub mod Making
+pub mod Moments
+pub mod Remaining
+pub mod Replaying
+pub mod Runs
+pub mod Staying
+pub mod Stores

@@ -1,2 +1,10 @@
 pub mod Journal
 pub mod Reading
+pub mod Images
+pub mod Shown
+pub mod Store
+pub mod Kept
+pub mod Offers
+pub mod Recovering
+pub mod Runs
+pub mod Laws

@@ -1,5 +1,5 @@
 //! A journal: events on a disk, in batches, each of which is durable once it was appended.
-ghost use Rattle.std.specs.Prelude.{◌≡◌, ◌≢◌, ◌⊎◌, ◌+◌, ◌≤◌, ◌++◌, ◌∷◌, [], ℕ, List, length, vec_capacity, IsTrue, IfOk, IfErr, IfSome, IfNone, OnOk, OnErr, IsErrOf, MatchBool, MatchOption, Err};
+ghost use Rattle.std.specs.Prelude.{◌≡◌, ◌≢◌, ◌⊎◌, ◌+◌, ◌≤◌, ◌++◌, ◌∷◌, [], ℕ, List, length, vec_capacity, IsTrue, IfOk, IfErr, IfSome, IfNone, OnOk, OnErr, IsErrOf, MatchBool, MatchOption, Err, false};
 ghost use Rattle.std.specs.List.{AllByRecursion};
 ghost use Rattle.hg_model.specs.declared.event.Named.{Named as NamedOf};
 ghost use Rattle.hg_disk.specs.State.{IsImage, settled};
@@ -122,6 +122,7 @@ impl<D: Disk> Journal<D> {
     pub fn attach(alloc: Global, disk: D) -> Result<Journal<D>, (Refusal, D)>
         ensures opens { IsTrue D.is_honest → D.state disk ≡ settled (D.state disk).contents → IfOk result (λ journal. (bodies : List (List ℕ)) × Opens journal bodies) }
         ensures damaged { IsTrue D.is_honest → IfErr result (λ e. e.0 ≡ Refusal.Damaged → (events : List NamedOf) → ¬ IsJournal (D.state disk).contents events) }
+        ensures works { IfOk result (λ journal. is_broken journal ≡ false) }
         ensures fault { IfErr result (λ e. IsOfReading e.0) }
         ensures device { D.failures (disk_after result) ≡ failures_of_making result (D.failures disk) }
         ensures state { D.state (disk_after result) ≡ D.state disk }
@@ -162,6 +163,7 @@ impl<D: Disk> Journal<D> {
         ensures device { D.failures (disk_of self.new) ≡ failed_after result (D.failures (disk_of self.old)) }
         ensures broken { IsErrOf result Refusal.Broken → IsTrue (is_broken self.old) }
         ensures breaks { OnErr result (IsTrue (is_broken self.new)) }
+        ensures works { OnOk result (is_broken self.new ≡ false) }
 
         // A journal that is broken stays as it is.
         ensures refuses { IsTrue (is_broken self.old) → result ≡ Err Refusal.Broken }
@@ -210,6 +212,7 @@ impl<D: Disk> Journal<D> {
         ensures broken { IsErrOf result Refusal.Broken → IsTrue (is_broken self.old) }
         ensures refuses { IsTrue (is_broken self.old) → result ≡ Err Refusal.Broken }
         ensures same { IsTrue (is_broken self.old) → self.new ≡ self.old }
+        ensures broken_or_not { is_broken self.new ≡ is_broken self.old }
     {
         if let Err(fault) = self.log.batches() {
             return Err(refusal_of(fault));
@@ -238,6 +241,7 @@ impl<D: Disk> Journal<D> {
         ensures again { (seen : List NamedOf) → IsTrue D.is_honest → IsAt self.old reader.old seen → OnErr result (IsAt self.new reader.new seen) }
 
         // The journal stays as it is.
+        ensures broken_or_not { is_broken self.new ≡ is_broken self.old }
         ensures keeps { (events : List NamedOf) → Keeps self.old events → Keeps self.new events }
         ensures opens { (bodies : List (List ℕ)) → Opens self.old bodies → Opens self.new bodies }
         ensures state { D.state (disk_of self.new) ≡ D.state (disk_of self.old) }

@@ -1,0 +1,77 @@
+-- What a crash may leave of the four devices of a store, and the content that it gives.
+use Rattle.std.specs.Prelude.{◌≡◌, ◌⊎◌, ◌+◌, ℕ, List, [], ◌∷◌, Some, length}
+use Rattle.hg_model.specs.declared.event.Named.{Named}
+use Rattle.hg_model.specs.Contents.{Content}
+use Rattle.hg_model.specs.Change.{followed, empty_content}
+use Rattle.hg_disk.specs.State.{DiskState, IsImage}
+use Rattle.hg_disk.specs.Moments.{HasGone}
+use Rattle.hg_disk.specs.declared.disk.Disk as disk
+use Rattle.hg_gate.specs.Batches.{IsClosed}
+use Rattle.hg_store.specs.Journal.{IsJournal}
+use Rattle.hg_store.specs.declared.devices.Devices.{Devices}
+
+-- the bytes of each device
+pub record Image : Type 0 where
+  pub journal : List ℕ
+  pub slots : List ℕ
+  pub root0 : List ℕ
+  pub root1 : List ℕ
+
+-- The image has this content: both roots are closed, and the events of the journal, each accepted after those before it, give it.
+pub record HasContent (image : Image) (c : Content) : Type 0 where
+  pub first_root : IsClosed image.root0
+  pub second_root : IsClosed image.root1
+  pub events : List Named
+  pub journal : IsJournal image.journal events
+  pub gives : followed empty_content events ≡ Some c
+
+-- one of these states leaves the bytes
+abbrev pub IsAmong : List DiskState → List ℕ → Type 0
+IsAmong [] bytes = ⊥
+IsAmong (s ∷ earlier) bytes = IsImage s bytes ⊎ IsAmong earlier bytes
+
+module _ {D : Type 0} (g : disk.Ghosts D) where
+  -- At some moment from `old` to `new`, both included, a crash may leave these bytes of a disk.
+  pub record MayLeave (old new : D) (bytes : List ℕ) : Type 0 where
+    pub later : List DiskState
+    pub has_gone : HasGone g old new later
+    pub among : IsImage (g.state old) bytes ⊎ IsAmong later bytes
+
+  -- what a crash may leave of the devices from one moment of each to another, each device by itself
+  pub record MayLeaveAll (old new : Devices D) (image : Image) : Type 0 where
+    pub journal : MayLeave old.journal new.journal image.journal
+    pub slots : MayLeave old.slots new.slots image.slots
+    pub root0 : MayLeave old.root0 new.root0 image.root0
+    pub root1 : MayLeave old.root1 new.root1 image.root1
+
+  -- No moment of a device lies before its earlier one.
+  abbrev pub GoesOn : D → D → Type 0
+  GoesOn old new = (later : List DiskState) × HasGone g old new later
+
+  -- Each image of the devices from `old` to `new`, both included, has P.
+  pub record EachImage (old new : Devices D) (P : Image → Type 0) : Type 0 where
+    pub journal : GoesOn old.journal new.journal
+    pub slots : GoesOn old.slots new.slots
+    pub root0 : GoesOn old.root0 new.root0
+    pub root1 : GoesOn old.root1 new.root1
+    pub each : (image : Image) → MayLeaveAll old new image → P image
+
+  -- what a crash may leave of the devices as they are
+  pub record IsLeft (devices : Devices D) (image : Image) : Type 0 where
+    pub journal : IsImage (g.state devices.journal) image.journal
+    pub slots : IsImage (g.state devices.slots) image.slots
+    pub root0 : IsImage (g.state devices.root0) image.root0
+    pub root1 : IsImage (g.state devices.root1) image.root1
+
+  -- what the devices read
+  abbrev pub read_of : Devices D → Image
+  read_of devices = record {
+    journal = (g.state devices.journal).contents;
+    slots = (g.state devices.slots).contents;
+    root0 = (g.state devices.root0).contents;
+    root1 = (g.state devices.root1).contents;
+  }
+
+  -- how many calls of the devices have failed
+  abbrev pub failures_of : Devices D → ℕ
+  failures_of devices = g.failures devices.journal + g.failures devices.slots + g.failures devices.root0 + g.failures devices.root1

@@ -1,0 +1,49 @@
+-- What a store stands for.
+use Rattle.std.specs.Prelude.{◌≡◌, ◌⊎◌, ◌<◌, ◌≤◌, ◌∷◌, [], ℕ, Bool, true, false, List, length, Some, Result, Ok, Err}
+use Rattle.hg_model.specs.declared.event.Named.{Named}
+use Rattle.hg_model.specs.Contents.{Content}
+use Rattle.hg_model.specs.Change.{followed, empty_content}
+use Rattle.hg_disk.specs.declared.disk.Disk as disk
+use Rattle.hg_detect.specs.declared.detector.Detector.{Detector}
+use Rattle.hg_detect.specs.declared.paged.PagedWords.{PagedWords}
+use Rattle.hg_detect.specs.Engine.{AtPresent}
+use Rattle.hg_detect.specs.Shown.{content}
+use Rattle.hg_detect.specs.Paged.{AreWithin, cell_in}
+use Rattle.hg_sets.specs.Interning.{Table}
+use Rattle.hg_store.specs.Images.{Image, HasContent, IsLeft}
+use Rattle.hg_store.specs.Shown.{Shown}
+
+-- the content of a detector over pages in memory
+abbrev pub content_of : Detector PagedWords → Content
+content_of detector = content cell_in detector
+
+-- each of its cells names only segments and sets that exist
+abbrev pub IsWhole : Detector PagedWords → Type 0
+IsWhole detector = AtPresent AreWithin detector
+
+-- the content with all accepted events
+abbrev pub live : {D : Type 0} → Shown D → Content
+live s = content_of s.detector
+
+-- the table of sets before the first event: the empty one, with room for so many
+abbrev pub first_table : ℕ → Table
+first_table limit = record { limit = limit; sets = [] ∷ [] }
+
+-- The image has the durable content or, where in doubt, the live one.
+abbrev pub Stands : Content → Content → Bool → Image → Type 0
+Stands durable now in_doubt image = HasContent image durable ⊎ ((in_doubt ≡ true) × HasContent image now)
+
+-- The store stands for the durable content d: the pending events lead from it to the live content, and each image of
+-- the devices has it. Where a commit failed, an image may have the live content instead.
+pub record Backs {D : Type 0} (g : disk.Ghosts D) (s : Shown D) (d : Content) : Type 0 where
+  pub live : followed d s.pending ≡ Some (content_of s.detector)
+  pub count : s.durable ≡ d.events
+  pub stands : (image : Image) → IsLeft g s.devices image → Stands d (content_of s.detector) s.is_broken image
+
+-- A store with nothing pending, of this content.
+pub record IsFresh {D : Type 0} (g : disk.Ghosts D) (s : Shown D) (c : Content) : Type 0 where
+  pub has : content_of s.detector ≡ c
+  pub pending : s.pending ≡ []
+  pub durable : s.durable ≡ c.events
+  pub works : s.is_broken ≡ false
+  pub backs : Backs g s c
