@@ -43,3 +43,10 @@ module _ {D : Type 0} (g : disk.Ghosts D) where
       });
     };
   }
+
+-- what a disk reads that was synced
+pub settled_self : (bytes : List ℕ) (s : DiskState) → s ≡ settled bytes → s ≡ settled s.contents
+settled_self bytes s is = is ∙ ap settled (sym (ap (λ (t : DiskState). t.contents) is))
+
+pub settled_reads : (bytes : List ℕ) (s : DiskState) → s ≡ settled bytes → s.contents ≡ bytes
+settled_reads bytes s is = ap (λ (t : DiskState). t.contents) is

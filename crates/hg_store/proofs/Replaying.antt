@@ -23,7 +23,7 @@ use Rattle.hg_store.proofs.Remaining.{one}
 fills_more : (seen : List Named) (c : Content) (t : Table) (d : Content) (u : Table) (n : Named) (v : Table) → Fills seen c t d u → IsAccepted d n → Asks u (sets_asked d n.event) None v → Fills (seen ++ n ∷ []) c t (after d n) v
 fills_more [] c t d u n v (same, filled) accepted asks =
     subst (λ (e : Content). Fills (n ∷ []) e t (after d n) v) same
-        (subst (λ (x : Table). Fills (n ∷ []) d x (after d n) v) filled (accepted, v, asks, (refl, refl)))
+    (subst (λ (x : Table). Fills (n ∷ []) d x (after d n) v) filled (accepted, v, asks, (refl, refl)))
 fills_more (x ∷ seen) c t d u n v (first, mid, asked, rest) accepted asks = (first, mid, asked, fills_more seen (after c x) mid d u n v rest accepted asks)
 
 -- The detector followed the events that were read, from the first table on where it began with that.
@@ -62,7 +62,7 @@ module _ {D : Type 0} (g : disk.Ghosts D) where
     no_content refused events c is gives =
         let whole = begins events is in
         let from : followed (content_of was) (n ∷ whole.0) ≡ Some c =
-            sym (followed_append read.seen (n ∷ whole.0) empty_content (content_of was) read.gives) ∙ ap (λ (es : List Named). followed empty_content es) (sym whole.1) ∙ gives in
+        sym (followed_append read.seen (n ∷ whole.0) empty_content (content_of was) read.gives) ∙ ap (λ (es : List Named). followed empty_content es) (sym whole.1) ∙ gives in
         refused (one (content_of was) c n whole.0 (verdict (standing_of (content_of was)) n) from).0
 
     -- a table that has no room

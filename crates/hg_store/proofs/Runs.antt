@@ -107,9 +107,9 @@ module _ {D : Type 0} (g : disk.Ghosts D) where
           let at : IsAt g start run s = so_far.run in
           let then : IsAt g start (run_after run step result) new = is_after run s new step result at done (keeps at.durable at.backed) in
           let images : EachImage g s.devices new.devices (StandsFor start run (in_doubt_during step run.in_doubt)) =
-              weaker s.devices new.devices (Stands at.durable (content_of s.detector) (in_doubt_during step s.is_broken)) (StandsFor start run (in_doubt_during step run.in_doubt))
-                  (λ image is. rw at.in_doubt (stands_for start at.durable (content_of s.detector) run (in_doubt_during step s.is_broken) image at.acknowledged at.accepted_is is))
-                  (leaves at.durable at.backed) in
+          weaker s.devices new.devices (Stands at.durable (content_of s.detector) (in_doubt_during step s.is_broken)) (StandsFor start run (in_doubt_during step run.in_doubt))
+          (λ image is. rw at.in_doubt (stands_for start at.durable (content_of s.detector) run (in_doubt_during step s.is_broken) image at.acknowledged at.accepted_is is))
+          (leaves at.durable at.backed) in
           record {
             run = subst (λ (r : Run). IsAt g start r new) (sym (run_more (before old) steps told so_far.covered)) then;
             first = begins_more told ∙ so_far.first;
@@ -124,9 +124,9 @@ module _ {D : Type 0} (g : disk.Ghosts D) where
       drive_turn {A} began answered old steps more answers new_answers a is pushed then told so_far done keeps leaves =
           let tell : A → Shown D × StepResult = λ x. (began x, answered x) in
           let all : map tell new_answers ≡ map tell answers ++ (s, result) ∷ [] =
-              ap (λ (xs : List A). map tell xs) pushed ∙ map-append tell answers (a ∷ []) ∙ ap (λ (x : Shown D × StepResult). map tell answers ++ x ∷ []) (cc) in
+          ap (λ (xs : List A). map tell xs) pushed ∙ map-append tell answers (a ∷ []) ∙ ap (λ (x : Shown D × StepResult). map tell answers ++ x ∷ []) (cc) in
           subst (λ (xs : List Step). DriveDone g start old new xs (map tell new_answers)) (sym is)
-              (subst (λ (xs : Told D). DriveDone g start old new (steps ++ step ∷ []) xs) (sym all) (drive_more old steps (map tell answers) so_far done keeps leaves))
+          (subst (λ (xs : Told D). DriveDone g start old new (steps ++ step ∷ []) xs) (sym all) (drive_more old steps (map tell answers) so_far done keeps leaves))
 
   -- before the first step
   pub drive_none : (start : Content) (s : Shown D) → Backs g s start → DriveDone g start s s [] []

@@ -127,13 +127,7 @@ impl<D: Disk> Store<D> {
             Err(refusal) => return Err((CreateFault::Refused(refusal), devices)),
         };
         let mut devices = devices;
-        if close_roots(
-            &mut devices.slots,
-            &mut devices.root0,
-            &mut devices.root1,
-        )
-        .is_err()
-        {
+        if close_roots(&mut devices.slots, &mut devices.root0, &mut devices.root1).is_err() {
             return Err((CreateFault::Refused(Refusal::DeviceFault), devices));
         }
         let Devices {

@@ -101,7 +101,10 @@ fn follow(detector: &mut Detector<PagedWords>, named: &Named) -> Result<(), Refu
 }
 
 /// Reads the journal from its first event on, and has the detector follow each.
-fn replay<D: Disk>(journal: &mut Journal<D>, detector: &mut Detector<PagedWords>) -> Result<(), Refusal>
+fn replay<D: Disk>(
+    journal: &mut Journal<D>,
+    detector: &mut Detector<PagedWords>,
+) -> Result<(), Refusal>
     requires works { is_broken journal.old ≡ false }
     requires whole { IsWhole detector.old }
     requires content { content_of detector.old ≡ empty_content }
@@ -155,8 +158,9 @@ impl<D: Disk> Store<D> {
         ensures images { EachImage ⟦<D as Disk>⟧ devices (made_of result) (IsLeft ⟦<D as Disk>⟧ devices) }
     {
         let mut devices = devices;
-        if let Err(refusal) = settle(&mut devices) {
-            return Err((refusal, devices));
+        match settle(&mut devices) {
+            Ok(()) => {}
+            Err(refusal) => return Err((refusal, devices)),
         }
         let mut detector = match first_detector(alloc, caps.sets) {
             Ok(detector) => detector,

@@ -48,7 +48,6 @@ impl<D: Disk> Model for Store<D> {
     ghost use Rattle.hg_store.specs.Shown.{Shown};
     ghost use Rattle.hg_store.specs.Kept.{IsSound};
     ghost use Rattle.hg_store.specs.Reading.{disk_of};
-
     ghost use Rattle.hg_detect.specs.contracts.paged.PagedWords as words;
     ghost use Rattle.std.specs.Coded.{codes};
 

@@ -35,14 +35,14 @@ pub returns-in_err-follow-in-Some-clause-damaged : goal.returns-in_err-follow-in
 returns-in_err-follow-in-Some-clause-damaged g c bodies honest opens told events d is gives =
     let read = c.loop-reader.invariant.read bodies honest opens in
     no_content g.D.Disk c.loop-reader.journal c.loop-reader.reader c.args.detector.now c.loop-reader.detector read c.next.new.self c.next.new.reader c.in-Some.named (rw c.in-Some.is at (c.in_ok-named.ensures.next read.seen honest read.at))
-        (c.follow.ensures.damaged (search rules)) events d (subst (λ (s : DiskState). IsJournal s.contents events) (sym (c.next.ensures.state ∙ c.loop-reader.invariant.state)) is) gives
+    (c.follow.ensures.damaged (search rules)) events d (subst (λ (s : DiskState). IsJournal s.contents events) (sym (c.next.ensures.state ∙ c.loop-reader.invariant.state)) is) gives
 
 pub returns-in_err-follow-in-Some-clause-full : goal.returns-in_err-follow-in-Some-clause-full
 returns-in_err-follow-in-Some-clause-full g c bodies limit honest opens first told =
     let read = c.loop-reader.invariant.read bodies honest opens in
     let full = c.follow.ensures.full (search rules) in
     subst (λ (s : DiskState). IsTooSmall limit s.contents) (c.next.ensures.state ∙ c.loop-reader.invariant.state)
-        (too_small g.D.Disk c.loop-reader.journal c.loop-reader.reader c.args.detector.now c.loop-reader.detector read c.next.new.self c.next.new.reader c.in-Some.named (rw c.in-Some.is at (c.in_ok-named.ensures.next read.seen honest read.at)) limit _ first full.0 full.1)
+    (too_small g.D.Disk c.loop-reader.journal c.loop-reader.reader c.args.detector.now c.loop-reader.detector read c.next.new.self c.next.new.reader c.in-Some.named (rw c.in-Some.is at (c.in_ok-named.ensures.next read.seen honest read.at)) limit _ first full.0 full.1)
 
 pub loop-reader-preserved : goal.loop-reader-preserved
 loop-reader-preserved g c = record {
@@ -54,5 +54,5 @@ loop-reader-preserved g c = record {
   read = λ bodies honest opens.
       let read = c.loop-reader.invariant.read bodies honest opens in
       read_more g.D.Disk c.loop-reader.journal c.loop-reader.reader c.args.detector.now c.loop-reader.detector read c.next.new.self c.next.new.reader c.in-Some.named (rw c.in-Some.is at (c.in_ok-named.ensures.next read.seen honest read.at))
-          c.follow.new.detector c.in_ok-follow-in-Some.ensures.accepted.0 c.in_ok-follow-in-Some.ensures.accepted.1 c.in_ok-follow-in-Some.ensures.asked;
+      c.follow.new.detector c.in_ok-follow-in-Some.ensures.accepted.0 c.in_ok-follow-in-Some.ensures.accepted.1 c.in_ok-follow-in-Some.ensures.asked;
 }

@@ -35,7 +35,7 @@ returns-in-Ok-clause-images g c = λ start honest backs.
     let k = c.self.invariant.keeps honest (search rules) in
     let same : c.deref.result.now ≡ i.pending.items = search rules in
     rw (← c.self.view_is) (during_commit g.D.Disk g.met.D.Disk.has_its_bytes one_reading s start (rw c.self.view_is backs) (search rules) k.0 (bytes_now g.D.Disk i.journal k.0 k.1)
-        (disk_of c.append.new.self) (rw same at (c.append.ensures.any_moment k.0 k.1)))
+    (disk_of c.append.new.self) (rw same at (c.append.ensures.any_moment k.0 k.1)))
 
 pub returns-in-Err-clause-images : goal.returns-in-Err-clause-images
 returns-in-Err-clause-images g c = λ start honest backs.
@@ -44,7 +44,7 @@ returns-in-Err-clause-images g c = λ start honest backs.
     let k = c.self.invariant.keeps honest (search rules) in
     let same : c.deref.result.now ≡ i.pending.items = search rules in
     rw (← c.self.view_is) (during_commit g.D.Disk g.met.D.Disk.has_its_bytes one_reading s start (rw c.self.view_is backs) (search rules) k.0 (bytes_now g.D.Disk i.journal k.0 k.1)
-        (disk_of c.append.new.self) (rw same at (c.append.ensures.any_moment k.0 k.1)))
+    (disk_of c.append.new.self) (rw same at (c.append.ensures.any_moment k.0 k.1)))
 
 pub returns-in-Ok-clause-backs : goal.returns-in-Ok-clause-backs
 returns-in-Ok-clause-backs g c = λ start honest backs.
@@ -53,7 +53,7 @@ returns-in-Ok-clause-backs g c = λ start honest backs.
     let k = c.self.invariant.keeps honest (search rules) in
     let same : c.deref.result.now ≡ i.pending.items = search rules in
     rw (← c.self.view_is) (kept_committed g.D.Disk g.met.D.Disk.has_its_bytes one_reading s start (rw c.self.view_is backs) (search rules) k.0 (bytes_now g.D.Disk i.journal k.0 k.1)
-        (disk_of c.append.new.self) _ c.clear.new.self.items (rw same at (c.in-Ok.ensures.durable k.0 k.1)) (search rules) (search rules))
+    (disk_of c.append.new.self) _ c.clear.new.self.items (rw same at (c.in-Ok.ensures.durable k.0 k.1)) (search rules) (search rules))
 
 pub returns-in-Err-clause-backs : goal.returns-in-Err-clause-backs
 returns-in-Err-clause-backs g c = λ start honest backs.
@@ -62,4 +62,4 @@ returns-in-Err-clause-backs g c = λ start honest backs.
     let k = c.self.invariant.keeps honest (search rules) in
     let same : c.deref.result.now ≡ i.pending.items = search rules in
     kept_broken g.D.Disk g.met.D.Disk.has_its_bytes one_reading s start (rw c.self.view_is backs) (search rules) k.0 (bytes_now g.D.Disk i.journal k.0 k.1)
-        (disk_of c.append.new.self) (rw same at (c.append.ensures.any_moment k.0 k.1))
+    (disk_of c.append.new.self) (rw same at (c.append.ensures.any_moment k.0 k.1))

@@ -23,6 +23,6 @@ loop-step-preserved g c =
 pub returns-clause-run : goal.returns-clause-run
 returns-clause-run g c =
     λ honest start backs. drive_turn g.D.Disk start c.loop-step.self c.answered-2.new.self c.args.last.now c.answered-2.result.result (λ a. a.began.value) (λ a. a.result) c.args.self.now
-        (take c.loop-step.step-index c.args.done.now) (c.args.done.now ++ c.args.last.now ∷ []) c.loop-step.answers.items c.push_reserved-2.new.self.items c.answered-2.result
-        (ap (λ (steps : List Step). steps ++ c.args.last.now ∷ []) (sym (take_all c.loop-step.step-index c.args.done.now (search rules)))) c.push_reserved-2.ensures.items c.answered-2.ensures.began refl
-        (c.loop-step.invariant.so_far honest start backs) c.answered-2.ensures.done (λ d b. c.answered-2.ensures.backs d honest b) (λ d b. c.answered-2.ensures.images d honest b)
+    (take c.loop-step.step-index c.args.done.now) (c.args.done.now ++ c.args.last.now ∷ []) c.loop-step.answers.items c.push_reserved-2.new.self.items c.answered-2.result
+    (ap (λ (steps : List Step). steps ++ c.args.last.now ∷ []) (sym (take_all c.loop-step.step-index c.args.done.now (search rules)))) c.push_reserved-2.ensures.items c.answered-2.ensures.began refl
+    (c.loop-step.invariant.so_far honest start backs) c.answered-2.ensures.done (λ d b. c.answered-2.ensures.backs d honest b) (λ d b. c.answered-2.ensures.images d honest b)

@@ -14,4 +14,4 @@ returns-in-Offer-clause-images g c = λ start honest backs.
     let doubt = in_doubt_during c.args.step.now s.is_broken in
     let is = c.in-Offer.is in
     subst (λ (devices : Devices g.row.D.Denot). EachImage g.D.Disk s.devices devices (Stands start (content_of s.detector) doubt)) (sym c.offer.ensures.done.devices)
-        (images_stand g.D.Disk s start doubt backs (λ broken. ap (λ (step : Step). in_doubt_during step s.is_broken) is ∙ broken))
+    (images_stand g.D.Disk s start doubt backs (λ broken. ap (λ (step : Step). in_doubt_during step s.is_broken) is ∙ broken))
