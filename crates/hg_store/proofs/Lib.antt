@@ -1,3 +1,4 @@
+pub mod Collecting
 pub mod Contents
 pub mod Filling
 pub mod Journaling

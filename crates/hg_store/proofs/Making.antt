@@ -1,16 +1,15 @@
 -- A store that was just made or recovered.
-use Rattle.std.proofs.Common.{◌≡◌, ◌⊎◌, inl, inr, ℕ, List, [], ◌∷◌, ◌++◌, Bool, true, false, Some, refl, sym, ap, ◌∙◌, subst, arith}
+use Rattle.std.proofs.Common.{◌≡◌, inl, ℕ, List, [], ◌∷◌, false, Some, refl, sym, ap, ◌∙◌, subst, arith}
 use Rattle.hg_model.specs.declared.event.Named.{Named}
 use Rattle.hg_model.specs.Contents.{Content}
 use Rattle.hg_model.specs.Change.{followed, empty_content}
 use Rattle.hg_disk.specs.State.{DiskState, IsImage, settled}
 use Rattle.hg_disk.specs.Moments.{Leaves}
 use Rattle.hg_disk.specs.declared.disk.Disk as disk
-use Rattle.hg_gate.specs.Batches.{IsClosed, closed_gate, open_gate}
-use Rattle.hg_store.specs.Images.{HasContent, Image, IsLeft}
+use Rattle.hg_gate.specs.Batches.{IsClosed, closed_gate}
 use Rattle.hg_store.specs.Journal.{IsJournal}
 use Rattle.hg_store.specs.Shown.{Shown}
-use Rattle.hg_store.specs.Store.{Backs, IsFresh, content_of}
+use Rattle.hg_store.specs.Store.{IsFresh, content_of}
 
 -- each image of a disk that was synced is what it reads
 pub settled_leaves : (P : List ℕ → Type 0) (bytes : List ℕ) (s : DiskState) → s ≡ settled bytes → P bytes → Leaves P s

@@ -1,11 +1,11 @@
 -- What a crash may leave from one moment to another.
-use Rattle.std.proofs.Common.{◌≡◌, ◌⊎◌, inl, inr, ℕ, List, [], ◌∷◌, ◌++◌, refl, sym, ap, ◌∙◌, subst}
+use Rattle.std.proofs.Common.{◌≡◌, ◌⊎◌, inl, inr, ℕ, List, [], ◌∷◌, refl, sym, ◌∙◌, subst}
 use Rattle.std.proofs.lemmas.List.{append_cancel_right}
 use Rattle.hg_disk.specs.State.{DiskState, IsImage}
-use Rattle.hg_disk.specs.Moments.{EachLeaves, HasGone, Leaves, LeavesOnly, history}
+use Rattle.hg_disk.specs.Moments.{EachLeaves, HasGone, LeavesOnly, history}
 use Rattle.hg_disk.specs.declared.disk.Disk as disk
 use Rattle.hg_store.specs.declared.devices.Devices.{Devices}
-use Rattle.hg_store.specs.Images.{EachImage, GoesOn, Image, IsAmong, IsLeft, MayLeave, MayLeaveAll, read_of}
+use Rattle.hg_store.specs.Images.{EachImage, GoesOn, Image, IsAmong, IsLeft, MayLeave, read_of}
 
 pub each_leaves : (P : List ℕ → Type 0) (states : List DiskState) (bytes : List ℕ) → EachLeaves P states → IsAmong states bytes → P bytes
 each_leaves P [] bytes each among = absurd among

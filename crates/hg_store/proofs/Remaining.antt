@@ -1,17 +1,17 @@
 -- What remains of a run that was stopped.
-use Rattle.std.proofs.Common.{◌≡◌, ◌⊎◌, inl, inr, ℕ, List, [], ◌∷◌, ◌++◌, Option, Some, None, Bool, true, false, reverse, refl, sym, ap, ◌∙◌, subst, if◌then◌else◌, cond}
+use Rattle.std.proofs.Common.{◌≡◌, inl, inr, List, [], ◌∷◌, Some, None, refl, sym, ap, ◌∙◌, subst, if◌then◌else◌}
 use Rattle.std.proofs.lemmas.List.{append-nil}
 use Rattle.std.specs.Option.{option_and_then}
 use Rattle.hg_model.specs.declared.event.Named.{Named}
 use Rattle.hg_model.specs.declared.verdict.Verdict.{Verdict}
 use Rattle.hg_model.specs.declared.verdict.Verdict.TheVariants.{Accept, Duplicate, Refuse}
-use Rattle.hg_model.specs.Contents.{Content, summary}
-use Rattle.hg_model.specs.Verdicts.{verdict, standing_of, IsAccepted}
-use Rattle.hg_model.specs.Change.{followed, offered, after, is_accept, empty_content}
+use Rattle.hg_model.specs.Contents.{Content}
+use Rattle.hg_model.specs.Verdicts.{verdict, standing_of}
+use Rattle.hg_model.specs.Change.{followed, after, is_accept, empty_content}
 use Rattle.hg_model.specs.Laws.{FollowingIsTheSummary}
-use Rattle.hg_store.specs.Images.{HasContent, Image}
-use Rattle.hg_store.specs.Laws.{AreAccepted, ContentIsUnique, PrefixIsSummed, RemainingGiveTheSame, Split}
-use Rattle.hg_store.specs.Runs.{Run, StandsFor, accepted}
+use Rattle.hg_store.specs.Images.{HasContent}
+use Rattle.hg_store.specs.Laws.{AreAccepted, ContentIsUnique, PrefixIsSummed, RemainingGiveTheSame}
+use Rattle.hg_store.specs.Runs.{accepted}
 use Rattle.hg_store.proofs.Contents.{followed_append}
 use Rattle.hg_store.proofs.Journals.{one_reading}
 

@@ -1,5 +1,5 @@
 -- How far a journal was followed.
-use Rattle.std.proofs.Common.{◌≡◌, ℕ, ◌<◌, ◌≤◌, ◌+◌, ◌^◌, List, [], ◌∷◌, ◌++◌, Some, None, refl, sym, ap, ◌∙◌, subst, append_assoc}
+use Rattle.std.proofs.Common.{◌≡◌, ℕ, List, [], ◌∷◌, ◌++◌, Some, None, refl, sym, ap, ◌∙◌, subst, append_assoc}
 use Rattle.hg_model.specs.declared.event.Named.{Named}
 use Rattle.hg_model.specs.Contents.{Content}
 use Rattle.hg_model.specs.Verdicts.{verdict, standing_of}
@@ -13,7 +13,7 @@ use Rattle.hg_disk.specs.declared.disk.Disk as disk
 use Rattle.hg_store.specs.declared.journal.Journal.{Journal}
 use Rattle.hg_store.specs.declared.journal.JournalReader.{JournalReader}
 use Rattle.hg_store.specs.Journal.{IsJournal}
-use Rattle.hg_store.specs.Reading.{IsAt, Keeps, Opens, disk_of}
+use Rattle.hg_store.specs.Reading.{IsAt, disk_of}
 use Rattle.hg_store.specs.Recovering.{Fills, IsAccepted, IsTooSmall}
 use Rattle.hg_store.specs.Store.{content_of, first_table}
 use Rattle.hg_store.proofs.Contents.{followed_append, followed_one}

@@ -1,5 +1,5 @@
 -- A run goes on by one step.
-use Rattle.std.proofs.Common.{◌≡◌, ◌⊎◌, inl, inr, ℕ, List, [], ◌∷◌, ◌++◌, Bool, true, false, Some, Ok, Err, refl, sym, ap, ◌∙◌, subst, arith, length, map, cond, ◌||◌, append_assoc}
+use Rattle.std.proofs.Common.{◌≡◌, inl, inr, List, [], ◌∷◌, ◌++◌, Bool, true, false, Some, Ok, Err, refl, sym, ap, ◌∙◌, subst, map, cond, ◌||◌, append_assoc}
 use Rattle.std.proofs.lemmas.List.{append-nil, map-append}
 use Rattle.hg_model.specs.declared.event.Named.{Named}
 use Rattle.hg_model.specs.declared.verdict.Refusal.{Refusal}
@@ -12,7 +12,7 @@ use Rattle.hg_store.specs.declared.steps.Step.{Step}
 use Rattle.hg_store.specs.declared.steps.Step.TheVariants.{Offer, Commit}
 use Rattle.hg_store.specs.declared.steps.StepResult.{StepResult}
 use Rattle.hg_store.specs.declared.steps.StepResult.TheVariants.{Offered, Committed}
-use Rattle.hg_store.specs.Images.{EachImage, HasContent, Image}
+use Rattle.hg_store.specs.Images.{EachImage, Image}
 use Rattle.hg_store.specs.Offers.{StepDone, durable_by, if_accepted, in_doubt_during}
 use Rattle.hg_store.specs.Runs.{Covered, DriveDone, IsAt, Lawful, Run, StandsFor, Told, accepted, before, begins, is_device_fault, run_after, run_of}
 use Rattle.hg_store.specs.Shown.{Shown}

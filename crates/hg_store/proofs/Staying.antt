@@ -1,11 +1,10 @@
 -- Devices whose images stay what they were.
-use Rattle.std.proofs.Common.{◌≡◌, ℕ, List}
 use Rattle.hg_disk.specs.State.{IsImage}
 use Rattle.hg_disk.specs.Moments.{LeavesOnly}
 use Rattle.hg_disk.specs.declared.disk.Disk as disk
 use Rattle.hg_disk.proofs.Moments.{at_end, joined, started, weaker}
 use Rattle.hg_store.specs.declared.devices.Devices.{Devices}
-use Rattle.hg_store.specs.Images.{EachImage, Image, IsLeft}
+use Rattle.hg_store.specs.Images.{EachImage, IsLeft}
 use Rattle.hg_store.specs.Recovering.{Stay}
 use Rattle.hg_store.proofs.Moments.{may_leave}
 

@@ -1,5 +1,5 @@
 -- What a crash may leave of the four devices of a store, and the content that it gives.
-use Rattle.std.specs.Prelude.{◌≡◌, ◌⊎◌, ◌+◌, ℕ, List, [], ◌∷◌, Some, length}
+use Rattle.std.specs.Prelude.{◌≡◌, ◌⊎◌, ◌+◌, ℕ, List, [], ◌∷◌, Some}
 use Rattle.hg_model.specs.declared.event.Named.{Named}
 use Rattle.hg_model.specs.Contents.{Content}
 use Rattle.hg_model.specs.Change.{followed, empty_content}

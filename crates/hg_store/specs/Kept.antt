@@ -16,4 +16,4 @@ pub record IsSound {D : Type 0} (g : disk.Ghosts D) (journal : Journal D g) (det
   pub room : 1024 ≤ vec_capacity pending
   pub count : (content_of detector).events ≡ durable + length pending.items
   pub works : broken ≡ false → is_broken journal ≡ false
-  pub keeps : IsTrue g.is_honest → broken ≡ false → (events : List Named) × Keeps journal events
+  pub keeps : IsTrue g.is_honest → broken ≡ false → (events : List Named) × Keeps journal events × (length events ≡ durable)

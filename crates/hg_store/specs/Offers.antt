@@ -1,5 +1,5 @@
 -- What one step does and answers.
-use Rattle.std.specs.Prelude.{◌≡◌, ◌⊎◌, ◌<◌, ◌≤◌, ◌++◌, ◌||◌, ◌+◌, ℕ, List, [], ◌∷◌, length, Bool, true, false, Some, Ok, Err, Result, nat_le, if◌then◌else◌, cond}
+use Rattle.std.specs.Prelude.{◌≡◌, ◌⊎◌, ◌++◌, ℕ, List, [], ◌∷◌, length, Bool, true, false, Some, Ok, Err, Result, nat_le, cond}
 use Rattle.hg_model.specs.declared.event.Named.{Named}
 use Rattle.hg_model.specs.declared.verdict.Verdict.{Verdict}
 use Rattle.hg_model.specs.declared.verdict.Verdict.TheVariants.{Accept, Duplicate as IsDuplicate, Refuse}
@@ -10,17 +10,13 @@ use Rattle.hg_model.specs.Verdicts.{verdict, standing_of}
 use Rattle.hg_model.specs.Change.{followed}
 use Rattle.hg_detect.specs.declared.detector.Answer.{Answer}
 use Rattle.hg_detect.specs.declared.detector.Answer.TheVariants.{Accepted, Duplicate}
-use Rattle.hg_detect.specs.Making.{AsksBy, sets_asked}
-use Rattle.hg_detect.specs.Answering.{done}
-use Rattle.hg_disk.specs.declared.disk.Disk as disk
 use Rattle.hg_store.specs.declared.steps.Step.{Step}
 use Rattle.hg_store.specs.declared.steps.Step.TheVariants.{Offer, Commit}
 use Rattle.hg_store.specs.declared.steps.StepResult.{StepResult}
 use Rattle.hg_store.specs.declared.steps.StepResult.TheVariants.{Offered, Committed}
-use Rattle.hg_store.specs.Images.{EachImage, failures_of}
 use Rattle.hg_store.specs.Journal.{failed_after}
 use Rattle.hg_store.specs.Shown.{Shown}
-use Rattle.hg_store.specs.Store.{content_of, Stands, Backs}
+use Rattle.hg_store.specs.Store.{content_of}
 
 -- What an offer may be answered by its verdict, with this many events pending.
 abbrev pub ByVerdict : Verdict → ℕ → Result Answer Refusal → Type 0

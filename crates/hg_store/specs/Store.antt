@@ -1,8 +1,7 @@
 -- What a store stands for.
-use Rattle.std.specs.Prelude.{◌≡◌, ◌⊎◌, ◌<◌, ◌≤◌, ◌∷◌, [], ℕ, Bool, true, false, List, length, Some, Result, Ok, Err}
-use Rattle.hg_model.specs.declared.event.Named.{Named}
+use Rattle.std.specs.Prelude.{◌≡◌, ◌⊎◌, ◌∷◌, [], ℕ, Bool, true, false, Some}
 use Rattle.hg_model.specs.Contents.{Content}
-use Rattle.hg_model.specs.Change.{followed, empty_content}
+use Rattle.hg_model.specs.Change.{followed}
 use Rattle.hg_disk.specs.declared.disk.Disk as disk
 use Rattle.hg_detect.specs.declared.detector.Detector.{Detector}
 use Rattle.hg_detect.specs.declared.paged.PagedWords.{PagedWords}
@@ -47,3 +46,13 @@ pub record IsFresh {D : Type 0} (g : disk.Ghosts D) (s : Shown D) (c : Content) 
   pub durable : s.durable ≡ c.events
   pub works : s.is_broken ≡ false
   pub backs : Backs g s c
+
+-- Only the journal was read.
+pub record SameButDevices {D : Type 0} (old new : Shown D) : Type 0 where
+  pub slots : new.devices.slots ≡ old.devices.slots
+  pub root0 : new.devices.root0 ≡ old.devices.root0
+  pub root1 : new.devices.root1 ≡ old.devices.root1
+  pub detector : new.detector ≡ old.detector
+  pub pending : new.pending ≡ old.pending
+  pub durable : new.durable ≡ old.durable
+  pub is_broken : new.is_broken ≡ old.is_broken

@@ -4,6 +4,7 @@
 //! closed and empty until there are any.
 #![tactic(auto)]
 
+mod collect;
 pub mod create;
 pub mod devices;
 pub mod drive;

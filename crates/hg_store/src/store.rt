@@ -1,6 +1,6 @@
 //! The store.
 
-ghost use Rattle.std.specs.Prelude.{◌≡◌, ◌⊎◌, ◌++◌, ◌∷◌, ◌≤◌, ◌+◌, ◌-◌, [], ℕ, List, Ok, Err, length, take, drop, map, false, true, IsTrue, OnOk, OnErr, IfOk, IfErr, cond};
+ghost use Rattle.std.specs.Prelude.{◌≡◌, ◌≢◌, ◌⊎◌, ◌++◌, ◌∷◌, ◌≤◌, ◌+◌, ◌-◌, [], ℕ, List, Ok, Err, length, take, drop, map, false, true, IsTrue, OnOk, OnErr, IfOk, IfErr, cond};
 ghost use Rattle.hg_model.specs.Contents.{Content};
 ghost use Rattle.hg_model.specs.Change.{empty_content};
 ghost use Rattle.hg_model.specs.Verdicts as rules;
@@ -8,10 +8,11 @@ ghost use Rattle.hg_model.specs.declared.event.Named.{Named as NamedOf};
 ghost use Rattle.hg_detect.specs.Answering.{done};
 ghost use Rattle.hg_detect.specs.Making.{AsksBy, sets_asked};
 ghost use Rattle.hg_store.specs.Images.{EachImage, IsLeft, failures_of, read_of};
-ghost use Rattle.hg_store.specs.Journal.{failed_after, IsJournal};
+ghost use Rattle.hg_store.specs.Journal.{IsJournal, IsOfReading, failed_after};
 ghost use Rattle.hg_store.specs.Offers.{CommitDone, OfferDone, StepDone, durable_after, durable_by, failed_by, in_doubt_during};
-ghost use Rattle.hg_store.specs.Store.{Backs, Stands, content_of};
+ghost use Rattle.hg_store.specs.Store.{Backs, SameButDevices, Stands, content_of};
 
+use crate::collect::collect;
 use crate::devices::Devices;
 use crate::journal::Journal;
 use crate::steps::{Phase, Step, StepResult};
@@ -196,6 +197,31 @@ impl<D: Disk> Store<D> {
             return Err(Refusal::Broken);
         }
         Ok(self.detector.segments())
+    }
+
+    /// Durable events of the journal, at most `max`, from the one numbered `from` on, where the first is number 1 (and 0 is
+    /// read as 1). It reads the journal from its beginning on, and takes memory for the answer and for one batch.
+    pub fn durable_events(
+        &mut self,
+        alloc: Global,
+        from: u64,
+        max: usize,
+    ) -> Result<Vec<Named>, Refusal>
+        ensures events { (events : List NamedOf) → IsTrue D.is_honest → IsJournal (D.state self.old.devices.journal).contents events
+            → IfOk result (λ found. found.items ≡ take max (drop (from - 1) events)) }
+        ensures whole { IsTrue D.is_honest → IfErr result (λ refusal. refusal ≢ Refusal.Damaged) }
+        ensures broken { IsTrue self.old.is_broken → (result ≡ Err Refusal.Broken) × (self.new ≡ self.old) }
+        ensures works { IfErr result (λ refusal. refusal ≡ Refusal.Broken → IsTrue self.old.is_broken) }
+        ensures refusal { IfErr result (λ refusal. IsOfReading refusal ⊎ (refusal ≡ Refusal.Broken)) }
+        ensures device { failures_of ⟦<D as Disk>⟧ self.new.devices ≡ failed_after result (failures_of ⟦<D as Disk>⟧ self.old.devices) }
+        ensures rest { SameButDevices self.old self.new }
+        ensures backs { (start : Content) → Backs ⟦<D as Disk>⟧ self.old start → Backs ⟦<D as Disk>⟧ self.new start }
+        ensures images { EachImage ⟦<D as Disk>⟧ self.old.devices self.new.devices (IsLeft ⟦<D as Disk>⟧ self.old.devices) }
+    {
+        if self.is_broken {
+            return Err(Refusal::Broken);
+        }
+        collect(&mut self.journal, alloc, self.durable, from, max)
     }
 
     /// The devices as they are. What was pending is lost.

@@ -1,4 +1,3 @@
-use Rattle.std.proofs.Common.{rules, ◌≡◌}
 use Rattle.hg_disk.proofs.Moments.{read_leaves}
 use Rattle.hg_store.proofs.recover.check_closed.Goals as goal
 

@@ -1,7 +1,5 @@
-use Rattle.std.proofs.Common.{rules, ◌≡◌, ◌++◌, ◌∷◌, [], List, ℕ, Some, sym, ◌∙◌, ap, subst}
+use Rattle.std.proofs.Common.{rules, sym, ◌∙◌, subst}
 use Rattle.hg_disk.specs.State.{DiskState}
-use Rattle.hg_model.specs.Contents.{Content}
-use Rattle.hg_model.specs.declared.event.Named.{Named}
 use Rattle.hg_store.specs.Journal.{IsJournal}
 use Rattle.hg_store.specs.Recovering.{IsTooSmall}
 use Rattle.hg_store.specs.Reading.{disk_of}

@@ -1,4 +1,3 @@
-use Rattle.std.proofs.Common.{rules, ◌≡◌}
 use Rattle.hg_store.proofs.Staying.{same, stay_then}
 use Rattle.hg_store.proofs.recover.settle.Goals as goal
 

@@ -1,4 +1,3 @@
-use Rattle.std.proofs.Common.{rules, ◌≡◌, sym, ◌∙◌, ap, refl}
 use Rattle.hg_disk.proofs.Moments.{sync_leaves}
 use Rattle.hg_store.proofs.Staying.{same}
 use Rattle.hg_store.proofs.recover.sync_all.Goals as goal

@@ -1,10 +1,8 @@
-use Rattle.std.proofs.Common.{rules, Some, ◌≡◌, ℕ, List, ◌++◌, [], ◌∷◌, sym, ◌∙◌, ap, arith, true, false, refl}
-use Rattle.hg_model.specs.declared.event.Named.{Named}
-use Rattle.hg_model.specs.Contents.{Content}
+use Rattle.std.proofs.Common.{rules, ◌≡◌, ◌++◌, true, refl}
 use Rattle.hg_store.specs.Shown.{Shown}
 use Rattle.hg_store.specs.Reading.{disk_of}
-use Rattle.hg_store.specs.Store.{Backs, content_of}
 use Rattle.hg_store.proofs.Journals.{one_reading}
+use Rattle.hg_store.proofs.Contents.{counted_both}
 use Rattle.hg_store.proofs.Journaling.{bytes_now}
 use Rattle.hg_store.proofs.Stores.{images_stand, during_commit, kept_broken, kept_committed}
 use Rattle.hg_store.proofs.store.Store.commit.Goals as goal
@@ -25,7 +23,7 @@ invariant_of-self g c = record {
   keeps = λ honest works.
       let k = c.self.invariant.keeps honest (search rules) in
       let same : c.deref.result.now ≡ c.self.inside.pending.items = search rules in
-      (k.0 ++ c.self.inside.pending.items, rw same at (c.in-Ok.ensures.added k.0 k.1));
+      (k.0 ++ c.self.inside.pending.items, rw same at (c.in-Ok.ensures.added k.0 k.1), counted_both k.0 c.self.inside.pending.items c.self.inside.durable _ k.2 (search rules));
 }
 
 pub returns-in-Ok-clause-images : goal.returns-in-Ok-clause-images

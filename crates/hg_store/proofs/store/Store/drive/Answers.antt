@@ -1,9 +1,9 @@
-use Rattle.std.proofs.Common.{rules, ◌≡◌, ◌+◌, ◌++◌, ◌∷◌, [], ℕ, List, length, refl, sym, ap, ◌∙◌, arith, take, get_or}
+use Rattle.std.proofs.Common.{rules, ◌+◌, ◌++◌, ◌∷◌, [], ℕ, List, refl, sym, ap, take, get_or}
 use Rattle.std.proofs.lemmas.List.{take_more, take_all}
 use Rattle.hg_model.specs.declared.event.Event.TheVariants.{Fork}
 use Rattle.hg_store.specs.declared.steps.Step.{Step}
 use Rattle.hg_store.specs.declared.steps.Step.TheVariants.{Offer}
-use Rattle.hg_store.proofs.Runs.{drive_turn, drive_none}
+use Rattle.hg_store.proofs.Runs.{drive_turn}
 use Rattle.hg_store.proofs.store.Store.drive.Goals as goal
 
 pub loop-step-preserved : goal.loop-step-preserved

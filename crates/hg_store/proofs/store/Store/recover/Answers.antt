@@ -1,11 +1,11 @@
-use Rattle.std.proofs.Common.{rules, ◌≡◌, ℕ, List, [], ◌∷◌, sym, ◌∙◌, ap, subst, refl, arith}
+use Rattle.std.proofs.Common.{rules, ℕ, List, sym, ◌∙◌, ap, subst, refl}
 use Rattle.hg_disk.specs.State.{DiskState}
 use Rattle.hg_gate.specs.Batches.{IsClosed}
-use Rattle.hg_model.specs.declared.event.Named.{Named}
 use Rattle.hg_store.specs.Journal.{IsJournal}
 use Rattle.hg_store.specs.Recovering.{IsTooSmall}
 use Rattle.hg_store.specs.Reading.{disk_of}
 use Rattle.hg_store.specs.Store.{content_of}
+use Rattle.hg_store.proofs.Contents.{counted_all}
 use Rattle.hg_store.proofs.Journaling.{bytes_now, each_image_has}
 use Rattle.hg_store.proofs.Making.{fresh, settled_leaves, settled_reads, settled_self}
 use Rattle.hg_store.proofs.Staying.{same, stay_images, stay_then, then}
@@ -47,7 +47,7 @@ invariant_of-result g c = record {
       let self = settled_self _ _ c.in-Ok.ensures.settled.journal in
       let opens = c.in-Ok-attach.ensures.opens honest self in
       let done = c.in-Ok-replay.ensures.replayed opens.0 honest opens.1 in
-      (done.0, done.1);
+      (done.0, done.1, counted_all done.0 (content_of c.replay.new.detector) _ done.2 (search rules));
 }
 
 pub returns-in-Ok-replay-clause-images : goal.returns-in-Ok-replay-clause-images
