@@ -1,3 +1,8 @@
+mod Causes
+mod FeedDone
+mod FeedPieces
+mod FeedSteps
+mod FeedUnderway
 mod Pieces
 mod Printed
 mod Steps

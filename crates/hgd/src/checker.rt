@@ -48,7 +48,7 @@ fn offer(detector: &mut MemoryDetector, event: Event) -> Result<Answer, Refusal>
 }
 
 /// How a refusal ends the run: want of memory is a fault, any other cause is the line's.
-fn stop(line: u64, refusal: Refusal) -> Result<Option<Ending>, Refusal>
+pub(crate) fn stop(line: u64, refusal: Refusal) -> Result<Option<Ending>, Refusal>
     ensures { Stops line refusal result }
 {
     match refusal {

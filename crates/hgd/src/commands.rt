@@ -109,7 +109,7 @@ fn print_graph<R: Read, W: Write>(
 }
 
 /// The status of a run that had no fault: 0 where it came to the end of its input, and 2 where a line was refused or bad.
-fn status_of_end(end: Ending) -> u8
+pub(crate) fn status_of_end(end: Ending) -> u8
     ensures { result ≡ status_of end }
 {
     match end {

@@ -27,7 +27,7 @@ pub fn out_of_memory(_: AllocError) -> Refusal
 }
 
 /// Holds the line of the report that is kept as number `k`, from 1 on.
-fn hold_report(k: u64, report: &Report, held: &mut Vec<u8>) -> Result<(), Refusal>
+pub(crate) fn hold_report(k: u64, report: &Report, held: &mut Vec<u8>) -> Result<(), Refusal>
     ensures ok { OnOk result (held.new.items ≡ held.old.items ++ line_text (report_line k report.now)) }
     ensures cause { IfErr result (λ r. r ≡ Refusal.OutOfMemory) }
 {
@@ -64,7 +64,10 @@ fn hold_segment(number: u64, segment: &Segment, held: &mut Vec<u8>) -> Result<()
 }
 
 /// Writes what is held, where it is much.
-fn write_large<W: Write>(held: &mut Vec<u8>, output: &mut Watched<W>) -> Result<(), Refusal>
+pub(crate) fn write_large<W: Write>(
+    held: &mut Vec<u8>,
+    output: &mut Watched<W>,
+) -> Result<(), Refusal>
     ensures printed { (first : Option (List ℕ)) (rest goal : List ℕ) → IsDue first (W.contents output.old.stream) held.old.items rest goal
         → OnOk result (IsDue first (W.contents output.new.stream) held.new.items rest goal) }
     ensures cause { IfErr result (λ r. r ≡ Refusal.DeviceFault) }

@@ -23,7 +23,7 @@ use std::io::{Read, Write};
 const PIECE: usize = 65_536;
 
 /// After how many reads an input counts as failed.
-const MOST_READS: u64 = 1 << 32;
+pub(crate) const MOST_READS: u64 = 1 << 32;
 
 /// What a read came to.
 #[derive(Clone, Copy, Drop)]
@@ -37,7 +37,7 @@ enum Progress {
 }
 
 /// A reader at the start of a trace text.
-fn reader_at_start(alloc: Global) -> Result<EventReader, Refusal>
+pub(crate) fn reader_at_start(alloc: Global) -> Result<EventReader, Refusal>
     ensures start { IfOk result (λ reader. reader ≡ at_start) }
     ensures cause { IfErr result (λ r. r ≡ Refusal.OutOfMemory) }
 {
@@ -45,7 +45,7 @@ fn reader_at_start(alloc: Global) -> Result<EventReader, Refusal>
 }
 
 /// Room for a piece.
-fn piece_buffer(alloc: Global) -> Result<Vec<u8>, Refusal>
+pub(crate) fn piece_buffer(alloc: Global) -> Result<Vec<u8>, Refusal>
     ensures size { IfOk result (λ buffer. length buffer.items ≡ 65536) }
     ensures cause { IfErr result (λ r. r ≡ Refusal.OutOfMemory) }
 {

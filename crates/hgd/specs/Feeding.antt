@@ -1,0 +1,63 @@
+-- What feeding a trace text to a store leads to, and what is printed of it.
+use Rattle.std.specs.Prelude.{◌≡◌, ◌⊎◌, ℕ, zero, suc, ◌+◌, ◌-◌, ◌%◌, nat_eq, List, [], ◌∷◌, ◌++◌, Some, Result, Ok, Err, codes, if◌then◌else◌}
+use Rattle.hg_model.specs.declared.event.Event.{Event}
+use Rattle.hg_model.specs.declared.event.Named.{Named}
+use Rattle.hg_model.specs.declared.verdict.Refusal.TheVariants.{FullSets}
+use Rattle.hg_model.specs.declared.verdict.Verdict.{Verdict}
+use Rattle.hg_model.specs.declared.verdict.Verdict.TheVariants.{Accept, Duplicate, Refuse}
+use Rattle.hg_model.specs.Contents.{Content}
+use Rattle.hg_model.specs.Change.{after}
+use Rattle.hg_model.specs.Verdicts.{verdict, standing_of}
+use Rattle.hg_sets.specs.Interning.{Table}
+use Rattle.hg_sets.specs.declared.fault.SetFault.TheVariants.{Full}
+use Rattle.hg_wire.specs.declared.line.LineFault.{LineFault}
+use Rattle.hg_wire.specs.declared.reader.Reading.{Reading}
+use Rattle.hg_detect.specs.Making.{Asks, sets_asked}
+use Rattle.hgd.specs.declared.checker.Ending.{Ending}
+use Rattle.hgd.specs.declared.checker.Ending.TheVariants.{Ended, Refused, Bad}
+use Rattle.hgd.specs.Printing.{line_text, stop_text}
+use Rattle.hgd.specs.Storing.{number_text, store_end_line}
+
+-- the event of the line that follows so many others, as its source sent it
+abbrev pub sent : ℕ → ℕ → Event → Named
+sent source lines e = record { source = source; number = lines + 1; event = e }
+
+-- a table of sets has no room for those that the event asks for
+abbrev pub FillsATable : Content → Event → Type 0
+FillsATable c e = (table : Table) × (left : Table) × Asks table (sets_asked c e) (Some Full) left
+
+-- An event that is accepted leads on from the content after it, unless a table of sets is full; one that was sent before is
+-- passed over; and one that the rules refuse ends the feeding.
+abbrev pub Answers : Verdict → Content → Named → ℕ → (Content → Type 0) → Content → Ending → Type 0
+Answers Accept c n line later last end = later (after c n) ⊎ ((last ≡ c) × (end ≡ Refused line FullSets) × FillsATable c n.event)
+Answers (Duplicate k) c n line later last end = later c
+Answers (Refuse r) c n line later last end = (last ≡ c) × (end ≡ Refused line r)
+
+abbrev pub IsOffered : Result Event LineFault → ℕ → Content → ℕ → ℕ → (Content → Type 0) → Content → Ending → Type 0
+IsOffered (Err fault) source c lines line later last end = (last ≡ c) × (end ≡ Bad line)
+IsOffered (Ok e) source c lines line later last end = Answers (verdict (standing_of c) (sent source lines e)) c (sent source lines e) line later last end
+
+-- From this content, and after so many event lines, the readings of a source lead to the last content and the ending.
+abbrev pub FeedsTo : ℕ → List Reading → Content → ℕ → Content → Ending → Type 0
+FeedsTo source [] c lines last end = (last ≡ c) × (end ≡ Ended)
+FeedsTo source (r ∷ later) c lines last end = IsOffered r.event source c lines r.line (λ d. FeedsTo source later d (lines + 1) last end) last end
+
+-- the line of a commit that made so many events durable
+abbrev pub ack_text : ℕ → List ℕ
+ack_text events = number_text (codes "ack ") events
+
+-- while so many events were accepted, of a store that had some: a line after each 256th of them
+abbrev pub acks_text : ℕ → ℕ → List ℕ
+acks_text events zero = []
+acks_text events (suc n) = acks_text events n ++ (if nat_eq (suc n % 256) 0 then ack_text (events + suc n) else [])
+
+-- the last line
+abbrev pub feed_end_text : Content → Ending → List ℕ
+feed_end_text last Ended = line_text (store_end_line last)
+feed_end_text last (Refused line refusal) = stop_text (Refused line refusal)
+feed_end_text last (Bad line) = stop_text (Bad line)
+
+-- What `feed` prints from the content that it recovered to its last one.
+abbrev pub feed_text : ℕ → Content → Content → Ending → List ℕ
+feed_text source first last end =
+    ((number_text (codes "resume ") (first.last source) ++ acks_text first.events (last.events - first.events)) ++ ack_text last.events) ++ feed_end_text last end
