@@ -26,6 +26,7 @@ test:
 
 bench: build/hgd
 	bench/compare
+	bench/store
 
 # The bench's own programs, for the processors that `rt` builds for.
 RUSTC := rustc --edition 2021 -C opt-level=3 -C codegen-units=1 -C panic=abort -C target-cpu=x86-64-v2
