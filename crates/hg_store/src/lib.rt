@@ -13,3 +13,5 @@ pub mod laws;
 pub mod recover;
 pub mod steps;
 pub mod store;
+#[cfg(test)]
+mod tests;
