@@ -53,6 +53,10 @@ module _ {D : Type 0} (g : disk.Ghosts D) where
   certain d live broken image works (inl is) = is
   certain d live broken image works (inr b) = absurd (false≢true (sym works ∙ b.0))
 
+  pub fresh_is_left : (s : Shown D) (c : Content) (new : Devices D) (image : Image) → IsFresh g s c → new ≡ s.devices → IsLeft g new image → HasContent image c
+  fresh_is_left s c new image fresh is left =
+      certain c (content_of s.detector) s.is_broken image fresh.works (fresh.backs.stands image (subst (λ (d : Devices D). IsLeft g d image) is left))
+
   pub feed_done : (known : Option (List ℕ)) (source : ℕ) (old new : Devices D) (s u : Shown D) (o v : Option (List ℕ)) (end : Ending)
       → (IsTrue g.is_honest → (c : Content) × HasContent (read_of g old) c × IsFresh g s c) → failures_of g s.devices ≡ failures_of g old → WasFed g known source s u o v end → new ≡ u.devices
       → FeedDone g known source old new o v end

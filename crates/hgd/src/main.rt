@@ -11,6 +11,8 @@ pub mod run;
 pub mod store_commands;
 pub mod streams;
 pub mod telling;
+#[cfg(test)]
+mod tests;
 
 ghost use Rattle.std.specs.Prelude.{◌≡◌, ◌⊎◌, ◌≤◌};
 

@@ -4,7 +4,7 @@ ghost use Rattle.std.specs.Prelude.{◌≡◌, ◌⊎◌, ◌++◌, ◌+◌, ◌
 ghost use Rattle.std.specs.Io.KnownBytes.{Appends, Keeps};
 ghost use Rattle.hg_model.specs.Change.{empty_content};
 ghost use Rattle.hg_model.specs.Contents.{Content};
-ghost use Rattle.hg_store.specs.Images.{EachImage, HasContent, IsLeft, failures_of, read_of};
+ghost use Rattle.hg_store.specs.Images.{EachImage, HasContent, Image, IsLeft, failures_of, read_of};
 ghost use Rattle.hg_store.specs.Recovering.{IsEmpty, empty_image, made_of};
 ghost use Rattle.hg_store.specs.Store.{IsFresh, content_of};
 ghost use Rattle.hgd.specs.Printing.{IsDue, line_text, reports_text, segments_text};
@@ -248,6 +248,7 @@ fn make_and_say<D: Disk, W: Write>(
     output: &mut Watched<W>,
 ) -> (Result<u8, Refusal>, Devices<D>)
     ensures status { IfOk result.0 (λ s. (s ≡ 0) ⊎ (s ≡ 2)) }
+    ensures durable { result.0 ≡ Ok 0 → (image : Image) → IsLeft ⟦<D as Disk>⟧ result.1 image → HasContent image empty_content }
     ensures created { result.0 ≡ Ok 0 → IsEmpty ⟦<D as Disk>⟧ devices × (read_of ⟦<D as Disk>⟧ result.1 ≡ empty_image)
         × Appends (W.contents output.old.stream) (W.contents output.new.stream) (codes "created\n") }
     ensures not_empty { result.0 ≡ Ok 2 → ¬ IsEmpty ⟦<D as Disk>⟧ devices × (result.1 ≡ devices)
@@ -268,7 +269,8 @@ fn make_and_say<D: Disk, W: Write>(
     }
 }
 
-/// Makes a store of no events on the devices. Answers the status and the devices: 0; 2 where a device has bytes, and
+/// Makes a store of no events on the devices. Answers the status and the devices: 0, and any crash from then on leaves such a
+/// store; 2 where a device has bytes, and
 /// nothing is changed; or 3 where a device or the output failed, or memory was refused, which is told on `faults`.
 pub fn create_store<D: Disk, W: Write, V: Write>(
     alloc: Global,
@@ -277,6 +279,7 @@ pub fn create_store<D: Disk, W: Write, V: Write>(
     faults: &mut Watched<V>,
 ) -> (u8, Devices<D>)
     ensures status { (result.0 ≡ 0) ⊎ ((result.0 ≡ 2) ⊎ (result.0 ≡ 3)) }
+    ensures durable { result.0 ≡ 0 → (image : Image) → IsLeft ⟦<D as Disk>⟧ result.1 image → HasContent image empty_content }
     ensures created { result.0 ≡ 0 → IsEmpty ⟦<D as Disk>⟧ devices × (read_of ⟦<D as Disk>⟧ result.1 ≡ empty_image)
         × Appends (W.contents output.old.stream) (W.contents output.new.stream) (codes "created\n") }
     ensures not_empty { result.0 ≡ 2 → ¬ IsEmpty ⟦<D as Disk>⟧ devices × (result.1 ≡ devices)
