@@ -1,15 +1,12 @@
 //! Stores over disks in memory, with what the rules and the formats give for them by hand.
-//!
-//! `keeps_going_without_memory` passes too where any one allocation is refused (`rt try --test --fail-alloc N`).
 ghost use Rattle.std.specs.Prelude.{◌≤◌, ◌<◌};
 
-use crate::create::CreateFault;
 use crate::devices::{Caps, Devices};
 use crate::laws::{content_is_unique, prefix_is_summed, remaining_give_the_same};
 use crate::steps::{Phase, Step, StepResult};
 use crate::store::Store;
 use hg_detect::detector::Answer;
-use hg_disk::{Disk, FuseDisk, MemDisk, Tear};
+use hg_disk::{Disk, MemDisk, Tear};
 use hg_model::event::{Access, Event, Named};
 use hg_model::report::Report;
 use hg_model::segment::Segment;
@@ -32,17 +29,6 @@ const ONE_EVENT: [u8; 29] = [
     1, 1, 0, 0, 0, 1, 0x5A,
 ];
 
-/// Tears other than those in the middle of a write.
-const TEARS: [Tear; 7] = [
-    Tear::Lost,
-    Tear::Kept,
-    Tear::Fill(0),
-    Tear::Fill(1),
-    Tear::Fill(0x5A),
-    Tear::Fill(0xA5),
-    Tear::Fill(0xFF),
-];
-
 /// A report that is expected: its event, whether it writes, its thread, the address of its word, its threads.
 #[derive(Drop)]
 struct Race<'a>(u64, bool, u16, u64, &'a [u16]);
@@ -57,10 +43,6 @@ fn named(source: u16, number: u64, event: Event) -> Named {
 
 fn fork(p: u16, c: u16) -> Event {
     Event::Fork { p, c }
-}
-
-fn join(p: u16, c: u16) -> Event {
-    Event::Join { p, c }
 }
 
 fn lock(t: u16, l: u16) -> Event {
@@ -112,28 +94,6 @@ fn empty_devices(alloc: Global) -> Devices<MemDisk> {
         slots: MemDisk::new(alloc),
         root0: MemDisk::new(alloc),
         root1: MemDisk::new(alloc),
-    }
-}
-
-/// Disks of which that of the journal fails at its k-th call.
-fn failing_devices(alloc: Global, k: u64) -> Devices<FuseDisk<MemDisk>>
-    requires { 0 < k }
-{
-    Devices {
-        journal: FuseDisk::once(MemDisk::new(alloc), k),
-        slots: FuseDisk::once(MemDisk::new(alloc), u64::MAX),
-        root0: FuseDisk::once(MemDisk::new(alloc), u64::MAX),
-        root1: FuseDisk::once(MemDisk::new(alloc), u64::MAX),
-    }
-}
-
-/// Those disks, failing no more.
-fn mended(devices: Devices<FuseDisk<MemDisk>>) -> Devices<MemDisk> {
-    Devices {
-        journal: devices.journal.into_inner(),
-        slots: devices.slots.into_inner(),
-        root0: devices.root0.into_inner(),
-        root1: devices.root1.into_inner(),
     }
 }
 
@@ -239,35 +199,6 @@ fn a_commit_leaves_the_bytes_of_the_format(rt: HostRuntime) -> Result<(), Fail> 
     Ok(())
 }
 
-/// Whether a store is refused over disks with a byte, which stay as they are.
-fn is_refused_over(
-    alloc: Global,
-    journal: &[u8],
-    root0: &[u8],
-    root1: &[u8],
-) -> Result<bool, Fail> {
-    let devices = devices_of(alloc, journal, root0, root1)?;
-    match Store::create(alloc, devices, 4, CAPS) {
-        Ok(_) => Ok(false),
-        Err((fault, devices)) => Ok(
-            fault == CreateFault::NotEmpty
-                && devices.journal.bytes() == journal
-                && devices.root0.bytes() == root0
-                && devices.root1.bytes() == root1
-                && devices.journal.calls().is_empty(),
-        ),
-    }
-}
-
-#[test]
-fn a_device_with_a_byte_is_not_empty(rt: HostRuntime) -> Result<(), Fail> {
-    let alloc = rt.alloc();
-    assert!(rt; is_refused_over(alloc, b"\x07", b"", b"")?);
-    assert!(rt; is_refused_over(alloc, b"", b"\x07", b"")?);
-    assert!(rt; is_refused_over(alloc, b"", b"", b"\x07")?);
-    Ok(())
-}
-
 /// The disks as they may be found after the first `k` calls of the journal's.
 fn torn(
     alloc: Global,
@@ -339,33 +270,53 @@ fn a_stop_leaves_the_events_of_one_commit_or_of_both(rt: HostRuntime) -> Result<
     compare_stops(&rt, alloc, &devices)
 }
 
-#[test]
-fn at_most_1024_events_wait(rt: HostRuntime) -> Result<(), Fail> {
-    let alloc = rt.alloc();
-    let mut store = create(alloc, empty_devices(alloc))?;
+/// Offers 1,024 events, which are accepted.
+fn fill(rt: &impl Abort, store: &mut Store<MemDisk>) {
     for number in 1..=1_024 {
-        accept(&rt, &mut store, &[named(3, number, write(0, 0x1000, 4))]);
+        accept(rt, store, &[named(3, number, write(0, 0x1000, 4))]);
     }
-    let next = named(3, 1_025, write(0, 0x1000, 4));
-    let before = picture_of(&store);
-    assert_eq!(rt; store.offer(&next), Err(Refusal::FullPending));
+}
+
+/// Sees what a full store answers, and that it stays as it is.
+fn compare_full(rt: &impl Abort, store: &mut Store<MemDisk>) {
+    let before = picture_of(store);
+    assert_eq!(rt;
+        store.offer(&named(3, 1_025, write(0, 0x1000, 4))),
+        Err(Refusal::FullPending)
+    );
     assert_eq!(rt; Refusal::FullPending.code(), 18);
-    for (number, want) in [
-        (1_024, Ok(Answer::Duplicate(1_024))),
-        (1_026, Err(Refusal::Gap(1_025))),
-    ] {
-        assert_eq!(rt; store.offer(&named(3, number, fork(0, 1))), want);
-    }
+    assert_eq!(rt;
+        store.offer(&named(3, 1_024, fork(0, 1))),
+        Ok(Answer::Duplicate(1_024))
+    );
+    assert_eq!(rt;
+        store.offer(&named(3, 1_026, fork(0, 1))),
+        Err(Refusal::Gap(1_025))
+    );
     assert_eq!(rt;
         store.offer(&named(3, 1_025, fork(1, 2))),
         Err(Refusal::NoThread)
     );
-    assert_eq!(rt; picture_of(&store), before);
+    assert_eq!(rt; picture_of(store), before);
+}
+
+/// Commits a full store, after which there is room again.
+fn commit_full(rt: &impl Abort, store: &mut Store<MemDisk>) {
     assert_eq!(rt; store.commit(), Ok(1_024));
-    assert_eq!(rt; store.offer(&next), Ok(Answer::Accepted));
+    assert_eq!(rt;
+        store.offer(&named(3, 1_025, write(0, 0x1000, 4))),
+        Ok(Answer::Accepted)
+    );
     assert_eq!(rt; store.commit(), Ok(1_025));
-    let store = recover(alloc, store.into_devices())?;
-    assert_eq!(rt; store.events(), Ok(1_025));
+}
+
+#[test]
+fn at_most_1024_events_wait(rt: HostRuntime) -> Result<(), Fail> {
+    let alloc = rt.alloc();
+    let mut store = create(alloc, empty_devices(alloc))?;
+    fill(&rt, &mut store);
+    compare_full(&rt, &mut store);
+    commit_full(&rt, &mut store);
     Ok(())
 }
 
@@ -420,25 +371,26 @@ fn a_run_answers_each_step(rt: HostRuntime) -> Result<(), Fail> {
     compare_runs(&rt, alloc, &mut store, &steps)
 }
 
-#[test]
-fn a_table_too_small_is_told(rt: HostRuntime) -> Result<(), Fail> {
-    let alloc = rt.alloc();
+/// The devices of a store with three events and a race.
+fn race_devices(rt: &impl Abort, alloc: Global) -> Result<Devices<MemDisk>, Fail> {
     let mut store = create(alloc, empty_devices(alloc))?;
     let events = [
         named(3, 1, fork(0, 1)),
         named(3, 2, write(0, 0x1000, 4)),
         named(3, 3, write(1, 0x1000, 4)),
     ];
-    accept(&rt, &mut store, &events);
+    accept(rt, &mut store, &events);
     assert_eq!(rt; store.commit(), Ok(3));
-    let devices = store.into_devices();
-    let bytes = Vec::from_slice(alloc, devices.journal.bytes())?;
-    let (refusal, devices) = refusal_of(alloc, devices, 1)?;
+    Ok(store.into_devices())
+}
+
+#[test]
+fn a_table_too_small_is_told(rt: HostRuntime) -> Result<(), Fail> {
+    let alloc = rt.alloc();
+    let (refusal, devices) = refusal_of(alloc, race_devices(&rt, alloc)?, 1)?;
     assert_eq!(rt; refusal, Refusal::FullSets);
-    assert_eq!(rt; devices.journal.bytes(), bytes.as_slice());
+    assert_eq!(rt; devices.journal.bytes().len(), 73);
     assert_eq!(rt; devices.root0.bytes(), b"\x5A".as_slice());
-    let store = recover(alloc, devices)?;
-    assert_eq!(rt; store.total(), Ok(1));
     Ok(())
 }
 
@@ -475,109 +427,6 @@ fn damage_is_told_and_changes_nothing(rt: HostRuntime) -> Result<(), Fail> {
     Ok(())
 }
 
-#[test]
-fn a_gate_that_is_not_open_is_closed(rt: HostRuntime) -> Result<(), Fail> {
-    let alloc = rt.alloc();
-    let mut closed = ONE_EVENT;
-    closed[8] = 0;
-    for (journal, root, want) in [
-        (closed.as_slice(), b"\x5A".as_slice(), 0),
-        (&NO_EVENT, b"\0more", 0),
-        (&ONE_EVENT, b"\xFF", 1),
-    ] {
-        let store = recover(alloc, devices_of(alloc, journal, root, root)?)?;
-        assert_eq!(rt; store.events(), Ok(want));
-        assert_eq!(rt; store.durable(), Ok(want));
-        assert_eq!(rt; store.last(3), Ok(want));
-    }
-    Ok(())
-}
-
-/// Each call of a broken store says so.
-fn compare_broken(rt: &impl Abort, alloc: Global, store: &mut Store<FuseDisk<MemDisk>>) {
-    let again = named(3, 1, fork(0, 1));
-    assert_eq!(rt; store.offer(&again), Err(Refusal::Broken));
-    assert_eq!(rt; store.commit(), Err(Refusal::Broken));
-    assert_eq!(rt; store.events(), Err(Refusal::Broken));
-    assert_eq!(rt; store.durable(), Err(Refusal::Broken));
-    assert_eq!(rt; store.last(3), Err(Refusal::Broken));
-    assert_eq!(rt; store.total(), Err(Refusal::Broken));
-    assert_eq!(rt; store.phase(), Err(Refusal::Broken));
-    assert!(rt; matches!(store.reports(alloc), Err(Refusal::Broken)));
-    assert!(rt; matches!(store.graph(), Err(Refusal::Broken)));
-    assert_eq!(rt;
-        store.step(&Step::Commit),
-        StepResult::Committed(Err(Refusal::Broken))
-    );
-    assert!(rt;
-        matches!(
-            store.drive(alloc, &[Step::Commit], &Step::Offer(again)),
-            Err(Refusal::Broken)
-        )
-    );
-}
-
-#[test]
-fn a_commit_that_failed_breaks_the_store(rt: HostRuntime) -> Result<(), Fail> {
-    let alloc = rt.alloc();
-    for (k, want) in [(7, 1), (8, 1), (9, 1), (10, 3)] {
-        let mut store = create(alloc, failing_devices(alloc, k))?;
-        accept(&rt, &mut store, &[named(3, 1, fork(0, 1))]);
-        assert_eq!(rt; store.commit(), Ok(1));
-        let more = [
-            named(3, 2, write(0, 0x1000, 4)),
-            named(5, 1, write(1, 0x1000, 4)),
-        ];
-        accept(&rt, &mut store, &more);
-        assert_eq!(rt; store.commit(), Err(Refusal::DeviceFault));
-        compare_broken(&rt, alloc, &mut store);
-        let store = recover(alloc, mended(store.into_devices()))?;
-        assert_eq!(rt; store.events(), Ok(want), "{k}");
-        assert_eq!(rt; store.durable(), Ok(want), "{k}");
-        assert_eq!(rt; store.phase(), Ok(Phase::Idle));
-    }
-    Ok(())
-}
-
-#[test]
-fn a_making_that_failed_hands_the_devices_back(rt: HostRuntime) -> Result<(), Fail> {
-    let alloc = rt.alloc();
-    for k in 1..=2 {
-        let Err((fault, devices)) = Store::create(alloc, failing_devices(alloc, k), 4, CAPS) else {
-            return Err(Fail::new("a store made"));
-        };
-        assert_eq!(rt; fault, CreateFault::Refused(Refusal::DeviceFault));
-        assert_eq!(rt; devices.root1.len(), 1);
-    }
-    Ok(())
-}
-
-#[test]
-fn a_recovery_that_failed_can_be_made_again(rt: HostRuntime) -> Result<(), Fail> {
-    let alloc = rt.alloc();
-    let mut failed = 0;
-    for k in 1..=12 {
-        let whole = devices_of(alloc, &ONE_EVENT, b"\x5A", b"\x5A")?;
-        let devices = Devices {
-            journal: FuseDisk::once(whole.journal, k),
-            slots: FuseDisk::once(whole.slots, u64::MAX),
-            root0: FuseDisk::once(whole.root0, u64::MAX),
-            root1: FuseDisk::once(whole.root1, u64::MAX),
-        };
-        match Store::recover(alloc, devices, 4, CAPS) {
-            Ok(store) => assert_eq!(rt; store.events(), Ok(1)),
-            Err((refusal, devices)) => {
-                failed += 1;
-                assert_eq!(rt; refusal, Refusal::DeviceFault);
-                let store = recover(alloc, devices)?;
-                assert_eq!(rt; store.events(), Ok(1));
-            }
-        }
-    }
-    assert_eq!(rt; failed, 7);
-    Ok(())
-}
-
 /// Twelve events of two sources. After each fourth one there is a commit.
 fn twelve_events() -> [Named; 12] {
     [
@@ -594,226 +443,6 @@ fn twelve_events() -> [Named; 12] {
         named(3, 6, rdlock(2, 9)),
         named(3, 7, write(2, 0x2004, 2)),
     ]
-}
-
-/// The last numbers of the sources 3 and 5 among the first 0, 1, .. of those events.
-const LAST: [[u64; 2]; 13] = [
-    [0, 0],
-    [1, 0],
-    [1, 1],
-    [2, 1],
-    [3, 1],
-    [3, 2],
-    [3, 3],
-    [4, 3],
-    [5, 3],
-    [5, 4],
-    [5, 5],
-    [6, 5],
-    [7, 5],
-];
-
-/// Sees that a store has the content of those twelve events.
-fn compare_twelve<D: Disk>(rt: &impl Abort, alloc: Global, store: &Store<D>) -> Result<(), Fail> {
-    let want = Picture {
-        phase: Phase::Idle,
-        events: 12,
-        durable: 12,
-        last: [7, 5],
-        total: 2,
-        segments: 5,
-    };
-    assert_eq!(rt; picture_of(store), Ok(want));
-    let races: [Race; 2] = [
-        Race(3, true, 1, 0x1000, &[0, 1]),
-        Race(12, true, 2, 0x2004, &[1, 2]),
-    ];
-    let reports = match store.reports(alloc) {
-        Ok(reports) => reports,
-        Err(_) => store.reports(alloc)?,
-    };
-    compare_reports(rt, &reports, &races);
-    let segments: [(u16, &[u32]); 5] = [(0, &[]), (1, &[0]), (0, &[0]), (2, &[2]), (0, &[2])];
-    compare_segments(rt, store.graph()?, &segments);
-    Ok(())
-}
-
-/// Offers all twelve events to a store that has the first so many, and commits.
-fn go_on<D: Disk>(rt: &impl Abort, store: &mut Store<D>, count: usize) -> Result<(), Fail> {
-    for (i, event) in twelve_events().iter().enumerate() {
-        let last = LAST[count.min(12)];
-        let want = if i < count {
-            Answer::Duplicate(last[usize::from(event.source != 3)])
-        } else {
-            Answer::Accepted
-        };
-        assert_eq!(rt; store.offer(event), Ok(want), "{count} {i}");
-    }
-    assert_eq!(rt; store.commit(), Ok(12));
-    Ok(())
-}
-
-/// Sees that a store has the acknowledged events or, where it may, those of the next commit too, and goes on to the end.
-fn go_to_the_end<D: Disk>(
-    rt: &impl Abort,
-    alloc: Global,
-    store: &mut Store<D>,
-    acknowledged: usize,
-    in_doubt: bool,
-) -> Result<usize, Fail> {
-    let count = store.events()? as usize;
-    assert!(rt; count == acknowledged || (in_doubt && count == acknowledged.wrapping_add(4)));
-    go_on(rt, store, count)?;
-    compare_twelve(rt, alloc, store)?;
-    Ok(count)
-}
-
-/// Recovers, goes on to the end, and tells how many events there were before.
-fn recover_and_go_on(
-    rt: &impl Abort,
-    alloc: Global,
-    devices: Devices<MemDisk>,
-    acknowledged: usize,
-    in_doubt: bool,
-) -> Result<(usize, Devices<MemDisk>), Fail> {
-    let mut store = recover(alloc, devices)?;
-    let count = go_to_the_end(rt, alloc, &mut store, acknowledged, in_doubt);
-    let devices = store.into_devices();
-    Ok((count?, devices))
-}
-
-/// Goes on from a stop after k calls of the journal's disk, and tells whether the next commit was found too.
-fn is_ahead(
-    rt: &impl Abort,
-    alloc: Global,
-    devices: &Devices<MemDisk>,
-    k: usize,
-    tear: Tear,
-) -> Result<bool, Fail> {
-    let acknowledged = k.saturating_sub(2) / 4 * 4;
-    let image = torn(alloc, devices, k, tear)?;
-    let (count, _) = recover_and_go_on(rt, alloc, image, acknowledged, k % 4 == 1)?;
-    Ok(count > acknowledged)
-}
-
-/// Goes on from each stop and each tear, and counts those where the next commit was found.
-fn count_ahead(rt: &impl Abort, alloc: Global, devices: &Devices<MemDisk>) -> Result<usize, Fail> {
-    let mut ahead = 0_usize;
-    for k in 2..=14 {
-        for tear in TEARS {
-            ahead = ahead.wrapping_add(usize::from(is_ahead(rt, alloc, devices, k, tear)?));
-        }
-        let fronts = if k % 4 == 3 { 96 } else { 2 };
-        for front in 0..fronts {
-            let tear = Tear::Front(front);
-            ahead = ahead.wrapping_add(usize::from(is_ahead(rt, alloc, devices, k, tear)?));
-        }
-    }
-    Ok(ahead)
-}
-
-#[test]
-fn a_stopped_run_ends_as_one_never_stopped(rt: HostRuntime) -> Result<(), Fail> {
-    let alloc = rt.alloc();
-    let mut store = create(alloc, empty_devices(alloc))?;
-    for (i, event) in twelve_events().iter().enumerate() {
-        accept(&rt, &mut store, &[*event]);
-        if i % 4 == 3 {
-            assert_eq!(rt; store.commit(), Ok(i as u64 + 1));
-        }
-    }
-    compare_twelve(&rt, alloc, &store)?;
-    let devices = store.into_devices();
-    assert_eq!(rt; devices.journal.calls().len(), 14);
-    let ahead = count_ahead(&rt, alloc, &devices)?;
-    assert_eq!(rt; ahead, 3 * 3);
-    Ok(())
-}
-
-#[test]
-fn a_device_that_stops_leaves_a_run_that_goes_on(rt: HostRuntime) -> Result<(), Fail> {
-    let alloc = rt.alloc();
-    for k in 3..=14 {
-        let mut store = create(alloc, failing_devices(alloc, k))?;
-        let mut acknowledged = 0;
-        for (i, event) in twelve_events().iter().enumerate() {
-            let _ = store.offer(event);
-            if i % 4 == 3 && store.commit().is_ok() {
-                acknowledged = i + 1;
-            }
-        }
-        assert_eq!(rt; acknowledged as u64, (k - 3) / 4 * 4);
-        let devices = mended(store.into_devices());
-        let (count, devices) = recover_and_go_on(&rt, alloc, devices, acknowledged, k % 4 == 2)?;
-        assert_eq!(rt; count > acknowledged, k % 4 == 2);
-        compare_twelve(&rt, alloc, &recover(alloc, devices)?)?;
-    }
-    Ok(())
-}
-
-#[test]
-fn a_refused_offer_changes_nothing(rt: HostRuntime) -> Result<(), Fail> {
-    let alloc = rt.alloc();
-    let mut store = create(alloc, empty_devices(alloc))?;
-    let row = [
-        named(3, 1, fork(0, 1)),
-        named(3, 2, lock(1, 7)),
-        named(3, 3, rdlock(0, 9)),
-        named(3, 4, fork(0, 2)),
-        named(3, 5, join(0, 2)),
-    ];
-    accept(&rt, &mut store, &row);
-    assert_eq!(rt; store.commit(), Ok(5));
-    for l in 100..163 {
-        let number = u64::from(l) - 94;
-        accept(&rt, &mut store, &[named(3, number, lock(0, l))]);
-    }
-    let before = picture_of(&store);
-    for (source, number, event, want) in [
-        (3, 68, fork(0, 3), Ok(Answer::Duplicate(68))),
-        (3, 0, fork(0, 3), Ok(Answer::Duplicate(68))),
-        (3, 70, fork(0, 3), Err(Refusal::Gap(69))),
-        (1_024, 1, fork(0, 3), Err(Refusal::BadNumber)),
-        (3, 69, fork(0, 1_024), Err(Refusal::BadNumber)),
-        (3, 69, write(0, 0x1000, 0), Err(Refusal::BadLength)),
-        (3, 69, read(0, 0x1000, 65), Err(Refusal::BadLength)),
-        (3, 69, write(0, u64::MAX, 2), Err(Refusal::AddressEnd)),
-        (3, 69, write(2, 0x1000, 4), Err(Refusal::NoThread)),
-        (3, 69, fork(0, 2), Err(Refusal::ChildUsed)),
-        (3, 69, join(0, 0), Err(Refusal::SelfJoin)),
-        (3, 69, join(0, 3), Err(Refusal::ChildNotAlive)),
-        (3, 69, join(0, 1), Err(Refusal::ChildHoldsLocks)),
-        (3, 69, rdlock(1, 7), Err(Refusal::AlreadyHeld)),
-        (3, 69, lock(1, 9), Err(Refusal::LockBusy)),
-        (3, 69, unlock(1, 9), Err(Refusal::NotHeld)),
-        (3, 69, lock(0, 8), Err(Refusal::FullHeld)),
-    ] {
-        let offered = store.offer(&named(source, number, event));
-        assert_eq!(rt; offered, want);
-        assert_eq!(rt; picture_of(&store), before, "at {want:?}");
-    }
-    assert_eq!(rt; store.commit(), Ok(68));
-    assert_eq!(rt; store.into_devices().journal.calls().len(), 10);
-    Ok(())
-}
-
-#[test]
-fn a_full_table_of_sets_refuses(rt: HostRuntime) -> Result<(), Fail> {
-    let alloc = rt.alloc();
-    let caps = Caps { sets: 1, slots: 1 };
-    let Ok(mut store) = Store::create(alloc, empty_devices(alloc), 4_096, caps) else {
-        return Err(Fail::new("no store made"));
-    };
-    let row = [named(3, 1, fork(0, 1)), named(3, 2, write(0, 0x1000, 4))];
-    accept(&rt, &mut store, &row);
-    let before = picture_of(&store);
-    let third = named(3, 3, write(1, 0x1000, 4));
-    assert_eq!(rt; store.offer(&third), Err(Refusal::FullSets));
-    assert_eq!(rt; picture_of(&store), before);
-    assert_eq!(rt; store.commit(), Ok(2));
-    let store = recover(alloc, store.into_devices())?;
-    assert_eq!(rt; store.events(), Ok(2));
-    Ok(())
 }
 
 /// Goes through what a new store tells, up to the commit of three events.
@@ -873,92 +502,45 @@ fn tells_what_it_has(rt: HostRuntime) -> Result<(), Fail> {
     Ok(())
 }
 
-/// A disk with the bytes of another one, if there is memory for it.
-fn copy_of(alloc: Global, disk: &MemDisk) -> Option<MemDisk> {
-    if disk.bytes().len() > 1_000_000 {
-        return None;
-    }
-    let bytes = Vec::from_slice(alloc, disk.bytes()).ok()?;
-    MemDisk::holding(alloc, bytes).ok()
-}
-
-/// A store with the content of these disks, on disks of its own, if there is memory for it.
-fn recovered_copy(alloc: Global, devices: &Devices<MemDisk>) -> Option<Store<MemDisk>> {
-    let copy = Devices {
-        journal: copy_of(alloc, &devices.journal)?,
-        slots: copy_of(alloc, &devices.slots)?,
-        root0: copy_of(alloc, &devices.root0)?,
-        root1: copy_of(alloc, &devices.root1)?,
-    };
-    Store::recover(alloc, copy, 4, CAPS).ok()
-}
-
-/// The same, tried again where memory was refused.
-fn recover_copy(alloc: Global, devices: &Devices<MemDisk>) -> Result<Store<MemDisk>, Fail> {
-    if let Some(store) = recovered_copy(alloc, devices) {
-        return Ok(store);
-    }
-    match recovered_copy(alloc, devices) {
-        Some(store) => Ok(store),
-        None => Err(Fail::new("no store recovered")),
+/// How many events were read back, and the number of the first.
+fn numbers_of(found: Result<Vec<Named>, Refusal>) -> Option<(usize, u64)> {
+    let found = found.ok()?;
+    match found.as_slice() {
+        [] => Some((0, 0)),
+        [first, ..] => Some((found.len(), first.number)),
     }
 }
 
-/// Offers an event. Where memory was refused, the store has to be as before, and it is offered again.
-fn offer_again(
-    rt: &impl Abort,
-    store: &mut Store<MemDisk>,
-    event: &Named,
-) -> Result<Answer, Refusal> {
-    let before = picture_of(store);
-    let answer = store.offer(event);
-    if answer != Err(Refusal::OutOfMemory) {
-        return answer;
-    }
-    assert_eq!(rt; picture_of(store), before, "at {event:?}");
-    store.offer(event)
+/// Commits two events of source 3, one after the other.
+fn commit_two(rt: &impl Abort, store: &mut Store<MemDisk>) {
+    accept(rt, store, &[named(3, 1, fork(0, 1))]);
+    assert_eq!(rt; store.commit(), Ok(1));
+    accept(rt, store, &[named(3, 2, write(0, 0x1000, 4))]);
+    assert_eq!(rt; store.commit(), Ok(2));
 }
 
-/// Commits the first so many of the twelve events. Where a disk was refused memory, the store is recovered from what the
-/// disks have, and has the events of the last commit or all; those that it lacks are offered again.
-fn commit_again(
-    rt: &impl Abort,
-    alloc: Global,
-    mut store: Store<MemDisk>,
-    count: usize,
-) -> Result<Store<MemDisk>, Fail> {
-    let durable = store.durable()?;
-    let committed = store.commit();
-    if committed.is_ok() {
-        assert_eq!(rt; committed, Ok(count as u64));
-        return Ok(store);
-    }
-    assert_eq!(rt; committed, Err(Refusal::DeviceFault));
-    let mut store = recover_copy(alloc, &store.into_devices())?;
-    let found = store.events()?;
-    assert!(rt; found == durable || found == count as u64);
-    for event in twelve_events().iter().take(count) {
-        assert!(rt; store.offer(event).is_ok());
-    }
-    assert_eq!(rt; store.commit(), Ok(count as u64));
-    Ok(store)
+/// Reads back what two commits made durable.
+fn compare_durable(rt: &impl Abort, alloc: Global, store: &mut Store<MemDisk>) {
+    assert_eq!(rt;
+        numbers_of(store.durable_events(alloc, 2, 10)),
+        Some((1, 2))
+    );
+    assert_eq!(rt;
+        numbers_of(store.durable_events(alloc, 3, 10)),
+        Some((0, 0))
+    );
+    assert_eq!(rt; numbers_of(store.durable_events(alloc, 0, 1)), Some((1, 1)));
+    assert_eq!(rt;
+        numbers_of(store.durable_events(alloc, 1, 10)),
+        Some((2, 1))
+    );
 }
 
 #[test]
-fn keeps_going_without_memory(rt: HostRuntime) -> Result<(), Fail> {
+fn durable_events_are_read_back(rt: HostRuntime) -> Result<(), Fail> {
     let alloc = rt.alloc();
-    let mut store = match Store::create(alloc, empty_devices(alloc), 4, CAPS) {
-        Ok(store) => store,
-        Err(_) => create(alloc, empty_devices(alloc))?,
-    };
-    for (i, event) in twelve_events().iter().enumerate() {
-        let answer = offer_again(&rt, &mut store, event);
-        assert_eq!(rt; answer, Ok(Answer::Accepted));
-        if i % 4 == 3 {
-            store = commit_again(&rt, alloc, store, i + 1)?;
-        }
-    }
-    compare_twelve(&rt, alloc, &store)?;
-    let store = recover_copy(alloc, &store.into_devices())?;
-    compare_twelve(&rt, alloc, &store)
+    let mut store = create(alloc, empty_devices(alloc))?;
+    commit_two(&rt, &mut store);
+    compare_durable(&rt, alloc, &mut store);
+    Ok(())
 }
