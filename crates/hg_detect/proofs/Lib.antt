@@ -9,3 +9,4 @@ mod Answering
 mod Others
 mod Places
 mod Writing
+pub mod Asking

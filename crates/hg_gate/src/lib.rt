@@ -14,4 +14,4 @@ mod tests;
 pub use batch::{Batch, MAX_BODY_LEN};
 pub use fault::GateFault;
 pub use gated::Gated;
-pub use log::{Batches, Log};
+pub use log::{Batches, CLOSED, Log, OPEN};

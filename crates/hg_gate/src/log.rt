@@ -12,10 +12,10 @@ use hg_disk::{Disk, write_through};
 use std::alloc::{AllocError, Global};
 
 /// The byte of an open gate. Every other byte is a closed one.
-pub(crate) const OPEN: u8 = 0xA5;
+pub const OPEN: u8 = 0xA5;
 
 /// The byte that closes a gate.
-pub(crate) const CLOSED: u8 = 0x5A;
+pub const CLOSED: u8 = 0x5A;
 
 // The header and a closed gate.
 const START: [u8; 9] = *b"HGJRNL1\n\x5A";

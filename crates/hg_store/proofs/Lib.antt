@@ -1,8 +1,4 @@
-pub mod Collecting
 pub mod Contents
-pub mod Filling
-pub mod Journaling
-pub mod Journals
 pub mod Making
 pub mod Moments
 pub mod Remaining

@@ -7,7 +7,7 @@ use Rattle.hg_disk.specs.State.{DiskState, IsImage, settled}
 use Rattle.hg_disk.specs.Moments.{Leaves}
 use Rattle.hg_disk.specs.declared.disk.Disk as disk
 use Rattle.hg_gate.specs.Batches.{IsClosed, closed_gate}
-use Rattle.hg_store.specs.Journal.{IsJournal}
+use Rattle.hg_journal.specs.Journal.{IsJournal}
 use Rattle.hg_store.specs.Shown.{Shown}
 use Rattle.hg_store.specs.Store.{IsFresh, content_of}
 

@@ -9,11 +9,16 @@ use Rattle.hg_model.specs.Contents.{Content}
 use Rattle.hg_model.specs.Verdicts.{verdict, standing_of}
 use Rattle.hg_model.specs.Change.{followed, after, is_accept, empty_content}
 use Rattle.hg_model.specs.Laws.{FollowingIsTheSummary}
+use Rattle.hg_sets.specs.Interning.{Table}
+use Rattle.hg_detect.specs.Making.{sets_asked}
+use Rattle.hg_detect.proofs.Asking.{asks_same}
 use Rattle.hg_store.specs.Images.{HasContent}
-use Rattle.hg_store.specs.Laws.{AreAccepted, ContentIsUnique, PrefixIsSummed, RemainingGiveTheSame}
+use Rattle.hg_store.specs.Laws.{AreAccepted, ContentIsUnique, PrefixIsSummed, RemainingGiveTheSame, SetsAreUnique}
+use Rattle.hg_store.specs.Recovering.{Fills}
 use Rattle.hg_store.specs.Runs.{accepted}
+use Rattle.hg_store.specs.Store.{first_table}
 use Rattle.hg_store.proofs.Contents.{followed_append}
-use Rattle.hg_store.proofs.Journals.{one_reading}
+use Rattle.hg_journal.proofs.Journals.{one_reading}
 
 some_is : (c d : Content) → Some c ≡ Some d → c ≡ d
 some_is c d is = cc
@@ -21,6 +26,16 @@ some_is c d is = cc
 pub content_is_unique : ContentIsUnique
 content_is_unique image c d a b =
     some_is c d (sym a.gives ∙ ap (λ (es : List Named). followed empty_content es) (one_reading image.journal a.events b.events a.journal b.journal) ∙ b.gives)
+
+fills_same : (events : List Named) (c : Content) (t : Table) (d x : Content) (u v : Table) → Fills events c t d u → Fills events c t x v → (d ≡ x) × (u ≡ v)
+fills_same [] c t d x u v a b = (a.0 ∙ sym b.0, a.1 ∙ sym b.1)
+fills_same (n ∷ events) c t d x u v a b =
+    fills_same events (after c n) b.1 d x u v (subst (λ (m : Table). Fills events (after c n) m d u) (asks_same (sets_asked c n.event) t a.1 b.1 a.2 b.2) a.3) b.3
+
+pub sets_are_unique : SetsAreUnique
+sets_are_unique limit bytes c d t u a b =
+    fills_same b.events empty_content (first_table limit) c d t u
+    (subst (λ (es : List Named). Fills es empty_content (first_table limit) c t) (one_reading bytes a.events b.events a.journal b.journal) a.fills) b.fills
 
 pub one : (c live : Content) (n : Named) (rest : List Named) (v : Verdict) → option_and_then (λ (d : Content). followed d rest) (if is_accept v then Some (after c n) else None) ≡ Some live
     → (v ≡ Accept) × (followed (after c n) rest ≡ Some live)

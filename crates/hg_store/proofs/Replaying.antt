@@ -10,14 +10,14 @@ use Rattle.hg_detect.specs.Making.{Asks, sets_asked}
 use Rattle.hg_detect.specs.declared.detector.Detector.{Detector}
 use Rattle.hg_detect.specs.declared.paged.PagedWords.{PagedWords}
 use Rattle.hg_disk.specs.declared.disk.Disk as disk
-use Rattle.hg_store.specs.declared.journal.Journal.{Journal}
-use Rattle.hg_store.specs.declared.journal.JournalReader.{JournalReader}
-use Rattle.hg_store.specs.Journal.{IsJournal}
-use Rattle.hg_store.specs.Reading.{IsAt, disk_of}
+use Rattle.hg_journal.specs.declared.journal.Journal.{Journal}
+use Rattle.hg_journal.specs.declared.journal.JournalReader.{JournalReader}
+use Rattle.hg_journal.specs.Journal.{IsJournal}
+use Rattle.hg_journal.specs.Reading.{IsAt, disk_of}
 use Rattle.hg_store.specs.Recovering.{Fills, IsAccepted, IsTooSmall}
 use Rattle.hg_store.specs.Store.{content_of, first_table}
 use Rattle.hg_store.proofs.Contents.{followed_append, followed_one}
-use Rattle.hg_store.proofs.Journaling.{more}
+use Rattle.hg_journal.proofs.Journaling.{more}
 use Rattle.hg_store.proofs.Remaining.{one}
 
 fills_more : (seen : List Named) (c : Content) (t : Table) (d : Content) (u : Table) (n : Named) (v : Table) → Fills seen c t d u → IsAccepted d n → Asks u (sets_asked d n.event) None v → Fills (seen ++ n ∷ []) c t (after d n) v

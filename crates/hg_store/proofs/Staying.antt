@@ -1,30 +1,19 @@
 -- Devices whose images stay what they were.
 use Rattle.hg_disk.specs.State.{IsImage}
-use Rattle.hg_disk.specs.Moments.{LeavesOnly}
 use Rattle.hg_disk.specs.declared.disk.Disk as disk
-use Rattle.hg_disk.proofs.Moments.{at_end, joined, started, weaker}
+use Rattle.hg_journal.proofs.Staying.{then}
 use Rattle.hg_store.specs.declared.devices.Devices.{Devices}
 use Rattle.hg_store.specs.Images.{EachImage, IsLeft}
 use Rattle.hg_store.specs.Recovering.{Stay}
 use Rattle.hg_store.proofs.Moments.{may_leave}
 
 module _ {D : Type 0} (g : disk.Ghosts D) where
-  abbrev pub Stays : D → D → Type 0
-  Stays old new = LeavesOnly g old new (IsImage (g.state old))
-
-  -- a disk that is not called
-  pub same : (d : D) → Stays d d
-  same d = started g d (IsImage (g.state d)) (λ image is. is)
-
-  pub then : (old mid new : D) → Stays old mid → Stays mid new → Stays old new
-  then old mid new one two = joined g old mid new (IsImage (g.state old)) one (weaker g mid new (IsImage (g.state mid)) (IsImage (g.state old)) two (at_end g old mid (IsImage (g.state old)) one))
-
   pub stay_then : (old mid new : Devices D) → Stay g old mid → Stay g mid new → Stay g old new
   stay_then old mid new one two = record {
-    journal = then old.journal mid.journal new.journal one.journal two.journal;
-    slots = then old.slots mid.slots new.slots one.slots two.slots;
-    root0 = then old.root0 mid.root0 new.root0 one.root0 two.root0;
-    root1 = then old.root1 mid.root1 new.root1 one.root1 two.root1;
+    journal = then g old.journal mid.journal new.journal one.journal two.journal;
+    slots = then g old.slots mid.slots new.slots one.slots two.slots;
+    root0 = then g old.root0 mid.root0 new.root0 one.root0 two.root0;
+    root1 = then g old.root1 mid.root1 new.root1 one.root1 two.root1;
   }
 
   pub stay_images : (old new : Devices D) → Stay g old new → EachImage g old new (IsLeft g old)

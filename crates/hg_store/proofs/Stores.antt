@@ -13,7 +13,7 @@ use Rattle.hg_disk.specs.Moments.{Leaves, LeavesOnly}
 use Rattle.hg_disk.specs.declared.disk.Disk as disk
 use Rattle.hg_store.specs.declared.devices.Devices.{Devices}
 use Rattle.hg_store.specs.Images.{EachImage, HasContent, Image, read_of}
-use Rattle.hg_store.specs.Journal.{IsJournal}
+use Rattle.hg_journal.specs.Journal.{IsJournal}
 use Rattle.hg_store.specs.Shown.{Shown}
 use Rattle.hg_store.specs.Store.{Backs, Stands, content_of}
 use Rattle.hg_store.proofs.Contents.{followed_append, followed_one}

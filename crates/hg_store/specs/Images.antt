@@ -7,7 +7,7 @@ use Rattle.hg_disk.specs.State.{DiskState, IsImage}
 use Rattle.hg_disk.specs.Moments.{HasGone}
 use Rattle.hg_disk.specs.declared.disk.Disk as disk
 use Rattle.hg_gate.specs.Batches.{IsClosed}
-use Rattle.hg_store.specs.Journal.{IsJournal}
+use Rattle.hg_journal.specs.Journal.{IsJournal}
 use Rattle.hg_store.specs.declared.devices.Devices.{Devices}
 
 -- the bytes of each device

@@ -1,11 +1,13 @@
 -- The laws of runs and of contents, which empty public functions promise.
-use Rattle.std.specs.Prelude.{◌≡◌, ◌++◌, List, [], ◌∷◌, reverse, Bool, Some}
+use Rattle.std.specs.Prelude.{◌≡◌, ◌++◌, ℕ, List, [], ◌∷◌, reverse, Bool, Some}
 use Rattle.hg_model.specs.declared.event.Named.{Named}
 use Rattle.hg_model.specs.declared.verdict.Verdict.TheVariants.{Accept}
 use Rattle.hg_model.specs.Contents.{Content, summary}
 use Rattle.hg_model.specs.Verdicts.{verdict, standing_of, IsAccepted}
 use Rattle.hg_model.specs.Change.{followed, after, empty_content}
 use Rattle.hg_store.specs.Images.{Image, HasContent}
+use Rattle.hg_sets.specs.Interning.{Table}
+use Rattle.hg_store.specs.Recovering.{HasSets}
 use Rattle.hg_store.specs.Runs.{Run, accepted, StandsFor}
 
 -- each event is accepted after those before it
@@ -22,6 +24,10 @@ pub record Split (run : Run) (front rest : List Named) : Type 0 where
 -- An image has one content.
 abbrev pub ContentIsUnique : Type 0
 ContentIsUnique = (image : Image) (c d : Content) → HasContent image c → HasContent image d → c ≡ d
+
+-- The bytes of a journal have one content and fill a table in one way.
+abbrev pub SetsAreUnique : Type 0
+SetsAreUnique = (limit : ℕ) (bytes : List ℕ) (c d : Content) (t u : Table) → HasSets limit bytes c t → HasSets limit bytes d u → (c ≡ d) × (t ≡ u)
 
 -- What remains of a stopped run, accepted after the content of an image, gives the content of the run that was never stopped.
 abbrev pub RemainingGiveTheSame : Type 0

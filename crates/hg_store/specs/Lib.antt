@@ -1,5 +1,3 @@
-pub mod Journal
-pub mod Reading
 pub mod Images
 pub mod Shown
 pub mod Store

@@ -14,7 +14,7 @@ use Rattle.hg_store.specs.declared.steps.Step.{Step}
 use Rattle.hg_store.specs.declared.steps.Step.TheVariants.{Offer, Commit}
 use Rattle.hg_store.specs.declared.steps.StepResult.{StepResult}
 use Rattle.hg_store.specs.declared.steps.StepResult.TheVariants.{Offered, Committed}
-use Rattle.hg_store.specs.Journal.{failed_after}
+use Rattle.hg_journal.specs.Journal.{failed_after}
 use Rattle.hg_store.specs.Shown.{Shown}
 use Rattle.hg_store.specs.Store.{content_of}
 

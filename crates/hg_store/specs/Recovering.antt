@@ -16,7 +16,7 @@ use Rattle.hg_disk.specs.Moments.{LeavesOnly}
 use Rattle.hg_gate.specs.Batches.{header, closed_gate}
 use Rattle.hg_store.specs.declared.devices.Devices.{Devices}
 use Rattle.hg_store.specs.Images.{Image}
-use Rattle.hg_store.specs.Journal.{IsJournal, after_refusal}
+use Rattle.hg_journal.specs.Journal.{IsJournal, after_refusal}
 use Rattle.hg_store.specs.Shown.{Shown}
 use Rattle.hg_store.specs.declared.create.CreateFault.{CreateFault}
 use Rattle.hg_store.specs.declared.create.CreateFault.TheVariants.{NotEmpty, Refused}
@@ -62,6 +62,12 @@ abbrev pub Fills : List Named → Content → Table → Content → Table → Ty
 Fills [] c table last filled = (last ≡ c) × (filled ≡ table)
 Fills (n ∷ events) c table last filled =
     IsAccepted c n × (mid : Table) × Asks table (sets_asked c n.event) None mid × Fills events (after c n) mid last filled
+
+-- The table of sets is what one with this limit became as the events of a journal were accepted one after another.
+pub record HasSets (limit : ℕ) (bytes : List ℕ) (c : Content) (table : Table) : Type 0 where
+  pub events : List Named
+  pub journal : IsJournal bytes events
+  pub fills : Fills events empty_content (first_table limit) c table
 
 -- A table with this limit has no room for the sets of a journal: the events `front`, with which the journal begins, fill
 -- it so far that `next`, which follows them, asks for a set too many.

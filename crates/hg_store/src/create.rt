@@ -9,11 +9,12 @@ ghost use Rattle.hg_store.specs.Recovering.{IsEmpty, empty_image};
 ghost use Rattle.hg_store.specs.Store.{IsFresh, IsWhole, content_of, first_table};
 
 use crate::devices::{Caps, Devices};
-use crate::journal::Journal;
 use crate::store::{MOST_PENDING, Store};
 use hg_detect::detector::Detector;
 use hg_detect::paged::PagedWords;
 use hg_disk::{Disk, DiskFault, write_through};
+use hg_gate::CLOSED;
+use hg_journal::journal::Journal;
 use hg_model::event::Named;
 use hg_model::verdict::Refusal;
 use std::alloc::{AllocError, Global};
@@ -26,9 +27,6 @@ pub enum CreateFault {
     /// `DeviceFault` or `OutOfMemory`.
     Refused(Refusal),
 }
-
-/// What a root holds that is closed.
-const CLOSED_ROOT: [u8; 1] = [0x5A];
 
 /// The detector of no events, with room for so many sets.
 pub(crate) fn first_detector(alloc: Global, sets: u32) -> Result<Detector<PagedWords>, Refusal>
@@ -85,8 +83,8 @@ fn close_roots<D: Disk>(slots: &mut D, root0: &mut D, root1: &mut D) -> Result<(
     ensures failures { D.failures slots.new + D.failures root0.new + D.failures root1.new ≡ counted result (D.failures slots.old + D.failures root0.old + D.failures root1.old) }
 {
     slots.sync()?;
-    write_through(root0, 0, &CLOSED_ROOT)?;
-    write_through(root1, 0, &CLOSED_ROOT)
+    write_through(root0, 0, &[CLOSED])?;
+    write_through(root1, 0, &[CLOSED])
 }
 
 impl<D: Disk> Store<D> {

@@ -4,11 +4,9 @@
 //! closed and empty until there are any.
 #![tactic(auto)]
 
-mod collect;
 pub mod create;
 pub mod devices;
 pub mod drive;
-pub mod journal;
 pub mod laws;
 pub mod recover;
 pub mod steps;

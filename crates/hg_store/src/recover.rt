@@ -10,24 +10,22 @@ ghost use Rattle.hg_disk.specs.State.{IsImage, counted, settled};
 ghost use Rattle.hg_disk.specs.Moments.{LeavesOnly};
 ghost use Rattle.hg_gate.specs.Batches.{IsClosed};
 ghost use Rattle.hg_store.specs.Images.{EachImage, HasContent, IsLeft, failures_of, read_of};
-ghost use Rattle.hg_store.specs.Journal.{IsJournal, failed_after};
-ghost use Rattle.hg_store.specs.Recovering.{Fills, IsAccepted, IsOfRecovery, IsTooSmall, Settled, Stay};
-ghost use Rattle.hg_store.specs.Reading.{Keeps, Opens, disk_of, is_broken};
+ghost use Rattle.hg_journal.specs.Journal.{IsJournal, failed_after};
+ghost use Rattle.hg_store.specs.Recovering.{Fills, HasSets, IsAccepted, IsOfRecovery, IsTooSmall, Settled, Stay};
+ghost use Rattle.hg_journal.specs.Reading.{Keeps, Opens, disk_of, is_broken};
 ghost use Rattle.hg_store.specs.Store.{IsFresh, IsWhole, content_of, first_table};
 
 use crate::create::{first_detector, pending_room};
 use crate::devices::{Caps, Devices};
-use crate::journal::Journal;
 use crate::store::Store;
 use hg_detect::detector::Detector;
 use hg_detect::paged::PagedWords;
 use hg_disk::{Disk, DiskFault};
+use hg_gate::OPEN;
+use hg_journal::journal::Journal;
 use hg_model::event::Named;
 use hg_model::verdict::{Refusal, Verdict};
 use std::alloc::Global;
-
-/// The byte of an open gate.
-const OPEN: u8 = 0xA5;
 
 /// Makes what each device reads durable.
 fn sync_all<D: Disk>(devices: &mut Devices<D>) -> Result<(), DiskFault>
@@ -110,6 +108,8 @@ fn replay<D: Disk>(
     requires content { content_of detector.old ≡ empty_content }
     ensures replayed { (bodies : List (List ℕ)) → IsTrue D.is_honest → Opens journal.old bodies
         → OnOk result ((events : List NamedOf) × Keeps journal.new events × (followed empty_content events ≡ Some (content_of detector.new))) }
+    ensures sets { (bodies : List (List ℕ)) (limit : ℕ) → IsTrue D.is_honest → Opens journal.old bodies → detector.old.sets ≡ first_table limit
+        → OnOk result (HasSets limit (D.state (disk_of journal.old)).contents (content_of detector.new) detector.new.sets) }
     ensures damaged { (bodies : List (List ℕ)) → IsTrue D.is_honest → Opens journal.old bodies → result ≡ Err Refusal.Damaged
         → (events : List NamedOf) (c : Content) → IsJournal (D.state (disk_of journal.old)).contents events → ¬ (followed empty_content events ≡ Some c) }
     ensures full { (bodies : List (List ℕ)) (limit : ℕ) → IsTrue D.is_honest → Opens journal.old bodies → detector.old.sets ≡ first_table limit → result ≡ Err Refusal.FullSets
@@ -149,6 +149,8 @@ impl<D: Disk> Store<D> {
         requires sets { (1 ≤ caps.sets) × (caps.sets ≤ 262144) }
         requires slots { (1 ≤ caps.slots) × (caps.slots ≤ 1048576) }
         ensures content { IsTrue D.is_honest → IfOk result (λ store. (c : Content) × HasContent (read_of ⟦<D as Disk>⟧ devices) c × IsFresh ⟦<D as Disk>⟧ store c) }
+        ensures sets { IsTrue D.is_honest → IfOk result (λ store. HasSets caps.sets (D.state devices.journal).contents (content_of store.detector) store.detector.sets) }
+        ensures idle { IfOk result (λ store. (store.is_broken ≡ false) × (store.pending ≡ [])) }
         ensures damaged { IsTrue D.is_honest → IfErr result (λ e. e.0 ≡ Refusal.Damaged → (c : Content) → ¬ HasContent (read_of ⟦<D as Disk>⟧ devices) c) }
         ensures full { IsTrue D.is_honest → IfErr result (λ e. e.0 ≡ Refusal.FullSets → IsTooSmall caps.sets (D.state devices.journal).contents) }
         ensures refusal { IfErr result (λ e. IsOfRecovery e.0) }

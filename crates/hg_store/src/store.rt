@@ -1,24 +1,25 @@
 //! The store.
 
-ghost use Rattle.std.specs.Prelude.{◌≡◌, ◌≢◌, ◌⊎◌, ◌++◌, ◌∷◌, ◌≤◌, ◌+◌, ◌-◌, [], ℕ, List, Ok, Err, length, take, drop, map, false, true, IsTrue, OnOk, OnErr, IfOk, IfErr, cond};
+ghost use Rattle.std.specs.Prelude.{◌≡◌, ◌≢◌, ◌⊎◌, ◌++◌, ◌∷◌, ◌≤◌, ◌+◌, ◌-◌, [], ℕ, List, Ok, Err, Some, None, length, take, drop, map, false, true, IsTrue, OnOk, OnErr, IfOk, IfErr, cond};
 ghost use Rattle.hg_model.specs.Contents.{Content};
 ghost use Rattle.hg_model.specs.Change.{empty_content};
 ghost use Rattle.hg_model.specs.Verdicts as rules;
 ghost use Rattle.hg_model.specs.declared.event.Named.{Named as NamedOf};
 ghost use Rattle.hg_detect.specs.Answering.{done};
-ghost use Rattle.hg_detect.specs.Making.{AsksBy, sets_asked};
+ghost use Rattle.hg_sets.specs.declared.fault.SetFault.TheVariants as SetFault;
+ghost use Rattle.hg_detect.specs.Making.{Asks, sets_asked};
 ghost use Rattle.hg_store.specs.Images.{EachImage, IsLeft, failures_of, read_of};
-ghost use Rattle.hg_store.specs.Journal.{IsJournal, IsOfReading, failed_after};
+ghost use Rattle.hg_journal.specs.Journal.{IsJournal, IsOfReading, failed_after};
 ghost use Rattle.hg_store.specs.Offers.{CommitDone, OfferDone, StepDone, durable_after, durable_by, failed_by, in_doubt_during};
 ghost use Rattle.hg_store.specs.Store.{Backs, SameButDevices, Stands, content_of};
 
-use crate::collect::collect;
 use crate::devices::Devices;
-use crate::journal::Journal;
 use crate::steps::{Phase, Step, StepResult};
 use hg_detect::detector::{Answer, Detector};
 use hg_detect::paged::PagedWords;
 use hg_disk::Disk;
+use hg_journal::collect::collect;
+use hg_journal::journal::{Journal, MAX_BATCH_EVENTS};
 use hg_model::event::Named;
 use hg_model::report::Report;
 use hg_model::segment::Segment;
@@ -26,8 +27,8 @@ use hg_model::verdict::{Refusal, Verdict};
 use std::alloc::Global;
 use std::marker::Model;
 
-/// How many accepted events may wait for a commit.
-pub const MOST_PENDING: usize = 1024;
+/// How many accepted events may wait for a commit: as many as a batch of the journal may have.
+pub const MOST_PENDING: usize = MAX_BATCH_EVENTS;
 
 /// What was accepted, and what of it is durable.
 ///
@@ -48,7 +49,7 @@ pub struct Store<D: Disk> {
 impl<D: Disk> Model for Store<D> {
     ghost use Rattle.hg_store.specs.Shown.{Shown};
     ghost use Rattle.hg_store.specs.Kept.{IsSound};
-    ghost use Rattle.hg_store.specs.Reading.{disk_of};
+    ghost use Rattle.hg_journal.specs.Reading.{disk_of};
     ghost use Rattle.hg_detect.specs.contracts.paged.PagedWords as words;
     ghost use Rattle.std.specs.Coded.{codes};
 
@@ -68,8 +69,10 @@ impl<D: Disk> Store<D> {
     pub fn offer(&mut self, named: &Named) -> Result<Answer, Refusal>
         ensures done { OfferDone self.old self.new named.now result }
         ensures backs { (start : Content) → Backs ⟦<D as Disk>⟧ self.old start → Backs ⟦<D as Disk>⟧ self.new start }
-        ensures sets { rules.verdict (rules.standing_of (content_of self.old.detector)) named.now ≡ Verdict.Accept → result ≡ Err Refusal.FullSets
-            → AsksBy self.old.detector.sets (sets_asked (content_of self.old.detector) named.now.event) (Err Refusal.FullSets) self.new.detector.sets }
+        ensures sets { result ≡ Ok Answer.Accepted → Asks self.old.detector.sets (sets_asked (content_of self.old.detector) named.now.event) None self.new.detector.sets }
+        ensures full { rules.verdict (rules.standing_of (content_of self.old.detector)) named.now ≡ Verdict.Accept → result ≡ Err Refusal.FullSets
+            → Asks self.old.detector.sets (sets_asked (content_of self.old.detector) named.now.event) (Some SetFault.Full) self.new.detector.sets }
+        ensures same { (result ≡ Ok Answer.Accepted → ⊥) → (result ≡ Err Refusal.FullSets → ⊥) → (result ≡ Err Refusal.OutOfMemory → ⊥) → self.new ≡ self.old }
     {
         if self.is_broken {
             return Err(Refusal::Broken);

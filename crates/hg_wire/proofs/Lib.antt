@@ -13,4 +13,3 @@ pub mod HeldLemmas
 pub mod StreamLemmas
 pub mod SplitterLemmas
 pub mod ReaderLemmas
-pub mod RecordLemmas

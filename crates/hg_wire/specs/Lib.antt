@@ -4,6 +4,4 @@ pub mod Verbs
 pub mod Lines
 pub mod Streams
 pub mod Reports
-pub mod Records
-pub mod RecordReading
 pub mod Laws

@@ -4,13 +4,12 @@
 mod held;
 pub mod laws;
 pub mod line;
+#[cfg(test)]
+mod line_tests;
 pub mod lines;
 mod number;
 mod operands;
 pub mod reader;
-pub mod record;
-#[cfg(test)]
-mod record_tests;
 pub mod report;
 pub mod splitter;
 #[cfg(test)]

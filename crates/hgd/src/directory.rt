@@ -1,7 +1,6 @@
 //! The directory of a store.
 
 ghost use Rattle.std.specs.Prelude.{◌≡◌, ◌⊎◌, IfErr};
-ghost use Rattle.hgd.specs.Storing.{IsOfFiles};
 
 use hg_disk::FileDisk;
 use hg_model::verdict::Refusal;
@@ -11,7 +10,7 @@ use std::fs::OpenOptions;
 
 /// Opens a file of a directory, which is made empty where there is none.
 fn open_file(rt: &HostRuntime, directory: &str, name: &str) -> Result<FileDisk, Refusal>
-    ensures { IfErr result IsOfFiles }
+    ensures { IfErr result (λ r. (r ≡ Refusal.DeviceFault) ⊎ (r ≡ Refusal.OutOfMemory)) }
 {
     let Ok(path) = format!(in rt.alloc(); "{directory}/{name}") else {
         return Err(Refusal::OutOfMemory);
@@ -30,7 +29,7 @@ fn open_file(rt: &HostRuntime, directory: &str, name: &str) -> Result<FileDisk, 
 /// Opens the files of a store's directory: `journal`, `pages`, `root0` and `root1`. A file that is missing is made
 /// empty. `DeviceFault` says that one can't be opened or made.
 pub fn open_directory(rt: &HostRuntime, directory: &str) -> Result<Devices<FileDisk>, Refusal>
-    ensures { IfErr result IsOfFiles }
+    ensures { IfErr result (λ r. (r ≡ Refusal.DeviceFault) ⊎ (r ≡ Refusal.OutOfMemory)) }
 {
     Ok(Devices {
         journal: open_file(rt, directory, "journal")?,

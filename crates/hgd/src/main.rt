@@ -1,28 +1,19 @@
 //! `hgd`: a detector of data races in traces of programs with threads.
 #![tactic(auto)]
 
-pub mod checker;
-pub mod commands;
 pub mod directory;
-pub mod feeding;
-pub mod laws;
-pub mod printing;
-pub mod run;
-pub mod store_commands;
-pub mod streams;
-pub mod telling;
-#[cfg(test)]
-mod tests;
 
 ghost use Rattle.std.specs.Prelude.{◌≡◌, ◌⊎◌, ◌≤◌};
 
-use crate::commands::{check, graph, tell};
 use crate::directory::{make_directory, open_directory};
-use crate::feeding::feed;
-use crate::store_commands::{create_store, store_graph, store_reports};
-use crate::streams::Watched;
 use clap::error::ErrorKind;
 use clap::{Arg, ArgMatches, Command, Error, value_parser};
+use hg_check::commands::{check, graph};
+use hg_check::streams::Watched;
+use hg_check::telling::tell;
+use hg_commands::creating::create_store;
+use hg_commands::feeding::feed;
+use hg_commands::listing::{store_graph, store_reports};
 use hg_model::verdict::Refusal;
 use std::alloc::Global;
 use std::env;

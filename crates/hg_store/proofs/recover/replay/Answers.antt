@@ -1,10 +1,11 @@
 use Rattle.std.proofs.Common.{rules, sym, ◌∙◌, subst}
 use Rattle.hg_disk.specs.State.{DiskState}
-use Rattle.hg_store.specs.Journal.{IsJournal}
+use Rattle.hg_journal.specs.Journal.{IsJournal}
 use Rattle.hg_store.specs.Recovering.{IsTooSmall}
-use Rattle.hg_store.specs.Reading.{disk_of}
+use Rattle.hg_journal.specs.Reading.{disk_of}
 use Rattle.hg_store.proofs.Replaying.{no_content, read_more, too_small}
-use Rattle.hg_store.proofs.Staying.{then}
+use Rattle.hg_journal.proofs.Journaling.{bytes_now}
+use Rattle.hg_journal.proofs.Staying.{then}
 use Rattle.hg_store.proofs.recover.replay.Goals as goal
 
 pub returns-in_err-named-clause-any_moment : goal.returns-in_err-named-clause-any_moment
@@ -23,6 +24,16 @@ pub returns-in-None-clause-replayed : goal.returns-in-None-clause-replayed
 returns-in-None-clause-replayed g c bodies honest opens =
     let read = c.loop-reader.invariant.read bodies honest opens in
     (read.seen, rw c.in-None.is at (c.in_ok-named.ensures.next read.seen honest read.at), read.gives)
+
+pub returns-in-None-clause-sets : goal.returns-in-None-clause-sets
+returns-in-None-clause-sets g c bodies limit honest opens first =
+    let read = c.loop-reader.invariant.read bodies honest opens in
+    record {
+      events = read.seen;
+      journal = subst (λ (s : DiskState). IsJournal s.contents read.seen) (c.next.ensures.state ∙ c.loop-reader.invariant.state)
+          (bytes_now g.D.Disk c.next.new.self read.seen (rw c.in-None.is at (c.in_ok-named.ensures.next read.seen honest read.at)));
+      fills = read.fills limit first;
+    }
 
 pub returns-in_err-named-clause-damaged : goal.returns-in_err-named-clause-damaged
 returns-in_err-named-clause-damaged g c bodies honest opens told events d is gives =

@@ -1,4 +1,5 @@
-use Rattle.hg_store.proofs.Staying.{same, stay_then}
+use Rattle.hg_journal.proofs.Staying.{same}
+use Rattle.hg_store.proofs.Staying.{stay_then}
 use Rattle.hg_store.proofs.recover.settle.Goals as goal
 
 pub returns-in_err-check_closed-clause-stay : goal.returns-in_err-check_closed-clause-stay

@@ -1,9 +1,9 @@
 use Rattle.std.proofs.Common.{rules, ◌≡◌, ◌++◌, true, refl}
 use Rattle.hg_store.specs.Shown.{Shown}
-use Rattle.hg_store.specs.Reading.{disk_of}
-use Rattle.hg_store.proofs.Journals.{one_reading}
+use Rattle.hg_journal.specs.Reading.{disk_of}
+use Rattle.hg_journal.proofs.Journals.{one_reading}
 use Rattle.hg_store.proofs.Contents.{counted_both}
-use Rattle.hg_store.proofs.Journaling.{bytes_now}
+use Rattle.hg_journal.proofs.Journaling.{bytes_now}
 use Rattle.hg_store.proofs.Stores.{images_stand, during_commit, kept_broken, kept_committed}
 use Rattle.hg_store.proofs.store.Store.commit.Goals as goal
 

@@ -1,7 +1,7 @@
 use Rattle.std.proofs.Common.{rules, [], ◌∷◌, refl}
 use Rattle.hg_gate.specs.Batches.{IsClosed, closed_gate}
 use Rattle.hg_model.specs.Change.{empty_content}
-use Rattle.hg_store.proofs.Journaling.{each_image_has}
+use Rattle.hg_journal.proofs.Journaling.{each_image_has}
 use Rattle.hg_store.proofs.Making.{closed_is_closed, fresh, settled_leaves}
 use Rattle.hg_store.proofs.store.Store.create.Goals as goal
 

@@ -1,13 +1,14 @@
-use Rattle.std.proofs.Common.{rules, ◌≡◌, ◌-◌, ℕ, List, length, take, drop, IfOk, sym, ◌∙◌, ap, subst}
+use Rattle.std.proofs.Common.{rules, ◌≡◌, ◌-◌, List, take, drop, IfOk, sym, subst}
 use Rattle.hg_model.specs.declared.event.Named.{Named}
 use Rattle.hg_store.specs.Images.{IsLeft}
-use Rattle.hg_store.specs.Journal.{IsJournal}
+use Rattle.hg_journal.specs.Journal.{IsJournal}
 use Rattle.hg_store.specs.Shown.{Shown}
-use Rattle.hg_store.specs.Reading.{disk_of}
-use Rattle.hg_store.proofs.Journals.{one_reading}
-use Rattle.hg_store.proofs.Journaling.{bytes_now}
+use Rattle.hg_journal.specs.Reading.{disk_of}
+use Rattle.hg_journal.proofs.Journals.{one_reading}
+use Rattle.hg_journal.proofs.Journaling.{bytes_now}
 use Rattle.hg_store.proofs.Moments.{all_still}
-use Rattle.hg_store.proofs.Staying.{same, stay_images}
+use Rattle.hg_journal.proofs.Staying.{same}
+use Rattle.hg_store.proofs.Staying.{stay_images}
 use Rattle.hg_store.proofs.store.Store.durable_events.Goals as goal
 
 pub returns-then-self-clause-images : goal.returns-then-self-clause-images

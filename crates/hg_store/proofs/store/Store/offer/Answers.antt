@@ -1,7 +1,7 @@
 use Rattle.std.proofs.Common.{rules, Some, sym, ◌∙◌, ap}
 use Rattle.hg_model.specs.Contents.{Content}
 use Rattle.hg_store.specs.Shown.{Shown}
-use Rattle.hg_store.specs.Reading.{disk_of}
+use Rattle.hg_journal.specs.Reading.{disk_of}
 use Rattle.hg_store.specs.Store.{content_of}
 use Rattle.hg_store.proofs.Contents.{followed_one}
 use Rattle.hg_store.proofs.Stores.{kept_accepted}

@@ -1,14 +1,15 @@
 use Rattle.std.proofs.Common.{rules, ℕ, List, sym, ◌∙◌, ap, subst, refl}
 use Rattle.hg_disk.specs.State.{DiskState}
 use Rattle.hg_gate.specs.Batches.{IsClosed}
-use Rattle.hg_store.specs.Journal.{IsJournal}
-use Rattle.hg_store.specs.Recovering.{IsTooSmall}
-use Rattle.hg_store.specs.Reading.{disk_of}
+use Rattle.hg_journal.specs.Journal.{IsJournal}
+use Rattle.hg_store.specs.Recovering.{HasSets, IsTooSmall}
+use Rattle.hg_journal.specs.Reading.{disk_of}
 use Rattle.hg_store.specs.Store.{content_of}
 use Rattle.hg_store.proofs.Contents.{counted_all}
-use Rattle.hg_store.proofs.Journaling.{bytes_now, each_image_has}
+use Rattle.hg_journal.proofs.Journaling.{bytes_now, each_image_has}
 use Rattle.hg_store.proofs.Making.{fresh, settled_leaves, settled_reads, settled_self}
-use Rattle.hg_store.proofs.Staying.{same, stay_images, stay_then, then}
+use Rattle.hg_journal.proofs.Staying.{same, then}
+use Rattle.hg_store.proofs.Staying.{stay_images, stay_then}
 use Rattle.hg_store.proofs.store.Store.recover.Goals as goal
 
 pub returns-in-Err-clause-damaged : goal.returns-in-Err-clause-damaged
@@ -88,6 +89,14 @@ returns-in-Ok-replay-clause-content g c honest =
           (settled_leaves IsClosed (g.D.Disk.state d.root0).contents _ settled.root0 first)
           (settled_leaves IsClosed (g.D.Disk.state d.root1).contents _ settled.root1 second),
     )
+
+pub returns-in-Ok-replay-clause-sets : goal.returns-in-Ok-replay-clause-sets
+returns-in-Ok-replay-clause-sets g c honest =
+    let settled = c.in-Ok.ensures.settled in
+    let opens = c.in-Ok-attach.ensures.opens honest (settled_self _ _ settled.journal) in
+    let reads = ap (λ (s : DiskState). s.contents) c.in-Ok-attach.ensures.state ∙ settled_reads _ _ settled.journal in
+    subst (λ (bytes : List ℕ). HasSets c.args.caps.sets bytes (content_of c.replay.new.detector) c.replay.new.detector.sets) reads
+    (c.in-Ok-replay.ensures.sets opens.0 c.args.caps.sets honest opens.1 (search rules))
 
 pub returns-in-Err-replay-clause-damaged : goal.returns-in-Err-replay-clause-damaged
 returns-in-Err-replay-clause-damaged g c honest told d has =

@@ -1,0 +1,5 @@
+pub mod Checking
+pub mod Laws
+pub mod Printing
+pub mod Running
+pub mod Streaming

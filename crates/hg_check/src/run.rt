@@ -1,0 +1,166 @@
+//! A run over a whole trace text.
+
+ghost use Rattle.std.specs.Prelude.{◌≡◌, ◌⊎◌, ℕ, ◌+◌, ◌<◌, ◌≤◌, ◌^◌, Bool, Option, List, [], Ok, Some, None, true, length, IfOk, IfErr, OnErr, OnOk};
+ghost use Rattle.std.specs.Io.KnownBytes.{IsAtEnd};
+ghost use Rattle.hg_model.specs.Change.{empty_content};
+ghost use Rattle.hg_model.specs.Contents.{Content};
+ghost use Rattle.hg_wire.specs.Streams.{at_start, readings_from};
+ghost use Rattle.hg_check.specs.declared.checker.Ending.{Ending as EndingOf};
+ghost use Rattle.hg_check.specs.Checking.{LeadsTo, first_table};
+ghost use Rattle.hg_check.specs.Printing.{IsDue, Leads, live_text};
+ghost use Rattle.hg_check.specs.Running.{Advances, IsWhole, LeadsFrom, ReportsGrow, Stopped as StoppedAt, content_of};
+ghost use Rattle.hg_check.specs.Streaming.{HasCause};
+
+use crate::checker::{Ending, MemoryDetector, apply, push};
+use crate::printing::{out_of_memory, print_reports};
+use crate::streams::{Watched, read_once};
+use hg_model::verdict::Refusal;
+use hg_wire::reader::EventReader;
+use std::alloc::Global;
+use std::io::{Read, Write};
+
+/// How many bytes are read at once.
+const PIECE: usize = 65_536;
+
+/// After how many reads an input counts as failed.
+pub const MOST_READS: u64 = 1 << 32;
+
+/// What a read came to.
+#[derive(Clone, Copy, Drop)]
+enum Progress {
+    /// More may follow.
+    Underway,
+    /// The input is at its end.
+    AtEnd,
+    /// A line ended the run.
+    Stopped(Ending),
+}
+
+/// A reader at the start of a trace text.
+pub fn reader_at_start(alloc: Global) -> Result<EventReader, Refusal>
+    ensures start { IfOk result (λ reader. reader ≡ at_start) }
+    ensures cause { IfErr result (λ r. r ≡ Refusal.OutOfMemory) }
+{
+    EventReader::new(alloc).map_err(out_of_memory)
+}
+
+/// Room for a piece.
+pub fn piece_buffer(alloc: Global) -> Result<Vec<u8>, Refusal>
+    ensures size { IfOk result (λ buffer. length buffer.items ≡ 65536) }
+    ensures cause { IfErr result (λ r. r ≡ Refusal.OutOfMemory) }
+{
+    vec![in alloc; 0; PIECE].map_err(out_of_memory)
+}
+
+/// Reads once, and offers the events of what came.
+fn advance<R: Read>(
+    input: &mut Watched<R>,
+    buffer: &mut [u8],
+    reader: &mut EventReader,
+    detector: &mut MemoryDetector,
+) -> Result<Progress, Refusal>
+    requires whole { IsWhole detector.old }
+    requires room { 0 < length buffer.old }
+    requires lines { reader.old.lines + length buffer.old < 2 ^ 64 }
+    requires events { (content_of detector.old).last 0 + length buffer.old < 2 ^ 64 }
+    ensures underway { result ≡ Ok Progress.Underway
+        → Advances (R.remaining input.old.stream) (R.remaining input.new.stream) reader.old detector.old reader.new detector.new (length buffer.old) }
+    ensures at_end { result ≡ Ok Progress.AtEnd
+        → Advances (R.remaining input.old.stream) (R.remaining input.new.stream) reader.old detector.old reader.new detector.new 0 × IsAtEnd (R.remaining input.new.stream) }
+    ensures stopped { (end : EndingOf) → result ≡ Ok (Progress.Stopped end) → StoppedAt (R.remaining input.old.stream) reader.old detector.old detector.new end }
+    ensures size { length buffer.new ≡ length buffer.old }
+    ensures cause { IfErr result (λ r. HasCause input.new.failed input.new.failed r) }
+{
+    let Some(count) = read_once(input, buffer)? else {
+        return Ok(Progress::Underway);
+    };
+    if count == 0 {
+        return Ok(Progress::AtEnd);
+    }
+    match push(reader, detector, &buffer[..count])? {
+        None => Ok(Progress::Underway),
+        Some(end) => Ok(Progress::Stopped(end)),
+    }
+}
+
+/// Offers the event of the last line, which may lack its line feed.
+fn finish(reader: EventReader, detector: &mut MemoryDetector) -> Result<Ending, Refusal>
+    requires whole { IsWhole detector.old }
+    requires lines { reader.lines + 1 < 2 ^ 64 }
+    requires events { (content_of detector.old).last 0 + 1 < 2 ^ 64 }
+    ensures ends { IfOk result (λ end. LeadsTo (readings_from reader []) detector.old.sets (content_of detector.old) (content_of detector.new) end) }
+    ensures reports { OnOk result (ReportsGrow (content_of detector.old) (content_of detector.new)) }
+    ensures cause { IfErr result (λ r. r ≡ Refusal.OutOfMemory) }
+{
+    let Some(reading) = reader.finish() else {
+        return Ok(Ending::Ended);
+    };
+    match apply(detector, &reading)? {
+        None => Ok(Ending::Ended),
+        Some(end) => Ok(end),
+    }
+}
+
+/// Prints the reports that are new since the last time, where they are to be printed.
+fn print_new<W: Write>(
+    alloc: Global,
+    live: bool,
+    detector: &MemoryDetector,
+    printed: &mut usize,
+    held: &mut Vec<u8>,
+    output: &mut Watched<W>,
+) -> Result<(), Refusal>
+    ensures printed { (first : Option (List ℕ)) (c : Content) → printed.old ≡ length c.reports → ReportsGrow c (content_of detector.now)
+        → IsDue first (W.contents output.old.stream) held.old.items [] (live_text live c)
+        → OnOk result (IsDue first (W.contents output.new.stream) held.new.items [] (live_text live (content_of detector.now))) }
+    ensures count { OnOk result (printed.new ≡ length (content_of detector.now).reports) }
+    ensures cause { IfErr result (λ r. HasCause output.new.failed output.new.failed r) }
+    ensures lasting { output.old.failed ≡ true → output.new.failed ≡ true }
+{
+    let from = *printed;
+    *printed = detector.kept();
+    match live {
+        true => print_reports(alloc, detector, from, held, output),
+        false => Ok(()),
+    }
+}
+
+/// Reads a trace text to its end, or up to the first line that is refused or bad, and offers its events
+/// to a detector that has accepted none. Where `live` is set, reports are printed as they come.
+pub fn run<R: Read, W: Write>(
+    alloc: Global,
+    detector: &mut MemoryDetector,
+    input: &mut Watched<R>,
+    live: bool,
+    held: &mut Vec<u8>,
+    output: &mut Watched<W>,
+) -> Result<Ending, Refusal>
+    requires whole { IsWhole detector.old }
+    requires start { content_of detector.old ≡ empty_content }
+    requires sets { detector.old.sets ≡ first_table }
+    ensures ends { IfOk result (λ end. Leads (R.remaining input.old.stream) (content_of detector.new) end) }
+    ensures printed { (first : Option (List ℕ)) → IsDue first (W.contents output.old.stream) held.old.items [] []
+        → OnOk result (IsDue first (W.contents output.new.stream) held.new.items [] (live_text live (content_of detector.new))) }
+    ensures cause { IfErr result (λ r. HasCause input.new.failed output.new.failed r) }
+{
+    let mut reader = reader_at_start(alloc)?;
+    let mut buffer = piece_buffer(alloc)?;
+    let mut printed = 0;
+    let mut reads = 0;
+    while reads < MOST_READS {
+        reads += 1;
+        let progress = advance(input, buffer.as_mut_slice(), &mut reader, detector);
+        print_new(alloc, live, detector, &mut printed, held, output)?;
+        match progress? {
+            Progress::Underway => {}
+            Progress::Stopped(end) => return Ok(end),
+            Progress::AtEnd => {
+                let end = finish(reader, detector);
+                print_new(alloc, live, detector, &mut printed, held, output)?;
+                return end;
+            }
+        }
+    }
+    input.failed = true;
+    Err(Refusal::DeviceFault)
+}

@@ -1,0 +1,6 @@
+mod Causes
+mod FeedDone
+mod FeedPieces
+mod FeedSteps
+mod FeedUnderway
+mod Unique

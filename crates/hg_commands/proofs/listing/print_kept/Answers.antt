@@ -1,0 +1,25 @@
+use Rattle.std.proofs.Common.{◌≡◌, ℕ, ◌+◌, ◌<◌, ◌++◌, ◌∷◌, List, length, drop, get_or, ap, ◌∙◌, sym}
+use Rattle.std.proofs.lemmas.List.{drop_more}
+use Rattle.hg_model.specs.declared.report.Report.{Report}
+use Rattle.hg_wire.specs.Reports.{report_line}
+use Rattle.hg_check.specs.Printing.{line_text, reports_text}
+use Rattle.hg_check.proofs.Printed.{holds_next}
+use Rattle.hg_commands.proofs.listing.print_kept.Goals as goal
+
+next_report : (reports : List Report) (index k : ℕ) (r : Report) → index < length reports → r ≡ get_or reports index r
+    → reports_text k (drop index reports) ≡ line_text (report_line k r) ++ reports_text (k + 1) (drop (index + 1) reports)
+next_report reports index k r within is =
+    ap (λ xs. reports_text k xs) (drop_more reports index r within ∙ ap (λ x. x ∷ drop (index + 1) reports) (sym is))
+
+pub loop-report-preserved : goal.loop-report-preserved
+loop-report-preserved g c =
+    let reports = c.args.reports.now in
+    let before = c.loop-report.before in
+    let index = c.loop-report.report-index in
+    let r = c.report-item.result in (
+      λ first rest goal p. c.in_ok-write_large.ensures.printed first (reports_text (before + 1 + 1) (drop (index + 1) reports) ++ rest) goal
+          (holds_next c.loop-report.held.items c.hold_report.new.held.items (reports_text (before + 1) (drop index reports)) (line_text (report_line (before + 1) r)) (reports_text (before + 1 + 1) (drop (index + 1) reports))
+          c.in_ok-hold_report.ensures.ok (next_report reports index (before + 1) r c.loop-report-test.true c.report-item.is)
+          first (g.W.Write.contents c.loop-report.output.stream) rest goal (c.loop-report.invariant.0 first rest goal p)),
+      (λ h. c.write_large.ensures.lasting (c.loop-report.invariant.1.0 h), ap (λ (n : ℕ). n + 1) c.loop-report.invariant.1.1),
+    )

@@ -1,0 +1,4 @@
+pub mod FeedRunning
+pub mod Feeding
+pub mod Storing
+pub mod Laws

@@ -1,0 +1,385 @@
+//! Feeding the events of a trace text to a store.
+
+ghost use Rattle.std.specs.Prelude.{◌≡◌, ◌⊎◌, ℕ, ◌+◌, ◌<◌, ◌≤◌, ◌^◌, ◌++◌, ◌%◌, Bool, true, false, Option, List, [], ◌∷◌, Ok, Some, None, length, codes, IfOk, IfErr, OnErr, OnOk, IsTrue};
+ghost use Rattle.std.specs.Io.KnownBytes.{Appends, IsAtEnd, Keeps};
+ghost use Rattle.hg_model.specs.Contents.{Content};
+ghost use Rattle.hg_store.specs.Images.{failures_of};
+ghost use Rattle.hg_store.specs.Store.{content_of};
+ghost use Rattle.hg_wire.specs.Streams.{at_start, readings_from};
+ghost use Rattle.hg_check.specs.declared.checker.Ending.{Ending as EndingOf};
+ghost use Rattle.hg_check.specs.Printing.{status_of};
+ghost use Rattle.hg_commands.specs.Feeding.{ack_text, feed_end_text};
+ghost use Rattle.hg_commands.specs.FeedRunning.{EndsAt, FeedAdvances, FeedDone, FeedEndsIn, FeedReaches, FeedStops, Feeds, GoesOn, HasFeedCause, IsReady, LeadsOn, Passes, WasCommitted, WasCounted, WasFed, WasSent, place};
+ghost use Rattle.hg_check.specs.Streaming.{HasCause};
+ghost use Rattle.hg_commands.specs.Storing.{EndsByStoreFault, HasStoreCause};
+
+use crate::listing::hold_end_line;
+use crate::opening::open_store;
+use crate::saying::print_number;
+use hg_check::checker::{Ending, stop};
+use hg_check::commands::status_of_end;
+use hg_check::printing::hold_stop;
+use hg_check::run::{MOST_READS, piece_buffer, reader_at_start};
+use hg_check::streams::{Watched, flush, read_once, write_out};
+use hg_check::telling::tell;
+use hg_detect::detector::Answer;
+use hg_disk::Disk;
+use hg_model::event::{Event, Named};
+use hg_model::verdict::Refusal;
+use hg_store::devices::Devices;
+use hg_store::store::Store;
+use hg_wire::reader::{EventReader, Reading, Taken};
+use std::alloc::Global;
+use std::io::{Read, Write};
+
+/// After how many accepted events a commit comes.
+const BATCH: u64 = 256;
+
+/// How far a source has been fed.
+#[derive(Clone, Copy, Debug, PartialEq, Eq, Drop)]
+pub struct Fed {
+    /// The source, whose events are numbered as their lines.
+    pub source: u16,
+    /// The number of the last line that had an event.
+    pub number: u64,
+    /// How many events were accepted.
+    pub accepted: u64,
+}
+
+/// What a read came to.
+#[derive(Clone, Copy, Drop)]
+enum Progress {
+    /// More may follow.
+    Underway,
+    /// The input is at its end.
+    AtEnd,
+    /// A line ended the feeding.
+    Stopped(Ending),
+}
+
+/// Commits, and tells at once how many events are durable.
+fn acknowledge<D: Disk, W: Write>(
+    store: &mut Store<D>,
+    held: &mut Vec<u8>,
+    output: &mut Watched<W>,
+) -> Result<(), Refusal>
+    requires works { store.old.is_broken ≡ false }
+    requires none { held.old.items ≡ [] }
+    ensures committed { OnOk result (WasCommitted ⟦<D as Disk>⟧ store.old store.new) }
+    ensures printed { OnOk result (Appends (W.contents output.old.stream) (W.contents output.new.stream) (ack_text (content_of store.old.detector).events)) }
+    ensures none { OnOk result (held.new.items ≡ []) }
+    ensures cause { IfErr result (λ r. HasFeedCause (failures_of ⟦<D as Disk>⟧ store.old.devices) (failures_of ⟦<D as Disk>⟧ store.new.devices) output.new.failed output.new.failed r) }
+{
+    let count = store.commit()?;
+    print_number(b"ack ", count, held, output)
+}
+
+/// Counts an accepted event. After each 256th comes a commit.
+fn count_accepted<D: Disk, W: Write>(
+    store: &mut Store<D>,
+    fed: &mut Fed,
+    held: &mut Vec<u8>,
+    output: &mut Watched<W>,
+) -> Result<(), Refusal>
+    requires works { store.old.is_broken ≡ false }
+    requires none { held.old.items ≡ [] }
+    requires pending { length store.old.pending ≡ fed.old.accepted % 256 + 1 }
+    requires room { fed.old.accepted + 1 < 2 ^ 64 }
+    ensures counted { OnOk result (WasCounted ⟦<D as Disk>⟧ (place store.old fed.old (W.contents output.old.stream)) (place store.new fed.new (W.contents output.new.stream))) }
+    ensures none { OnOk result (held.new.items ≡ []) }
+    ensures cause { IfErr result (λ r. HasFeedCause (failures_of ⟦<D as Disk>⟧ store.old.devices) (failures_of ⟦<D as Disk>⟧ store.new.devices) output.new.failed output.new.failed r) }
+{
+    fed.accepted += 1;
+    if fed.accepted % BATCH == 0 {
+        return acknowledge(store, held, output);
+    }
+    Ok(())
+}
+
+/// Offers an event as the next one of its source.
+fn send<D: Disk>(store: &mut Store<D>, fed: &mut Fed, event: Event) -> Result<Answer, Refusal>
+    requires room { fed.old.number + 1 < 2 ^ 64 }
+    ensures { WasSent ⟦<D as Disk>⟧ store.old store.new fed.old fed.new event result }
+{
+    fed.number += 1;
+    store.offer(&Named {
+        source: fed.source,
+        number: fed.number,
+        event,
+    })
+}
+
+/// Offers the event of a line. `None` says that it was accepted, or was sent before.
+fn feed_reading<D: Disk, W: Write>(
+    store: &mut Store<D>,
+    fed: &mut Fed,
+    reading: &Reading,
+    held: &mut Vec<u8>,
+    output: &mut Watched<W>,
+) -> Result<Option<Ending>, Refusal>
+    requires ready { IsReady store.old fed.old }
+    requires room { fed.old.number + 1 < 2 ^ 64 }
+    requires none { held.old.items ≡ [] }
+    ensures passes { result ≡ Ok None → Passes ⟦<D as Disk>⟧ (place store.old fed.old (W.contents output.old.stream)) (place store.new fed.new (W.contents output.new.stream)) reading.now }
+    ensures ends { (end : EndingOf) → result ≡ Ok (Some end) → EndsAt ⟦<D as Disk>⟧ (place store.old fed.old (W.contents output.old.stream)) (place store.new fed.new (W.contents output.new.stream)) reading.now end }
+    ensures none { OnOk result (held.new.items ≡ []) }
+    ensures cause { IfErr result (λ r. HasFeedCause (failures_of ⟦<D as Disk>⟧ store.old.devices) (failures_of ⟦<D as Disk>⟧ store.new.devices) output.new.failed output.new.failed r) }
+{
+    let line = reading.line;
+    let Ok(event) = reading.event else {
+        return Ok(Some(Ending::Bad { line }));
+    };
+    match send(store, fed, event) {
+        Ok(Answer::Accepted) => {
+            count_accepted(store, fed, held, output)?;
+            Ok(None)
+        }
+        Ok(Answer::Duplicate(_)) => Ok(None),
+        Err(refusal) => stop(line, refusal),
+    }
+}
+
+/// Takes a piece of a trace text, and offers its events up to the line that ends the feeding. `None` says that there
+/// was none, and that the piece was taken whole.
+fn feed_piece<D: Disk, W: Write>(
+    reader: &mut EventReader,
+    store: &mut Store<D>,
+    fed: &mut Fed,
+    piece: &[u8],
+    held: &mut Vec<u8>,
+    output: &mut Watched<W>,
+) -> Result<Option<Ending>, Refusal>
+    requires ready { IsReady store.old fed.old }
+    requires lines { reader.old.lines + length piece.now < 2 ^ 64 }
+    requires number { fed.old.number + length piece.now < 2 ^ 64 }
+    requires none { held.old.items ≡ [] }
+    ensures reaches { result ≡ Ok None → FeedReaches ⟦<D as Disk>⟧ reader.old (place store.old fed.old (W.contents output.old.stream)) piece.now reader.new (place store.new fed.new (W.contents output.new.stream)) [] }
+    ensures ends { (end : EndingOf) → result ≡ Ok (Some end) → FeedEndsIn ⟦<D as Disk>⟧ reader.old (place store.old fed.old (W.contents output.old.stream)) piece.now (place store.new fed.new (W.contents output.new.stream)) end }
+    ensures none { OnOk result (held.new.items ≡ []) }
+    ensures cause { IfErr result (λ r. HasFeedCause (failures_of ⟦<D as Disk>⟧ store.old.devices) (failures_of ⟦<D as Disk>⟧ store.new.devices) output.new.failed output.new.failed r) }
+{
+    let mut rest = piece;
+    loop {
+        let Taken::Line { reading, used } = reader.take(rest) else {
+            return Ok(None);
+        };
+        rest = &rest[used..];
+        let end = feed_reading(store, fed, &reading, held, output)?;
+        if end.is_some() {
+            return Ok(end);
+        }
+    }
+}
+
+/// Reads once, and offers the events of what came.
+fn advance<D: Disk, R: Read, W: Write>(
+    input: &mut Watched<R>,
+    buffer: &mut [u8],
+    reader: &mut EventReader,
+    store: &mut Store<D>,
+    fed: &mut Fed,
+    held: &mut Vec<u8>,
+    output: &mut Watched<W>,
+) -> Result<Progress, Refusal>
+    requires ready { IsReady store.old fed.old }
+    requires some { 0 < length buffer.old }
+    requires lines { reader.old.lines + length buffer.old < 2 ^ 64 }
+    requires number { fed.old.number + length buffer.old < 2 ^ 64 }
+    requires none { held.old.items ≡ [] }
+    ensures underway { result ≡ Ok Progress.Underway → FeedAdvances ⟦<D as Disk>⟧ (R.remaining input.old.stream) (R.remaining input.new.stream) reader.old (place store.old fed.old (W.contents output.old.stream)) reader.new (place store.new fed.new (W.contents output.new.stream)) (length buffer.old) }
+    ensures at_end { result ≡ Ok Progress.AtEnd → FeedAdvances ⟦<D as Disk>⟧ (R.remaining input.old.stream) (R.remaining input.new.stream) reader.old (place store.old fed.old (W.contents output.old.stream)) reader.new (place store.new fed.new (W.contents output.new.stream)) 0 × IsAtEnd (R.remaining input.new.stream) }
+    ensures stopped { (end : EndingOf) → result ≡ Ok (Progress.Stopped end) → FeedStops ⟦<D as Disk>⟧ (R.remaining input.old.stream) reader.old (place store.old fed.old (W.contents output.old.stream)) (place store.new fed.new (W.contents output.new.stream)) end }
+    ensures size { length buffer.new ≡ length buffer.old }
+    ensures none { OnOk result (held.new.items ≡ []) }
+    ensures cause { IfErr result (λ r. HasFeedCause (failures_of ⟦<D as Disk>⟧ store.old.devices) (failures_of ⟦<D as Disk>⟧ store.new.devices) input.new.failed output.new.failed r) }
+{
+    let Some(count) = read_once(input, buffer)? else {
+        return Ok(Progress::Underway);
+    };
+    if count == 0 {
+        return Ok(Progress::AtEnd);
+    }
+    match feed_piece(reader, store, fed, &buffer[..count], held, output)? {
+        None => Ok(Progress::Underway),
+        Some(end) => Ok(Progress::Stopped(end)),
+    }
+}
+
+/// Offers the event of the last line, which may lack its line feed.
+fn finish<D: Disk, W: Write>(
+    reader: EventReader,
+    store: &mut Store<D>,
+    fed: &mut Fed,
+    held: &mut Vec<u8>,
+    output: &mut Watched<W>,
+) -> Result<Ending, Refusal>
+    requires ready { IsReady store.old fed.old }
+    requires lines { reader.lines + 1 < 2 ^ 64 }
+    requires number { fed.old.number + 1 < 2 ^ 64 }
+    requires none { held.old.items ≡ [] }
+    ensures goes { OnOk result (GoesOn ⟦<D as Disk>⟧ (place store.old fed.old (W.contents output.old.stream)) (place store.new fed.new (W.contents output.new.stream))) }
+    ensures leads { IfOk result (λ end. LeadsOn (place store.old fed.old (W.contents output.old.stream)) (readings_from reader []) (content_of store.new.detector) end) }
+    ensures none { OnOk result (held.new.items ≡ []) }
+    ensures cause { IfErr result (λ r. HasFeedCause (failures_of ⟦<D as Disk>⟧ store.old.devices) (failures_of ⟦<D as Disk>⟧ store.new.devices) output.new.failed output.new.failed r) }
+{
+    let Some(reading) = reader.finish() else {
+        return Ok(Ending::Ended);
+    };
+    match feed_reading(store, fed, &reading, held, output)? {
+        None => Ok(Ending::Ended),
+        Some(end) => Ok(end),
+    }
+}
+
+/// Reads a trace text to its end, or up to the line that ends the feeding, and offers its events.
+fn feed_all<D: Disk, R: Read, W: Write>(
+    alloc: Global,
+    store: &mut Store<D>,
+    fed: &mut Fed,
+    input: &mut Watched<R>,
+    held: &mut Vec<u8>,
+    output: &mut Watched<W>,
+) -> Result<Ending, Refusal>
+    requires ready { IsReady store.old fed.old }
+    requires start { fed.old.number ≡ 0 }
+    requires none { held.old.items ≡ [] }
+    ensures goes { OnOk result (GoesOn ⟦<D as Disk>⟧ (place store.old fed.old (W.contents output.old.stream)) (place store.new fed.new (W.contents output.new.stream))) }
+    ensures feeds { IfOk result (λ end. Feeds (R.remaining input.old.stream) fed.old.source store.old.detector.sets (content_of store.old.detector) (content_of store.new.detector) end) }
+    ensures none { OnOk result (held.new.items ≡ []) }
+    ensures cause { IfErr result (λ r. HasFeedCause (failures_of ⟦<D as Disk>⟧ store.old.devices) (failures_of ⟦<D as Disk>⟧ store.new.devices) input.new.failed output.new.failed r) }
+{
+    let mut reader = reader_at_start(alloc)?;
+    let mut buffer = piece_buffer(alloc)?;
+    let mut reads = 0;
+    while reads < MOST_READS {
+        reads += 1;
+        let progress = advance(
+            input,
+            buffer.as_mut_slice(),
+            &mut reader,
+            store,
+            fed,
+            held,
+            output,
+        )?;
+        match progress {
+            Progress::Underway => {}
+            Progress::Stopped(end) => return Ok(end),
+            Progress::AtEnd => return finish(reader, store, fed, held, output),
+        }
+    }
+    input.failed = true;
+    Err(Refusal::DeviceFault)
+}
+
+/// Holds the last line: the end line, or the line that was refused or bad.
+fn hold_last<D: Disk>(store: &Store<D>, end: Ending, held: &mut Vec<u8>) -> Result<(), Refusal>
+    requires works { store.now.is_broken ≡ false }
+    ensures ok { OnOk result (held.new.items ≡ held.old.items ++ feed_end_text (content_of store.now.detector) end) }
+    ensures cause { IfErr result (λ r. r ≡ Refusal.OutOfMemory) }
+{
+    match end {
+        Ending::Ended => hold_end_line(store, held),
+        Ending::Refused { .. } => hold_stop(end, held),
+        Ending::Bad { .. } => hold_stop(end, held),
+    }
+}
+
+/// Prints the last line.
+fn print_end<D: Disk, W: Write>(
+    store: &Store<D>,
+    end: Ending,
+    held: &mut Vec<u8>,
+    output: &mut Watched<W>,
+) -> Result<(), Refusal>
+    requires works { store.now.is_broken ≡ false }
+    requires none { held.old.items ≡ [] }
+    ensures printed { OnOk result (Appends (W.contents output.old.stream) (W.contents output.new.stream) (feed_end_text (content_of store.now.detector) end)) }
+    ensures cause { IfErr result (λ r. HasCause output.new.failed output.new.failed r) }
+{
+    hold_last(store, end, held)?;
+    write_out(held, output)?;
+    flush(output)?;
+    Ok(())
+}
+
+/// Feeds a trace text to a store, with all that is printed of it.
+fn feed_store<D: Disk, R: Read, W: Write>(
+    alloc: Global,
+    store: &mut Store<D>,
+    source: u16,
+    input: &mut Watched<R>,
+    output: &mut Watched<W>,
+) -> Result<Ending, Refusal>
+    requires works { store.old.is_broken ≡ false }
+    requires pending { store.old.pending ≡ [] }
+    ensures fed { IfOk result (λ end. WasFed ⟦<D as Disk>⟧ (R.remaining input.old.stream) source store.old store.new (W.contents output.old.stream) (W.contents output.new.stream) end) }
+    ensures cause { IfErr result (λ r. HasFeedCause (failures_of ⟦<D as Disk>⟧ store.old.devices) (failures_of ⟦<D as Disk>⟧ store.new.devices) input.new.failed output.new.failed r) }
+{
+    let mut held = Vec::new(alloc);
+    let mut fed = Fed {
+        source,
+        number: 0,
+        accepted: 0,
+    };
+    let last = store.last(source)?;
+    print_number(b"resume ", last, &mut held, output)?;
+    let end = feed_all(alloc, store, &mut fed, input, &mut held, output)?;
+    acknowledge(store, &mut held, output)?;
+    print_end(store, end, &mut held, output)?;
+    Ok(end)
+}
+
+/// Recovers a store, feeds a trace text to it, and hands its devices back.
+fn recover_and_feed<D: Disk, R: Read, W: Write>(
+    alloc: Global,
+    devices: Devices<D>,
+    source: u16,
+    frames: u16,
+    input: &mut Watched<R>,
+    output: &mut Watched<W>,
+) -> (Result<Ending, Refusal>, Devices<D>)
+    requires { (4 ≤ frames) × (frames ≤ 4096) }
+    ensures fed { IfOk result.0 (λ end. FeedDone ⟦<D as Disk>⟧ (R.remaining input.old.stream) source devices result.1 (W.contents output.old.stream) (W.contents output.new.stream) end) }
+    ensures cause { IfErr result.0 (λ r. HasStoreCause ⟦<D as Disk>⟧ devices result.1 input.new.failed output.new.failed r) }
+{
+    match open_store(alloc, devices, frames) {
+        Ok(store) => {
+            let mut store = store;
+            let end = feed_store(alloc, &mut store, source, input, output);
+            (end, store.into_devices())
+        }
+        Err((refusal, devices)) => (Err(refusal), devices),
+    }
+}
+
+/// Recovers the store that the devices hold, and feeds it a trace text as the events of a source, each line's numbered by
+/// the count of those before it. Prints the last number that the source had sent, the count of all accepted events at each
+/// commit, which comes after each 256th accepted event and at the end, and the end line, or the line that was refused or bad,
+/// after which nothing is read. Events that were sent before are passed over.
+///
+/// Answers the status and the devices: 0, 2 where a line was refused or bad, or 3 where the devices hold no store, a device or
+/// a stream failed, or memory or room was refused, which is told on `faults`.
+pub fn feed<D: Disk, R: Read, W: Write, V: Write>(
+    alloc: Global,
+    devices: Devices<D>,
+    source: u16,
+    frames: u16,
+    input: &mut Watched<R>,
+    output: &mut Watched<W>,
+    faults: &mut Watched<V>,
+) -> (u8, Devices<D>)
+    requires { (4 ≤ frames) × (frames ≤ 4096) }
+    ensures fed { (result.0 ≡ 3 → ⊥) → (end : EndingOf) × (result.0 ≡ status_of end) × FeedDone ⟦<D as Disk>⟧ (R.remaining input.old.stream) source devices result.1 (W.contents output.old.stream) (W.contents output.new.stream) end }
+    ensures quiet { (result.0 ≡ 3 → ⊥) → Keeps (V.contents faults.old.stream) (V.contents faults.new.stream) }
+    ensures fault { result.0 ≡ 3 → EndsByStoreFault ⟦<D as Disk>⟧ devices result.1 input.new.failed output.new.failed faults.new.failed (V.contents faults.old.stream) (V.contents faults.new.stream) }
+{
+    let (ended, devices) = recover_and_feed(alloc, devices, source, frames, input, output);
+    match ended {
+        Ok(end) => (status_of_end(end), devices),
+        Err(refusal) => {
+            tell(refusal, faults);
+            (3, devices)
+        }
+    }
+}

@@ -1,0 +1,9 @@
+//! Laws of the definitions, each the promise of a function without a body.
+
+ghost use Rattle.hg_commands.specs.Laws.{FeedingIsUnique};
+
+/// Feeding a trace text to a store leads to one content and ends in one way. The bytes of the devices settle the content and
+/// the table that it begins with (`content_is_unique`, `sets_are_unique`), so what `feed` prints is settled.
+pub fn feeding_is_unique()
+    ensures { FeedingIsUnique }
+{}

@@ -1,0 +1,11 @@
+//! The commands over a store: making one, printing what it holds, and feeding it a trace text.
+#![tactic(auto)]
+
+pub mod creating;
+pub mod feeding;
+pub mod laws;
+pub mod listing;
+pub mod opening;
+pub mod saying;
+#[cfg(test)]
+mod tests;

@@ -1,0 +1,203 @@
+//! The commands that print what a store holds.
+
+ghost use Rattle.std.specs.Prelude.{◌≡◌, ◌⊎◌, ◌++◌, ◌+◌, ◌≤◌, [], ℕ, Bool, List, Option, Ok, Err, OnOk, OnErr, IfOk, IfErr, IsTrue, true, false, codes, drop};
+ghost use Rattle.std.specs.Io.KnownBytes.{Appends, Keeps};
+ghost use Rattle.hg_model.specs.Change.{empty_content};
+ghost use Rattle.hg_model.specs.Contents.{Content};
+ghost use Rattle.hg_store.specs.Images.{EachImage, HasContent, Image, IsLeft, failures_of, read_of};
+ghost use Rattle.hg_store.specs.Recovering.{IsEmpty, empty_image, made_of};
+ghost use Rattle.hg_store.specs.Store.{IsFresh, content_of};
+ghost use Rattle.hg_check.specs.Printing.{IsDue, line_text, reports_text, segments_text};
+ghost use Rattle.hg_commands.specs.Storing.{EndsByStoreFault, HasStoreCause, listing_text, store_end_line};
+ghost use Rattle.hg_check.specs.Streaming.{HasCause};
+
+use crate::opening::open_store;
+use hg_check::printing::{hold_report, out_of_memory, print_segments, write_large};
+use hg_check::streams::{Watched, flush, write_out};
+use hg_check::telling::tell;
+use hg_disk::Disk;
+use hg_model::report::Report;
+use hg_model::verdict::Refusal;
+use hg_store::devices::Devices;
+use hg_store::store::Store;
+use hg_wire::report::put_end_line;
+use std::alloc::Global;
+use std::io::Write;
+
+/// What is printed of a store.
+#[derive(Clone, Copy, Debug, PartialEq, Eq, Drop)]
+pub enum Listing {
+    /// The kept reports, and the end line.
+    Reports,
+    /// The thread segments.
+    Segments,
+}
+
+/// Holds the end line of a store that works: the counts of its accepted events, its reports and its segments.
+pub fn hold_end_line<D: Disk>(store: &Store<D>, held: &mut Vec<u8>) -> Result<(), Refusal>
+    requires works { store.now.is_broken ≡ false }
+    ensures ok { OnOk result (held.new.items ≡ held.old.items ++ line_text (store_end_line (content_of store.now.detector))) }
+    ensures cause { IfErr result (λ r. r ≡ Refusal.OutOfMemory) }
+{
+    let events = store.events()?;
+    let races = store.total()?;
+    let segments = store.graph()?.len() as u64;
+    put_end_line(events, races, segments, held).map_err(out_of_memory)?;
+    held.extend_from_slice(b"\n").map_err(out_of_memory)
+}
+
+/// Prints the lines of kept reports.
+fn print_kept<W: Write>(
+    reports: &[Report],
+    held: &mut Vec<u8>,
+    output: &mut Watched<W>,
+) -> Result<(), Refusal>
+    ensures printed { (first : Option (List ℕ)) (rest goal : List ℕ)
+        → IsDue first (W.contents output.old.stream) held.old.items (reports_text 1 reports.now ++ rest) goal
+        → OnOk result (IsDue first (W.contents output.new.stream) held.new.items rest goal) }
+    ensures cause { IfErr result (λ r. HasCause output.new.failed output.new.failed r) }
+    ensures lasting { output.old.failed ≡ true → output.new.failed ≡ true }
+{
+    let mut before = 0;
+    for report in reports {
+        hold_report(before + 1, report, held)?;
+        write_large(held, output)?;
+        before += 1;
+    }
+    Ok(())
+}
+
+/// Holds what is left to print of a store, and prints what is much.
+fn print_most<D: Disk, W: Write>(
+    alloc: Global,
+    store: &Store<D>,
+    listing: Listing,
+    held: &mut Vec<u8>,
+    output: &mut Watched<W>,
+) -> Result<(), Refusal>
+    requires works { store.now.is_broken ≡ false }
+    requires none { held.old.items ≡ [] }
+    ensures printed { OnOk result (IsDue (W.contents output.old.stream) (W.contents output.new.stream) held.new.items [] (listing_text listing (content_of store.now.detector))) }
+    ensures cause { IfErr result (λ r. HasCause output.new.failed output.new.failed r) }
+{
+    match listing {
+        Listing::Reports => {
+            let reports = store.reports(alloc)?;
+            print_kept(reports.as_slice(), held, output)?;
+            hold_end_line(store, held)
+        }
+        Listing::Segments => print_segments(store.graph()?, held, output),
+    }
+}
+
+/// Prints what a store that works holds.
+fn print_store<D: Disk, W: Write>(
+    alloc: Global,
+    store: &Store<D>,
+    listing: Listing,
+    output: &mut Watched<W>,
+) -> Result<(), Refusal>
+    requires works { store.now.is_broken ≡ false }
+    ensures printed { OnOk result (Appends (W.contents output.old.stream) (W.contents output.new.stream) (listing_text listing (content_of store.now.detector))) }
+    ensures cause { IfErr result (λ r. HasCause output.new.failed output.new.failed r) }
+{
+    let mut held = Vec::new(alloc);
+    print_most(alloc, store, listing, &mut held, output)?;
+    write_out(&mut held, output)?;
+    flush(output)?;
+    Ok(())
+}
+
+/// Recovers a store, prints what it holds, and hands its devices back.
+fn recover_and_print<D: Disk, W: Write>(
+    alloc: Global,
+    devices: Devices<D>,
+    frames: u16,
+    listing: Listing,
+    output: &mut Watched<W>,
+) -> (Result<(), Refusal>, Devices<D>)
+    requires { (4 ≤ frames) × (frames ≤ 4096) }
+    ensures prints { IsTrue D.is_honest → OnOk result.0 ((c : Content) × HasContent (read_of ⟦<D as Disk>⟧ devices) c
+        × Appends (W.contents output.old.stream) (W.contents output.new.stream) (listing_text listing c)) }
+    ensures device { OnOk result.0 (failures_of ⟦<D as Disk>⟧ result.1 ≡ failures_of ⟦<D as Disk>⟧ devices) }
+    ensures cause { IfErr result.0 (λ r. HasStoreCause ⟦<D as Disk>⟧ devices result.1 output.new.failed output.new.failed r) }
+    ensures images { EachImage ⟦<D as Disk>⟧ devices result.1 (IsLeft ⟦<D as Disk>⟧ devices) }
+{
+    match open_store(alloc, devices, frames) {
+        Ok(store) => {
+            let printed = print_store(alloc, &store, listing, output);
+            (printed, store.into_devices())
+        }
+        Err((refusal, devices)) => (Err(refusal), devices),
+    }
+}
+
+/// Prints a listing of the store that the devices hold, and answers the status as `store_reports` does.
+fn list_store<D: Disk, W: Write, V: Write>(
+    alloc: Global,
+    devices: Devices<D>,
+    frames: u16,
+    listing: Listing,
+    output: &mut Watched<W>,
+    faults: &mut Watched<V>,
+) -> (u8, Devices<D>)
+    requires { (4 ≤ frames) × (frames ≤ 4096) }
+    ensures status { (result.0 ≡ 0) ⊎ (result.0 ≡ 3) }
+    ensures prints { IsTrue D.is_honest → result.0 ≡ 0 → (c : Content) × HasContent (read_of ⟦<D as Disk>⟧ devices) c
+        × Appends (W.contents output.old.stream) (W.contents output.new.stream) (listing_text listing c) }
+    ensures device { result.0 ≡ 0 → failures_of ⟦<D as Disk>⟧ result.1 ≡ failures_of ⟦<D as Disk>⟧ devices }
+    ensures quiet { result.0 ≡ 0 → Keeps (V.contents faults.old.stream) (V.contents faults.new.stream) }
+    ensures fault { result.0 ≡ 3 → EndsByStoreFault ⟦<D as Disk>⟧ devices result.1 output.new.failed output.new.failed faults.new.failed (V.contents faults.old.stream) (V.contents faults.new.stream) }
+    ensures images { EachImage ⟦<D as Disk>⟧ devices result.1 (IsLeft ⟦<D as Disk>⟧ devices) }
+{
+    let (printed, devices) = recover_and_print(alloc, devices, frames, listing, output);
+    match printed {
+        Ok(()) => (0, devices),
+        Err(refusal) => {
+            tell(refusal, faults);
+            (3, devices)
+        }
+    }
+}
+
+/// Recovers the store that the devices hold, and prints its kept reports and the end line. Answers the status and the
+/// devices: 0, or 3 where they hold no store, a device or the output failed, or memory or room was refused, which is
+/// told on `faults`. A crash at any moment leaves images that there were before.
+pub fn store_reports<D: Disk, W: Write, V: Write>(
+    alloc: Global,
+    devices: Devices<D>,
+    frames: u16,
+    output: &mut Watched<W>,
+    faults: &mut Watched<V>,
+) -> (u8, Devices<D>)
+    requires { (4 ≤ frames) × (frames ≤ 4096) }
+    ensures status { (result.0 ≡ 0) ⊎ (result.0 ≡ 3) }
+    ensures prints { IsTrue D.is_honest → result.0 ≡ 0 → (c : Content) × HasContent (read_of ⟦<D as Disk>⟧ devices) c
+        × Appends (W.contents output.old.stream) (W.contents output.new.stream) (reports_text 1 c.reports ++ line_text (store_end_line c)) }
+    ensures device { result.0 ≡ 0 → failures_of ⟦<D as Disk>⟧ result.1 ≡ failures_of ⟦<D as Disk>⟧ devices }
+    ensures quiet { result.0 ≡ 0 → Keeps (V.contents faults.old.stream) (V.contents faults.new.stream) }
+    ensures fault { result.0 ≡ 3 → EndsByStoreFault ⟦<D as Disk>⟧ devices result.1 output.new.failed output.new.failed faults.new.failed (V.contents faults.old.stream) (V.contents faults.new.stream) }
+    ensures images { EachImage ⟦<D as Disk>⟧ devices result.1 (IsLeft ⟦<D as Disk>⟧ devices) }
+{
+    list_store(alloc, devices, frames, Listing::Reports, output, faults)
+}
+
+/// Recovers the store that the devices hold, and prints its thread segments. Answers as `store_reports` does.
+pub fn store_graph<D: Disk, W: Write, V: Write>(
+    alloc: Global,
+    devices: Devices<D>,
+    frames: u16,
+    output: &mut Watched<W>,
+    faults: &mut Watched<V>,
+) -> (u8, Devices<D>)
+    requires { (4 ≤ frames) × (frames ≤ 4096) }
+    ensures status { (result.0 ≡ 0) ⊎ (result.0 ≡ 3) }
+    ensures prints { IsTrue D.is_honest → result.0 ≡ 0 → (c : Content) × HasContent (read_of ⟦<D as Disk>⟧ devices) c
+        × Appends (W.contents output.old.stream) (W.contents output.new.stream) (segments_text 0 c.segments) }
+    ensures device { result.0 ≡ 0 → failures_of ⟦<D as Disk>⟧ result.1 ≡ failures_of ⟦<D as Disk>⟧ devices }
+    ensures quiet { result.0 ≡ 0 → Keeps (V.contents faults.old.stream) (V.contents faults.new.stream) }
+    ensures fault { result.0 ≡ 3 → EndsByStoreFault ⟦<D as Disk>⟧ devices result.1 output.new.failed output.new.failed faults.new.failed (V.contents faults.old.stream) (V.contents faults.new.stream) }
+    ensures images { EachImage ⟦<D as Disk>⟧ devices result.1 (IsLeft ⟦<D as Disk>⟧ devices) }
+{
+    list_store(alloc, devices, frames, Listing::Segments, output, faults)
+}

@@ -1,0 +1,40 @@
+//! Opening a store.
+
+ghost use Rattle.std.specs.Prelude.{◌≡◌, ◌⊎◌, ◌++◌, ◌+◌, ◌≤◌, [], ℕ, Bool, List, Option, Ok, Err, OnOk, OnErr, IfOk, IfErr, IsTrue, true, false, codes, drop};
+ghost use Rattle.std.specs.Io.KnownBytes.{Appends, Keeps};
+ghost use Rattle.hg_model.specs.Change.{empty_content};
+ghost use Rattle.hg_model.specs.Contents.{Content};
+ghost use Rattle.hg_store.specs.Images.{EachImage, HasContent, Image, IsLeft, failures_of, read_of};
+ghost use Rattle.hg_store.specs.Recovering.{HasSets, made_of};
+ghost use Rattle.hg_store.specs.Store.{IsFresh, content_of};
+ghost use Rattle.hg_check.specs.Printing.{IsDue, line_text, reports_text, segments_text};
+ghost use Rattle.hg_commands.specs.Storing.{EndsByStoreFault, HasStoreCause, listing_text, store_end_line};
+ghost use Rattle.hg_check.specs.Streaming.{HasCause};
+
+use hg_disk::Disk;
+use hg_model::verdict::Refusal;
+use hg_store::devices::{Caps, Devices};
+use hg_store::store::Store;
+use std::alloc::Global;
+
+/// The store that the devices hold, with nothing pending, at the sizes of the program. A refusal hands them back, and is a
+/// fault with its cause.
+pub fn open_store<D: Disk>(
+    alloc: Global,
+    devices: Devices<D>,
+    frames: u16,
+) -> Result<Store<D>, (Refusal, Devices<D>)>
+    requires { (4 ≤ frames) × (frames ≤ 4096) }
+    ensures works { IfOk result (λ store. store.is_broken ≡ false) }
+    ensures none { IfOk result (λ store. store.pending ≡ []) }
+    ensures content { IsTrue D.is_honest → IfOk result (λ store. (c : Content) × HasContent (read_of ⟦<D as Disk>⟧ devices) c × IsFresh ⟦<D as Disk>⟧ store c) }
+    ensures sets { IsTrue D.is_honest → IfOk result (λ store. HasSets 262144 (D.state devices.journal).contents (content_of store.detector) store.detector.sets) }
+    ensures device { IfOk result (λ store. failures_of ⟦<D as Disk>⟧ store.devices ≡ failures_of ⟦<D as Disk>⟧ devices) }
+    ensures cause { (input_failed output_failed : Bool) → IfErr result (λ e. HasStoreCause ⟦<D as Disk>⟧ devices e.1 input_failed output_failed e.0) }
+    ensures images { EachImage ⟦<D as Disk>⟧ devices (made_of result) (IsLeft ⟦<D as Disk>⟧ devices) }
+{
+    match Store::recover(alloc, devices, frames, Caps::profile()) {
+        Ok(store) => Ok(store),
+        Err(refused) => Err(refused),
+    }
+}

@@ -1,0 +1,173 @@
+-- The calls of a journal over those of its log.
+use Rattle.std.proofs.Common.{◌≡◌, ◌⊎◌, inl, inr, ◌≤◌, ℕ, List, [], ◌∷◌, ◌++◌, length, map, false, refl, sym, ◌∙◌, ap, subst, arith, append_assoc, length-append}
+use Rattle.std.proofs.lemmas.List.{append-nil}
+use Rattle.std.proofs.lemmas.Grind.{flat_map-append}
+use Rattle.std.specs.List.{AllByRecursion}
+use Rattle.hg_model.specs.declared.event.Named.{Named}
+use Rattle.hg_records.specs.Records.{BeginsWith, RecordFits, record_text}
+use Rattle.hg_disk.specs.declared.disk.Disk as disk
+use Rattle.hg_disk.specs.Moments.{Leaves, LeavesOnly}
+use Rattle.hg_disk.proofs.Moments.{weaker}
+use Rattle.hg_gate.specs.Batches.{IsBody, IsLog, IsBeforeOrAfter}
+use Rattle.hg_gate.specs.declared.fault.GateFault.{GateFault}
+use Rattle.hg_gate.specs.declared.fault.GateFault.TheVariants as fault
+use Rattle.hg_model.specs.declared.verdict.Refusal.TheVariants as refusal
+use Rattle.hg_gate.specs.Log.{Has, IsBehind}
+use Rattle.hg_gate.proofs.Appending.{each_image}
+use Rattle.hg_journal.specs.declared.journal.Journal.{Journal}
+use Rattle.hg_journal.specs.declared.journal.JournalReader.{JournalReader}
+use Rattle.hg_journal.specs.Journal.{IsJournal, batch_text, told_as}
+use Rattle.hg_journal.specs.Reading.{IsAt, Keeps, disk_of, is_broken, rest_of}
+use Rattle.hg_journal.proofs.Journals.{Turned, bytes_of, events_of, events_push, fits_back, fits_join, front_of, no_journal, pushed, text_push, turned}
+
+body_within : (bodies : List (List ℕ)) (body : List ℕ) (later : List (List ℕ)) → AllByRecursion IsBody (bodies ++ body ∷ later) → IsBody body
+body_within [] body later each = each.0
+body_within (b ∷ bodies) body later each = body_within bodies body later each.1
+
+module _ {D : Type 0} (g : disk.Ghosts D) where
+  -- ---- what a journal keeps
+
+  -- its bytes now
+  pub bytes_now : (j : Journal D g) (events : List Named) → Keeps j events → IsJournal (g.state (disk_of j)).contents events
+  bytes_now j events k = record { batches = k.batches; log = k.has.reads.has; fits = k.fits; whole = k.whole }
+
+  -- and after a crash
+  pub each_image_has : (j : Journal D g) (events : List Named) → Keeps j events → Leaves (λ (image : List ℕ). IsJournal image events) (g.state (disk_of j))
+  each_image_has j events k image is = record {
+    batches = k.batches;
+    log = each_image g j.log (map batch_text k.batches) k.has [] image is;
+    fits = k.fits;
+    whole = k.whole;
+  }
+
+  pub works : (j : Journal D g) (events : List Named) → Keeps j events → is_broken j ≡ false
+  works j events k = k.has.reads.works
+
+  -- ---- appending
+
+  module _ (past new : List Named) (batches : List (List Named)) (whole : past ≡ events_of batches) (fits : AllByRecursion RecordFits past) (again : AllByRecursion RecordFits new) where
+    pub keeps_pushed : (j : Journal D g) → Has j.log (map batch_text batches ++ batch_text new ∷ []) → Keeps j (past ++ new)
+    keeps_pushed j has = record {
+      batches = batches ++ new ∷ [];
+      has = subst (λ (l : List (List ℕ)). Has j.log l) (sym (text_push batches new)) has;
+      fits = fits_join past new fits again;
+      whole = ap (λ (l : List Named). l ++ new) whole ∙ sym (events_push batches new);
+    }
+
+    pub before_or_after : (image : List ℕ) → IsBeforeOrAfter (map batch_text batches) (batch_text new) image → IsJournal image past ⊎ IsJournal image (past ++ new)
+    before_or_after image is = elim is [
+      | inl before ↦ inl (record { batches = batches; log = before; fits = fits; whole = whole })
+      | inr after ↦ inr (pushed image past new batches whole fits again after)
+    ]
+
+    pub moments : (old now : D) → LeavesOnly g old now (IsBeforeOrAfter (map batch_text batches) (batch_text new)) → LeavesOnly g old now (λ (image : List ℕ). IsJournal image past ⊎ IsJournal image (past ++ new))
+    moments old now has = weaker g old now (IsBeforeOrAfter (map batch_text batches) (batch_text new)) (λ (image : List ℕ). IsJournal image past ⊎ IsJournal image (past ++ new)) has before_or_after
+
+  -- ---- reading
+
+  -- before the first event
+  pub at_first : (j : Journal D g) (r : JournalReader) (bodies : List (List ℕ)) → Has j.log bodies → IsBehind r.place [] → rest_of r ≡ [] → IsAt j r []
+  at_first j r bodies has place none = record {
+    past = [];
+    present = [];
+    later = bodies;
+    read = [];
+    has = has;
+    place = place;
+    one = omega arith;
+    split = sym none;
+    fits = tt;
+    whole = refl;
+  }
+
+  module _ (old : Journal D g) (r : JournalReader) (seen : List Named) (h : IsAt old r seen) where
+    -- a reader with another journal that has the same batches
+    pub same_batches : (new : Journal D g) → Has new.log ((map batch_text h.past ++ h.present) ++ h.later) → IsAt new r seen
+    same_batches new has = record {
+      past = h.past;
+      present = h.present;
+      later = h.later;
+      read = h.read;
+      has = has;
+      place = h.place;
+      one = h.one;
+      split = h.split;
+      fits = h.fits;
+      whole = h.whole;
+    }
+
+    -- the present batch was read to its end
+    pub behind : rest_of r ≡ [] → Turned h.past h.present seen
+    behind none = turned h.past h.present h.read seen h.one (h.split ∙ ap (λ (l : List ℕ). batch_text h.read ++ l) none ∙ append-nil (batch_text h.read)) h.whole
+
+    -- the next one is there
+    pub on : (new : Journal D g) (s : JournalReader) (body : List ℕ) (later : List (List ℕ)) → rest_of r ≡ [] → h.later ≡ body ∷ later → Has new.log ((map batch_text h.past ++ h.present) ++ h.later)
+        → IsBehind s.place ((map batch_text h.past ++ h.present) ++ body ∷ []) → rest_of s ≡ body → IsAt new s seen × (1 ≤ length (rest_of s))
+    on new s body later none first has place all =
+        let t = behind none in
+        let bodies = map batch_text h.past ++ h.present in
+        let moved : Has new.log (bodies ++ body ∷ later) = subst (λ (l : List (List ℕ)). Has new.log (bodies ++ l)) first has in
+        let is_body : IsBody body = body_within bodies body later moved.reads.has.each in (
+          record {
+            past = t.batches;
+            present = body ∷ [];
+            later = later;
+            read = [];
+            has = subst (λ (l : List (List ℕ)). Has new.log l) (sym (append_assoc (map batch_text t.batches) (body ∷ []) later)) (subst (λ (l : List (List ℕ)). Has new.log (l ++ body ∷ later)) (sym t.bodies) moved);
+            place = subst (λ (l : List (List ℕ)). IsBehind s.place (l ++ body ∷ [])) (sym t.bodies) place;
+            one = omega arith;
+            split = append-nil body ∙ sym all;
+            fits = h.fits;
+            whole = t.whole ∙ sym (append-nil (events_of t.batches));
+          },
+          omega (arith, is_body.0, ap length all),
+        )
+
+    -- there is none
+    pub at_last : (new : Journal D g) → rest_of r ≡ [] → h.later ≡ [] → Has new.log ((map batch_text h.past ++ h.present) ++ h.later) → Keeps new seen
+    at_last new none last has =
+        let t = behind none in
+        let bodies = map batch_text h.past ++ h.present in
+        let all : bodies ++ h.later ≡ map batch_text t.batches = ap (λ (l : List (List ℕ)). bodies ++ l) last ∙ append-nil bodies ∙ sym t.bodies in
+        record { batches = t.batches; has = subst (λ (l : List (List ℕ)). Has new.log l) all has; fits = h.fits; whole = t.whole }
+
+    -- one event more
+    pub step : (s : JournalReader) (named : Named) → BeginsWith (rest_of r) named (rest_of s) → s.place ≡ r.place → IsAt old s (seen ++ named ∷ [])
+    step s named begins same = record {
+      past = h.past;
+      present = h.present;
+      later = h.later;
+      read = h.read ++ named ∷ [];
+      has = h.has;
+      place = ap (λ p. p.at) same ∙ h.place;
+      one = h.one;
+      split = h.split ∙ ap (λ (l : List ℕ). batch_text h.read ++ l) begins.1 ∙ sym (append_assoc (batch_text h.read) (record_text named) (rest_of s))
+          ∙ ap (λ (l : List ℕ). l ++ rest_of s) (ap (λ (l : List ℕ). batch_text h.read ++ l) (sym (append-nil (record_text named))) ∙ sym (flat_map-append record_text h.read (named ∷ [])));
+      fits = fits_join seen (named ∷ []) h.fits (begins.0, tt);
+      whole = ap (λ (l : List Named). l ++ named ∷ []) h.whole ∙ append_assoc (events_of h.past) h.read (named ∷ []);
+    }
+
+    -- no record where bytes are left: the bytes are none of a journal
+    pub none_of : 1 ≤ length (rest_of r) → ((named : Named) (tail : List ℕ) → BeginsWith (rest_of r) named tail → ⊥) → (events : List Named) → IsJournal (g.state (disk_of old)).contents events → ⊥
+    none_of some none = by_present h.present h.one h.split h.has.reads.has
+      where
+        by_present : (present : List (List ℕ)) → length present ≤ 1 → bytes_of present ≡ batch_text h.read ++ rest_of r → IsLog (g.state (disk_of old)).contents ((map batch_text h.past ++ present) ++ h.later)
+            → (events : List Named) → IsJournal (g.state (disk_of old)).contents events → ⊥
+        by_present [] one split has events is = absurd (omega (arith, some, ap length split, length-append (batch_text h.read) (rest_of r)))
+        by_present (b ∷ []) one split has events is =
+            let body : b ≡ batch_text h.read ++ rest_of r = sym (append-nil b) ∙ split in
+            no_journal (g.state (disk_of old)).contents (map batch_text h.past) h.read (rest_of r) h.later
+            (subst (λ (l : List ℕ). IsLog (g.state (disk_of old)).contents ((map batch_text h.past ++ l ∷ []) ++ h.later)) body has)
+            (fits_back (events_of h.past) h.read (subst (AllByRecursion RecordFits) h.whole h.fits)) some none events is
+        by_present (b ∷ c ∷ present) one split has events is = absurd (omega (arith, one))
+
+    -- what was read is the front of what is there
+    pub more : (events : List Named) → IsJournal (g.state (disk_of old)).contents events → (left : List Named) × (events ≡ seen ++ left)
+    more events is = front_of (g.state (disk_of old)).contents h.past h.present h.later h.read seen events (rest_of r) h.has.reads.has h.split h.fits h.whole is
+
+-- a fault that is told as damage is damage
+pub told_damaged : (f : GateFault) → told_as f ≡ refusal.Damaged → f ≡ fault.Damaged
+told_damaged fault.Broken same = absurd cc
+told_damaged fault.Damaged same = refl
+told_damaged fault.DeviceFault same = absurd cc
+told_damaged fault.OutOfMemory same = absurd cc

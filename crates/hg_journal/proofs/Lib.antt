@@ -1,0 +1,5 @@
+pub mod Collecting
+pub mod Filling
+pub mod Journaling
+pub mod Journals
+pub mod Staying

@@ -1,0 +1,22 @@
+use Rattle.std.proofs.Common.{◌≡◌, ◌-◌, ◌≤◌, List, length, false, IsTrue}
+use Rattle.hg_model.specs.declared.event.Named.{Named}
+use Rattle.hg_disk.specs.State.{IsImage}
+use Rattle.hg_disk.specs.Moments.{LeavesOnly}
+use Rattle.hg_journal.specs.Reading.{Keeps, disk_of, is_broken}
+use Rattle.hg_journal.proofs.Collecting.{Collected}
+use Rattle.hg_journal.proofs.collect.collect.Given as goal
+
+abbrev pub invariant-loop-number : goal.invariant-loop-number
+invariant-loop-number g l = record {
+  works : is_broken l.journal ≡ false;
+  state : g.D.Disk.state (disk_of l.journal) ≡ g.D.Disk.state (disk_of l.fn.journal);
+  moments : LeavesOnly g.D.Disk (disk_of l.fn.journal) (disk_of l.journal) (IsImage (g.D.Disk.state (disk_of l.fn.journal)));
+  failures : g.D.Disk.failures (disk_of l.journal) ≡ g.D.Disk.failures (disk_of l.fn.journal);
+  keeps : (events : List Named) → Keeps l.fn.journal events → Keeps l.journal events;
+  within : l.number ≤ l.fn.count;
+  few : length l.found.items ≤ l.fn.max;
+  read : (events : List Named) → IsTrue g.D.Disk.is_honest → Keeps l.fn.journal events → Collected l.journal l.reader l.number l.fn.from l.found.items;
+}
+
+abbrev pub decreases-loop-number : goal.decreases-loop-number
+decreases-loop-number g l = l.fn.count - l.number

@@ -1,0 +1,46 @@
+-- The events of a journal.
+use Rattle.std.specs.Prelude.{◌≡◌, ◌⊎◌, ℕ, ◌+◌, List, map, Result, Ok, Err}
+use Rattle.std.specs.List.{flat_map, AllByRecursion}
+use Rattle.hg_model.specs.declared.event.Named.{Named}
+use Rattle.hg_model.specs.declared.verdict.Refusal.{Refusal}
+use Rattle.hg_model.specs.declared.verdict.Refusal.TheVariants.{Broken, Damaged, DeviceFault, OutOfMemory}
+use Rattle.hg_records.specs.Records.{RecordFits, record_text}
+use Rattle.hg_gate.specs.Batches.{IsLog}
+use Rattle.hg_gate.specs.declared.fault.GateFault.{GateFault}
+use Rattle.hg_gate.specs.declared.fault.GateFault.TheVariants as fault
+
+-- the bytes of a batch: the records of its events
+abbrev pub batch_text : List Named → List ℕ
+batch_text events = flat_map record_text events
+
+-- The bytes are a log, each batch of which is the records of some events. These are the events of all batches in turn.
+pub record IsJournal (bytes : List ℕ) (events : List Named) : Type 0 where
+  pub batches : List (List Named)
+  pub log : IsLog bytes (map batch_text batches)
+  pub fits : AllByRecursion RecordFits events
+  pub whole : events ≡ flat_map (λ batch. batch) batches
+
+-- what a log's refusal is told as
+abbrev pub told_as : GateFault → Refusal
+told_as fault.Broken = Broken
+told_as fault.Damaged = Damaged
+told_as fault.DeviceFault = DeviceFault
+told_as fault.OutOfMemory = OutOfMemory
+
+-- the refusals of a call that takes no memory and reads nothing
+abbrev pub IsBrokenOrDevice : Refusal → Type 0
+IsBrokenOrDevice refusal = (refusal ≡ Broken) ⊎ (refusal ≡ DeviceFault)
+
+-- the refusals of a call that reads and takes memory, of a journal that can be used
+abbrev pub IsOfReading : Refusal → Type 0
+IsOfReading refusal = (refusal ≡ Damaged) ⊎ (refusal ≡ DeviceFault) ⊎ (refusal ≡ OutOfMemory)
+
+-- how many calls of a disk have failed after this refusal, of n before
+abbrev pub after_refusal : Refusal → ℕ → ℕ
+after_refusal DeviceFault n = n + 1
+after_refusal _ n = n
+
+-- how many calls of a disk have failed after this answer, of n before
+abbrev pub failed_after : {T : Type 0} → Result T Refusal → ℕ → ℕ
+failed_after (Ok value) n = n
+failed_after (Err refusal) n = after_refusal refusal n

@@ -1,0 +1,63 @@
+//! Reading events back.
+
+ghost use Rattle.std.specs.Prelude.{◌≡◌, ◌≢◌, ◌⊎◌, ◌+◌, ◌-◌, ◌≤◌, ℕ, List, length, take, drop, IsTrue, IfOk, IfErr, OnOk, ◌++◌, ◌∷◌, [], false};
+ghost use Rattle.hg_model.specs.declared.event.Named.{Named as NamedOf};
+ghost use Rattle.hg_disk.specs.State.{IsImage};
+ghost use Rattle.hg_disk.specs.Moments.{LeavesOnly};
+ghost use Rattle.hg_journal.specs.Journal.{IsOfReading, failed_after};
+ghost use Rattle.hg_journal.specs.Reading.{Keeps, disk_of, is_broken};
+
+use crate::journal::Journal;
+use hg_disk::Disk;
+use hg_model::event::Named;
+use hg_model::verdict::Refusal;
+use std::alloc::Global;
+
+/// Of the first `count` events of a journal, those from number `from` on, at most `max`.
+pub fn collect<D: Disk>(
+    journal: &mut Journal<D>,
+    alloc: Global,
+    count: u64,
+    from: u64,
+    max: usize,
+) -> Result<Vec<Named>, Refusal>
+    requires works { is_broken journal.old ≡ false }
+    ensures events { (events : List NamedOf) → IsTrue D.is_honest → Keeps journal.old events → length events ≡ count → IfOk result (λ found. found.items ≡ take max (drop (from - 1) events)) }
+    ensures whole { (events : List NamedOf) → IsTrue D.is_honest → Keeps journal.old events → IfErr result (λ refusal. refusal ≢ Refusal.Damaged) }
+    ensures keeps { (events : List NamedOf) → Keeps journal.old events → Keeps journal.new events }
+    ensures works { is_broken journal.new ≡ false }
+    ensures refusal { IfErr result IsOfReading }
+    ensures device { D.failures (disk_of journal.new) ≡ failed_after result (D.failures (disk_of journal.old)) }
+    ensures state { D.state (disk_of journal.new) ≡ D.state (disk_of journal.old) }
+    ensures any_moment { LeavesOnly ⟦<D as Disk>⟧ (disk_of journal.old) (disk_of journal.new) (IsImage (D.state (disk_of journal.old))) }
+{
+    let mut found = Vec::new(alloc);
+    let mut reader = journal.events()?;
+    let mut number = 0;
+    while number < count {
+        if found.len() >= max {
+            return Ok(found);
+        }
+        match journal.next(&mut reader)? {
+            None => return Ok(found),
+            Some(named) => {
+                number += 1;
+                if number >= from {
+                    note(&mut found, named)?;
+                }
+            }
+        }
+    }
+    Ok(found)
+}
+
+/// Adds an event.
+fn note(found: &mut Vec<Named>, named: Named) -> Result<(), Refusal>
+    ensures items { OnOk result (found.new.items ≡ found.old.items ++ named ∷ []) }
+    ensures refusal { IfErr result (λ refusal. refusal ≡ Refusal.OutOfMemory) }
+{
+    match found.push(named) {
+        Ok(()) => Ok(()),
+        Err(_) => Err(Refusal::OutOfMemory),
+    }
+}

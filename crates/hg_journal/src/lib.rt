@@ -1,0 +1,8 @@
+//! A journal: events on a disk, in the batches of a log.
+#![tactic(auto)]
+
+pub mod collect;
+pub mod journal;
+pub mod laws;
+#[cfg(test)]
+mod tests;

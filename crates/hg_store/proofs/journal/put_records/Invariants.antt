@@ -1,6 +1,0 @@
-use Rattle.std.proofs.Common.{◌≤◌, vec_capacity}
-use Rattle.hg_store.proofs.Filling.{IsFilled}
-use Rattle.hg_store.proofs.journal.put_records.Given as goal
-
-abbrev pub invariant-loop-event : goal.invariant-loop-event
-invariant-loop-event l = record { filled : IsFilled l.events l.event-index l.body.items; room : 23552 ≤ vec_capacity l.body }

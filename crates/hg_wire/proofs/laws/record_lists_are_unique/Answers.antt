@@ -1,5 +1,0 @@
-use Rattle.hg_wire.proofs.RecordLemmas.{one_list}
-use Rattle.hg_wire.proofs.laws.record_lists_are_unique.Goals as goal
-
-pub returns : goal.returns
-returns c = one_list
