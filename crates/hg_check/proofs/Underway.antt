@@ -11,9 +11,11 @@ use Rattle.hg_sets.specs.Interning.{Table}
 use Rattle.hg_wire.specs.Reports.{report_line}
 use Rattle.hg_wire.specs.Streams.{Pending, at_start, readings, readings_from}
 use Rattle.hg_check.specs.declared.checker.Ending.{Ending}
-use Rattle.hg_check.specs.Checking.{LeadsTo, first_table}
+use Rattle.hg_sets.specs.Interning.{first_table}
+use Rattle.hg_check.specs.Checking.{LeadsTo}
 use Rattle.hg_check.specs.Printing.{IsDue, Leads, line_text, live_text, reports_text}
-use Rattle.hg_check.specs.Running.{Advances, IsWhole, LeadsFrom, ReportsGrow, content_of}
+use Rattle.hg_detect.specs.Memory.{IsWhole, content_of}
+use Rattle.hg_check.specs.Running.{Advances, LeadsFrom, ReportsGrow}
 use Rattle.hg_check.proofs.Printed.{due_more}
 
 reports_text_on : (k : ℕ) (xs ys : List Report) → reports_text k (xs ++ ys) ≡ reports_text k xs ++ reports_text (k + length xs) ys
@@ -58,15 +60,15 @@ nothing_live : (live : Bool) → [] ≡ live_text live empty_content
 nothing_live true = refl
 nothing_live false = refl
 
-leads_at_first : (known : Option (List ℕ)) (p : Pending) (d : Detector PagedWords) → p ≡ at_start → content_of d ≡ empty_content → d.sets ≡ first_table → LeadsFrom known known p d
+leads_at_first : (known : Option (List ℕ)) (p : Pending) (d : Detector PagedWords) → p ≡ at_start → content_of d ≡ empty_content → d.sets ≡ first_table 262144 → LeadsFrom known known p d
 leads_at_first None p d start empty sets = tt
 leads_at_first (Some all) p d start empty sets = λ last end h.
-    subst (λ c. LeadsTo (readings all) first_table c last end) empty
+    subst (λ c. LeadsTo (readings all) (first_table 262144) c last end) empty
     (subst (λ (t : Table). LeadsTo (readings all) t (content_of d) last end) sets
     (subst (λ (q : Pending). LeadsTo (readings_from q all) d.sets (content_of d) last end) start h))
 
 pub underway_first : (known first : Option (List ℕ)) (held : List ℕ) (live : Bool) (p : Pending) (d : Detector PagedWords) (size : ℕ)
-    → IsWhole d → content_of d ≡ empty_content → d.sets ≡ first_table → p ≡ at_start → size ≡ 65536 → IsUnderway known known first first held held live p d 0 0 size
+    → IsWhole d → content_of d ≡ empty_content → d.sets ≡ first_table 262144 → p ≡ at_start → size ≡ 65536 → IsUnderway known known first first held held live p d 0 0 size
 underway_first known first held live p d size whole empty sets start full = record {
   leads = leads_at_first known p d start empty sets;
   lines = omega (arith, ap (λ (q : Pending). q.lines) start);

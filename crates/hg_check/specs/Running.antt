@@ -10,6 +10,7 @@ use Rattle.hg_detect.specs.declared.detector.Answer.{Answer}
 use Rattle.hg_detect.specs.declared.detector.Answer.TheVariants as answer
 use Rattle.hg_detect.specs.Answering.{Applies, done, is_accepted}
 use Rattle.hg_detect.specs.Making.{AsksBy, sets_asked}
+use Rattle.hg_detect.specs.Memory.{IsWhole, content_of}
 use Rattle.hg_check.specs.declared.checker.Ending.{Ending}
 use Rattle.hg_check.specs.declared.checker.Ending.TheVariants.{Refused}
 use Rattle.hg_wire.specs.Streams.{Pending, readings_from}
@@ -19,17 +20,6 @@ use Rattle.hg_model.specs.declared.report.Report.{Report}
 use Rattle.hg_model.specs.Contents.{Content}
 use Rattle.hg_detect.specs.declared.detector.Detector.{Detector}
 use Rattle.hg_detect.specs.declared.paged.PagedWords.{PagedWords}
-use Rattle.hg_detect.specs.Engine.{AtPresent}
-use Rattle.hg_detect.specs.Shown.{content}
-use Rattle.hg_detect.specs.Paged.{AreWithin, cell_in}
-
--- the content of a detector over pages in memory
-abbrev pub content_of : Detector PagedWords → Content
-content_of d = content cell_in d
-
--- each cell names only segments and sets that exist
-abbrev pub IsWhole : Detector PagedWords → Type 0
-IsWhole d = AtPresent AreWithin d
 
 -- the later reports begin with the earlier ones
 abbrev pub ReportsGrow : Content → Content → Type 0

@@ -1,40 +1,23 @@
 //! The commands that read a trace text.
 
-ghost use Rattle.std.specs.Prelude.{◌≡◌, ◌⊎◌, ℕ, Option, List, [], Some, None, Ok, true, IfOk, IfErr, OnErr};
+ghost use Rattle.std.specs.Prelude.{◌≡◌, [], Ok, true, IfOk, IfErr};
 ghost use Rattle.std.specs.Io.KnownBytes.{Keeps};
 ghost use Rattle.hg_model.specs.Change.{empty_content};
-ghost use Rattle.hg_model.specs.Codes.{code_of};
-ghost use Rattle.hg_model.specs.declared.verdict.Refusal.{Refusal as RefusalOf};
 ghost use Rattle.hg_check.specs.declared.checker.Ending.{Ending as EndingOf};
-ghost use Rattle.hg_check.specs.Checking.{first_table};
-ghost use Rattle.hg_check.specs.Printing.{Prints, check_text, fault_text, graph_text, status_of};
-ghost use Rattle.hg_check.specs.Running.{IsWhole, content_of};
-ghost use Rattle.hg_check.specs.Streaming.{EndsByFault, HasCause, IsTold};
+ghost use Rattle.hg_sets.specs.Interning.{first_table};
+ghost use Rattle.hg_check.specs.Printing.{Prints, check_text, graph_text, status_of};
+ghost use Rattle.hg_detect.specs.Memory.{IsWhole, content_of};
+ghost use Rattle.hg_check.specs.Streaming.{EndsByFault, HasCause};
 
-use crate::checker::{Ending, MOST_SETS, MemoryDetector};
-use crate::printing::{hold_last_line, hold_stop, out_of_memory, print_segments};
+use crate::checker::{Ending, MOST_SETS};
+use crate::printing::{hold_last_line, hold_stop, print_segments};
 use crate::run::run;
 use crate::streams::{Watched, flush, write_out};
 use crate::telling::tell;
-use hg_detect::detector::Detector;
-use hg_detect::paged::PagedWords;
+use hg_detect::memory::{MemoryDetector, new_detector};
 use hg_model::verdict::Refusal;
 use std::alloc::Global;
 use std::io::{Read, Write};
-
-/// A detector that has accepted no event.
-fn new_detector(alloc: Global) -> Result<MemoryDetector, Refusal>
-    ensures content { IfOk result (λ d. content_of d ≡ empty_content) }
-    ensures sets { IfOk result (λ d. d.sets ≡ first_table) }
-    ensures whole { IfOk result IsWhole }
-    ensures cause { IfErr result (λ r. r ≡ Refusal.OutOfMemory) }
-{
-    let words = PagedWords::new(alloc).map_err(out_of_memory)?;
-    match Detector::new(alloc, words, MOST_SETS) {
-        Ok(detector) => Ok(detector),
-        Err(_) => Err(Refusal::OutOfMemory),
-    }
-}
 
 /// Runs a fresh detector, and prints the reports as they come, and at last how the run ended.
 fn run_check<R: Read, W: Write>(
@@ -46,7 +29,7 @@ fn run_check<R: Read, W: Write>(
 ) -> Result<Ending, Refusal>
     requires whole { IsWhole detector.old }
     requires start { content_of detector.old ≡ empty_content }
-    requires sets { detector.old.sets ≡ first_table }
+    requires sets { detector.old.sets ≡ first_table 262144 }
     requires none { held.old.items ≡ [] }
     ensures prints { IfOk result (Prints check_text (R.remaining input.old.stream) (W.contents output.old.stream) (W.contents output.new.stream)) }
     ensures cause { IfErr result (λ r. HasCause input.new.failed output.new.failed r) }
@@ -68,7 +51,7 @@ fn run_graph<R: Read, W: Write>(
 ) -> Result<Ending, Refusal>
     requires whole { IsWhole detector.old }
     requires start { content_of detector.old ≡ empty_content }
-    requires sets { detector.old.sets ≡ first_table }
+    requires sets { detector.old.sets ≡ first_table 262144 }
     requires none { held.old.items ≡ [] }
     ensures prints { IfOk result (Prints graph_text (R.remaining input.old.stream) (W.contents output.old.stream) (W.contents output.new.stream)) }
     ensures cause { IfErr result (λ r. HasCause input.new.failed output.new.failed r) }
@@ -90,7 +73,7 @@ fn print_check<R: Read, W: Write>(
     ensures prints { IfOk result (Prints check_text (R.remaining input.old.stream) (W.contents output.old.stream) (W.contents output.new.stream)) }
     ensures cause { IfErr result (λ r. HasCause input.new.failed output.new.failed r) }
 {
-    let mut detector = new_detector(alloc)?;
+    let mut detector = new_detector(alloc, MOST_SETS)?;
     let mut held = Vec::new(alloc);
     run_check(alloc, &mut detector, &mut held, input, output)
 }
@@ -104,7 +87,7 @@ fn print_graph<R: Read, W: Write>(
     ensures prints { IfOk result (Prints graph_text (R.remaining input.old.stream) (W.contents output.old.stream) (W.contents output.new.stream)) }
     ensures cause { IfErr result (λ r. HasCause input.new.failed output.new.failed r) }
 {
-    let mut detector = new_detector(alloc)?;
+    let mut detector = new_detector(alloc, MOST_SETS)?;
     let mut held = Vec::new(alloc);
     run_graph(alloc, &mut detector, &mut held, input, output)
 }

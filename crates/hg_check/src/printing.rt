@@ -1,13 +1,14 @@
 //! What a run prints: reports, segments and its last line.
 
-ghost use Rattle.std.specs.Prelude.{◌≡◌, ℕ, ◌+◌, ◌<◌, ◌++◌, Option, List, [], true, length, drop, IfErr, OnErr, OnOk};
+ghost use Rattle.std.specs.Prelude.{◌≡◌, ℕ, ◌+◌, ◌<◌, ◌++◌, Option, List, true, length, drop, IfErr, OnErr, OnOk};
 ghost use Rattle.hg_check.specs.Printing.{HoldsNext, IsDue, last_line, line_text, reports_text, segments_text, stop_text};
-ghost use Rattle.hg_check.specs.Running.{content_of};
+ghost use Rattle.hg_detect.specs.Memory.{content_of};
 ghost use Rattle.hg_check.specs.Streaming.{HasCause};
 ghost use Rattle.hg_wire.specs.Reports.{report_line, segment_line};
 
-use crate::checker::{Ending, MemoryDetector};
+use crate::checker::Ending;
 use crate::streams::{Watched, write_out};
+use hg_detect::memory::MemoryDetector;
 use hg_model::report::Report;
 use hg_model::segment::Segment;
 use hg_model::verdict::Refusal;

@@ -1,19 +1,22 @@
 //! A run over a whole trace text.
 
-ghost use Rattle.std.specs.Prelude.{◌≡◌, ◌⊎◌, ℕ, ◌+◌, ◌<◌, ◌≤◌, ◌^◌, Bool, Option, List, [], Ok, Some, None, true, length, IfOk, IfErr, OnErr, OnOk};
+ghost use Rattle.std.specs.Prelude.{◌≡◌, ℕ, ◌+◌, ◌<◌, ◌^◌, Option, List, [], Ok, Some, None, true, length, IfOk, IfErr, OnOk};
 ghost use Rattle.std.specs.Io.KnownBytes.{IsAtEnd};
 ghost use Rattle.hg_model.specs.Change.{empty_content};
 ghost use Rattle.hg_model.specs.Contents.{Content};
 ghost use Rattle.hg_wire.specs.Streams.{at_start, readings_from};
 ghost use Rattle.hg_check.specs.declared.checker.Ending.{Ending as EndingOf};
-ghost use Rattle.hg_check.specs.Checking.{LeadsTo, first_table};
+ghost use Rattle.hg_sets.specs.Interning.{first_table};
+ghost use Rattle.hg_check.specs.Checking.{LeadsTo};
 ghost use Rattle.hg_check.specs.Printing.{IsDue, Leads, live_text};
-ghost use Rattle.hg_check.specs.Running.{Advances, IsWhole, LeadsFrom, ReportsGrow, Stopped as StoppedAt, content_of};
+ghost use Rattle.hg_detect.specs.Memory.{IsWhole, content_of};
+ghost use Rattle.hg_check.specs.Running.{Advances, ReportsGrow, Stopped as StoppedAt};
 ghost use Rattle.hg_check.specs.Streaming.{HasCause};
 
-use crate::checker::{Ending, MemoryDetector, apply, push};
+use crate::checker::{Ending, apply, push};
 use crate::printing::{out_of_memory, print_reports};
 use crate::streams::{Watched, read_once};
+use hg_detect::memory::MemoryDetector;
 use hg_model::verdict::Refusal;
 use hg_wire::reader::EventReader;
 use std::alloc::Global;
@@ -26,8 +29,8 @@ const PIECE: usize = 65_536;
 pub const MOST_READS: u64 = 1 << 32;
 
 /// What a read came to.
-#[derive(Clone, Copy, Drop)]
-enum Progress {
+#[derive(Clone, Copy, Debug, PartialEq, Eq, Drop)]
+pub enum Progress {
     /// More may follow.
     Underway,
     /// The input is at its end.
@@ -137,7 +140,7 @@ pub fn run<R: Read, W: Write>(
 ) -> Result<Ending, Refusal>
     requires whole { IsWhole detector.old }
     requires start { content_of detector.old ≡ empty_content }
-    requires sets { detector.old.sets ≡ first_table }
+    requires sets { detector.old.sets ≡ first_table 262144 }
     ensures ends { IfOk result (λ end. Leads (R.remaining input.old.stream) (content_of detector.new) end) }
     ensures printed { (first : Option (List ℕ)) → IsDue first (W.contents output.old.stream) held.old.items [] []
         → OnOk result (IsDue first (W.contents output.new.stream) held.new.items [] (live_text live (content_of detector.new))) }

@@ -1,6 +1,6 @@
 //! Streams that remember that they failed.
 
-ghost use Rattle.std.specs.Prelude.{◌≡◌, ℕ, ◌<◌, ◌≤◌, Option, List, [], true, length, IfErr, OnErr, OnOk};
+ghost use Rattle.std.specs.Prelude.{◌≡◌, ℕ, ◌<◌, Option, List, [], true, IfErr, OnErr, OnOk};
 ghost use Rattle.std.specs.Io.KnownBytes.{Keeps};
 ghost use Rattle.hg_check.specs.Printing.{IsDue};
 ghost use Rattle.hg_check.specs.Streaming.{GivesPiece};

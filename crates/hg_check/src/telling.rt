@@ -1,6 +1,6 @@
 //! How a command tells a fault.
 
-ghost use Rattle.std.specs.Prelude.{◌≡◌, ℕ, List};
+ghost use Rattle.std.specs.Prelude.{◌≡◌};
 ghost use Rattle.hg_model.specs.Codes.{code_of};
 ghost use Rattle.hg_check.specs.Printing.{fault_text};
 ghost use Rattle.hg_check.specs.Streaming.{IsFault, IsTold};

@@ -11,7 +11,8 @@ use Rattle.hg_store.specs.declared.devices.Devices.{Devices}
 use Rattle.hg_store.specs.Images.{HasContent, Image, IsLeft, failures_of, read_of}
 use Rattle.hg_store.specs.Recovering.{HasSets}
 use Rattle.hg_store.specs.Shown.{Shown}
-use Rattle.hg_store.specs.Store.{Backs, IsFresh, Stands, content_of}
+use Rattle.hg_detect.specs.Memory.{content_of}
+use Rattle.hg_store.specs.Store.{Backs, IsFresh, Stands}
 use Rattle.hg_check.specs.declared.checker.Ending.{Ending}
 use Rattle.hg_commands.specs.declared.feeding.Fed.{Fed}
 use Rattle.hg_commands.specs.Feeding.{ack_text, acks_text, feed_end_text, feed_text}

@@ -25,7 +25,7 @@ use Rattle.hg_store.specs.declared.devices.Devices.{Devices}
 use Rattle.hg_store.specs.Images.{failures_of}
 use Rattle.hg_store.specs.Offers.{ByVerdict, if_accepted}
 use Rattle.hg_store.specs.Shown.{Shown}
-use Rattle.hg_store.specs.Store.{content_of}
+use Rattle.hg_detect.specs.Memory.{content_of}
 use Rattle.hg_wire.specs.declared.line.LineFault.{LineFault}
 use Rattle.hg_wire.specs.declared.reader.Reading.{Reading}
 use Rattle.hg_check.specs.declared.checker.Ending.{Ending}

@@ -14,7 +14,8 @@ use Rattle.hg_detect.specs.Making.{Asks, sets_asked}
 use Rattle.hg_model.specs.Contents.{Content}
 use Rattle.hg_disk.specs.declared.disk.Disk as disk
 use Rattle.hg_store.specs.Shown.{Shown}
-use Rattle.hg_store.specs.Store.{Backs, content_of}
+use Rattle.hg_detect.specs.Memory.{content_of}
+use Rattle.hg_store.specs.Store.{Backs}
 use Rattle.hg_store.specs.declared.devices.Devices.{Devices}
 use Rattle.hg_store.specs.Images.{HasContent, Image, IsLeft, failures_of, read_of}
 use Rattle.hg_store.specs.Offers.{OfferDone}

@@ -1,15 +1,11 @@
 //! The command that makes a store.
 
-ghost use Rattle.std.specs.Prelude.{◌≡◌, ◌⊎◌, ◌++◌, ◌+◌, ◌≤◌, [], ℕ, Bool, List, Option, Ok, Err, OnOk, OnErr, IfOk, IfErr, IsTrue, true, false, codes, drop};
+ghost use Rattle.std.specs.Prelude.{◌≡◌, ◌⊎◌, Ok, Err, OnOk, IfOk, IfErr, codes};
 ghost use Rattle.std.specs.Io.KnownBytes.{Appends, Keeps};
 ghost use Rattle.hg_model.specs.Change.{empty_content};
-ghost use Rattle.hg_model.specs.Contents.{Content};
-ghost use Rattle.hg_store.specs.Images.{EachImage, HasContent, Image, IsLeft, failures_of, read_of};
-ghost use Rattle.hg_store.specs.Recovering.{IsEmpty, empty_image, made_of};
-ghost use Rattle.hg_store.specs.Store.{IsFresh, content_of};
-ghost use Rattle.hg_check.specs.Printing.{IsDue, line_text, reports_text, segments_text};
-ghost use Rattle.hg_commands.specs.Storing.{EndsByStoreFault, HasStoreCause, listing_text, store_end_line};
-ghost use Rattle.hg_check.specs.Streaming.{HasCause};
+ghost use Rattle.hg_store.specs.Images.{HasContent, Image, IsLeft, failures_of, read_of};
+ghost use Rattle.hg_store.specs.Recovering.{IsEmpty, empty_image};
+ghost use Rattle.hg_commands.specs.Storing.{EndsByStoreFault, HasStoreCause};
 
 use crate::saying::print_now;
 use hg_check::streams::Watched;

@@ -1,11 +1,10 @@
 //! Feeding the events of a trace text to a store.
 
-ghost use Rattle.std.specs.Prelude.{◌≡◌, ◌⊎◌, ℕ, ◌+◌, ◌<◌, ◌≤◌, ◌^◌, ◌++◌, ◌%◌, Bool, true, false, Option, List, [], ◌∷◌, Ok, Some, None, length, codes, IfOk, IfErr, OnErr, OnOk, IsTrue};
+ghost use Rattle.std.specs.Prelude.{◌≡◌, ◌+◌, ◌<◌, ◌≤◌, ◌^◌, ◌++◌, ◌%◌, true, false, Option, [], Ok, Some, None, length, IfOk, IfErr, OnOk};
 ghost use Rattle.std.specs.Io.KnownBytes.{Appends, IsAtEnd, Keeps};
-ghost use Rattle.hg_model.specs.Contents.{Content};
 ghost use Rattle.hg_store.specs.Images.{failures_of};
-ghost use Rattle.hg_store.specs.Store.{content_of};
-ghost use Rattle.hg_wire.specs.Streams.{at_start, readings_from};
+ghost use Rattle.hg_detect.specs.Memory.{content_of};
+ghost use Rattle.hg_wire.specs.Streams.{readings_from};
 ghost use Rattle.hg_check.specs.declared.checker.Ending.{Ending as EndingOf};
 ghost use Rattle.hg_check.specs.Printing.{status_of};
 ghost use Rattle.hg_commands.specs.Feeding.{ack_text, feed_end_text};
@@ -19,7 +18,7 @@ use crate::saying::print_number;
 use hg_check::checker::{Ending, stop};
 use hg_check::commands::status_of_end;
 use hg_check::printing::hold_stop;
-use hg_check::run::{MOST_READS, piece_buffer, reader_at_start};
+use hg_check::run::{MOST_READS, Progress, piece_buffer, reader_at_start};
 use hg_check::streams::{Watched, flush, read_once, write_out};
 use hg_check::telling::tell;
 use hg_detect::detector::Answer;
@@ -44,17 +43,6 @@ pub struct Fed {
     pub number: u64,
     /// How many events were accepted.
     pub accepted: u64,
-}
-
-/// What a read came to.
-#[derive(Clone, Copy, Drop)]
-enum Progress {
-    /// More may follow.
-    Underway,
-    /// The input is at its end.
-    AtEnd,
-    /// A line ended the feeding.
-    Stopped(Ending),
 }
 
 /// Commits, and tells at once how many events are durable.

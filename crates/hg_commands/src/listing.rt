@@ -1,12 +1,10 @@
 //! The commands that print what a store holds.
 
-ghost use Rattle.std.specs.Prelude.{◌≡◌, ◌⊎◌, ◌++◌, ◌+◌, ◌≤◌, [], ℕ, Bool, List, Option, Ok, Err, OnOk, OnErr, IfOk, IfErr, IsTrue, true, false, codes, drop};
+ghost use Rattle.std.specs.Prelude.{◌≡◌, ◌⊎◌, ◌++◌, ◌+◌, ◌≤◌, [], ℕ, List, Option, Ok, Err, OnOk, IfErr, IsTrue, true, false};
 ghost use Rattle.std.specs.Io.KnownBytes.{Appends, Keeps};
-ghost use Rattle.hg_model.specs.Change.{empty_content};
 ghost use Rattle.hg_model.specs.Contents.{Content};
-ghost use Rattle.hg_store.specs.Images.{EachImage, HasContent, Image, IsLeft, failures_of, read_of};
-ghost use Rattle.hg_store.specs.Recovering.{IsEmpty, empty_image, made_of};
-ghost use Rattle.hg_store.specs.Store.{IsFresh, content_of};
+ghost use Rattle.hg_store.specs.Images.{EachImage, HasContent, IsLeft, failures_of, read_of};
+ghost use Rattle.hg_detect.specs.Memory.{content_of};
 ghost use Rattle.hg_check.specs.Printing.{IsDue, line_text, reports_text, segments_text};
 ghost use Rattle.hg_commands.specs.Storing.{EndsByStoreFault, HasStoreCause, listing_text, store_end_line};
 ghost use Rattle.hg_check.specs.Streaming.{HasCause};

@@ -1,15 +1,12 @@
 //! Opening a store.
 
-ghost use Rattle.std.specs.Prelude.{◌≡◌, ◌⊎◌, ◌++◌, ◌+◌, ◌≤◌, [], ℕ, Bool, List, Option, Ok, Err, OnOk, OnErr, IfOk, IfErr, IsTrue, true, false, codes, drop};
-ghost use Rattle.std.specs.Io.KnownBytes.{Appends, Keeps};
-ghost use Rattle.hg_model.specs.Change.{empty_content};
+ghost use Rattle.std.specs.Prelude.{◌≡◌, ◌≤◌, [], Bool, Ok, Err, IfOk, IfErr, IsTrue, false};
 ghost use Rattle.hg_model.specs.Contents.{Content};
-ghost use Rattle.hg_store.specs.Images.{EachImage, HasContent, Image, IsLeft, failures_of, read_of};
+ghost use Rattle.hg_store.specs.Images.{EachImage, HasContent, IsLeft, failures_of, read_of};
 ghost use Rattle.hg_store.specs.Recovering.{HasSets, made_of};
-ghost use Rattle.hg_store.specs.Store.{IsFresh, content_of};
-ghost use Rattle.hg_check.specs.Printing.{IsDue, line_text, reports_text, segments_text};
-ghost use Rattle.hg_commands.specs.Storing.{EndsByStoreFault, HasStoreCause, listing_text, store_end_line};
-ghost use Rattle.hg_check.specs.Streaming.{HasCause};
+ghost use Rattle.hg_detect.specs.Memory.{content_of};
+ghost use Rattle.hg_store.specs.Store.{IsFresh};
+ghost use Rattle.hg_commands.specs.Storing.{HasStoreCause};
 
 use hg_disk::Disk;
 use hg_model::verdict::Refusal;

@@ -1,8 +1,7 @@
 //! Texts that reach a pipe at once, and lines of a word and a number.
 
-ghost use Rattle.std.specs.Prelude.{◌≡◌, ◌⊎◌, ◌++◌, ◌∷◌, ◌<◌, [], ℕ, List, Ok, Err, OnOk, OnErr, IfOk, IfErr, true};
-ghost use Rattle.std.specs.Fmt.{decimal};
-ghost use Rattle.std.specs.Io.KnownBytes.{Appends, Keeps};
+ghost use Rattle.std.specs.Prelude.{◌≡◌, ◌⊎◌, ◌<◌, [], Ok, Err, OnOk, OnErr, IfErr, true};
+ghost use Rattle.std.specs.Io.KnownBytes.{Appends};
 ghost use Rattle.hg_commands.specs.Storing.{number_text};
 
 use hg_check::printing::out_of_memory;

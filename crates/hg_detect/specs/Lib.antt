@@ -5,4 +5,5 @@ pub mod Shown
 pub mod Engine
 pub mod Answering
 pub mod Paged
+pub mod Memory
 pub mod PagedLaws

@@ -1,6 +1,6 @@
 //! The detector.
 
-ghost use Rattle.std.specs.Prelude.{◌≡◌, ◌⊎◌, ℕ, ◌≤◌, ◌<◌, ◌∷◌, [], List, Ok, length, map, get_or, slice_index, IfOk, IfErr, OnOk, OnErr, if◌then◌else◌};
+ghost use Rattle.std.specs.Prelude.{◌≡◌, ◌⊎◌, ℕ, ◌≤◌, ◌<◌, ◌∷◌, List, Ok, length, map, get_or, slice_index, IfOk, IfErr, OnOk, OnErr, if◌then◌else◌};
 ghost use Rattle.std.specs.Borrow.{Lends, sem};
 ghost use Rattle.hg_model.specs.declared.event.Named.{Named as NamedEvent};
 ghost use Rattle.hg_model.specs.declared.report.Report.{Report as ReportOf};
@@ -10,6 +10,7 @@ ghost use Rattle.hg_model.specs.Verdicts as rules;
 ghost use Rattle.hg_cells.specs.declared.cell.Cell.TheVariants.{New};
 ghost use Rattle.hg_detect.specs.Answering.{Applies, done, is_accepted};
 ghost use Rattle.hg_detect.specs.Engine.{AtPresent};
+ghost use Rattle.hg_sets.specs.Interning.{first_table};
 ghost use Rattle.hg_detect.specs.Making.{AsksBy, sets_asked};
 ghost use Rattle.hg_detect.specs.Shown.{content, report_of};
 
@@ -64,7 +65,7 @@ impl<W: Words> Detector<W> {
         requires least { 1 ≤ most_sets }
         requires greatest { most_sets ≤ 262144 }
         ensures content { IfOk result (λ d. content W.cell_of d ≡ empty_content) }
-        ensures sets { IfOk result (λ d. d.sets ≡ record { limit = most_sets; sets = [] ∷ [] }) }
+        ensures sets { IfOk result (λ d. d.sets ≡ first_table most_sets) }
         ensures words { IfOk result (λ d. d.words ≡ words) }
         ensures lawful { IfOk result (AtPresent W.may_bring) }
         ensures handed_back { IfErr result (λ w. w ≡ words) }

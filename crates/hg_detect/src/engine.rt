@@ -1,12 +1,11 @@
 //! The parts of a detector, and what an accepted event does to them.
 
-ghost use Rattle.std.specs.Prelude.{◌≡◌, ◌⊎◌, ℕ, ◌+◌, ◌-◌, ◌/◌, ◌*◌, ◌≤◌, ◌<◌, ◌^◌, ◌++◌, [], ◌∷◌, All, IfOk, get_or, take, length, vec_capacity, IfErr, OnOk, OnErr, Ok, if◌then◌else◌};
+ghost use Rattle.std.specs.Prelude.{◌≡◌, ◌⊎◌, ℕ, ◌+◌, ◌-◌, ◌/◌, ◌*◌, ◌≤◌, ◌<◌, ◌^◌, [], ◌∷◌, All, IfOk, get_or, length, vec_capacity, IfErr, OnOk, Ok, if◌then◌else◌};
 ghost use Rattle.std.specs.List.{range_with_len};
-ghost use Rattle.hg_model.specs.Segments.{of_thread, present};
+ghost use Rattle.hg_model.specs.Segments.{of_thread};
 ghost use Rattle.hg_model.specs.Parts.{HasParts};
-ghost use Rattle.hg_model.specs.Change.{empty_content, locks_of};
+ghost use Rattle.hg_model.specs.Change.{empty_content};
 ghost use Rattle.hg_sets.specs.Interning.{AreSets, KeepsNumbers};
-ghost use Rattle.hg_cells.specs.Cells.{IsWithin};
 ghost use Rattle.hg_cells.specs.declared.cell.Cell.TheVariants.{New};
 ghost use Rattle.hg_detect.specs.declared.kept.KeptReport.{KeptReport as KeptReportOf};
 ghost use Rattle.hg_detect.specs.Words.{KeepsLaw, SameCells};

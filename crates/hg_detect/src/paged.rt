@@ -1,10 +1,9 @@
 //! A map of words in memory.
 
-ghost use Rattle.std.specs.Prelude.{◌≡◌, ℕ, ◌+◌, ◌/◌, ◌<◌, ◌≤◌, ◌^◌, true, Some, None, is_some, length, IfOk, IfErr, OnOk, MatchOption, option_copied, slice_get, nat_eq, nat_le, nat_lt, ◌==◌, ◌&&◌, ◌-◌, ◌%◌, if◌then◌else◌};
-ghost use Rattle.indexmap.specs.IndexMap.{get, keys, values};
+ghost use Rattle.std.specs.Prelude.{◌≡◌, ℕ, ◌+◌, ◌/◌, ◌<◌, ◌≤◌, ◌^◌, true, Some, None, is_some, IfOk, IfErr, OnOk, MatchOption, nat_eq, nat_le, nat_lt, ◌==◌, ◌&&◌, ◌-◌, ◌%◌, if◌then◌else◌};
+ghost use Rattle.indexmap.specs.IndexMap.{get};
 ghost use Rattle.hg_model.specs.declared.verdict.Refusal.TheVariants.{OutOfMemory};
 ghost use Rattle.hg_cells.specs.declared.cell.Cell.TheVariants.{New};
-ghost use Rattle.hg_cells.specs.Cells.{IsWithin};
 ghost use Rattle.hg_detect.specs.Paged.{AreWithin, HasPage, StandsIn, cell_in, page_of};
 ghost use Rattle.hg_detect.specs.PagedLaws.{each_within, more_within, never_full};
 

@@ -3,7 +3,7 @@ ghost use Rattle.std.specs.Prelude.{◌≡◌, ◌+◌, ◌-◌, ◌<◌, ◌≤
 ghost use Rattle.std.specs.Vec.{vec_capacity};
 ghost use Rattle.hg_disk.specs.Room.{TapeHasRoom};
 ghost use Rattle.hg_disk.specs.State.{IsImage, SameImages, overwritten, after_write, after_cut, after_sync, counted};
-ghost use Rattle.hg_disk.specs.History.{replay, states_before, failures_in};
+ghost use Rattle.hg_disk.specs.History.{replay};
 ghost use Rattle.hg_disk.specs.Kept.{has_contents};
 
 use crate::call::{Answered, Call};

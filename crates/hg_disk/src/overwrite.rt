@@ -1,6 +1,6 @@
 //! A write into a file that stands in memory.
 ghost use Rattle.std.specs.Prelude.{◌≡◌, ◌+◌, ◌<◌, ◌≤◌, ◌^◌, ◌++◌, length, take, drop, OnOk, OnErr, IsOk};
-ghost use Rattle.std.specs.Vec.{vec_len, vec_capacity};
+ghost use Rattle.std.specs.Vec.{vec_capacity};
 ghost use Rattle.hg_disk.specs.State.{overwritten};
 
 use std::alloc::AllocError;

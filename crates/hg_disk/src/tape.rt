@@ -1,6 +1,5 @@
 //! The calls of a disk, kept as data.
-ghost use Rattle.std.specs.Prelude.{◌≡◌, ◌+◌, ◌<◌, ◌≤◌, ◌^◌, ◌∷◌, ℕ, [], true, false, not, is_ok, length, IsTrue, IfOk, if◌then◌else◌};
-ghost use Rattle.std.specs.Vec.{vec_len, vec_capacity};
+ghost use Rattle.std.specs.Prelude.{◌≡◌, ◌+◌, ◌<◌, ◌^◌, ◌∷◌, ℕ, [], true, false, not, is_ok, length, IsTrue, IfOk, if◌then◌else◌};
 ghost use Rattle.hg_disk.specs.Event.{event, answer_of};
 ghost use Rattle.hg_disk.specs.Tear.{first};
 ghost use Rattle.hg_disk.specs.Tape.{kept, calls_in, written_in, Fits, AllFit, AllFit_prop};

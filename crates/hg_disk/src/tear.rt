@@ -1,5 +1,5 @@
 //! Which of its images a disk in memory gives, and how a call changes it.
-ghost use Rattle.std.specs.Prelude.{◌≡◌, ◌+◌, ◌-◌, ◌<◌, ◌≤◌, ◌^◌, ◌∷◌, ◌++◌, [], ℕ, List, length, take, drop, replicate, OnOk, OnErr};
+ghost use Rattle.std.specs.Prelude.{◌≡◌, ◌+◌, ◌-◌, ◌<◌, ◌≤◌, ◌^◌, ◌∷◌, ◌++◌, [], ℕ, List, length, take, drop, replicate, OnOk};
 ghost use Rattle.hg_disk.specs.State.{overwritten};
 ghost use Rattle.hg_disk.specs.Event.{Event, event};
 ghost use Rattle.hg_disk.specs.History.{replay};

@@ -1,5 +1,5 @@
 //! A file whose first byte says whether the rest counts.
-ghost use Rattle.std.specs.Prelude.{◌≡◌, ◌≢◌, ◌⊎◌, ◌+◌, ◌<◌, ◌≤◌, ◌↔◌, ◌^◌, ◌++◌, ◌∷◌, [], ℕ, List, length, get_or, take, drop, true, false, IsTrue, OnOk, OnErr, IsErrOf, Err, IfOk, IfErr, MatchOption};
+ghost use Rattle.std.specs.Prelude.{◌≡◌, ◌≢◌, ◌+◌, ◌<◌, ◌≤◌, ◌↔◌, ◌++◌, ◌∷◌, [], ℕ, List, length, get_or, take, drop, false, IsTrue, OnOk, OnErr, IsErrOf, Err, IfOk, IfErr, MatchOption};
 ghost use Rattle.hg_disk.specs.State.{IsImage, settled, counted};
 ghost use Rattle.hg_disk.specs.Moments.{Leaves, LeavesOnly};
 ghost use Rattle.std.specs.Int.{w64, to_be_bytes};

@@ -1,5 +1,5 @@
 //! Where the batches of a log end.
-ghost use Rattle.std.specs.Prelude.{◌≡◌, ◌⊎◌, ◌+◌, ◌<◌, ◌≤◌, ◌↔◌, ◌^◌, ◌∷◌, [], ℕ, List, length, take, drop, IsTrue, IfOk, IfErr, OnOk, IsErrOf};
+ghost use Rattle.std.specs.Prelude.{◌≡◌, ◌⊎◌, ◌+◌, ◌<◌, ◌≤◌, ◌↔◌, ◌^◌, ℕ, List, length, take, drop, IsTrue, IfOk, IfErr, OnOk, IsErrOf};
 ghost use Rattle.hg_disk.specs.State.{IsImage};
 ghost use Rattle.hg_disk.specs.Moments.{LeavesOnly};
 ghost use Rattle.hg_gate.specs.Batches.{IsLog, IsBodyLength};

@@ -1,6 +1,6 @@
 //! Reading events back.
 
-ghost use Rattle.std.specs.Prelude.{◌≡◌, ◌≢◌, ◌⊎◌, ◌+◌, ◌-◌, ◌≤◌, ℕ, List, length, take, drop, IsTrue, IfOk, IfErr, OnOk, ◌++◌, ◌∷◌, [], false};
+ghost use Rattle.std.specs.Prelude.{◌≡◌, ◌≢◌, ◌+◌, ◌-◌, List, length, take, drop, IsTrue, IfOk, IfErr, OnOk, ◌++◌, ◌∷◌, [], false};
 ghost use Rattle.hg_model.specs.declared.event.Named.{Named as NamedOf};
 ghost use Rattle.hg_disk.specs.State.{IsImage};
 ghost use Rattle.hg_disk.specs.Moments.{LeavesOnly};

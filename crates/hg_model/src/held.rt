@@ -4,7 +4,6 @@ ghost use Rattle.std.specs.Prelude.{◌≡◌, ◌<◌, ◌≤◌, false, length
 ghost use Rattle.std.specs.List.{position_or_len, remove};
 ghost use Rattle.std.specs.List.Sorted.{IsStrictlyIncreasing};
 ghost use Rattle.hg_model.specs.Locks.{counted, with_hold, without_lock, has_lock, has_lock_for_writing, IsByRisingLock};
-ghost use Rattle.arrayvec.specs.ArrayVec.{array_vec_len};
 
 use crate::limits::MOST_HELD;
 use arrayvec::ArrayVec;

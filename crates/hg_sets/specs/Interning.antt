@@ -9,6 +9,10 @@ pub record Table : Type 0 where
   pub limit : ℕ
   pub sets : List (List ℕ)
 
+-- the sets before the first is asked for: the empty one, with room for so many
+abbrev pub first_table : ℕ → Table
+first_table limit = record { limit = limit; sets = [] ∷ [] }
+
 -- the members of the set with this number
 abbrev pub set_at : List (List ℕ) → ℕ → List ℕ
 set_at sets id = slice_index_or sets id []

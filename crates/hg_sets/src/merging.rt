@@ -3,7 +3,7 @@
 ghost use Rattle.std.specs.Prelude.{◌≡◌, ◌+◌, ◌<◌, ◌≤◌, length, insert, vec_capacity};
 ghost use Rattle.std.specs.List.{list_all};
 ghost use Rattle.std.specs.List.Sorted.{IsStrictlyIncreasing};
-ghost use Rattle.hg_model.specs.Sets.{common, contains, with_member};
+ghost use Rattle.hg_model.specs.Sets.{common, contains};
 
 /// Whether the others have all of the members.
 #[inline]

@@ -1,9 +1,9 @@
 //! The table of sets.
 
-ghost use Rattle.std.specs.Prelude.{◌≡◌, ◌<◌, ◌≤◌, [], ◌∷◌, length, Contains, MatchOption, IfOk};
+ghost use Rattle.std.specs.Prelude.{◌≡◌, ◌<◌, ◌≤◌, length, Contains, MatchOption, IfOk};
 ghost use Rattle.std.specs.List.Sorted.{IsStrictlyIncreasing};
 ghost use Rattle.hg_model.specs.Sets.{common, with_member};
-ghost use Rattle.hg_sets.specs.Interning.{AreSets, Interns, KeepsNumbers, StandsAt, set_at};
+ghost use Rattle.hg_sets.specs.Interning.{AreSets, Interns, KeepsNumbers, StandsAt, first_table, set_at};
 
 use crate::fault::SetFault;
 use crate::interner::Interner;
@@ -42,7 +42,7 @@ impl SetTable {
     pub fn with_limit(alloc: Global, limit: u32) -> Result<Self, AllocError>
         requires least { 1 ≤ limit }
         requires greatest { limit ≤ MOST_SETS }
-        ensures table { IfOk result (λ t. t ≡ record { limit = limit; sets = [] ∷ [] }) }
+        ensures table { IfOk result (λ t. t ≡ first_table limit) }
         ensures sets { IfOk result AreSets }
     {
         let interner = Interner::with_limit(alloc, limit)?;

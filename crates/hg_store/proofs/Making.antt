@@ -9,7 +9,8 @@ use Rattle.hg_disk.specs.declared.disk.Disk as disk
 use Rattle.hg_gate.specs.Batches.{IsClosed, closed_gate}
 use Rattle.hg_journal.specs.Journal.{IsJournal}
 use Rattle.hg_store.specs.Shown.{Shown}
-use Rattle.hg_store.specs.Store.{IsFresh, content_of}
+use Rattle.hg_detect.specs.Memory.{content_of}
+use Rattle.hg_store.specs.Store.{IsFresh}
 
 -- each image of a disk that was synced is what it reads
 pub settled_leaves : (P : List ℕ → Type 0) (bytes : List ℕ) (s : DiskState) → s ≡ settled bytes → P bytes → Leaves P s

@@ -16,7 +16,7 @@ use Rattle.hg_store.specs.Images.{HasContent}
 use Rattle.hg_store.specs.Laws.{AreAccepted, ContentIsUnique, PrefixIsSummed, RemainingGiveTheSame, SetsAreUnique}
 use Rattle.hg_store.specs.Recovering.{Fills}
 use Rattle.hg_store.specs.Runs.{accepted}
-use Rattle.hg_store.specs.Store.{first_table}
+use Rattle.hg_sets.specs.Interning.{first_table}
 use Rattle.hg_store.proofs.Contents.{followed_append}
 use Rattle.hg_journal.proofs.Journals.{one_reading}
 

@@ -15,7 +15,8 @@ use Rattle.hg_journal.specs.declared.journal.JournalReader.{JournalReader}
 use Rattle.hg_journal.specs.Journal.{IsJournal}
 use Rattle.hg_journal.specs.Reading.{IsAt, disk_of}
 use Rattle.hg_store.specs.Recovering.{Fills, IsAccepted, IsTooSmall}
-use Rattle.hg_store.specs.Store.{content_of, first_table}
+use Rattle.hg_detect.specs.Memory.{content_of}
+use Rattle.hg_sets.specs.Interning.{first_table}
 use Rattle.hg_store.proofs.Contents.{followed_append, followed_one}
 use Rattle.hg_journal.proofs.Journaling.{more}
 use Rattle.hg_store.proofs.Remaining.{one}

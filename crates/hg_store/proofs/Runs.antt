@@ -16,7 +16,8 @@ use Rattle.hg_store.specs.Images.{EachImage, Image}
 use Rattle.hg_store.specs.Offers.{StepDone, durable_by, if_accepted, in_doubt_during}
 use Rattle.hg_store.specs.Runs.{Covered, DriveDone, IsAt, Lawful, Run, StandsFor, Told, accepted, before, begins, is_device_fault, run_after, run_of}
 use Rattle.hg_store.specs.Shown.{Shown}
-use Rattle.hg_store.specs.Store.{Backs, Stands, content_of}
+use Rattle.hg_detect.specs.Memory.{content_of}
+use Rattle.hg_store.specs.Store.{Backs, Stands}
 use Rattle.hg_store.proofs.Contents.{followed_append}
 
 -- an image that stands for the contents of a store stands for the run

@@ -15,7 +15,8 @@ use Rattle.hg_store.specs.declared.devices.Devices.{Devices}
 use Rattle.hg_store.specs.Images.{EachImage, HasContent, Image, read_of}
 use Rattle.hg_journal.specs.Journal.{IsJournal}
 use Rattle.hg_store.specs.Shown.{Shown}
-use Rattle.hg_store.specs.Store.{Backs, Stands, content_of}
+use Rattle.hg_detect.specs.Memory.{content_of}
+use Rattle.hg_store.specs.Store.{Backs, Stands}
 use Rattle.hg_store.proofs.Contents.{followed_append, followed_one}
 use Rattle.hg_store.proofs.Moments.{all_still, each_at_end, may_leave, read_is_left, stays, still}
 

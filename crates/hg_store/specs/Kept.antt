@@ -7,7 +7,7 @@ use Rattle.hg_detect.specs.declared.paged.PagedWords.{PagedWords}
 use Rattle.hg_disk.specs.declared.disk.Disk as disk
 use Rattle.hg_journal.specs.declared.journal.Journal.{Journal}
 use Rattle.hg_journal.specs.Reading.{Keeps, is_broken}
-use Rattle.hg_store.specs.Store.{IsWhole, content_of}
+use Rattle.hg_detect.specs.Memory.{IsWhole, content_of}
 
 -- The detector may be asked, what is pending is not durable yet, there is room for all that may be pending, and a store that works has a journal that does.
 pub record IsSound {D : Type 0} (g : disk.Ghosts D) (journal : Journal D g) (detector : Detector PagedWords) (pending : Vec Named Global) (durable : ℕ) (broken : Bool) : Type 0 where

@@ -16,7 +16,7 @@ use Rattle.hg_store.specs.declared.steps.StepResult.{StepResult}
 use Rattle.hg_store.specs.declared.steps.StepResult.TheVariants.{Offered, Committed}
 use Rattle.hg_journal.specs.Journal.{failed_after}
 use Rattle.hg_store.specs.Shown.{Shown}
-use Rattle.hg_store.specs.Store.{content_of}
+use Rattle.hg_detect.specs.Memory.{content_of}
 
 -- What an offer may be answered by its verdict, with this many events pending.
 abbrev pub ByVerdict : Verdict → ℕ → Result Answer Refusal → Type 0

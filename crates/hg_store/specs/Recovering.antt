@@ -20,7 +20,7 @@ use Rattle.hg_journal.specs.Journal.{IsJournal, after_refusal}
 use Rattle.hg_store.specs.Shown.{Shown}
 use Rattle.hg_store.specs.declared.create.CreateFault.{CreateFault}
 use Rattle.hg_store.specs.declared.create.CreateFault.TheVariants.{NotEmpty, Refused}
-use Rattle.hg_store.specs.Store.{first_table}
+use Rattle.hg_sets.specs.Interning.{first_table}
 
 -- the devices of a store that was just made: the journal's header and a closed gate, no slot, and closed roots
 abbrev pub empty_image : Image

@@ -12,7 +12,8 @@ use Rattle.hg_store.specs.declared.steps.StepResult.{StepResult}
 use Rattle.hg_store.specs.declared.steps.StepResult.TheVariants.{Offered, Committed}
 use Rattle.hg_store.specs.Images.{Image, HasContent, EachImage}
 use Rattle.hg_store.specs.Shown.{Shown}
-use Rattle.hg_store.specs.Store.{Backs, content_of}
+use Rattle.hg_detect.specs.Memory.{content_of}
+use Rattle.hg_store.specs.Store.{Backs}
 use Rattle.hg_store.specs.Offers.{OfferAnswers, if_accepted, in_doubt_during}
 
 -- The events of the offers answered Accepted: those before the last commit answered Ok, and those since.

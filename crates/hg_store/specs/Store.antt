@@ -1,32 +1,15 @@
 -- What a store stands for.
-use Rattle.std.specs.Prelude.{◌≡◌, ◌⊎◌, ◌∷◌, [], ℕ, Bool, true, false, Some}
+use Rattle.std.specs.Prelude.{◌≡◌, ◌⊎◌, [], Bool, true, false, Some}
 use Rattle.hg_model.specs.Contents.{Content}
 use Rattle.hg_model.specs.Change.{followed}
 use Rattle.hg_disk.specs.declared.disk.Disk as disk
-use Rattle.hg_detect.specs.declared.detector.Detector.{Detector}
-use Rattle.hg_detect.specs.declared.paged.PagedWords.{PagedWords}
-use Rattle.hg_detect.specs.Engine.{AtPresent}
-use Rattle.hg_detect.specs.Shown.{content}
-use Rattle.hg_detect.specs.Paged.{AreWithin, cell_in}
-use Rattle.hg_sets.specs.Interning.{Table}
+use Rattle.hg_detect.specs.Memory.{content_of}
 use Rattle.hg_store.specs.Images.{Image, HasContent, IsLeft}
 use Rattle.hg_store.specs.Shown.{Shown}
-
--- the content of a detector over pages in memory
-abbrev pub content_of : Detector PagedWords → Content
-content_of detector = content cell_in detector
-
--- each of its cells names only segments and sets that exist
-abbrev pub IsWhole : Detector PagedWords → Type 0
-IsWhole detector = AtPresent AreWithin detector
 
 -- the content with all accepted events
 abbrev pub live : {D : Type 0} → Shown D → Content
 live s = content_of s.detector
-
--- the table of sets before the first event: the empty one, with room for so many
-abbrev pub first_table : ℕ → Table
-first_table limit = record { limit = limit; sets = [] ∷ [] }
 
 -- The image has the durable content or, where in doubt, the live one.
 abbrev pub Stands : Content → Content → Bool → Image → Type 0

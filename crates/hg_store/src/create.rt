@@ -1,17 +1,17 @@
 //! Making a store.
 
-ghost use Rattle.std.specs.Prelude.{◌≡◌, ◌⊎◌, ◌+◌, ◌≤◌, ◌∷◌, [], length, vec_capacity, IsTrue, IfOk, IfErr, OnOk};
+ghost use Rattle.std.specs.Prelude.{◌≡◌, ◌⊎◌, ◌+◌, ◌≤◌, ◌∷◌, [], vec_capacity, IsTrue, IfOk, IfErr, OnOk};
 ghost use Rattle.hg_model.specs.Change.{empty_content};
 ghost use Rattle.hg_disk.specs.State.{counted, settled};
 ghost use Rattle.hg_gate.specs.Batches.{closed_gate};
 ghost use Rattle.hg_store.specs.Images.{failures_of, read_of};
 ghost use Rattle.hg_store.specs.Recovering.{IsEmpty, empty_image};
-ghost use Rattle.hg_store.specs.Store.{IsFresh, IsWhole, content_of, first_table};
+ghost use Rattle.hg_sets.specs.Interning.{first_table};
+ghost use Rattle.hg_store.specs.Store.{IsFresh};
 
 use crate::devices::{Caps, Devices};
 use crate::store::{MOST_PENDING, Store};
-use hg_detect::detector::Detector;
-use hg_detect::paged::PagedWords;
+use hg_detect::memory::new_detector;
 use hg_disk::{Disk, DiskFault, write_through};
 use hg_gate::CLOSED;
 use hg_journal::journal::Journal;
@@ -26,24 +26,6 @@ pub enum CreateFault {
     NotEmpty,
     /// `DeviceFault` or `OutOfMemory`.
     Refused(Refusal),
-}
-
-/// The detector of no events, with room for so many sets.
-pub(crate) fn first_detector(alloc: Global, sets: u32) -> Result<Detector<PagedWords>, Refusal>
-    requires least { 1 ≤ sets }
-    requires greatest { sets ≤ 262144 }
-    ensures content { IfOk result (λ detector. content_of detector ≡ empty_content) }
-    ensures sets { IfOk result (λ detector. detector.sets ≡ first_table sets) }
-    ensures whole { IfOk result IsWhole }
-    ensures refusal { IfErr result (λ refusal. refusal ≡ Refusal.OutOfMemory) }
-{
-    let Ok(words) = PagedWords::new(alloc) else {
-        return Err(Refusal::OutOfMemory);
-    };
-    match Detector::new(alloc, words, sets) {
-        Ok(detector) => Ok(detector),
-        Err(_) => Err(Refusal::OutOfMemory),
-    }
 }
 
 /// Room for all events that may wait for a commit.
@@ -116,7 +98,7 @@ impl<D: Disk> Store<D> {
         if !is_empty(&devices) {
             return Err((CreateFault::NotEmpty, devices));
         }
-        let detector = match first_detector(alloc, caps.sets) {
+        let detector = match new_detector(alloc, caps.sets) {
             Ok(detector) => detector,
             Err(refusal) => return Err((CreateFault::Refused(refusal), devices)),
         };

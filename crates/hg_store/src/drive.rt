@@ -5,7 +5,8 @@ ghost use Rattle.hg_model.specs.Contents.{Content};
 ghost use Rattle.hg_store.specs.Images.{EachImage};
 ghost use Rattle.hg_store.specs.Offers.{StepDone, durable_by, in_doubt_during};
 ghost use Rattle.hg_store.specs.Runs.{DriveDone};
-ghost use Rattle.hg_store.specs.Store.{Backs, Stands, content_of};
+ghost use Rattle.hg_detect.specs.Memory.{content_of};
+ghost use Rattle.hg_store.specs.Store.{Backs, Stands};
 
 use crate::steps::{Step, StepResult};
 use crate::store::Store;

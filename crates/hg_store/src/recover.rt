@@ -1,6 +1,6 @@
 //! Recovering a store.
 
-ghost use Rattle.std.specs.Prelude.{◌≡◌, ◌⊎◌, ◌+◌, ◌<◌, ◌≤◌, ◌^◌, ◌++◌, ◌∷◌, [], ℕ, List, Ok, Err, Some, None, length, IsTrue, IfOk, IfErr, OnOk, false};
+ghost use Rattle.std.specs.Prelude.{◌≡◌, ◌⊎◌, ◌<◌, ◌≤◌, ◌^◌, [], ℕ, List, Ok, Err, Some, None, IsTrue, IfOk, IfErr, OnOk, false};
 ghost use Rattle.hg_model.specs.Contents.{Content};
 ghost use Rattle.hg_model.specs.Change.{after, empty_content, followed};
 ghost use Rattle.hg_model.specs.declared.event.Named.{Named as NamedOf};
@@ -11,15 +11,16 @@ ghost use Rattle.hg_disk.specs.Moments.{LeavesOnly};
 ghost use Rattle.hg_gate.specs.Batches.{IsClosed};
 ghost use Rattle.hg_store.specs.Images.{EachImage, HasContent, IsLeft, failures_of, read_of};
 ghost use Rattle.hg_journal.specs.Journal.{IsJournal, failed_after};
-ghost use Rattle.hg_store.specs.Recovering.{Fills, HasSets, IsAccepted, IsOfRecovery, IsTooSmall, Settled, Stay};
+ghost use Rattle.hg_store.specs.Recovering.{HasSets, IsAccepted, IsOfRecovery, IsTooSmall, Settled, Stay};
 ghost use Rattle.hg_journal.specs.Reading.{Keeps, Opens, disk_of, is_broken};
-ghost use Rattle.hg_store.specs.Store.{IsFresh, IsWhole, content_of, first_table};
+ghost use Rattle.hg_detect.specs.Memory.{IsWhole, content_of};
+ghost use Rattle.hg_sets.specs.Interning.{first_table};
+ghost use Rattle.hg_store.specs.Store.{IsFresh};
 
-use crate::create::{first_detector, pending_room};
+use crate::create::pending_room;
 use crate::devices::{Caps, Devices};
 use crate::store::Store;
-use hg_detect::detector::Detector;
-use hg_detect::paged::PagedWords;
+use hg_detect::memory::{MemoryDetector, new_detector};
 use hg_disk::{Disk, DiskFault};
 use hg_gate::OPEN;
 use hg_journal::journal::Journal;
@@ -79,7 +80,7 @@ fn settle<D: Disk>(devices: &mut Devices<D>) -> Result<(), Refusal>
 }
 
 /// Has the detector follow an event of the journal. One that the rules do not accept is no journal's.
-fn follow(detector: &mut Detector<PagedWords>, named: &Named) -> Result<(), Refusal>
+fn follow(detector: &mut MemoryDetector, named: &Named) -> Result<(), Refusal>
     requires whole { IsWhole detector.old }
     ensures accepted { OnOk result (IsAccepted (content_of detector.old) named.now × (content_of detector.new ≡ after (content_of detector.old) named.now)) }
     ensures asked { OnOk result (Asks detector.old.sets (sets_asked (content_of detector.old) named.now.event) None detector.new.sets) }
@@ -99,10 +100,7 @@ fn follow(detector: &mut Detector<PagedWords>, named: &Named) -> Result<(), Refu
 }
 
 /// Reads the journal from its first event on, and has the detector follow each.
-fn replay<D: Disk>(
-    journal: &mut Journal<D>,
-    detector: &mut Detector<PagedWords>,
-) -> Result<(), Refusal>
+fn replay<D: Disk>(journal: &mut Journal<D>, detector: &mut MemoryDetector) -> Result<(), Refusal>
     requires works { is_broken journal.old ≡ false }
     requires whole { IsWhole detector.old }
     requires content { content_of detector.old ≡ empty_content }
@@ -164,7 +162,7 @@ impl<D: Disk> Store<D> {
             Ok(()) => {}
             Err(refusal) => return Err((refusal, devices)),
         }
-        let mut detector = match first_detector(alloc, caps.sets) {
+        let mut detector = match new_detector(alloc, caps.sets) {
             Ok(detector) => detector,
             Err(refusal) => return Err((refusal, devices)),
         };

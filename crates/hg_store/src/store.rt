@@ -1,22 +1,22 @@
 //! The store.
 
-ghost use Rattle.std.specs.Prelude.{◌≡◌, ◌≢◌, ◌⊎◌, ◌++◌, ◌∷◌, ◌≤◌, ◌+◌, ◌-◌, [], ℕ, List, Ok, Err, Some, None, length, take, drop, map, false, true, IsTrue, OnOk, OnErr, IfOk, IfErr, cond};
+ghost use Rattle.std.specs.Prelude.{◌≡◌, ◌≢◌, ◌⊎◌, ◌≤◌, ◌-◌, [], List, Ok, Err, Some, None, length, take, drop, false, true, IsTrue, OnOk, IfOk, IfErr, cond};
 ghost use Rattle.hg_model.specs.Contents.{Content};
-ghost use Rattle.hg_model.specs.Change.{empty_content};
 ghost use Rattle.hg_model.specs.Verdicts as rules;
 ghost use Rattle.hg_model.specs.declared.event.Named.{Named as NamedOf};
 ghost use Rattle.hg_detect.specs.Answering.{done};
 ghost use Rattle.hg_sets.specs.declared.fault.SetFault.TheVariants as SetFault;
 ghost use Rattle.hg_detect.specs.Making.{Asks, sets_asked};
-ghost use Rattle.hg_store.specs.Images.{EachImage, IsLeft, failures_of, read_of};
+ghost use Rattle.hg_store.specs.Images.{EachImage, IsLeft, failures_of};
 ghost use Rattle.hg_journal.specs.Journal.{IsJournal, IsOfReading, failed_after};
 ghost use Rattle.hg_store.specs.Offers.{CommitDone, OfferDone, StepDone, durable_after, durable_by, failed_by, in_doubt_during};
-ghost use Rattle.hg_store.specs.Store.{Backs, SameButDevices, Stands, content_of};
+ghost use Rattle.hg_detect.specs.Memory.{content_of};
+ghost use Rattle.hg_store.specs.Store.{Backs, SameButDevices, Stands};
 
 use crate::devices::Devices;
 use crate::steps::{Phase, Step, StepResult};
-use hg_detect::detector::{Answer, Detector};
-use hg_detect::paged::PagedWords;
+use hg_detect::detector::Answer;
+use hg_detect::memory::MemoryDetector;
 use hg_disk::Disk;
 use hg_journal::collect::collect;
 use hg_journal::journal::{Journal, MAX_BATCH_EVENTS};
@@ -40,7 +40,7 @@ pub struct Store<D: Disk> {
     pub(crate) slots: D,
     pub(crate) root0: D,
     pub(crate) root1: D,
-    pub(crate) detector: Detector<PagedWords>,
+    pub(crate) detector: MemoryDetector,
     pub(crate) pending: Vec<Named>,
     pub(crate) durable: u64,
     pub(crate) is_broken: bool,

@@ -1,6 +1,6 @@
 //! What is held of a line that has not ended.
 
-ghost use Rattle.std.specs.Prelude.{◌≡◌, ◌++◌, ◌==◌, [], length, take, IfOk, IsTrue, ◌↔◌};
+ghost use Rattle.std.specs.Prelude.{◌≡◌, ◌++◌, [], take, IfOk, IsTrue, ◌↔◌};
 ghost use Rattle.std.specs.Str.Lines.{strip_carriage_return};
 
 use std::alloc::{AllocError, Global};

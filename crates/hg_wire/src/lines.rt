@@ -1,8 +1,7 @@
 //! The lines that a program prints beside those of reports, without their line feeds.
 
-ghost use Rattle.std.specs.Prelude.{◌≡◌, ◌++◌, ◌∷◌, OnOk, OnErr, map};
+ghost use Rattle.std.specs.Prelude.{◌≡◌, ◌++◌, OnOk, OnErr};
 ghost use Rattle.std.specs.Fmt.{decimal};
-ghost use Rattle.std.specs.List.{flat_map, join_with_byte};
 ghost use Rattle.hg_wire.specs.Reports.{bad_line, fault_line, predecessors_text, refused_line, segment_front, segment_line};
 
 use crate::report::{put_all, put_number_after};

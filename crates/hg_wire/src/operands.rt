@@ -1,6 +1,6 @@
 //! The operands that follow a verb.
 
-ghost use Rattle.std.specs.Prelude.{◌≡◌, [], ◌∷◌, IfSome};
+ghost use Rattle.std.specs.Prelude.{[], ◌∷◌, IfSome};
 ghost use Rattle.hg_wire.specs.Lines.{HasOperands};
 
 use crate::number::number_in_front;

@@ -1,6 +1,6 @@
 //! The events of a stream of trace text.
 
-ghost use Rattle.std.specs.Prelude.{◌≡◌, ◌+◌, ◌<◌, ◌^◌, ◌∷◌, [], List, ℕ, length, option_to_list, IfOk};
+ghost use Rattle.std.specs.Prelude.{◌≡◌, ◌+◌, ◌<◌, ◌^◌, ◌∷◌, [], length, option_to_list, IfOk};
 ghost use Rattle.hg_wire.specs.Streams.{Takes, readings_in};
 
 use crate::line::{LineFault, event_line_in_front, read_line};

@@ -1,6 +1,6 @@
 //! The lines of a stream that comes in pieces.
 
-ghost use Rattle.std.specs.Prelude.{◌≡◌, ◌+◌, ◌<◌, ◌^◌, ◌++◌, ◌∷◌, [], List, ℕ, IfOk, IfSome, IfNone, IsTrue, ◌↔◌, length};
+ghost use Rattle.std.specs.Prelude.{◌≡◌, ◌+◌, ◌<◌, ◌^◌, [], IfOk, IfSome, IfNone, IsTrue, ◌↔◌, length};
 ghost use Rattle.std.specs.Bool.{OnTrue, OnFalse};
 
 use crate::held::HeldLine;

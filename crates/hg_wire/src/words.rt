@@ -1,6 +1,6 @@
 //! The words of a line, and the first of its faults.
 
-ghost use Rattle.std.specs.Prelude.{◌≡◌, [], ◌∷◌, ℕ, List, ◌<◌, ◌≤◌, length, false, MatchOption, position, ◌==◌};
+ghost use Rattle.std.specs.Prelude.{◌≡◌, [], ◌∷◌, ℕ, List, ◌<◌, length, false, MatchOption, position, ◌==◌};
 ghost use Rattle.hg_wire.specs.Lines.{words_of, words_after, are_counted, operand_of, operands_of, result_map, of_verb, line_of};
 ghost use Rattle.hg_wire.specs.Verbs.{pair_widths, access_widths, block_widths};
 

@@ -1,6 +1,6 @@
 use Rattle.std.proofs.Common.{[], ◌++◌}
 use Rattle.hg_check.specs.Printing.{last_line, line_text, reports_text}
-use Rattle.hg_check.specs.Running.{content_of}
+use Rattle.hg_detect.specs.Memory.{content_of}
 use Rattle.hg_check.proofs.Printed.{due_at_first, due_flushed, due_line}
 use Rattle.hg_check.proofs.commands.run_check.Goals as goal
 

@@ -1,7 +1,7 @@
 use Rattle.std.proofs.Common.{[], ◌++◌, ap, sym, ◌∙◌, subst}
 use Rattle.std.proofs.lemmas.List.{append-nil}
 use Rattle.hg_check.specs.Printing.{IsDue, segments_text, stop_text}
-use Rattle.hg_check.specs.Running.{content_of}
+use Rattle.hg_detect.specs.Memory.{content_of}
 use Rattle.hg_check.proofs.Printed.{due_at_first, due_flushed, due_line, due_more}
 use Rattle.hg_check.proofs.commands.run_graph.Goals as goal
 

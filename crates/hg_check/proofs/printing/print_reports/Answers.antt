@@ -2,7 +2,7 @@ use Rattle.std.proofs.Common.{◌+◌, ◌++◌, subst, arith}
 use Rattle.std.proofs.lemmas.List.{drop_all, length-map}
 use Rattle.hg_detect.specs.Shown.{report_of}
 use Rattle.hg_check.specs.Printing.{IsDue, reports_text}
-use Rattle.hg_check.specs.Running.{content_of}
+use Rattle.hg_detect.specs.Memory.{content_of}
 use Rattle.hg_check.proofs.printing.print_reports.Goals as goal
 
 pub returns-clause-printed : goal.returns-clause-printed

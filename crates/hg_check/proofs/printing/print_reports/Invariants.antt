@@ -1,6 +1,6 @@
 use Rattle.std.proofs.Common.{◌≡◌, ℕ, ◌+◌, ◌++◌, List, Option, true, drop}
 use Rattle.hg_check.specs.Printing.{IsDue, reports_text}
-use Rattle.hg_check.specs.Running.{content_of}
+use Rattle.hg_detect.specs.Memory.{content_of}
 use Rattle.hg_check.proofs.printing.print_reports.Given as goal
 
 abbrev pub invariant-loop-index : goal.invariant-loop-index

@@ -1,6 +1,6 @@
 use Rattle.std.proofs.Common.{[], sym, subst, OnOk}
 use Rattle.hg_check.specs.Printing.{IsDue, live_text, reports_text}
-use Rattle.hg_check.specs.Running.{content_of}
+use Rattle.hg_detect.specs.Memory.{content_of}
 use Rattle.hg_check.proofs.Underway.{new_reports_due}
 use Rattle.hg_check.proofs.run.print_new.Goals as goal
 

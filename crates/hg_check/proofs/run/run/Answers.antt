@@ -1,7 +1,8 @@
 use Rattle.std.proofs.Common.{◌≡◌, ℕ, ◌++◌, List, Ok, length, take, drop, sym, ap, subst, ◌∙◌, arith}
 use Rattle.std.proofs.lemmas.List.{length-append, length-drop, length-take}
 use Rattle.std.proofs.lemmas.Result.{on_ok_weaker}
-use Rattle.hg_check.specs.Running.{Advances, content_of}
+use Rattle.hg_detect.specs.Memory.{content_of}
+use Rattle.hg_check.specs.Running.{Advances}
 use Rattle.hg_check.proofs.Underway.{underway_first, underway_on}
 use Rattle.hg_check.proofs.run.run.Goals as goal
 

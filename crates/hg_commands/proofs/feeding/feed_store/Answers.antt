@@ -2,7 +2,7 @@ use Rattle.std.proofs.Common.{◌≡◌, ℕ, Bool, true, false, Result, Ok, Err
 use Rattle.std.specs.Io.KnownBytes.{Appends}
 use Rattle.hg_model.specs.declared.verdict.Refusal.{Refusal}
 use Rattle.hg_model.specs.declared.verdict.Refusal.TheVariants as refusal
-use Rattle.hg_store.specs.Store.{content_of}
+use Rattle.hg_detect.specs.Memory.{content_of}
 use Rattle.hg_commands.specs.Storing.{number_text}
 use Rattle.hg_commands.proofs.FeedDone.{was_fed}
 use Rattle.hg_commands.proofs.feeding.feed_store.Goals as goal

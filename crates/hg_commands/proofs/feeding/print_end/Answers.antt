@@ -1,5 +1,5 @@
 use Rattle.std.proofs.Common.{[]}
-use Rattle.hg_store.specs.Store.{content_of}
+use Rattle.hg_detect.specs.Memory.{content_of}
 use Rattle.hg_commands.specs.Feeding.{feed_end_text}
 use Rattle.hg_check.proofs.Printed.{due_at_first, due_flushed, due_line}
 use Rattle.hg_commands.proofs.feeding.print_end.Goals as goal

@@ -1,7 +1,7 @@
 use Rattle.std.proofs.Common.{◌≡◌, [], sym, subst, ap, ◌∙◌}
 use Rattle.std.proofs.lemmas.List.{append-nil}
 use Rattle.std.proofs.lemmas.Result.{on_ok_weaker}
-use Rattle.hg_store.specs.Store.{content_of}
+use Rattle.hg_detect.specs.Memory.{content_of}
 use Rattle.hg_check.specs.Printing.{IsDue, line_text, reports_text}
 use Rattle.hg_commands.specs.Storing.{listing_text, store_end_line}
 use Rattle.hg_check.proofs.Printed.{due_at_first, due_line, due_more}

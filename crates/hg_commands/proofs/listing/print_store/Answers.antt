@@ -1,5 +1,5 @@
 use Rattle.std.proofs.Common.{[]}
-use Rattle.hg_store.specs.Store.{content_of}
+use Rattle.hg_detect.specs.Memory.{content_of}
 use Rattle.hg_commands.specs.Storing.{listing_text}
 use Rattle.hg_check.proofs.Printed.{due_flushed}
 use Rattle.hg_commands.proofs.listing.print_store.Goals as goal

@@ -2,7 +2,7 @@ use Rattle.std.proofs.Common.{◌≡◌, ◌-◌, ◌^◌, ℕ, List, false, IsT
 use Rattle.hg_disk.specs.State.{IsImage}
 use Rattle.hg_disk.specs.Moments.{LeavesOnly}
 use Rattle.hg_journal.specs.Reading.{Opens, disk_of, is_broken}
-use Rattle.hg_store.specs.Store.{IsWhole, content_of}
+use Rattle.hg_detect.specs.Memory.{IsWhole, content_of}
 use Rattle.hg_store.proofs.Replaying.{HasRead}
 use Rattle.hg_store.proofs.recover.replay.Given as goal
 

@@ -2,7 +2,7 @@ use Rattle.std.proofs.Common.{rules, Some, sym, ◌∙◌, ap}
 use Rattle.hg_model.specs.Contents.{Content}
 use Rattle.hg_store.specs.Shown.{Shown}
 use Rattle.hg_journal.specs.Reading.{disk_of}
-use Rattle.hg_store.specs.Store.{content_of}
+use Rattle.hg_detect.specs.Memory.{content_of}
 use Rattle.hg_store.proofs.Contents.{followed_one}
 use Rattle.hg_store.proofs.Stores.{kept_accepted}
 use Rattle.hg_store.proofs.store.Store.offer.Goals as goal

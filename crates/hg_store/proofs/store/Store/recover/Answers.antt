@@ -4,7 +4,7 @@ use Rattle.hg_gate.specs.Batches.{IsClosed}
 use Rattle.hg_journal.specs.Journal.{IsJournal}
 use Rattle.hg_store.specs.Recovering.{HasSets, IsTooSmall}
 use Rattle.hg_journal.specs.Reading.{disk_of}
-use Rattle.hg_store.specs.Store.{content_of}
+use Rattle.hg_detect.specs.Memory.{content_of}
 use Rattle.hg_store.proofs.Contents.{counted_all}
 use Rattle.hg_journal.proofs.Journaling.{bytes_now, each_image_has}
 use Rattle.hg_store.proofs.Making.{fresh, settled_leaves, settled_reads, settled_self}
@@ -18,8 +18,8 @@ returns-in-Err-clause-damaged g c honest told = c.settle.ensures.damaged honest 
 pub returns-in-Err-clause-images : goal.returns-in-Err-clause-images
 returns-in-Err-clause-images g c = stay_images g.D.Disk c.args.devices c.settle.new.devices c.settle.ensures.stay
 
-pub returns-in-Err-first_detector-clause-images : goal.returns-in-Err-first_detector-clause-images
-returns-in-Err-first_detector-clause-images g c = stay_images g.D.Disk c.args.devices c.settle.new.devices c.settle.ensures.stay
+pub returns-in-Err-new_detector-clause-images : goal.returns-in-Err-new_detector-clause-images
+returns-in-Err-new_detector-clause-images g c = stay_images g.D.Disk c.args.devices c.settle.new.devices c.settle.ensures.stay
 
 pub returns-in-Err-pending_room-clause-images : goal.returns-in-Err-pending_room-clause-images
 returns-in-Err-pending_room-clause-images g c = stay_images g.D.Disk c.args.devices c.settle.new.devices c.settle.ensures.stay

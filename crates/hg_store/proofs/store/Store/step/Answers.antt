@@ -3,7 +3,8 @@ use Rattle.hg_store.specs.declared.devices.Devices.{Devices}
 use Rattle.hg_store.specs.declared.steps.Step.{Step}
 use Rattle.hg_store.specs.Images.{EachImage}
 use Rattle.hg_store.specs.Offers.{in_doubt_during}
-use Rattle.hg_store.specs.Store.{Stands, content_of}
+use Rattle.hg_detect.specs.Memory.{content_of}
+use Rattle.hg_store.specs.Store.{Stands}
 use Rattle.hg_store.proofs.Stores.{images_stand}
 use Rattle.hg_store.proofs.store.Store.step.Goals as goal
 
