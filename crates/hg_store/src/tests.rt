@@ -1,6 +1,7 @@
 //! Stores over disks in memory, with what the rules and the formats give for them by hand.
 ghost use Rattle.std.specs.Prelude.{◌≤◌, ◌<◌};
 
+mod faults;
 mod refusals;
 
 use crate::devices::{Caps, Devices};
