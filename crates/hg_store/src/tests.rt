@@ -3,6 +3,7 @@ ghost use Rattle.std.specs.Prelude.{◌≤◌, ◌<◌};
 
 mod faults;
 mod refusals;
+mod stops;
 
 use crate::devices::{Caps, Devices};
 use crate::laws::{content_is_unique, prefix_is_summed, remaining_give_the_same};
