@@ -1,6 +1,10 @@
 //! Stores over disks in memory, with what the rules and the formats give for them by hand.
 ghost use Rattle.std.specs.Prelude.{◌≤◌, ◌<◌};
 
+mod faults;
+mod refusals;
+mod stops;
+
 use crate::devices::{Caps, Devices};
 use crate::laws::{content_is_unique, prefix_is_summed, remaining_give_the_same};
 use crate::steps::{Phase, Step, StepResult};
