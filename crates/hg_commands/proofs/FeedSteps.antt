@@ -98,7 +98,7 @@ module _ {D : Type 0} (g : disk.Ghosts D) where
       record {
         accept = accept;
         content = ap (λ (d : Detector PagedWords). content_of d) counted.detector ∙ one_after (verdict (standing_of c) n) c (content_of m.detector) (after c n) accept was.done.live;
-        sets = subst (λ (d : Detector PagedWords). Asks s.detector.sets (sets_asked c e) None d.sets) (sym counted.detector) (was.sets refl);
+        sets = subst (λ (d : Detector PagedWords). Asks s.detector.sets (sets_asked c e) None d.sets) (sym counted.detector) (was.done.table.accepted refl);
         source = ap (λ (x : Fed). x.source) counted.fed ∙ ap (λ (x : Fed). x.source) was.fed;
         number = ap (λ (x : Fed). x.number) counted.fed ∙ ap (λ (x : Fed). x.number) was.fed;
         accepted = ap (λ (x : Fed). x.accepted) counted.fed ∙ ap (λ (x : Fed). x.accepted + 1) was.fed;
@@ -205,7 +205,7 @@ module _ {D : Type 0} (g : disk.Ghosts D) where
             subst (λ x. IsOffered x f.source s.detector.sets c f.number reading.line (λ t d. FeedsTo f.source later t d (f.number + 1) last end) last end) (sym event)
             (passed_over (verdict (standing_of c) n) (length s.pending) k reading.line s.detector.sets c n (λ t d. FeedsTo f.source later t d (f.number + 1) last end) last end (few_pending s f ready)
             (by_verdict s.is_broken (verdict (standing_of c) n) (length s.pending) (Ok (answer.Duplicate k)) ready.works was.done.answer)
-            (feeds_same later last end i.source f.source m.detector.sets s.detector.sets (content_of m.detector) c i.number (f.number + 1) is.source (ap (λ (x : Shown D). x.detector.sets) (was.same k refl)) is.content is.number h));
+            (feeds_same later last end i.source f.source m.detector.sets s.detector.sets (content_of m.detector) c i.number (f.number + 1) is.source (ap (λ (x : Shown D). x.detector.sets) (was.done.table.same (λ is. absurd (cc)) (λ is. absurd (cc)) (λ is. absurd (cc)))) is.content is.number h));
       }
 
   error_is : (y z : Refusal) → ◌≡◌ {A = Result Answer Refusal} (Err y) (Err z) → y ≡ z
@@ -237,7 +237,7 @@ module _ {D : Type 0} (g : disk.Ghosts D) where
         (ended_is (sym other.1 ∙ given_end))
         (refused_by (verdict (standing_of (content_of s.detector)) (sent f.source f.number e)) (length s.pending) reading.line s.detector.sets m.detector.sets (content_of s.detector) (content_of m.detector) (sent f.source f.number e) r
         (λ t d. FeedsTo f.source later t d (f.number + 1) (content_of m.detector) (Refused reading.line r)) (few_pending s f ready)
-        (by_verdict s.is_broken (verdict (standing_of (content_of s.detector)) (sent f.source f.number e)) (length s.pending) (Err r) ready.works was.done.answer) other.0 was.full
+        (by_verdict s.is_broken (verdict (standing_of (content_of s.detector)) (sent f.source f.number e)) (length s.pending) (Err r) ready.works was.done.answer) other.0 was.done.table.full
         (is_unchanged s m f i e (Err r) refl was).content)))
         stops;
   }

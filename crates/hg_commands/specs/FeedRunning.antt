@@ -1,16 +1,11 @@
 -- How far feeding has come.
-use Rattle.std.specs.Prelude.{◌≡◌, ◌⊎◌, ℕ, ◌+◌, ◌≤◌, ◌%◌, Bool, true, false, nat_eq, List, [], ◌∷◌, ◌++◌, length, Option, Some, None, Result, Ok, Err, IsTrue, ⊤, if◌then◌else◌}
+use Rattle.std.specs.Prelude.{◌≡◌, ◌⊎◌, ℕ, ◌+◌, ◌≤◌, ◌%◌, Bool, true, false, nat_eq, List, [], ◌∷◌, ◌++◌, length, Option, Some, None, Result, IsTrue, ⊤, if◌then◌else◌}
 use Rattle.std.specs.Io.KnownBytes.{Appends}
 use Rattle.hg_model.specs.declared.verdict.Refusal.{Refusal}
 use Rattle.hg_model.specs.declared.event.Event.{Event}
-use Rattle.hg_model.specs.declared.verdict.Refusal.TheVariants.{DeviceFault, FullSets, OutOfMemory}
-use Rattle.hg_model.specs.declared.verdict.Verdict.TheVariants.{Accept}
-use Rattle.hg_model.specs.Verdicts.{standing_of, verdict}
+use Rattle.hg_model.specs.declared.verdict.Refusal.TheVariants.{DeviceFault, OutOfMemory}
 use Rattle.hg_sets.specs.Interning.{Table}
-use Rattle.hg_sets.specs.declared.fault.SetFault.TheVariants.{Full}
 use Rattle.hg_detect.specs.declared.detector.Answer.{Answer}
-use Rattle.hg_detect.specs.declared.detector.Answer.TheVariants.{Accepted, Duplicate}
-use Rattle.hg_detect.specs.Making.{Asks, sets_asked}
 use Rattle.hg_model.specs.Contents.{Content}
 use Rattle.hg_disk.specs.declared.disk.Disk as disk
 use Rattle.hg_store.specs.Shown.{Shown}
@@ -129,9 +124,6 @@ pub record WasSent {D : Type 0} (g : disk.Ghosts D) (old new : Shown D) (before 
   pub done : OfferDone old new (sent before.source before.number e) r
   pub fed : now ≡ record before { number = before.number + 1 }
   pub backs : IsBacked g old → IsBacked g new
-  pub sets : r ≡ Ok Accepted → Asks old.detector.sets (sets_asked (content_of old.detector) e) None new.detector.sets
-  pub full : verdict (standing_of (content_of old.detector)) (sent before.source before.number e) ≡ Accept → r ≡ Err FullSets → Asks old.detector.sets (sets_asked (content_of old.detector) e) (Some Full) new.detector.sets
-  pub same : (last : ℕ) → r ≡ Ok (Duplicate last) → new ≡ old
 
 -- An accepted event was counted, and committed with those before it where it was the last of 256.
 pub record WasCounted {D : Type 0} (g : disk.Ghosts D) (old new : Place D) : Type 0 where

@@ -77,23 +77,24 @@ module _ {D : Type 0} (g : disk.Ghosts D) where
       begins_more [] = refl
       begins_more (a ∷ told) = refl
 
-      covered_more : (run : Run) (steps : List Step) (told : Told D) → Covered g start run steps told s → Lawful start (run_of run steps told) step result
+      covered_more : (run : Run) (steps : List Step) (told : Told D) → Covered g start run steps told s → Lawful start (run_of run steps told) step result → StepDone s new step result
           → EachImage g s.devices new.devices (StandsFor start (run_of run steps told) (in_doubt_during step (run_of run steps told).in_doubt))
           → Covered g start run (steps ++ step ∷ []) (told ++ (s, result) ∷ []) new
-      covered_more run [] [] cov lawful images = (lawful, images, tt)
-      covered_more run [] (a ∷ told) cov lawful images = absurd cov
-      covered_more run (x ∷ steps) [] cov lawful images = absurd cov
-      covered_more run (x ∷ steps) (a ∷ told) cov lawful images = (
+      covered_more run [] [] cov lawful done images = (lawful, done, images, tt)
+      covered_more run [] (a ∷ told) cov lawful done images = absurd cov
+      covered_more run (x ∷ steps) [] cov lawful done images = absurd cov
+      covered_more run (x ∷ steps) (a ∷ told) cov lawful done images = (
         cov.0,
-        subst (λ (end : Shown D). EachImage g a.0.devices end.devices (StandsFor start run (in_doubt_during x run.in_doubt))) (sym (begins_more told)) cov.1,
-        covered_more (run_after run x a.1) steps told cov.2 lawful images,
+        subst (λ (end : Shown D). StepDone a.0 end x a.1) (sym (begins_more told)) cov.1,
+        subst (λ (end : Shown D). EachImage g a.0.devices end.devices (StandsFor start run (in_doubt_during x run.in_doubt))) (sym (begins_more told)) cov.2,
+        covered_more (run_after run x a.1) steps told cov.3 lawful done images,
       )
 
       run_more : (run : Run) (steps : List Step) (told : Told D) → Covered g start run steps told s → run_of run (steps ++ step ∷ []) (told ++ (s, result) ∷ []) ≡ run_after (run_of run steps told) step result
       run_more run [] [] cov = refl
       run_more run [] (a ∷ told) cov = absurd cov
       run_more run (x ∷ steps) [] cov = absurd cov
-      run_more run (x ∷ steps) (a ∷ told) cov = run_more (run_after run x a.1) steps told cov.2
+      run_more run (x ∷ steps) (a ∷ told) cov = run_more (run_after run x a.1) steps told cov.3
 
       abbrev pub Keeps : Type 0
       Keeps = (d : Content) → Backs g s d → Backs g new (durable_by result d (content_of s.detector))
@@ -114,7 +115,7 @@ module _ {D : Type 0} (g : disk.Ghosts D) where
           record {
             run = subst (λ (r : Run). IsAt g start r new) (sym (run_more (before old) steps told so_far.covered)) then;
             first = begins_more told ∙ so_far.first;
-            covered = covered_more (before old) steps told so_far.covered (is_lawful run s new step result at done) images;
+            covered = covered_more (before old) steps told so_far.covered (is_lawful run s new step result at done) done images;
           }
 
       -- the same, of answers that are pushed

@@ -1,5 +1,5 @@
 -- What one step does and answers.
-use Rattle.std.specs.Prelude.{◌≡◌, ◌⊎◌, ◌++◌, ℕ, List, [], ◌∷◌, length, Bool, true, false, Some, Ok, Err, Result, nat_le, cond}
+use Rattle.std.specs.Prelude.{◌≡◌, ◌⊎◌, ◌++◌, ℕ, List, [], ◌∷◌, length, Bool, true, false, Some, None, Ok, Err, Result, nat_le, cond}
 use Rattle.hg_model.specs.declared.event.Named.{Named}
 use Rattle.hg_model.specs.declared.verdict.Verdict.{Verdict}
 use Rattle.hg_model.specs.declared.verdict.Verdict.TheVariants.{Accept, Duplicate as IsDuplicate, Refuse}
@@ -8,6 +8,8 @@ use Rattle.hg_model.specs.declared.verdict.Refusal.TheVariants.{Broken, FullPend
 use Rattle.hg_model.specs.Contents.{Content}
 use Rattle.hg_model.specs.Verdicts.{verdict, standing_of}
 use Rattle.hg_model.specs.Change.{followed}
+use Rattle.hg_sets.specs.declared.fault.SetFault.TheVariants.{Full}
+use Rattle.hg_detect.specs.Making.{Asks, sets_asked}
 use Rattle.hg_detect.specs.declared.detector.Answer.{Answer}
 use Rattle.hg_detect.specs.declared.detector.Answer.TheVariants.{Accepted, Duplicate}
 use Rattle.hg_store.specs.declared.steps.Step.{Step}
@@ -34,10 +36,18 @@ if_accepted n (Ok Accepted) = n ∷ []
 if_accepted n (Ok (Duplicate last)) = []
 if_accepted n (Err refusal) = []
 
--- An accepted event joins the live content and the pending events; nothing else changes.
+-- What an offer leaves of the table of sets. An accepted event got each set that it asks for, and one that found the table full came
+-- to a set for which it has no room. After another answer than these and want of memory, nothing of the store has changed.
+pub record TableDone {D : Type 0} (old new : Shown D) (n : Named) (result : Result Answer Refusal) : Type 0 where
+  pub accepted : result ≡ Ok Accepted → Asks old.detector.sets (sets_asked (content_of old.detector) n.event) None new.detector.sets
+  pub full : verdict (standing_of (content_of old.detector)) n ≡ Accept → result ≡ Err FullSets → Asks old.detector.sets (sets_asked (content_of old.detector) n.event) (Some Full) new.detector.sets
+  pub same : (result ≡ Ok Accepted → ⊥) → (result ≡ Err FullSets → ⊥) → (result ≡ Err OutOfMemory → ⊥) → new ≡ old
+
+-- An accepted event joins the live content and the pending events; nothing else changes but the table.
 pub record OfferDone {D : Type 0} (old new : Shown D) (n : Named) (result : Result Answer Refusal) : Type 0 where
   pub answer : OfferAnswers (content_of old.detector) old.is_broken (length old.pending) n result
   pub live : followed (content_of old.detector) (if_accepted n result) ≡ Some (content_of new.detector)
+  pub table : TableDone old new n result
   pub pending : new.pending ≡ old.pending ++ if_accepted n result
   pub devices : new.devices ≡ old.devices
   pub durable : new.durable ≡ old.durable

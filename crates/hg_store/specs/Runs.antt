@@ -14,7 +14,7 @@ use Rattle.hg_store.specs.Images.{Image, HasContent, EachImage}
 use Rattle.hg_store.specs.Shown.{Shown}
 use Rattle.hg_detect.specs.Memory.{content_of}
 use Rattle.hg_store.specs.Store.{Backs}
-use Rattle.hg_store.specs.Offers.{OfferAnswers, if_accepted, in_doubt_during}
+use Rattle.hg_store.specs.Offers.{OfferAnswers, StepDone, if_accepted, in_doubt_during}
 
 -- The events of the offers answered Accepted: those before the last commit answered Ok, and those since.
 -- In doubt: a commit was answered by a fault of a device.
@@ -64,11 +64,12 @@ abbrev pub begins : {D : Type 0} → Told D → Shown D → Shown D
 begins [] end = end
 begins (a ∷ told) end = a.0
 
--- Each step is answered as it may be, and from its beginning to that of the next one, or to the end, each image stands for the run so far.
+-- Each step is answered as it may be, leads from the store as it began to that as the next one did, or to the end, and each image
+-- meanwhile stands for the run so far.
 abbrev pub Covered : {D : Type 0} → disk.Ghosts D → Content → Run → List Step → Told D → Shown D → Type 0
 Covered g start run [] [] end = Unit {0}
 Covered g start run (step ∷ steps) (a ∷ told) end =
-    Lawful start run step a.1 × EachImage g a.0.devices (begins told end).devices (StandsFor start run (in_doubt_during step run.in_doubt))
+    Lawful start run step a.1 × StepDone a.0 (begins told end) step a.1 × EachImage g a.0.devices (begins told end).devices (StandsFor start run (in_doubt_during step run.in_doubt))
     × Covered g start (run_after run step a.1) steps told end
 Covered g start run [] (a ∷ told) end = ⊥
 Covered g start run (step ∷ steps) [] end = ⊥

@@ -1,12 +1,10 @@
 //! The store.
 
-ghost use Rattle.std.specs.Prelude.{◌≡◌, ◌≢◌, ◌⊎◌, ◌≤◌, ◌-◌, [], List, Ok, Err, Some, None, length, take, drop, false, true, IsTrue, OnOk, IfOk, IfErr, cond};
+ghost use Rattle.std.specs.Prelude.{◌≡◌, ◌≢◌, ◌⊎◌, ◌≤◌, ◌-◌, [], List, Ok, Err, length, take, drop, false, true, IsTrue, OnOk, IfOk, IfErr, cond};
 ghost use Rattle.hg_model.specs.Contents.{Content};
 ghost use Rattle.hg_model.specs.Verdicts as rules;
 ghost use Rattle.hg_model.specs.declared.event.Named.{Named as NamedOf};
 ghost use Rattle.hg_detect.specs.Answering.{done};
-ghost use Rattle.hg_sets.specs.declared.fault.SetFault.TheVariants as SetFault;
-ghost use Rattle.hg_detect.specs.Making.{Asks, sets_asked};
 ghost use Rattle.hg_store.specs.Images.{EachImage, IsLeft, failures_of};
 ghost use Rattle.hg_journal.specs.Journal.{IsJournal, IsOfReading, failed_after};
 ghost use Rattle.hg_store.specs.Offers.{CommitDone, OfferDone, StepDone, durable_after, durable_by, failed_by, in_doubt_during};
@@ -65,14 +63,11 @@ impl<D: Disk> Model for Store<D> {
 impl<D: Disk> Store<D> {
     /// Offers an event. It is accepted, or it was sent before, or it is refused; the first refusal that applies is
     /// answered: `Broken`, those of the trace rules, `FullPending` where 1,024 events wait for a commit, and then
-    /// `FullSets` and `OutOfMemory`. A refusal changes nothing.
+    /// `FullSets` and `OutOfMemory`. A refusal leaves the content and what is pending as they were; the last two may leave some of
+    /// the event's sets in the table.
     pub fn offer(&mut self, named: &Named) -> Result<Answer, Refusal>
         ensures done { OfferDone self.old self.new named.now result }
         ensures backs { (start : Content) → Backs ⟦<D as Disk>⟧ self.old start → Backs ⟦<D as Disk>⟧ self.new start }
-        ensures sets { result ≡ Ok Answer.Accepted → Asks self.old.detector.sets (sets_asked (content_of self.old.detector) named.now.event) None self.new.detector.sets }
-        ensures full { rules.verdict (rules.standing_of (content_of self.old.detector)) named.now ≡ Verdict.Accept → result ≡ Err Refusal.FullSets
-            → Asks self.old.detector.sets (sets_asked (content_of self.old.detector) named.now.event) (Some SetFault.Full) self.new.detector.sets }
-        ensures same { (result ≡ Ok Answer.Accepted → ⊥) → (result ≡ Err Refusal.FullSets → ⊥) → (result ≡ Err Refusal.OutOfMemory → ⊥) → self.new ≡ self.old }
     {
         if self.is_broken {
             return Err(Refusal::Broken);

@@ -1,4 +1,4 @@
-use Rattle.std.proofs.Common.{rules, Some, sym, ◌∙◌, ap}
+use Rattle.std.proofs.Common.{rules, Some, refl, sym, ◌∙◌, ap}
 use Rattle.hg_model.specs.Contents.{Content}
 use Rattle.hg_store.specs.Shown.{Shown}
 use Rattle.hg_journal.specs.Reading.{disk_of}
@@ -11,6 +11,11 @@ pub returns-clause-done : goal.returns-clause-done
 returns-clause-done g c = rw (← c.self.view_is) (record {
   answer = search rules;
   live = followed_one (content_of c.self.inside.detector) c.args.named.now (search rules) ∙ ap (λ (d : Content). Some d) (sym (c.in_ok-accept.ensures.content c.self.invariant.whole));
+  table = record {
+    accepted = λ _. c.in_ok-accept.ensures.sets c.self.invariant.whole;
+    full = λ _ is. absurd (cc);
+    same = λ not. absurd (not refl);
+  };
   pending = search rules;
   devices = search rules;
   durable = search rules;
