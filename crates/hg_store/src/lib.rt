@@ -11,5 +11,3 @@ pub mod laws;
 pub mod recover;
 pub mod steps;
 pub mod store;
-#[cfg(test)]
-mod tests;

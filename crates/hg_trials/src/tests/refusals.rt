@@ -4,13 +4,13 @@ use super::{
     CAPS, NO_EVENT, ONE_EVENT, accept, create, devices_of, empty_devices, fork, lock, named,
     picture_of, rdlock, read, recover, unlock, write,
 };
-use crate::create::CreateFault;
-use crate::devices::{Caps, Devices};
-use crate::store::Store;
 use hg_detect::detector::Answer;
 use hg_disk::MemDisk;
 use hg_model::event::Event;
 use hg_model::verdict::Refusal;
+use hg_store::create::CreateFault;
+use hg_store::devices::{Caps, Devices};
+use hg_store::store::Store;
 use std::alloc::Global;
 use std::process::Abort;
 use std::test::Fail;

@@ -6,14 +6,14 @@ use super::{
     CAPS, Picture, Race, accept, compare_reports, compare_segments, create, empty_devices,
     picture_of, recover, torn, twelve_events,
 };
-use crate::devices::Devices;
-use crate::steps::Phase;
-use crate::store::Store;
 use hg_detect::detector::Answer;
 use hg_disk::{Disk, FuseDisk, MemDisk, Tear};
 use hg_model::event::Named;
 use hg_model::report::Report;
 use hg_model::verdict::Refusal;
+use hg_store::devices::Devices;
+use hg_store::steps::Phase;
+use hg_store::store::Store;
 use std::alloc::Global;
 use std::process::Abort;
 use std::test::Fail;

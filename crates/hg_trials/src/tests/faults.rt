@@ -2,12 +2,12 @@
 ghost use Rattle.std.specs.Prelude.{◌<◌};
 
 use super::{CAPS, ONE_EVENT, accept, create, devices_of, fork, named, recover, write};
-use crate::create::CreateFault;
-use crate::devices::Devices;
-use crate::steps::{Phase, Step, StepResult};
-use crate::store::Store;
 use hg_disk::{Disk, FuseDisk, MemDisk};
 use hg_model::verdict::Refusal;
+use hg_store::create::CreateFault;
+use hg_store::devices::Devices;
+use hg_store::steps::{Phase, Step, StepResult};
+use hg_store::store::Store;
 use std::alloc::Global;
 use std::process::Abort;
 use std::test::Fail;
