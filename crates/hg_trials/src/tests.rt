@@ -343,14 +343,16 @@ fn compare_runs(
         assert_eq!(rt; answer.result, StepResult::Offered(want), "{i}");
     }
     let again = Step::Offer(named(3, 7, fork(0, 1)));
-    let answers = store.drive(alloc, &[Step::Commit, next, again], &Step::Commit)?;
+    let gap = Step::Offer(named(3, 2_000, fork(0, 1)));
+    let answers = store.drive(alloc, &[Step::Commit, next, gap, again], &Step::Commit)?;
     let wanted = [
         StepResult::Committed(Ok(1_024)),
         StepResult::Offered(Ok(Answer::Accepted)),
+        StepResult::Offered(Err(Refusal::Gap(1_026))),
         StepResult::Offered(Ok(Answer::Duplicate(1_025))),
         StepResult::Committed(Ok(1_025)),
     ];
-    assert_eq!(rt; answers.len(), 4);
+    assert_eq!(rt; answers.len(), 5);
     for (answer, want) in answers.iter().zip(wanted.iter()) {
         assert_eq!(rt; answer.result, *want);
     }
