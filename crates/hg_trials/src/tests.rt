@@ -418,11 +418,14 @@ fn damage_is_told_and_changes_nothing(rt: HostRuntime) -> Result<(), Fail> {
     let mut fork_twice = [0; 49];
     fork_twice[..28].copy_from_slice(&ONE_EVENT[..28]);
     fork_twice[28..].copy_from_slice(&ONE_EVENT[8..]);
+    let mut no_such_thread = ONE_EVENT;
+    no_such_thread[25] = 5;
     for (journal, root0, root1) in [
         (&ONE_EVENT[..28], b"\x5A".as_slice(), b"\x5A".as_slice()),
         (&ONE_EVENT[..8], b"\x5A", b"\x5A"),
         (b"", b"\x5A", b"\x5A"),
         (&fork_twice, b"\x5A", b"\x5A"),
+        (&no_such_thread, b"\x5A", b"\x5A"),
         (&ONE_EVENT, b"", b"\x5A"),
         (&ONE_EVENT, b"\x5A", b""),
         (&ONE_EVENT, b"\xA5", b"\x5A"),
