@@ -7,7 +7,9 @@ use Rattle.std.proofs.lemmas.List.{length_push, length-replicate, get_or_append_
 use Rattle.std.proofs.lemmas.List.Elements.{All-head}
 use Rattle.hg_model.specs.declared.segment.Segment.{Segment}
 use Rattle.hg_cells.specs.declared.cell.Cell.{Cell}
+use Rattle.hg_cells.specs.declared.cell.Cell.TheVariants.{Exclusive}
 use Rattle.hg_cells.specs.Cells.{meaning, IsWithin}
+use Rattle.hg_model.proofs.Reaching.{reaches_itself}
 use Rattle.hg_sets.specs.Interning.{Table, Interns, KeepsNumbers, StandsAt, set_at}
 use Rattle.hg_sets.specs.declared.fault.SetFault.{SetFault}
 use Rattle.hg_sets.specs.declared.fault.SetFault.TheVariants as fault
@@ -18,9 +20,26 @@ use Rattle.hg_detect.specs.Making.{Asks, AsksBy, sets_in}
 use Rattle.hg_detect.specs.Planning.{Actor, ArePlanned, IsPlanned, touched_by, wanted}
 use Rattle.hg_detect.specs.Shown.{found, given, threads_number}
 use Rattle.hg_detect.specs.declared.kept.KeptReport.{KeptReport}
-use Rattle.hg_detect.proofs.Plans.{kept_twice, stands_on}
+use Rattle.hg_detect.proofs.Plans.{kept_twice, owned_asked, owned_on, stands_on}
 use Rattle.hg_detect.proofs.Sequences.{asks_more, refused_more}
 use Rattle.hg_detect.proofs.Stepping.{given_outside}
+
+-- what is planned for words that a segment owns afterwards
+abbrev pub owned : ℕ → Planned
+owned g = record { cell = Exclusive g; reported = false }
+
+-- a segment that owns the words goes on owning them
+pub stays_owned : (segments : List Segment) (sets : List (List ℕ)) (a : Actor) → a.segment < length segments → IsPlanned segments sets sets a (Exclusive a.segment) (owned a.segment)
+stays_owned segments sets a within =
+    record {
+      state = sym (owned_on segments sets a (Exclusive a.segment) a.segment refl (reaches_itself segments a.segment));
+      report = refl;
+      within = within;
+    }
+
+-- and asks for no set
+pub owned_asks_none : (segments : List Segment) (old : Table) (a : Actor) → Asks old (sets_in (touched_by segments a (meaning old.sets (Exclusive a.segment)))) None old
+owned_asks_none segments old a = owned_asked old (touched_by segments a (meaning old.sets (Exclusive a.segment))) a.segment (owned_on segments old.sets a (Exclusive a.segment) a.segment refl (reaches_itself segments a.segment))
 
 -- one plan serves each of the words
 pub alike_planned : (segments : List Segment) (old new : List (List ℕ)) (a : Actor) (cell_of : ℕ → Cell) (cell : Cell) (p : Planned) (first n : ℕ) → IsPlanned segments old new a cell p → ((w : ℕ) → first ≤ w → w < first + n → cell_of w ≡ cell)

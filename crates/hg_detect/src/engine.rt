@@ -227,11 +227,29 @@ impl<W: Words> Engine<W> {
         let first = access.at / 4;
         let last = (access.at + (u64::from(access.len) - 1)) / 4;
         if let Some(cell) = self.words.same(first, last + 1 - first) {
+            if are_same(cell, Cell::Exclusive(self.graph.present(access.t))) {
+                self.state.follow(named);
+                return Ok(());
+            }
             return self.access_alike(named, access, write, first, last + 1 - first, cell);
         }
-        self.prepare(access, write, first, last + 1)?;
+        self.access_unlike(*named, *access, write)
+    }
+
+    /// Accepts an access to words that have different cells, or that may not be filled.
+    #[inline(never)]
+    fn access_unlike(&mut self, named: Named, access: Access, write: bool) -> Result<(), Refusal>
+        requires event { named.event ≡ (if write then Event.Write access else Event.Read access) }
+        requires sound { IsSound self.old }
+        requires accepted { rules.verdict (rules.standing self.old.state) named ≡ Verdict.Accept }
+        requires lawful { AtPresent W.may_bring (shown_of self.old) }
+        ensures { Answers W.cell_of W.may_bring W.is_faithful W.may_refuse self.old named result self.new }
+    {
+        let first = access.at / 4;
+        let last = (access.at + (u64::from(access.len) - 1)) / 4;
+        self.prepare(&access, write, first, last + 1)?;
         let event = self.state.events() + 1;
-        self.state.follow(named);
+        self.state.follow(&named);
         set_words(&mut self.words, first, self.plan.as_slice());
         self.total += add_reports(
             &mut self.kept,
