@@ -109,35 +109,44 @@ fn reads_a_stream_however_it_is_cut(rt: HostRuntime) -> Result<(), Fail> {
     Ok(())
 }
 
+/// The read or write in front of a stream, and how many lines were counted.
+fn access_in_front(stream: &[u8], alloc: Global) -> Result<(Option<AccessLine>, u64), AllocError> {
+    let mut reader = EventReader::new(alloc)?;
+    let found = reader.take_access(stream);
+    Ok((found, reader.lines()))
+}
+
 /// Reads and writes are taken where they stand whole in front, and nothing else is.
 #[test]
 fn takes_accesses_in_front(rt: HostRuntime) -> Result<(), Fail> {
-    let mut reader = EventReader::new(rt.alloc())?;
-    let piece = b"write 3 0x10 4\r\nread 5 32 255\nread 5 32 256\n".as_slice();
-    let first = AccessLine {
+    let write = AccessLine {
         is_write: true,
         access: Access {
             t: 3,
             at: 16,
-            len: 4,
-        },
-        used: 16,
-    };
-    assert_eq!(rt; reader.take_access(piece), Some(first));
-    let second = AccessLine {
-        is_write: false,
-        access: Access {
-            t: 5,
-            at: 32,
             len: 255,
         },
-        used: 14,
+        used: 18,
     };
-    assert_eq!(rt; reader.take_access(&piece[16..]), Some(second));
-    assert_eq!(rt; reader.lines(), 2);
-    for other in [&piece[30..], &piece[..15], b"lock 1 2\n", b"#\n", b""] {
-        assert_eq!(rt; reader.take_access(other), None);
+    let found = access_in_front(b"write 3 0x10 255\r\nread 5 32 8\n", rt.alloc())?;
+    assert_eq!(rt; found, (Some(write), 1));
+    let read = AccessLine {
+        is_write: false,
+        ..write
+    };
+    let found = access_in_front(b"read 3 000016 255\n", rt.alloc())?;
+    assert_eq!(rt; found, (Some(read), 1));
+    for other in OTHERS {
+        assert_eq!(rt; access_in_front(other, rt.alloc())?, (None, 0));
     }
-    assert_eq!(rt; reader.lines(), 2);
     Ok(())
 }
+
+/// What is no whole line of a read or a write that fits its fields.
+const OTHERS: [&[u8]; 5] = [
+    b"read 5 32 256\n",
+    b"write 3 0x10 4",
+    b"lock 1 2\n",
+    b"# read 1 2 3\n",
+    b"",
+];
