@@ -3,9 +3,8 @@ use Rattle.std.proofs.Common.{◌≡◌, ℕ, suc, ◌+◌, ◌*◌, ◌≤◌, 
 use Rattle.std.proofs.lemmas.List.{append-nil, append_assoc, length-take}
 use Rattle.hg_streams.specs.declared.call.ReadCall.{ReadCall}
 use Rattle.std.specs.declared.io.ErrorKind.TheVariants.{Interrupted}
-use Rattle.hg_streams.specs.declared.call.ReadCall.TheVariants as ReadCall
 use Rattle.hg_streams.specs.declared.call.WriteCall.{WriteCall}
-use Rattle.hg_streams.specs.Calls.{failed_reads, given}
+use Rattle.hg_streams.specs.Calls.{given}
 use Rattle.hg_model.specs.declared.report.Report.{Report}
 use Rattle.hg_model.specs.Change.{empty_content}
 use Rattle.hg_model.specs.Contents.{Content}
@@ -71,9 +70,9 @@ leads_at_first known p d start empty sets = record {
   since = refl;
   intact = refl;
   leads = λ more last end h.
-    subst (λ c. LeadsTo (readings more) (first_table 262144) c last end) empty
-    (subst (λ (t : Table). LeadsTo (readings more) t (content_of d) last end) sets
-    (subst (λ (q : Pending). LeadsTo (readings_from q more) d.sets (content_of d) last end) start h));
+      subst (λ c. LeadsTo (readings more) (first_table 262144) c last end) empty
+      (subst (λ (t : Table). LeadsTo (readings more) t (content_of d) last end) sets
+      (subst (λ (q : Pending). LeadsTo (readings_from q more) d.sets (content_of d) last end) start h));
 }
 
 pub underway_first : (known : List ReadCall) (first : List WriteCall) (held : List ℕ) (live : Bool) (p : Pending) (d : Detector PagedWords) (size : ℕ)

@@ -59,11 +59,14 @@ feeds_at_end {D} g first calls later source table start p q here there last end 
   later = ReadCall.Gave [] ∷ h.later;
   since = m.met ∙ ap (λ t. ReadCall.Gave [] ∷ t) h.since;
   whole = h.intact;
-  leads = inl (h.later, refl,
-      subst (λ t. FeedsTo source (readings t) table start 0 last end) (append-nil (given h.later))
-      (h.leads [] last end
-      (subst (λ (x : Pending). LeadsOn here (readings_from x []) last end) m.pending
-      (subst (λ (x : Place D). LeadsOn x (readings_from q []) last end) m.place l))));
+  leads = inl (
+    h.later,
+    refl,
+    subst (λ t. FeedsTo source (readings t) table start 0 last end) (append-nil (given h.later))
+        (h.leads [] last end
+        (subst (λ (x : Pending). LeadsOn here (readings_from x []) last end) m.pending
+        (subst (λ (x : Place D). LeadsOn x (readings_from q []) last end) m.place l))),
+  );
 }
 
 failed_on : (later now : List ReadCall) → failed_reads (later ++ now) ≡ failed_reads later + failed_reads now

@@ -8,13 +8,13 @@ ghost use Rattle.hg_store.specs.Recovering.{IsEmpty, empty_image};
 ghost use Rattle.hg_commands.specs.Storing.{EndsByStoreFault, HasStoreCause};
 
 use crate::saying::print_now;
-use hg_streams::output::Output;
 use hg_check::telling::tell;
 use hg_disk::Disk;
 use hg_model::verdict::Refusal;
 use hg_store::create::CreateFault;
 use hg_store::devices::{Caps, Devices};
 use hg_store::store::Store;
+use hg_streams::output::Output;
 use std::alloc::Global;
 use std::io::Write;
 

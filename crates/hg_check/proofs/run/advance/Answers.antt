@@ -1,4 +1,4 @@
-use Rattle.std.proofs.Common.{◌≡◌, ◌∷◌, Result, Ok, Some, None, take, length, ap, subst, ◌∙◌, arith}
+use Rattle.std.proofs.Common.{◌≡◌, ◌∷◌, Result, Ok, take, length, ap, subst, ◌∙◌, arith}
 use Rattle.hg_model.specs.declared.verdict.Refusal.{Refusal}
 use Rattle.hg_streams.specs.Calls.{got_call}
 use Rattle.hg_check.specs.declared.checker.Ending.{Ending}

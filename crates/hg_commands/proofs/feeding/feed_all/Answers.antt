@@ -14,12 +14,12 @@ resized n new items same full =
 
 pub loop-reads-init : goal.loop-reads-init
 loop-reads-init g c = record {
-    run = feeding_first g.D.Disk c.args.input.now.calls (place c.args.store.now c.args.fed.now c.args.output.now.calls) c.in_ok-reader.reader (length c.in_ok-buffer.buffer.items)
-    c.requires.ready c.requires.start c.in_ok-reader.ensures.start c.in_ok-buffer.ensures.size;
-    none = c.requires.none;
-    counted = omega arith;
-    intact = refl;
-  }
+  run = feeding_first g.D.Disk c.args.input.now.calls (place c.args.store.now c.args.fed.now c.args.output.now.calls) c.in_ok-reader.reader (length c.in_ok-buffer.buffer.items)
+      c.requires.ready c.requires.start c.in_ok-reader.ensures.start c.in_ok-buffer.ensures.size;
+  none = c.requires.none;
+  counted = omega arith;
+  intact = refl;
+}
 
 pub loop-reads-preserved : goal.loop-reads-preserved
 loop-reads-preserved g c =
@@ -63,6 +63,6 @@ returns-in-AtEnd-clause-feeds g c =
     (λ end. LeadsOn last (readings_from c.advance.new.reader []) (content_of c.finish.new.store.detector) end)
     (λ end. Feeds c.args.input.now.calls c.advance.new.input.calls c.args.fed.now.source c.args.store.now.detector.sets (content_of c.args.store.now.detector) (content_of c.finish.new.store.detector) end)
     (λ end l. feeds_at_end g.D.Disk c.args.input.now.calls c.loop-reads.input.calls c.advance.new.input.calls c.args.fed.now.source c.args.store.now.detector.sets (content_of c.args.store.now.detector)
-      c.loop-reads.reader c.advance.new.reader mid last (content_of c.finish.new.store.detector) end
-      c.loop-reads.invariant.run.leads (c.in_ok-progress.ensures.at_end (ap Ok c.in-AtEnd.is)) l)
+    c.loop-reads.reader c.advance.new.reader mid last (content_of c.finish.new.store.detector) end
+    c.loop-reads.invariant.run.leads (c.in_ok-progress.ensures.at_end (ap Ok c.in-AtEnd.is)) l)
     c.finish.ensures.leads

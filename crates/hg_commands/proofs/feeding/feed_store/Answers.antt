@@ -32,8 +32,13 @@ returns-in_err-acknowledge-clause-cause g c =
     rw (q.1, q.2)
     (record {
       is = c.in_err-acknowledge.ensures.cause;
-      failed = inl (omega (arith, c.in_err-acknowledge.ensures.fault, c.in_ok-end.ensures.goes.failures, c.in_ok-print_number.ensures.fault,
-          reads_intact c.args.input.now.calls c.feed_all.new.input.calls c.args.source c.args.store.now.detector.sets (content_of c.args.store.now.detector) (content_of c.feed_all.new.store.detector) c.in_ok-end.end c.in_ok-end.ensures.feeds));
+      failed = inl (omega (
+        arith,
+        c.in_err-acknowledge.ensures.fault,
+        c.in_ok-end.ensures.goes.failures,
+        c.in_ok-print_number.ensures.fault,
+        reads_intact c.args.input.now.calls c.feed_all.new.input.calls c.args.source c.args.store.now.detector.sets (content_of c.args.store.now.detector) (content_of c.feed_all.new.store.detector) c.in_ok-end.end c.in_ok-end.ensures.feeds,
+      ));
     })
 
 pub returns-in_err-print_end-clause-cause : goal.returns-in_err-print_end-clause-cause
@@ -42,6 +47,12 @@ returns-in_err-print_end-clause-cause g c =
     rw (q.1, q.2)
     (record {
       is = c.in_err-print_end.ensures.cause;
-      failed = inl (omega (arith, c.in_err-print_end.ensures.fault, c.in_ok-acknowledge.ensures.fault, c.in_ok-end.ensures.goes.failures, c.in_ok-print_number.ensures.fault,
-          reads_intact c.args.input.now.calls c.feed_all.new.input.calls c.args.source c.args.store.now.detector.sets (content_of c.args.store.now.detector) (content_of c.feed_all.new.store.detector) c.in_ok-end.end c.in_ok-end.ensures.feeds));
+      failed = inl (omega (
+        arith,
+        c.in_err-print_end.ensures.fault,
+        c.in_ok-acknowledge.ensures.fault,
+        c.in_ok-end.ensures.goes.failures,
+        c.in_ok-print_number.ensures.fault,
+        reads_intact c.args.input.now.calls c.feed_all.new.input.calls c.args.source c.args.store.now.detector.sets (content_of c.args.store.now.detector) (content_of c.feed_all.new.store.detector) c.in_ok-end.end c.in_ok-end.ensures.feeds,
+      ));
     })
