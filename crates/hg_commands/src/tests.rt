@@ -3,10 +3,11 @@ ghost use Rattle.std.specs.Prelude.{◌≤◌};
 use crate::creating::create_store;
 use crate::feeding::feed;
 use crate::listing::{store_graph, store_reports};
-use hg_check::streams::Watched;
 use hg_disk::{FuseDisk, MemDisk};
 use hg_store::devices::{Caps, Devices};
 use hg_store::store::Store;
+use hg_streams::input::Input;
+use hg_streams::output::Output;
 use std::alloc::{AllocError, Global};
 use std::process::Abort;
 use std::test::Fail;
@@ -19,13 +20,6 @@ const FED: &[u8] = b"resume 0\nack 256\nack 512\nack 600\nend events 600 races 0
 /// How much of that is printed when so many events were acknowledged.
 const ACKNOWLEDGED: [(usize, u64); 4] = [(0, 0), (17, 256), (25, 512), (33, 600)];
 
-fn watched<S>(stream: S) -> Watched<S> {
-    Watched {
-        stream,
-        failed: false,
-    }
-}
-
 fn no_devices(alloc: Global) -> Devices<MemDisk> {
     Devices {
         journal: MemDisk::new(alloc),
@@ -37,12 +31,12 @@ fn no_devices(alloc: Global) -> Devices<MemDisk> {
 
 /// The devices of a store that was just made.
 fn made(rt: &impl Abort, alloc: Global) -> Devices<MemDisk> {
-    let mut output = watched(Vec::new(alloc));
-    let mut faults = watched(Vec::new(alloc));
+    let mut output = Output::new(Vec::new(alloc));
+    let mut faults = Output::new(Vec::new(alloc));
     let (status, devices) = create_store(alloc, no_devices(alloc), &mut output, &mut faults);
     assert_eq!(rt; status, 0);
-    assert_eq!(rt; output.stream.as_slice(), b"created\n".as_slice());
-    assert_eq!(rt; faults.stream.as_slice(), b"".as_slice());
+    assert_eq!(rt; output.stream().as_slice(), b"created\n".as_slice());
+    assert_eq!(rt; faults.stream().as_slice(), b"".as_slice());
     devices
 }
 
@@ -86,21 +80,21 @@ fn a_store_is_made_once(rt: HostRuntime) {
     assert_eq!(rt; devices.slots.bytes(), b"".as_slice());
     assert_eq!(rt; devices.root0.bytes(), b"\x5A".as_slice());
     assert_eq!(rt; devices.root1.bytes(), b"\x5A".as_slice());
-    let mut output = watched(Vec::new(alloc));
-    let mut faults = watched(Vec::new(alloc));
+    let mut output = Output::new(Vec::new(alloc));
+    let mut faults = Output::new(Vec::new(alloc));
     let (status, devices) = create_store(alloc, devices, &mut output, &mut faults);
     assert_eq!(rt; status, 2);
-    assert_eq!(rt; output.stream.as_slice(), b"not empty\n".as_slice());
-    assert_eq!(rt; faults.stream.as_slice(), b"".as_slice());
+    assert_eq!(rt; output.stream().as_slice(), b"not empty\n".as_slice());
+    assert_eq!(rt; faults.stream().as_slice(), b"".as_slice());
     assert_eq!(rt; devices.journal.bytes(), b"HGJRNL1\n\x5A".as_slice());
 }
 
 #[test]
 fn what_was_fed_is_listed(rt: HostRuntime) {
     let alloc = rt.alloc();
-    let mut output = watched(Vec::new(alloc));
-    let mut faults = watched(Vec::new(alloc));
-    let mut input = watched(RACE);
+    let mut output = Output::new(Vec::new(alloc));
+    let mut faults = Output::new(Vec::new(alloc));
+    let mut input = Input::new(RACE);
     let (status, devices) = feed(
         alloc,
         made(&rt, alloc),
@@ -116,14 +110,14 @@ fn what_was_fed_is_listed(rt: HostRuntime) {
     let (status, _) = store_graph(alloc, devices, 64, &mut output, &mut faults);
     assert_eq!(rt; status, 0);
     assert_eq!(rt;
-        output.stream.as_slice(),
+        output.stream().as_slice(),
         b"resume 0\nack 3\nend events 3 races 1 segments 3\n\
           race 1 event 3 write thread 1 word 0x0000000000001000 threads 0,1\n\
           end events 3 races 1 segments 3\n\
           segment 0 thread 0 after -\nsegment 1 thread 1 after 0\nsegment 2 thread 0 after 0\n"
             .as_slice()
     );
-    assert_eq!(rt; faults.stream.as_slice(), b"".as_slice());
+    assert_eq!(rt; faults.stream().as_slice(), b"".as_slice());
 }
 
 /// Feeds 600 events to a new store whose journal fails at its call `k`. Whether it failed.
@@ -138,11 +132,11 @@ fn feed_failing(rt: &impl Abort, alloc: Global, k: u64) -> Result<bool, Fail>
         root1: FuseDisk::once(made.root1, u64::MAX),
     };
     let text = writes(alloc)?;
-    let mut input = watched(text.as_slice());
-    let mut output = watched(Vec::new(alloc));
-    let mut faults = watched(Vec::new(alloc));
+    let mut input = Input::new(text.as_slice());
+    let mut output = Output::new(Vec::new(alloc));
+    let mut faults = Output::new(Vec::new(alloc));
     let (status, devices) = feed(alloc, devices, 3, 64, &mut input, &mut output, &mut faults);
-    let told = acknowledged(rt, output.stream.as_slice());
+    let told = acknowledged(rt, output.stream().as_slice());
     let events = recovered(
         alloc,
         Devices {
@@ -153,12 +147,12 @@ fn feed_failing(rt: &impl Abort, alloc: Global, k: u64) -> Result<bool, Fail>
         },
     )?;
     if status == 0 {
-        assert_eq!(rt; output.stream.as_slice(), FED);
+        assert_eq!(rt; output.stream().as_slice(), FED);
         assert_eq!(rt; (told, events), (600, 600));
         return Ok(false);
     }
     assert_eq!(rt; status, 3);
-    assert_eq!(rt; faults.stream.as_slice(), b"fault 21\n".as_slice());
+    assert_eq!(rt; faults.stream().as_slice(), b"fault 21\n".as_slice());
     assert!(rt;
         events == told || events.saturating_sub(told) == 256 || events == 600,
         "{told} {events}"
@@ -186,9 +180,9 @@ fn output_that_fails_ends_each_command(rt: HostRuntime) -> Result<(), Fail> {
     let text = writes(alloc)?;
     for room in 0..FED.len() {
         let mut page = [0; 80];
-        let mut output = watched(&mut page[..room]);
-        let mut faults = watched(Vec::new(alloc));
-        let mut input = watched(text.as_slice());
+        let mut output = Output::new(&mut page[..room]);
+        let mut faults = Output::new(Vec::new(alloc));
+        let mut input = Input::new(text.as_slice());
         let (status, devices) = feed(
             alloc,
             made(&rt, alloc),
@@ -199,7 +193,7 @@ fn output_that_fails_ends_each_command(rt: HostRuntime) -> Result<(), Fail> {
             &mut faults,
         );
         assert_eq!(rt; status, 3);
-        assert_eq!(rt; faults.stream.as_slice(), b"fault 21\n".as_slice());
+        assert_eq!(rt; faults.stream().as_slice(), b"fault 21\n".as_slice());
         let told = acknowledged(&rt, &page[..room]);
         let events = recovered(alloc, devices)?;
         assert!(rt; events >= told);

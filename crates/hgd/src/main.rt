@@ -7,7 +7,6 @@ ghost use Rattle.std.specs.Prelude.{◌≡◌, ◌⊎◌};
 
 use crate::directory::{make_directory, open_directory};
 use hg_check::commands::{check, graph};
-use hg_check::streams::Watched;
 use hg_check::telling::tell;
 use hg_commands::creating::create_store;
 use hg_commands::feeding::feed;
@@ -15,6 +14,8 @@ use hg_commands::listing::{store_graph, store_reports};
 use hg_model::verdict::Refusal;
 use hg_options::reading::read;
 use hg_options::task::{Misread, StoreTask, Task};
+use hg_streams::input::Input;
+use hg_streams::output::Output;
 use std::env;
 use std::process::ExitCode;
 
@@ -28,7 +29,7 @@ const BAD_COMMAND_LINE: u8 = 4;
 fn fail(rt: &HostRuntime, refusal: Refusal) -> u8
     requires { (refusal ≡ Refusal.DeviceFault) ⊎ (refusal ≡ Refusal.OutOfMemory) }
 {
-    tell(refusal, &mut watched(rt.stderr()));
+    tell(refusal, &mut Output::new(rt.stderr()));
     FAULT
 }
 
@@ -49,23 +50,15 @@ fn explain(rt: &HostRuntime, misread: &Misread) -> u8 {
     status
 }
 
-/// A stream that has not failed.
-fn watched<S>(stream: S) -> Watched<S> {
-    Watched {
-        stream,
-        failed: false,
-    }
-}
-
 /// Does what the words of the command line ask for, and answers the status.
 fn perform(rt: &HostRuntime, words: &[String]) -> u8 {
     let task = match read(rt.alloc(), words) {
         Ok(task) => task,
         Err(misread) => return explain(rt, &misread),
     };
-    let mut input = watched(rt.stdin());
-    let mut output = watched(rt.stdout());
-    let mut faults = watched(rt.stderr());
+    let mut input = Input::new(rt.stdin());
+    let mut output = Output::new(rt.stdout());
+    let mut faults = Output::new(rt.stderr());
     match task {
         Task::Check => check(rt.alloc(), &mut input, &mut output, &mut faults),
         Task::Graph => graph(rt.alloc(), &mut input, &mut output, &mut faults),
@@ -83,9 +76,9 @@ fn perform_on_store(rt: &HostRuntime, directory: &str, task: StoreTask) -> u8 {
         Err(refusal) => return fail(rt, refusal),
     };
     let alloc = rt.alloc();
-    let mut input = watched(rt.stdin());
-    let mut output = watched(rt.stdout());
-    let mut faults = watched(rt.stderr());
+    let mut input = Input::new(rt.stdin());
+    let mut output = Output::new(rt.stdout());
+    let mut faults = Output::new(rt.stderr());
     let (status, _) = match task {
         StoreTask::Create => create_store(alloc, devices, &mut output, &mut faults),
         StoreTask::Graph => store_graph(alloc, devices, 64, &mut output, &mut faults),
