@@ -139,7 +139,7 @@ pub fn hold_last_line(
 {
     let line = match end {
         Ending::Ended => put_end_line(
-            detector.last(0),
+            detector.state().events(),
             detector.total(),
             detector.segments().len() as u64,
             held,
