@@ -1,8 +1,9 @@
 //! Pages of cells.
 
-ghost use Rattle.std.specs.Prelude.{◌≡◌, ◌<◌, ◌≤◌, Some, length, replicate, slice_get, slice_set};
+ghost use Rattle.std.specs.Bool.{OnTrue};
+ghost use Rattle.std.specs.Prelude.{ℕ, ◌≡◌, ◌<◌, ◌≤◌, Some, length, replicate, slice_get, slice_set};
 ghost use Rattle.hg_cells.specs.Pages.{with_new};
-ghost use Rattle.hg_cells.specs.declared.cell.Cell.TheVariants.{New};
+ghost use Rattle.hg_cells.specs.declared.cell.Cell.TheVariants.{New, Exclusive};
 
 use crate::cell::Cell;
 use std::marker::Model;
@@ -45,6 +46,21 @@ impl Page {
         ensures words { length self.now ≡ PAGE_WORDS }
     {
         self.cells[word]
+    }
+
+    /// Whether the words from `from` up to, not including, `to` are all owned by this segment.
+    #[inline]
+    pub fn are_owned(&self, from: usize, to: usize, segment: u32) -> bool
+        requires in_page { to ≤ PAGE_WORDS }
+        ensures { OnTrue result ((i : ℕ) → from ≤ i → i < to → slice_get self.now i ≡ Some (Exclusive segment)) }
+    {
+        for i in from..to {
+            match self.cells[i] {
+                Cell::Exclusive(owner) if owner == segment => {}
+                _ => return false,
+            }
+        }
+        true
     }
 
     /// Gives a word a cell.

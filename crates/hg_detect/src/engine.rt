@@ -128,7 +128,7 @@ impl<W: Words> Engine<W> {
             locks: self.state.counted(access.t, write),
         };
         plan_words(
-            &mut self.graph,
+            &self.graph,
             &mut self.sets,
             &self.words,
             &acting,
@@ -142,6 +142,7 @@ impl<W: Words> Engine<W> {
     }
 
     /// Accepts an access to memory.
+    #[inline(always)]
     fn access(&mut self, named: &Named, access: &Access, write: bool) -> Result<(), Refusal>
         requires event { named.now.event ≡ (if write then Event.Write access.now else Event.Read access.now) }
         requires sound { IsSound self.old }
@@ -151,6 +152,11 @@ impl<W: Words> Engine<W> {
     {
         let first = access.at / 4;
         let last = (access.at + (u64::from(access.len) - 1)) / 4;
+        let segment = self.graph.present(access.t);
+        if self.words.are_owned(first, last + 1 - first, segment) {
+            self.state.follow(named);
+            return Ok(());
+        }
         self.prepare(access, write, first, last + 1)?;
         let event = self.state.events() + 1;
         self.state.follow(named);
@@ -220,6 +226,7 @@ impl<W: Words> Engine<W> {
     }
 
     /// Accepts an event whose verdict is Accept.
+    #[inline(always)]
     pub(crate) fn accept(&mut self, named: &Named) -> Result<(), Refusal>
         requires sound { IsSound self.old }
         requires accepted { rules.verdict (rules.standing self.old.state) named.now ≡ Verdict.Accept }

@@ -180,6 +180,18 @@ impl Words for PagedWords {
         self.cell(word)
     }
 
+    fn are_owned(&self, first: u64, count: u64, segment: u32) -> bool {
+        let number = first / WORDS;
+        let from = first % WORDS;
+        if count > WORDS - from {
+            return false;
+        }
+        let Some((key, page)) = self.pages.get_index(self.hint(number)) else {
+            return false;
+        };
+        *key == number && page.are_owned(from as usize, (from + count) as usize, segment)
+    }
+
     fn set(&mut self, word: u64, cell: Cell) {
         if let Some(place) = self.place(word / WORDS) {
             if let Some(page) = self.pages.get_index_mut(place) {

@@ -7,7 +7,8 @@ ghost use Rattle.hg_detect.specs.Words.{SameCells, ForOverlapped, KeepsLaw};
 ghost use Rattle.hg_model.specs.declared.verdict.Refusal.{Refusal as RefusalOf};
 ghost use Rattle.hg_model.specs.declared.verdict.Refusal.TheVariants.{FullSets};
 ghost use Rattle.hg_cells.specs.declared.cell.Cell.{Cell as CellOf};
-ghost use Rattle.hg_cells.specs.declared.cell.Cell.TheVariants.{New};
+ghost use Rattle.hg_cells.specs.declared.cell.Cell.TheVariants.{New, Exclusive};
+ghost use Rattle.std.specs.Bool.{OnTrue};
 
 use hg_cells::Cell;
 use hg_model::verdict::Refusal;
@@ -67,6 +68,10 @@ pub trait Words {
     fn get(&self, word: u64) -> Cell
         requires { is_brought self.now word }
         ensures { result ≡ cell_of self.now word };
+
+    /// Whether `count` words from `first` on are all owned by this segment. (`false` says nothing of them.)
+    fn are_owned(&self, first: u64, count: u64, segment: u32) -> bool
+        ensures { OnTrue result ((w : ℕ) → first ≤ w → w < first + count → cell_of self.now w ≡ Exclusive segment) };
 
     /// Gives a word its cell.
     fn set(&mut self, word: u64, cell: Cell)

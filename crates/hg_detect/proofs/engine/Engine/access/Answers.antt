@@ -1,4 +1,9 @@
-use Rattle.std.proofs.Common.{◌≡◌, ◌+◌, ◌/◌, ℕ, Ok, Err, refl, ap, ◌∙◌, subst, arith, length, take, ◌++◌, All}
+use Rattle.std.proofs.lemmas.List.{append-nil, length-replicate, take_all}
+use Rattle.hg_cells.specs.declared.cell.Cell.TheVariants.{Exclusive}
+use Rattle.hg_detect.specs.Making.{AsksBy}
+use Rattle.hg_detect.specs.Staying.{staying}
+use Rattle.hg_detect.proofs.Owned.{same_numbers, owned_are_planned, owned_given, owned_found, owned_wants_none}
+use Rattle.std.proofs.Common.{true, ◌≡◌, ◌+◌, ◌-◌, ◌/◌, ◌<◌, ◌≤◌, List, replicate, add-zero, sym, ℕ, Ok, Err, refl, ap, ◌∙◌, subst, arith, length, take, ◌++◌, All}
 use Rattle.hg_model.specs.Verdicts.{standing}
 use Rattle.hg_detect.specs.Engine.{actor_of, shown_of}
 use Rattle.hg_detect.specs.Shown.{found, given}
@@ -80,8 +85,46 @@ returns g c =
     let items = c.add_reports.ensures.items ∙ ap (λ xs. take 65536 (mid.kept.items ++ found (c.events-event.result + 1) c.args.write a.t first xs)) c.as_slice-2.ensures.value in
     let count = c.add_reports.ensures.count ∙ ap (λ xs. length (found (c.events-event.result + 1) c.args.write a.t first xs)) c.as_slice-2.ensures.value in
     let ends = last_word a c.from.result c.from.ensures passed.some in
-    access_answers words.cell_of words.may_bring words.is_faithful words.may_refuse old mid _ c.args.named.now c.args.write a (c.events-event.result + 1) c.add_reports.result _
+    access_answers words.cell_of words.may_bring words.is_faithful words.may_refuse old mid _ c.args.named.now c.args.write a (c.events-event.result + 1) c.add_reports.result _ plan
     c.requires.event passed k laws.brings_more laws.more_faithful laws.faithful_within c.requires.sound c.requires.lawful
-    c.follow.ensures refl refl refl ends done.planned done.len cells lawful faithful
+    c.follow-2.ensures refl refl refl ends done.planned done.len cells lawful faithful
     (ap (λ (x : ℕ). x + 1) c.events-event.ensures) items count refl
     (λ h. asked_from words.cell_of (shown_of old) c.args.named.now.event c.args.write a (actor_of old a c.args.write) _ (Ok tt) c.prepare.result mid.sets c.requires.event passed.some refl ends ok (p.asked (length old.graph) (length old.sets.sets) h))
+
+pub returns-then-are_owned : goal.returns-then-are_owned
+returns-then-are_owned g c =
+    let words = g.W.Words in
+    let laws = g.met.W.Words in
+    let old = c.args.self.now in
+    let a = c.args.access.now in
+    let passed = access_passes (standing old.state) c.args.named.now c.args.write a c.requires.event c.requires.accepted in
+    let actor = actor_of old a c.args.write in
+    let first = a.at / 4 in
+    let ends = last_word a c.from.result c.from.ensures passed.some in
+    let n : ℕ = (a.at + a.len + 3) / 4 - first in
+    let segment = c.present-segment.ensures.value in
+    let within : actor.segment < length old.graph = let lt = c.present-segment.ensures.within in omega (arith, segment) in
+    let owned : (w : ℕ) → first ≤ w → w < first + n → words.cell_of old.words w ≡ Exclusive actor.segment = λ w low high. c.if-are_owned.ensures w low (omega (arith, ends)) ∙ ap Exclusive segment in
+    let plan = replicate n (staying actor.segment) in
+    let none = owned_found (old.state.events + 1) c.args.write a.t first actor.segment n in
+    let k : Keeps words.cell_of words.may_bring words.is_faithful old old =
+    record {
+      state = refl;
+      graph = refl;
+      kept = refl;
+      total = refl;
+      plan = c.requires.sound.plan;
+      sets = c.requires.sound.sets;
+      numbers = same_numbers old.sets;
+      lawful = λ s m h. h;
+      faithful = λ s m h. h;
+      cells = λ s m h w. refl;
+    }
+    in
+    access_answers words.cell_of words.may_bring words.is_faithful words.may_refuse old old _ c.args.named.now c.args.write a (old.state.events + 1) 0 _ plan
+    c.requires.event passed k laws.brings_more laws.more_faithful laws.faithful_within c.requires.sound c.requires.lawful
+    c.follow.ensures refl refl refl refl (owned_are_planned old.graph old.sets.sets actor (words.cell_of old.words) first n within owned) (length-replicate n (staying actor.segment))
+    (owned_given actor.segment (words.cell_of old.words) first n owned) (λ s m each h. h) (λ s m each h. h)
+    refl (sym (ap (λ xs. take 65536 (old.kept.items ++ xs)) none ∙ ap (take 65536) (append-nil old.kept.items) ∙ take_all 65536 old.kept.items c.requires.sound.few)) (sym (ap length none)) (sym (add-zero old.total))
+    (λ h. asked_from words.cell_of (shown_of old) c.args.named.now.event c.args.write a actor _ (Ok tt) (Ok tt) old.sets c.requires.event passed.some refl refl refl
+    (subst (λ (sets : List (List ℕ)). AsksBy old.sets sets (Ok tt) old.sets) (sym (owned_wants_none old.graph old.sets.sets actor (words.cell_of old.words) first n owned)) refl))
