@@ -6,7 +6,6 @@ use hg_disk::Tear;
 use hg_gate::GateFault;
 use hg_model::event::{Event, Named};
 use hg_model::verdict::Refusal;
-use hg_store::create::CreateFault;
 use hg_store::steps::StepResult;
 use itoa::Buffer;
 use std::alloc::AllocError;
@@ -33,9 +32,9 @@ pub fn put_count(words: &[u8], value: u64, out: &mut Vec<u8>) -> Result<(), Allo
 
 /// Two hexadecimal digits.
 fn put_byte(byte: u8, out: &mut Vec<u8>) -> Result<(), AllocError> {
-    let high = DIGITS[(byte / 16) as usize];
-    let low = DIGITS[(byte % 16) as usize];
-    out.extend_from_slice(&[high, low])
+    let high = DIGITS.get(usize::from(byte / 16)).unwrap_or(&b'?');
+    let low = DIGITS.get(usize::from(byte % 16)).unwrap_or(&b'?');
+    out.extend_from_slice(&[*high, *low])
 }
 
 /// Bytes in hexadecimal, or `none`.
@@ -58,18 +57,11 @@ pub fn put_events(count: u64, out: &mut Vec<u8>) -> Result<(), AllocError> {
 }
 
 /// `refused CODE`, and for a gap the number that is next.
-pub fn put_refusal(refusal: Refusal, out: &mut Vec<u8>) -> Result<(), AllocError> {
+fn put_refusal(refusal: Refusal, out: &mut Vec<u8>) -> Result<(), AllocError> {
     put_count(b"refused ", u64::from(refusal.code()), out)?;
     match refusal {
         Refusal::Gap(next) => put_count(b" next ", next, out),
         _ => Ok(()),
-    }
-}
-
-pub fn put_fault(fault: CreateFault, out: &mut Vec<u8>) -> Result<(), AllocError> {
-    match fault {
-        CreateFault::NotEmpty => out.extend_from_slice(b"not empty"),
-        CreateFault::Refused(refusal) => put_refusal(refusal, out),
     }
 }
 
@@ -126,14 +118,13 @@ pub fn put_named(named: &Named, out: &mut Vec<u8>) -> Result<(), AllocError> {
 }
 
 /// A fault of a log or of a gated file.
-pub fn put_gate_fault(fault: GateFault, out: &mut Vec<u8>) -> Result<(), Halt> {
+fn put_fault(fault: GateFault, out: &mut Vec<u8>) -> Result<(), AllocError> {
     match fault {
-        GateFault::Broken => out.extend_from_slice(b"broken")?,
-        GateFault::Damaged => out.extend_from_slice(b"damaged")?,
-        GateFault::DeviceFault => out.extend_from_slice(b"device fault")?,
-        GateFault::OutOfMemory => return Err(Halt::Memory),
+        GateFault::Broken => out.extend_from_slice(b"broken"),
+        GateFault::Damaged => out.extend_from_slice(b"damaged"),
+        GateFault::DeviceFault => out.extend_from_slice(b"device fault"),
+        GateFault::OutOfMemory => Err(AllocError),
     }
-    Ok(())
 }
 
 /// A tear, as a line names it.
@@ -149,12 +140,15 @@ pub fn put_tear(tear: Tear, out: &mut Vec<u8>) -> Result<(), AllocError> {
     }
 }
 
-/// What a line answers that was not done.
+/// What a line answers that was halted.
 pub fn put_halt(halt: Halt, out: &mut Vec<u8>) -> Result<(), AllocError> {
     match halt {
         Halt::Memory => Err(AllocError),
         Halt::Words => out.extend_from_slice(b"not understood"),
         Halt::Closed => out.extend_from_slice(b"nothing is open"),
+        Halt::NotEmpty => out.extend_from_slice(b"not empty"),
+        Halt::Refused(refusal) => put_refusal(refusal, out),
+        Halt::Fault(fault) => put_fault(fault, out),
         Halt::Said => Ok(()),
     }
 }

@@ -1,8 +1,6 @@
 //! What the lines of a scenario do with a store.
 
-use crate::answers::{
-    put_count, put_events, put_fault, put_number, put_ok, put_refusal, put_result,
-};
+use crate::answers::{put_count, put_events, put_number, put_ok, put_result};
 use crate::device::{Device, read_device};
 use crate::rows::{Row, next_of, read_named, read_row};
 use crate::running::{Progress, Run, stop_run};
@@ -10,7 +8,7 @@ use crate::shelf::{Held, Image, NO_FUSES, Shelf};
 use crate::stops::{NO_PROGRESS, put_images, put_stops};
 use crate::stores::{Disks, OpenStore, Opening, open};
 use crate::tears::tear;
-use crate::telling::{Silence, put_durable, put_picture, put_told};
+use crate::telling::{put_durable, put_picture, put_told};
 use crate::words::{Halt, after, front, number};
 use hg_disk::Tear;
 use hg_store::create::CreateFault;
@@ -90,25 +88,13 @@ fn drive(
     opened: &mut OpenStore,
     steps: &[Step],
     out: &mut Vec<u8>,
-) -> Result<(), Silence> {
+) -> Result<(), Halt> {
     let [done @ .., last] = steps else {
-        return Err(Silence::Halted(Halt::Words));
+        return Err(Halt::Words);
     };
     let answers = opened.store.drive(alloc, done, last)?;
     put_answers(&answers, out)?;
     Ok(())
-}
-
-/// Answers a refusal of the store in place of what was asked for.
-fn put_silence(told: Result<(), Silence>, out: &mut Vec<u8>) -> Result<(), Halt> {
-    match told {
-        Ok(()) => Ok(()),
-        Err(Silence::Halted(halt)) => Err(halt),
-        Err(Silence::Refused(refusal)) => {
-            out.clear();
-            Ok(put_refusal(refusal, out)?)
-        }
-    }
 }
 
 /// Disks for what is opened next.
@@ -135,15 +121,18 @@ fn put_disks(shelf: &mut Shelf, disks: Disks) -> Result<(), AllocError> {
     root1
 }
 
+/// Why a store was refused.
+fn halt_of(fault: CreateFault) -> Halt {
+    match fault {
+        CreateFault::NotEmpty => Halt::NotEmpty,
+        CreateFault::Refused(refusal) => Halt::Refused(refusal),
+    }
+}
+
 /// Puts back the disks of a store that was refused.
-fn put_refused(
-    shelf: &mut Shelf,
-    fault: CreateFault,
-    disks: Disks,
-    out: &mut Vec<u8>,
-) -> Result<(), Halt> {
+fn put_refused(shelf: &mut Shelf, fault: CreateFault, disks: Disks) -> Result<(), Halt> {
     put_disks(shelf, disks)?;
-    Ok(put_fault(fault, out)?)
+    Err(halt_of(fault))
 }
 
 /// Makes a run again that stops, and leaves the image on the shelf.
@@ -177,7 +166,7 @@ fn find(alloc: Global, shelf: &Shelf, out: &mut Vec<u8>) -> Result<(), Halt> {
         Ok(opened) => put_found(opened, out),
         Err((fault, disks)) => {
             drop(disks);
-            Ok(put_fault(fault, out)?)
+            Err(halt_of(fault))
         }
     }
 }
@@ -254,14 +243,14 @@ impl Bench {
         let disks = take_disks(alloc, shelf)?;
         match open(alloc, disks, opening) {
             Ok(opened) => self.keep(opened, out),
-            Err((fault, disks)) => put_refused(shelf, fault, disks, out),
+            Err((fault, disks)) => put_refused(shelf, fault, disks),
         }
     }
 
     /// What the store tells of itself, where `line` says what of it.
-    fn tell(&self, alloc: Global, line: &str, out: &mut Vec<u8>) -> Result<(), Silence> {
+    fn tell(&self, alloc: Global, line: &str, out: &mut Vec<u8>) -> Result<(), Halt> {
         let Some(opened) = &self.opened else {
-            return Err(Silence::Halted(Halt::Closed));
+            return Err(Halt::Closed);
         };
         if line == "unchanged" {
             return self.compare(alloc, opened, out);
@@ -269,7 +258,7 @@ impl Bench {
         put_told(alloc, &opened.store, line, out)
     }
 
-    fn compare(&self, alloc: Global, opened: &OpenStore, out: &mut Vec<u8>) -> Result<(), Silence> {
+    fn compare(&self, alloc: Global, opened: &OpenStore, out: &mut Vec<u8>) -> Result<(), Halt> {
         let mut picture = Vec::new(alloc);
         put_picture(alloc, &opened.store, &mut picture)?;
         if picture.as_slice() == self.remembered.as_slice() {
@@ -280,26 +269,26 @@ impl Bench {
         Ok(())
     }
 
-    fn remember(&mut self, alloc: Global, out: &mut Vec<u8>) -> Result<(), Silence> {
+    fn remember(&mut self, alloc: Global, out: &mut Vec<u8>) -> Result<(), Halt> {
         self.remembered.clear();
         let Some(opened) = &self.opened else {
-            return Err(Silence::Halted(Halt::Closed));
+            return Err(Halt::Closed);
         };
         put_picture(alloc, &opened.store, &mut self.remembered)?;
         out.extend_from_slice(b"ok")?;
         Ok(())
     }
 
-    fn read(&mut self, alloc: Global, rest: &str, out: &mut Vec<u8>) -> Result<(), Silence> {
+    fn read(&mut self, alloc: Global, rest: &str, out: &mut Vec<u8>) -> Result<(), Halt> {
         let Some(opened) = &mut self.opened else {
-            return Err(Silence::Halted(Halt::Closed));
+            return Err(Halt::Closed);
         };
         put_durable(alloc, &mut opened.store, rest, out)
     }
 
-    fn drive(&mut self, alloc: Global, out: &mut Vec<u8>) -> Result<(), Silence> {
+    fn drive(&mut self, alloc: Global, out: &mut Vec<u8>) -> Result<(), Halt> {
         let Some(opened) = &mut self.opened else {
-            return Err(Silence::Halted(Halt::Closed));
+            return Err(Halt::Closed);
         };
         self.run.steps.extend_from_slice(&self.steps)?;
         drive(alloc, opened, &self.steps, out)?;
@@ -395,7 +384,7 @@ impl Bench {
                 self.note(rest)?;
                 put_ok(out)
             }
-            "run" => put_silence(self.drive(alloc, out), out),
+            "run" => self.drive(alloc, out),
             _ => Err(Halt::Words),
         }
     }
@@ -409,7 +398,7 @@ impl Bench {
         out: &mut Vec<u8>,
     ) -> Result<(), Halt> {
         match rest.strip_prefix("every device at each call ") {
-            Some(tears) => put_silence(put_stops(alloc, &self.run, tears, out), out),
+            Some(tears) => put_stops(alloc, &self.run, tears, out),
             None => self.stop(alloc, shelf, rest, out),
         }
     }
@@ -424,9 +413,9 @@ impl Bench {
         out: &mut Vec<u8>,
     ) -> Result<(), Halt> {
         match word {
-            "expect" => put_silence(self.tell(alloc, rest, out), out),
-            "read" => put_silence(self.read(alloc, rest, out), out),
-            "remember" => put_silence(self.remember(alloc, out), out),
+            "expect" => self.tell(alloc, rest, out),
+            "read" => self.read(alloc, rest, out),
+            "remember" => self.remember(alloc, out),
             "found" => find(alloc, shelf, out),
             "stop" => self.stop_or_all(alloc, shelf, rest, out),
             "profile" => put_profile(out),

@@ -1,8 +1,7 @@
 //! What the lines of a scenario do with a gated file. It stands on the disk of the first root.
 
-use crate::answers::{put_bytes, put_gate_fault, put_ok};
+use crate::answers::{put_bytes, put_ok};
 use crate::device::Device;
-use crate::logs::put_done;
 use crate::shelf::{Held, Shelf};
 use crate::words::{self, Halt, front};
 use hg_gate::Gated;
@@ -38,20 +37,31 @@ impl Drop for GateBench {
     }
 }
 
+fn close(opened: &mut OpenGated, out: &mut Vec<u8>) -> Result<(), Halt> {
+    opened.file.close()?;
+    put_ok(out)
+}
+
+fn open(opened: &mut OpenGated, out: &mut Vec<u8>) -> Result<(), Halt> {
+    opened.file.open_gate()?;
+    put_ok(out)
+}
+
 /// Has the file have other bytes behind its gate.
 fn write(alloc: Global, opened: &mut OpenGated, rest: &str, out: &mut Vec<u8>) -> Result<(), Halt> {
     let mut body = Vec::new(alloc);
     words::put_bytes(rest, &mut body)?;
-    put_done(opened.file.write_body(&body), out)
+    opened.file.write_body(&body)?;
+    put_ok(out)
 }
 
 /// The body, or `closed`.
 fn put_body(alloc: Global, opened: &mut OpenGated, out: &mut Vec<u8>) -> Result<(), Halt> {
-    match opened.file.read(alloc) {
-        Ok(Some(body)) => Ok(put_bytes(&body, out)?),
-        Ok(None) => Ok(out.extend_from_slice(b"closed")?),
-        Err(fault) => put_gate_fault(fault, out),
+    match opened.file.read(alloc)? {
+        Some(body) => put_bytes(&body, out)?,
+        None => out.extend_from_slice(b"closed")?,
     }
+    Ok(())
 }
 
 impl GateBench {
@@ -94,9 +104,9 @@ impl GateBench {
             return Err(Halt::Closed);
         };
         match word {
-            "close" => put_done(opened.file.close(), out),
+            "close" => close(opened, out),
             "write" => write(alloc, opened, rest, out),
-            "open" => put_done(opened.file.open_gate(), out),
+            "open" => open(opened, out),
             "read" => put_body(alloc, opened, out),
             _ => Err(Halt::Words),
         }

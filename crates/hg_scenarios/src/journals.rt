@@ -1,6 +1,6 @@
 //! What the lines of a scenario do with a journal of events. It stands on the disk of the journal.
 
-use crate::answers::{put_named, put_ok, put_refusal};
+use crate::answers::{put_named, put_ok};
 use crate::device::Device;
 use crate::rows::{Row, next_of, read_named, read_row};
 use crate::shelf::{Held, Shelf};
@@ -47,18 +47,10 @@ impl Drop for JournalBench {
     }
 }
 
-/// Answers `ok`, or a refusal in place of it.
-fn put_done(done: Result<(), Refusal>, out: &mut Vec<u8>) -> Result<(), Halt> {
-    match done {
-        Ok(()) => put_ok(out),
-        Err(refusal) => Ok(put_refusal(refusal, out)?),
-    }
-}
-
 /// Goes to the first event.
-fn rewind(opened: &mut OpenJournal) -> Result<(), Refusal> {
+fn rewind(opened: &mut OpenJournal, out: &mut Vec<u8>) -> Result<(), Halt> {
     opened.reader = Some(opened.journal.events()?);
-    Ok(())
+    put_ok(out)
 }
 
 /// The event that is next, or `end`.
@@ -66,11 +58,11 @@ fn put_next(opened: &mut OpenJournal, out: &mut Vec<u8>) -> Result<(), Halt> {
     let Some(reader) = &mut opened.reader else {
         return Err(Halt::Closed);
     };
-    match opened.journal.next(reader) {
-        Ok(Some(named)) => Ok(put_named(&named, out)?),
-        Ok(None) => Ok(out.extend_from_slice(b"end")?),
-        Err(refusal) => Ok(put_refusal(refusal, out)?),
+    match opened.journal.next(reader)? {
+        Some(named) => put_named(&named, out)?,
+        None => out.extend_from_slice(b"end")?,
     }
+    Ok(())
 }
 
 /// Appends events at once.
@@ -78,7 +70,8 @@ fn append(opened: &mut OpenJournal, batch: &[Named], out: &mut Vec<u8>) -> Resul
     if batch.is_empty() || batch.len() > MAX_BATCH_EVENTS {
         return Ok(out.extend_from_slice(b"no batch")?);
     }
-    put_done(opened.journal.append(batch), out)
+    opened.journal.append(batch)?;
+    put_ok(out)
 }
 
 impl JournalBench {
@@ -123,7 +116,7 @@ impl JournalBench {
             }
             Err((refusal, disk)) => {
                 shelf.put(Device::Journal, disk)?;
-                Ok(put_refusal(refusal, out)?)
+                Err(Halt::Refused(refusal))
             }
         }
     }
@@ -133,7 +126,7 @@ impl JournalBench {
         let disk = shelf.take(alloc, Device::Journal)?;
         if disk.len() > 0 {
             shelf.put(Device::Journal, disk)?;
-            return Ok(out.extend_from_slice(b"not empty")?);
+            return Err(Halt::NotEmpty);
         }
         self.keep(shelf, Journal::create(alloc, disk), out)
     }
@@ -162,11 +155,11 @@ impl JournalBench {
         };
         match word {
             "append" => {
-                append(opened, &self.batch, out)?;
+                let appended = append(opened, &self.batch, out);
                 self.batch.clear();
-                Ok(())
+                appended
             }
-            "first" => put_done(rewind(opened), out),
+            "first" => rewind(opened, out),
             "next" => put_next(opened, out),
             _ => Err(Halt::Words),
         }

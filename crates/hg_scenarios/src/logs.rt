@@ -1,6 +1,6 @@
 //! What the lines of a scenario do with a log of batches. It stands on the disk of the journal.
 
-use crate::answers::{put_bytes, put_gate_fault, put_ok};
+use crate::answers::{put_bytes, put_ok};
 use crate::device::Device;
 use crate::shelf::{Held, Shelf};
 use crate::words::{self, Halt, front};
@@ -51,7 +51,7 @@ fn put_batch(batch: &Batch, out: &mut Vec<u8>) -> Result<(), AllocError> {
 }
 
 /// Appends all batches of a log, or `none`.
-fn put_batches(log: &mut Log<Held>, out: &mut Vec<u8>) -> Result<(), GateFault> {
+fn put_batches(log: &mut Log<Held>, out: &mut Vec<u8>) -> Result<(), Halt> {
     let mut place = log.batches()?;
     for _ in 0..MOST_BATCHES {
         match log.next_batch(&mut place)? {
@@ -63,30 +63,11 @@ fn put_batches(log: &mut Log<Held>, out: &mut Vec<u8>) -> Result<(), GateFault> 
 }
 
 /// Says that there was no batch, if there was none.
-fn put_none(out: &mut Vec<u8>) -> Result<(), GateFault> {
+fn put_none(out: &mut Vec<u8>) -> Result<(), Halt> {
     if out.is_empty() {
         out.extend_from_slice(b"none")?;
     }
     Ok(())
-}
-
-/// Answers `ok`, or a fault in place of it.
-pub fn put_done(done: Result<(), GateFault>, out: &mut Vec<u8>) -> Result<(), Halt> {
-    match done {
-        Ok(()) => put_ok(out),
-        Err(fault) => put_gate_fault(fault, out),
-    }
-}
-
-/// Answers a fault in place of what was asked for.
-fn put_told(told: Result<(), GateFault>, out: &mut Vec<u8>) -> Result<(), Halt> {
-    match told {
-        Ok(()) => Ok(()),
-        Err(fault) => {
-            out.clear();
-            put_gate_fault(fault, out)
-        }
-    }
 }
 
 /// Appends bytes as a batch.
@@ -94,21 +75,22 @@ fn append(alloc: Global, opened: &mut OpenLog, rest: &str, out: &mut Vec<u8>) ->
     let mut body = Vec::new(alloc);
     words::put_bytes(rest, &mut body)?;
     match Batch::new(body) {
-        Ok(batch) => put_done(opened.log.append(&batch), out),
-        Err(_) => Ok(out.extend_from_slice(b"no batch")?),
+        Ok(batch) => opened.log.append(&batch)?,
+        Err(_) => return Ok(out.extend_from_slice(b"no batch")?),
     }
+    put_ok(out)
 }
 
 /// Goes to the first batch.
-fn rewind(opened: &mut OpenLog) -> Result<(), GateFault> {
+fn rewind(opened: &mut OpenLog, out: &mut Vec<u8>) -> Result<(), Halt> {
     opened.place = Some(opened.log.batches()?);
-    Ok(())
+    put_ok(out)
 }
 
 /// Appends the batch that is next, or `end`.
-fn put_next(opened: &mut OpenLog, out: &mut Vec<u8>) -> Result<(), GateFault> {
+fn put_next(opened: &mut OpenLog, out: &mut Vec<u8>) -> Result<(), Halt> {
     let Some(place) = &mut opened.place else {
-        return Err(GateFault::Broken);
+        return Err(Halt::Closed);
     };
     match opened.log.next_batch(place)? {
         Some(batch) => put_bytes(batch.body(), out)?,
@@ -152,7 +134,7 @@ impl LogBench {
             }
             Err((fault, disk)) => {
                 shelf.put(Device::Journal, disk)?;
-                put_gate_fault(fault, out)
+                Err(Halt::Fault(fault))
             }
         }
     }
@@ -162,7 +144,7 @@ impl LogBench {
         let disk = shelf.take(alloc, Device::Journal)?;
         if disk.len() > 0 {
             shelf.put(Device::Journal, disk)?;
-            return Ok(out.extend_from_slice(b"not empty")?);
+            return Err(Halt::NotEmpty);
         }
         self.keep(shelf, Log::create(alloc, disk), out)
     }
@@ -186,9 +168,9 @@ impl LogBench {
         };
         match word {
             "append" => append(alloc, opened, rest, out),
-            "first" => put_done(rewind(opened), out),
-            "next" => put_told(put_next(opened, out), out),
-            "all" => put_told(put_batches(&mut opened.log, out), out),
+            "first" => rewind(opened, out),
+            "next" => put_next(opened, out),
+            "all" => put_batches(&mut opened.log, out),
             _ => Err(Halt::Words),
         }
     }

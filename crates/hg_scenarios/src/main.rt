@@ -64,7 +64,11 @@ fn answer(current: &mut Current, order: &str) -> Result<(), AllocError> {
     current.answer.clear();
     match current.world.perform(order, &mut current.answer) {
         Ok(()) => Ok(()),
-        Err(halt) => put_halt(halt, &mut current.answer),
+        Err(Halt::Said) => Ok(()),
+        Err(halt) => {
+            current.answer.clear();
+            put_halt(halt, &mut current.answer)
+        }
     }
 }
 

@@ -4,7 +4,7 @@ use crate::answers::put_count;
 use crate::device::Device;
 use crate::shelf::{Fuse, Held, Image, NO_FUSES};
 use crate::stores::{Disks, Memories, OpenStore, Opening, open};
-use crate::telling::{Silence, put_picture};
+use crate::telling::put_picture;
 use crate::words::Halt;
 use hg_detect::detector::Answer;
 use hg_model::event::Named;
@@ -110,11 +110,7 @@ pub fn stop_run(
 }
 
 /// Makes the steps and a commit, and keeps the events that were accepted.
-fn follow(
-    store: &mut Store<Held>,
-    steps: &[Step],
-    accepted: &mut Vec<Named>,
-) -> Result<(), Silence> {
+fn follow(store: &mut Store<Held>, steps: &[Step], accepted: &mut Vec<Named>) -> Result<(), Halt> {
     for step in steps {
         match (step, store.step(step)) {
             (Step::Offer(named), StepResult::Offered(Ok(Answer::Accepted))) => {
@@ -133,7 +129,7 @@ fn describe(
     store: &mut Store<Held>,
     steps: &[Step],
     reference: &mut Reference,
-) -> Result<(), Silence> {
+) -> Result<(), Halt> {
     follow(store, steps, &mut reference.accepted)?;
     put_picture(alloc, store, &mut reference.picture)
 }
@@ -155,18 +151,18 @@ pub fn reference_of(alloc: Global, run: &Run) -> Result<Reference, Halt> {
 }
 
 /// Says what was wrong.
-fn wrong(words: &[u8], out: &mut Vec<u8>) -> Silence {
+fn wrong(words: &[u8], out: &mut Vec<u8>) -> Halt {
     match out.extend_from_slice(words) {
-        Ok(()) => Silence::Halted(Halt::Said),
-        Err(AllocError) => Silence::Halted(Halt::Memory),
+        Ok(()) => Halt::Said,
+        Err(AllocError) => Halt::Memory,
     }
 }
 
 /// Says what was wrong, with a number.
-fn wrong_at(words: &[u8], number: u64, out: &mut Vec<u8>) -> Silence {
+fn wrong_at(words: &[u8], number: u64, out: &mut Vec<u8>) -> Halt {
     match put_count(words, number, out) {
-        Ok(()) => Silence::Halted(Halt::Said),
-        Err(AllocError) => Silence::Halted(Halt::Memory),
+        Ok(()) => Halt::Said,
+        Err(AllocError) => Halt::Memory,
     }
 }
 
@@ -177,7 +173,7 @@ fn offer_all(
     found: u64,
     base: u64,
     out: &mut Vec<u8>,
-) -> Result<u64, Silence> {
+) -> Result<u64, Halt> {
     let mut place = base;
     for event in events {
         let is_right = match store.offer(event) {
@@ -201,7 +197,7 @@ fn go_on(
     found: u64,
     reference: &Reference,
     out: &mut Vec<u8>,
-) -> Result<(), Silence> {
+) -> Result<(), Halt> {
     let count = offer_all(store, &reference.accepted, found, base, out)?;
     let committed = store.commit()?;
     if committed != count {
@@ -216,7 +212,7 @@ fn go_on(
 }
 
 /// How many events are found. They are the acknowledged ones or, where a commit is in doubt, the accepted ones.
-fn find(store: &Store<Held>, progress: Progress, out: &mut Vec<u8>) -> Result<u64, Silence> {
+fn find(store: &Store<Held>, progress: Progress, out: &mut Vec<u8>) -> Result<u64, Halt> {
     let found = store.events()?;
     if found == progress.acknowledged {
         return Ok(found);
@@ -234,7 +230,7 @@ fn find_and_go_on(
     progress: Progress,
     reference: &Reference,
     out: &mut Vec<u8>,
-) -> Result<u64, Silence> {
+) -> Result<u64, Halt> {
     let found = find(store, progress, out)?;
     go_on(alloc, store, base, found, reference, out)?;
     Ok(found)
@@ -248,7 +244,7 @@ pub fn resume(
     progress: Progress,
     reference: &Reference,
     out: &mut Vec<u8>,
-) -> Result<u64, Silence> {
+) -> Result<u64, Halt> {
     let (Opening::Create(sets) | Opening::Recover(sets)) = run.opening;
     let disks = Disks::whole(alloc, image)?;
     match open(alloc, disks, Opening::Recover(sets)) {

@@ -6,7 +6,6 @@ use crate::running::{Progress, Reference, Run, reference_of, resume, stop_run};
 use crate::shelf::Image;
 use crate::stores::{Memories, Opening};
 use crate::tears::tears_of;
-use crate::telling::Silence;
 use crate::words::Halt;
 use hg_disk::{Answer, Call, MemDisk, Tear};
 use hg_store::devices::Devices;
@@ -108,7 +107,7 @@ fn try_image(
     others: Tear,
     count: &mut Count,
     out: &mut Vec<u8>,
-) -> Result<(), Silence> {
+) -> Result<(), Halt> {
     put_place(stop, tear, out)?;
     let mut image = Image::new(alloc);
     put_images(stop.devices, stop.device, tear, others, &mut image)?;
@@ -127,7 +126,7 @@ fn try_tear(
     tear: Tear,
     count: &mut Count,
     out: &mut Vec<u8>,
-) -> Result<(), Silence> {
+) -> Result<(), Halt> {
     try_image(alloc, stop, tear, Tear::Kept, count, out)?;
     if others_are_synced(stop.devices, stop.device) {
         return Ok(());
@@ -141,7 +140,7 @@ fn try_fronts(
     stop: &Stop,
     count: &mut Count,
     out: &mut Vec<u8>,
-) -> Result<(), Silence> {
+) -> Result<(), Halt> {
     let (_, bytes) = since_sync(stop.device.of(stop.devices));
     for front in 0..bytes {
         try_tear(alloc, stop, Tear::Front(front), count, out)?;
@@ -156,7 +155,7 @@ fn try_stop(
     tears: &[Option<Tear>],
     count: &mut Count,
     out: &mut Vec<u8>,
-) -> Result<(), Silence> {
+) -> Result<(), Halt> {
     for tear in tears {
         match *tear {
             Some(tear) => try_tear(alloc, stop, tear, count, out)?,
@@ -176,7 +175,7 @@ fn try_call(
     tears: &[Option<Tear>],
     count: &mut Count,
     out: &mut Vec<u8>,
-) -> Result<bool, Silence> {
+) -> Result<bool, Halt> {
     let mut progress = NO_PROGRESS;
     let stopped = stop_run(alloc, run, device, after, &mut progress)?;
     let devices = &stopped.devices;
@@ -207,7 +206,7 @@ fn try_device(
     tears: &[Option<Tear>],
     count: &mut Count,
     out: &mut Vec<u8>,
-) -> Result<(), Silence> {
+) -> Result<(), Halt> {
     for after in 0..MOST_CALLS {
         if !try_call(alloc, run, reference, device, after, tears, count, out)? {
             return Ok(());
@@ -223,7 +222,7 @@ fn count_stops(
     words: &str,
     count: &mut Count,
     out: &mut Vec<u8>,
-) -> Result<(), Silence> {
+) -> Result<(), Halt> {
     let tears = tears_of(alloc, words)?;
     let reference = reference_of(alloc, run)?;
     for device in DEVICES {
@@ -233,7 +232,7 @@ fn count_stops(
 }
 
 /// Goes on from each stop of each device: `N ended alike, M of them ahead`.
-pub fn put_stops(alloc: Global, run: &Run, words: &str, out: &mut Vec<u8>) -> Result<(), Silence> {
+pub fn put_stops(alloc: Global, run: &Run, words: &str, out: &mut Vec<u8>) -> Result<(), Halt> {
     let mut count = Count { stops: 0, ahead: 0 };
     count_stops(alloc, run, words, &mut count, out)?;
     out.clear();

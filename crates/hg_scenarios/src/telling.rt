@@ -3,39 +3,13 @@
 use crate::answers::{put_count, put_named, put_number};
 use crate::shelf::Held;
 use crate::words::{Halt, front, number, short_number};
-use hg_model::verdict::Refusal;
 use hg_store::steps::Phase;
 use hg_store::store::Store;
 use hg_wire::lines::put_segment_line;
 use hg_wire::report::put_report_line;
-use std::alloc::{AllocError, Global};
+use std::alloc::Global;
 
-/// Why nothing was told: a refusal of the store, or a halt.
-#[derive(Clone, Copy)]
-pub enum Silence {
-    Refused(Refusal),
-    Halted(Halt),
-}
-
-impl From<Refusal> for Silence {
-    fn from(refusal: Refusal) -> Silence {
-        Silence::Refused(refusal)
-    }
-}
-
-impl From<AllocError> for Silence {
-    fn from(_: AllocError) -> Silence {
-        Silence::Halted(Halt::Memory)
-    }
-}
-
-impl From<Halt> for Silence {
-    fn from(halt: Halt) -> Silence {
-        Silence::Halted(halt)
-    }
-}
-
-fn put_phase(store: &Store<Held>, out: &mut Vec<u8>) -> Result<(), Silence> {
+fn put_phase(store: &Store<Held>, out: &mut Vec<u8>) -> Result<(), Halt> {
     match store.phase()? {
         Phase::Idle => out.extend_from_slice(b"phase idle")?,
         Phase::Pending => out.extend_from_slice(b"phase pending")?,
@@ -43,7 +17,7 @@ fn put_phase(store: &Store<Held>, out: &mut Vec<u8>) -> Result<(), Silence> {
     Ok(())
 }
 
-fn put_last(store: &Store<Held>, rest: &str, out: &mut Vec<u8>) -> Result<(), Silence> {
+fn put_last(store: &Store<Held>, rest: &str, out: &mut Vec<u8>) -> Result<(), Halt> {
     let (source, _) = short_number(rest)?;
     put_count(b"last ", u64::from(source), out)?;
     put_count(b" ", store.last(source)?, out)?;
@@ -51,12 +25,7 @@ fn put_last(store: &Store<Held>, rest: &str, out: &mut Vec<u8>) -> Result<(), Si
 }
 
 /// The line of the k-th race, from 1 on.
-fn put_race(
-    alloc: Global,
-    store: &Store<Held>,
-    rest: &str,
-    out: &mut Vec<u8>,
-) -> Result<(), Silence> {
+fn put_race(alloc: Global, store: &Store<Held>, rest: &str, out: &mut Vec<u8>) -> Result<(), Halt> {
     let (k, _) = number(rest)?;
     match store.reports(alloc)?.get(k.saturating_sub(1) as usize) {
         Some(report) => put_report_line(k, report, out)?,
@@ -66,7 +35,7 @@ fn put_race(
 }
 
 /// The line of a segment, from 0 on.
-fn put_segment(store: &Store<Held>, rest: &str, out: &mut Vec<u8>) -> Result<(), Silence> {
+fn put_segment(store: &Store<Held>, rest: &str, out: &mut Vec<u8>) -> Result<(), Halt> {
     let (k, _) = number(rest)?;
     match store.graph()?.get(k as usize) {
         Some(segment) => put_segment_line(k, segment, out)?,
@@ -75,7 +44,7 @@ fn put_segment(store: &Store<Held>, rest: &str, out: &mut Vec<u8>) -> Result<(),
     Ok(())
 }
 
-fn put_total(word: &str, total: u64, out: &mut Vec<u8>) -> Result<(), Silence> {
+fn put_total(word: &str, total: u64, out: &mut Vec<u8>) -> Result<(), Halt> {
     out.extend_from_slice(word.as_bytes())?;
     put_count(b" ", total, out)?;
     Ok(())
@@ -87,7 +56,7 @@ pub fn put_told(
     store: &Store<Held>,
     line: &str,
     out: &mut Vec<u8>,
-) -> Result<(), Silence> {
+) -> Result<(), Halt> {
     let (word, rest) = front(line);
     match word {
         "events" => put_total(word, store.events()?, out),
@@ -98,7 +67,7 @@ pub fn put_told(
         "last" => put_last(store, rest, out),
         "race" => put_race(alloc, store, rest, out),
         "segment" => put_segment(store, rest, out),
-        _ => Err(Silence::Halted(Halt::Words)),
+        _ => Err(Halt::Words),
     }
 }
 
@@ -108,7 +77,7 @@ pub fn put_durable(
     store: &mut Store<Held>,
     rest: &str,
     out: &mut Vec<u8>,
-) -> Result<(), Silence> {
+) -> Result<(), Halt> {
     let (from, rest) = number(rest)?;
     let (max, _) = short_number(rest)?;
     let events = store.durable_events(alloc, from, usize::from(max))?;
@@ -120,21 +89,21 @@ pub fn put_durable(
     Ok(())
 }
 
-fn put_lasts(store: &Store<Held>, out: &mut Vec<u8>) -> Result<(), Silence> {
+fn put_lasts(store: &Store<Held>, out: &mut Vec<u8>) -> Result<(), Halt> {
     for source in 0..8 {
         put_count(b" ", store.last(source)?, out)?;
     }
     Ok(())
 }
 
-fn put_races(alloc: Global, store: &Store<Held>, out: &mut Vec<u8>) -> Result<(), Silence> {
+fn put_races(alloc: Global, store: &Store<Held>, out: &mut Vec<u8>) -> Result<(), Halt> {
     for report in store.reports(alloc)?.iter() {
         put_report_line(0, report, out)?;
     }
     Ok(())
 }
 
-fn put_segments(store: &Store<Held>, out: &mut Vec<u8>) -> Result<(), Silence> {
+fn put_segments(store: &Store<Held>, out: &mut Vec<u8>) -> Result<(), Halt> {
     for segment in store.graph()? {
         put_segment_line(0, segment, out)?;
     }
@@ -142,7 +111,7 @@ fn put_segments(store: &Store<Held>, out: &mut Vec<u8>) -> Result<(), Silence> {
 }
 
 /// Appends all that a store tells, with the last numbers of the sources 0 to 7.
-pub fn put_picture(alloc: Global, store: &Store<Held>, out: &mut Vec<u8>) -> Result<(), Silence> {
+pub fn put_picture(alloc: Global, store: &Store<Held>, out: &mut Vec<u8>) -> Result<(), Halt> {
     put_number(store.events()?, out)?;
     put_count(b" ", store.durable()?, out)?;
     put_count(b" ", store.total()?, out)?;

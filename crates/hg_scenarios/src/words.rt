@@ -2,9 +2,11 @@
 
 ghost use Rattle.std.specs.Prelude.{◌<◌, IfOk};
 
+use hg_gate::GateFault;
+use hg_model::verdict::Refusal;
 use std::alloc::AllocError;
 
-/// Why a line was not done.
+/// Why a line has no other answer.
 #[derive(Clone, Copy)]
 pub enum Halt {
     /// Memory was refused.
@@ -13,13 +15,31 @@ pub enum Halt {
     Words,
     /// Nothing is open that it could be done with.
     Closed,
-    /// The answer says why.
+    /// A disk has bytes that should have none.
+    NotEmpty,
+    /// A store or a journal refused it.
+    Refused(Refusal),
+    /// A log or a gated file refused it.
+    Fault(GateFault),
+    /// What was answered up to then says why.
     Said,
 }
 
 impl From<AllocError> for Halt {
     fn from(_: AllocError) -> Halt {
         Halt::Memory
+    }
+}
+
+impl From<Refusal> for Halt {
+    fn from(refusal: Refusal) -> Halt {
+        Halt::Refused(refusal)
+    }
+}
+
+impl From<GateFault> for Halt {
+    fn from(fault: GateFault) -> Halt {
+        Halt::Fault(fault)
     }
 }
 

@@ -1,12 +1,12 @@
 //! Verdicts at the limits, which no test reaches event by event, and parts that make no state.
 
-use crate::event::{Access, Event, Named};
-use crate::held::{HeldLock, HeldLocks};
-use crate::judging::judge;
-use crate::limits::{MOST_EVENTS, SOURCE_NUMBERS};
-use crate::state::TraceState;
-use crate::thread::ThreadState;
-use crate::verdict::{Refusal, Verdict};
+use hg_model::event::{Access, Event, Named};
+use hg_model::held::{HeldLock, HeldLocks};
+use hg_model::judging::judge;
+use hg_model::limits::{MOST_EVENTS, SOURCE_NUMBERS};
+use hg_model::state::TraceState;
+use hg_model::thread::ThreadState;
+use hg_model::verdict::{Refusal, Verdict};
 use std::test::Fail;
 
 /// A living thread that holds no lock.

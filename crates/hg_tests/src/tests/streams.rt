@@ -2,9 +2,9 @@ ghost use Rattle.std.specs.Prelude.{◌≡◌, ◌+◌, ◌<◌, ◌≤◌, ◌^
 ghost use Rattle.std.specs.List.{flat_map};
 ghost use Rattle.hg_wire.specs.Streams.{readings, readings_from};
 
-use crate::line::LineFault;
-use crate::reader::{EventReader, Reading, Taken};
 use hg_model::event::{Access, Event};
+use hg_wire::line::LineFault;
+use hg_wire::reader::{EventReader, Reading, Taken};
 use std::alloc::{AllocError, Global};
 use std::test::Fail;
 

@@ -1,5 +1,5 @@
-use crate::record::{put_record, read_record};
 use hg_model::event::{Access, Block, Event, Named};
+use hg_records::record::{put_record, read_record};
 use std::test::Fail;
 
 /// The record of `fork 0 1`, number 1 of source 3.

@@ -1,6 +1,8 @@
 ghost use Rattle.std.specs.Prelude.{◌<◌};
 
-use super::*;
+use hg_disk::{
+    Answer, Answered, Call, Disk, DiskFault, FileDisk, FuseDisk, MemDisk, Tear, write_through,
+};
 use std::alloc::AllocError;
 use std::fs::OpenOptions;
 use std::process::Abort;

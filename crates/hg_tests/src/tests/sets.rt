@@ -1,4 +1,4 @@
-use super::*;
+use hg_sets::{SetFault, SetTable};
 use std::test::Fail;
 
 #[test]

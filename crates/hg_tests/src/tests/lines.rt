@@ -1,5 +1,5 @@
-use crate::lines::{put_bad_line, put_fault_line, put_refused_line, put_segment_line};
 use hg_model::segment::{Predecessors, Segment};
+use hg_wire::lines::{put_bad_line, put_fault_line, put_refused_line, put_segment_line};
 use std::test::Fail;
 
 #[test]

@@ -1,9 +1,9 @@
-use crate::line::{LineFault, read_line};
-use crate::report::{put_end_line, put_report_line};
-use crate::splitter::Splitter;
 use hg_model::event::{Access, Block, Event};
 use hg_model::report::Report;
 use hg_model::sets::NumberSet;
+use hg_wire::line::{LineFault, read_line};
+use hg_wire::report::{put_end_line, put_report_line};
+use hg_wire::splitter::Splitter;
 use std::test::Fail;
 
 #[test]

@@ -1,8 +1,10 @@
 //! Worked traces, with the reports and states that the rules of detection give for them by hand.
 ghost use Rattle.std.specs.Prelude.{◌≡◌};
 
-use super::*;
-use hg_model::event::Block;
+use hg_model::event::{Access, Block, Event};
+use hg_model::report::Report;
+use hg_model::word::WordState;
+use hg_plain::{reports_of, state_of};
 use std::process::Abort;
 use std::test::Fail;
 

@@ -1,8 +1,8 @@
 use Rattle.std.proofs.Common.{◌+◌, length, drop, arith, sym, ◌∙◌, ap, ◌++◌}
 use Rattle.std.proofs.lemmas.List.{append-nil, length-append}
-use Rattle.hg_wire.proofs.ComposeLemmas.{joined, piece_at, joined_next, next_read, whole_read}
-use Rattle.hg_wire.proofs.stream_tests.readings_of.Goals as goal
-use Rattle.hg_wire.proofs.stream_tests.readings_of.Goals.{in-Some+in_ok-push, in_default}
+use Rattle.hg_tests.proofs.ComposeLemmas.{joined, piece_at, joined_next, next_read, whole_read}
+use Rattle.hg_tests.proofs.tests.streams.readings_of.Goals as goal
+use Rattle.hg_tests.proofs.tests.streams.readings_of.Goals.{in-Some+in_ok-push, in_default}
 
 pub put_readings-requires : goal.put_readings-requires
 put_readings-requires c =
