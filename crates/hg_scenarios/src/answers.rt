@@ -51,7 +51,7 @@ pub fn put_bytes(bytes: &[u8], out: &mut Vec<u8>) -> Result<(), AllocError> {
 }
 
 /// `N events`
-pub fn put_events(count: u64, out: &mut Vec<u8>) -> Result<(), AllocError> {
+pub fn put_count_of_events(count: u64, out: &mut Vec<u8>) -> Result<(), AllocError> {
     put_number(count, out)?;
     out.extend_from_slice(b" events")
 }

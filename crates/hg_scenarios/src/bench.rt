@@ -1,8 +1,8 @@
 //! What the lines of a scenario do with a store.
 
-use crate::answers::{put_count, put_events, put_number, put_ok, put_result};
+use crate::answers::{put_count, put_count_of_events, put_number, put_ok, put_result};
 use crate::device::{Device, read_device};
-use crate::rows::{Row, next_of, read_named, read_row};
+use crate::rows::put_events;
 use crate::running::{Progress, Run, stop_run};
 use crate::shelf::{Held, Image, NO_FUSES, Shelf};
 use crate::stops::{NO_PROGRESS, put_images, put_stops};
@@ -10,7 +10,9 @@ use crate::stores::{Disks, OpenStore, Opening, open};
 use crate::tears::tear;
 use crate::telling::{put_durable, put_picture, put_told};
 use crate::words::{Halt, after, front, number};
+use hg_detect::detector::Answer;
 use hg_disk::Tear;
+use hg_model::event::Named;
 use hg_store::create::CreateFault;
 use hg_store::devices::{Caps, Devices};
 use hg_store::drive::StepAnswer;
@@ -97,6 +99,10 @@ fn drive(
     Ok(())
 }
 
+fn is_accepted(answered: StepResult) -> bool {
+    matches!(answered, StepResult::Offered(Ok(Answer::Accepted)))
+}
+
 /// Disks for what is opened next.
 fn take_disks(alloc: Global, shelf: &mut Shelf) -> Result<Disks, AllocError> {
     let disks = Disks::new(alloc, &shelf.image, &shelf.fuses);
@@ -115,10 +121,7 @@ fn put_disks(shelf: &mut Shelf, disks: Disks) -> Result<(), AllocError> {
     let slots = shelf.put(Device::Slots, slots);
     let root0 = shelf.put(Device::Root0, root0);
     let root1 = shelf.put(Device::Root1, root1);
-    journal?;
-    slots?;
-    root0?;
-    root1
+    journal.and(slots).and(root0).and(root1)
 }
 
 /// Why a store was refused.
@@ -175,7 +178,7 @@ fn find(alloc: Global, shelf: &Shelf, out: &mut Vec<u8>) -> Result<(), Halt> {
 fn put_found(opened: OpenStore, out: &mut Vec<u8>) -> Result<(), Halt> {
     let count = opened.store.events().unwrap_or(0);
     drop(opened);
-    Ok(put_events(count, out)?)
+    Ok(put_count_of_events(count, out)?)
 }
 
 /// `sets N slots M`: the greatest that a store may have.
@@ -225,7 +228,7 @@ impl Bench {
         let base = opened.store.events().unwrap_or(0);
         self.run.base = base;
         self.put_opened(Some(opened));
-        Ok(put_events(base, out)?)
+        Ok(put_count_of_events(base, out)?)
     }
 
     /// Opens a store over the disks as they are, and begins a run.
@@ -304,45 +307,43 @@ impl Bench {
         }
     }
 
-    fn make(&mut self, step: Step, out: &mut Vec<u8>) -> Result<(), Halt> {
-        let result = self.step(step)?;
-        Ok(put_result(result, out)?)
+    fn commit(&mut self, out: &mut Vec<u8>) -> Result<(), Halt> {
+        let answered = self.step(Step::Commit)?;
+        Ok(put_result(answered, out)?)
     }
 
-    /// Offers a row of events. The answer is that of the first, or the first other one.
-    fn offer_row(&mut self, row: Row, out: &mut Vec<u8>) -> Result<(), Halt> {
-        let first = self.step(Step::Offer(row.first))?;
-        let mut named = row.first;
-        for _ in row.first.number..row.last {
-            named = next_of(named, row.step);
-            let other = self.step(Step::Offer(named))?;
-            if other != first {
-                return Ok(put_result(other, out)?);
+    /// Offers events. The answer is `accepted`, or the first other one.
+    fn offer_all(&mut self, events: &[Named], out: &mut Vec<u8>) -> Result<(), Halt> {
+        for event in events {
+            let answered = self.step(Step::Offer(*event))?;
+            if !is_accepted(answered) {
+                return Ok(put_result(answered, out)?);
             }
         }
-        Ok(put_result(first, out)?)
+        Ok(out.extend_from_slice(b"accepted")?)
+    }
+
+    fn offer(&mut self, alloc: Global, text: &str, out: &mut Vec<u8>) -> Result<(), Halt> {
+        let mut events = Vec::new(alloc);
+        put_events(text, &mut events)?;
+        self.offer_all(&events, out)
     }
 
     /// Notes the steps of a line, to be made at once.
-    fn note(&mut self, text: &str) -> Result<(), Halt> {
+    fn note(&mut self, alloc: Global, text: &str) -> Result<(), Halt> {
         let (word, rest) = front(text);
         match word {
-            "offer" => Ok(
-                self.steps
-                    .extend_from_slice(&[Step::Offer(read_named(rest)?)])?,
-            ),
-            "offers" => self.note_row(read_row(rest)?),
+            "offer" => self.note_offers(alloc, rest),
             "commit" => Ok(self.steps.extend_from_slice(&[Step::Commit])?),
             _ => Err(Halt::Words),
         }
     }
 
-    fn note_row(&mut self, row: Row) -> Result<(), Halt> {
-        let mut named = row.first;
-        self.steps.extend_from_slice(&[Step::Offer(named)])?;
-        for _ in row.first.number..row.last {
-            named = next_of(named, row.step);
-            self.steps.extend_from_slice(&[Step::Offer(named)])?;
+    fn note_offers(&mut self, alloc: Global, text: &str) -> Result<(), Halt> {
+        let mut events = Vec::new(alloc);
+        put_events(text, &mut events)?;
+        for event in events.iter() {
+            self.steps.extend_from_slice(&[Step::Offer(*event)])?;
         }
         Ok(())
     }
@@ -377,11 +378,10 @@ impl Bench {
         match word {
             "store" => self.open(alloc, shelf, Opening::Create(sets(rest)?), out),
             "recover" => self.open(alloc, shelf, Opening::Recover(sets(rest)?), out),
-            "offer" => self.make(Step::Offer(read_named(rest)?), out),
-            "offers" => self.offer_row(read_row(rest)?, out),
-            "commit" => self.make(Step::Commit, out),
+            "offer" => self.offer(alloc, rest, out),
+            "commit" => self.commit(out),
             "then" => {
-                self.note(rest)?;
+                self.note(alloc, rest)?;
                 put_ok(out)
             }
             "run" => self.drive(alloc, out),
@@ -433,7 +433,7 @@ impl Bench {
         out: &mut Vec<u8>,
     ) -> Result<(), Halt> {
         match word {
-            "store" | "recover" | "offer" | "offers" | "commit" | "then" | "run" => {
+            "store" | "recover" | "offer" | "commit" | "then" | "run" => {
                 self.change(alloc, shelf, word, rest, out)
             }
             _ => self.look(alloc, shelf, word, rest, out),

@@ -2,7 +2,7 @@
 
 use crate::answers::{put_named, put_ok};
 use crate::device::Device;
-use crate::rows::{Row, next_of, read_named, read_row};
+use crate::rows::put_events;
 use crate::shelf::{Held, Shelf};
 use crate::words::{Halt, front};
 use hg_disk::Disk;
@@ -137,17 +137,6 @@ impl JournalBench {
         self.keep(shelf, Journal::attach(alloc, disk), out)
     }
 
-    /// Notes a row of events, to be appended at once.
-    fn note_row(&mut self, row: Row) -> Result<(), Halt> {
-        let mut named = row.first;
-        self.batch.extend_from_slice(&[named])?;
-        for _ in row.first.number..row.last {
-            named = next_of(named, row.step);
-            self.batch.extend_from_slice(&[named])?;
-        }
-        Ok(())
-    }
-
     /// Does what a line asks for that concerns a journal which is open.
     fn work(&mut self, word: &str, out: &mut Vec<u8>) -> Result<(), Halt> {
         let Some(opened) = &mut self.opened else {
@@ -178,11 +167,7 @@ impl JournalBench {
             "create" => self.create(alloc, shelf, out),
             "attach" => self.attach(alloc, shelf, out),
             "event" => {
-                self.batch.extend_from_slice(&[read_named(rest)?])?;
-                put_ok(out)
-            }
-            "events" => {
-                self.note_row(read_row(rest)?)?;
+                put_events(rest, &mut self.batch)?;
                 put_ok(out)
             }
             _ => self.work(word, out),
