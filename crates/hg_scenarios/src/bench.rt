@@ -1,6 +1,6 @@
 //! What the lines of a scenario do with a store.
 
-use crate::answers::{put_count, put_count_of_events, put_number, put_ok, put_result};
+use crate::answers::{Text, put_count, put_count_of_events, put_number, put_ok, put_result};
 use crate::device::{Device, read_device};
 use crate::rows::put_events;
 use crate::running::{Progress, Run, stop_run};
@@ -24,7 +24,7 @@ pub struct Bench {
     opened: Option<OpenStore>,
     run: Run,
     /// All that the store told as it was last remembered.
-    remembered: Vec<u8>,
+    remembered: Text,
     /// The steps that are to be made at once.
     steps: Vec<Step>,
 }
@@ -56,9 +56,9 @@ fn sets(text: &str) -> Result<u32, Halt> {
 }
 
 /// Appends the answers of a run: of equal ones that follow each other their number, and one of them.
-fn put_answers(answers: &[StepAnswer<Held>], out: &mut Vec<u8>) -> Result<(), AllocError> {
+fn put_answers(answers: &[StepAnswer<Held>], out: &mut Text) {
     let [first, others @ ..] = answers else {
-        return Ok(());
+        return;
     };
     let mut last = first.result;
     let mut times = 1_u64;
@@ -66,22 +66,22 @@ fn put_answers(answers: &[StepAnswer<Held>], out: &mut Vec<u8>) -> Result<(), Al
         if answer.result == last {
             times = times.wrapping_add(1);
         } else {
-            put_times(times, last, out)?;
-            out.extend_from_slice(b", ")?;
+            put_times(times, last, out);
+            out.put(b", ");
             last = answer.result;
             times = 1;
         }
     }
-    put_times(times, last, out)
+    put_times(times, last, out);
 }
 
 /// `RESULT`, or `N times RESULT`
-fn put_times(times: u64, answered: StepResult, out: &mut Vec<u8>) -> Result<(), AllocError> {
+fn put_times(times: u64, answered: StepResult, out: &mut Text) {
     if times > 1 {
-        put_number(times, out)?;
-        out.extend_from_slice(b" times ")?;
+        put_number(times, out);
+        out.put(b" times ");
     }
-    put_result(answered, out)
+    put_result(answered, out);
 }
 
 /// Has the store make all steps at once.
@@ -89,13 +89,13 @@ fn drive(
     alloc: Global,
     opened: &mut OpenStore,
     steps: &[Step],
-    out: &mut Vec<u8>,
+    out: &mut Text,
 ) -> Result<(), Halt> {
     let [done @ .., last] = steps else {
         return Err(Halt::Words);
     };
     let answers = opened.store.drive(alloc, done, last)?;
-    put_answers(&answers, out)?;
+    put_answers(&answers, out);
     Ok(())
 }
 
@@ -154,16 +154,16 @@ fn stop_at(
 }
 
 /// `ACKNOWLEDGED`, or `ACKNOWLEDGED or ACCEPTED`
-fn put_progress(progress: Progress, out: &mut Vec<u8>) -> Result<(), Halt> {
-    put_number(progress.acknowledged, out)?;
+fn put_progress(progress: Progress, out: &mut Text) -> Result<(), Halt> {
+    put_number(progress.acknowledged, out);
     if progress.in_doubt {
-        put_count(b" or ", progress.accepted, out)?;
+        put_count(b" or ", progress.accepted, out);
     }
     Ok(())
 }
 
 /// What a recovery from the disks as they are finds. The run stays.
-fn find(alloc: Global, shelf: &Shelf, out: &mut Vec<u8>) -> Result<(), Halt> {
+fn find(alloc: Global, shelf: &Shelf, out: &mut Text) -> Result<(), Halt> {
     let disks = Disks::whole(alloc, &shelf.image)?;
     match open(alloc, disks, Opening::Recover(SETS)) {
         Ok(opened) => put_found(opened, out),
@@ -175,17 +175,18 @@ fn find(alloc: Global, shelf: &Shelf, out: &mut Vec<u8>) -> Result<(), Halt> {
 }
 
 /// How many events a store has.
-fn put_found(opened: OpenStore, out: &mut Vec<u8>) -> Result<(), Halt> {
+fn put_found(opened: OpenStore, out: &mut Text) -> Result<(), Halt> {
     let count = opened.store.events().unwrap_or(0);
     drop(opened);
-    Ok(put_count_of_events(count, out)?)
+    put_count_of_events(count, out);
+    Ok(())
 }
 
 /// `sets N slots M`: the greatest that a store may have.
-fn put_profile(out: &mut Vec<u8>) -> Result<(), Halt> {
+fn put_profile(out: &mut Text) -> Result<(), Halt> {
     let caps = Caps::profile();
-    put_count(b"sets ", u64::from(caps.sets), out)?;
-    put_count(b" slots ", u64::from(caps.slots), out)?;
+    put_count(b"sets ", u64::from(caps.sets), out);
+    put_count(b" slots ", u64::from(caps.slots), out);
     Ok(())
 }
 
@@ -199,7 +200,7 @@ impl Bench {
                 base: 0,
                 steps: Vec::new(alloc),
             },
-            remembered: Vec::new(alloc),
+            remembered: Text::new(alloc),
             steps: Vec::new(alloc),
         }
     }
@@ -224,11 +225,12 @@ impl Bench {
     }
 
     /// Keeps the store that was opened.
-    fn keep(&mut self, opened: OpenStore, out: &mut Vec<u8>) -> Result<(), Halt> {
+    fn keep(&mut self, opened: OpenStore, out: &mut Text) -> Result<(), Halt> {
         let base = opened.store.events().unwrap_or(0);
         self.run.base = base;
         self.put_opened(Some(opened));
-        Ok(put_count_of_events(base, out)?)
+        put_count_of_events(base, out);
+        Ok(())
     }
 
     /// Opens a store over the disks as they are, and begins a run.
@@ -237,7 +239,7 @@ impl Bench {
         alloc: Global,
         shelf: &mut Shelf,
         opening: Opening,
-        out: &mut Vec<u8>,
+        out: &mut Text,
     ) -> Result<(), Halt> {
         self.close(shelf)?;
         self.run.start.copy(&shelf.image)?;
@@ -251,7 +253,7 @@ impl Bench {
     }
 
     /// What the store tells of itself, where `line` says what of it.
-    fn tell(&self, alloc: Global, line: &str, out: &mut Vec<u8>) -> Result<(), Halt> {
+    fn tell(&self, alloc: Global, line: &str, out: &mut Text) -> Result<(), Halt> {
         let Some(opened) = &self.opened else {
             return Err(Halt::Closed);
         };
@@ -261,35 +263,35 @@ impl Bench {
         put_told(alloc, &opened.store, line, out)
     }
 
-    fn compare(&self, alloc: Global, opened: &OpenStore, out: &mut Vec<u8>) -> Result<(), Halt> {
-        let mut picture = Vec::new(alloc);
+    fn compare(&self, alloc: Global, opened: &OpenStore, out: &mut Text) -> Result<(), Halt> {
+        let mut picture = Text::new(alloc);
         put_picture(alloc, &opened.store, &mut picture)?;
-        if picture.as_slice() == self.remembered.as_slice() {
-            out.extend_from_slice(b"unchanged")?;
+        if picture.bytes() == self.remembered.bytes() {
+            out.put(b"unchanged");
         } else {
-            out.extend_from_slice(b"changed")?;
+            out.put(b"changed");
         }
         Ok(())
     }
 
-    fn remember(&mut self, alloc: Global, out: &mut Vec<u8>) -> Result<(), Halt> {
+    fn remember(&mut self, alloc: Global, out: &mut Text) -> Result<(), Halt> {
         self.remembered.clear();
         let Some(opened) = &self.opened else {
             return Err(Halt::Closed);
         };
         put_picture(alloc, &opened.store, &mut self.remembered)?;
-        out.extend_from_slice(b"ok")?;
+        out.put(b"ok");
         Ok(())
     }
 
-    fn read(&mut self, alloc: Global, rest: &str, out: &mut Vec<u8>) -> Result<(), Halt> {
+    fn read(&mut self, alloc: Global, rest: &str, out: &mut Text) -> Result<(), Halt> {
         let Some(opened) = &mut self.opened else {
             return Err(Halt::Closed);
         };
         put_durable(alloc, &mut opened.store, rest, out)
     }
 
-    fn drive(&mut self, alloc: Global, out: &mut Vec<u8>) -> Result<(), Halt> {
+    fn drive(&mut self, alloc: Global, out: &mut Text) -> Result<(), Halt> {
         let Some(opened) = &mut self.opened else {
             return Err(Halt::Closed);
         };
@@ -307,23 +309,26 @@ impl Bench {
         }
     }
 
-    fn commit(&mut self, out: &mut Vec<u8>) -> Result<(), Halt> {
+    fn commit(&mut self, out: &mut Text) -> Result<(), Halt> {
         let answered = self.step(Step::Commit)?;
-        Ok(put_result(answered, out)?)
+        put_result(answered, out);
+        Ok(())
     }
 
     /// Offers events. The answer is `accepted`, or the first other one.
-    fn offer_all(&mut self, events: &[Named], out: &mut Vec<u8>) -> Result<(), Halt> {
+    fn offer_all(&mut self, events: &[Named], out: &mut Text) -> Result<(), Halt> {
         for event in events {
             let answered = self.step(Step::Offer(*event))?;
             if !is_accepted(answered) {
-                return Ok(put_result(answered, out)?);
+                put_result(answered, out);
+                return Ok(());
             }
         }
-        Ok(out.extend_from_slice(b"accepted")?)
+        out.put(b"accepted");
+        Ok(())
     }
 
-    fn offer(&mut self, alloc: Global, text: &str, out: &mut Vec<u8>) -> Result<(), Halt> {
+    fn offer(&mut self, alloc: Global, text: &str, out: &mut Text) -> Result<(), Halt> {
         let mut events = Vec::new(alloc);
         put_events(text, &mut events)?;
         self.offer_all(&events, out)
@@ -354,7 +359,7 @@ impl Bench {
         alloc: Global,
         shelf: &mut Shelf,
         text: &str,
-        out: &mut Vec<u8>,
+        out: &mut Text,
     ) -> Result<(), Halt> {
         let (device, rest) = read_device(text)?;
         let (calls, rest) = number(after("at ", rest)?)?;
@@ -373,7 +378,7 @@ impl Bench {
         shelf: &mut Shelf,
         word: &str,
         rest: &str,
-        out: &mut Vec<u8>,
+        out: &mut Text,
     ) -> Result<(), Halt> {
         match word {
             "store" => self.open(alloc, shelf, Opening::Create(sets(rest)?), out),
@@ -395,7 +400,7 @@ impl Bench {
         alloc: Global,
         shelf: &mut Shelf,
         rest: &str,
-        out: &mut Vec<u8>,
+        out: &mut Text,
     ) -> Result<(), Halt> {
         match rest.strip_prefix("every device at each call ") {
             Some(tears) => put_stops(alloc, &self.run, tears, out),
@@ -410,7 +415,7 @@ impl Bench {
         shelf: &mut Shelf,
         word: &str,
         rest: &str,
-        out: &mut Vec<u8>,
+        out: &mut Text,
     ) -> Result<(), Halt> {
         match word {
             "expect" => self.tell(alloc, rest, out),
@@ -430,7 +435,7 @@ impl Bench {
         shelf: &mut Shelf,
         word: &str,
         rest: &str,
-        out: &mut Vec<u8>,
+        out: &mut Text,
     ) -> Result<(), Halt> {
         match word {
             "store" | "recover" | "offer" | "commit" | "then" | "run" => {

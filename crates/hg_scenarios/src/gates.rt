@@ -1,6 +1,6 @@
 //! What the lines of a scenario do with a gated file. It stands on the disk of the first root.
 
-use crate::answers::{put_bytes, put_ok};
+use crate::answers::{Text, put_bytes, put_ok};
 use crate::device::Device;
 use crate::shelf::{Held, Shelf};
 use crate::words::{self, Halt, front};
@@ -37,18 +37,18 @@ impl Drop for GateBench {
     }
 }
 
-fn close(opened: &mut OpenGated, out: &mut Vec<u8>) -> Result<(), Halt> {
+fn close(opened: &mut OpenGated, out: &mut Text) -> Result<(), Halt> {
     opened.file.close()?;
     put_ok(out)
 }
 
-fn open(opened: &mut OpenGated, out: &mut Vec<u8>) -> Result<(), Halt> {
+fn open(opened: &mut OpenGated, out: &mut Text) -> Result<(), Halt> {
     opened.file.open_gate()?;
     put_ok(out)
 }
 
 /// Has the file have other bytes behind its gate.
-fn write(alloc: Global, opened: &mut OpenGated, rest: &str, out: &mut Vec<u8>) -> Result<(), Halt> {
+fn write(alloc: Global, opened: &mut OpenGated, rest: &str, out: &mut Text) -> Result<(), Halt> {
     let mut body = Vec::new(alloc);
     words::put_bytes(rest, &mut body)?;
     opened.file.write_body(&body)?;
@@ -56,10 +56,10 @@ fn write(alloc: Global, opened: &mut OpenGated, rest: &str, out: &mut Vec<u8>) -
 }
 
 /// The body, or `closed`.
-fn put_body(alloc: Global, opened: &mut OpenGated, out: &mut Vec<u8>) -> Result<(), Halt> {
+fn put_body(alloc: Global, opened: &mut OpenGated, out: &mut Text) -> Result<(), Halt> {
     match opened.file.read(alloc)? {
-        Some(body) => put_bytes(&body, out)?,
-        None => out.extend_from_slice(b"closed")?,
+        Some(body) => put_bytes(&body, out),
+        None => out.put(b"closed"),
     }
     Ok(())
 }
@@ -85,7 +85,7 @@ impl GateBench {
         }
     }
 
-    fn attach(&mut self, alloc: Global, shelf: &mut Shelf, out: &mut Vec<u8>) -> Result<(), Halt> {
+    fn attach(&mut self, alloc: Global, shelf: &mut Shelf, out: &mut Text) -> Result<(), Halt> {
         self.close(shelf)?;
         let file = Gated::attach(shelf.take(alloc, Device::Root0)?);
         self.put_opened(Some(OpenGated { file }));
@@ -93,13 +93,7 @@ impl GateBench {
     }
 
     /// Does what a line asks for that concerns a file which is open.
-    fn work(
-        &mut self,
-        alloc: Global,
-        word: &str,
-        rest: &str,
-        out: &mut Vec<u8>,
-    ) -> Result<(), Halt> {
+    fn work(&mut self, alloc: Global, word: &str, rest: &str, out: &mut Text) -> Result<(), Halt> {
         let Some(opened) = &mut self.opened else {
             return Err(Halt::Closed);
         };
@@ -118,7 +112,7 @@ impl GateBench {
         alloc: Global,
         shelf: &mut Shelf,
         text: &str,
-        out: &mut Vec<u8>,
+        out: &mut Text,
     ) -> Result<(), Halt> {
         let (word, rest) = front(text);
         match word {

@@ -1,6 +1,6 @@
 //! What the lines of a scenario do with a journal of events. It stands on the disk of the journal.
 
-use crate::answers::{put_named, put_ok};
+use crate::answers::{Text, put_named, put_ok};
 use crate::device::Device;
 use crate::rows::put_events;
 use crate::shelf::{Held, Shelf};
@@ -48,27 +48,28 @@ impl Drop for JournalBench {
 }
 
 /// Goes to the first event.
-fn rewind(opened: &mut OpenJournal, out: &mut Vec<u8>) -> Result<(), Halt> {
+fn rewind(opened: &mut OpenJournal, out: &mut Text) -> Result<(), Halt> {
     opened.reader = Some(opened.journal.events()?);
     put_ok(out)
 }
 
 /// The event that is next, or `end`.
-fn put_next(opened: &mut OpenJournal, out: &mut Vec<u8>) -> Result<(), Halt> {
+fn put_next(opened: &mut OpenJournal, out: &mut Text) -> Result<(), Halt> {
     let Some(reader) = &mut opened.reader else {
         return Err(Halt::Closed);
     };
     match opened.journal.next(reader)? {
-        Some(named) => put_named(&named, out)?,
-        None => out.extend_from_slice(b"end")?,
+        Some(named) => put_named(&named, out),
+        None => out.put(b"end"),
     }
     Ok(())
 }
 
 /// Appends events at once.
-fn append(opened: &mut OpenJournal, batch: &[Named], out: &mut Vec<u8>) -> Result<(), Halt> {
+fn append(opened: &mut OpenJournal, batch: &[Named], out: &mut Text) -> Result<(), Halt> {
     if batch.is_empty() || batch.len() > MAX_BATCH_EVENTS {
-        return Ok(out.extend_from_slice(b"no batch")?);
+        out.put(b"no batch");
+        return Ok(());
     }
     opened.journal.append(batch)?;
     put_ok(out)
@@ -104,7 +105,7 @@ impl JournalBench {
         &mut self,
         shelf: &mut Shelf,
         made: Result<Journal<Held>, (Refusal, Held)>,
-        out: &mut Vec<u8>,
+        out: &mut Text,
     ) -> Result<(), Halt> {
         match made {
             Ok(journal) => {
@@ -121,7 +122,7 @@ impl JournalBench {
         }
     }
 
-    fn create(&mut self, alloc: Global, shelf: &mut Shelf, out: &mut Vec<u8>) -> Result<(), Halt> {
+    fn create(&mut self, alloc: Global, shelf: &mut Shelf, out: &mut Text) -> Result<(), Halt> {
         self.close(shelf)?;
         let disk = shelf.take(alloc, Device::Journal)?;
         if disk.len() > 0 {
@@ -131,14 +132,14 @@ impl JournalBench {
         self.keep(shelf, Journal::create(alloc, disk), out)
     }
 
-    fn attach(&mut self, alloc: Global, shelf: &mut Shelf, out: &mut Vec<u8>) -> Result<(), Halt> {
+    fn attach(&mut self, alloc: Global, shelf: &mut Shelf, out: &mut Text) -> Result<(), Halt> {
         self.close(shelf)?;
         let disk = shelf.take(alloc, Device::Journal)?;
         self.keep(shelf, Journal::attach(alloc, disk), out)
     }
 
     /// Does what a line asks for that concerns a journal which is open.
-    fn work(&mut self, word: &str, out: &mut Vec<u8>) -> Result<(), Halt> {
+    fn work(&mut self, word: &str, out: &mut Text) -> Result<(), Halt> {
         let Some(opened) = &mut self.opened else {
             return Err(Halt::Closed);
         };
@@ -160,7 +161,7 @@ impl JournalBench {
         alloc: Global,
         shelf: &mut Shelf,
         text: &str,
-        out: &mut Vec<u8>,
+        out: &mut Text,
     ) -> Result<(), Halt> {
         let (word, rest) = front(text);
         match word {

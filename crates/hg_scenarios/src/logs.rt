@@ -1,6 +1,6 @@
 //! What the lines of a scenario do with a log of batches. It stands on the disk of the journal.
 
-use crate::answers::{put_bytes, put_ok};
+use crate::answers::{Text, put_bytes, put_ok};
 use crate::device::Device;
 use crate::shelf::{Held, Shelf};
 use crate::words::{self, Halt, front};
@@ -43,58 +43,63 @@ impl Drop for LogBench {
 const MOST_BATCHES: u64 = 1_000_000;
 
 /// Appends a batch, behind a comma where it isn't the first.
-fn put_batch(batch: &Batch, out: &mut Vec<u8>) -> Result<(), AllocError> {
-    if !out.is_empty() {
-        out.extend_from_slice(b", ")?;
+fn put_batch(batch: &Batch, out: &mut Text) {
+    if !out.bytes().is_empty() {
+        out.put(b", ");
     }
-    put_bytes(batch.body(), out)
+    put_bytes(batch.body(), out);
 }
 
 /// Appends all batches of a log, or `none`.
-fn put_batches(log: &mut Log<Held>, out: &mut Vec<u8>) -> Result<(), Halt> {
+fn put_batches(log: &mut Log<Held>, out: &mut Text) -> Result<(), Halt> {
     let mut place = log.batches()?;
     for _ in 0..MOST_BATCHES {
         match log.next_batch(&mut place)? {
-            Some(batch) => put_batch(&batch, out)?,
-            None => return put_none(out),
+            Some(batch) => put_batch(&batch, out),
+            None => {
+                put_none(out);
+                return Ok(());
+            }
         }
     }
     Ok(())
 }
 
 /// Says that there was no batch, if there was none.
-fn put_none(out: &mut Vec<u8>) -> Result<(), Halt> {
-    if out.is_empty() {
-        out.extend_from_slice(b"none")?;
+fn put_none(out: &mut Text) {
+    if out.bytes().is_empty() {
+        out.put(b"none");
     }
-    Ok(())
 }
 
 /// Appends bytes as a batch.
-fn append(alloc: Global, opened: &mut OpenLog, rest: &str, out: &mut Vec<u8>) -> Result<(), Halt> {
+fn append(alloc: Global, opened: &mut OpenLog, rest: &str, out: &mut Text) -> Result<(), Halt> {
     let mut body = Vec::new(alloc);
     words::put_bytes(rest, &mut body)?;
     match Batch::new(body) {
         Ok(batch) => opened.log.append(&batch)?,
-        Err(_) => return Ok(out.extend_from_slice(b"no batch")?),
+        Err(_) => {
+            out.put(b"no batch");
+            return Ok(());
+        }
     }
     put_ok(out)
 }
 
 /// Goes to the first batch.
-fn rewind(opened: &mut OpenLog, out: &mut Vec<u8>) -> Result<(), Halt> {
+fn rewind(opened: &mut OpenLog, out: &mut Text) -> Result<(), Halt> {
     opened.place = Some(opened.log.batches()?);
     put_ok(out)
 }
 
 /// Appends the batch that is next, or `end`.
-fn put_next(opened: &mut OpenLog, out: &mut Vec<u8>) -> Result<(), Halt> {
+fn put_next(opened: &mut OpenLog, out: &mut Text) -> Result<(), Halt> {
     let Some(place) = &mut opened.place else {
         return Err(Halt::Closed);
     };
     match opened.log.next_batch(place)? {
-        Some(batch) => put_bytes(batch.body(), out)?,
-        None => out.extend_from_slice(b"end")?,
+        Some(batch) => put_bytes(batch.body(), out),
+        None => out.put(b"end"),
     }
     Ok(())
 }
@@ -125,7 +130,7 @@ impl LogBench {
         &mut self,
         shelf: &mut Shelf,
         made: Result<Log<Held>, (GateFault, Held)>,
-        out: &mut Vec<u8>,
+        out: &mut Text,
     ) -> Result<(), Halt> {
         match made {
             Ok(log) => {
@@ -139,7 +144,7 @@ impl LogBench {
         }
     }
 
-    fn create(&mut self, alloc: Global, shelf: &mut Shelf, out: &mut Vec<u8>) -> Result<(), Halt> {
+    fn create(&mut self, alloc: Global, shelf: &mut Shelf, out: &mut Text) -> Result<(), Halt> {
         self.close(shelf)?;
         let disk = shelf.take(alloc, Device::Journal)?;
         if disk.len() > 0 {
@@ -149,20 +154,14 @@ impl LogBench {
         self.keep(shelf, Log::create(alloc, disk), out)
     }
 
-    fn attach(&mut self, alloc: Global, shelf: &mut Shelf, out: &mut Vec<u8>) -> Result<(), Halt> {
+    fn attach(&mut self, alloc: Global, shelf: &mut Shelf, out: &mut Text) -> Result<(), Halt> {
         self.close(shelf)?;
         let disk = shelf.take(alloc, Device::Journal)?;
         self.keep(shelf, Log::attach(alloc, disk), out)
     }
 
     /// Does what a line asks for that concerns a log which is open.
-    fn work(
-        &mut self,
-        alloc: Global,
-        word: &str,
-        rest: &str,
-        out: &mut Vec<u8>,
-    ) -> Result<(), Halt> {
+    fn work(&mut self, alloc: Global, word: &str, rest: &str, out: &mut Text) -> Result<(), Halt> {
         let Some(opened) = &mut self.opened else {
             return Err(Halt::Closed);
         };
@@ -181,7 +180,7 @@ impl LogBench {
         alloc: Global,
         shelf: &mut Shelf,
         text: &str,
-        out: &mut Vec<u8>,
+        out: &mut Text,
     ) -> Result<(), Halt> {
         let (word, rest) = front(text);
         match word {

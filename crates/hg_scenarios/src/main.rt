@@ -17,10 +17,10 @@ mod telling;
 mod words;
 mod world;
 
-use crate::answers::put_halt;
+use crate::answers::{Text, put_halt};
 use crate::words::Halt;
 use crate::world::World;
-use std::alloc::{AllocError, Global};
+use std::alloc::Global;
 use std::io;
 use std::process::ExitCode;
 
@@ -45,7 +45,7 @@ struct Current<'a> {
     world: World,
     has_failed: bool,
     /// What its last line answered.
-    answer: Vec<u8>,
+    answer: Text,
 }
 
 impl Drop for Current<'_> {
@@ -60,14 +60,14 @@ impl Drop for Current<'_> {
 }
 
 /// Makes one line, and answers it.
-fn answer(current: &mut Current, order: &str) -> Result<(), AllocError> {
+fn answer(current: &mut Current, order: &str) {
     current.answer.clear();
     match current.world.perform(order, &mut current.answer) {
-        Ok(()) => Ok(()),
-        Err(Halt::Said) => Ok(()),
+        Ok(()) => {}
+        Err(Halt::Said) => {}
         Err(halt) => {
             current.answer.clear();
-            put_halt(halt, &mut current.answer)
+            put_halt(halt, &mut current.answer);
         }
     }
 }
@@ -86,16 +86,21 @@ fn end(rt: &impl Print, current: &Current, score: &mut Score) -> io::Result<()> 
     println!(rt; "passed {name}")
 }
 
+/// Whether the last line answered what is wanted.
+fn is_answered(current: &Current, wanted: &str) -> bool {
+    current.answer.is_whole() && current.answer.bytes() == wanted.as_bytes()
+}
+
 /// Makes one line of a scenario, and compares its answer.
 fn make(rt: &impl Print, current: &mut Current, number: usize, line: &str) -> io::Result<()> {
     let (order, wanted) = split(line);
-    answer(current, order)?;
-    if current.answer.as_slice() == wanted.as_bytes() {
+    answer(current, order);
+    if is_answered(current, wanted) {
         return Ok(());
     }
     current.has_failed = true;
     let name = current.name;
-    let seen = str::from_utf8(&current.answer).unwrap_or("");
+    let seen = str::from_utf8(current.answer.bytes()).unwrap_or("");
     println!(rt; "FAILED {name}\n  line {number}: {line}\n  seen: {seen}")
 }
 
@@ -147,7 +152,7 @@ fn run(rt: &impl Print, alloc: Global, text: &str, score: &mut Score) -> io::Res
         name: "",
         world: World::new(alloc),
         has_failed: false,
-        answer: Vec::new(alloc),
+        answer: Text::new(alloc),
     };
     take_all(rt, &mut current, score, text)
 }

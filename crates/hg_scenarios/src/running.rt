@@ -1,6 +1,6 @@
 //! Runs of a store that are made again, and stopped.
 
-use crate::answers::put_count;
+use crate::answers::{Text, put_count};
 use crate::device::Device;
 use crate::shelf::{Fuse, Held, Image, NO_FUSES};
 use crate::stores::{Disks, Memories, OpenStore, Opening, open};
@@ -46,7 +46,7 @@ pub struct Progress {
 /// What a run that was never stopped has: the events that were accepted, and all that is told in the end.
 pub struct Reference {
     accepted: Vec<Named>,
-    picture: Vec<u8>,
+    picture: Text,
 }
 
 impl Drop for Reference {
@@ -138,7 +138,7 @@ fn describe(
 pub fn reference_of(alloc: Global, run: &Run) -> Result<Reference, Halt> {
     let mut reference = Reference {
         accepted: Vec::new(alloc),
-        picture: Vec::new(alloc),
+        picture: Text::new(alloc),
     };
     let disks = Disks::whole(alloc, &run.start)?;
     match open(alloc, disks, run.opening) {
@@ -150,20 +150,10 @@ pub fn reference_of(alloc: Global, run: &Run) -> Result<Reference, Halt> {
     }
 }
 
-/// Says what was wrong.
-fn wrong(words: &[u8], out: &mut Vec<u8>) -> Halt {
-    match out.extend_from_slice(words) {
-        Ok(()) => Halt::Said,
-        Err(AllocError) => Halt::Memory,
-    }
-}
-
 /// Says what was wrong, with a number.
-fn wrong_at(words: &[u8], number: u64, out: &mut Vec<u8>) -> Halt {
-    match put_count(words, number, out) {
-        Ok(()) => Halt::Said,
-        Err(AllocError) => Halt::Memory,
-    }
+fn wrong_at(words: &[u8], number: u64, out: &mut Text) -> Halt {
+    put_count(words, number, out);
+    Halt::Said
 }
 
 /// Offers all events of the run again. Those that were found are duplicates.
@@ -172,7 +162,7 @@ fn offer_all(
     events: &[Named],
     found: u64,
     base: u64,
-    out: &mut Vec<u8>,
+    out: &mut Text,
 ) -> Result<u64, Halt> {
     let mut place = base;
     for event in events {
@@ -196,23 +186,24 @@ fn go_on(
     base: u64,
     found: u64,
     reference: &Reference,
-    out: &mut Vec<u8>,
+    out: &mut Text,
 ) -> Result<(), Halt> {
     let count = offer_all(store, &reference.accepted, found, base, out)?;
     let committed = store.commit()?;
     if committed != count {
         return Err(wrong_at(b"commits ", committed, out));
     }
-    let mut picture = Vec::new(alloc);
+    let mut picture = Text::new(alloc);
     put_picture(alloc, store, &mut picture)?;
-    if picture.as_slice() != reference.picture.as_slice() {
-        return Err(wrong(b"differs in the end", out));
+    if picture.bytes() != reference.picture.bytes() {
+        out.put(b"differs in the end");
+        return Err(Halt::Said);
     }
     Ok(())
 }
 
 /// How many events are found. They are the acknowledged ones or, where a commit is in doubt, the accepted ones.
-fn find(store: &Store<Held>, progress: Progress, out: &mut Vec<u8>) -> Result<u64, Halt> {
+fn find(store: &Store<Held>, progress: Progress, out: &mut Text) -> Result<u64, Halt> {
     let found = store.events()?;
     if found == progress.acknowledged {
         return Ok(found);
@@ -229,7 +220,7 @@ fn find_and_go_on(
     base: u64,
     progress: Progress,
     reference: &Reference,
-    out: &mut Vec<u8>,
+    out: &mut Text,
 ) -> Result<u64, Halt> {
     let found = find(store, progress, out)?;
     go_on(alloc, store, base, found, reference, out)?;
@@ -243,7 +234,7 @@ pub fn resume(
     run: &Run,
     progress: Progress,
     reference: &Reference,
-    out: &mut Vec<u8>,
+    out: &mut Text,
 ) -> Result<u64, Halt> {
     let (Opening::Create(sets) | Opening::Recover(sets)) = run.opening;
     let disks = Disks::whole(alloc, image)?;
@@ -251,6 +242,9 @@ pub fn resume(
         Ok(mut opened) => {
             find_and_go_on(alloc, &mut opened.store, run.base, progress, reference, out)
         }
-        Err(_) => Err(wrong(b"is not recovered", out)),
+        Err(_) => {
+            out.put(b"is not recovered");
+            Err(Halt::Said)
+        }
     }
 }

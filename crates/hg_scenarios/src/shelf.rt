@@ -1,6 +1,6 @@
 //! What the disks of a scenario have while nothing is open over them.
 
-use crate::answers::{put_bytes, put_number, put_ok};
+use crate::answers::{Text, put_bytes, put_number, put_ok};
 use crate::device::{Device, read_device};
 use crate::tears::tear;
 use crate::words::{Halt, after, number};
@@ -187,32 +187,26 @@ impl Shelf {
         crate::words::put_bytes(rest, bytes)
     }
 
-    /// Does what a line asks for that concerns the disks alone.
-    pub fn perform(&mut self, word: &str, rest: &str, out: &mut Vec<u8>) -> Result<(), Halt> {
+    /// What a device that is closed has, or had: its bytes, how many, or how many calls.
+    fn tell(&self, word: &str, rest: &str, out: &mut Text) -> Result<(), Halt> {
+        let (device, _) = read_device(rest)?;
+        let bytes = device.of(&self.image.parts);
         match word {
-            "disk" => {
-                self.set(rest)?;
-                put_ok(out)
-            }
-            "fail" => {
-                self.fail(rest)?;
-                put_ok(out)
-            }
-            "bytes" => {
-                let (device, _) = read_device(rest)?;
-                Ok(put_bytes(device.of(&self.image.parts), out)?)
-            }
-            "length" => {
-                let (device, _) = read_device(rest)?;
-                let bytes = device.of(&self.image.parts);
-                Ok(put_number(bytes.len() as u64, out)?)
-            }
-            "calls" => {
-                let (device, _) = read_device(rest)?;
-                Ok(put_number(*device.of(&self.calls), out)?)
-            }
-            _ => Err(Halt::Words),
+            "bytes" => put_bytes(bytes, out),
+            "length" => put_number(bytes.len() as u64, out),
+            _ => put_number(*device.of(&self.calls), out),
         }
+        Ok(())
+    }
+
+    /// Does what a line asks for that concerns the disks alone.
+    pub fn perform(&mut self, word: &str, rest: &str, out: &mut Text) -> Result<(), Halt> {
+        match word {
+            "disk" => self.set(rest)?,
+            "fail" => self.fail(rest)?,
+            _ => return self.tell(word, rest, out),
+        }
+        put_ok(out)
     }
 
     /// Has each disk that is put back be torn as is told, until it is told otherwise.

@@ -1,6 +1,6 @@
 //! A stop of each device at each of its calls.
 
-use crate::answers::{put_count, put_tear};
+use crate::answers::{Text, put_count, put_tear};
 use crate::device::{DEVICES, Device};
 use crate::running::{Progress, Reference, Run, reference_of, resume, stop_run};
 use crate::shelf::Image;
@@ -90,13 +90,13 @@ struct Stop<'a> {
 }
 
 /// `DEVICE after K calls, TEAR: `
-fn put_place(stop: &Stop, tear: Tear, out: &mut Vec<u8>) -> Result<(), AllocError> {
+fn put_place(stop: &Stop, tear: Tear, out: &mut Text) {
     out.clear();
-    out.extend_from_slice(stop.device.name())?;
-    put_count(b" after ", stop.after, out)?;
-    out.extend_from_slice(b" calls, ")?;
-    put_tear(tear, out)?;
-    out.extend_from_slice(b": ")
+    out.put(stop.device.name());
+    put_count(b" after ", stop.after, out);
+    out.put(b" calls, ");
+    put_tear(tear, out);
+    out.put(b": ");
 }
 
 /// Goes on from one image.
@@ -106,9 +106,9 @@ fn try_image(
     tear: Tear,
     others: Tear,
     count: &mut Count,
-    out: &mut Vec<u8>,
+    out: &mut Text,
 ) -> Result<(), Halt> {
-    put_place(stop, tear, out)?;
+    put_place(stop, tear, out);
     let mut image = Image::new(alloc);
     put_images(stop.devices, stop.device, tear, others, &mut image)?;
     let found = resume(alloc, &image, stop.run, stop.progress, stop.reference, out)?;
@@ -125,7 +125,7 @@ fn try_tear(
     stop: &Stop,
     tear: Tear,
     count: &mut Count,
-    out: &mut Vec<u8>,
+    out: &mut Text,
 ) -> Result<(), Halt> {
     try_image(alloc, stop, tear, Tear::Kept, count, out)?;
     if others_are_synced(stop.devices, stop.device) {
@@ -135,12 +135,7 @@ fn try_tear(
 }
 
 /// Goes on from each front of what is not synced.
-fn try_fronts(
-    alloc: Global,
-    stop: &Stop,
-    count: &mut Count,
-    out: &mut Vec<u8>,
-) -> Result<(), Halt> {
+fn try_fronts(alloc: Global, stop: &Stop, count: &mut Count, out: &mut Text) -> Result<(), Halt> {
     let (_, bytes) = since_sync(stop.device.of(stop.devices));
     for front in 0..bytes {
         try_tear(alloc, stop, Tear::Front(front), count, out)?;
@@ -154,7 +149,7 @@ fn try_stop(
     stop: &Stop,
     tears: &[Option<Tear>],
     count: &mut Count,
-    out: &mut Vec<u8>,
+    out: &mut Text,
 ) -> Result<(), Halt> {
     for tear in tears {
         match *tear {
@@ -174,7 +169,7 @@ fn try_call(
     after: u64,
     tears: &[Option<Tear>],
     count: &mut Count,
-    out: &mut Vec<u8>,
+    out: &mut Text,
 ) -> Result<bool, Halt> {
     let mut progress = NO_PROGRESS;
     let stopped = stop_run(alloc, run, device, after, &mut progress)?;
@@ -205,7 +200,7 @@ fn try_device(
     device: Device,
     tears: &[Option<Tear>],
     count: &mut Count,
-    out: &mut Vec<u8>,
+    out: &mut Text,
 ) -> Result<(), Halt> {
     for after in 0..MOST_CALLS {
         if !try_call(alloc, run, reference, device, after, tears, count, out)? {
@@ -221,7 +216,7 @@ fn count_stops(
     run: &Run,
     words: &str,
     count: &mut Count,
-    out: &mut Vec<u8>,
+    out: &mut Text,
 ) -> Result<(), Halt> {
     let tears = tears_of(alloc, words)?;
     let reference = reference_of(alloc, run)?;
@@ -232,12 +227,12 @@ fn count_stops(
 }
 
 /// Goes on from each stop of each device: `N ended alike, M of them ahead`.
-pub fn put_stops(alloc: Global, run: &Run, words: &str, out: &mut Vec<u8>) -> Result<(), Halt> {
+pub fn put_stops(alloc: Global, run: &Run, words: &str, out: &mut Text) -> Result<(), Halt> {
     let mut count = Count { stops: 0, ahead: 0 };
     count_stops(alloc, run, words, &mut count, out)?;
     out.clear();
-    put_count(b"", count.stops, out)?;
-    put_count(b" ended alike, ", count.ahead, out)?;
-    out.extend_from_slice(b" of them ahead")?;
+    put_count(b"", count.stops, out);
+    put_count(b" ended alike, ", count.ahead, out);
+    out.put(b" of them ahead");
     Ok(())
 }

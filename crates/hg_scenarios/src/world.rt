@@ -1,6 +1,6 @@
 //! What the lines of a scenario act on.
 
-use crate::answers::put_ok;
+use crate::answers::{Text, put_ok};
 use crate::bench::Bench;
 use crate::gates::GateBench;
 use crate::journals::JournalBench;
@@ -72,7 +72,7 @@ impl World {
     }
 
     /// Does what a line asks for that concerns what is open.
-    fn work(&mut self, word: &str, rest: &str, out: &mut Vec<u8>) -> Result<(), Halt> {
+    fn work(&mut self, word: &str, rest: &str, out: &mut Text) -> Result<(), Halt> {
         let alloc = self.alloc;
         let shelf = &mut self.shelf;
         match word {
@@ -85,7 +85,7 @@ impl World {
     }
 
     /// Does what a line asks for, and answers it.
-    pub fn perform(&mut self, order: &str, out: &mut Vec<u8>) -> Result<(), Halt> {
+    pub fn perform(&mut self, order: &str, out: &mut Text) -> Result<(), Halt> {
         let (word, rest) = front(order);
         match word {
             "close" => {
