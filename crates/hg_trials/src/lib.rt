@@ -1,4 +1,4 @@
-//! Tests of a store over its public calls: disks in memory, disks that fail, and stops at each of their calls.
+//! A test of a store over its public calls where memory is refused. All else is tried by scenarios (hg_scenarios).
 #![tactic(auto)]
 
 #[cfg(test)]
