@@ -19,7 +19,6 @@ use Rattle.hg_detect.specs.Shown.{found, given}
 use Rattle.hg_detect.specs.declared.kept.KeptReport.{KeptReport}
 use Rattle.hg_detect.proofs.Plans.{owned_on}
 
-
 stays_owned : (segments : List Segment) (sets : List (List ℕ)) (a : Actor) (cell : Cell) → a.segment < length segments → cell ≡ Exclusive a.segment → IsPlanned segments sets sets a cell (staying a.segment)
 stays_owned segments sets a cell within is =
     subst (λ (c : Cell). IsPlanned segments sets sets a c (staying a.segment)) (sym is)
