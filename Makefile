@@ -2,6 +2,7 @@
 # make run      proves and builds the program, and checks a trace that has a race
 # make build    leaves the proved program at build/hgd
 # make quick    the tests that need no proof, on the built program, in under a minute
+# make scenarios  proves and builds the program that runs tests/scenarios, and runs them
 # make test     the gate: proves all crates from nothing, and tries what no proof says
 # make mutants  tries each wrong program that the gate leaves out (tools/mutants)
 # make install  copies the program to PREFIX/bin (PREFIX is /usr/local, DESTDIR goes before it)
@@ -13,7 +14,7 @@ PREFIX ?= /usr/local
 # What the program is made of; what `rt` made is no source.
 SOURCES := crates.txt $(shell find crates -type d \( -name out -o -name must-fail -o -name mutants \) -prune -o -type f -print)
 
-.PHONY: try run build quick test mutants install bench picture clean
+.PHONY: try run build quick scenarios test mutants install bench picture clean
 
 try:
 	@echo 'hgd check < examples/unordered-writes.trace, built without its proof:'
@@ -32,6 +33,10 @@ build/hgd: $(SOURCES)
 
 quick: build/hgd
 	tests/quick build/hgd
+
+scenarios:
+	tools/build hg_scenarios
+	tests/run-scenarios crates/hg_scenarios/out/hg_scenarios
 
 test:
 	tests/run-all
