@@ -1,3 +1,4 @@
+pub mod Creating
 pub mod FeedRunning
 pub mod Feeding
 pub mod Storing

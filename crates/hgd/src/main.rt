@@ -3,17 +3,19 @@
 
 pub mod directory;
 
-ghost use Rattle.std.specs.Prelude.{◌≡◌, ◌⊎◌};
+ghost use Rattle.std.specs.Prelude.{◌≡◌, ◌⊎◌, IfErr};
 
-use crate::directory::{make_directory, open_directory};
+use crate::directory::{Access, make_directory, open_directory};
 use hg_check::commands::{check, graph};
 use hg_check::telling::tell;
 use hg_commands::creating::create_store;
 use hg_commands::feeding::feed;
 use hg_commands::listing::{store_graph, store_reports};
+use hg_disk::FileDisk;
 use hg_model::verdict::Refusal;
 use hg_options::reading::read;
 use hg_options::task::{Misread, StoreTask, Task};
+use hg_store::devices::Devices;
 use hg_streams::input::Input;
 use hg_streams::output::Output;
 use std::env;
@@ -66,12 +68,25 @@ fn perform(rt: &HostRuntime, words: &[String]) -> u8 {
     }
 }
 
+/// Opens the store in a directory, for what is asked for of it.
+fn open_store(
+    rt: &HostRuntime,
+    directory: &str,
+    task: StoreTask,
+) -> Result<Devices<FileDisk>, Refusal>
+    ensures { IfErr result (λ r. (r ≡ Refusal.DeviceFault) ⊎ (r ≡ Refusal.OutOfMemory)) }
+{
+    match task {
+        StoreTask::Create => make_directory(rt, directory),
+        StoreTask::Feed { .. } => open_directory(rt, directory, Access::Change),
+        StoreTask::Graph => open_directory(rt, directory, Access::Look),
+        StoreTask::Reports { .. } => open_directory(rt, directory, Access::Look),
+    }
+}
+
 /// Does what is asked for of the store in a directory.
 fn perform_on_store(rt: &HostRuntime, directory: &str, task: StoreTask) -> u8 {
-    if matches!(task, StoreTask::Create) {
-        make_directory(rt, directory);
-    }
-    let devices = match open_directory(rt, directory) {
+    let devices = match open_store(rt, directory, task) {
         Ok(devices) => devices,
         Err(refusal) => return fail(rt, refusal),
     };
