@@ -1,8 +1,8 @@
 ghost use Rattle.std.specs.Prelude.{◌≤◌};
 
-use crate::creating::create_store;
-use crate::feeding::feed;
-use crate::listing::{store_graph, store_reports};
+use hg_commands::creating::create_store;
+use hg_commands::feeding::feed;
+use hg_commands::listing::{store_graph, store_reports};
 use hg_disk::{FuseDisk, MemDisk};
 use hg_store::devices::{Caps, Devices};
 use hg_store::store::Store;
