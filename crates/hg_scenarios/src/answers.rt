@@ -14,8 +14,6 @@ use hg_wire::report::put_report_line;
 use itoa::Buffer;
 use std::alloc::Global;
 
-const DIGITS: [u8; 16] = *b"0123456789ABCDEF";
-
 /// A text that is written piece by piece. Where memory is refused for one, that is noted, and nobody need ask before the end.
 #[derive(Drop)]
 pub struct Text {
@@ -84,11 +82,18 @@ pub fn put_count(words: &[u8], value: u64, out: &mut Text) {
     put_number(value, out);
 }
 
+/// The hexadecimal digit of a number below 16.
+fn digit_of(value: u8) -> u8 {
+    if value < 10 {
+        value.wrapping_add(b'0')
+    } else {
+        value.wrapping_add(b'A' - 10)
+    }
+}
+
 /// Two hexadecimal digits.
 fn put_byte(byte: u8, out: &mut Text) {
-    let high = DIGITS.get(usize::from(byte / 16)).unwrap_or(&b'?');
-    let low = DIGITS.get(usize::from(byte % 16)).unwrap_or(&b'?');
-    out.put(&[*high, *low]);
+    out.put(&[digit_of(byte / 16), digit_of(byte % 16)]);
 }
 
 /// Bytes in hexadecimal, or `none`.

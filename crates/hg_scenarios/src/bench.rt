@@ -99,6 +99,13 @@ fn drive(
     Ok(())
 }
 
+fn put_step(step: Step, steps: &mut Vec<Step>) -> Result<(), Halt> {
+    match steps.push(step) {
+        Ok(()) => Ok(()),
+        Err(_) => Err(Halt::Memory),
+    }
+}
+
 fn is_accepted(answered: StepResult) -> bool {
     matches!(answered, StepResult::Offered(Ok(Answer::Accepted)))
 }
@@ -302,7 +309,7 @@ impl Bench {
     }
 
     fn step(&mut self, step: Step) -> Result<StepResult, Halt> {
-        self.run.steps.extend_from_slice(&[step])?;
+        put_step(step, &mut self.run.steps)?;
         match &mut self.opened {
             Some(opened) => Ok(opened.store.step(&step)),
             None => Err(Halt::Closed),
@@ -339,7 +346,7 @@ impl Bench {
         let (word, rest) = front(text);
         match word {
             "offer" => self.note_offers(alloc, rest),
-            "commit" => Ok(self.steps.extend_from_slice(&[Step::Commit])?),
+            "commit" => put_step(Step::Commit, &mut self.steps),
             _ => Err(Halt::Words),
         }
     }
@@ -348,7 +355,7 @@ impl Bench {
         let mut events = Vec::new(alloc);
         put_events(text, &mut events)?;
         for event in events.iter() {
-            self.steps.extend_from_slice(&[Step::Offer(*event)])?;
+            put_step(Step::Offer(*event), &mut self.steps)?;
         }
         Ok(())
     }

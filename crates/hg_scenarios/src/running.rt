@@ -2,6 +2,7 @@
 
 use crate::answers::{Text, put_count};
 use crate::device::Device;
+use crate::rows::put_event;
 use crate::shelf::{Fuse, Held, Image, NO_FUSES};
 use crate::stores::{Disks, Memories, OpenStore, Opening, open};
 use crate::telling::put_picture;
@@ -114,7 +115,7 @@ fn follow(store: &mut Store<Held>, steps: &[Step], accepted: &mut Vec<Named>) ->
     for step in steps {
         match (step, store.step(step)) {
             (Step::Offer(named), StepResult::Offered(Ok(Answer::Accepted))) => {
-                accepted.extend_from_slice(&[*named])?;
+                put_event(*named, accepted)?;
             }
             _ => {}
         }
