@@ -25,6 +25,7 @@ use Rattle.hg_disk.specs.declared.disk.Disk as disk
 use Rattle.hg_store.specs.declared.devices.Devices.{Devices}
 use Rattle.hg_store.specs.Offers.{ByVerdict, if_accepted}
 use Rattle.hg_store.specs.Shown.{Shown}
+use Rattle.hg_store.specs.Store.{Backs}
 use Rattle.hg_detect.specs.Memory.{content_of}
 use Rattle.hg_wire.specs.declared.line.LineFault.{LineFault}
 use Rattle.hg_wire.specs.declared.reader.Reading.{Reading}
@@ -33,7 +34,7 @@ use Rattle.hg_check.specs.declared.checker.Ending.TheVariants.{Refused, Bad}
 use Rattle.hg_commands.specs.declared.feeding.Fed.{Fed}
 use Rattle.hg_commands.specs.Feeding.{Answers, FeedsTo, IsOffered, ack_text, acks_text, sent}
 use Rattle.hg_commands.specs.Storing.{failed_calls}
-use Rattle.hg_commands.specs.FeedRunning.{EndsAt, GoesOn, IsPrinted, IsReady, Passes, Place, WasCounted, WasSent, content_at, place, table_at}
+use Rattle.hg_commands.specs.FeedRunning.{EndsAt, GoesOn, IsBacked, IsPrinted, IsReady, Passes, Place, WasCounted, WasSent, content_at, place, table_at}
 use Rattle.hg_check.specs.Running.{Stops}
 use Rattle.hg_check.proofs.Printed.{appends_on}
 
@@ -90,6 +91,9 @@ record IsAfter {D : Type 0} (old new : Place D) (n : Named) : Type 0 where
   accepted : new.fed.accepted ≡ old.fed.accepted + 1
 
 module _ {D : Type 0} (g : disk.Ghosts D) where
+  backed_by : (s m : Shown D) → ((d : Content) → Backs g s d → Backs g m d) → IsBacked g s → IsBacked g m
+  backed_by s m backs h = λ honest. ((h honest).0, backs (h honest).0 (h honest).1)
+
   is_after : (s m t : Shown D) (f i j : Fed) (e : Event) (o p : List WriteCall) → IsReady s f → WasSent g s m f i e (Ok answer.Accepted) → WasCounted g (place m i o) (place t j p)
       → IsAfter (place s f o) (place t j p) (sent f.source f.number e)
   is_after s m t f i j e o p ready was counted =
@@ -129,7 +133,7 @@ module _ {D : Type 0} (g : disk.Ghosts D) where
         goes = record {
           source = is.source;
           failures = counted.failures ∙ ap (λ (d : Devices D). failed_calls g d o) was.done.devices;
-          backed = λ h. counted.backed (was.backs h);
+          backed = λ h. counted.backed (backed_by s m was.backs h);
           printed = prints_on s m t f i j e o p was counted is;
           ready = record {
             works = counted.works;
@@ -171,7 +175,7 @@ module _ {D : Type 0} (g : disk.Ghosts D) where
       record {
         source = is.source;
         failures = ap (λ (d : Devices D). failed_calls g d o) was.done.devices;
-        backed = was.backs;
+        backed = backed_by s m was.backs;
         printed = λ first front events h. record {
           count = omega (arith, ap (λ (c : Content). c.events) is.content, h.count, is.accepted);
           printed = subst (λ (k : ℕ). Took first o (front ++ acks_text events k)) (sym is.accepted) h.printed;

@@ -146,7 +146,7 @@ pub record WasCommitted {D : Type 0} (g : disk.Ghosts D) (old new : Shown D) : T
 pub record WasSent {D : Type 0} (g : disk.Ghosts D) (old new : Shown D) (before now : Fed) (e : Event) (r : Result Answer Refusal) : Type 0 where
   pub done : OfferDone old new (sent before.source before.number e) r
   pub fed : now ≡ record before { number = before.number + 1 }
-  pub backs : IsBacked g old → IsBacked g new
+  pub backs : (d : Content) → Backs g old d → Backs g new d
 
 -- An accepted event was counted, and committed with those before it where it was the last of 256.
 pub record WasCounted {D : Type 0} (g : disk.Ghosts D) (old new : Place D) : Type 0 where

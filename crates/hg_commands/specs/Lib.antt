@@ -3,3 +3,5 @@ pub mod FeedRunning
 pub mod Feeding
 pub mod Storing
 pub mod Laws
+pub mod Keeping
+pub mod Printed

@@ -1,6 +1,6 @@
 //! Feeding the events of a trace text to a store.
 
-ghost use Rattle.std.specs.Prelude.{◌≡◌, ◌+◌, ◌<◌, ◌≤◌, ◌^◌, ◌++◌, ◌%◌, true, false, Option, [], Ok, Some, None, length, IfOk, IfErr, OnOk};
+ghost use Rattle.std.specs.Prelude.{◌≡◌, ◌+◌, ◌<◌, ◌≤◌, ◌^◌, ◌++◌, ◌%◌, true, false, Option, [], Ok, Some, None, length, IfOk, IfErr, IsTrue, OnOk};
 ghost use Rattle.hg_streams.specs.Calls.{failed_reads, failed_writes};
 ghost use Rattle.hg_streams.specs.Told.{told};
 ghost use Rattle.hg_check.specs.Printing.{Took};
@@ -11,16 +11,17 @@ ghost use Rattle.hg_check.specs.Printing.{status_of};
 ghost use Rattle.hg_commands.specs.Feeding.{ack_text, feed_end_text};
 ghost use Rattle.hg_commands.specs.FeedRunning.{EndsAt, FeedAdvances, FeedDone, FeedEndsIn, FeedFails, FeedMeetsEnd, FeedReaches, FeedStops, Feeds, GoesOn, IsReady, LeadsOn, Passes, WasCommitted, WasCounted, WasFed, WasSent, place};
 ghost use Rattle.hg_check.specs.Streaming.{IsStreamFault};
+ghost use Rattle.hg_commands.specs.Keeping.{KeepsOn, NothingLost};
+ghost use Rattle.hg_commands.specs.Printed.{IsPrintedNow};
 ghost use Rattle.hg_commands.specs.Storing.{EndsByFeedFault, HasFeedCause, failed_calls};
 
 use crate::listing::hold_end_line;
 use crate::opening::open_store;
-use crate::saying::print_number;
+use crate::saying::{print_now, print_number};
 use hg_check::checker::{Ending, stop};
 use hg_check::commands::status_of_end;
 use hg_check::printing::hold_stop;
 use hg_check::run::{MOST_READS, Progress, piece_buffer, reader_at_start};
-use hg_check::streams::write_out;
 use hg_check::telling::tell;
 use hg_detect::detector::Answer;
 use hg_disk::Disk;
@@ -61,6 +62,7 @@ fn acknowledge<D: Disk, W: Write>(
     ensures none { OnOk result (held.new.items ≡ []) }
     ensures cause { IfErr result IsStreamFault }
     ensures fault { failed_calls ⟦<D as Disk>⟧ store.new.devices output.new.calls ≡ told result + failed_calls ⟦<D as Disk>⟧ store.old.devices output.old.calls }
+    ensures kept { KeepsOn ⟦<D as Disk>⟧ store.old output.old.calls store.new output.new.calls }
 {
     let count = store.commit()?;
     print_number(b"ack ", count, held, output)
@@ -81,6 +83,7 @@ fn count_accepted<D: Disk, W: Write>(
     ensures none { OnOk result (held.new.items ≡ []) }
     ensures cause { IfErr result IsStreamFault }
     ensures fault { failed_calls ⟦<D as Disk>⟧ store.new.devices output.new.calls ≡ told result + failed_calls ⟦<D as Disk>⟧ store.old.devices output.old.calls }
+    ensures kept { KeepsOn ⟦<D as Disk>⟧ store.old output.old.calls store.new output.new.calls }
 {
     fed.accepted += 1;
     if fed.accepted % BATCH == 0 {
@@ -118,6 +121,7 @@ fn feed_reading<D: Disk, W: Write>(
     ensures none { OnOk result (held.new.items ≡ []) }
     ensures cause { IfErr result IsStreamFault }
     ensures fault { failed_calls ⟦<D as Disk>⟧ store.new.devices output.new.calls ≡ told result + failed_calls ⟦<D as Disk>⟧ store.old.devices output.old.calls }
+    ensures kept { KeepsOn ⟦<D as Disk>⟧ store.old output.old.calls store.new output.new.calls }
 {
     let line = reading.line;
     let Ok(event) = reading.event else {
@@ -152,6 +156,7 @@ fn feed_piece<D: Disk, W: Write>(
     ensures none { OnOk result (held.new.items ≡ []) }
     ensures cause { IfErr result IsStreamFault }
     ensures fault { failed_calls ⟦<D as Disk>⟧ store.new.devices output.new.calls ≡ told result + failed_calls ⟦<D as Disk>⟧ store.old.devices output.old.calls }
+    ensures kept { KeepsOn ⟦<D as Disk>⟧ store.old output.old.calls store.new output.new.calls }
 {
     let mut rest = piece;
     loop {
@@ -189,6 +194,7 @@ fn advance<D: Disk, R: Read, W: Write>(
     ensures cause { IfErr result IsStreamFault }
     ensures fault { failed_reads input.new.calls + failed_calls ⟦<D as Disk>⟧ store.new.devices output.new.calls ≡ told result + (failed_reads input.old.calls + failed_calls ⟦<D as Disk>⟧ store.old.devices output.old.calls) }
     ensures counted { length input.new.calls ≡ 1 + length input.old.calls }
+    ensures kept { KeepsOn ⟦<D as Disk>⟧ store.old output.old.calls store.new output.new.calls }
 {
     let Some(count) = input.read(buffer)? else {
         return Ok(Progress::Underway);
@@ -219,6 +225,7 @@ fn finish<D: Disk, W: Write>(
     ensures none { OnOk result (held.new.items ≡ []) }
     ensures cause { IfErr result IsStreamFault }
     ensures fault { failed_calls ⟦<D as Disk>⟧ store.new.devices output.new.calls ≡ told result + failed_calls ⟦<D as Disk>⟧ store.old.devices output.old.calls }
+    ensures kept { KeepsOn ⟦<D as Disk>⟧ store.old output.old.calls store.new output.new.calls }
 {
     let Some(reading) = reader.finish() else {
         return Ok(Ending::Ended);
@@ -245,6 +252,7 @@ fn feed_all<D: Disk, R: Read, W: Write>(
     ensures feeds { IfOk result (λ end. Feeds input.old.calls input.new.calls fed.old.source store.old.detector.sets (content_of store.old.detector) (content_of store.new.detector) end) }
     ensures none { OnOk result (held.new.items ≡ []) }
     ensures cause { IfErr result (λ r. FeedFails ⟦<D as Disk>⟧ store.old store.new input.old.calls input.new.calls output.old.calls output.new.calls r) }
+    ensures kept { KeepsOn ⟦<D as Disk>⟧ store.old output.old.calls store.new output.new.calls }
 {
     let mut reader = reader_at_start(alloc)?;
     let mut buffer = piece_buffer(alloc)?;
@@ -294,10 +302,10 @@ fn print_end<D: Disk, W: Write>(
     ensures printed { OnOk result (Took output.old.calls output.new.calls (feed_end_text (content_of store.now.detector) end)) }
     ensures cause { IfErr result IsStreamFault }
     ensures fault { failed_writes output.new.calls ≡ told result + failed_writes output.old.calls }
+    ensures calls { IsPrintedNow output.old.calls output.new.calls (feed_end_text (content_of store.now.detector) end) }
 {
     hold_last(store, end, held)?;
-    write_out(held, output)?;
-    output.flush()?;
+    print_now(held.as_slice(), output)?;
     Ok(())
 }
 
@@ -313,6 +321,7 @@ fn feed_store<D: Disk, R: Read, W: Write>(
     requires pending { store.old.pending ≡ [] }
     ensures fed { IfOk result (λ end. WasFed ⟦<D as Disk>⟧ input.old.calls input.new.calls source store.old store.new output.old.calls output.new.calls end) }
     ensures cause { IfErr result (λ r. FeedFails ⟦<D as Disk>⟧ store.old store.new input.old.calls input.new.calls output.old.calls output.new.calls r) }
+    ensures kept { KeepsOn ⟦<D as Disk>⟧ store.old output.old.calls store.new output.new.calls }
 {
     let mut held = Vec::new(alloc);
     let mut fed = Fed {
@@ -340,6 +349,7 @@ fn recover_and_feed<D: Disk, R: Read, W: Write>(
     requires { (4 ≤ frames) × (frames ≤ 4096) }
     ensures fed { IfOk result.0 (λ end. FeedDone ⟦<D as Disk>⟧ input.old.calls input.new.calls source devices result.1 output.old.calls output.new.calls end) }
     ensures cause { IfErr result.0 (λ r. HasFeedCause ⟦<D as Disk>⟧ devices result.1 input.old.calls input.new.calls output.old.calls output.new.calls r) }
+    ensures lost { IsTrue D.is_honest → NothingLost ⟦<D as Disk>⟧ devices result.1 output.old.calls output.new.calls }
 {
     match open_store(alloc, devices, frames) {
         Ok(store) => {
@@ -371,6 +381,7 @@ pub fn feed<D: Disk, R: Read, W: Write, V: Write>(
     ensures fed { (result.0 ≡ 3 → ⊥) → (end : EndingOf) × (result.0 ≡ status_of end) × FeedDone ⟦<D as Disk>⟧ input.old.calls input.new.calls source devices result.1 output.old.calls output.new.calls end }
     ensures quiet { (result.0 ≡ 3 → ⊥) → Took faults.old.calls faults.new.calls [] }
     ensures fault { result.0 ≡ 3 → EndsByFeedFault ⟦<D as Disk>⟧ devices result.1 input.old.calls input.new.calls output.old.calls output.new.calls faults.old.calls faults.new.calls }
+    ensures lost { IsTrue D.is_honest → NothingLost ⟦<D as Disk>⟧ devices result.1 output.old.calls output.new.calls }
 {
     let (ended, devices) = recover_and_feed(alloc, devices, source, frames, input, output);
     match ended {

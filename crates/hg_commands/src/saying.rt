@@ -6,6 +6,7 @@ ghost use Rattle.hg_streams.specs.Told.{told};
 ghost use Rattle.hg_streams.specs.declared.call.WriteCall.TheVariants as WriteCall;
 ghost use Rattle.hg_check.specs.Printing.{Took};
 ghost use Rattle.hg_check.specs.Streaming.{IsStreamFault};
+ghost use Rattle.hg_commands.specs.Printed.{IsPrintedNow};
 ghost use Rattle.hg_commands.specs.Storing.{number_text};
 
 use hg_check::printing::out_of_memory;
@@ -17,6 +18,7 @@ use std::io::Write;
 /// Prints a text at once, so that it reaches a pipe.
 pub fn print_now<W: Write>(text: &[u8], output: &mut Output<W>) -> Result<(), Refusal>
     ensures printed { OnOk result (Took output.old.calls output.new.calls text.now) }
+    ensures calls { IsPrintedNow output.old.calls output.new.calls text.now }
     ensures flushed { OnOk result (output.new.calls ≡ WriteCall.Flushed ∷ WriteCall.Took text.now ∷ output.old.calls) }
     ensures cause { IfErr result (λ r. r ≡ Refusal.DeviceFault) }
     ensures fault { failed_writes output.new.calls ≡ told result + failed_writes output.old.calls }
@@ -48,6 +50,7 @@ pub fn print_number<W: Write>(
 ) -> Result<(), Refusal>
     requires none { held.old.items ≡ [] }
     ensures printed { OnOk result (Took output.old.calls output.new.calls (number_text word.now number)) }
+    ensures calls { IsPrintedNow output.old.calls output.new.calls (number_text word.now number) }
     ensures none { OnOk result (held.new.items ≡ []) }
     ensures cause { IfErr result IsStreamFault }
     ensures fault { failed_writes output.new.calls ≡ told result + failed_writes output.old.calls }

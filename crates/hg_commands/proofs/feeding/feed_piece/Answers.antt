@@ -4,6 +4,7 @@ use Rattle.std.specs.Option.{is_some}
 use Rattle.hg_check.specs.declared.checker.Ending.{Ending}
 use Rattle.hg_commands.specs.FeedRunning.{FeedReaches, place}
 use Rattle.hg_commands.proofs.FeedPieces.{feed_ends_in, feed_reaches_on}
+use Rattle.hg_commands.proofs.Kept.{keeps_then}
 use Rattle.hg_commands.proofs.feeding.feed_piece.Goals as goal
 
 rest_is : (k : ℕ) (rest : List ℕ) → take (length rest - k) (drop k rest) ≡ drop k rest
@@ -24,6 +25,7 @@ loop-reading-preserved g c =
           (feed_reaches_on g.D.Disk c.args.reader.now c.loop-reading.reader c.take.new.self old mid new c.args.piece.now rest c.in-Line.reading used c.loop-reading.invariant.0
           c.in-Line.ensures (c.in_ok-end.ensures.passes (ap Ok (none_is c.in_ok-end.end (sym c.is_some.ensures ∙ c.if-is_some.false))))),
       c.in_ok-end.ensures.none,
+      keeps_then g.D.Disk c.args.store.now c.loop-reading.store c.feed_reading.new.store c.args.output.now.calls c.loop-reading.output.calls c.feed_reading.new.output.calls c.loop-reading.invariant.2 c.feed_reading.ensures.kept,
     )
 
 pub returns-then-is_some-clause-ends : goal.returns-then-is_some-clause-ends

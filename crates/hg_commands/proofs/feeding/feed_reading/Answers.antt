@@ -2,6 +2,8 @@ use Rattle.std.proofs.Common.{Ok, subst, ap, ◌∙◌}
 use Rattle.hg_detect.specs.declared.detector.Answer.{Answer}
 use Rattle.hg_commands.specs.FeedRunning.{WasSent}
 use Rattle.hg_commands.proofs.FeedSteps.{ends_refused, passes_accepted, passes_duplicate}
+use Rattle.hg_commands.specs.Feeding.{sent}
+use Rattle.hg_commands.proofs.Kept.{keeps_offer, keeps_then}
 use Rattle.hg_commands.proofs.feeding.feed_reading.Goals as goal
 
 pub returns-in_ok-count_accepted-in-Ok-Accepted-clause-passes : goal.returns-in_ok-count_accepted-in-Ok-Accepted-clause-passes
@@ -23,3 +25,15 @@ returns-in-Err-clause-ends g c end given =
     c.args.output.now.calls c.args.reading.now c.stop.result end c.in-Ok.is c.requires.ready
     (subst (λ r. WasSent g.D.Disk c.args.store.now c.send.new.store c.args.fed.now c.send.new.fed c.in-Ok.event r) c.in-Err.is c.send.ensures)
     c.stop.ensures given
+
+pub returns-in_err-count_accepted-in-Ok-Accepted-clause-kept : goal.returns-in_err-count_accepted-in-Ok-Accepted-clause-kept
+returns-in_err-count_accepted-in-Ok-Accepted-clause-kept g c =
+    keeps_then g.D.Disk c.args.store.now c.send.new.store c.count_accepted.new.store c.args.output.now.calls c.args.output.now.calls c.count_accepted.new.output.calls
+    (keeps_offer g.D.Disk c.args.store.now c.send.new.store c.args.output.now.calls (sent c.args.fed.now.source c.args.fed.now.number c.in-Ok.event) c.send.result c.send.ensures.done c.send.ensures.backs)
+    c.count_accepted.ensures.kept
+
+pub returns-in_ok-count_accepted-in-Ok-Accepted-clause-kept : goal.returns-in_ok-count_accepted-in-Ok-Accepted-clause-kept
+returns-in_ok-count_accepted-in-Ok-Accepted-clause-kept g c =
+    keeps_then g.D.Disk c.args.store.now c.send.new.store c.count_accepted.new.store c.args.output.now.calls c.args.output.now.calls c.count_accepted.new.output.calls
+    (keeps_offer g.D.Disk c.args.store.now c.send.new.store c.args.output.now.calls (sent c.args.fed.now.source c.args.fed.now.number c.in-Ok.event) c.send.result c.send.ensures.done c.send.ensures.backs)
+    c.count_accepted.ensures.kept

@@ -1,9 +1,11 @@
-use Rattle.std.proofs.Common.{◌≡◌, ℕ, Bool, true, false, Result, Ok, Err, cond, codes, refl, subst, inl, ◌+◌, arith}
+use Rattle.std.proofs.Common.{◌≡◌, ℕ, Bool, true, false, Result, Ok, Err, cond, codes, refl, subst, inl, inr, ◌+◌, arith}
 use Rattle.hg_check.specs.Printing.{Took}
 use Rattle.hg_model.specs.declared.verdict.Refusal.{Refusal}
 use Rattle.hg_model.specs.declared.verdict.Refusal.TheVariants as refusal
 use Rattle.hg_detect.specs.Memory.{content_of}
+use Rattle.hg_commands.specs.Feeding.{feed_end_text}
 use Rattle.hg_commands.specs.Storing.{number_text}
+use Rattle.hg_commands.proofs.Kept.{keeps_other, keeps_then}
 use Rattle.hg_commands.proofs.FeedDone.{was_fed}
 use Rattle.std.proofs.lemmas.Result.{err_from_is_err_and}
 use Rattle.hg_commands.proofs.FeedDone.{took_intact}
@@ -56,3 +58,41 @@ returns-in_err-print_end-clause-cause g c =
         reads_intact c.args.input.now.calls c.feed_all.new.input.calls c.args.source c.args.store.now.detector.sets (content_of c.args.store.now.detector) (content_of c.feed_all.new.store.detector) c.in_ok-end.end c.in_ok-end.ensures.feeds,
       ));
     })
+
+pub returns-in_err-print_number-clause-kept : goal.returns-in_err-print_number-clause-kept
+returns-in_err-print_number-clause-kept g c =
+    keeps_other g.D.Disk c.args.store.now c.args.output.now.calls c.print_number.new.output.calls (number_text (codes "resume ") c.in_ok-last.last) c.print_number.ensures.calls (inr (inl (c.in_ok-last.last, refl)))
+
+pub returns-in_err-end-clause-kept : goal.returns-in_err-end-clause-kept
+returns-in_err-end-clause-kept g c =
+    keeps_then g.D.Disk c.args.store.now c.args.store.now c.feed_all.new.store c.args.output.now.calls c.print_number.new.output.calls c.feed_all.new.output.calls
+    (keeps_other g.D.Disk c.args.store.now c.args.output.now.calls c.print_number.new.output.calls (number_text (codes "resume ") c.in_ok-last.last) c.print_number.ensures.calls (inr (inl (c.in_ok-last.last, refl))))
+    c.feed_all.ensures.kept
+
+pub returns-in_err-acknowledge-clause-kept : goal.returns-in_err-acknowledge-clause-kept
+returns-in_err-acknowledge-clause-kept g c =
+    keeps_then g.D.Disk c.args.store.now c.feed_all.new.store c.acknowledge.new.store c.args.output.now.calls c.feed_all.new.output.calls c.acknowledge.new.output.calls
+    (keeps_then g.D.Disk c.args.store.now c.args.store.now c.feed_all.new.store c.args.output.now.calls c.print_number.new.output.calls c.feed_all.new.output.calls
+    (keeps_other g.D.Disk c.args.store.now c.args.output.now.calls c.print_number.new.output.calls (number_text (codes "resume ") c.in_ok-last.last) c.print_number.ensures.calls (inr (inl (c.in_ok-last.last, refl))))
+    c.feed_all.ensures.kept)
+    c.acknowledge.ensures.kept
+
+pub returns-in_err-print_end-clause-kept : goal.returns-in_err-print_end-clause-kept
+returns-in_err-print_end-clause-kept g c =
+    keeps_then g.D.Disk c.args.store.now c.acknowledge.new.store c.acknowledge.new.store c.args.output.now.calls c.acknowledge.new.output.calls c.print_end.new.output.calls
+    (keeps_then g.D.Disk c.args.store.now c.feed_all.new.store c.acknowledge.new.store c.args.output.now.calls c.feed_all.new.output.calls c.acknowledge.new.output.calls
+    (keeps_then g.D.Disk c.args.store.now c.args.store.now c.feed_all.new.store c.args.output.now.calls c.print_number.new.output.calls c.feed_all.new.output.calls
+    (keeps_other g.D.Disk c.args.store.now c.args.output.now.calls c.print_number.new.output.calls (number_text (codes "resume ") c.in_ok-last.last) c.print_number.ensures.calls (inr (inl (c.in_ok-last.last, refl))))
+    c.feed_all.ensures.kept)
+    c.acknowledge.ensures.kept)
+    (keeps_other g.D.Disk c.acknowledge.new.store c.acknowledge.new.output.calls c.print_end.new.output.calls (feed_end_text (content_of c.acknowledge.new.store.detector) c.in_ok-end.end) c.print_end.ensures.calls (inr (inr (content_of c.acknowledge.new.store.detector, c.in_ok-end.end, refl))))
+
+pub returns-clause-kept : goal.returns-clause-kept
+returns-clause-kept g c =
+    keeps_then g.D.Disk c.args.store.now c.acknowledge.new.store c.acknowledge.new.store c.args.output.now.calls c.acknowledge.new.output.calls c.print_end.new.output.calls
+    (keeps_then g.D.Disk c.args.store.now c.feed_all.new.store c.acknowledge.new.store c.args.output.now.calls c.feed_all.new.output.calls c.acknowledge.new.output.calls
+    (keeps_then g.D.Disk c.args.store.now c.args.store.now c.feed_all.new.store c.args.output.now.calls c.print_number.new.output.calls c.feed_all.new.output.calls
+    (keeps_other g.D.Disk c.args.store.now c.args.output.now.calls c.print_number.new.output.calls (number_text (codes "resume ") c.in_ok-last.last) c.print_number.ensures.calls (inr (inl (c.in_ok-last.last, refl))))
+    c.feed_all.ensures.kept)
+    c.acknowledge.ensures.kept)
+    (keeps_other g.D.Disk c.acknowledge.new.store c.acknowledge.new.output.calls c.print_end.new.output.calls (feed_end_text (content_of c.acknowledge.new.store.detector) c.in_ok-end.end) c.print_end.ensures.calls (inr (inr (content_of c.acknowledge.new.store.detector, c.in_ok-end.end, refl))))
