@@ -1,11 +1,10 @@
 //! Pages of cells.
 
-ghost use Rattle.std.specs.Bool.{OnTrue};
-ghost use Rattle.std.specs.Prelude.{ℕ, ◌≡◌, ◌<◌, ◌≤◌, Some, length, replicate, slice_get, slice_set};
-ghost use Rattle.hg_cells.specs.Pages.{with_new};
-ghost use Rattle.hg_cells.specs.declared.cell.Cell.TheVariants.{New, Exclusive};
+ghost use Rattle.std.specs.Prelude.{ℕ, IfSome, ◌≡◌, ◌<◌, ◌≤◌, Some, length, replicate, slice_get, slice_set};
+ghost use Rattle.hg_cells.specs.Pages.{filled};
+ghost use Rattle.hg_cells.specs.declared.cell.Cell.TheVariants.{New};
 
-use crate::cell::Cell;
+use crate::cell::{Cell, are_same};
 use std::marker::Model;
 
 /// How many words a page has, of 4 bytes each.
@@ -48,19 +47,20 @@ impl Page {
         self.cells[word]
     }
 
-    /// Whether the words from `from` up to, not including, `to` are all owned by this segment.
+    /// The cell that the words from `from` up to, not including, `to` all have, if there is one.
     #[inline]
-    pub fn are_owned(&self, from: usize, to: usize, segment: u32) -> bool
+    pub fn same(&self, from: usize, to: usize) -> Option<Cell>
+        requires in_order { from < to }
         requires in_page { to ≤ PAGE_WORDS }
-        ensures { OnTrue result ((i : ℕ) → from ≤ i → i < to → slice_get self.now i ≡ Some (Exclusive segment)) }
+        ensures { IfSome result (λ cell. (i : ℕ) → from ≤ i → i < to → slice_get self.now i ≡ Some cell) }
     {
+        let cell = self.cells[from];
         for i in from..to {
-            match self.cells[i] {
-                Cell::Exclusive(owner) if owner == segment => {}
-                _ => return false,
+            if !are_same(self.cells[i], cell) {
+                return None;
             }
         }
-        true
+        Some(cell)
     }
 
     /// Gives a word a cell.
@@ -72,17 +72,18 @@ impl Page {
     {
         self.cells[word] = cell;
     }
-}
 
-/// Makes the words from `from` up to, not including, `to` new, and leaves the others.
-pub fn reset(page: &mut Page, from: usize, to: usize)
-    requires in_order { from ≤ to }
-    requires in_page { to ≤ PAGE_WORDS }
-    ensures cells { page.new ≡ with_new page.old from to }
-    ensures words_before { length page.old ≡ PAGE_WORDS }
-    ensures words { length page.new ≡ PAGE_WORDS }
-{
-    for word in from..to {
-        page.cells[word] = Cell::New;
+    /// Gives the words from `from` up to, not including, `to` a cell, and leaves the others.
+    #[inline]
+    pub fn fill(&mut self, from: usize, to: usize, cell: Cell)
+        requires in_order { from ≤ to }
+        requires in_page { to ≤ PAGE_WORDS }
+        ensures cells { self.new ≡ filled self.old from to cell }
+        ensures words_before { length self.old ≡ PAGE_WORDS }
+        ensures words { length self.new ≡ PAGE_WORDS }
+    {
+        for place in from..to {
+            self.cells[place] = cell;
+        }
     }
 }

@@ -1,24 +1,26 @@
 //! The parts of a detector, and what an accepted event does to them.
 
-ghost use Rattle.std.specs.Prelude.{◌≡◌, ◌⊎◌, ℕ, ◌+◌, ◌-◌, ◌/◌, ◌*◌, ◌≤◌, ◌<◌, ◌^◌, [], ◌∷◌, All, IfOk, get_or, length, vec_capacity, IfErr, OnOk, Ok, if◌then◌else◌};
+ghost use Rattle.std.specs.Prelude.{◌≡◌, ◌⊎◌, ℕ, ◌+◌, ◌-◌, ◌/◌, ◌*◌, ◌≤◌, ◌<◌, ◌^◌, [], ◌∷◌, All, IfOk, get_or, length, vec_capacity, IfErr, OnOk, Ok, Err, None, if◌then◌else◌};
 ghost use Rattle.std.specs.List.{range_with_len};
 ghost use Rattle.hg_model.specs.Segments.{of_thread};
 ghost use Rattle.hg_model.specs.Parts.{HasParts};
 ghost use Rattle.hg_model.specs.Change.{empty_content};
 ghost use Rattle.hg_sets.specs.Interning.{AreSets, KeepsNumbers};
 ghost use Rattle.hg_cells.specs.declared.cell.Cell.TheVariants.{New};
+ghost use Rattle.hg_cells.specs.Cells.{IsWithin, meaning};
 ghost use Rattle.hg_detect.specs.declared.kept.KeptReport.{KeptReport as KeptReportOf};
 ghost use Rattle.hg_detect.specs.Words.{KeepsLaw, SameCells};
-ghost use Rattle.hg_detect.specs.Making.{AsksBy};
-ghost use Rattle.hg_detect.specs.Planning.{ArePlanned, wanted};
+ghost use Rattle.hg_detect.specs.Making.{Asks, AsksBy, sets_in};
+ghost use Rattle.hg_detect.specs.Planning.{ArePlanned, IsPlanned, touched_by, wanted};
 ghost use Rattle.hg_detect.specs.Shown.{HasRoom, content, report_of};
 ghost use Rattle.hg_model.specs.Verdicts as rules;
 ghost use Rattle.hg_detect.specs.Engine.{Answers, AtPresent, IsOnLock, IsSound, actor_of, set_refusal, shown_of};
 
 use crate::kept::{KeptReport, add_reports, reserve_reports};
-use crate::plan::{Acting, Planned, plan_words};
+use crate::plan::{Acting, Planned, plan_alike, plan_word, plan_words};
 use crate::setting::set_words;
 use crate::words::Words;
+use hg_cells::{Cell, are_same};
 use hg_graph::Graph;
 use hg_model::event::{Access, Block, Event, Named};
 use hg_model::report::Report;
@@ -141,6 +143,78 @@ impl<W: Words> Engine<W> {
         reserve_reports(&mut self.kept, self.plan.as_slice()).map_err(out_of_memory)
     }
 
+    /// Plans an access to words that have this cell.
+    #[inline(always)]
+    fn plan_for(&mut self, access: &Access, write: bool, cell: Cell) -> Result<Planned, Refusal>
+        requires sound { IsSound self.old }
+        requires thread { access.now.t < 1024 }
+        requires within { IsWithin (length self.old.graph) (length self.old.sets.sets) cell }
+        ensures others { self.new ≡ record self.old { sets = self.new.sets } }
+        ensures sets { AreSets self.new.sets }
+        ensures numbers { KeepsNumbers self.old.sets self.new.sets }
+        ensures planned { IfOk result (IsPlanned self.old.graph self.old.sets.sets self.new.sets.sets (actor_of self.old access.now write) cell) }
+        ensures asked { OnOk result (Asks self.old.sets (sets_in (touched_by self.old.graph (actor_of self.old access.now write) (meaning self.old.sets.sets cell))) None self.new.sets) }
+        ensures refused { IfErr result (λ r. AsksBy self.old.sets (sets_in (touched_by self.old.graph (actor_of self.old access.now write) (meaning self.old.sets.sets cell))) (Err r) self.new.sets) }
+        ensures refusal { IfErr result (λ r. (r ≡ Refusal.FullSets) ⊎ (r ≡ Refusal.OutOfMemory)) }
+    {
+        let locks = self.state.counted(access.t, write);
+        let acting = Acting {
+            thread: access.t,
+            segment: self.graph.present(access.t),
+            write,
+            locks,
+        };
+        plan_word(&self.graph, &mut self.sets, &acting, cell).map_err(refusal_of)
+    }
+
+    /// Accepts an access to `count` words from `first` on, which all have this cell: one plan serves them all.
+    #[inline(always)]
+    fn access_alike(
+        &mut self,
+        named: &Named,
+        access: &Access,
+        write: bool,
+        first: u64,
+        count: u64,
+        cell: Cell,
+    ) -> Result<(), Refusal>
+        requires event { named.now.event ≡ (if write then Event.Write access.now else Event.Read access.now) }
+        requires sound { IsSound self.old }
+        requires accepted { rules.verdict (rules.standing self.old.state) named.now ≡ Verdict.Accept }
+        requires lawful { AtPresent W.may_bring (shown_of self.old) }
+        requires first { first ≡ access.now.at / 4 }
+        requires count { count ≡ (access.now.at + access.now.len + 3) / 4 - first }
+        requires cells { (w : ℕ) → first ≤ w → w < first + count → W.cell_of self.old.words w ≡ cell }
+        requires within { IsWithin (length self.old.graph) (length self.old.sets.sets) cell }
+        requires fillable { W.may_fill self.old.words first count }
+        ensures { Answers W.cell_of W.may_bring W.is_faithful W.may_refuse self.old named.now result self.new }
+    {
+        let planned = self.plan_for(access, write, cell)?;
+        if !planned.reported {
+            self.state.follow(named);
+            if are_same(planned.cell, cell) {
+                return Ok(());
+            }
+            self.words.fill(first, count, planned.cell);
+            return Ok(());
+        }
+        plan_alike(&mut self.plan, planned, count);
+        reserve_reports(&mut self.kept, self.plan.as_slice()).map_err(out_of_memory)?;
+        let number = self.state.events() + 1;
+        self.state.follow(named);
+        self.words.fill(first, count, planned.cell);
+        let reports = add_reports(
+            &mut self.kept,
+            number,
+            write,
+            access.t,
+            first,
+            self.plan.as_slice(),
+        );
+        self.total += reports;
+        Ok(())
+    }
+
     /// Accepts an access to memory.
     #[inline(always)]
     fn access(&mut self, named: &Named, access: &Access, write: bool) -> Result<(), Refusal>
@@ -152,14 +226,30 @@ impl<W: Words> Engine<W> {
     {
         let first = access.at / 4;
         let last = (access.at + (u64::from(access.len) - 1)) / 4;
-        let segment = self.graph.present(access.t);
-        if self.words.are_owned(first, last + 1 - first, segment) {
-            self.state.follow(named);
-            return Ok(());
+        if let Some(cell) = self.words.same(first, last + 1 - first) {
+            if are_same(cell, Cell::Exclusive(self.graph.present(access.t))) {
+                self.state.follow(named);
+                return Ok(());
+            }
+            return self.access_alike(named, access, write, first, last + 1 - first, cell);
         }
-        self.prepare(access, write, first, last + 1)?;
+        self.access_unlike(*named, *access, write)
+    }
+
+    /// Accepts an access to words that have different cells, or that may not be filled.
+    #[inline(never)]
+    fn access_unlike(&mut self, named: Named, access: Access, write: bool) -> Result<(), Refusal>
+        requires event { named.event ≡ (if write then Event.Write access else Event.Read access) }
+        requires sound { IsSound self.old }
+        requires accepted { rules.verdict (rules.standing self.old.state) named ≡ Verdict.Accept }
+        requires lawful { AtPresent W.may_bring (shown_of self.old) }
+        ensures { Answers W.cell_of W.may_bring W.is_faithful W.may_refuse self.old named result self.new }
+    {
+        let first = access.at / 4;
+        let last = (access.at + (u64::from(access.len) - 1)) / 4;
+        self.prepare(&access, write, first, last + 1)?;
         let event = self.state.events() + 1;
-        self.state.follow(named);
+        self.state.follow(&named);
         set_words(&mut self.words, first, self.plan.as_slice());
         self.total += add_reports(
             &mut self.kept,

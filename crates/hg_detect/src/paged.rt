@@ -4,11 +4,11 @@ ghost use Rattle.std.specs.Prelude.{◌≡◌, ℕ, ◌+◌, ◌/◌, ◌<◌, �
 ghost use Rattle.indexmap.specs.IndexMap.{get};
 ghost use Rattle.hg_model.specs.declared.verdict.Refusal.TheVariants.{OutOfMemory};
 ghost use Rattle.hg_cells.specs.declared.cell.Cell.TheVariants.{New};
-ghost use Rattle.hg_detect.specs.Paged.{AreWithin, HasPage, StandsIn, cell_in, page_of};
+ghost use Rattle.hg_detect.specs.Paged.{AreInPage, AreWithin, HasPage, StandsIn, cell_in, page_of};
 ghost use Rattle.hg_detect.specs.PagedLaws.{each_within, more_within, never_full};
 
 use crate::words::Words;
-use hg_cells::{Cell, PAGE_WORDS, Page, reset};
+use hg_cells::{Cell, PAGE_WORDS, Page};
 use hg_model::verdict::Refusal;
 use hg_sets::SetTable;
 use indexmap::IndexMap;
@@ -121,17 +121,18 @@ impl PagedWords {
         }
     }
 
-    /// Makes the words of a page from one place up to another new.
-    fn renew(&mut self, number: u64, from: u64, to: u64)
+    /// Gives the words of a page from one place up to another a cell.
+    #[inline]
+    fn fill_page(&mut self, number: u64, from: u64, to: u64, cell: Cell)
         requires page { is_some (page_of self.old number) ≡ true }
         requires in_order { from ≤ to }
         requires in_page { to ≤ 256 }
-        ensures cells { (w : ℕ) → cell_in self.new w ≡ (if (w / 256 == number) && (nat_le from (w % 256) && nat_lt (w % 256) to) then New else cell_in self.old w) }
+        ensures cells { (w : ℕ) → cell_in self.new w ≡ (if (w / 256 == number) && (nat_le from (w % 256) && nat_lt (w % 256) to) then cell else cell_in self.old w) }
         ensures pages { (n : ℕ) → is_some (page_of self.old n) ≡ true → is_some (page_of self.new n) ≡ true }
     {
         if let Some(place) = self.place(number) {
             if let Some(page) = self.pages.get_index_mut(place) {
-                reset(page, from as usize, to as usize);
+                page.fill(from as usize, to as usize, cell);
             }
         }
     }
@@ -147,6 +148,8 @@ impl Words for PagedWords {
     ghost is_brought = { λ _ _. Unit {0} };
 
     ghost is_kept = { HasPage };
+
+    ghost may_fill = { AreInPage };
 
     ghost may_refuse = { λ r. r ≡ OutOfMemory };
 
@@ -180,16 +183,22 @@ impl Words for PagedWords {
         self.cell(word)
     }
 
-    fn are_owned(&self, first: u64, count: u64, segment: u32) -> bool {
+    fn same(&self, first: u64, count: u64) -> Option<Cell> {
         let number = first / WORDS;
         let from = first % WORDS;
-        if count > WORDS - from {
-            return false;
+        if count == 0 || count > WORDS - from {
+            return None;
         }
-        let Some((key, page)) = self.pages.get_index(self.hint(number)) else {
-            return false;
-        };
-        *key == number && page.are_owned(from as usize, (from + count) as usize, segment)
+        let (key, page) = self.pages.get_index(self.hint(number))?;
+        if *key != number {
+            return None;
+        }
+        page.same(from as usize, (from + count) as usize)
+    }
+
+    fn fill(&mut self, first: u64, count: u64, cell: Cell) {
+        let from = first % WORDS;
+        self.fill_page(first / WORDS, from, from + count, cell);
     }
 
     fn set(&mut self, word: u64, cell: Cell) {
@@ -204,9 +213,14 @@ impl Words for PagedWords {
         let (first, last) = pages_of(at, len);
         let from = at / 4;
         let end = (at + u64::from(len - 1)) / 4 + 1;
-        self.renew(first, from % WORDS, (end - first * WORDS).min(WORDS));
+        self.fill_page(
+            first,
+            from % WORDS,
+            (end - first * WORDS).min(WORDS),
+            Cell::New,
+        );
         if last != first {
-            self.renew(last, 0, end - last * WORDS);
+            self.fill_page(last, 0, end - last * WORDS, Cell::New);
         }
     }
 }

@@ -1,14 +1,13 @@
 //! Shadow memory, as the detector sees it.
 
-ghost use Rattle.std.specs.Prelude.{◌≡◌, ◌+◌, ◌^◌, ◌<◌, ◌≤◌, ◌==◌, ℕ, length, OnOk, IfErr, if◌then◌else◌};
+ghost use Rattle.std.specs.Prelude.{◌≡◌, ◌+◌, ◌^◌, ◌<◌, ◌≤◌, ◌==◌, ◌⊎◌, ℕ, length, OnOk, IfErr, IfSome, if◌then◌else◌};
 ghost use Rattle.hg_model.specs.History.{overlaps};
 ghost use Rattle.hg_cells.specs.Cells.{IsWithin};
 ghost use Rattle.hg_detect.specs.Words.{SameCells, ForOverlapped, KeepsLaw};
 ghost use Rattle.hg_model.specs.declared.verdict.Refusal.{Refusal as RefusalOf};
 ghost use Rattle.hg_model.specs.declared.verdict.Refusal.TheVariants.{FullSets};
 ghost use Rattle.hg_cells.specs.declared.cell.Cell.{Cell as CellOf};
-ghost use Rattle.hg_cells.specs.declared.cell.Cell.TheVariants.{New, Exclusive};
-ghost use Rattle.std.specs.Bool.{OnTrue};
+ghost use Rattle.hg_cells.specs.declared.cell.Cell.TheVariants.{New};
 
 use hg_cells::Cell;
 use hg_model::verdict::Refusal;
@@ -17,7 +16,7 @@ use hg_sets::SetTable;
 /// A map from words to their cells. Words are numbered: word w is the four bytes from the address 4 * w on.
 ///
 /// An event first brings the words that it overlaps, then keeps them, and then sets them. What can fail is in the
-/// first two, and neither changes a cell.
+/// first two, and neither changes a cell. Words that all have one cell may be filled at once, with none of these.
 pub trait Words {
     /// The cell of each word.
     ghost cell_of: { Self → ℕ → CellOf };
@@ -34,6 +33,9 @@ pub trait Words {
 
     /// The word was kept, and may be set.
     ghost is_kept: { Self → ℕ → Type 0 };
+
+    /// So many words from this one on may be given one cell at once.
+    ghost may_fill: { Self → ℕ → ℕ → Type 0 };
 
     /// What `bring` and `keep` may answer in place of Ok.
     ghost may_refuse: { RefusalOf → Type 0 };
@@ -69,9 +71,19 @@ pub trait Words {
         requires { is_brought self.now word }
         ensures { result ≡ cell_of self.now word };
 
-    /// Whether `count` words from `first` on are all owned by this segment. (`false` says nothing of them.)
-    fn are_owned(&self, first: u64, count: u64, segment: u32) -> bool
-        ensures { OnTrue result ((w : ℕ) → first ≤ w → w < first + count → cell_of self.now w ≡ Exclusive segment) };
+    /// The cell that `count` words from `first` on all have, where they may be filled. (`None` says nothing of them.)
+    fn same(&self, first: u64, count: u64) -> Option<Cell>
+        ensures cells { IfSome result (λ cell. (w : ℕ) → first ≤ w → w < first + count → cell_of self.now w ≡ cell) }
+        ensures named { IfSome result (λ cell. (segments sets : ℕ) → may_bring self.now segments sets → IsWithin segments sets cell) }
+        ensures fillable { IfSome result (λ cell. may_fill self.now first count) };
+
+    /// Gives `count` words from `first` on a cell.
+    fn fill(&mut self, first: u64, count: u64, cell: Cell)
+        requires { may_fill self.old first count }
+        ensures inside { (w : ℕ) → first ≤ w → w < first + count → cell_of self.new w ≡ cell }
+        ensures outside { (w : ℕ) → (w < first) ⊎ (first + count ≤ w) → cell_of self.new w ≡ cell_of self.old w }
+        ensures lawful { (segments sets : ℕ) → IsWithin segments sets cell → may_bring self.old segments sets → may_bring self.new segments sets }
+        ensures faithful { (segments sets : ℕ) → IsWithin segments sets cell → is_faithful self.old segments sets → is_faithful self.new segments sets };
 
     /// Gives a word its cell.
     fn set(&mut self, word: u64, cell: Cell)

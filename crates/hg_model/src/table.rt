@@ -138,6 +138,7 @@ impl ThreadTable {
     }
 
     /// Changes the threads by an event that was accepted.
+    #[inline(always)]
     pub(crate) fn follow(&mut self, event: Event)
         requires { MayFollow self.old event }
         ensures { self.new ≡ threads_after event self.old }

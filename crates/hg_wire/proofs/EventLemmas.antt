@@ -1,10 +1,12 @@
 -- A verb and its operands make an event.
-use Rattle.std.proofs.Common.{◌≡◌, ℕ, ◌<◌, ◌≤◌, List, [], ◌++◌, length, Ok, refl, sym, ◌∙◌, ap, arith, ◌-◌, inl, inr}
+use Rattle.std.proofs.Common.{◌≡◌, ℕ, ◌<◌, ◌≤◌, ◌^◌, Bool, true, false, if◌then◌else◌, List, [], ◌∷◌, ◌++◌, length, Ok, refl, sym, ◌∙◌, ap, arith, ◌-◌, inl, inr}
 use Rattle.std.proofs.lemmas.List.{append_assoc, append-nil, length-append, nil_from_length}
 use Rattle.hg_model.specs.declared.event.Event.{Event}
 use Rattle.hg_wire.specs.declared.verb.Verb.{Verb}
-use Rattle.hg_wire.specs.Verbs.{row_of, Makes}
-use Rattle.hg_wire.specs.Lines.{HasOperands, HasEvent, HasEventLine, EndsLineBefore, line_of}
+use Rattle.hg_model.specs.declared.event.Event.TheVariants.{Read, Write}
+use Rattle.hg_wire.specs.declared.verb.VerbKind.TheVariants as kind
+use Rattle.hg_wire.specs.Verbs.{row_of, verb_of, AllFit, Makes}
+use Rattle.hg_wire.specs.Lines.{AreOperands, HasOperands, HasEvent, HasEventLine, EndsLineBefore, line_of}
 use Rattle.hg_wire.proofs.WordLemmas.{led_by}
 use Rattle.hg_wire.proofs.VerbLemmas.{each_is_verb}
 use Rattle.hg_wire.proofs.LineLemmas.{operands_are_words, event_reads}
@@ -50,3 +52,17 @@ event_line bytes event middle rest h ends =
     shorter_after : (middle rest : List ℕ) → EndsLineBefore middle rest → length rest ≤ length middle
     shorter_after middle rest (inl e) = omega (arith, ap length e)
     shorter_after middle rest (inr e) = omega (arith, ap length e)
+
+-- operands fit their widths
+pub operands_fit : (widths : List ℕ) (words : List (List ℕ)) (values : List ℕ) → AreOperands widths words values → AllFit widths values
+operands_fit [] [] [] h = tt
+operands_fit [] [] (v ∷ values) h = absurd h
+operands_fit [] (word ∷ words) values h = absurd h
+operands_fit (width ∷ widths) [] values h = absurd h
+operands_fit (width ∷ widths) (word ∷ words) [] h = absurd h
+operands_fit (width ∷ widths) (word ∷ words) (v ∷ values) h = (h.1, operands_fit widths words values h.2)
+
+-- the parts of an access make the event of its verb
+pub makes_access : (is_write : Bool) (t at len : ℕ) → t < 2 ^ 16 → at < 2 ^ 64 → len < 256 → Makes (verb_of (kind.Access is_write)) (t ∷ at ∷ len ∷ []) (if is_write then Write (record { t = t; at = at; len = len }) else Read (record { t = t; at = at; len = len }))
+makes_access true t at len a b d = ((a, (b, (omega arith, tt))), refl)
+makes_access false t at len a b d = ((a, (b, (omega arith, tt))), refl)

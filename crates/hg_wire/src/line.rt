@@ -1,12 +1,13 @@
 //! One line of the trace text.
 
 ghost use Rattle.std.specs.Prelude.{◌≡◌, IfSome};
+ghost use Rattle.hg_wire.specs.Accesses.{event_of};
 ghost use Rattle.hg_wire.specs.Lines.{HasEvent, HasEventLine, EndsLineBefore, line_of};
 
 use crate::operands::{long_in_front, short_in_front};
-use crate::verb::{VerbKind, pair_event, sized_event, verb_in_front};
+use crate::verb::{VerbKind, access_verb_in_front, pair_event, sized_event, verb_in_front};
 use crate::words::line_by_words;
-use hg_model::event::Event;
+use hg_model::event::{Access, Event};
 
 /// What is wrong with a line of the trace text, in the order in which it is tested (this project's profile).
 #[derive(Clone, Copy, Debug, PartialEq, Eq, Drop)]
@@ -59,6 +60,39 @@ pub(crate) fn event_line_in_front(bytes: &[u8]) -> Option<(Event, usize)>
     let (event, rest) = event_in_front(bytes)?;
     let after = after_line_end(rest)?;
     Some((event, bytes.len() - after.len()))
+}
+
+/// A read or a write, and how many bytes its line takes with its line feed.
+#[derive(Clone, Copy, Debug, PartialEq, Eq, Drop)]
+pub struct AccessLine {
+    pub is_write: bool,
+    pub access: Access,
+    pub used: usize,
+}
+
+/// The same where it is a read or a write, in its parts.
+#[inline(always)]
+pub(crate) fn access_line_in_front(bytes: &[u8]) -> Option<AccessLine>
+    ensures { IfSome result (λ found. HasEventLine bytes.now (event_of found) found.used) }
+{
+    let (is_write, operands) = access_verb_in_front(bytes)?;
+    let (t, rest) = short_in_front(operands)?;
+    let (at, rest) = long_in_front(rest)?;
+    let (len, rest) = short_in_front(rest)?;
+    if len > 0xff {
+        return None;
+    }
+    let after = after_line_end(rest)?;
+    let access = Access {
+        t,
+        at,
+        len: len as u8,
+    };
+    Some(AccessLine {
+        is_write,
+        access,
+        used: bytes.len() - after.len(),
+    })
 }
 
 /// What follows the line feed that the bytes begin with, perhaps behind one carriage return.

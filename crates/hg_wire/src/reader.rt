@@ -1,9 +1,9 @@
 //! The events of a stream of trace text.
 
-ghost use Rattle.std.specs.Prelude.{◌≡◌, ◌+◌, ◌<◌, ◌^◌, ◌∷◌, [], length, option_to_list, IfOk};
+ghost use Rattle.std.specs.Prelude.{◌≡◌, ◌+◌, ◌<◌, ◌^◌, ◌∷◌, [], length, option_to_list, IfOk, IfSome, IfNone, Ok};
 ghost use Rattle.hg_wire.specs.Streams.{Takes, readings_in};
 
-use crate::line::{LineFault, event_line_in_front, read_line};
+use crate::line::{AccessLine, LineFault, access_line_in_front, event_line_in_front, read_line};
 use crate::splitter::Splitter;
 use hg_model::event::Event;
 use std::alloc::{AllocError, Global};
@@ -42,7 +42,8 @@ impl Model for EventReader {
 }
 
 impl EventReader {
-    ghost use Rattle.hg_wire.specs.Streams.{at_start, readings_from, Takes};
+    ghost use Rattle.hg_wire.specs.Accesses.{event_of};
+    ghost use Rattle.hg_wire.specs.Streams.{at_start, readings_from, GivesReading, Takes};
 
     /// A reader at the start of a stream.
     pub fn new(alloc: Global) -> Result<Self, AllocError>
@@ -72,6 +73,30 @@ impl EventReader {
             }
         }
         take_by_lines(&mut self.splitter, piece)
+    }
+
+    /// Takes the next line of the stream where it is a read or a write that stands whole in front of the piece. `None`
+    /// takes nothing, and says nothing of the piece.
+    #[inline(always)]
+    pub fn take_access(&mut self, piece: &[u8]) -> Option<AccessLine>
+        requires { self.old.lines + length piece.now < 2 ^ 64 }
+        ensures access { IfSome result (λ found. GivesReading self.old self.new piece.now (record { line = self.new.lines; event = Ok (event_of found) }) found.used) }
+        ensures none { IfNone result (self.new ≡ self.old) }
+    {
+        if !self.splitter.is_between_lines() {
+            return None;
+        }
+        let found = access_line_in_front(piece)?;
+        self.splitter.count_line();
+        Some(found)
+    }
+
+    /// How many lines have ended.
+    #[inline(always)]
+    pub fn lines(&self) -> u64
+        ensures { result ≡ self.now.lines }
+    {
+        self.splitter.lines()
     }
 
     /// What the last line says, which may lack its line feed, where it is neither empty nor a comment.

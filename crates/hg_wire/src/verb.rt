@@ -86,11 +86,8 @@ pub enum VerbKind {
 pub fn verb_in_front(bytes: &[u8]) -> Option<(VerbKind, &[u8])>
     ensures { IfSome result (λ found. bytes.now ≡ (row_of (verb_of found.0)).text ++ found.1.now) }
 {
-    if let Some(rest) = Verb::Write.after(bytes) {
-        return Some((VerbKind::Access { is_write: true }, rest));
-    }
-    if let Some(rest) = Verb::Read.after(bytes) {
-        return Some((VerbKind::Access { is_write: false }, rest));
+    if let Some((is_write, rest)) = access_verb_in_front(bytes) {
+        return Some((VerbKind::Access { is_write }, rest));
     }
     if let Some(rest) = Verb::Alloc.after(bytes) {
         return Some((VerbKind::Block { is_alloc: true }, rest));
@@ -100,6 +97,17 @@ pub fn verb_in_front(bytes: &[u8]) -> Option<(VerbKind, &[u8])>
     }
     let (verb, rest) = pair_verb_in_front(bytes)?;
     Some((VerbKind::Pair { verb }, rest))
+}
+
+/// Whether the bytes begin with `write` (or else with `read`), and what follows.
+#[inline(always)]
+pub fn access_verb_in_front(bytes: &[u8]) -> Option<(bool, &[u8])>
+    ensures { IfSome result (λ found. bytes.now ≡ (row_of (verb_of (VerbKind.Access found.0))).text ++ found.1.now) }
+{
+    if let Some(rest) = Verb::Write.after(bytes) {
+        return Some((true, rest));
+    }
+    Some((false, Verb::Read.after(bytes)?))
 }
 
 #[inline(always)]

@@ -3,7 +3,7 @@ ghost use Rattle.std.specs.List.{flat_map};
 ghost use Rattle.hg_wire.specs.Streams.{readings, readings_from};
 
 use hg_model::event::{Access, Event};
-use hg_wire::line::LineFault;
+use hg_wire::line::{AccessLine, LineFault};
 use hg_wire::reader::{EventReader, Reading, Taken};
 use std::alloc::{AllocError, Global};
 use std::test::Fail;
@@ -106,5 +106,38 @@ fn reads_a_stream_however_it_is_cut(rt: HostRuntime) -> Result<(), Fail> {
         let found = readings_of(&[front, byte, rest], rt.alloc())?;
         assert!(rt; is_expected(&found), "cut around {cut}");
     }
+    Ok(())
+}
+
+/// Reads and writes are taken where they stand whole in front, and nothing else is.
+#[test]
+fn takes_accesses_in_front(rt: HostRuntime) -> Result<(), Fail> {
+    let mut reader = EventReader::new(rt.alloc())?;
+    let piece = b"write 3 0x10 4\r\nread 5 32 255\nread 5 32 256\n".as_slice();
+    let first = AccessLine {
+        is_write: true,
+        access: Access {
+            t: 3,
+            at: 16,
+            len: 4,
+        },
+        used: 16,
+    };
+    assert_eq!(rt; reader.take_access(piece), Some(first));
+    let second = AccessLine {
+        is_write: false,
+        access: Access {
+            t: 5,
+            at: 32,
+            len: 255,
+        },
+        used: 14,
+    };
+    assert_eq!(rt; reader.take_access(&piece[16..]), Some(second));
+    assert_eq!(rt; reader.lines(), 2);
+    for other in [&piece[30..], &piece[..15], b"lock 1 2\n", b"#\n", b""] {
+        assert_eq!(rt; reader.take_access(other), None);
+    }
+    assert_eq!(rt; reader.lines(), 2);
     Ok(())
 }

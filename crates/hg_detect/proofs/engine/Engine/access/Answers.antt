@@ -1,98 +1,16 @@
+use Rattle.std.proofs.Common.{◌≡◌, ◌+◌, ◌-◌, ◌/◌, ◌<◌, ◌≤◌, ◌++◌, ℕ, length, take, replicate, add-zero, Ok, None, refl, sym, ap, ◌∙◌, subst, arith}
 use Rattle.std.proofs.lemmas.List.{append-nil, length-replicate, take_all}
-use Rattle.hg_cells.specs.declared.cell.Cell.TheVariants.{Exclusive}
-use Rattle.hg_detect.specs.Making.{AsksBy}
-use Rattle.hg_detect.specs.Staying.{staying}
-use Rattle.hg_detect.proofs.Owned.{same_numbers, owned_are_planned, owned_given, owned_found, owned_wants_none}
-use Rattle.std.proofs.Common.{true, ◌≡◌, ◌+◌, ◌-◌, ◌/◌, ◌<◌, ◌≤◌, List, replicate, add-zero, sym, ℕ, Ok, Err, refl, ap, ◌∙◌, subst, arith, length, take, ◌++◌, All}
 use Rattle.hg_model.specs.Verdicts.{standing}
+use Rattle.hg_cells.specs.declared.cell.Cell.TheVariants.{Exclusive}
 use Rattle.hg_detect.specs.Engine.{actor_of, shown_of}
-use Rattle.hg_detect.specs.Shown.{found, given}
-use Rattle.hg_cells.specs.Cells.{IsWithin}
 use Rattle.hg_detect.proofs.Accesses.{asked_from, last_word}
+use Rattle.hg_detect.proofs.Alike.{alike_asked, alike_found, alike_given, alike_planned, owned, owned_asks_none, stays_owned}
 use Rattle.hg_detect.proofs.Passing.{access_passes}
-use Rattle.hg_detect.proofs.Answering.{Keeps, access_answers, refused_answers}
-use Rattle.hg_detect.proofs.Reports.{found_few}
+use Rattle.hg_detect.proofs.Answering.{access_answers, nothing_changed}
 use Rattle.hg_detect.proofs.engine.Engine.access.Goals as goal
 
-pub returns-in_err-prepare : goal.returns-in_err-prepare
-returns-in_err-prepare g c =
-    let words = g.W.Words in
-    let old = c.args.self.now in
-    let p = c.prepare.ensures in
-    let k : Keeps words.cell_of words.may_bring words.is_faithful old c.prepare.new.self =
-    record {
-      state = p.state;
-      graph = p.graph;
-      kept = p.reports;
-      total = p.total;
-      plan = p.plan;
-      sets = p.sets;
-      numbers = p.numbers;
-      lawful = p.lawful;
-      faithful = p.faithful;
-      cells = p.cells;
-    }
-    in
-    let a = c.args.access.now in
-    let passed = access_passes (standing old.state) c.args.named.now c.args.write a c.requires.event c.requires.accepted in
-    let same : c.from_residual.result ≡ c.prepare.result = grind arith in
-    let fails : c.from_residual.result ≡ Err c.in_err-prepare.field-0.0 = grind arith in
-    refused_answers words.cell_of words.may_bring words.is_faithful words.may_refuse old c.prepare.new.self c.args.named.now c.from_residual.result c.in_err-prepare.field-0.0
-    fails k g.met.W.Words.brings_more g.met.W.Words.more_faithful g.met.W.Words.faithful_within c.requires.sound c.requires.lawful
-    (λ h. asked_from words.cell_of (shown_of old) c.args.named.now.event c.args.write a (actor_of old a c.args.write) _ c.from_residual.result c.prepare.result c.prepare.new.self.sets c.requires.event passed.some refl (last_word a c.from.result c.from.ensures passed.some) same (p.asked (length old.graph) (length old.sets.sets) h))
-    (grind arith)
-
-pub overflow_add-self : goal.overflow_add-self
-overflow_add-self g c =
-    let old = c.args.self.now in
-    let a = c.args.access.now in
-    let passed = access_passes (standing old.state) c.args.named.now c.args.write a c.requires.event c.requires.accepted in
-    let few = found_few (c.events-event.result + 1) c.args.write a.t (a.at / 4) c.prepare.new.self.plan.items in
-    let count = c.add_reports.ensures.count ∙ ap (λ xs. length (found (c.events-event.result + 1) c.args.write a.t (a.at / 4) xs)) c.as_slice-2.ensures.value in
-    omega (arith, count, c.prepare.ensures.total, c.requires.sound.total, passed.events, c.in_ok-prepare.ensures.len, c.from.ensures, passed.few)
-
-pub returns : goal.returns
-returns g c =
-    let words = g.W.Words in
-    let laws = g.met.W.Words in
-    let old = c.args.self.now in
-    let mid = c.prepare.new.self in
-    let a = c.args.access.now in
-    let p = c.prepare.ensures in
-    let done = c.in_ok-prepare.ensures in
-    let k : Keeps words.cell_of words.may_bring words.is_faithful old mid =
-    record {
-      state = p.state;
-      graph = p.graph;
-      kept = p.reports;
-      total = p.total;
-      plan = p.plan;
-      sets = p.sets;
-      numbers = p.numbers;
-      lawful = p.lawful;
-      faithful = p.faithful;
-      cells = p.cells;
-    }
-    in
-    let passed = access_passes (standing old.state) c.args.named.now c.args.write a c.requires.event c.requires.accepted in
-    let ok : Ok tt ≡ c.prepare.result = grind arith in
-    let plan = mid.plan.items in
-    let first = a.at / 4 in
-    let slice = c.as_slice.ensures.value in
-    let cells = subst (λ xs. (w : ℕ) → words.cell_of c.set_words.new.words w ≡ given (words.cell_of mid.words) first xs w) slice c.set_words.ensures.cells in
-    let lawful = subst (λ xs. (n m : ℕ) → All (λ x. IsWithin n m x.cell) xs → words.may_bring mid.words n m → words.may_bring c.set_words.new.words n m) slice c.set_words.ensures.lawful in
-    let faithful = subst (λ xs. (n m : ℕ) → All (λ x. IsWithin n m x.cell) xs → words.is_faithful mid.words n m → words.is_faithful c.set_words.new.words n m) slice c.set_words.ensures.faithful in
-    let items = c.add_reports.ensures.items ∙ ap (λ xs. take 65536 (mid.kept.items ++ found (c.events-event.result + 1) c.args.write a.t first xs)) c.as_slice-2.ensures.value in
-    let count = c.add_reports.ensures.count ∙ ap (λ xs. length (found (c.events-event.result + 1) c.args.write a.t first xs)) c.as_slice-2.ensures.value in
-    let ends = last_word a c.from.result c.from.ensures passed.some in
-    access_answers words.cell_of words.may_bring words.is_faithful words.may_refuse old mid _ c.args.named.now c.args.write a (c.events-event.result + 1) c.add_reports.result _ plan
-    c.requires.event passed k laws.brings_more laws.more_faithful laws.faithful_within c.requires.sound c.requires.lawful
-    c.follow-2.ensures refl refl refl ends done.planned done.len cells lawful faithful
-    (ap (λ (x : ℕ). x + 1) c.events-event.ensures) items count refl
-    (λ h. asked_from words.cell_of (shown_of old) c.args.named.now.event c.args.write a (actor_of old a c.args.write) _ (Ok tt) c.prepare.result mid.sets c.requires.event passed.some refl ends ok (p.asked (length old.graph) (length old.sets.sets) h))
-
-pub returns-then-are_owned : goal.returns-then-are_owned
-returns-then-are_owned g c =
+pub returns-then-are_same : goal.returns-then-are_same
+returns-then-are_same g c =
     let words = g.W.Words in
     let laws = g.met.W.Words in
     let old = c.args.self.now in
@@ -102,29 +20,19 @@ returns-then-are_owned g c =
     let first = a.at / 4 in
     let ends = last_word a c.from.result c.from.ensures passed.some in
     let n : ℕ = (a.at + a.len + 3) / 4 - first in
-    let segment = c.present-segment.ensures.value in
-    let within : actor.segment < length old.graph = let lt = c.present-segment.ensures.within in omega (arith, segment) in
-    let owned : (w : ℕ) → first ≤ w → w < first + n → words.cell_of old.words w ≡ Exclusive actor.segment = λ w low high. c.if-are_owned.ensures w low (omega (arith, ends)) ∙ ap Exclusive segment in
-    let plan = replicate n (staying actor.segment) in
-    let none = owned_found (old.state.events + 1) c.args.write a.t first actor.segment n in
-    let k : Keeps words.cell_of words.may_bring words.is_faithful old old =
-    record {
-      state = refl;
-      graph = refl;
-      kept = refl;
-      total = refl;
-      plan = c.requires.sound.plan;
-      sets = c.requires.sound.sets;
-      numbers = same_numbers old.sets;
-      lawful = λ s m h. h;
-      faithful = λ s m h. h;
-      cells = λ s m h w. refl;
-    }
-    in
-    access_answers words.cell_of words.may_bring words.is_faithful words.may_refuse old old _ c.args.named.now c.args.write a (old.state.events + 1) 0 _ plan
-    c.requires.event passed k laws.brings_more laws.more_faithful laws.faithful_within c.requires.sound c.requires.lawful
-    c.follow.ensures refl refl refl refl (owned_are_planned old.graph old.sets.sets actor (words.cell_of old.words) first n within owned) (length-replicate n (staying actor.segment))
-    (owned_given actor.segment (words.cell_of old.words) first n owned) (λ s m each h. h) (λ s m each h. h)
+    let some : 0 < n = let l = passed.some in omega arith in
+    let segment = c.present.ensures.value in
+    let within : actor.segment < length old.graph = let lt = c.present.ensures.within in omega (arith, segment) in
+    let is : c.in-Some.cell ≡ Exclusive actor.segment = c.are_same.ensures.0 c.if-are_same.true ∙ ap Exclusive segment in
+    let alike : (w : ℕ) → first ≤ w → w < first + n → words.cell_of old.words w ≡ Exclusive actor.segment = λ w low high. c.in-Some.ensures.cells w low (omega (arith, ends)) ∙ is in
+    let p = owned actor.segment in
+    let none = alike_found (old.state.events + 1) c.args.write a.t first p n refl in
+    access_answers words.cell_of words.may_bring words.is_faithful words.may_refuse old old _ c.args.named.now c.args.write a (old.state.events + 1) 0 _ (replicate n p)
+    c.requires.event passed (nothing_changed words.cell_of words.may_bring words.is_faithful old c.requires.sound) laws.brings_more laws.more_faithful laws.faithful_within c.requires.sound c.requires.lawful
+    c.follow.ensures refl refl refl refl (alike_planned old.graph old.sets.sets old.sets.sets actor (words.cell_of old.words) (Exclusive actor.segment) p first n (stays_owned old.graph old.sets.sets actor within) alike) (length-replicate n p)
+    (alike_given (words.cell_of old.words) (words.cell_of old.words) p first n alike (λ w out. refl))
+    (λ s m each h. h)
+    (λ s m each h. h)
     refl (sym (ap (λ xs. take 65536 (old.kept.items ++ xs)) none ∙ ap (take 65536) (append-nil old.kept.items) ∙ take_all 65536 old.kept.items c.requires.sound.few)) (sym (ap length none)) (sym (add-zero old.total))
     (λ h. asked_from words.cell_of (shown_of old) c.args.named.now.event c.args.write a actor _ (Ok tt) (Ok tt) old.sets c.requires.event passed.some refl refl refl
-    (subst (λ (sets : List (List ℕ)). AsksBy old.sets sets (Ok tt) old.sets) (sym (owned_wants_none old.graph old.sets.sets actor (words.cell_of old.words) first n owned)) refl))
+    (alike_asked old.graph old.sets old.sets actor (words.cell_of old.words) (Exclusive actor.segment) first n None some (owned_asks_none old.graph old.sets actor) alike))

@@ -1,0 +1,28 @@
+use Rattle.std.proofs.Common.{Ok, subst}
+use Rattle.hg_detect.specs.Accessing.{access_event}
+use Rattle.hg_detect.specs.Memory.{content_of}
+use Rattle.hg_check.specs.Checking.{LeadsTo}
+use Rattle.hg_check.specs.Running.{WasOffered}
+use Rattle.hg_check.proofs.Steps.{counted, leads_on, leads_to_end, reports_grow}
+use Rattle.hg_check.proofs.checker.apply_access.Goals as goal
+
+taken : (c : goal.In-Ok) → WasOffered c.args.detector.now c.offer_access.new.detector (access_event c.args.found.now.is_write c.args.found.now.access) (Ok c.in-Ok.field-0)
+taken c = subst (λ r. WasOffered c.args.detector.now c.offer_access.new.detector (access_event c.args.found.now.is_write c.args.found.now.access) r) c.in-Ok.is c.offer_access.ensures
+
+pub returns-in-Ok-clause-accepted : goal.returns-in-Ok-clause-accepted
+returns-in-Ok-clause-accepted c later last end same h =
+    leads_on c.args.detector.now c.offer_access.new.detector (access_event c.args.found.now.is_write c.args.found.now.access) c.in-Ok.field-0 c.args.line later last end (taken c) h
+
+pub returns-in-Ok-clause-counted : goal.returns-in-Ok-clause-counted
+returns-in-Ok-clause-counted c = counted c.args.detector.now c.offer_access.new.detector (access_event c.args.found.now.is_write c.args.found.now.access) c.offer_access.result c.offer_access.ensures
+
+pub returns-in-Ok-clause-reports : goal.returns-in-Ok-clause-reports
+returns-in-Ok-clause-reports c = reports_grow c.args.detector.now c.offer_access.new.detector (access_event c.args.found.now.is_write c.args.found.now.access) c.in-Ok.field-0 (taken c)
+
+pub returns-in-Err-clause-ended : goal.returns-in-Err-clause-ended
+returns-in-Err-clause-ended c later end h =
+    leads_to_end c.args.detector.now c.offer_access.new.detector (access_event c.args.found.now.is_write c.args.found.now.access) c.args.line c.in-Err.cause (λ t d. LeadsTo later t d (content_of c.offer_access.new.detector) end) c.stop.result end
+    (subst (λ r. WasOffered c.args.detector.now c.offer_access.new.detector (access_event c.args.found.now.is_write c.args.found.now.access) r) c.in-Err.is c.offer_access.ensures) c.stop.ensures h
+
+pub returns-in-Err-clause-counted : goal.returns-in-Err-clause-counted
+returns-in-Err-clause-counted c = counted c.args.detector.now c.offer_access.new.detector (access_event c.args.found.now.is_write c.args.found.now.access) c.offer_access.result c.offer_access.ensures
