@@ -1,28 +1,51 @@
-# make run      builds what is missing, and checks a trace that has a race
-# make build    leaves the program at build/hgd
+# make try      the program on an example in a minute or two, without its proof
+# make run      proves and builds the program, and checks a trace that has a race
+# make build    leaves the proved program at build/hgd
+# make quick    the tests that need no proof, on the built program, in under two minutes
+# make scenarios  proves and builds the program that runs tests/scenarios, and runs them
 # make test     the gate: proves all crates from nothing, and tries what no proof says
+# make mutants  tries each wrong program that the gate leaves out (tools/mutants)
+# make install  copies the program to PREFIX/bin (PREFIX is /usr/local, DESTDIR goes before it)
 # make bench    speed and memory beside the yardstick (needs rustc)
 # make picture  draws docs/graph-example.svg anew (needs Graphviz)
 
-# What the program is made of; what `rt` made is no source.
-SOURCES := crates.txt $(shell find crates -type d \( -name out -o -name must-fail \) -prune -o -type f -print)
+PREFIX ?= /usr/local
 
-.PHONY: run build test bench picture clean
+# What the program is made of; what `rt` made is no source.
+SOURCES := crates.txt $(shell find crates -type d \( -name out -o -name must-fail -o -name mutants \) -prune -o -type f -print)
+
+.PHONY: try run build quick scenarios test mutants install bench picture clean
+
+try:
+	@echo 'hgd check < examples/unordered-writes.trace, built without its proof:'
+	@cd crates/hgd && rt try -- check < ../../examples/unordered-writes.trace
+	@echo 'This program is not proved. make run proves it, and leaves it at build/hgd.'
 
 run: build/hgd
 	build/hgd check < examples/unordered-writes.trace
 
 build: build/hgd
 
-# `rt run` proves and builds what is not built yet, and then runs the program once.
 build/hgd: $(SOURCES)
-	cd crates/hgd && rt run -- --version < /dev/null > /dev/null
-	mkdir -p build
+	tools/build hgd
 	cp crates/hgd/out/hgd $@.new
 	mv $@.new $@
 
+quick: build/hgd
+	tests/quick build/hgd
+
+scenarios:
+	tools/build hg_scenarios
+	tests/run-scenarios crates/hg_scenarios/out/hg_scenarios
+
 test:
 	tests/run-all
+
+mutants:
+	tools/mutants --all
+
+install: build/hgd
+	install -D -m 755 build/hgd $(DESTDIR)$(PREFIX)/bin/hgd
 
 bench: build/hgd
 	bench/compare

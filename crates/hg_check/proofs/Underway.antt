@@ -1,7 +1,10 @@
 -- A run between two reads.
-use Rattle.std.proofs.Common.{◌≡◌, ℕ, suc, ◌+◌, ◌*◌, ◌≤◌, Bool, true, false, List, [], ◌∷◌, ◌++◌, length, drop, Option, Some, None, refl, sym, ap, subst, ◌∙◌, arith}
-use Rattle.std.proofs.lemmas.List.{append-nil, append_assoc}
-use Rattle.std.specs.Io.KnownBytes.{IsAtEnd}
+use Rattle.std.proofs.Common.{◌≡◌, ℕ, suc, ◌+◌, ◌*◌, ◌≤◌, Bool, true, false, List, [], ◌∷◌, ◌++◌, length, drop, take, refl, sym, ap, subst, ◌∙◌, inl, inr, arith}
+use Rattle.std.proofs.lemmas.List.{append-nil, append_assoc, length-take}
+use Rattle.hg_streams.specs.declared.call.ReadCall.{ReadCall}
+use Rattle.std.specs.declared.io.ErrorKind.TheVariants.{Interrupted}
+use Rattle.hg_streams.specs.declared.call.WriteCall.{WriteCall}
+use Rattle.hg_streams.specs.Calls.{given}
 use Rattle.hg_model.specs.declared.report.Report.{Report}
 use Rattle.hg_model.specs.Change.{empty_content}
 use Rattle.hg_model.specs.Contents.{Content}
@@ -12,10 +15,11 @@ use Rattle.hg_wire.specs.Reports.{report_line}
 use Rattle.hg_wire.specs.Streams.{Pending, at_start, readings, readings_from}
 use Rattle.hg_check.specs.declared.checker.Ending.{Ending}
 use Rattle.hg_sets.specs.Interning.{first_table}
-use Rattle.hg_check.specs.Checking.{LeadsTo}
-use Rattle.hg_check.specs.Printing.{IsDue, Leads, line_text, live_text, reports_text}
+use Rattle.hg_check.specs.Checking.{ChecksTo, LeadsTo}
+use Rattle.hg_check.specs.Printing.{IsDue, ReadsTo, line_text, live_text, reports_text}
 use Rattle.hg_detect.specs.Memory.{IsWhole, content_of}
-use Rattle.hg_check.specs.Running.{Advances, LeadsFrom, ReportsGrow}
+use Rattle.hg_check.specs.Running.{Advances, EndsIn, HasRead, MeetsEnd, Reaches, ReportsGrow, Stopped as StoppedAt}
+use Rattle.hg_check.proofs.Pieces.{reports_stay}
 use Rattle.hg_check.proofs.Printed.{due_more}
 
 reports_text_on : (k : ℕ) (xs ys : List Report) → reports_text k (xs ++ ys) ≡ reports_text k xs ++ reports_text (k + length xs) ys
@@ -40,19 +44,19 @@ reports_text_grows old new from is grow =
     ∙ (sym (reports_text_on 1 old.reports grow.0) ∙ ap (λ xs. reports_text 1 xs) (sym grow.1)))
 
 -- the new reports are to come
-pub new_reports_due : (first now : Option (List ℕ)) (held : List ℕ) (old new : Content) (from : ℕ) → from ≡ length old.reports → ReportsGrow old new
+pub new_reports_due : (first now : List WriteCall) (held : List ℕ) (old new : Content) (from : ℕ) → from ≡ length old.reports → ReportsGrow old new
     → IsDue first now held [] (reports_text 1 old.reports) → IsDue first now held (reports_text (from + 1) (drop from new.reports) ++ []) (reports_text 1 new.reports)
 new_reports_due first now held old new from is grow p =
     subst (λ t. IsDue first now held (reports_text (from + 1) (drop from new.reports) ++ []) t) (reports_text_grows old new from is grow)
     (due_more first now held (reports_text 1 old.reports) (reports_text (from + 1) (drop from new.reports) ++ []) p)
 
 -- What holds between two reads.
-pub record IsUnderway (known left first now : Option (List ℕ)) (before held : List ℕ) (live : Bool) (p : Pending) (d : Detector PagedWords) (printed reads size : ℕ) : Type 0 where
-  pub leads : LeadsFrom known left p d
+pub record IsUnderway (reads_first reads_now : List ReadCall) (first now : List WriteCall) (before held : List ℕ) (live : Bool) (p : Pending) (d : Detector PagedWords) (printed reads size : ℕ) : Type 0 where
+  pub leads : HasRead reads_first reads_now p d
   pub lines : p.lines ≤ 65536 * reads
   pub events : (content_of d).last 0 ≤ 65536 * reads
   pub whole : IsWhole d
-  pub due : (start : Option (List ℕ)) → IsDue start first before [] [] → IsDue start now held [] (live_text live (content_of d))
+  pub due : (start : List WriteCall) → IsDue start first before [] [] → IsDue start now held [] (live_text live (content_of d))
   pub count : printed ≡ length (content_of d).reports
   pub full : size ≡ 65536
 
@@ -60,14 +64,18 @@ nothing_live : (live : Bool) → [] ≡ live_text live empty_content
 nothing_live true = refl
 nothing_live false = refl
 
-leads_at_first : (known : Option (List ℕ)) (p : Pending) (d : Detector PagedWords) → p ≡ at_start → content_of d ≡ empty_content → d.sets ≡ first_table 262144 → LeadsFrom known known p d
-leads_at_first None p d start empty sets = tt
-leads_at_first (Some all) p d start empty sets = λ last end h.
-    subst (λ c. LeadsTo (readings all) (first_table 262144) c last end) empty
-    (subst (λ (t : Table). LeadsTo (readings all) t (content_of d) last end) sets
-    (subst (λ (q : Pending). LeadsTo (readings_from q all) d.sets (content_of d) last end) start h))
+leads_at_first : (known : List ReadCall) (p : Pending) (d : Detector PagedWords) → p ≡ at_start → content_of d ≡ empty_content → d.sets ≡ first_table 262144 → HasRead known known p d
+leads_at_first known p d start empty sets = record {
+  later = [];
+  since = refl;
+  intact = refl;
+  leads = λ more last end h.
+      subst (λ c. LeadsTo (readings more) (first_table 262144) c last end) empty
+      (subst (λ (t : Table). LeadsTo (readings more) t (content_of d) last end) sets
+      (subst (λ (q : Pending). LeadsTo (readings_from q more) d.sets (content_of d) last end) start h));
+}
 
-pub underway_first : (known first : Option (List ℕ)) (held : List ℕ) (live : Bool) (p : Pending) (d : Detector PagedWords) (size : ℕ)
+pub underway_first : (known : List ReadCall) (first : List WriteCall) (held : List ℕ) (live : Bool) (p : Pending) (d : Detector PagedWords) (size : ℕ)
     → IsWhole d → content_of d ≡ empty_content → d.sets ≡ first_table 262144 → p ≡ at_start → size ≡ 65536 → IsUnderway known known first first held held live p d 0 0 size
 underway_first known first held live p d size whole empty sets start full = record {
   leads = leads_at_first known p d start empty sets;
@@ -79,9 +87,9 @@ underway_first known first held live p d size whole empty sets start full = reco
   full = full;
 }
 
-pub underway_on : (known left later first now new : Option (List ℕ)) (before held kept : List ℕ) (live : Bool) (p q : Pending) (d e : Detector PagedWords) (printed count reads size resized : ℕ)
+pub underway_on : (known left later : List ReadCall) (first now new : List WriteCall) (before held kept : List ℕ) (live : Bool) (p q : Pending) (d e : Detector PagedWords) (printed count reads size resized : ℕ)
     → IsUnderway known left first now before held live p d printed reads size → Advances left later p d q e size → resized ≡ size
-    → ((start : Option (List ℕ)) (c : Content) → printed ≡ length c.reports → ReportsGrow c (content_of e) → IsDue start now held [] (live_text live c) → IsDue start new kept [] (live_text live (content_of e)))
+    → ((start : List WriteCall) (c : Content) → printed ≡ length c.reports → ReportsGrow c (content_of e) → IsDue start now held [] (live_text live c) → IsDue start new kept [] (live_text live (content_of e)))
     → count ≡ length (content_of e).reports
     → IsUnderway known later first new before kept live q e count (reads + 1) resized
 underway_on known left later first now new before held kept live p q d e printed count reads size resized u a same print counted = record {
@@ -95,8 +103,74 @@ underway_on known left later first now new before held kept live p q d e printed
 }
 
 -- at the end of the input, its last line ends the run
-pub leads_at_end : (known left : Option (List ℕ)) (p : Pending) (d : Detector PagedWords) (c : Content) (end : Ending)
-    → LeadsFrom known left p d → IsAtEnd left → LeadsTo (readings_from p []) d.sets (content_of d) c end → Leads known c end
-leads_at_end None left p d c end h e l = tt
-leads_at_end (Some all) None p d c end h e l = absurd h
-leads_at_end (Some all) (Some rest) p d c end h e l = h c end (subst (λ t. LeadsTo (readings_from p t) d.sets (content_of d) c end) (sym e) l)
+pub leads_at_end : (first reads now : List ReadCall) (p : Pending) (d : Detector PagedWords) (c : Content) (end : Ending)
+    → HasRead first reads p d → now ≡ ReadCall.Gave [] ∷ reads → LeadsTo (readings_from p []) d.sets (content_of d) c end → ReadsTo first now c end
+leads_at_end first reads now p d c end h met l = record {
+  later = ReadCall.Gave [] ∷ h.later;
+  since = met ∙ ap (λ t. ReadCall.Gave [] ∷ t) h.since;
+  whole = h.intact;
+  leads = inl (h.later, refl, subst (λ t. ChecksTo t c end) (append-nil (given h.later)) (h.leads [] c end l));
+}
+
+-- a read that was interrupted
+pub read_nothing : (first reads : List ReadCall) (p : Pending) (d : Detector PagedWords) → HasRead first reads p d → HasRead first (ReadCall.Erred Interrupted ∷ reads) p d
+read_nothing first reads p d h = record {
+  later = ReadCall.Erred Interrupted ∷ h.later;
+  since = ap (λ t. ReadCall.Erred Interrupted ∷ t) h.since;
+  intact = omega (arith, h.intact);
+  leads = h.leads;
+}
+
+-- a read that gave a piece, all of whose events were accepted
+pub read_piece : (first reads : List ReadCall) (p q : Pending) (d e : Detector PagedWords) (piece : List ℕ) → Reaches p d piece q e [] → HasRead first reads p d → HasRead first (ReadCall.Gave piece ∷ reads) q e
+read_piece first reads p q d e piece r h = record {
+  later = ReadCall.Gave piece ∷ h.later;
+  since = ap (λ t. ReadCall.Gave piece ∷ t) h.since;
+  intact = h.intact;
+  leads = λ more last end l. subst (λ t. ChecksTo t last end) (sym (append_assoc (given h.later) piece more)) (h.leads (piece ++ more) last end (r.leads more last end l));
+}
+
+-- a read that gave a piece with the line that ends the run
+pub read_stop : (first reads : List ReadCall) (p : Pending) (d e : Detector PagedWords) (piece : List ℕ) (end : Ending) → EndsIn p d piece e end → HasRead first reads p d → ReadsTo first (ReadCall.Gave piece ∷ reads) (content_of e) end
+read_stop first reads p d e piece end r h = record {
+  later = ReadCall.Gave piece ∷ h.later;
+  since = ap (λ t. ReadCall.Gave piece ∷ t) h.since;
+  whole = h.intact;
+  leads = inr (λ more. subst (λ t. ChecksTo t (content_of e) end) (sym (append_assoc (given h.later) piece more)) (h.leads (piece ++ more) (content_of e) end (r.leads more)));
+}
+
+-- a read that was interrupted changes nothing
+pub advances_nothing : (reads later : List ReadCall) (p : Pending) (d : Detector PagedWords) (room : ℕ) → later ≡ ReadCall.Erred Interrupted ∷ reads → IsWhole d → Advances reads later p d p d room
+advances_nothing reads later p d room is whole = record {
+  leads = λ first h. subst (λ t. HasRead first t p d) (sym is) (read_nothing first reads p d h);
+  lines = omega arith;
+  events = omega arith;
+  reports = reports_stay (content_of d);
+  whole = whole;
+}
+
+pub advances_by_piece : (reads later : List ReadCall) (p q : Pending) (d e : Detector PagedWords) (buffer : List ℕ) (n room : ℕ) → later ≡ ReadCall.Gave (take n buffer) ∷ reads → Reaches p d (take n buffer) q e [] → length buffer ≡ room
+    → Advances reads later p d q e room
+advances_by_piece reads later p q d e buffer n room is r size = record {
+  leads = λ first h. subst (λ t. HasRead first t q e) (sym is) (read_piece first reads p q d e (take n buffer) r h);
+  lines = omega (arith, r.lines, length-take n buffer, size);
+  events = omega (arith, r.events, length-take n buffer, size);
+  reports = r.reports;
+  whole = r.whole;
+}
+
+pub stopped_by_piece : (reads later : List ReadCall) (p : Pending) (d e : Detector PagedWords) (piece : List ℕ) (end : Ending) → later ≡ ReadCall.Gave piece ∷ reads → EndsIn p d piece e end → StoppedAt reads later p d e end
+stopped_by_piece reads later p d e piece end is r = record {
+  leads = λ first h. subst (λ t. ReadsTo first t (content_of e) end) (sym is) (read_stop first reads p d e piece end r h);
+  reports = r.reports;
+}
+
+pub met_reports : (reads later : List ReadCall) (p q : Pending) (d e : Detector PagedWords) → MeetsEnd reads later p d q e → ReportsGrow (content_of d) (content_of e)
+met_reports reads later p q d e m = subst (λ (t : Detector PagedWords). ReportsGrow (content_of d) (content_of t)) (sym m.detector) (reports_stay (content_of d))
+
+pub leads_at_met : (first reads now : List ReadCall) (p q : Pending) (d e : Detector PagedWords) (c : Content) (end : Ending)
+    → HasRead first reads p d → MeetsEnd reads now p d q e → LeadsTo (readings_from q []) e.sets (content_of e) c end → ReadsTo first now c end
+leads_at_met first reads now p q d e c end h m l =
+    leads_at_end first reads now p d c end h m.met
+    (subst (λ (t : Detector PagedWords). LeadsTo (readings_from p []) t.sets (content_of t) c end) m.detector
+    (subst (λ (t : Pending). LeadsTo (readings_from t []) e.sets (content_of e) c end) m.pending l))

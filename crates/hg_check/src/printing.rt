@@ -1,17 +1,21 @@
 //! What a run prints: reports, segments and its last line.
 
 ghost use Rattle.std.specs.Prelude.{◌≡◌, ℕ, ◌+◌, ◌<◌, ◌++◌, Option, List, true, length, drop, IfErr, OnErr, OnOk};
-ghost use Rattle.hg_check.specs.Printing.{HoldsNext, IsDue, last_line, line_text, reports_text, segments_text, stop_text};
+ghost use Rattle.hg_check.specs.Printing.{HoldsNext, IsDue, TookFront, last_line, line_text, reports_text, segments_text, stop_text};
 ghost use Rattle.hg_detect.specs.Memory.{content_of};
-ghost use Rattle.hg_check.specs.Streaming.{HasCause};
+ghost use Rattle.hg_streams.specs.declared.call.WriteCall.{WriteCall};
+ghost use Rattle.hg_streams.specs.Calls.{failed_writes};
+ghost use Rattle.hg_check.specs.Streaming.{HasWriteCause};
+ghost use Rattle.hg_streams.specs.Told.{told};
 ghost use Rattle.hg_wire.specs.Reports.{report_line, segment_line};
 
 use crate::checker::Ending;
-use crate::streams::{Watched, write_out};
+use crate::streams::write_out;
 use hg_detect::memory::MemoryDetector;
 use hg_model::report::Report;
 use hg_model::segment::Segment;
 use hg_model::verdict::Refusal;
+use hg_streams::output::Output;
 use hg_wire::lines::{put_bad_line, put_fault_line, put_refused_line, put_segment_line};
 use hg_wire::report::{put_end_line, put_report_line};
 use std::alloc::{AllocError, Global};
@@ -65,12 +69,12 @@ fn hold_segment(number: u64, segment: &Segment, held: &mut Vec<u8>) -> Result<()
 }
 
 /// Writes what is held, where it is much.
-pub fn write_large<W: Write>(held: &mut Vec<u8>, output: &mut Watched<W>) -> Result<(), Refusal>
-    ensures printed { (first : Option (List ℕ)) (rest goal : List ℕ) → IsDue first (W.contents output.old.stream) held.old.items rest goal
-        → OnOk result (IsDue first (W.contents output.new.stream) held.new.items rest goal) }
+pub fn write_large<W: Write>(held: &mut Vec<u8>, output: &mut Output<W>) -> Result<(), Refusal>
+    ensures printed { (first : List WriteCall) (rest goal : List ℕ) → IsDue first output.old.calls held.old.items rest goal
+        → OnOk result (IsDue first output.new.calls held.new.items rest goal) }
+    ensures front { (first : List WriteCall) (rest goal : List ℕ) → IsDue first output.old.calls held.old.items rest goal → OnErr result (TookFront first output.new.calls goal) }
     ensures cause { IfErr result (λ r. r ≡ Refusal.DeviceFault) }
-    ensures fault { OnErr result (output.new.failed ≡ true) }
-    ensures lasting { output.old.failed ≡ true → output.new.failed ≡ true }
+    ensures fault { failed_writes output.new.calls ≡ told result + failed_writes output.old.calls }
 {
     if held.len() >= LARGE {
         write_out(held, output)
@@ -85,13 +89,16 @@ pub fn print_reports<W: Write>(
     detector: &MemoryDetector,
     from: usize,
     held: &mut Vec<u8>,
-    output: &mut Watched<W>,
+    output: &mut Output<W>,
 ) -> Result<(), Refusal>
-    ensures printed { (first : Option (List ℕ)) (rest goal : List ℕ)
-        → IsDue first (W.contents output.old.stream) held.old.items (reports_text (from + 1) (drop from (content_of detector.now).reports) ++ rest) goal
-        → OnOk result (IsDue first (W.contents output.new.stream) held.new.items rest goal) }
-    ensures cause { IfErr result (λ r. HasCause output.new.failed output.new.failed r) }
-    ensures lasting { output.old.failed ≡ true → output.new.failed ≡ true }
+    ensures printed { (first : List WriteCall) (rest goal : List ℕ)
+        → IsDue first output.old.calls held.old.items (reports_text (from + 1) (drop from (content_of detector.now).reports) ++ rest) goal
+        → OnOk result (IsDue first output.new.calls held.new.items rest goal) }
+    ensures front { (first : List WriteCall) (rest goal : List ℕ)
+        → IsDue first output.old.calls held.old.items (reports_text (from + 1) (drop from (content_of detector.now).reports) ++ rest) goal
+        → OnErr result (TookFront first output.new.calls goal) }
+    ensures cause { IfErr result (λ r. HasWriteCause output.old.calls output.new.calls r) }
+    ensures fault { failed_writes output.new.calls ≡ told result + failed_writes output.old.calls }
 {
     for index in from..detector.kept() {
         hold_kept_report(alloc, detector, index, held)?;
@@ -104,13 +111,13 @@ pub fn print_reports<W: Write>(
 pub fn print_segments<W: Write>(
     segments: &[Segment],
     held: &mut Vec<u8>,
-    output: &mut Watched<W>,
+    output: &mut Output<W>,
 ) -> Result<(), Refusal>
-    ensures printed { (first : Option (List ℕ)) (rest goal : List ℕ)
-        → IsDue first (W.contents output.old.stream) held.old.items (segments_text 0 segments.now ++ rest) goal
-        → OnOk result (IsDue first (W.contents output.new.stream) held.new.items rest goal) }
-    ensures cause { IfErr result (λ r. HasCause output.new.failed output.new.failed r) }
-    ensures lasting { output.old.failed ≡ true → output.new.failed ≡ true }
+    ensures printed { (first : List WriteCall) (rest goal : List ℕ)
+        → IsDue first output.old.calls held.old.items (segments_text 0 segments.now ++ rest) goal
+        → OnOk result (IsDue first output.new.calls held.new.items rest goal) }
+    ensures cause { IfErr result (λ r. HasWriteCause output.old.calls output.new.calls r) }
+    ensures fault { failed_writes output.new.calls ≡ told result + failed_writes output.old.calls }
 {
     let mut number = 0;
     for segment in segments {
@@ -132,7 +139,7 @@ pub fn hold_last_line(
 {
     let line = match end {
         Ending::Ended => put_end_line(
-            detector.last(0),
+            detector.state().events(),
             detector.total(),
             detector.segments().len() as u64,
             held,

@@ -1,23 +1,27 @@
 //! A run over a whole trace text.
 
-ghost use Rattle.std.specs.Prelude.{◌≡◌, ℕ, ◌+◌, ◌<◌, ◌^◌, Option, List, [], Ok, Some, None, true, length, IfOk, IfErr, OnOk};
-ghost use Rattle.std.specs.Io.KnownBytes.{IsAtEnd};
+ghost use Rattle.std.specs.Prelude.{◌≡◌, ◌⊎◌, ℕ, ◌+◌, ◌<◌, ◌^◌, List, [], Ok, length, IfOk, IfErr, OnErr, OnOk};
 ghost use Rattle.hg_model.specs.Change.{empty_content};
 ghost use Rattle.hg_model.specs.Contents.{Content};
 ghost use Rattle.hg_wire.specs.Streams.{at_start, readings_from};
 ghost use Rattle.hg_check.specs.declared.checker.Ending.{Ending as EndingOf};
 ghost use Rattle.hg_sets.specs.Interning.{first_table};
 ghost use Rattle.hg_check.specs.Checking.{LeadsTo};
-ghost use Rattle.hg_check.specs.Printing.{IsDue, Leads, live_text};
+ghost use Rattle.hg_check.specs.Printing.{IsDue, ReadsTo, TookFront, live_text};
 ghost use Rattle.hg_detect.specs.Memory.{IsWhole, content_of};
-ghost use Rattle.hg_check.specs.Running.{Advances, ReportsGrow, Stopped as StoppedAt};
-ghost use Rattle.hg_check.specs.Streaming.{HasCause};
+ghost use Rattle.hg_check.specs.Running.{Advances, MeetsEnd, ReportsGrow, Stopped as StoppedAt};
+ghost use Rattle.hg_streams.specs.declared.call.WriteCall.{WriteCall};
+ghost use Rattle.hg_streams.specs.Calls.{failed_reads, failed_writes};
+ghost use Rattle.hg_streams.specs.declared.call.ReadCall.{ReadCall};
+ghost use Rattle.hg_check.specs.Streaming.{HasCause, HasWriteCause};
+ghost use Rattle.hg_streams.specs.Told.{told};
 
 use crate::checker::{Ending, apply, push};
 use crate::printing::{out_of_memory, print_reports};
-use crate::streams::{Watched, read_once};
 use hg_detect::memory::MemoryDetector;
 use hg_model::verdict::Refusal;
+use hg_streams::input::Input;
+use hg_streams::output::Output;
 use hg_wire::reader::EventReader;
 use std::alloc::Global;
 use std::io::{Read, Write};
@@ -57,7 +61,7 @@ pub fn piece_buffer(alloc: Global) -> Result<Vec<u8>, Refusal>
 
 /// Reads once, and offers the events of what came.
 fn advance<R: Read>(
-    input: &mut Watched<R>,
+    input: &mut Input<R>,
     buffer: &mut [u8],
     reader: &mut EventReader,
     detector: &mut MemoryDetector,
@@ -67,14 +71,16 @@ fn advance<R: Read>(
     requires lines { reader.old.lines + length buffer.old < 2 ^ 64 }
     requires events { (content_of detector.old).last 0 + length buffer.old < 2 ^ 64 }
     ensures underway { result ≡ Ok Progress.Underway
-        → Advances (R.remaining input.old.stream) (R.remaining input.new.stream) reader.old detector.old reader.new detector.new (length buffer.old) }
+        → Advances input.old.calls input.new.calls reader.old detector.old reader.new detector.new (length buffer.old) }
     ensures at_end { result ≡ Ok Progress.AtEnd
-        → Advances (R.remaining input.old.stream) (R.remaining input.new.stream) reader.old detector.old reader.new detector.new 0 × IsAtEnd (R.remaining input.new.stream) }
-    ensures stopped { (end : EndingOf) → result ≡ Ok (Progress.Stopped end) → StoppedAt (R.remaining input.old.stream) reader.old detector.old detector.new end }
+        → MeetsEnd input.old.calls input.new.calls reader.old detector.old reader.new detector.new }
+    ensures stopped { (end : EndingOf) → result ≡ Ok (Progress.Stopped end) → StoppedAt input.old.calls input.new.calls reader.old detector.old detector.new end }
     ensures size { length buffer.new ≡ length buffer.old }
-    ensures cause { IfErr result (λ r. HasCause input.new.failed input.new.failed r) }
+    ensures cause { IfErr result (λ r. (r ≡ Refusal.OutOfMemory) ⊎ (r ≡ Refusal.DeviceFault)) }
+    ensures fault { failed_reads input.new.calls ≡ told result + failed_reads input.old.calls }
+    ensures counted { length input.new.calls ≡ 1 + length input.old.calls }
 {
-    let Some(count) = read_once(input, buffer)? else {
+    let Some(count) = input.read(buffer)? else {
         return Ok(Progress::Underway);
     };
     if count == 0 {
@@ -111,14 +117,17 @@ fn print_new<W: Write>(
     detector: &MemoryDetector,
     printed: &mut usize,
     held: &mut Vec<u8>,
-    output: &mut Watched<W>,
+    output: &mut Output<W>,
 ) -> Result<(), Refusal>
-    ensures printed { (first : Option (List ℕ)) (c : Content) → printed.old ≡ length c.reports → ReportsGrow c (content_of detector.now)
-        → IsDue first (W.contents output.old.stream) held.old.items [] (live_text live c)
-        → OnOk result (IsDue first (W.contents output.new.stream) held.new.items [] (live_text live (content_of detector.now))) }
+    ensures printed { (first : List WriteCall) (c : Content) → printed.old ≡ length c.reports → ReportsGrow c (content_of detector.now)
+        → IsDue first output.old.calls held.old.items [] (live_text live c)
+        → OnOk result (IsDue first output.new.calls held.new.items [] (live_text live (content_of detector.now))) }
+    ensures front { (first : List WriteCall) (c : Content) → printed.old ≡ length c.reports → ReportsGrow c (content_of detector.now)
+        → IsDue first output.old.calls held.old.items [] (live_text live c)
+        → OnErr result (TookFront first output.new.calls (live_text live (content_of detector.now))) }
     ensures count { OnOk result (printed.new ≡ length (content_of detector.now).reports) }
-    ensures cause { IfErr result (λ r. HasCause output.new.failed output.new.failed r) }
-    ensures lasting { output.old.failed ≡ true → output.new.failed ≡ true }
+    ensures cause { IfErr result (λ r. HasWriteCause output.old.calls output.new.calls r) }
+    ensures fault { failed_writes output.new.calls ≡ told result + failed_writes output.old.calls }
 {
     let from = *printed;
     *printed = detector.kept();
@@ -133,18 +142,18 @@ fn print_new<W: Write>(
 pub fn run<R: Read, W: Write>(
     alloc: Global,
     detector: &mut MemoryDetector,
-    input: &mut Watched<R>,
+    input: &mut Input<R>,
     live: bool,
     held: &mut Vec<u8>,
-    output: &mut Watched<W>,
+    output: &mut Output<W>,
 ) -> Result<Ending, Refusal>
     requires whole { IsWhole detector.old }
     requires start { content_of detector.old ≡ empty_content }
     requires sets { detector.old.sets ≡ first_table 262144 }
-    ensures ends { IfOk result (λ end. Leads (R.remaining input.old.stream) (content_of detector.new) end) }
-    ensures printed { (first : Option (List ℕ)) → IsDue first (W.contents output.old.stream) held.old.items [] []
-        → OnOk result (IsDue first (W.contents output.new.stream) held.new.items [] (live_text live (content_of detector.new))) }
-    ensures cause { IfErr result (λ r. HasCause input.new.failed output.new.failed r) }
+    ensures ends { IfOk result (λ end. ReadsTo input.old.calls input.new.calls (content_of detector.new) end) }
+    ensures printed { (first : List WriteCall) → IsDue first output.old.calls held.old.items [] []
+        → OnOk result (IsDue first output.new.calls held.new.items [] (live_text live (content_of detector.new))) }
+    ensures cause { IfErr result (λ r. HasCause input.old.calls input.new.calls output.old.calls output.new.calls r) }
 {
     let mut reader = reader_at_start(alloc)?;
     let mut buffer = piece_buffer(alloc)?;
@@ -164,6 +173,5 @@ pub fn run<R: Read, W: Write>(
             }
         }
     }
-    input.failed = true;
     Err(Refusal::DeviceFault)
 }

@@ -2,7 +2,8 @@
 use Rattle.std.proofs.Common.{◌≡◌, ◌⊎◌, ℕ, suc, ◌+◌, ◌%◌, ◌<◌, Bool, true, false, cond, nat_eq, List, [], ◌++◌, length, Option, Some, None, Result, Ok, Err, refl, sym, ap, ◌∙◌, subst, inl, inr, ⊎_elim, arith, if◌then◌else◌}
 use Rattle.std.proofs.lemmas.Bool.{lt-leb}
 use Rattle.std.proofs.lemmas.List.{append-nil, append_assoc}
-use Rattle.std.specs.Io.KnownBytes.{Appends}
+use Rattle.hg_streams.specs.declared.call.WriteCall.{WriteCall}
+use Rattle.hg_check.specs.Printing.{Took}
 use Rattle.std.specs.Option.{option_and_then}
 use Rattle.hg_model.specs.declared.event.Event.{Event}
 use Rattle.hg_model.specs.declared.event.Named.{Named}
@@ -22,9 +23,9 @@ use Rattle.hg_detect.specs.declared.detector.Detector.{Detector}
 use Rattle.hg_detect.specs.declared.paged.PagedWords.{PagedWords}
 use Rattle.hg_disk.specs.declared.disk.Disk as disk
 use Rattle.hg_store.specs.declared.devices.Devices.{Devices}
-use Rattle.hg_store.specs.Images.{failures_of}
 use Rattle.hg_store.specs.Offers.{ByVerdict, if_accepted}
 use Rattle.hg_store.specs.Shown.{Shown}
+use Rattle.hg_store.specs.Store.{Backs}
 use Rattle.hg_detect.specs.Memory.{content_of}
 use Rattle.hg_wire.specs.declared.line.LineFault.{LineFault}
 use Rattle.hg_wire.specs.declared.reader.Reading.{Reading}
@@ -32,7 +33,8 @@ use Rattle.hg_check.specs.declared.checker.Ending.{Ending}
 use Rattle.hg_check.specs.declared.checker.Ending.TheVariants.{Refused, Bad}
 use Rattle.hg_commands.specs.declared.feeding.Fed.{Fed}
 use Rattle.hg_commands.specs.Feeding.{Answers, FeedsTo, IsOffered, ack_text, acks_text, sent}
-use Rattle.hg_commands.specs.FeedRunning.{EndsAt, GoesOn, IsPrinted, IsReady, Passes, Place, WasCounted, WasSent, content_at, place, table_at}
+use Rattle.hg_commands.specs.Storing.{failed_calls}
+use Rattle.hg_commands.specs.FeedRunning.{EndsAt, GoesOn, IsBacked, IsPrinted, IsReady, Passes, Place, WasCounted, WasSent, content_at, place, table_at}
 use Rattle.hg_check.specs.Running.{Stops}
 use Rattle.hg_check.proofs.Printed.{appends_on}
 
@@ -89,7 +91,10 @@ record IsAfter {D : Type 0} (old new : Place D) (n : Named) : Type 0 where
   accepted : new.fed.accepted ≡ old.fed.accepted + 1
 
 module _ {D : Type 0} (g : disk.Ghosts D) where
-  is_after : (s m t : Shown D) (f i j : Fed) (e : Event) (o p : Option (List ℕ)) → IsReady s f → WasSent g s m f i e (Ok answer.Accepted) → WasCounted g (place m i o) (place t j p)
+  backed_by : (s m : Shown D) → ((d : Content) → Backs g s d → Backs g m d) → IsBacked g s → IsBacked g m
+  backed_by s m backs h = λ honest. ((h honest).0, backs (h honest).0 (h honest).1)
+
+  is_after : (s m t : Shown D) (f i j : Fed) (e : Event) (o p : List WriteCall) → IsReady s f → WasSent g s m f i e (Ok answer.Accepted) → WasCounted g (place m i o) (place t j p)
       → IsAfter (place s f o) (place t j p) (sent f.source f.number e)
   is_after s m t f i j e o p ready was counted =
       let c = content_of s.detector in
@@ -104,31 +109,31 @@ module _ {D : Type 0} (g : disk.Ghosts D) where
         accepted = ap (λ (x : Fed). x.accepted) counted.fed ∙ ap (λ (x : Fed). x.accepted + 1) was.fed;
       }
 
-  prints_on : (s m t : Shown D) (f i j : Fed) (e : Event) (o p : Option (List ℕ)) → WasSent g s m f i e (Ok answer.Accepted) → WasCounted g (place m i o) (place t j p) → IsAfter (place s f o) (place t j p) (sent f.source f.number e)
-      → (first : Option (List ℕ)) (front : List ℕ) (events : ℕ) → IsPrinted first front events (place s f o) → IsPrinted first front events (place t j p)
+  prints_on : (s m t : Shown D) (f i j : Fed) (e : Event) (o p : List WriteCall) → WasSent g s m f i e (Ok answer.Accepted) → WasCounted g (place m i o) (place t j p) → IsAfter (place s f o) (place t j p) (sent f.source f.number e)
+      → (first : List WriteCall) (front : List ℕ) (events : ℕ) → IsPrinted first front events (place s f o) → IsPrinted first front events (place t j p)
   prints_on s m t f i j e o p was counted is first front events h =
       let total : (content_of t.detector).events ≡ (content_of s.detector).events + 1 = ap (λ (c : Content). c.events) is.content in
       let sum : (content_of t.detector).events ≡ events + j.accepted = omega (arith, total, h.count, is.accepted) in
       let same : i.accepted + 1 ≡ j.accepted = sym (ap (λ (x : Fed). x.accepted) counted.fed) in
       record {
         count = sum;
-        printed = subst (λ (t : List ℕ). Appends first p t)
+        printed = subst (λ (t : List ℕ). Took first p t)
             (append_assoc front (acks_text events f.accepted) (if nat_eq (j.accepted % 256) 0 then ack_text (content_of t.detector).events else [])
             ∙ ap (λ (t : List ℕ). front ++ t) (sym (acks_on events f.accepted j.accepted (content_of t.detector).events is.accepted sum)))
             (appends_on first o p (front ++ acks_text events f.accepted) (if nat_eq (j.accepted % 256) 0 then ack_text (content_of t.detector).events else []) h.printed
-            (subst (λ (k : ℕ). Appends o p (if nat_eq (k % 256) 0 then ack_text (content_of t.detector).events else [])) same
-            (subst (λ (k : ℕ). Appends o p (if nat_eq ((i.accepted + 1) % 256) 0 then ack_text k else [])) (sym (ap (λ (d : Detector PagedWords). (content_of d).events) counted.detector)) counted.printed)));
+            (subst (λ (k : ℕ). Took o p (if nat_eq (k % 256) 0 then ack_text (content_of t.detector).events else [])) same
+            (subst (λ (k : ℕ). Took o p (if nat_eq ((i.accepted + 1) % 256) 0 then ack_text k else [])) (sym (ap (λ (d : Detector PagedWords). (content_of d).events) counted.detector)) counted.printed)));
       }
 
-  pub passes_accepted : (s m t : Shown D) (f i j : Fed) (e : Event) (o p : Option (List ℕ)) (reading : Reading) → reading.event ≡ Ok e → IsReady s f → WasSent g s m f i e (Ok answer.Accepted) → WasCounted g (place m i o) (place t j p)
+  pub passes_accepted : (s m t : Shown D) (f i j : Fed) (e : Event) (o p : List WriteCall) (reading : Reading) → reading.event ≡ Ok e → IsReady s f → WasSent g s m f i e (Ok answer.Accepted) → WasCounted g (place m i o) (place t j p)
       → Passes g (place s f o) (place t j p) reading
   passes_accepted s m t f i j e o p reading event ready was counted =
       let is = is_after s m t f i j e o p ready was counted in
       record {
         goes = record {
           source = is.source;
-          failures = counted.failures ∙ ap (λ (d : Devices D). failures_of g d) was.done.devices;
-          backed = λ h. counted.backed (was.backs h);
+          failures = counted.failures ∙ ap (λ (d : Devices D). failed_calls g d o) was.done.devices;
+          backed = λ h. counted.backed (backed_by s m was.backs h);
           printed = prints_on s m t f i j e o p was counted is;
           ready = record {
             works = counted.works;
@@ -163,17 +168,17 @@ module _ {D : Type 0} (g : disk.Ghosts D) where
     accepted = ap (λ (x : Fed). x.accepted) was.fed;
   }
 
-  unchanged_goes : (s m : Shown D) (f i : Fed) (e : Event) (r : Result Answer Refusal) (o : Option (List ℕ)) → if_accepted (sent f.source f.number e) r ≡ [] → IsReady s f → WasSent g s m f i e r
+  unchanged_goes : (s m : Shown D) (f i : Fed) (e : Event) (r : Result Answer Refusal) (o : List WriteCall) → if_accepted (sent f.source f.number e) r ≡ [] → IsReady s f → WasSent g s m f i e r
       → GoesOn g (place s f o) (place m i o)
   unchanged_goes s m f i e r o nothing ready was =
       let is = is_unchanged s m f i e r nothing was in
       record {
         source = is.source;
-        failures = ap (λ (d : Devices D). failures_of g d) was.done.devices;
-        backed = was.backs;
+        failures = ap (λ (d : Devices D). failed_calls g d o) was.done.devices;
+        backed = backed_by s m was.backs;
         printed = λ first front events h. record {
           count = omega (arith, ap (λ (c : Content). c.events) is.content, h.count, is.accepted);
-          printed = subst (λ (k : ℕ). Appends first o (front ++ acks_text events k)) (sym is.accepted) h.printed;
+          printed = subst (λ (k : ℕ). Took first o (front ++ acks_text events k)) (sym is.accepted) h.printed;
         };
         ready = record {
           works = was.done.is_broken ∙ ready.works;
@@ -192,7 +197,7 @@ module _ {D : Type 0} (g : disk.Ghosts D) where
   passed_over (Duplicate j) pending k line table c n later last end few h on = on
   passed_over (Refuse r) pending k line table c n later last end few h on = absurd (cc)
 
-  pub passes_duplicate : (s m : Shown D) (f i : Fed) (e : Event) (k : ℕ) (o : Option (List ℕ)) (reading : Reading) → reading.event ≡ Ok e → IsReady s f → WasSent g s m f i e (Ok (answer.Duplicate k))
+  pub passes_duplicate : (s m : Shown D) (f i : Fed) (e : Event) (k : ℕ) (o : List WriteCall) (reading : Reading) → reading.event ≡ Ok e → IsReady s f → WasSent g s m f i e (Ok (answer.Duplicate k))
       → Passes g (place s f o) (place m i o) reading
   passes_duplicate s m f i e k o reading event ready was =
       let is = is_unchanged s m f i e (Ok (answer.Duplicate k)) refl was in
@@ -225,7 +230,7 @@ module _ {D : Type 0} (g : disk.Ghosts D) where
   ended_is : {x y : Ending} → ◌≡◌ {A = Result (Option Ending) Refusal} (Ok (Some x)) (Ok (Some y)) → x ≡ y
   ended_is h = cc
 
-  pub ends_refused : (s m : Shown D) (f i : Fed) (e : Event) (r : Refusal) (o : Option (List ℕ)) (reading : Reading) (given : Result (Option Ending) Refusal) (end : Ending)
+  pub ends_refused : (s m : Shown D) (f i : Fed) (e : Event) (r : Refusal) (o : List WriteCall) (reading : Reading) (given : Result (Option Ending) Refusal) (end : Ending)
       → reading.event ≡ Ok e → IsReady s f → WasSent g s m f i e (Err r) → Stops reading.line r given → given ≡ Ok (Some end) → EndsAt g (place s f o) (place m i o) reading end
   ends_refused s m f i e r o reading given end event ready was stops given_end = record {
     goes = unchanged_goes s m f i e (Err r) o refl ready was;
@@ -264,7 +269,7 @@ module _ {D : Type 0} (g : disk.Ghosts D) where
     ready = second.ready;
   }
 
-  pub ends_bad : (s : Shown D) (f : Fed) (o : Option (List ℕ)) (reading : Reading) (fault : LineFault) → reading.event ≡ Err fault → IsReady s f → EndsAt g (place s f o) (place s f o) reading (Bad reading.line)
+  pub ends_bad : (s : Shown D) (f : Fed) (o : List WriteCall) (reading : Reading) (fault : LineFault) → reading.event ≡ Err fault → IsReady s f → EndsAt g (place s f o) (place s f o) reading (Bad reading.line)
   ends_bad s f o reading fault event ready = record {
     goes = stays_there (place s f o) ready;
     leads = λ later.

@@ -1,43 +1,51 @@
 -- Feeding between two reads.
-use Rattle.std.proofs.Common.{◌≡◌, ℕ, ◌+◌, ◌*◌, ◌≤◌, List, [], Option, Some, None, sym, ap, subst, ◌∙◌, arith}
-use Rattle.std.specs.Io.KnownBytes.{IsAtEnd}
+use Rattle.std.proofs.Common.{◌≡◌, ℕ, ◌+◌, ◌*◌, ◌≤◌, List, [], ◌∷◌, ◌++◌, length, refl, sym, ap, subst, ◌∙◌, inl, inr, arith}
+use Rattle.std.proofs.lemmas.List.{append-nil, append_assoc}
+use Rattle.std.specs.declared.io.ErrorKind.TheVariants.{Interrupted}
+use Rattle.hg_streams.specs.declared.call.ReadCall.{ReadCall}
+use Rattle.hg_streams.specs.declared.call.ReadCall.TheVariants as ReadCall
+use Rattle.hg_streams.specs.Calls.{failed_reads, given}
 use Rattle.hg_model.specs.Contents.{Content}
 use Rattle.hg_disk.specs.declared.disk.Disk as disk
 use Rattle.hg_sets.specs.Interning.{Table}
 use Rattle.hg_wire.specs.Streams.{Pending, at_start, readings, readings_from}
 use Rattle.hg_check.specs.declared.checker.Ending.{Ending}
 use Rattle.hg_commands.specs.Feeding.{FeedsTo}
-use Rattle.hg_commands.specs.FeedRunning.{FeedAdvances, Feeds, FeedsFrom, GoesOn, IsReady, LeadsOn, Place, content_at, table_at}
+use Rattle.hg_commands.specs.FeedRunning.{FeedAdvances, FeedEndsIn, FeedMeetsEnd, FeedReaches, FeedStops, Feeds, GoesOn, HasFed, IsReady, LeadsOn, Place, content_at, table_at}
 use Rattle.hg_commands.proofs.FeedSteps.{goes_on, stays_there}
 
 -- What holds between two reads.
-pub record IsFeeding {D : Type 0} (g : disk.Ghosts D) (known left : Option (List ℕ)) (old new : Place D) (p : Pending) (reads size : ℕ) : Type 0 where
-  pub leads : FeedsFrom known old.fed.source (table_at old) (content_at old) left p new
+pub record IsFeeding {D : Type 0} (g : disk.Ghosts D) (first calls : List ReadCall) (old new : Place D) (p : Pending) (reads size : ℕ) : Type 0 where
+  pub leads : HasFed first calls old.fed.source (table_at old) (content_at old) p new
   pub lines : p.lines ≤ 65536 * reads
   pub number : new.fed.number ≤ 65536 * reads
   pub goes : GoesOn g old new
   pub full : size ≡ 65536
 
-leads_at_first : {D : Type 0} (known : Option (List ℕ)) (p : Pending) (place : Place D) → p ≡ at_start → place.fed.number ≡ 0 → FeedsFrom known place.fed.source (table_at place) (content_at place) known p place
-leads_at_first None p place start none = tt
-leads_at_first (Some all) p place start none = λ last end h.
-    subst (λ (k : ℕ). FeedsTo place.fed.source (readings all) (table_at place) (content_at place) k last end) none
-    (subst (λ (q : Pending). LeadsOn place (readings_from q all) last end) start h)
+fed_at_first : {D : Type 0} (first : List ReadCall) (p : Pending) (place : Place D) → p ≡ at_start → place.fed.number ≡ 0 → HasFed first first place.fed.source (table_at place) (content_at place) p place
+fed_at_first first p place start none = record {
+  later = [];
+  since = refl;
+  intact = refl;
+  leads = λ more last end h.
+      subst (λ (k : ℕ). FeedsTo place.fed.source (readings more) (table_at place) (content_at place) k last end) none
+      (subst (λ (q : Pending). LeadsOn place (readings_from q more) last end) start h);
+}
 
-pub feeding_first : {D : Type 0} (g : disk.Ghosts D) (known : Option (List ℕ)) (place : Place D) (p : Pending) (size : ℕ) → IsReady place.store place.fed → place.fed.number ≡ 0 → p ≡ at_start → size ≡ 65536
-    → IsFeeding g known known place place p 0 size
-feeding_first g known place p size ready none start full = record {
-  leads = leads_at_first known p place start none;
+pub feeding_first : {D : Type 0} (g : disk.Ghosts D) (first : List ReadCall) (place : Place D) (p : Pending) (size : ℕ) → IsReady place.store place.fed → place.fed.number ≡ 0 → p ≡ at_start → size ≡ 65536
+    → IsFeeding g first first place place p 0 size
+feeding_first g first place p size ready none start full = record {
+  leads = fed_at_first first p place start none;
   lines = omega (arith, ap (λ (q : Pending). q.lines) start);
   number = omega (arith, none);
   goes = stays_there g place ready;
   full = full;
 }
 
-pub feeding_on : {D : Type 0} (g : disk.Ghosts D) (known left later : Option (List ℕ)) (a b c : Place D) (p q : Pending) (reads size resized : ℕ)
-    → IsFeeding g known left a b p reads size → FeedAdvances g left later p b q c size → resized ≡ size → IsFeeding g known later a c q (reads + 1) resized
-feeding_on g known left later a b c p q reads size resized h on same = record {
-  leads = on.leads known a.fed.source (table_at a) (content_at a) h.leads;
+pub feeding_on : {D : Type 0} (g : disk.Ghosts D) (first calls later : List ReadCall) (a b c : Place D) (p q : Pending) (reads size resized : ℕ)
+    → IsFeeding g first calls a b p reads size → FeedAdvances g calls later p b q c size → resized ≡ size → IsFeeding g first later a c q (reads + 1) resized
+feeding_on g first calls later a b c p q reads size resized h on same = record {
+  leads = on.leads first a.fed.source (table_at a) (content_at a) h.leads;
   lines = omega (arith, h.lines, on.lines, h.full);
   number = omega (arith, h.number, on.number, h.full);
   goes = goes_on g a b c h.goes on.goes;
@@ -45,8 +53,74 @@ feeding_on g known left later a b c p q reads size resized h on same = record {
 }
 
 -- at the end of the input, its last line ends feeding
-pub feeds_at_end : {D : Type 0} (known left : Option (List ℕ)) (source : ℕ) (table : Table) (first : Content) (p : Pending) (place : Place D) (last : Content) (end : Ending)
-    → FeedsFrom known source table first left p place → IsAtEnd left → LeadsOn place (readings_from p []) last end → Feeds known source table first last end
-feeds_at_end None left source table first p place last end h e l = tt
-feeds_at_end (Some all) None source table first p place last end h e l = absurd h
-feeds_at_end (Some all) (Some rest) source table first p place last end h e l = h last end (subst (λ t. LeadsOn place (readings_from p t) last end) (sym e) l)
+pub feeds_at_end : {D : Type 0} (g : disk.Ghosts D) (first calls later : List ReadCall) (source : ℕ) (table : Table) (start : Content) (p q : Pending) (here there : Place D) (last : Content) (end : Ending)
+    → HasFed first calls source table start p here → FeedMeetsEnd g calls later p here q there → LeadsOn there (readings_from q []) last end → Feeds first later source table start last end
+feeds_at_end {D} g first calls later source table start p q here there last end h m l = record {
+  later = ReadCall.Gave [] ∷ h.later;
+  since = m.met ∙ ap (λ t. ReadCall.Gave [] ∷ t) h.since;
+  whole = h.intact;
+  leads = inl (
+    h.later,
+    refl,
+    subst (λ t. FeedsTo source (readings t) table start 0 last end) (append-nil (given h.later))
+        (h.leads [] last end
+        (subst (λ (x : Pending). LeadsOn here (readings_from x []) last end) m.pending
+        (subst (λ (x : Place D). LeadsOn x (readings_from q []) last end) m.place l))),
+  );
+}
+
+failed_on : (later now : List ReadCall) → failed_reads (later ++ now) ≡ failed_reads later + failed_reads now
+failed_on [] now = omega arith
+failed_on (ReadCall.Gave bytes ∷ later) now = failed_on later now
+failed_on (ReadCall.Erred kind ∷ later) now = omega (arith, failed_on later now)
+
+-- no read of an input failed that was fed
+pub reads_intact : (first now : List ReadCall) (source : ℕ) (table : Table) (start last : Content) (end : Ending) → Feeds first now source table start last end → failed_reads now ≡ failed_reads first
+reads_intact first now source table start last end f = ap failed_reads f.since ∙ omega (arith, failed_on f.later first, f.whole)
+
+-- a read that was interrupted changes nothing
+pub advances_nothing : {D : Type 0} (g : disk.Ghosts D) (calls later : List ReadCall) (p : Pending) (here : Place D) (room : ℕ) → IsReady here.store here.fed → later ≡ ReadCall.Erred Interrupted ∷ calls
+    → FeedAdvances g calls later p here p here room
+advances_nothing g calls later p here room ready is = record {
+  goes = stays_there g here ready;
+  leads = λ first source table start h. record {
+    later = ReadCall.Erred Interrupted ∷ h.later;
+    since = is ∙ ap (λ t. ReadCall.Erred Interrupted ∷ t) h.since;
+    intact = omega (arith, h.intact);
+    leads = h.leads;
+  };
+  lines = omega arith;
+  number = omega arith;
+}
+
+-- a read gave a piece, all of whose events were offered
+pub advances_by_piece : {D : Type 0} (g : disk.Ghosts D) (calls later : List ReadCall) (p q : Pending) (here there : Place D) (piece : List ℕ) (room : ℕ)
+    → later ≡ ReadCall.Gave piece ∷ calls → FeedReaches g p here piece q there [] → length piece ≤ room → FeedAdvances g calls later p here q there room
+advances_by_piece g calls later p q here there piece room is r within = record {
+  goes = r.goes;
+  leads = λ first source table start h. record {
+    later = ReadCall.Gave piece ∷ h.later;
+    since = is ∙ ap (λ t. ReadCall.Gave piece ∷ t) h.since;
+    intact = h.intact;
+    leads = λ more last end l.
+        subst (λ t. FeedsTo source (readings t) table start 0 last end) (sym (append_assoc (given h.later) piece more))
+        (h.leads (piece ++ more) last end (r.leads more last end l));
+  };
+  lines = omega (arith, r.lines, within);
+  number = omega (arith, r.number, within);
+}
+
+-- a read gave a piece with the line that ends feeding
+pub stops_by_piece : {D : Type 0} (g : disk.Ghosts D) (calls later : List ReadCall) (p : Pending) (here there : Place D) (piece : List ℕ) (end : Ending)
+    → later ≡ ReadCall.Gave piece ∷ calls → FeedEndsIn g p here piece there end → FeedStops g calls later p here there end
+stops_by_piece g calls later p here there piece end is r = record {
+  goes = r.goes;
+  leads = λ first source table start h. record {
+    later = ReadCall.Gave piece ∷ h.later;
+    since = is ∙ ap (λ t. ReadCall.Gave piece ∷ t) h.since;
+    whole = h.intact;
+    leads = inr (λ more.
+        subst (λ t. FeedsTo source (readings t) table start 0 (content_at there) end) (sym (append_assoc (given h.later) piece more))
+        (h.leads (piece ++ more) (content_at there) end (r.leads more)));
+  };
+}

@@ -4,3 +4,4 @@ mod FeedPieces
 mod FeedSteps
 mod FeedUnderway
 mod Unique
+mod Kept

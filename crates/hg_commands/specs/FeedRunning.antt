@@ -1,12 +1,16 @@
 -- How far feeding has come.
-use Rattle.std.specs.Prelude.{◌≡◌, ◌⊎◌, ℕ, ◌+◌, ◌≤◌, ◌%◌, Bool, true, false, nat_eq, List, [], ◌∷◌, ◌++◌, length, Option, Some, None, Result, IsTrue, ⊤, if◌then◌else◌}
-use Rattle.std.specs.Io.KnownBytes.{Appends}
+use Rattle.std.specs.Prelude.{◌≡◌, ◌⊎◌, ℕ, ◌+◌, ◌≤◌, ◌%◌, ◌^◌, false, nat_eq, List, [], ◌∷◌, ◌++◌, length, Result, IsTrue, if◌then◌else◌}
 use Rattle.hg_model.specs.declared.verdict.Refusal.{Refusal}
 use Rattle.hg_model.specs.declared.event.Event.{Event}
-use Rattle.hg_model.specs.declared.verdict.Refusal.TheVariants.{DeviceFault, OutOfMemory}
+use Rattle.hg_model.specs.declared.verdict.Refusal.TheVariants.{DeviceFault}
 use Rattle.hg_sets.specs.Interning.{Table}
 use Rattle.hg_detect.specs.declared.detector.Answer.{Answer}
 use Rattle.hg_model.specs.Contents.{Content}
+use Rattle.hg_streams.specs.declared.call.ReadCall.{ReadCall}
+use Rattle.hg_streams.specs.declared.call.ReadCall.TheVariants.{Gave}
+use Rattle.hg_streams.specs.declared.call.WriteCall.{WriteCall}
+use Rattle.hg_streams.specs.Calls.{failed_reads, given}
+use Rattle.hg_check.specs.Printing.{Took}
 use Rattle.hg_disk.specs.declared.disk.Disk as disk
 use Rattle.hg_store.specs.Shown.{Shown}
 use Rattle.hg_detect.specs.Memory.{content_of}
@@ -19,15 +23,18 @@ use Rattle.hg_wire.specs.declared.reader.Reading.{Reading}
 use Rattle.hg_wire.specs.Streams.{Pending, readings, readings_from}
 use Rattle.hg_check.specs.declared.checker.Ending.{Ending}
 use Rattle.hg_commands.specs.declared.feeding.Fed.{Fed}
+use Rattle.hg_streams.specs.Told.{told_refusal}
+use Rattle.hg_check.specs.Streaming.{IsStreamFault}
+use Rattle.hg_commands.specs.Storing.{failed_calls}
 use Rattle.hg_commands.specs.Feeding.{FeedsTo, ack_text, acks_text, feed_text, sent}
 
 -- a store, what was fed to it, and the output
 pub record Place (D : Type 0) : Type 0 where
   pub store : Shown D
   pub fed : Fed
-  pub output : Option (List ℕ)
+  pub output : List WriteCall
 
-abbrev pub place : {D : Type 0} → Shown D → Fed → Option (List ℕ) → Place D
+abbrev pub place : {D : Type 0} → Shown D → Fed → List WriteCall → Place D
 place store fed output = record { store = store; fed = fed; output = output }
 
 -- the content with all accepted events
@@ -49,20 +56,20 @@ abbrev pub LeadsOn : {D : Type 0} → Place D → List Reading → Content → E
 LeadsOn p readings last end = FeedsTo p.fed.source readings (table_at p) (content_at p) p.fed.number last end
 
 -- what was printed since the output was as it was at first: a front, and the lines of commits
-pub record IsPrinted {D : Type 0} (first : Option (List ℕ)) (front : List ℕ) (events : ℕ) (p : Place D) : Type 0 where
+pub record IsPrinted {D : Type 0} (first : List WriteCall) (front : List ℕ) (events : ℕ) (p : Place D) : Type 0 where
   pub count : (content_at p).events ≡ events + p.fed.accepted
-  pub printed : Appends first p.output (front ++ acks_text events p.fed.accepted)
+  pub printed : Took first p.output (front ++ acks_text events p.fed.accepted)
 
 -- An honest disk's images have a content that leads to the store's.
 abbrev pub IsBacked : {D : Type 0} → disk.Ghosts D → Shown D → Type 0
 IsBacked g store = IsTrue g.is_honest → (d : Content) × Backs g store d
 
--- From one place to another no call of a device failed, and what held of the store and of the output still holds.
+-- From one place to another no call of a device or of the output failed, and what held of the store and of the output still holds.
 pub record GoesOn {D : Type 0} (g : disk.Ghosts D) (old new : Place D) : Type 0 where
   pub source : new.fed.source ≡ old.fed.source
-  pub failures : failures_of g new.store.devices ≡ failures_of g old.store.devices
+  pub failures : failed_calls g new.store.devices new.output ≡ failed_calls g old.store.devices old.output
   pub backed : IsBacked g old.store → IsBacked g new.store
-  pub printed : (first : Option (List ℕ)) (front : List ℕ) (events : ℕ) → IsPrinted first front events old → IsPrinted first front events new
+  pub printed : (first : List WriteCall) (front : List ℕ) (events : ℕ) → IsPrinted first front events old → IsPrinted first front events new
   pub ready : IsReady new.store new.fed
 
 -- One reading was passed.
@@ -88,28 +95,44 @@ pub record FeedEndsIn {D : Type 0} (g : disk.Ghosts D) (before : Pending) (old :
   pub goes : GoesOn g old new
   pub leads : (more : List ℕ) → LeadsOn old (readings_from before (piece ++ more)) (content_at new) end
 
--- all of an input of a source, where it is known, leads from a table and a content to this content and ends in this way
-abbrev pub Feeds : Option (List ℕ) → ℕ → Table → Content → Content → Ending → Type 0
-Feeds None source table first last end = ⊤
-Feeds (Some all) source table first last end = FeedsTo source (readings all) table first 0 last end
+-- Reads of a source's input lead from a table and a content to the last content and the ending: the last of them met the end of the
+-- input, and all that they gave leads there; or what they gave leads there, whatever follows it.
+abbrev pub FeedEndsBy : ℕ → Table → Content → List ReadCall → Content → Ending → Type 0
+FeedEndsBy source table first reads last end =
+    ((earlier : List ReadCall) × (reads ≡ Gave [] ∷ earlier) × FeedsTo source (readings (given earlier)) table first 0 last end)
+    ⊎ ((more : List ℕ) → FeedsTo source (readings (given reads ++ more)) table first 0 last end)
 
--- Whatever the known rest of an input leads to from here, all of the input leads to.
-abbrev pub FeedsFrom : {D : Type 0} → Option (List ℕ) → ℕ → Table → Content → Option (List ℕ) → Pending → Place D → Type 0
-FeedsFrom None source table first rest now p = ⊤
-FeedsFrom (Some all) source table first None now p = ⊥
-FeedsFrom (Some all) source table first (Some rest) now p = (last : Content) (end : Ending) → LeadsOn p (readings_from now rest) last end → FeedsTo source (readings all) table first 0 last end
+-- From the first reads to those of now, none failed, and what they gave leads from a table and a content to the last content and the ending.
+pub record Feeds (first now : List ReadCall) (source : ℕ) (table : Table) (start last : Content) (end : Ending) : Type 0 where
+  pub later : List ReadCall
+  pub since : now ≡ later ++ first
+  pub whole : failed_reads later ≡ 0
+  pub leads : FeedEndsBy source table start later last end
+
+-- From the first reads to those of now none failed, and whatever follows what they gave, what that leads to from here is what all of it leads to.
+pub record HasFed {D : Type 0} (first now : List ReadCall) (source : ℕ) (table : Table) (start : Content) (p : Pending) (here : Place D) : Type 0 where
+  pub later : List ReadCall
+  pub since : now ≡ later ++ first
+  pub intact : failed_reads later ≡ 0
+  pub leads : (more : List ℕ) (last : Content) (end : Ending) → LeadsOn here (readings_from p more) last end → FeedsTo source (readings (given later ++ more)) table start 0 last end
 
 -- A read of at most so many bytes brought feeding from here to there.
-pub record FeedAdvances {D : Type 0} (g : disk.Ghosts D) (known left : Option (List ℕ)) (before : Pending) (old : Place D) (now : Pending) (new : Place D) (room : ℕ) : Type 0 where
+pub record FeedAdvances {D : Type 0} (g : disk.Ghosts D) (reads later : List ReadCall) (before : Pending) (old : Place D) (now : Pending) (new : Place D) (room : ℕ) : Type 0 where
   pub goes : GoesOn g old new
-  pub leads : (all : Option (List ℕ)) (source : ℕ) (table : Table) (first : Content) → FeedsFrom all source table first known before old → FeedsFrom all source table first left now new
+  pub leads : (first : List ReadCall) (source : ℕ) (table : Table) (start : Content) → HasFed first reads source table start before old → HasFed first later source table start now new
   pub lines : now.lines ≤ before.lines + room
   pub number : new.fed.number ≤ old.fed.number + room
 
+-- A read met the end of the input, and left feeding as it was.
+pub record FeedMeetsEnd {D : Type 0} (g : disk.Ghosts D) (reads later : List ReadCall) (before : Pending) (old : Place D) (now : Pending) (new : Place D) : Type 0 where
+  pub met : later ≡ Gave [] ∷ reads
+  pub pending : now ≡ before
+  pub place : new ≡ old
+
 -- A read came upon the line that ends feeding.
-pub record FeedStops {D : Type 0} (g : disk.Ghosts D) (known : Option (List ℕ)) (before : Pending) (old new : Place D) (end : Ending) : Type 0 where
+pub record FeedStops {D : Type 0} (g : disk.Ghosts D) (reads later : List ReadCall) (before : Pending) (old new : Place D) (end : Ending) : Type 0 where
   pub goes : GoesOn g old new
-  pub leads : (all : Option (List ℕ)) (source : ℕ) (table : Table) (first : Content) → FeedsFrom all source table first known before old → Feeds all source table first (content_at new) end
+  pub leads : (first : List ReadCall) (source : ℕ) (table : Table) (start : Content) → HasFed first reads source table start before old → Feeds first later source table start (content_at new) end
 
 -- A commit was answered Ok.
 pub record WasCommitted {D : Type 0} (g : disk.Ghosts D) (old new : Shown D) : Type 0 where
@@ -123,7 +146,7 @@ pub record WasCommitted {D : Type 0} (g : disk.Ghosts D) (old new : Shown D) : T
 pub record WasSent {D : Type 0} (g : disk.Ghosts D) (old new : Shown D) (before now : Fed) (e : Event) (r : Result Answer Refusal) : Type 0 where
   pub done : OfferDone old new (sent before.source before.number e) r
   pub fed : now ≡ record before { number = before.number + 1 }
-  pub backs : IsBacked g old → IsBacked g new
+  pub backs : (d : Content) → Backs g old d → Backs g new d
 
 -- An accepted event was counted, and committed with those before it where it was the last of 256.
 pub record WasCounted {D : Type 0} (g : disk.Ghosts D) (old new : Place D) : Type 0 where
@@ -131,32 +154,33 @@ pub record WasCounted {D : Type 0} (g : disk.Ghosts D) (old new : Place D) : Typ
   pub works : new.store.is_broken ≡ false
   pub pending : length new.store.pending ≡ (old.fed.accepted + 1) % 256
   pub detector : new.store.detector ≡ old.store.detector
-  pub failures : failures_of g new.store.devices ≡ failures_of g old.store.devices
+  pub failures : failed_calls g new.store.devices new.output ≡ failed_calls g old.store.devices old.output
   pub backed : IsBacked g old.store → IsBacked g new.store
-  pub printed : Appends old.output new.output (if nat_eq ((old.fed.accepted + 1) % 256) 0 then ack_text (content_at old).events else [])
+  pub printed : Took old.output new.output (if nat_eq ((old.fed.accepted + 1) % 256) 0 then ack_text (content_at old).events else [])
 
--- Why feeding ended by a fault: memory was refused, a stream failed, or one call more of the devices.
-abbrev pub HasFeedCause : ℕ → ℕ → Bool → Bool → Refusal → Type 0
-HasFeedCause before after input_failed output_failed r =
-    (r ≡ OutOfMemory) ⊎ ((r ≡ DeviceFault) × ((input_failed ≡ true) ⊎ ((output_failed ≡ true) ⊎ (after ≡ before + 1))))
+-- Why feeding a store ended: memory was refused, and nothing failed; or one call of a device or a stream failed; or 2^32 reads were made.
+pub record FeedFails {D : Type 0} (g : disk.Ghosts D) (old new : Shown D) (reads_old reads_new : List ReadCall) (calls_old calls_new : List WriteCall) (r : Refusal) : Type 0 where
+  pub is : IsStreamFault r
+  pub failed : (failed_reads reads_new + failed_calls g new.devices calls_new ≡ told_refusal r + (failed_reads reads_old + failed_calls g old.devices calls_old))
+      ⊎ ((r ≡ DeviceFault) × (2 ^ 32 + length reads_old ≤ length reads_new))
 
 -- A store was fed all of an input, or up to the line that ended it.
-pub record WasFed {D : Type 0} (g : disk.Ghosts D) (known : Option (List ℕ)) (source : ℕ) (old new : Shown D) (before after : Option (List ℕ)) (end : Ending) : Type 0 where
-  pub feeds : Feeds known source old.detector.sets (content_of old.detector) (content_of new.detector) end
-  pub printed : Appends before after (feed_text source (content_of old.detector) (content_of new.detector) end)
-  pub failures : failures_of g new.devices ≡ failures_of g old.devices
+pub record WasFed {D : Type 0} (g : disk.Ghosts D) (reads later : List ReadCall) (source : ℕ) (old new : Shown D) (before after : List WriteCall) (end : Ending) : Type 0 where
+  pub feeds : Feeds reads later source old.detector.sets (content_of old.detector) (content_of new.detector) end
+  pub printed : Took before after (feed_text source (content_of old.detector) (content_of new.detector) end)
+  pub failures : failed_calls g new.devices after ≡ failed_calls g old.devices before
   pub works : new.is_broken ≡ false
   pub backs : IsBacked g old → IsTrue g.is_honest → Backs g new (content_of new.detector)
 
--- What feeding the store on these devices did: the events of the input, where that is known, led from a table and a content to
+-- What feeding the store on these devices did: the events of what was read led from a table and a content to
 -- the last content, and that was printed and nothing else. Of honest devices, the first content is what they read, the table has
 -- the sets of their journal, and any crash from now on leaves the last content.
-pub record FeedDone {D : Type 0} (g : disk.Ghosts D) (known : Option (List ℕ)) (source : ℕ) (old new : Devices D) (before after : Option (List ℕ)) (end : Ending) : Type 0 where
+pub record FeedDone {D : Type 0} (g : disk.Ghosts D) (reads later : List ReadCall) (source : ℕ) (old new : Devices D) (before after : List WriteCall) (end : Ending) : Type 0 where
   pub table : Table
   pub first : Content
   pub last : Content
-  pub feeds : Feeds known source table first last end
-  pub printed : Appends before after (feed_text source first last end)
-  pub failures : failures_of g new ≡ failures_of g old
+  pub feeds : Feeds reads later source table first last end
+  pub printed : Took before after (feed_text source first last end)
+  pub failures : failed_calls g new after ≡ failed_calls g old before
   pub began : IsTrue g.is_honest → HasContent (read_of g old) first × HasSets 262144 (g.state old.journal).contents first table
   pub ended : IsTrue g.is_honest → (image : Image) → IsLeft g new image → HasContent image last

@@ -1,5 +1,5 @@
 -- What commands over a store print, and how they end.
-use Rattle.std.specs.Prelude.{◌≡◌, ◌⊎◌, ℕ, ◌+◌, Bool, true, List, [], ◌∷◌, ◌++◌, length, Option, IsTrue}
+use Rattle.std.specs.Prelude.{◌≡◌, ◌⊎◌, ℕ, ◌+◌, ◌≤◌, ◌^◌, List, [], ◌∷◌, ◌++◌, length, IsTrue}
 use Rattle.std.specs.Fmt.{decimal}
 use Rattle.hg_model.specs.declared.verdict.Refusal.{Refusal}
 use Rattle.hg_model.specs.declared.verdict.Refusal.TheVariants.{Damaged, FullSets, DeviceFault, OutOfMemory}
@@ -8,6 +8,10 @@ use Rattle.hg_disk.specs.declared.disk.Disk as disk
 use Rattle.hg_store.specs.declared.devices.Devices.{Devices}
 use Rattle.hg_store.specs.Images.{HasContent, failures_of, read_of}
 use Rattle.hg_store.specs.Recovering.{IsTooSmall}
+use Rattle.hg_streams.specs.declared.call.ReadCall.{ReadCall}
+use Rattle.hg_streams.specs.declared.call.WriteCall.{WriteCall}
+use Rattle.hg_streams.specs.Calls.{failed_reads, failed_writes}
+use Rattle.hg_streams.specs.Told.{told_refusal}
 use Rattle.hg_wire.specs.Reports.{end_line}
 use Rattle.hg_commands.specs.declared.listing.Listing.{Listing}
 use Rattle.hg_commands.specs.declared.listing.Listing.TheVariants.{Reports, Segments}
@@ -28,14 +32,34 @@ listing_text Reports c = reports_text 1 c.reports ++ line_text (store_end_line c
 listing_text Segments c = segments_text 0 c.segments
 
 module _ {D : Type 0} (g : disk.Ghosts D) where
-  -- Why a command over a store ended by a fault: the bytes of honest devices have no content, or the table of sets is too
-  -- small for it; a stream failed, or one call more of the devices; or memory was refused.
-  abbrev pub HasStoreCause : Devices D → Devices D → Bool → Bool → Refusal → Type 0
-  HasStoreCause old new input_failed output_failed r =
+  -- A refusal of a store's devices that is true: the bytes of honest devices have no content, or the table of sets is too
+  -- small for it. The other two say what failed.
+  abbrev pub IsTrueOf : Devices D → Refusal → Type 0
+  IsTrueOf old r =
       ((r ≡ Damaged) × (IsTrue g.is_honest → (c : Content) → ¬ HasContent (read_of g old) c))
       ⊎ (((r ≡ FullSets) × (IsTrue g.is_honest → IsTooSmall 262144 (g.state old.journal).contents))
-      ⊎ (((r ≡ DeviceFault) × ((input_failed ≡ true) ⊎ ((output_failed ≡ true) ⊎ (failures_of g new ≡ failures_of g old + 1)))) ⊎ (r ≡ OutOfMemory)))
+      ⊎ ((r ≡ DeviceFault) ⊎ (r ≡ OutOfMemory)))
+
+  -- how many calls of the devices and of the output have failed
+  abbrev pub failed_calls : Devices D → List WriteCall → ℕ
+  failed_calls devices calls = failures_of g devices + failed_writes calls
+
+  -- Why a command over a store ended by a fault. One call of a device or of the output failed where that is told, and none where another cause is.
+  pub record HasStoreCause (old new : Devices D) (calls_old calls_new : List WriteCall) (r : Refusal) : Type 0 where
+    pub is_true : IsTrueOf old r
+    pub failed : failed_calls new calls_new ≡ told_refusal r + failed_calls old calls_old
+
+  -- The same of a command that reads: a call of a device or a stream failed, or 2^32 reads were made.
+  pub record HasFeedCause (old new : Devices D) (reads_old reads_new : List ReadCall) (calls_old calls_new : List WriteCall) (r : Refusal) : Type 0 where
+    pub is_true : IsTrueOf old r
+    pub failed : (failed_reads reads_new + failed_calls new calls_new ≡ told_refusal r + (failed_reads reads_old + failed_calls old calls_old))
+        ⊎ ((r ≡ DeviceFault) × (2 ^ 32 + length reads_old ≤ length reads_new))
 
   -- A command that ended by a fault: it had a cause, and was told, or that failed too.
-  abbrev pub EndsByStoreFault : Devices D → Devices D → Bool → Bool → Bool → Option (List ℕ) → Option (List ℕ) → Type 0
-  EndsByStoreFault old new input_failed output_failed faults_failed before after = (r : Refusal) × (HasStoreCause old new input_failed output_failed r × IsTold faults_failed before after r)
+  abbrev pub EndsByStoreFault : Devices D → Devices D → List WriteCall → List WriteCall → List WriteCall → List WriteCall → Type 0
+  EndsByStoreFault old new calls_old calls_new faults_old faults_new = (r : Refusal) × (HasStoreCause old new calls_old calls_new r × IsTold faults_old faults_new r)
+
+  -- the same of a command that reads
+  abbrev pub EndsByFeedFault : Devices D → Devices D → List ReadCall → List ReadCall → List WriteCall → List WriteCall → List WriteCall → List WriteCall → Type 0
+  EndsByFeedFault old new reads_old reads_new calls_old calls_new faults_old faults_new =
+      (r : Refusal) × (HasFeedCause old new reads_old reads_new calls_old calls_new r × IsTold faults_old faults_new r)

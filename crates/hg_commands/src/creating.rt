@@ -1,68 +1,92 @@
 //! The command that makes a store.
 
-ghost use Rattle.std.specs.Prelude.{◌≡◌, ◌⊎◌, Ok, Err, OnOk, IfOk, IfErr, codes};
-ghost use Rattle.std.specs.Io.KnownBytes.{Appends, Keeps};
+ghost use Rattle.std.specs.Prelude.{◌≡◌, ◌⊎◌, [], Ok, Err, OnOk, IfOk, IfErr, codes};
+ghost use Rattle.hg_check.specs.Printing.{Took};
+ghost use Rattle.hg_disk.specs.State.{counted, settled};
 ghost use Rattle.hg_model.specs.Change.{empty_content};
 ghost use Rattle.hg_store.specs.Images.{HasContent, Image, IsLeft, failures_of, read_of};
 ghost use Rattle.hg_store.specs.Recovering.{IsEmpty, empty_image};
-ghost use Rattle.hg_commands.specs.Storing.{EndsByStoreFault, HasStoreCause};
+ghost use Rattle.hg_commands.specs.Creating.{EndsByCreateFault, HasCreateCause, IsCleared};
 
 use crate::saying::print_now;
-use hg_check::streams::Watched;
 use hg_check::telling::tell;
-use hg_disk::Disk;
+use hg_disk::{Disk, DiskFault};
 use hg_model::verdict::Refusal;
 use hg_store::create::CreateFault;
 use hg_store::devices::{Caps, Devices};
 use hg_store::store::Store;
+use hg_streams::output::Output;
 use std::alloc::Global;
 use std::io::Write;
+
+/// Takes all bytes from a device.
+fn empty<D: Disk>(disk: &mut D) -> Result<(), DiskFault>
+    ensures emptied { OnOk result (D.state disk.new ≡ settled []) }
+    ensures failures { D.failures disk.new ≡ counted result (D.failures disk.old) }
+{
+    disk.cut(0)?;
+    disk.sync()
+}
+
+/// Takes all bytes from the devices, as far as they answer.
+fn cleared<D: Disk>(devices: Devices<D>) -> Devices<D>
+    ensures { IsCleared ⟦<D as Disk>⟧ devices result }
+{
+    let mut devices = devices;
+    let _ = empty(&mut devices.journal);
+    let _ = empty(&mut devices.slots);
+    let _ = empty(&mut devices.root0);
+    let _ = empty(&mut devices.root1);
+    devices
+}
 
 /// Makes a store, and says so. The status is 0, or 2 where a device has bytes.
 fn make_and_say<D: Disk, W: Write>(
     alloc: Global,
     devices: Devices<D>,
-    output: &mut Watched<W>,
+    output: &mut Output<W>,
 ) -> (Result<u8, Refusal>, Devices<D>)
     ensures status { IfOk result.0 (λ s. (s ≡ 0) ⊎ (s ≡ 2)) }
     ensures durable { result.0 ≡ Ok 0 → (image : Image) → IsLeft ⟦<D as Disk>⟧ result.1 image → HasContent image empty_content }
     ensures created { result.0 ≡ Ok 0 → IsEmpty ⟦<D as Disk>⟧ devices × (read_of ⟦<D as Disk>⟧ result.1 ≡ empty_image)
-        × Appends (W.contents output.old.stream) (W.contents output.new.stream) (codes "created\n") }
+        × Took output.old.calls output.new.calls (codes "created\n") }
     ensures not_empty { result.0 ≡ Ok 2 → ¬ IsEmpty ⟦<D as Disk>⟧ devices × (result.1 ≡ devices)
-        × Appends (W.contents output.old.stream) (W.contents output.new.stream) (codes "not empty\n") }
+        × Took output.old.calls output.new.calls (codes "not empty\n") }
     ensures device { OnOk result.0 (failures_of ⟦<D as Disk>⟧ result.1 ≡ failures_of ⟦<D as Disk>⟧ devices) }
-    ensures cause { IfErr result.0 (λ r. HasStoreCause ⟦<D as Disk>⟧ devices result.1 output.new.failed output.new.failed r × ((r ≡ Refusal.DeviceFault) ⊎ (r ≡ Refusal.OutOfMemory))) }
+    ensures cause { IfErr result.0 (λ r. HasCreateCause ⟦<D as Disk>⟧ devices result.1 output.old.calls output.new.calls r) }
 {
     match Store::create(alloc, devices, 64, Caps::profile()) {
         Ok(store) => match print_now(b"created\n", output) {
             Ok(()) => (Ok(0), store.into_devices()),
-            Err(refusal) => (Err(refusal), store.into_devices()),
+            Err(refusal) => (Err(refusal), cleared(store.into_devices())),
         },
         Err((CreateFault::NotEmpty, devices)) => match print_now(b"not empty\n", output) {
             Ok(()) => (Ok(2), devices),
             Err(refusal) => (Err(refusal), devices),
         },
-        Err((CreateFault::Refused(refusal), devices)) => (Err(refusal), devices),
+        Err((CreateFault::Refused(refusal), devices)) => (Err(refusal), cleared(devices)),
     }
 }
 
 /// Makes a store of no events on the devices. Answers the status and the devices: 0, and any crash from then on leaves such a
-/// store; 2 where a device has bytes, and nothing is changed; or 3 where a device or the output failed, or memory was refused, which is told on `faults`.
+/// store; 2 where a device has bytes, and nothing is changed; or 3 where a device or the output failed, or memory was refused,
+/// which is told on `faults`. With status 3, devices that had no byte have none again, as far as they answer, so that the store
+/// can be made once the cause is mended, and other devices are as they were.
 pub fn create_store<D: Disk, W: Write, V: Write>(
     alloc: Global,
     devices: Devices<D>,
-    output: &mut Watched<W>,
-    faults: &mut Watched<V>,
+    output: &mut Output<W>,
+    faults: &mut Output<V>,
 ) -> (u8, Devices<D>)
     ensures status { (result.0 ≡ 0) ⊎ ((result.0 ≡ 2) ⊎ (result.0 ≡ 3)) }
     ensures durable { result.0 ≡ 0 → (image : Image) → IsLeft ⟦<D as Disk>⟧ result.1 image → HasContent image empty_content }
     ensures created { result.0 ≡ 0 → IsEmpty ⟦<D as Disk>⟧ devices × (read_of ⟦<D as Disk>⟧ result.1 ≡ empty_image)
-        × Appends (W.contents output.old.stream) (W.contents output.new.stream) (codes "created\n") }
+        × Took output.old.calls output.new.calls (codes "created\n") }
     ensures not_empty { result.0 ≡ 2 → ¬ IsEmpty ⟦<D as Disk>⟧ devices × (result.1 ≡ devices)
-        × Appends (W.contents output.old.stream) (W.contents output.new.stream) (codes "not empty\n") }
+        × Took output.old.calls output.new.calls (codes "not empty\n") }
     ensures device { (result.0 ≡ 3 → ⊥) → failures_of ⟦<D as Disk>⟧ result.1 ≡ failures_of ⟦<D as Disk>⟧ devices }
-    ensures quiet { (result.0 ≡ 3 → ⊥) → Keeps (V.contents faults.old.stream) (V.contents faults.new.stream) }
-    ensures fault { result.0 ≡ 3 → EndsByStoreFault ⟦<D as Disk>⟧ devices result.1 output.new.failed output.new.failed faults.new.failed (V.contents faults.old.stream) (V.contents faults.new.stream) }
+    ensures quiet { (result.0 ≡ 3 → ⊥) → Took faults.old.calls faults.new.calls [] }
+    ensures fault { result.0 ≡ 3 → EndsByCreateFault ⟦<D as Disk>⟧ devices result.1 output.old.calls output.new.calls faults.old.calls faults.new.calls }
 {
     let (said, devices) = make_and_say(alloc, devices, output);
     match said {

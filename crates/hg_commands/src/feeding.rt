@@ -1,25 +1,27 @@
 //! Feeding the events of a trace text to a store.
 
-ghost use Rattle.std.specs.Prelude.{◌≡◌, ◌+◌, ◌<◌, ◌≤◌, ◌^◌, ◌++◌, ◌%◌, true, false, Option, [], Ok, Some, None, length, IfOk, IfErr, OnOk};
-ghost use Rattle.std.specs.Io.KnownBytes.{Appends, IsAtEnd, Keeps};
-ghost use Rattle.hg_store.specs.Images.{failures_of};
+ghost use Rattle.std.specs.Prelude.{◌≡◌, ◌+◌, ◌<◌, ◌≤◌, ◌^◌, ◌++◌, ◌%◌, true, false, Option, [], Ok, Some, None, length, IfOk, IfErr, IsTrue, OnOk};
+ghost use Rattle.hg_streams.specs.Calls.{failed_reads, failed_writes};
+ghost use Rattle.hg_streams.specs.Told.{told};
+ghost use Rattle.hg_check.specs.Printing.{Took};
 ghost use Rattle.hg_detect.specs.Memory.{content_of};
 ghost use Rattle.hg_wire.specs.Streams.{readings_from};
 ghost use Rattle.hg_check.specs.declared.checker.Ending.{Ending as EndingOf};
 ghost use Rattle.hg_check.specs.Printing.{status_of};
 ghost use Rattle.hg_commands.specs.Feeding.{ack_text, feed_end_text};
-ghost use Rattle.hg_commands.specs.FeedRunning.{EndsAt, FeedAdvances, FeedDone, FeedEndsIn, FeedReaches, FeedStops, Feeds, GoesOn, HasFeedCause, IsReady, LeadsOn, Passes, WasCommitted, WasCounted, WasFed, WasSent, place};
-ghost use Rattle.hg_check.specs.Streaming.{HasCause};
-ghost use Rattle.hg_commands.specs.Storing.{EndsByStoreFault, HasStoreCause};
+ghost use Rattle.hg_commands.specs.FeedRunning.{EndsAt, FeedAdvances, FeedDone, FeedEndsIn, FeedFails, FeedMeetsEnd, FeedReaches, FeedStops, Feeds, GoesOn, IsReady, LeadsOn, Passes, WasCommitted, WasCounted, WasFed, WasSent, place};
+ghost use Rattle.hg_check.specs.Streaming.{IsStreamFault};
+ghost use Rattle.hg_commands.specs.Keeping.{KeepsOn, NothingLost};
+ghost use Rattle.hg_commands.specs.Printed.{IsPrintedNow};
+ghost use Rattle.hg_commands.specs.Storing.{EndsByFeedFault, HasFeedCause, failed_calls};
 
 use crate::listing::hold_end_line;
 use crate::opening::open_store;
-use crate::saying::print_number;
+use crate::saying::{print_now, print_number};
 use hg_check::checker::{Ending, stop};
 use hg_check::commands::status_of_end;
 use hg_check::printing::hold_stop;
 use hg_check::run::{MOST_READS, Progress, piece_buffer, reader_at_start};
-use hg_check::streams::{Watched, flush, read_once, write_out};
 use hg_check::telling::tell;
 use hg_detect::detector::Answer;
 use hg_disk::Disk;
@@ -27,6 +29,8 @@ use hg_model::event::{Event, Named};
 use hg_model::verdict::Refusal;
 use hg_store::devices::Devices;
 use hg_store::store::Store;
+use hg_streams::input::Input;
+use hg_streams::output::Output;
 use hg_wire::reader::{EventReader, Reading, Taken};
 use std::alloc::Global;
 use std::io::{Read, Write};
@@ -49,14 +53,16 @@ pub struct Fed {
 fn acknowledge<D: Disk, W: Write>(
     store: &mut Store<D>,
     held: &mut Vec<u8>,
-    output: &mut Watched<W>,
+    output: &mut Output<W>,
 ) -> Result<(), Refusal>
     requires works { store.old.is_broken ≡ false }
     requires none { held.old.items ≡ [] }
     ensures committed { OnOk result (WasCommitted ⟦<D as Disk>⟧ store.old store.new) }
-    ensures printed { OnOk result (Appends (W.contents output.old.stream) (W.contents output.new.stream) (ack_text (content_of store.old.detector).events)) }
+    ensures printed { OnOk result (Took output.old.calls output.new.calls (ack_text (content_of store.old.detector).events)) }
     ensures none { OnOk result (held.new.items ≡ []) }
-    ensures cause { IfErr result (λ r. HasFeedCause (failures_of ⟦<D as Disk>⟧ store.old.devices) (failures_of ⟦<D as Disk>⟧ store.new.devices) output.new.failed output.new.failed r) }
+    ensures cause { IfErr result IsStreamFault }
+    ensures fault { failed_calls ⟦<D as Disk>⟧ store.new.devices output.new.calls ≡ told result + failed_calls ⟦<D as Disk>⟧ store.old.devices output.old.calls }
+    ensures kept { KeepsOn ⟦<D as Disk>⟧ store.old output.old.calls store.new output.new.calls }
 {
     let count = store.commit()?;
     print_number(b"ack ", count, held, output)
@@ -67,15 +73,17 @@ fn count_accepted<D: Disk, W: Write>(
     store: &mut Store<D>,
     fed: &mut Fed,
     held: &mut Vec<u8>,
-    output: &mut Watched<W>,
+    output: &mut Output<W>,
 ) -> Result<(), Refusal>
     requires works { store.old.is_broken ≡ false }
     requires none { held.old.items ≡ [] }
     requires pending { length store.old.pending ≡ fed.old.accepted % 256 + 1 }
     requires room { fed.old.accepted + 1 < 2 ^ 64 }
-    ensures counted { OnOk result (WasCounted ⟦<D as Disk>⟧ (place store.old fed.old (W.contents output.old.stream)) (place store.new fed.new (W.contents output.new.stream))) }
+    ensures counted { OnOk result (WasCounted ⟦<D as Disk>⟧ (place store.old fed.old output.old.calls) (place store.new fed.new output.new.calls)) }
     ensures none { OnOk result (held.new.items ≡ []) }
-    ensures cause { IfErr result (λ r. HasFeedCause (failures_of ⟦<D as Disk>⟧ store.old.devices) (failures_of ⟦<D as Disk>⟧ store.new.devices) output.new.failed output.new.failed r) }
+    ensures cause { IfErr result IsStreamFault }
+    ensures fault { failed_calls ⟦<D as Disk>⟧ store.new.devices output.new.calls ≡ told result + failed_calls ⟦<D as Disk>⟧ store.old.devices output.old.calls }
+    ensures kept { KeepsOn ⟦<D as Disk>⟧ store.old output.old.calls store.new output.new.calls }
 {
     fed.accepted += 1;
     if fed.accepted % BATCH == 0 {
@@ -103,15 +111,17 @@ fn feed_reading<D: Disk, W: Write>(
     fed: &mut Fed,
     reading: &Reading,
     held: &mut Vec<u8>,
-    output: &mut Watched<W>,
+    output: &mut Output<W>,
 ) -> Result<Option<Ending>, Refusal>
     requires ready { IsReady store.old fed.old }
     requires room { fed.old.number + 1 < 2 ^ 64 }
     requires none { held.old.items ≡ [] }
-    ensures passes { result ≡ Ok None → Passes ⟦<D as Disk>⟧ (place store.old fed.old (W.contents output.old.stream)) (place store.new fed.new (W.contents output.new.stream)) reading.now }
-    ensures ends { (end : EndingOf) → result ≡ Ok (Some end) → EndsAt ⟦<D as Disk>⟧ (place store.old fed.old (W.contents output.old.stream)) (place store.new fed.new (W.contents output.new.stream)) reading.now end }
+    ensures passes { result ≡ Ok None → Passes ⟦<D as Disk>⟧ (place store.old fed.old output.old.calls) (place store.new fed.new output.new.calls) reading.now }
+    ensures ends { (end : EndingOf) → result ≡ Ok (Some end) → EndsAt ⟦<D as Disk>⟧ (place store.old fed.old output.old.calls) (place store.new fed.new output.new.calls) reading.now end }
     ensures none { OnOk result (held.new.items ≡ []) }
-    ensures cause { IfErr result (λ r. HasFeedCause (failures_of ⟦<D as Disk>⟧ store.old.devices) (failures_of ⟦<D as Disk>⟧ store.new.devices) output.new.failed output.new.failed r) }
+    ensures cause { IfErr result IsStreamFault }
+    ensures fault { failed_calls ⟦<D as Disk>⟧ store.new.devices output.new.calls ≡ told result + failed_calls ⟦<D as Disk>⟧ store.old.devices output.old.calls }
+    ensures kept { KeepsOn ⟦<D as Disk>⟧ store.old output.old.calls store.new output.new.calls }
 {
     let line = reading.line;
     let Ok(event) = reading.event else {
@@ -135,16 +145,18 @@ fn feed_piece<D: Disk, W: Write>(
     fed: &mut Fed,
     piece: &[u8],
     held: &mut Vec<u8>,
-    output: &mut Watched<W>,
+    output: &mut Output<W>,
 ) -> Result<Option<Ending>, Refusal>
     requires ready { IsReady store.old fed.old }
     requires lines { reader.old.lines + length piece.now < 2 ^ 64 }
     requires number { fed.old.number + length piece.now < 2 ^ 64 }
     requires none { held.old.items ≡ [] }
-    ensures reaches { result ≡ Ok None → FeedReaches ⟦<D as Disk>⟧ reader.old (place store.old fed.old (W.contents output.old.stream)) piece.now reader.new (place store.new fed.new (W.contents output.new.stream)) [] }
-    ensures ends { (end : EndingOf) → result ≡ Ok (Some end) → FeedEndsIn ⟦<D as Disk>⟧ reader.old (place store.old fed.old (W.contents output.old.stream)) piece.now (place store.new fed.new (W.contents output.new.stream)) end }
+    ensures reaches { result ≡ Ok None → FeedReaches ⟦<D as Disk>⟧ reader.old (place store.old fed.old output.old.calls) piece.now reader.new (place store.new fed.new output.new.calls) [] }
+    ensures ends { (end : EndingOf) → result ≡ Ok (Some end) → FeedEndsIn ⟦<D as Disk>⟧ reader.old (place store.old fed.old output.old.calls) piece.now (place store.new fed.new output.new.calls) end }
     ensures none { OnOk result (held.new.items ≡ []) }
-    ensures cause { IfErr result (λ r. HasFeedCause (failures_of ⟦<D as Disk>⟧ store.old.devices) (failures_of ⟦<D as Disk>⟧ store.new.devices) output.new.failed output.new.failed r) }
+    ensures cause { IfErr result IsStreamFault }
+    ensures fault { failed_calls ⟦<D as Disk>⟧ store.new.devices output.new.calls ≡ told result + failed_calls ⟦<D as Disk>⟧ store.old.devices output.old.calls }
+    ensures kept { KeepsOn ⟦<D as Disk>⟧ store.old output.old.calls store.new output.new.calls }
 {
     let mut rest = piece;
     loop {
@@ -161,27 +173,30 @@ fn feed_piece<D: Disk, W: Write>(
 
 /// Reads once, and offers the events of what came.
 fn advance<D: Disk, R: Read, W: Write>(
-    input: &mut Watched<R>,
+    input: &mut Input<R>,
     buffer: &mut [u8],
     reader: &mut EventReader,
     store: &mut Store<D>,
     fed: &mut Fed,
     held: &mut Vec<u8>,
-    output: &mut Watched<W>,
+    output: &mut Output<W>,
 ) -> Result<Progress, Refusal>
     requires ready { IsReady store.old fed.old }
     requires some { 0 < length buffer.old }
     requires lines { reader.old.lines + length buffer.old < 2 ^ 64 }
     requires number { fed.old.number + length buffer.old < 2 ^ 64 }
     requires none { held.old.items ≡ [] }
-    ensures underway { result ≡ Ok Progress.Underway → FeedAdvances ⟦<D as Disk>⟧ (R.remaining input.old.stream) (R.remaining input.new.stream) reader.old (place store.old fed.old (W.contents output.old.stream)) reader.new (place store.new fed.new (W.contents output.new.stream)) (length buffer.old) }
-    ensures at_end { result ≡ Ok Progress.AtEnd → FeedAdvances ⟦<D as Disk>⟧ (R.remaining input.old.stream) (R.remaining input.new.stream) reader.old (place store.old fed.old (W.contents output.old.stream)) reader.new (place store.new fed.new (W.contents output.new.stream)) 0 × IsAtEnd (R.remaining input.new.stream) }
-    ensures stopped { (end : EndingOf) → result ≡ Ok (Progress.Stopped end) → FeedStops ⟦<D as Disk>⟧ (R.remaining input.old.stream) reader.old (place store.old fed.old (W.contents output.old.stream)) (place store.new fed.new (W.contents output.new.stream)) end }
+    ensures underway { result ≡ Ok Progress.Underway → FeedAdvances ⟦<D as Disk>⟧ input.old.calls input.new.calls reader.old (place store.old fed.old output.old.calls) reader.new (place store.new fed.new output.new.calls) (length buffer.old) }
+    ensures at_end { result ≡ Ok Progress.AtEnd → FeedMeetsEnd ⟦<D as Disk>⟧ input.old.calls input.new.calls reader.old (place store.old fed.old output.old.calls) reader.new (place store.new fed.new output.new.calls) }
+    ensures stopped { (end : EndingOf) → result ≡ Ok (Progress.Stopped end) → FeedStops ⟦<D as Disk>⟧ input.old.calls input.new.calls reader.old (place store.old fed.old output.old.calls) (place store.new fed.new output.new.calls) end }
     ensures size { length buffer.new ≡ length buffer.old }
     ensures none { OnOk result (held.new.items ≡ []) }
-    ensures cause { IfErr result (λ r. HasFeedCause (failures_of ⟦<D as Disk>⟧ store.old.devices) (failures_of ⟦<D as Disk>⟧ store.new.devices) input.new.failed output.new.failed r) }
+    ensures cause { IfErr result IsStreamFault }
+    ensures fault { failed_reads input.new.calls + failed_calls ⟦<D as Disk>⟧ store.new.devices output.new.calls ≡ told result + (failed_reads input.old.calls + failed_calls ⟦<D as Disk>⟧ store.old.devices output.old.calls) }
+    ensures counted { length input.new.calls ≡ 1 + length input.old.calls }
+    ensures kept { KeepsOn ⟦<D as Disk>⟧ store.old output.old.calls store.new output.new.calls }
 {
-    let Some(count) = read_once(input, buffer)? else {
+    let Some(count) = input.read(buffer)? else {
         return Ok(Progress::Underway);
     };
     if count == 0 {
@@ -199,16 +214,18 @@ fn finish<D: Disk, W: Write>(
     store: &mut Store<D>,
     fed: &mut Fed,
     held: &mut Vec<u8>,
-    output: &mut Watched<W>,
+    output: &mut Output<W>,
 ) -> Result<Ending, Refusal>
     requires ready { IsReady store.old fed.old }
     requires lines { reader.lines + 1 < 2 ^ 64 }
     requires number { fed.old.number + 1 < 2 ^ 64 }
     requires none { held.old.items ≡ [] }
-    ensures goes { OnOk result (GoesOn ⟦<D as Disk>⟧ (place store.old fed.old (W.contents output.old.stream)) (place store.new fed.new (W.contents output.new.stream))) }
-    ensures leads { IfOk result (λ end. LeadsOn (place store.old fed.old (W.contents output.old.stream)) (readings_from reader []) (content_of store.new.detector) end) }
+    ensures goes { OnOk result (GoesOn ⟦<D as Disk>⟧ (place store.old fed.old output.old.calls) (place store.new fed.new output.new.calls)) }
+    ensures leads { IfOk result (λ end. LeadsOn (place store.old fed.old output.old.calls) (readings_from reader []) (content_of store.new.detector) end) }
     ensures none { OnOk result (held.new.items ≡ []) }
-    ensures cause { IfErr result (λ r. HasFeedCause (failures_of ⟦<D as Disk>⟧ store.old.devices) (failures_of ⟦<D as Disk>⟧ store.new.devices) output.new.failed output.new.failed r) }
+    ensures cause { IfErr result IsStreamFault }
+    ensures fault { failed_calls ⟦<D as Disk>⟧ store.new.devices output.new.calls ≡ told result + failed_calls ⟦<D as Disk>⟧ store.old.devices output.old.calls }
+    ensures kept { KeepsOn ⟦<D as Disk>⟧ store.old output.old.calls store.new output.new.calls }
 {
     let Some(reading) = reader.finish() else {
         return Ok(Ending::Ended);
@@ -224,17 +241,18 @@ fn feed_all<D: Disk, R: Read, W: Write>(
     alloc: Global,
     store: &mut Store<D>,
     fed: &mut Fed,
-    input: &mut Watched<R>,
+    input: &mut Input<R>,
     held: &mut Vec<u8>,
-    output: &mut Watched<W>,
+    output: &mut Output<W>,
 ) -> Result<Ending, Refusal>
     requires ready { IsReady store.old fed.old }
     requires start { fed.old.number ≡ 0 }
     requires none { held.old.items ≡ [] }
-    ensures goes { OnOk result (GoesOn ⟦<D as Disk>⟧ (place store.old fed.old (W.contents output.old.stream)) (place store.new fed.new (W.contents output.new.stream))) }
-    ensures feeds { IfOk result (λ end. Feeds (R.remaining input.old.stream) fed.old.source store.old.detector.sets (content_of store.old.detector) (content_of store.new.detector) end) }
+    ensures goes { OnOk result (GoesOn ⟦<D as Disk>⟧ (place store.old fed.old output.old.calls) (place store.new fed.new output.new.calls)) }
+    ensures feeds { IfOk result (λ end. Feeds input.old.calls input.new.calls fed.old.source store.old.detector.sets (content_of store.old.detector) (content_of store.new.detector) end) }
     ensures none { OnOk result (held.new.items ≡ []) }
-    ensures cause { IfErr result (λ r. HasFeedCause (failures_of ⟦<D as Disk>⟧ store.old.devices) (failures_of ⟦<D as Disk>⟧ store.new.devices) input.new.failed output.new.failed r) }
+    ensures cause { IfErr result (λ r. FeedFails ⟦<D as Disk>⟧ store.old store.new input.old.calls input.new.calls output.old.calls output.new.calls r) }
+    ensures kept { KeepsOn ⟦<D as Disk>⟧ store.old output.old.calls store.new output.new.calls }
 {
     let mut reader = reader_at_start(alloc)?;
     let mut buffer = piece_buffer(alloc)?;
@@ -256,7 +274,6 @@ fn feed_all<D: Disk, R: Read, W: Write>(
             Progress::AtEnd => return finish(reader, store, fed, held, output),
         }
     }
-    input.failed = true;
     Err(Refusal::DeviceFault)
 }
 
@@ -278,16 +295,17 @@ fn print_end<D: Disk, W: Write>(
     store: &Store<D>,
     end: Ending,
     held: &mut Vec<u8>,
-    output: &mut Watched<W>,
+    output: &mut Output<W>,
 ) -> Result<(), Refusal>
     requires works { store.now.is_broken ≡ false }
     requires none { held.old.items ≡ [] }
-    ensures printed { OnOk result (Appends (W.contents output.old.stream) (W.contents output.new.stream) (feed_end_text (content_of store.now.detector) end)) }
-    ensures cause { IfErr result (λ r. HasCause output.new.failed output.new.failed r) }
+    ensures printed { OnOk result (Took output.old.calls output.new.calls (feed_end_text (content_of store.now.detector) end)) }
+    ensures cause { IfErr result IsStreamFault }
+    ensures fault { failed_writes output.new.calls ≡ told result + failed_writes output.old.calls }
+    ensures calls { IsPrintedNow output.old.calls output.new.calls (feed_end_text (content_of store.now.detector) end) }
 {
     hold_last(store, end, held)?;
-    write_out(held, output)?;
-    flush(output)?;
+    print_now(held.as_slice(), output)?;
     Ok(())
 }
 
@@ -296,13 +314,14 @@ fn feed_store<D: Disk, R: Read, W: Write>(
     alloc: Global,
     store: &mut Store<D>,
     source: u16,
-    input: &mut Watched<R>,
-    output: &mut Watched<W>,
+    input: &mut Input<R>,
+    output: &mut Output<W>,
 ) -> Result<Ending, Refusal>
     requires works { store.old.is_broken ≡ false }
     requires pending { store.old.pending ≡ [] }
-    ensures fed { IfOk result (λ end. WasFed ⟦<D as Disk>⟧ (R.remaining input.old.stream) source store.old store.new (W.contents output.old.stream) (W.contents output.new.stream) end) }
-    ensures cause { IfErr result (λ r. HasFeedCause (failures_of ⟦<D as Disk>⟧ store.old.devices) (failures_of ⟦<D as Disk>⟧ store.new.devices) input.new.failed output.new.failed r) }
+    ensures fed { IfOk result (λ end. WasFed ⟦<D as Disk>⟧ input.old.calls input.new.calls source store.old store.new output.old.calls output.new.calls end) }
+    ensures cause { IfErr result (λ r. FeedFails ⟦<D as Disk>⟧ store.old store.new input.old.calls input.new.calls output.old.calls output.new.calls r) }
+    ensures kept { KeepsOn ⟦<D as Disk>⟧ store.old output.old.calls store.new output.new.calls }
 {
     let mut held = Vec::new(alloc);
     let mut fed = Fed {
@@ -324,12 +343,13 @@ fn recover_and_feed<D: Disk, R: Read, W: Write>(
     devices: Devices<D>,
     source: u16,
     frames: u16,
-    input: &mut Watched<R>,
-    output: &mut Watched<W>,
+    input: &mut Input<R>,
+    output: &mut Output<W>,
 ) -> (Result<Ending, Refusal>, Devices<D>)
     requires { (4 ≤ frames) × (frames ≤ 4096) }
-    ensures fed { IfOk result.0 (λ end. FeedDone ⟦<D as Disk>⟧ (R.remaining input.old.stream) source devices result.1 (W.contents output.old.stream) (W.contents output.new.stream) end) }
-    ensures cause { IfErr result.0 (λ r. HasStoreCause ⟦<D as Disk>⟧ devices result.1 input.new.failed output.new.failed r) }
+    ensures fed { IfOk result.0 (λ end. FeedDone ⟦<D as Disk>⟧ input.old.calls input.new.calls source devices result.1 output.old.calls output.new.calls end) }
+    ensures cause { IfErr result.0 (λ r. HasFeedCause ⟦<D as Disk>⟧ devices result.1 input.old.calls input.new.calls output.old.calls output.new.calls r) }
+    ensures lost { IsTrue D.is_honest → NothingLost ⟦<D as Disk>⟧ devices result.1 output.old.calls output.new.calls }
 {
     match open_store(alloc, devices, frames) {
         Ok(store) => {
@@ -353,14 +373,15 @@ pub fn feed<D: Disk, R: Read, W: Write, V: Write>(
     devices: Devices<D>,
     source: u16,
     frames: u16,
-    input: &mut Watched<R>,
-    output: &mut Watched<W>,
-    faults: &mut Watched<V>,
+    input: &mut Input<R>,
+    output: &mut Output<W>,
+    faults: &mut Output<V>,
 ) -> (u8, Devices<D>)
     requires { (4 ≤ frames) × (frames ≤ 4096) }
-    ensures fed { (result.0 ≡ 3 → ⊥) → (end : EndingOf) × (result.0 ≡ status_of end) × FeedDone ⟦<D as Disk>⟧ (R.remaining input.old.stream) source devices result.1 (W.contents output.old.stream) (W.contents output.new.stream) end }
-    ensures quiet { (result.0 ≡ 3 → ⊥) → Keeps (V.contents faults.old.stream) (V.contents faults.new.stream) }
-    ensures fault { result.0 ≡ 3 → EndsByStoreFault ⟦<D as Disk>⟧ devices result.1 input.new.failed output.new.failed faults.new.failed (V.contents faults.old.stream) (V.contents faults.new.stream) }
+    ensures fed { (result.0 ≡ 3 → ⊥) → (end : EndingOf) × (result.0 ≡ status_of end) × FeedDone ⟦<D as Disk>⟧ input.old.calls input.new.calls source devices result.1 output.old.calls output.new.calls end }
+    ensures quiet { (result.0 ≡ 3 → ⊥) → Took faults.old.calls faults.new.calls [] }
+    ensures fault { result.0 ≡ 3 → EndsByFeedFault ⟦<D as Disk>⟧ devices result.1 input.old.calls input.new.calls output.old.calls output.new.calls faults.old.calls faults.new.calls }
+    ensures lost { IsTrue D.is_honest → NothingLost ⟦<D as Disk>⟧ devices result.1 output.old.calls output.new.calls }
 {
     let (ended, devices) = recover_and_feed(alloc, devices, source, frames, input, output);
     match ended {

@@ -7,5 +7,3 @@ pub mod laws;
 pub mod listing;
 pub mod opening;
 pub mod saying;
-#[cfg(test)]
-mod tests;

@@ -1,23 +1,26 @@
 //! The commands that print what a store holds.
 
 ghost use Rattle.std.specs.Prelude.{◌≡◌, ◌⊎◌, ◌++◌, ◌+◌, ◌≤◌, [], ℕ, List, Option, Ok, Err, OnOk, IfErr, IsTrue, true, false};
-ghost use Rattle.std.specs.Io.KnownBytes.{Appends, Keeps};
+ghost use Rattle.hg_streams.specs.Calls.{failed_writes};
+ghost use Rattle.hg_streams.specs.Told.{told};
+ghost use Rattle.hg_streams.specs.declared.call.WriteCall.{WriteCall};
 ghost use Rattle.hg_model.specs.Contents.{Content};
 ghost use Rattle.hg_store.specs.Images.{EachImage, HasContent, IsLeft, failures_of, read_of};
 ghost use Rattle.hg_detect.specs.Memory.{content_of};
-ghost use Rattle.hg_check.specs.Printing.{IsDue, line_text, reports_text, segments_text};
+ghost use Rattle.hg_check.specs.Printing.{IsDue, Took, line_text, reports_text, segments_text};
 ghost use Rattle.hg_commands.specs.Storing.{EndsByStoreFault, HasStoreCause, listing_text, store_end_line};
-ghost use Rattle.hg_check.specs.Streaming.{HasCause};
+ghost use Rattle.hg_check.specs.Streaming.{IsStreamFault};
 
 use crate::opening::open_store;
 use hg_check::printing::{hold_report, out_of_memory, print_segments, write_large};
-use hg_check::streams::{Watched, flush, write_out};
+use hg_check::streams::write_out;
 use hg_check::telling::tell;
 use hg_disk::Disk;
 use hg_model::report::Report;
 use hg_model::verdict::Refusal;
 use hg_store::devices::Devices;
 use hg_store::store::Store;
+use hg_streams::output::Output;
 use hg_wire::report::put_end_line;
 use std::alloc::Global;
 use std::io::Write;
@@ -48,13 +51,13 @@ pub fn hold_end_line<D: Disk>(store: &Store<D>, held: &mut Vec<u8>) -> Result<()
 fn print_kept<W: Write>(
     reports: &[Report],
     held: &mut Vec<u8>,
-    output: &mut Watched<W>,
+    output: &mut Output<W>,
 ) -> Result<(), Refusal>
-    ensures printed { (first : Option (List ℕ)) (rest goal : List ℕ)
-        → IsDue first (W.contents output.old.stream) held.old.items (reports_text 1 reports.now ++ rest) goal
-        → OnOk result (IsDue first (W.contents output.new.stream) held.new.items rest goal) }
-    ensures cause { IfErr result (λ r. HasCause output.new.failed output.new.failed r) }
-    ensures lasting { output.old.failed ≡ true → output.new.failed ≡ true }
+    ensures printed { (first : List WriteCall) (rest goal : List ℕ)
+        → IsDue first output.old.calls held.old.items (reports_text 1 reports.now ++ rest) goal
+        → OnOk result (IsDue first output.new.calls held.new.items rest goal) }
+    ensures cause { IfErr result IsStreamFault }
+    ensures fault { failed_writes output.new.calls ≡ told result + failed_writes output.old.calls }
 {
     let mut before = 0;
     for report in reports {
@@ -71,12 +74,13 @@ fn print_most<D: Disk, W: Write>(
     store: &Store<D>,
     listing: Listing,
     held: &mut Vec<u8>,
-    output: &mut Watched<W>,
+    output: &mut Output<W>,
 ) -> Result<(), Refusal>
     requires works { store.now.is_broken ≡ false }
     requires none { held.old.items ≡ [] }
-    ensures printed { OnOk result (IsDue (W.contents output.old.stream) (W.contents output.new.stream) held.new.items [] (listing_text listing (content_of store.now.detector))) }
-    ensures cause { IfErr result (λ r. HasCause output.new.failed output.new.failed r) }
+    ensures printed { OnOk result (IsDue output.old.calls output.new.calls held.new.items [] (listing_text listing (content_of store.now.detector))) }
+    ensures cause { IfErr result IsStreamFault }
+    ensures fault { failed_writes output.new.calls ≡ told result + failed_writes output.old.calls }
 {
     match listing {
         Listing::Reports => {
@@ -93,16 +97,17 @@ fn print_store<D: Disk, W: Write>(
     alloc: Global,
     store: &Store<D>,
     listing: Listing,
-    output: &mut Watched<W>,
+    output: &mut Output<W>,
 ) -> Result<(), Refusal>
     requires works { store.now.is_broken ≡ false }
-    ensures printed { OnOk result (Appends (W.contents output.old.stream) (W.contents output.new.stream) (listing_text listing (content_of store.now.detector))) }
-    ensures cause { IfErr result (λ r. HasCause output.new.failed output.new.failed r) }
+    ensures printed { OnOk result (Took output.old.calls output.new.calls (listing_text listing (content_of store.now.detector))) }
+    ensures cause { IfErr result IsStreamFault }
+    ensures fault { failed_writes output.new.calls ≡ told result + failed_writes output.old.calls }
 {
     let mut held = Vec::new(alloc);
     print_most(alloc, store, listing, &mut held, output)?;
     write_out(&mut held, output)?;
-    flush(output)?;
+    output.flush()?;
     Ok(())
 }
 
@@ -112,13 +117,13 @@ fn recover_and_print<D: Disk, W: Write>(
     devices: Devices<D>,
     frames: u16,
     listing: Listing,
-    output: &mut Watched<W>,
+    output: &mut Output<W>,
 ) -> (Result<(), Refusal>, Devices<D>)
     requires { (4 ≤ frames) × (frames ≤ 4096) }
     ensures prints { IsTrue D.is_honest → OnOk result.0 ((c : Content) × HasContent (read_of ⟦<D as Disk>⟧ devices) c
-        × Appends (W.contents output.old.stream) (W.contents output.new.stream) (listing_text listing c)) }
+        × Took output.old.calls output.new.calls (listing_text listing c)) }
     ensures device { OnOk result.0 (failures_of ⟦<D as Disk>⟧ result.1 ≡ failures_of ⟦<D as Disk>⟧ devices) }
-    ensures cause { IfErr result.0 (λ r. HasStoreCause ⟦<D as Disk>⟧ devices result.1 output.new.failed output.new.failed r) }
+    ensures cause { IfErr result.0 (λ r. HasStoreCause ⟦<D as Disk>⟧ devices result.1 output.old.calls output.new.calls r) }
     ensures images { EachImage ⟦<D as Disk>⟧ devices result.1 (IsLeft ⟦<D as Disk>⟧ devices) }
 {
     match open_store(alloc, devices, frames) {
@@ -136,16 +141,16 @@ fn list_store<D: Disk, W: Write, V: Write>(
     devices: Devices<D>,
     frames: u16,
     listing: Listing,
-    output: &mut Watched<W>,
-    faults: &mut Watched<V>,
+    output: &mut Output<W>,
+    faults: &mut Output<V>,
 ) -> (u8, Devices<D>)
     requires { (4 ≤ frames) × (frames ≤ 4096) }
     ensures status { (result.0 ≡ 0) ⊎ (result.0 ≡ 3) }
     ensures prints { IsTrue D.is_honest → result.0 ≡ 0 → (c : Content) × HasContent (read_of ⟦<D as Disk>⟧ devices) c
-        × Appends (W.contents output.old.stream) (W.contents output.new.stream) (listing_text listing c) }
+        × Took output.old.calls output.new.calls (listing_text listing c) }
     ensures device { result.0 ≡ 0 → failures_of ⟦<D as Disk>⟧ result.1 ≡ failures_of ⟦<D as Disk>⟧ devices }
-    ensures quiet { result.0 ≡ 0 → Keeps (V.contents faults.old.stream) (V.contents faults.new.stream) }
-    ensures fault { result.0 ≡ 3 → EndsByStoreFault ⟦<D as Disk>⟧ devices result.1 output.new.failed output.new.failed faults.new.failed (V.contents faults.old.stream) (V.contents faults.new.stream) }
+    ensures quiet { result.0 ≡ 0 → Took faults.old.calls faults.new.calls [] }
+    ensures fault { result.0 ≡ 3 → EndsByStoreFault ⟦<D as Disk>⟧ devices result.1 output.old.calls output.new.calls faults.old.calls faults.new.calls }
     ensures images { EachImage ⟦<D as Disk>⟧ devices result.1 (IsLeft ⟦<D as Disk>⟧ devices) }
 {
     let (printed, devices) = recover_and_print(alloc, devices, frames, listing, output);
@@ -165,16 +170,16 @@ pub fn store_reports<D: Disk, W: Write, V: Write>(
     alloc: Global,
     devices: Devices<D>,
     frames: u16,
-    output: &mut Watched<W>,
-    faults: &mut Watched<V>,
+    output: &mut Output<W>,
+    faults: &mut Output<V>,
 ) -> (u8, Devices<D>)
     requires { (4 ≤ frames) × (frames ≤ 4096) }
     ensures status { (result.0 ≡ 0) ⊎ (result.0 ≡ 3) }
     ensures prints { IsTrue D.is_honest → result.0 ≡ 0 → (c : Content) × HasContent (read_of ⟦<D as Disk>⟧ devices) c
-        × Appends (W.contents output.old.stream) (W.contents output.new.stream) (reports_text 1 c.reports ++ line_text (store_end_line c)) }
+        × Took output.old.calls output.new.calls (reports_text 1 c.reports ++ line_text (store_end_line c)) }
     ensures device { result.0 ≡ 0 → failures_of ⟦<D as Disk>⟧ result.1 ≡ failures_of ⟦<D as Disk>⟧ devices }
-    ensures quiet { result.0 ≡ 0 → Keeps (V.contents faults.old.stream) (V.contents faults.new.stream) }
-    ensures fault { result.0 ≡ 3 → EndsByStoreFault ⟦<D as Disk>⟧ devices result.1 output.new.failed output.new.failed faults.new.failed (V.contents faults.old.stream) (V.contents faults.new.stream) }
+    ensures quiet { result.0 ≡ 0 → Took faults.old.calls faults.new.calls [] }
+    ensures fault { result.0 ≡ 3 → EndsByStoreFault ⟦<D as Disk>⟧ devices result.1 output.old.calls output.new.calls faults.old.calls faults.new.calls }
     ensures images { EachImage ⟦<D as Disk>⟧ devices result.1 (IsLeft ⟦<D as Disk>⟧ devices) }
 {
     list_store(alloc, devices, frames, Listing::Reports, output, faults)
@@ -185,16 +190,16 @@ pub fn store_graph<D: Disk, W: Write, V: Write>(
     alloc: Global,
     devices: Devices<D>,
     frames: u16,
-    output: &mut Watched<W>,
-    faults: &mut Watched<V>,
+    output: &mut Output<W>,
+    faults: &mut Output<V>,
 ) -> (u8, Devices<D>)
     requires { (4 ≤ frames) × (frames ≤ 4096) }
     ensures status { (result.0 ≡ 0) ⊎ (result.0 ≡ 3) }
     ensures prints { IsTrue D.is_honest → result.0 ≡ 0 → (c : Content) × HasContent (read_of ⟦<D as Disk>⟧ devices) c
-        × Appends (W.contents output.old.stream) (W.contents output.new.stream) (segments_text 0 c.segments) }
+        × Took output.old.calls output.new.calls (segments_text 0 c.segments) }
     ensures device { result.0 ≡ 0 → failures_of ⟦<D as Disk>⟧ result.1 ≡ failures_of ⟦<D as Disk>⟧ devices }
-    ensures quiet { result.0 ≡ 0 → Keeps (V.contents faults.old.stream) (V.contents faults.new.stream) }
-    ensures fault { result.0 ≡ 3 → EndsByStoreFault ⟦<D as Disk>⟧ devices result.1 output.new.failed output.new.failed faults.new.failed (V.contents faults.old.stream) (V.contents faults.new.stream) }
+    ensures quiet { result.0 ≡ 0 → Took faults.old.calls faults.new.calls [] }
+    ensures fault { result.0 ≡ 3 → EndsByStoreFault ⟦<D as Disk>⟧ devices result.1 output.old.calls output.new.calls faults.old.calls faults.new.calls }
     ensures images { EachImage ⟦<D as Disk>⟧ devices result.1 (IsLeft ⟦<D as Disk>⟧ devices) }
 {
     list_store(alloc, devices, frames, Listing::Segments, output, faults)

@@ -1,27 +1,31 @@
 //! Texts that reach a pipe at once, and lines of a word and a number.
 
-ghost use Rattle.std.specs.Prelude.{◌≡◌, ◌⊎◌, ◌<◌, [], Ok, Err, OnOk, OnErr, IfErr, true};
-ghost use Rattle.std.specs.Io.KnownBytes.{Appends};
+ghost use Rattle.std.specs.Prelude.{◌≡◌, ◌+◌, ◌∷◌, [], OnOk, IfErr};
+ghost use Rattle.hg_streams.specs.Calls.{failed_writes};
+ghost use Rattle.hg_streams.specs.Told.{told};
+ghost use Rattle.hg_streams.specs.declared.call.WriteCall.TheVariants as WriteCall;
+ghost use Rattle.hg_check.specs.Printing.{Took};
+ghost use Rattle.hg_check.specs.Streaming.{IsStreamFault};
+ghost use Rattle.hg_commands.specs.Printed.{IsPrintedNow};
 ghost use Rattle.hg_commands.specs.Storing.{number_text};
 
 use hg_check::printing::out_of_memory;
-use hg_check::streams::{Watched, flush};
 use hg_model::verdict::Refusal;
+use hg_streams::output::Output;
 use itoa::Buffer;
 use std::io::Write;
 
 /// Prints a text at once, so that it reaches a pipe.
-pub fn print_now<W: Write>(text: &[u8], output: &mut Watched<W>) -> Result<(), Refusal>
-    ensures printed { OnOk result (Appends (W.contents output.old.stream) (W.contents output.new.stream) text.now) }
+pub fn print_now<W: Write>(text: &[u8], output: &mut Output<W>) -> Result<(), Refusal>
+    ensures printed { OnOk result (Took output.old.calls output.new.calls text.now) }
+    ensures calls { IsPrintedNow output.old.calls output.new.calls text.now }
+    ensures flushed { OnOk result (output.new.calls ≡ WriteCall.Flushed ∷ WriteCall.Took text.now ∷ output.old.calls) }
     ensures cause { IfErr result (λ r. r ≡ Refusal.DeviceFault) }
-    ensures fault { OnErr result (output.new.failed ≡ true) }
-    ensures lasting { output.old.failed ≡ true → output.new.failed ≡ true }
+    ensures fault { failed_writes output.new.calls ≡ told result + failed_writes output.old.calls }
 {
-    if output.stream.write_all(text).is_err() {
-        output.failed = true;
-        return Err(Refusal::DeviceFault);
-    }
-    flush(output)
+    output.write(text)?;
+    output.flush()?;
+    Ok(())
 }
 
 /// Holds a line of a word and a number alone.
@@ -42,13 +46,14 @@ pub fn print_number<W: Write>(
     word: &[u8],
     number: u64,
     held: &mut Vec<u8>,
-    output: &mut Watched<W>,
+    output: &mut Output<W>,
 ) -> Result<(), Refusal>
     requires none { held.old.items ≡ [] }
-    ensures printed { OnOk result (Appends (W.contents output.old.stream) (W.contents output.new.stream) (number_text word.now number)) }
+    ensures printed { OnOk result (Took output.old.calls output.new.calls (number_text word.now number)) }
+    ensures calls { IsPrintedNow output.old.calls output.new.calls (number_text word.now number) }
     ensures none { OnOk result (held.new.items ≡ []) }
-    ensures cause { IfErr result (λ r. (r ≡ Refusal.OutOfMemory) ⊎ ((r ≡ Refusal.DeviceFault) × (output.new.failed ≡ true))) }
-    ensures lasting { output.old.failed ≡ true → output.new.failed ≡ true }
+    ensures cause { IfErr result IsStreamFault }
+    ensures fault { failed_writes output.new.calls ≡ told result + failed_writes output.old.calls }
 {
     hold_number(word, number, held)?;
     print_now(held.as_slice(), output)?;

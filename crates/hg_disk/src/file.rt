@@ -1,4 +1,4 @@
-//! A file of the operating system.
+//! A file of the operating system, or one that is missing.
 ghost use Rattle.std.specs.Prelude.{◌≡◌, ◌+◌, ◌-◌, ◌<◌, ◌≤◌, ◌^◌, false, [], length, replicate, IfOk};
 ghost use Rattle.hg_disk.specs.History.{replay};
 ghost use Rattle.hg_disk.specs.Kept.{has_contents};
@@ -12,9 +12,11 @@ use std::io;
 use std::os::unix::fs::FileExt;
 
 /// It is safe whatever the file does. Nothing is promised of the file's bytes, so it is not honest.
+///
+/// A missing file is a disk without a byte that can't be changed: each write, cut and read fails, and a sync has nothing to do.
 #[derive(Drop)]
 pub struct FileDisk {
-    file: File,
+    file: Option<File>,
     opened_len: u64,
     len: u64,
     history: Record,
@@ -36,11 +38,26 @@ impl FileDisk {
             return Err(io::ErrorKind::FileTooLarge.into());
         }
         Ok(FileDisk {
-            file,
+            file: Some(file),
             opened_len: len,
             len,
             history: Record::new(),
         })
+    }
+
+    /// A disk for a file that there is none of, with no call made yet.
+    pub fn missing() -> FileDisk
+        ensures synced { (file_state result).since ≡ [] }
+        ensures past { file_past result ≡ [] }
+        ensures failures { file_failures result ≡ 0 }
+        ensures none { (file_state result).contents ≡ [] }
+    {
+        FileDisk {
+            file: None,
+            opened_len: 0,
+            len: 0,
+            history: Record::new(),
+        }
     }
 }
 
@@ -62,8 +79,11 @@ impl Disk for FileDisk {
     }
 
     fn read_at(&mut self, at: u64, buf: &mut [u8]) -> Result<(), DiskFault> {
-        let outcome = self.file.read_exact_at(buf, at);
-        self.history.note_answer(Call::Read, &[], outcome.is_ok())
+        let is_done = match &self.file {
+            Some(file) => file.read_exact_at(buf, at).is_ok(),
+            None => false,
+        };
+        self.history.note_answer(Call::Read, &[], is_done)
     }
 
     fn write_at(&mut self, at: u64, bytes: &[u8]) -> Result<(), DiskFault> {
@@ -71,24 +91,36 @@ impl Disk for FileDisk {
             at,
             len: bytes.len(),
         };
-        let is_done = is_within(at, bytes.len())
-            && written(&self.file, self.len, at, bytes).is_ok();
+        let is_done = is_within(at, bytes.len()) && is_written(&self.file, self.len, at, bytes);
         self.history.note_answer(call, bytes, is_done)?;
         self.len = self.len.max(at + bytes.len() as u64);
         Ok(())
     }
 
     fn cut(&mut self, to: u64) -> Result<(), DiskFault> {
-        let outcome = self.file.set_len(to);
-        self.history
-            .note_answer(Call::Cut { to }, &[], outcome.is_ok())?;
+        let is_done = match &self.file {
+            Some(file) => file.set_len(to).is_ok(),
+            None => false,
+        };
+        self.history.note_answer(Call::Cut { to }, &[], is_done)?;
         self.len = to;
         Ok(())
     }
 
     fn sync(&mut self) -> Result<(), DiskFault> {
-        let outcome = self.file.sync_all();
-        self.history.note_answer(Call::Sync, &[], outcome.is_ok())
+        let is_done = match &self.file {
+            Some(file) => file.sync_all().is_ok(),
+            None => true,
+        };
+        self.history.note_answer(Call::Sync, &[], is_done)
+    }
+}
+
+// Whether the bytes were written.
+fn is_written(file: &Option<File>, len: u64, at: u64, bytes: &[u8]) -> bool {
+    match file {
+        Some(file) => written(file, len, at, bytes).is_ok(),
+        None => false,
     }
 }
 

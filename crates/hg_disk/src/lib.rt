@@ -13,8 +13,6 @@ mod record;
 mod replay;
 mod tape;
 mod tear;
-#[cfg(test)]
-mod tests;
 mod trail;
 
 pub use call::{Answer, Answered, Call};

@@ -8,8 +8,6 @@ mod gated;
 pub mod laws;
 mod log;
 mod scan;
-#[cfg(test)]
-mod tests;
 
 pub use batch::{Batch, MAX_BODY_LEN};
 pub use fault::GateFault;

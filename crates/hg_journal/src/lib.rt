@@ -4,5 +4,3 @@
 pub mod collect;
 pub mod journal;
 pub mod laws;
-#[cfg(test)]
-mod tests;

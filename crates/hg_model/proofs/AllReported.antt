@@ -52,7 +52,7 @@ in_range a (suc n) k low high =
     (cases_eq a k)
 
 -- an overlapped word is listed
-listed : (at len k : ℕ) → overlaps at len k ≡ true → list_any (λ w. nat_eq w k) (words_of at len) ≡ true
+pub listed : (at len k : ℕ) → overlaps at len k ≡ true → list_any (λ w. nat_eq w k) (words_of at len) ≡ true
 listed at len k h =
     let parts = and_parts (nat_lt at (4 * k + 4)) (nat_lt (4 * k) (at + len)) h in
     let low : at < 4 * k + 4 = ltb-true at (4 * k + 4) parts.0 in

@@ -19,12 +19,14 @@ impl Model for Predecessors {
 }
 
 impl Predecessors {
+    /// The numbers of a vector. Those who make one see that they rise.
     pub fn from_vec(numbers: Vec<u32>) -> Self
         ensures { result ≡ numbers.items }
     {
         Predecessors { numbers }
     }
 
+    /// The numbers.
     pub fn as_slice(&self) -> &[u32]
         ensures { result.now ≡ self.now }
     {
@@ -35,6 +37,8 @@ impl Predecessors {
 /// A part of a thread between two forks or joins, and the segments that stand right before it.
 #[derive(Drop)]
 pub struct Segment {
+    /// The thread.
     pub thread: u16,
+    /// The segments right before it: none for the first, one after a fork, two after a join.
     pub before: Predecessors,
 }

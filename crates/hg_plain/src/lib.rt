@@ -629,6 +629,3 @@ fn newest_first(alloc: Global, events: &[Event]) -> Result<Vec<Event>, AllocErro
     trace.reverse();
     Ok(trace)
 }
-
-#[cfg(test)]
-mod tests;

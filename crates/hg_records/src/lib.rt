@@ -3,5 +3,3 @@
 
 pub mod laws;
 pub mod record;
-#[cfg(test)]
-mod tests;

@@ -7,8 +7,6 @@ mod lists;
 mod memo;
 mod merging;
 mod table;
-#[cfg(test)]
-mod tests;
 
 pub use fault::SetFault;
 pub use table::{MOST_SETS, SetTable};

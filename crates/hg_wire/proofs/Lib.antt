@@ -6,7 +6,6 @@ pub mod VerbLemmas
 pub mod LineLemmas
 pub mod OperandLemmas
 pub mod EventLemmas
-pub mod ComposeLemmas
 pub mod CountLemmas
 pub mod PieceLemmas
 pub mod HeldLemmas

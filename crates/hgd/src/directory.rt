@@ -6,40 +6,174 @@ use hg_disk::FileDisk;
 use hg_model::verdict::Refusal;
 use hg_store::devices::Devices;
 use std::fs;
-use std::fs::OpenOptions;
+use std::fs::{File, OpenOptions};
+use std::io::ErrorKind;
+use std::os::fd::AsRawFd;
+use std::string::String;
 
-/// Opens a file of a directory, which is made empty where there is none.
-fn open_file(rt: &HostRuntime, directory: &str, name: &str) -> Result<FileDisk, Refusal>
+/// What a command does to a store.
+#[derive(Clone, Copy, Debug, PartialEq, Eq, Drop)]
+pub enum Access {
+    /// It makes the store. Files that are missing are made, and no other program may use the store meanwhile.
+    Make,
+    /// It adds events. No other program may use the store meanwhile.
+    Change,
+    /// It only looks. Other programs may do so too.
+    Look,
+}
+
+/// The file `name` of a directory, as text for the system.
+fn path_of(rt: &HostRuntime, directory: &str, name: &str) -> Result<String, Refusal>
+    ensures { IfErr result (λ r. r ≡ Refusal.OutOfMemory) }
+{
+    match format!(in rt.alloc(); "{directory}/{name}") {
+        Ok(path) => Ok(path),
+        Err(_) => Err(Refusal::OutOfMemory),
+    }
+}
+
+/// Opens a file. `None` says that there is none, in a directory that there is.
+fn open_file(
+    rt: &HostRuntime,
+    directory: &str,
+    name: &str,
+    access: Access,
+) -> Result<Option<File>, Refusal>
     ensures { IfErr result (λ r. (r ≡ Refusal.DeviceFault) ⊎ (r ≡ Refusal.OutOfMemory)) }
 {
-    let Ok(path) = format!(in rt.alloc(); "{directory}/{name}") else {
-        return Err(Refusal::OutOfMemory);
-    };
+    let path = path_of(rt, directory, name)?;
     let mut options = OpenOptions::new();
-    options.read(true).write(true).create(true);
-    let Ok(file) = options.open(rt, path.as_str()) else {
-        return Err(Refusal::DeviceFault);
+    options
+        .read(true)
+        .write(access != Access::Look)
+        .create(access == Access::Make);
+    match options.open(rt, path.as_str()) {
+        Ok(file) => {
+            // Descriptors 0 to 2 belong to the standard streams, even where they are closed.
+            if file.as_raw_fd() <= 2 {
+                return Err(Refusal::DeviceFault);
+            }
+            Ok(Some(file))
+        }
+        Err(error) => {
+            if error.kind() == ErrorKind::NotFound && fs::metadata(rt, directory).is_ok() {
+                return Ok(None);
+            }
+            Err(Refusal::DeviceFault)
+        }
+    }
+}
+
+/// Locks a file for what is done to its store, at once or not at all.
+fn lock(file: &File, access: Access) -> Result<(), Refusal>
+    ensures { IfErr result (λ r. r ≡ Refusal.DeviceFault) }
+{
+    let locked = match access {
+        Access::Look => file.try_lock_shared(),
+        _ => file.try_lock(),
     };
-    match FileDisk::new(file) {
-        Ok(disk) => Ok(disk),
+    match locked {
+        Ok(()) => Ok(()),
         Err(_) => Err(Refusal::DeviceFault),
     }
 }
 
-/// Opens the files of a store's directory: `journal`, `pages`, `root0` and `root1`. A file that is missing is made
-/// empty. `DeviceFault` says that one can't be opened or made.
-pub fn open_directory(rt: &HostRuntime, directory: &str) -> Result<Devices<FileDisk>, Refusal>
+/// A file as a device. One that is missing has no byte.
+fn device(file: Option<File>) -> Result<FileDisk, Refusal>
+    ensures { IfErr result (λ r. r ≡ Refusal.DeviceFault) }
+{
+    match file {
+        Some(file) => match FileDisk::new(file) {
+            Ok(disk) => Ok(disk),
+            Err(_) => Err(Refusal::DeviceFault),
+        },
+        None => Ok(FileDisk::missing()),
+    }
+}
+
+/// Opens the journal, and locks it before anything of it is read.
+fn open_journal(rt: &HostRuntime, directory: &str, access: Access) -> Result<FileDisk, Refusal>
+    ensures { IfErr result (λ r. (r ≡ Refusal.DeviceFault) ⊎ (r ≡ Refusal.OutOfMemory)) }
+{
+    let file = open_file(rt, directory, "journal", access)?;
+    if let Some(file) = &file {
+        lock(file, access)?;
+    }
+    device(file)
+}
+
+/// Opens another file than the journal.
+fn open_other(
+    rt: &HostRuntime,
+    directory: &str,
+    name: &str,
+    access: Access,
+) -> Result<FileDisk, Refusal>
+    ensures { IfErr result (λ r. (r ≡ Refusal.DeviceFault) ⊎ (r ≡ Refusal.OutOfMemory)) }
+{
+    device(open_file(rt, directory, name, access)?)
+}
+
+/// Opens the files.
+fn open_files(
+    rt: &HostRuntime,
+    directory: &str,
+    access: Access,
+) -> Result<Devices<FileDisk>, Refusal>
     ensures { IfErr result (λ r. (r ≡ Refusal.DeviceFault) ⊎ (r ≡ Refusal.OutOfMemory)) }
 {
     Ok(Devices {
-        journal: open_file(rt, directory, "journal")?,
-        slots: open_file(rt, directory, "pages")?,
-        root0: open_file(rt, directory, "root0")?,
-        root1: open_file(rt, directory, "root1")?,
+        journal: open_journal(rt, directory, access)?,
+        slots: open_other(rt, directory, "pages", access)?,
+        root0: open_other(rt, directory, "root0", access)?,
+        root1: open_other(rt, directory, "root1", access)?,
     })
 }
 
-/// Makes a directory where there is none. Where it can't be made, its files can't be opened.
-pub fn make_directory(rt: &HostRuntime, directory: &str) {
+/// Opens the files of a store's directory: `journal`, `pages`, `root0` and `root1`. Only `Access::Make` makes files; for
+/// another access a file that is missing is read as an empty one. The journal is locked, so that the store is used by one
+/// program that changes it, or by programs that look at it. `DeviceFault` says that a file can't be opened, or that another
+/// program uses the store.
+///
+/// No file gets a descriptor of a standard stream that is closed: those are filled while the files are opened.
+pub fn open_directory(
+    rt: &HostRuntime,
+    directory: &str,
+    access: Access,
+) -> Result<Devices<FileDisk>, Refusal>
+    ensures { IfErr result (λ r. (r ≡ Refusal.DeviceFault) ⊎ (r ≡ Refusal.OutOfMemory)) }
+{
+    let first = File::open(rt, "/dev/null");
+    let second = File::open(rt, "/dev/null");
+    let third = File::open(rt, "/dev/null");
+    let devices = open_files(rt, directory, access);
+    drop((first, second, third));
+    devices
+}
+
+/// Makes a directory's names durable.
+fn sync_directory(rt: &HostRuntime, path: &str) -> Result<(), Refusal>
+    ensures { IfErr result (λ r. r ≡ Refusal.DeviceFault) }
+{
+    let Ok(directory) = File::open(rt, path) else {
+        return Err(Refusal::DeviceFault);
+    };
+    match directory.sync_all() {
+        Ok(()) => Ok(()),
+        Err(_) => Err(Refusal::DeviceFault),
+    }
+}
+
+/// Makes a directory where there is none, and opens its files as `open_directory` does, made where they are missing. Their
+/// names, and that of the directory, are then durable.
+pub fn make_directory(rt: &HostRuntime, directory: &str) -> Result<Devices<FileDisk>, Refusal>
+    ensures { IfErr result (λ r. (r ≡ Refusal.DeviceFault) ⊎ (r ≡ Refusal.OutOfMemory)) }
+{
+    // Where it can't be made, its files can't be opened.
     let _ = fs::create_dir(rt, directory);
+    let above = path_of(rt, directory, "..")?;
+    let devices = open_directory(rt, directory, Access::Make)?;
+    sync_directory(rt, directory)?;
+    sync_directory(rt, above.as_str())?;
+    Ok(devices)
 }

@@ -1,35 +1,71 @@
-use Rattle.std.proofs.Common.{◌≡◌, ℕ, ◌++◌, List, Ok, length, take, drop, sym, ap, subst, ◌∙◌, arith}
+use Rattle.std.proofs.Common.{◌≡◌, ℕ, ◌++◌, List, [], Ok, length, take, drop, refl, sym, ap, subst, ◌∙◌, arith}
 use Rattle.std.proofs.lemmas.List.{length-append, length-drop, length-take}
-use Rattle.std.proofs.lemmas.Result.{on_ok_weaker}
-use Rattle.hg_commands.specs.FeedRunning.{FeedAdvances, place}
+use Rattle.std.proofs.lemmas.Result.{IfOk-weaker, on_ok_weaker}
+use Rattle.hg_detect.specs.Memory.{content_of}
+use Rattle.hg_wire.specs.Streams.{readings_from}
+use Rattle.hg_commands.specs.FeedRunning.{FeedAdvances, Feeds, GoesOn, LeadsOn, Place, place}
 use Rattle.hg_commands.proofs.FeedSteps.{goes_on}
-use Rattle.hg_commands.proofs.FeedUnderway.{feeding_on}
+use Rattle.hg_commands.proofs.FeedUnderway.{feeding_first, feeding_on, feeds_at_end}
+use Rattle.hg_commands.proofs.Kept.{keeps_then}
 use Rattle.hg_commands.proofs.feeding.feed_all.Goals as goal
 
 resized : (n : ℕ) (new items : List ℕ) → length new ≡ length items → n ≡ length items → length (take n (new ++ drop (length new) items)) ≡ length items
 resized n new items same full =
     omega (arith, length-take n (new ++ drop (length new) items), length-append new (drop (length new) items), length-drop (length new) items, same, full)
 
+pub loop-reads-init : goal.loop-reads-init
+loop-reads-init g c = record {
+  run = feeding_first g.D.Disk c.args.input.now.calls (place c.args.store.now c.args.fed.now c.args.output.now.calls) c.in_ok-reader.reader (length c.in_ok-buffer.buffer.items)
+      c.requires.ready c.requires.start c.in_ok-reader.ensures.start c.in_ok-buffer.ensures.size;
+  none = c.requires.none;
+  kept = λ start content calls honest h. h;
+  counted = omega arith;
+  intact = refl;
+}
+
 pub loop-reads-preserved : goal.loop-reads-preserved
 loop-reads-preserved g c =
-    let old = place c.args.store.now c.args.fed.now (g.W.Write.contents c.args.output.now.stream) in
-    let mid = place c.loop-reads.store c.loop-reads.fed (g.W.Write.contents c.loop-reads.output.stream) in
-    let new = place c.advance.new.store c.advance.new.fed (g.W.Write.contents c.advance.new.output.stream) in (
-      feeding_on g.D.Disk (g.R.Read.remaining c.args.input.now.stream) (g.R.Read.remaining c.loop-reads.input.stream) (g.R.Read.remaining c.advance.new.input.stream)
+    let old = place c.args.store.now c.args.fed.now c.args.output.now.calls in
+    let mid = place c.loop-reads.store c.loop-reads.fed c.loop-reads.output.calls in
+    let new = place c.advance.new.store c.advance.new.fed c.advance.new.output.calls in
+    record {
+      run = feeding_on g.D.Disk c.args.input.now.calls c.loop-reads.input.calls c.advance.new.input.calls
           old mid new c.loop-reads.reader c.advance.new.reader c.loop-reads.reads (length c.loop-reads.buffer.items) _
-          c.loop-reads.invariant.0
-          (subst (λ (n : ℕ). FeedAdvances g.D.Disk (g.R.Read.remaining c.loop-reads.input.stream) (g.R.Read.remaining c.advance.new.input.stream) c.loop-reads.reader mid c.advance.new.reader new n)
+          c.loop-reads.invariant.run
+          (subst (λ (n : ℕ). FeedAdvances g.D.Disk c.loop-reads.input.calls c.advance.new.input.calls c.loop-reads.reader mid c.advance.new.reader new n)
           (ap length c.as_mut_slice.ensures.value) (c.in_ok-progress.ensures.underway (ap Ok c.in-Underway.is)))
-          (resized c.loop-reads.buffer.len c.advance.new.buffer c.loop-reads.buffer.items (c.advance.ensures.size ∙ ap length c.as_mut_slice.ensures.value) (sym c.as_mut_slice.ensures.len ∙ ap length c.as_mut_slice.ensures.value)),
-      c.in_ok-progress.ensures.none,
-    )
+          (resized c.loop-reads.buffer.len c.advance.new.buffer c.loop-reads.buffer.items (c.advance.ensures.size ∙ ap length c.as_mut_slice.ensures.value) (sym c.as_mut_slice.ensures.len ∙ ap length c.as_mut_slice.ensures.value));
+      none = c.in_ok-progress.ensures.none;
+      kept = keeps_then g.D.Disk c.args.store.now c.loop-reads.store c.advance.new.store c.args.output.now.calls c.loop-reads.output.calls c.advance.new.output.calls c.loop-reads.invariant.kept c.advance.ensures.kept;
+      counted = omega (arith, c.in_ok-progress.ensures.counted, c.loop-reads.invariant.counted);
+      intact = omega (arith, c.in_ok-progress.ensures.fault, (c.in_ok-progress.ensures.underway (ap Ok c.in-Underway.is)).goes.failures, c.loop-reads.invariant.intact);
+    }
+
+pub returns-in-Stopped-clause-goes : goal.returns-in-Stopped-clause-goes
+returns-in-Stopped-clause-goes g c =
+    let old = place c.args.store.now c.args.fed.now c.args.output.now.calls in
+    let mid = place c.loop-reads.store c.loop-reads.fed c.loop-reads.output.calls in
+    let new = place c.advance.new.store c.advance.new.fed c.advance.new.output.calls in
+    goes_on g.D.Disk old mid new c.loop-reads.invariant.run.goes (c.in_ok-progress.ensures.stopped c.in-Stopped.end (ap Ok c.in-Stopped.is)).goes
 
 pub returns-in-AtEnd-clause-goes : goal.returns-in-AtEnd-clause-goes
 returns-in-AtEnd-clause-goes g c =
-    let old = place c.args.store.now c.args.fed.now (g.W.Write.contents c.args.output.now.stream) in
-    let mid = place c.loop-reads.store c.loop-reads.fed (g.W.Write.contents c.loop-reads.output.stream) in
-    let last = place c.advance.new.store c.advance.new.fed (g.W.Write.contents c.advance.new.output.stream) in
-    let new = place c.finish.new.store c.finish.new.fed (g.W.Write.contents c.finish.new.output.stream) in
+    let old = place c.args.store.now c.args.fed.now c.args.output.now.calls in
+    let mid = place c.loop-reads.store c.loop-reads.fed c.loop-reads.output.calls in
+    let last = place c.advance.new.store c.advance.new.fed c.advance.new.output.calls in
+    let new = place c.finish.new.store c.finish.new.fed c.finish.new.output.calls in
     on_ok_weaker c.finish.result
-    (λ h. goes_on g.D.Disk old last new (goes_on g.D.Disk old mid last c.loop-reads.invariant.0.goes (c.in_ok-progress.ensures.at_end (ap Ok c.in-AtEnd.is)).0.goes) h)
+    (λ h. goes_on g.D.Disk old last new (subst (λ x. GoesOn g.D.Disk old x) (sym (c.in_ok-progress.ensures.at_end (ap Ok c.in-AtEnd.is)).place) c.loop-reads.invariant.run.goes) h)
     c.finish.ensures.goes
+
+pub returns-in-AtEnd-clause-feeds : goal.returns-in-AtEnd-clause-feeds
+returns-in-AtEnd-clause-feeds g c =
+    let mid = place c.loop-reads.store c.loop-reads.fed c.loop-reads.output.calls in
+    let last = place c.advance.new.store c.advance.new.fed c.advance.new.output.calls in
+    IfOk-weaker c.finish.result
+    (λ end. LeadsOn last (readings_from c.advance.new.reader []) (content_of c.finish.new.store.detector) end)
+    (λ end. Feeds c.args.input.now.calls c.advance.new.input.calls c.args.fed.now.source c.args.store.now.detector.sets (content_of c.args.store.now.detector) (content_of c.finish.new.store.detector) end)
+    (λ end l. feeds_at_end g.D.Disk c.args.input.now.calls c.loop-reads.input.calls c.advance.new.input.calls c.args.fed.now.source c.args.store.now.detector.sets (content_of c.args.store.now.detector)
+    c.loop-reads.reader c.advance.new.reader mid last (content_of c.finish.new.store.detector) end
+    c.loop-reads.invariant.run.leads (c.in_ok-progress.ensures.at_end (ap Ok c.in-AtEnd.is)) l)
+    c.finish.ensures.leads

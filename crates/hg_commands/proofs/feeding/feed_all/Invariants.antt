@@ -1,13 +1,19 @@
-use Rattle.std.proofs.Common.{◌≡◌, ◌-◌, ◌^◌, [], length}
+use Rattle.std.proofs.Common.{◌≡◌, ◌+◌, ◌-◌, ◌^◌, [], length}
+use Rattle.hg_streams.specs.Calls.{failed_reads}
 use Rattle.hg_commands.specs.FeedRunning.{place}
+use Rattle.hg_commands.specs.Keeping.{KeepsOn}
 use Rattle.hg_commands.proofs.FeedUnderway.{IsFeeding}
 use Rattle.hg_commands.proofs.feeding.feed_all.Given as goal
 
 abbrev pub invariant-loop-reads : goal.invariant-loop-reads
 invariant-loop-reads g l =
-    IsFeeding g.D.Disk (g.R.Read.remaining l.fn.input.stream) (g.R.Read.remaining l.input.stream) (place l.fn.store l.fn.fed (g.W.Write.contents l.fn.output.stream)) (place l.store l.fed (g.W.Write.contents l.output.stream))
-    l.reader l.reads (length l.buffer.items)
-    × (l.held.items ≡ [])
+    record {
+      run : IsFeeding g.D.Disk l.fn.input.calls l.input.calls (place l.fn.store l.fn.fed l.fn.output.calls) (place l.store l.fed l.output.calls) l.reader l.reads (length l.buffer.items);
+      none : l.held.items ≡ [];
+      kept : KeepsOn g.D.Disk l.fn.store l.fn.output.calls l.store l.output.calls;
+      counted : length l.input.calls ≡ l.reads + length l.fn.input.calls;
+      intact : failed_reads l.input.calls ≡ failed_reads l.fn.input.calls;
+    }
 
 abbrev pub decreases-loop-reads : goal.decreases-loop-reads
 decreases-loop-reads g l = 2 ^ 32 - l.reads

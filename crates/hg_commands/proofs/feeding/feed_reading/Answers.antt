@@ -2,24 +2,38 @@ use Rattle.std.proofs.Common.{Ok, subst, ap, ◌∙◌}
 use Rattle.hg_detect.specs.declared.detector.Answer.{Answer}
 use Rattle.hg_commands.specs.FeedRunning.{WasSent}
 use Rattle.hg_commands.proofs.FeedSteps.{ends_refused, passes_accepted, passes_duplicate}
+use Rattle.hg_commands.specs.Feeding.{sent}
+use Rattle.hg_commands.proofs.Kept.{keeps_offer, keeps_then}
 use Rattle.hg_commands.proofs.feeding.feed_reading.Goals as goal
 
 pub returns-in_ok-count_accepted-in-Ok-Accepted-clause-passes : goal.returns-in_ok-count_accepted-in-Ok-Accepted-clause-passes
 returns-in_ok-count_accepted-in-Ok-Accepted-clause-passes g c = λ _.
     passes_accepted g.D.Disk c.args.store.now c.send.new.store c.count_accepted.new.store c.args.fed.now c.send.new.fed c.count_accepted.new.fed c.in-Ok.event
-    (g.W.Write.contents c.args.output.now.stream) (g.W.Write.contents c.count_accepted.new.output.stream) c.args.reading.now c.in-Ok.is c.requires.ready
+    c.args.output.now.calls c.count_accepted.new.output.calls c.args.reading.now c.in-Ok.is c.requires.ready
     (subst (λ r. WasSent g.D.Disk c.args.store.now c.send.new.store c.args.fed.now c.send.new.fed c.in-Ok.event r) (c.in-Ok-Accepted.is ∙ ap (λ (a : Answer). Ok a) c.in-Ok-Accepted.field-0-is) c.send.ensures)
     c.in_ok-count_accepted-in-Ok-Accepted.ensures.counted
 
 pub returns-in-Ok-Duplicate-clause-passes : goal.returns-in-Ok-Duplicate-clause-passes
 returns-in-Ok-Duplicate-clause-passes g c = λ _.
     passes_duplicate g.D.Disk c.args.store.now c.send.new.store c.args.fed.now c.send.new.fed c.in-Ok.event c.in-Ok-Duplicate.field-0-0
-    (g.W.Write.contents c.args.output.now.stream) c.args.reading.now c.in-Ok.is c.requires.ready
+    c.args.output.now.calls c.args.reading.now c.in-Ok.is c.requires.ready
     (subst (λ r. WasSent g.D.Disk c.args.store.now c.send.new.store c.args.fed.now c.send.new.fed c.in-Ok.event r) (c.in-Ok-Duplicate.is ∙ ap (λ (a : Answer). Ok a) c.in-Ok-Duplicate.field-0-is) c.send.ensures)
 
 pub returns-in-Err-clause-ends : goal.returns-in-Err-clause-ends
 returns-in-Err-clause-ends g c end given =
     ends_refused g.D.Disk c.args.store.now c.send.new.store c.args.fed.now c.send.new.fed c.in-Ok.event c.in-Err.refusal
-    (g.W.Write.contents c.args.output.now.stream) c.args.reading.now c.stop.result end c.in-Ok.is c.requires.ready
+    c.args.output.now.calls c.args.reading.now c.stop.result end c.in-Ok.is c.requires.ready
     (subst (λ r. WasSent g.D.Disk c.args.store.now c.send.new.store c.args.fed.now c.send.new.fed c.in-Ok.event r) c.in-Err.is c.send.ensures)
     c.stop.ensures given
+
+pub returns-in_err-count_accepted-in-Ok-Accepted-clause-kept : goal.returns-in_err-count_accepted-in-Ok-Accepted-clause-kept
+returns-in_err-count_accepted-in-Ok-Accepted-clause-kept g c =
+    keeps_then g.D.Disk c.args.store.now c.send.new.store c.count_accepted.new.store c.args.output.now.calls c.args.output.now.calls c.count_accepted.new.output.calls
+    (keeps_offer g.D.Disk c.args.store.now c.send.new.store c.args.output.now.calls (sent c.args.fed.now.source c.args.fed.now.number c.in-Ok.event) c.send.result c.send.ensures.done c.send.ensures.backs)
+    c.count_accepted.ensures.kept
+
+pub returns-in_ok-count_accepted-in-Ok-Accepted-clause-kept : goal.returns-in_ok-count_accepted-in-Ok-Accepted-clause-kept
+returns-in_ok-count_accepted-in-Ok-Accepted-clause-kept g c =
+    keeps_then g.D.Disk c.args.store.now c.send.new.store c.count_accepted.new.store c.args.output.now.calls c.args.output.now.calls c.count_accepted.new.output.calls
+    (keeps_offer g.D.Disk c.args.store.now c.send.new.store c.args.output.now.calls (sent c.args.fed.now.source c.args.fed.now.number c.in-Ok.event) c.send.result c.send.ensures.done c.send.ensures.backs)
+    c.count_accepted.ensures.kept

@@ -1,10 +1,15 @@
-use Rattle.std.proofs.Common.{◌≡◌, ℕ, Bool, true, false, Result, Ok, Err, cond, codes, refl, subst}
-use Rattle.std.specs.Io.KnownBytes.{Appends}
+use Rattle.std.proofs.Common.{◌≡◌, ℕ, Bool, true, false, Result, Ok, Err, cond, codes, refl, subst, inl, inr, ◌+◌, arith}
+use Rattle.hg_check.specs.Printing.{Took}
 use Rattle.hg_model.specs.declared.verdict.Refusal.{Refusal}
 use Rattle.hg_model.specs.declared.verdict.Refusal.TheVariants as refusal
 use Rattle.hg_detect.specs.Memory.{content_of}
+use Rattle.hg_commands.specs.Feeding.{feed_end_text}
 use Rattle.hg_commands.specs.Storing.{number_text}
+use Rattle.hg_commands.proofs.Kept.{keeps_other, keeps_then}
 use Rattle.hg_commands.proofs.FeedDone.{was_fed}
+use Rattle.std.proofs.lemmas.Result.{err_from_is_err_and}
+use Rattle.hg_commands.proofs.FeedDone.{took_intact}
+use Rattle.hg_commands.proofs.FeedUnderway.{reads_intact}
 use Rattle.hg_commands.proofs.feeding.feed_store.Goals as goal
 
 last_is : (b : Bool) (n x : ℕ) → b ≡ false → ◌≡◌ {A = Result ℕ Refusal} (Ok n) (cond b (Err refusal.Broken) (Ok x)) → n ≡ x
@@ -13,12 +18,81 @@ last_is false n x works h = cc
 
 pub returns-clause-fed : goal.returns-clause-fed
 returns-clause-fed g c =
-    let o = g.W.Write.contents c.args.output.now.stream in
-    let p = g.W.Write.contents c.print_number.new.output.stream in
-    was_fed g.D.Disk (g.R.Read.remaining c.args.input.now.stream) c.args.source c.args.store.now c.feed_all.new.store c.acknowledge.new.store
+    let o = c.args.output.now.calls in
+    let p = c.print_number.new.output.calls in
+    was_fed g.D.Disk c.args.input.now.calls c.feed_all.new.input.calls c.args.source c.args.store.now c.feed_all.new.store c.acknowledge.new.store
     (record { source = c.args.source; number = 0; accepted = 0 }) c.feed_all.new.fed
-    o p (g.W.Write.contents c.feed_all.new.output.stream) (g.W.Write.contents c.acknowledge.new.output.stream) (g.W.Write.contents c.print_end.new.output.stream) c.in_ok-end.end
+    o p c.feed_all.new.output.calls c.acknowledge.new.output.calls c.print_end.new.output.calls c.in_ok-end.end
     refl
-    (subst (λ (n : ℕ). Appends o p (number_text (codes "resume ") n)) (last_is c.args.store.now.is_broken c.in_ok-last.last ((content_of c.args.store.now.detector).last c.args.source) c.requires.works c.in_ok-last.ensures) c.in_ok-print_number.ensures.printed)
+    (subst (λ (n : ℕ). Took o p (number_text (codes "resume ") n)) (last_is c.args.store.now.is_broken c.in_ok-last.last ((content_of c.args.store.now.detector).last c.args.source) c.requires.works c.in_ok-last.ensures) c.in_ok-print_number.ensures.printed)
     c.in_ok-end.ensures.goes c.in_ok-end.ensures.feeds
     c.in_ok-acknowledge.ensures.committed c.in_ok-acknowledge.ensures.printed c.in_ok-print_end.ensures.printed
+
+pub returns-in_err-acknowledge-clause-cause : goal.returns-in_err-acknowledge-clause-cause
+returns-in_err-acknowledge-clause-cause g c =
+    let q = err_from_is_err_and c.from_residual-in_err-acknowledge.result c.from_residual-in_err-acknowledge.ensures.1 in
+    rw (q.1, q.2)
+    (record {
+      is = c.in_err-acknowledge.ensures.cause;
+      failed = inl (omega (
+        arith,
+        c.in_err-acknowledge.ensures.fault,
+        c.in_ok-end.ensures.goes.failures,
+        c.in_ok-print_number.ensures.fault,
+        reads_intact c.args.input.now.calls c.feed_all.new.input.calls c.args.source c.args.store.now.detector.sets (content_of c.args.store.now.detector) (content_of c.feed_all.new.store.detector) c.in_ok-end.end c.in_ok-end.ensures.feeds,
+      ));
+    })
+
+pub returns-in_err-print_end-clause-cause : goal.returns-in_err-print_end-clause-cause
+returns-in_err-print_end-clause-cause g c =
+    let q = err_from_is_err_and c.from_residual-in_err-print_end.result c.from_residual-in_err-print_end.ensures.1 in
+    rw (q.1, q.2)
+    (record {
+      is = c.in_err-print_end.ensures.cause;
+      failed = inl (omega (
+        arith,
+        c.in_err-print_end.ensures.fault,
+        c.in_ok-acknowledge.ensures.fault,
+        c.in_ok-end.ensures.goes.failures,
+        c.in_ok-print_number.ensures.fault,
+        reads_intact c.args.input.now.calls c.feed_all.new.input.calls c.args.source c.args.store.now.detector.sets (content_of c.args.store.now.detector) (content_of c.feed_all.new.store.detector) c.in_ok-end.end c.in_ok-end.ensures.feeds,
+      ));
+    })
+
+pub returns-in_err-print_number-clause-kept : goal.returns-in_err-print_number-clause-kept
+returns-in_err-print_number-clause-kept g c =
+    keeps_other g.D.Disk c.args.store.now c.args.output.now.calls c.print_number.new.output.calls (number_text (codes "resume ") c.in_ok-last.last) c.print_number.ensures.calls (inr (inl (c.in_ok-last.last, refl)))
+
+pub returns-in_err-end-clause-kept : goal.returns-in_err-end-clause-kept
+returns-in_err-end-clause-kept g c =
+    keeps_then g.D.Disk c.args.store.now c.args.store.now c.feed_all.new.store c.args.output.now.calls c.print_number.new.output.calls c.feed_all.new.output.calls
+    (keeps_other g.D.Disk c.args.store.now c.args.output.now.calls c.print_number.new.output.calls (number_text (codes "resume ") c.in_ok-last.last) c.print_number.ensures.calls (inr (inl (c.in_ok-last.last, refl))))
+    c.feed_all.ensures.kept
+
+pub returns-in_err-acknowledge-clause-kept : goal.returns-in_err-acknowledge-clause-kept
+returns-in_err-acknowledge-clause-kept g c =
+    keeps_then g.D.Disk c.args.store.now c.feed_all.new.store c.acknowledge.new.store c.args.output.now.calls c.feed_all.new.output.calls c.acknowledge.new.output.calls
+    (keeps_then g.D.Disk c.args.store.now c.args.store.now c.feed_all.new.store c.args.output.now.calls c.print_number.new.output.calls c.feed_all.new.output.calls
+    (keeps_other g.D.Disk c.args.store.now c.args.output.now.calls c.print_number.new.output.calls (number_text (codes "resume ") c.in_ok-last.last) c.print_number.ensures.calls (inr (inl (c.in_ok-last.last, refl))))
+    c.feed_all.ensures.kept)
+    c.acknowledge.ensures.kept
+
+pub returns-in_err-print_end-clause-kept : goal.returns-in_err-print_end-clause-kept
+returns-in_err-print_end-clause-kept g c =
+    keeps_then g.D.Disk c.args.store.now c.acknowledge.new.store c.acknowledge.new.store c.args.output.now.calls c.acknowledge.new.output.calls c.print_end.new.output.calls
+    (keeps_then g.D.Disk c.args.store.now c.feed_all.new.store c.acknowledge.new.store c.args.output.now.calls c.feed_all.new.output.calls c.acknowledge.new.output.calls
+    (keeps_then g.D.Disk c.args.store.now c.args.store.now c.feed_all.new.store c.args.output.now.calls c.print_number.new.output.calls c.feed_all.new.output.calls
+    (keeps_other g.D.Disk c.args.store.now c.args.output.now.calls c.print_number.new.output.calls (number_text (codes "resume ") c.in_ok-last.last) c.print_number.ensures.calls (inr (inl (c.in_ok-last.last, refl))))
+    c.feed_all.ensures.kept)
+    c.acknowledge.ensures.kept)
+    (keeps_other g.D.Disk c.acknowledge.new.store c.acknowledge.new.output.calls c.print_end.new.output.calls (feed_end_text (content_of c.acknowledge.new.store.detector) c.in_ok-end.end) c.print_end.ensures.calls (inr (inr (content_of c.acknowledge.new.store.detector, c.in_ok-end.end, refl))))
+
+pub returns-clause-kept : goal.returns-clause-kept
+returns-clause-kept g c =
+    keeps_then g.D.Disk c.args.store.now c.acknowledge.new.store c.acknowledge.new.store c.args.output.now.calls c.acknowledge.new.output.calls c.print_end.new.output.calls
+    (keeps_then g.D.Disk c.args.store.now c.feed_all.new.store c.acknowledge.new.store c.args.output.now.calls c.feed_all.new.output.calls c.acknowledge.new.output.calls
+    (keeps_then g.D.Disk c.args.store.now c.args.store.now c.feed_all.new.store c.args.output.now.calls c.print_number.new.output.calls c.feed_all.new.output.calls
+    (keeps_other g.D.Disk c.args.store.now c.args.output.now.calls c.print_number.new.output.calls (number_text (codes "resume ") c.in_ok-last.last) c.print_number.ensures.calls (inr (inl (c.in_ok-last.last, refl))))
+    c.feed_all.ensures.kept)
+    c.acknowledge.ensures.kept)
+    (keeps_other g.D.Disk c.acknowledge.new.store c.acknowledge.new.output.calls c.print_end.new.output.calls (feed_end_text (content_of c.acknowledge.new.store.detector) c.in_ok-end.end) c.print_end.ensures.calls (inr (inr (content_of c.acknowledge.new.store.detector, c.in_ok-end.end, refl))))

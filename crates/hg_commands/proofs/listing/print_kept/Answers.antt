@@ -1,4 +1,4 @@
-use Rattle.std.proofs.Common.{◌≡◌, ℕ, ◌+◌, ◌<◌, ◌++◌, ◌∷◌, List, length, drop, get_or, ap, ◌∙◌, sym}
+use Rattle.std.proofs.Common.{◌≡◌, ℕ, ◌+◌, ◌<◌, ◌++◌, ◌∷◌, List, length, drop, get_or, ap, ◌∙◌, sym, arith}
 use Rattle.std.proofs.lemmas.List.{drop_more}
 use Rattle.hg_model.specs.declared.report.Report.{Report}
 use Rattle.hg_wire.specs.Reports.{report_line}
@@ -16,10 +16,12 @@ loop-report-preserved g c =
     let reports = c.args.reports.now in
     let before = c.loop-report.before in
     let index = c.loop-report.report-index in
-    let r = c.report-item.result in (
-      λ first rest goal p. c.in_ok-write_large.ensures.printed first (reports_text (before + 1 + 1) (drop (index + 1) reports) ++ rest) goal
+    let r = c.report-item.result in
+    record {
+      due = λ first rest goal p. c.in_ok-write_large.ensures.printed first (reports_text (before + 1 + 1) (drop (index + 1) reports) ++ rest) goal
           (holds_next c.loop-report.held.items c.hold_report.new.held.items (reports_text (before + 1) (drop index reports)) (line_text (report_line (before + 1) r)) (reports_text (before + 1 + 1) (drop (index + 1) reports))
           c.in_ok-hold_report.ensures.ok (next_report reports index (before + 1) r c.loop-report-test.true c.report-item.is)
-          first (g.W.Write.contents c.loop-report.output.stream) rest goal (c.loop-report.invariant.0 first rest goal p)),
-      (λ h. c.write_large.ensures.lasting (c.loop-report.invariant.1.0 h), ap (λ (n : ℕ). n + 1) c.loop-report.invariant.1.1),
-    )
+          first c.loop-report.output.calls rest goal (c.loop-report.invariant.due first rest goal p));
+      intact = omega (arith, c.in_ok-write_large.ensures.fault, c.loop-report.invariant.intact);
+      count = ap (λ (n : ℕ). n + 1) c.loop-report.invariant.count;
+    }

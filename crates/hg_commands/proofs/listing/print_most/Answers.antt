@@ -9,8 +9,8 @@ use Rattle.hg_commands.proofs.listing.print_most.Goals as goal
 
 pub returns-in_ok-print_kept-in-Reports-clause-printed : goal.returns-in_ok-print_kept-in-Reports-clause-printed
 returns-in_ok-print_kept-in-Reports-clause-printed g c =
-    let old = g.W.Write.contents c.args.output.now.stream in
-    let mid = g.W.Write.contents c.print_kept.new.output.stream in
+    let old = c.args.output.now.calls in
+    let mid = c.print_kept.new.output.calls in
     let content = content_of c.args.store.now.detector in
     let kept = reports_text 1 content.reports in
     let same : reports_text 1 c.as_slice.result.now ≡ kept = ap (λ xs. reports_text 1 xs) (c.as_slice.ensures.value ∙ c.in_ok-reports-in-Reports.ensures.reports) in

@@ -1,7 +1,13 @@
-use Rattle.hg_commands.proofs.Causes.{recovery_has_cause}
+use Rattle.std.proofs.Common.{◌∙◌}
+use Rattle.hg_commands.proofs.Causes.{recovery_is_true, refusal_is_counted}
+use Rattle.hg_store.specs.Images.{failures_of}
 use Rattle.hg_commands.proofs.opening.open_store.Goals as goal
 
 pub returns-in-Err-clause-cause : goal.returns-in-Err-clause-cause
-returns-in-Err-clause-cause g c input_failed output_failed =
-    recovery_has_cause g.D.Disk c.args.devices c.in-Err.refused.1 c.in-Err.refused.0 c.profile.result.sets input_failed output_failed
-    c.in-Err.ensures.refusal c.profile.ensures.0 c.in-Err.ensures.damaged c.in-Err.ensures.full c.in-Err.ensures.device
+returns-in-Err-clause-cause g c =
+    recovery_is_true g.D.Disk c.args.devices c.in-Err.refused.0 c.profile.result.sets
+    c.in-Err.ensures.refusal c.profile.ensures.0 c.in-Err.ensures.damaged c.in-Err.ensures.full
+
+pub returns-in-Err-clause-fault : goal.returns-in-Err-clause-fault
+returns-in-Err-clause-fault g c =
+    c.in-Err.ensures.device ∙ refusal_is_counted c.in-Err.refused.0 (failures_of g.D.Disk c.args.devices)

@@ -1,0 +1,30 @@
+use Rattle.std.proofs.Common.{◌≡◌, ◌∷◌, Result, Ok, take, length, ap, subst, ◌∙◌, arith}
+use Rattle.hg_model.specs.declared.verdict.Refusal.{Refusal}
+use Rattle.hg_streams.specs.Calls.{got_call}
+use Rattle.hg_check.specs.declared.checker.Ending.{Ending}
+use Rattle.hg_check.specs.declared.run.Progress.{Progress}
+use Rattle.hg_check.specs.declared.run.Progress.TheVariants as progress
+use Rattle.hg_check.specs.Running.{Stopped as StoppedAt}
+use Rattle.hg_check.proofs.Underway.{advances_by_piece, advances_nothing, stopped_by_piece}
+use Rattle.hg_check.proofs.run.advance.Goals as goal
+
+stopped_is : {x y : Ending} → ◌≡◌ {A = Result Progress Refusal} (Ok (progress.Stopped x)) (Ok (progress.Stopped y)) → x ≡ y
+stopped_is h = cc
+
+pub returns-in_default-clause-underway : goal.returns-in_default-clause-underway
+returns-in_default-clause-underway g c same =
+    advances_nothing c.args.input.now.calls c.read.new.self.calls c.args.reader.now c.args.detector.now (length c.args.buffer.now)
+    (c.in_ok-count.ensures.calls ∙ ap (λ x. got_call x c.read.new.buffer ∷ c.args.input.now.calls) c.in_default.is) c.requires.whole
+
+pub returns-in-None-clause-underway : goal.returns-in-None-clause-underway
+returns-in-None-clause-underway g c same =
+    advances_by_piece c.args.input.now.calls c.read.new.self.calls c.args.reader.now c.push.new.reader c.args.detector.now c.push.new.detector c.read.new.buffer c.in-Some.count (length c.args.buffer.now)
+    (c.in_ok-count.ensures.calls ∙ ap (λ x. got_call x c.read.new.buffer ∷ c.args.input.now.calls) c.in-Some.is)
+    (c.in_ok-push.ensures.reaches (ap Ok c.in-None.is)) (grind arith)
+
+pub returns-in-Some-2-clause-stopped : goal.returns-in-Some-2-clause-stopped
+returns-in-Some-2-clause-stopped g c end same =
+    subst (λ t. StoppedAt c.args.input.now.calls c.read.new.self.calls c.args.reader.now c.args.detector.now c.push.new.detector t) (stopped_is same)
+    (stopped_by_piece c.args.input.now.calls c.read.new.self.calls c.args.reader.now c.args.detector.now c.push.new.detector (take c.in-Some.count c.read.new.buffer) c.in-Some-2.end
+    (c.in_ok-count.ensures.calls ∙ ap (λ x. got_call x c.read.new.buffer ∷ c.args.input.now.calls) c.in-Some.is)
+    (c.in_ok-push.ensures.ends c.in-Some-2.end (ap Ok c.in-Some-2.is)))

@@ -1,0 +1,40 @@
+-- How making a store ends by a fault.
+use Rattle.std.specs.Prelude.{◌≡◌, ◌⊎◌, ℕ, ◌+◌, List, []}
+use Rattle.hg_model.specs.declared.verdict.Refusal.{Refusal}
+use Rattle.hg_model.specs.declared.verdict.Refusal.TheVariants.{DeviceFault, OutOfMemory}
+use Rattle.hg_disk.specs.declared.disk.Disk as disk
+use Rattle.hg_disk.specs.State.{settled}
+use Rattle.hg_store.specs.declared.devices.Devices.{Devices}
+use Rattle.hg_store.specs.Recovering.{IsEmpty}
+use Rattle.hg_streams.specs.declared.call.WriteCall.{WriteCall}
+use Rattle.hg_streams.specs.Told.{told_refusal}
+use Rattle.hg_check.specs.Streaming.{IsTold}
+use Rattle.hg_commands.specs.Storing.{failed_calls}
+
+module _ {D : Type 0} (g : disk.Ghosts D) where
+  -- The device has no byte, durably, unless a call of it failed since.
+  abbrev pub IsEmptied : D → D → Type 0
+  IsEmptied old new = g.failures new ≡ g.failures old → g.state new ≡ settled []
+
+  -- the same of each device
+  pub record IsCleared (old new : Devices D) : Type 0 where
+    pub journal : IsEmptied old.journal new.journal
+    pub slots : IsEmptied old.slots new.slots
+    pub root0 : IsEmptied old.root0 new.root0
+    pub root1 : IsEmptied old.root1 new.root1
+
+  -- What is left of the devices: those that had bytes are as they were, and those that had none have none again.
+  abbrev pub IsLeftBy : Devices D → Devices D → Devices D → Type 0
+  IsLeftBy old failed new = ((¬ IsEmpty g old) × (new ≡ old)) ⊎ (IsEmpty g old × IsCleared failed new)
+
+  -- Why making a store ended by a fault: one call of a device or of the output failed, or memory was refused and none failed;
+  -- `mid` are the devices as they were then.
+  pub record HasCreateCause (old new : Devices D) (calls_old calls_new : List WriteCall) (r : Refusal) : Type 0 where
+    pub is : (r ≡ DeviceFault) ⊎ (r ≡ OutOfMemory)
+    pub mid : Devices D
+    pub failed : failed_calls g mid calls_new ≡ told_refusal r + failed_calls g old calls_old
+    pub left : IsLeftBy old mid new
+
+  -- It was told, or that failed too.
+  abbrev pub EndsByCreateFault : Devices D → Devices D → List WriteCall → List WriteCall → List WriteCall → List WriteCall → Type 0
+  EndsByCreateFault old new calls_old calls_new faults_old faults_new = (r : Refusal) × (HasCreateCause old new calls_old calls_new r × IsTold faults_old faults_new r)

@@ -1,0 +1,53 @@
+-- The command line of `hgd`, as data: its commands, their arguments and options. What a text of such a command line means, by
+-- the rules of options and arguments that its users know, is `subcommand_of` of the crate clap.
+use Rattle.std.specs.Prelude.{Bool, true, false, Some, [], ◌∷◌, codes, pos}
+use Rattle.clap.specs.Words.{App, Rule, Shape, new_app, new_rule, with_rule, with_subcommand}
+use Rattle.clap.specs.declared.builder.value_parser.ValueParser.TheVariants as parser
+
+-- a store's directory: any text but the empty one
+abbrev pub directory : Bool → Rule
+directory required = record (new_rule (codes "DIR")) {
+  required = required;
+  parser = Some parser.NonEmptyString;
+}
+
+-- a source: 0 to 1,023
+abbrev pub source : Rule
+source = record (new_rule (codes "SOURCE")) {
+  required = true;
+  parser = Some (parser.Signed (pos 0) (pos 1023));
+}
+
+-- how many pages of words may be in memory: 4 to 4,096, and 64 where nothing is said
+abbrev pub frames : Rule
+frames = record (new_rule (codes "frames")) {
+  long = Some (codes "frames");
+  value_names = 1;
+  parser = Some (parser.Signed (pos 4) (pos 4096));
+  defaults = codes "64" ∷ [];
+}
+
+abbrev pub check : Shape
+check = (new_app (codes "check")).top
+
+abbrev pub graph : Shape
+graph = (with_rule (new_app (codes "graph")) (directory false)).top
+
+abbrev pub create : Shape
+create = (with_rule (new_app (codes "create")) (directory true)).top
+
+abbrev pub reports : Shape
+reports = (with_rule (with_rule (new_app (codes "reports")) (directory true)) frames).top
+
+abbrev pub feed : Shape
+feed = (with_rule (with_rule (with_rule (new_app (codes "feed")) (directory true)) source) frames).top
+
+-- `hgd --version` tells the version, and one of the commands is wanted
+abbrev pub start : App
+start = let new = new_app (codes "hgd") in
+    record new { top = record new.top { has_version = true; subcommand_required = true } }
+
+-- `hgd` and its commands
+abbrev pub hgd : App
+hgd = with_subcommand (with_subcommand (with_subcommand (with_subcommand (with_subcommand
+    start check) graph) create) feed) reports

@@ -1,0 +1,66 @@
+-- What a command line asks for, by the command that it names and the texts of that command's arguments.
+use Rattle.std.specs.Prelude.{◌≡◌, ◌⊎◌, ◌≤◌, ℕ, ⊤, List, [], Option, Some, None, IsSomeAnd, Result, MatchResult, codes}
+use Rattle.std.specs.Str.Parse.{IsNumeral, digits_value, without_leading_plus}
+use Rattle.clap.specs.Words.{Kinds, IsAmong, Row, Text, first_of, one_of}
+use Rattle.clap.specs.declared.error.kind.ErrorKind.{ErrorKind}
+use Rattle.clap.specs.declared.error.kind.ErrorKind.TheVariants as kind
+use Rattle.hg_options.specs.declared.task.Frames.{Frames}
+use Rattle.hg_options.specs.declared.task.Source.{Source}
+use Rattle.hg_options.specs.declared.task.StoreTask.{StoreTask}
+use Rattle.hg_options.specs.declared.task.StoreTask.TheVariants as store
+use Rattle.hg_options.specs.declared.task.Task.{Task}
+use Rattle.hg_options.specs.declared.task.Task.TheVariants as task
+use Rattle.hg_options.specs.declared.task.Misread.{Misread}
+use Rattle.hg_options.specs.declared.task.Misread.TheVariants as misread
+
+-- the text of the argument `id` spells the number n in decimal
+abbrev pub Spells : Text → List Row → ℕ → Type 0
+Spells id rows n = (t : Text) × (one_of id rows ≡ Some t) × IsNumeral 10 (without_leading_plus t)
+    × (n ≡ digits_value 10 (without_leading_plus t))
+
+-- n is the number that the argument spells, or `other` where it spells none from low to high
+abbrev pub IsNumber : Text → ℕ → ℕ → ℕ → List Row → ℕ → Type 0
+IsNumber id low high other rows n = (Spells id rows n × (low ≤ n) × (n ≤ high))
+    ⊎ ((n ≡ other) × ((m : ℕ) → Spells id rows m → low ≤ m → m ≤ high → ⊥))
+
+abbrev pub AreFrames : List Row → Frames → Type 0
+AreFrames rows frames = IsNumber (codes "frames") 4 4096 64 rows frames.pages
+
+abbrev pub IsSource : List Row → Source → Type 0
+IsSource rows source = IsNumber (codes "SOURCE") 0 1023 0 rows source.number
+
+-- what the command `name` with these arguments asks for of a store
+abbrev pub IsStoreTask : Text → List Row → StoreTask → Type 0
+IsStoreTask name rows store.Create = name ≡ codes "create"
+IsStoreTask name rows store.Graph = name ≡ codes "graph"
+IsStoreTask name rows (store.Reports frames) = (name ≡ codes "reports") × AreFrames rows frames
+IsStoreTask name rows (store.Feed source frames) =
+    (name ≡ codes "feed") × IsSource rows source × AreFrames rows frames
+
+-- what the command `name` with these arguments asks for
+abbrev pub IsTask : Text × List Row → Task → Type 0
+IsTask (name, rows) task.Check = name ≡ codes "check"
+IsTask (name, rows) task.Graph = (name ≡ codes "graph") × (first_of (codes "DIR") rows ≡ None)
+IsTask (name, rows) (task.OnStore directory given) =
+    (first_of (codes "DIR") rows ≡ Some directory.now) × IsStoreTask name rows given
+
+-- the kinds of fault that are no mistake, but ask for a text
+abbrev pub AsksForText : ErrorKind → Type 0
+AsksForText k = (k ≡ kind.DisplayHelp) ⊎ (k ≡ kind.DisplayVersion)
+
+-- one of the kinds has P
+abbrev pub SomeKind : (ErrorKind → Type 0) → Kinds → Type 0
+SomeKind P kinds = (k : ErrorKind) × IsAmong k kinds × P k
+
+-- what is told of a command line whose first fault has one of these kinds
+abbrev pub IsMisread : Kinds → Misread → Type 0
+IsMisread kinds (misread.Help text) = SomeKind AsksForText kinds
+IsMisread kinds (misread.Bad text) = SomeKind (λ k. AsksForText k → ⊥) kinds
+IsMisread kinds misread.Incomplete = kinds ≡ []
+IsMisread kinds misread.OutOfMemory = ⊤
+
+-- what is made of a command line: what its command asks for, exactly where it has no fault
+abbrev pub IsReading : Kinds → Option (Text × List Row) → Result Task Misread → Type 0
+IsReading kinds command r = MatchResult r
+    (λ task. (kinds ≡ []) × IsSomeAnd command (λ given. IsTask given task))
+    (IsMisread kinds)

@@ -1,0 +1,7 @@
+//! The command line of `hgd`: what its words ask for.
+#![tactic(auto)]
+
+pub mod commands;
+pub mod matches;
+pub mod reading;
+pub mod task;

@@ -1,0 +1,61 @@
+//! From the words of a command line to what they ask for.
+
+ghost use Rattle.std.specs.Prelude.{◌≡◌, IfOk, IfSome, IsSomeAnd};
+ghost use Rattle.clap.specs.Words.{FailsBy, HasKind, HasMatchesOf, Kinds, fault_of, subcommand_of, subcommand_rows_of};
+ghost use Rattle.hg_options.specs.CommandLine as spec;
+ghost use Rattle.hg_options.specs.Tasks.{IsMisread, IsReading, IsTask};
+ghost use Rattle.hg_options.specs.Tools.{texts};
+
+use crate::commands::hgd;
+use crate::matches::task;
+use crate::task::{Misread, Task};
+use clap::error::ErrorKind;
+use clap::{ArgMatches, Error};
+use std::alloc::{AllocError, Global};
+use std::string::String;
+
+/// What the words of a command line, of which the first is the program's name, ask for; or what is to be told instead.
+///
+/// The commands are those of `specs/CommandLine.antt`.
+pub fn read<'a>(alloc: Global, words: &'a [String]) -> Result<Task<'a>, Misread>
+    ensures { IsReading (fault_of spec.hgd (texts words.entry.now)) (subcommand_of spec.hgd (texts words.entry.now)) result }
+{
+    match matches(alloc, words) {
+        Ok(matches) => asked_for(&matches).ok_or(Misread::Incomplete),
+        Err(error) => Err(misread(alloc, &error)),
+    }
+}
+
+/// What the matches of a command line ask for.
+fn asked_for<'a>(matches: &ArgMatches<'a>) -> Option<Task<'a>>
+    ensures { IfSome result (λ task. IsSomeAnd (subcommand_rows_of matches.now) (λ given. IsTask given task)) }
+{
+    let (name, given) = matches.subcommand()?;
+    task(name, given)
+}
+
+/// The matches of the words.
+fn matches<'a>(alloc: Global, words: &'a [String]) -> Result<ArgMatches<'a>, Error>
+    ensures matches { IfOk result (HasMatchesOf spec.hgd (texts words.entry.now)) }
+    ensures kinds { FailsBy (fault_of spec.hgd (texts words.entry.now)) result }
+{
+    hgd(alloc)?.try_get_matches_from(words)
+}
+
+/// What is told of an error.
+fn misread(alloc: Global, error: &Error) -> Misread
+    ensures { (kinds : Kinds) → HasKind kinds error.now → IsMisread kinds result }
+{
+    let kind = error.kind();
+    if kind == ErrorKind::OutOfMemory {
+        return Misread::OutOfMemory;
+    }
+    let Ok(text) = format!(in alloc; "{error}") else {
+        return Misread::OutOfMemory;
+    };
+    if error.use_stderr() {
+        Misread::Bad(text)
+    } else {
+        Misread::Help(text)
+    }
+}

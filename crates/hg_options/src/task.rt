@@ -1,0 +1,56 @@
+//! What a command line asks for.
+
+ghost use Rattle.std.specs.Prelude.{◌≤◌};
+
+use std::string::String;
+
+/// What a command line asks for.
+#[derive(Clone, Copy, Drop)]
+pub enum Task<'a> {
+    /// The races of the trace on standard input.
+    Check,
+    /// The segments of the trace on standard input.
+    Graph,
+    /// What is asked for of the store in a directory.
+    OnStore { directory: &'a str, task: StoreTask },
+}
+
+/// What a command line asks for of a store.
+#[derive(Clone, Copy, Drop)]
+pub enum StoreTask {
+    /// A new store.
+    Create,
+    /// Its segments.
+    Graph,
+    /// Its races.
+    Reports { frames: Frames },
+    /// That it accepts the events of the trace on standard input, as those of a source.
+    Feed { source: Source, frames: Frames },
+}
+
+/// How many pages of words a store may have in memory: 4 to 4,096.
+#[derive(Clone, Copy, Drop)]
+pub struct Frames {
+    pub pages: u16,
+    ghost fits: { (4 ≤ pages) × (pages ≤ 4096) },
+}
+
+/// The number of a source: 0 to 1,023.
+#[derive(Clone, Copy, Drop)]
+pub struct Source {
+    pub number: u16,
+    ghost fits: { number ≤ 1023 },
+}
+
+/// Why a command line asks for nothing that can be done.
+#[derive(Drop)]
+pub enum Misread {
+    /// It asks for help, or for the version: the text for standard output.
+    Help(String),
+    /// It is a bad one: the text for standard error.
+    Bad(String),
+    /// It has no fault, and yet its command lacks what it needs. No command line is known that ends here.
+    Incomplete,
+    /// A growth was refused.
+    OutOfMemory,
+}

@@ -1,0 +1,454 @@
+//! What the lines of a scenario do with a store.
+
+use crate::answers::{Text, put_count, put_count_of_events, put_number, put_ok, put_result};
+use crate::device::{Device, read_device};
+use crate::rows::put_events;
+use crate::running::{Progress, Run, stop_run};
+use crate::shelf::{Held, Image, NO_FUSES, Shelf};
+use crate::stops::{NO_PROGRESS, put_images, put_stops};
+use crate::stores::{Disks, OpenStore, Opening, open};
+use crate::tears::tear;
+use crate::telling::{put_durable, put_picture, put_told};
+use crate::words::{Halt, after, front, number};
+use hg_detect::detector::Answer;
+use hg_disk::Tear;
+use hg_model::event::Named;
+use hg_store::create::CreateFault;
+use hg_store::devices::{Caps, Devices};
+use hg_store::drive::StepAnswer;
+use hg_store::steps::{Step, StepResult};
+use std::alloc::{AllocError, Global};
+
+/// A store, if one is open, and its run so far.
+pub struct Bench {
+    opened: Option<OpenStore>,
+    run: Run,
+    /// All that the store told as it was last remembered.
+    remembered: Text,
+    /// The steps that are to be made at once.
+    steps: Vec<Step>,
+}
+
+impl Drop for Bench {
+    fn drop(self) {
+        let Bench {
+            opened: _,
+            run: _,
+            remembered: _,
+            steps: _,
+        } = self;
+    }
+}
+
+/// How many sets a table has where nothing is said.
+const SETS: u32 = 64;
+
+/// `sets N`, or nothing.
+fn sets(text: &str) -> Result<u32, Halt> {
+    if text.is_empty() {
+        return Ok(SETS);
+    }
+    let (value, _) = number(after("sets ", text)?)?;
+    match u32::try_from(value) {
+        Ok(sets) => Ok(sets),
+        Err(_) => Err(Halt::Words),
+    }
+}
+
+/// Appends the answers of a run: of equal ones that follow each other their number, and one of them.
+fn put_answers(answers: &[StepAnswer<Held>], out: &mut Text) {
+    let [first, others @ ..] = answers else {
+        return;
+    };
+    let mut last = first.result;
+    let mut times = 1_u64;
+    for answer in others {
+        if answer.result == last {
+            times = times.wrapping_add(1);
+        } else {
+            put_times(times, last, out);
+            out.put(b", ");
+            last = answer.result;
+            times = 1;
+        }
+    }
+    put_times(times, last, out);
+}
+
+/// `RESULT`, or `N times RESULT`
+fn put_times(times: u64, answered: StepResult, out: &mut Text) {
+    if times > 1 {
+        put_number(times, out);
+        out.put(b" times ");
+    }
+    put_result(answered, out);
+}
+
+/// Has the store make all steps at once.
+fn drive(
+    alloc: Global,
+    opened: &mut OpenStore,
+    steps: &[Step],
+    out: &mut Text,
+) -> Result<(), Halt> {
+    let [done @ .., last] = steps else {
+        return Err(Halt::Words);
+    };
+    let answers = opened.store.drive(alloc, done, last)?;
+    put_answers(&answers, out);
+    Ok(())
+}
+
+fn put_step(step: Step, steps: &mut Vec<Step>) -> Result<(), Halt> {
+    match steps.push(step) {
+        Ok(()) => Ok(()),
+        Err(_) => Err(Halt::Memory),
+    }
+}
+
+fn is_accepted(answered: StepResult) -> bool {
+    matches!(answered, StepResult::Offered(Ok(Answer::Accepted)))
+}
+
+/// Disks for what is opened next.
+fn take_disks(alloc: Global, shelf: &mut Shelf) -> Result<Disks, AllocError> {
+    let disks = Disks::new(alloc, &shelf.image, &shelf.fuses);
+    shelf.fuses = NO_FUSES;
+    disks
+}
+
+fn put_disks(shelf: &mut Shelf, disks: Disks) -> Result<(), AllocError> {
+    let Devices {
+        journal,
+        slots,
+        root0,
+        root1,
+    } = disks.into_devices();
+    let journal = shelf.put(Device::Journal, journal);
+    let slots = shelf.put(Device::Slots, slots);
+    let root0 = shelf.put(Device::Root0, root0);
+    let root1 = shelf.put(Device::Root1, root1);
+    journal.and(slots).and(root0).and(root1)
+}
+
+/// Why a store was refused.
+fn halt_of(fault: CreateFault) -> Halt {
+    match fault {
+        CreateFault::NotEmpty => Halt::NotEmpty,
+        CreateFault::Refused(refusal) => Halt::Refused(refusal),
+    }
+}
+
+/// Puts back the disks of a store that was refused.
+fn put_refused(shelf: &mut Shelf, fault: CreateFault, disks: Disks) -> Result<(), Halt> {
+    put_disks(shelf, disks)?;
+    Err(halt_of(fault))
+}
+
+/// Makes a run again that stops, and leaves the image on the shelf.
+fn stop_at(
+    alloc: Global,
+    run: &Run,
+    shelf: &mut Shelf,
+    device: Device,
+    calls: u64,
+    tear: Tear,
+) -> Result<Progress, AllocError> {
+    let mut progress = NO_PROGRESS;
+    let stopped = stop_run(alloc, run, device, calls, &mut progress)?;
+    put_images(&stopped.devices, device, tear, Tear::Kept, &mut shelf.image)?;
+    Ok(progress)
+}
+
+/// `ACKNOWLEDGED`, or `ACKNOWLEDGED or ACCEPTED`
+fn put_progress(progress: Progress, out: &mut Text) -> Result<(), Halt> {
+    put_number(progress.acknowledged, out);
+    if progress.in_doubt {
+        put_count(b" or ", progress.accepted, out);
+    }
+    Ok(())
+}
+
+/// What a recovery from the disks as they are finds. The run stays.
+fn find(alloc: Global, shelf: &Shelf, out: &mut Text) -> Result<(), Halt> {
+    let disks = Disks::whole(alloc, &shelf.image)?;
+    match open(alloc, disks, Opening::Recover(SETS)) {
+        Ok(opened) => put_found(opened, out),
+        Err((fault, disks)) => {
+            drop(disks);
+            Err(halt_of(fault))
+        }
+    }
+}
+
+/// How many events a store has.
+fn put_found(opened: OpenStore, out: &mut Text) -> Result<(), Halt> {
+    let count = opened.store.events().unwrap_or(0);
+    drop(opened);
+    put_count_of_events(count, out);
+    Ok(())
+}
+
+/// `sets N slots M`: the greatest that a store may have.
+fn put_profile(out: &mut Text) -> Result<(), Halt> {
+    let caps = Caps::profile();
+    put_count(b"sets ", u64::from(caps.sets), out);
+    put_count(b" slots ", u64::from(caps.slots), out);
+    Ok(())
+}
+
+impl Bench {
+    pub fn new(alloc: Global) -> Bench {
+        Bench {
+            opened: None,
+            run: Run {
+                start: Image::new(alloc),
+                opening: Opening::Create(1),
+                base: 0,
+                steps: Vec::new(alloc),
+            },
+            remembered: Text::new(alloc),
+            steps: Vec::new(alloc),
+        }
+    }
+
+    /// Has this store, or none.
+    fn put_opened(&mut self, opened: Option<OpenStore>) {
+        self.opened = opened;
+    }
+
+    pub fn clear(&mut self) {
+        self.put_opened(None);
+        self.remembered.clear();
+        self.steps.clear();
+    }
+
+    /// Puts the disks of the store back, if one is open.
+    pub fn close(&mut self, shelf: &mut Shelf) -> Result<(), AllocError> {
+        match self.opened.take() {
+            Some(opened) => put_disks(shelf, opened.into_disks()),
+            None => Ok(()),
+        }
+    }
+
+    /// Keeps the store that was opened.
+    fn keep(&mut self, opened: OpenStore, out: &mut Text) -> Result<(), Halt> {
+        let base = opened.store.events().unwrap_or(0);
+        self.run.base = base;
+        self.put_opened(Some(opened));
+        put_count_of_events(base, out);
+        Ok(())
+    }
+
+    /// Opens a store over the disks as they are, and begins a run.
+    fn open(
+        &mut self,
+        alloc: Global,
+        shelf: &mut Shelf,
+        opening: Opening,
+        out: &mut Text,
+    ) -> Result<(), Halt> {
+        self.close(shelf)?;
+        self.run.start.copy(&shelf.image)?;
+        self.run.opening = opening;
+        self.run.steps.clear();
+        let disks = take_disks(alloc, shelf)?;
+        match open(alloc, disks, opening) {
+            Ok(opened) => self.keep(opened, out),
+            Err((fault, disks)) => put_refused(shelf, fault, disks),
+        }
+    }
+
+    /// What the store tells of itself, where `line` says what of it.
+    fn tell(&self, alloc: Global, line: &str, out: &mut Text) -> Result<(), Halt> {
+        let Some(opened) = &self.opened else {
+            return Err(Halt::Closed);
+        };
+        if line == "unchanged" {
+            return self.compare(alloc, opened, out);
+        }
+        put_told(alloc, &opened.store, line, out)
+    }
+
+    fn compare(&self, alloc: Global, opened: &OpenStore, out: &mut Text) -> Result<(), Halt> {
+        let mut picture = Text::new(alloc);
+        put_picture(alloc, &opened.store, &mut picture)?;
+        if picture.bytes() == self.remembered.bytes() {
+            out.put(b"unchanged");
+        } else {
+            out.put(b"changed");
+        }
+        Ok(())
+    }
+
+    fn remember(&mut self, alloc: Global, out: &mut Text) -> Result<(), Halt> {
+        self.remembered.clear();
+        let Some(opened) = &self.opened else {
+            return Err(Halt::Closed);
+        };
+        put_picture(alloc, &opened.store, &mut self.remembered)?;
+        out.put(b"ok");
+        Ok(())
+    }
+
+    fn read(&mut self, alloc: Global, rest: &str, out: &mut Text) -> Result<(), Halt> {
+        let Some(opened) = &mut self.opened else {
+            return Err(Halt::Closed);
+        };
+        put_durable(alloc, &mut opened.store, rest, out)
+    }
+
+    fn drive(&mut self, alloc: Global, out: &mut Text) -> Result<(), Halt> {
+        let Some(opened) = &mut self.opened else {
+            return Err(Halt::Closed);
+        };
+        self.run.steps.extend_from_slice(&self.steps)?;
+        drive(alloc, opened, &self.steps, out)?;
+        self.steps.clear();
+        Ok(())
+    }
+
+    fn step(&mut self, step: Step) -> Result<StepResult, Halt> {
+        put_step(step, &mut self.run.steps)?;
+        match &mut self.opened {
+            Some(opened) => Ok(opened.store.step(&step)),
+            None => Err(Halt::Closed),
+        }
+    }
+
+    fn commit(&mut self, out: &mut Text) -> Result<(), Halt> {
+        let answered = self.step(Step::Commit)?;
+        put_result(answered, out);
+        Ok(())
+    }
+
+    /// Offers events. The answer is `accepted`, or the first other one.
+    fn offer_all(&mut self, events: &[Named], out: &mut Text) -> Result<(), Halt> {
+        for event in events {
+            let answered = self.step(Step::Offer(*event))?;
+            if !is_accepted(answered) {
+                put_result(answered, out);
+                return Ok(());
+            }
+        }
+        out.put(b"accepted");
+        Ok(())
+    }
+
+    fn offer(&mut self, alloc: Global, text: &str, out: &mut Text) -> Result<(), Halt> {
+        let mut events = Vec::new(alloc);
+        put_events(text, &mut events)?;
+        self.offer_all(&events, out)
+    }
+
+    /// Notes the steps of a line, to be made at once.
+    fn note(&mut self, alloc: Global, text: &str) -> Result<(), Halt> {
+        let (word, rest) = front(text);
+        match word {
+            "offer" => self.note_offers(alloc, rest),
+            "commit" => put_step(Step::Commit, &mut self.steps),
+            _ => Err(Halt::Words),
+        }
+    }
+
+    fn note_offers(&mut self, alloc: Global, text: &str) -> Result<(), Halt> {
+        let mut events = Vec::new(alloc);
+        put_events(text, &mut events)?;
+        for event in events.iter() {
+            put_step(Step::Offer(*event), &mut self.steps)?;
+        }
+        Ok(())
+    }
+
+    /// `DEVICE at K TEAR`: stops the run of the store after so many calls of a device, and leaves the image.
+    fn stop(
+        &mut self,
+        alloc: Global,
+        shelf: &mut Shelf,
+        text: &str,
+        out: &mut Text,
+    ) -> Result<(), Halt> {
+        let (device, rest) = read_device(text)?;
+        let (calls, rest) = number(after("at ", rest)?)?;
+        let (Some(tear), _) = tear(rest)? else {
+            return Err(Halt::Words);
+        };
+        self.put_opened(None);
+        let progress = stop_at(alloc, &self.run, shelf, device, calls, tear)?;
+        put_progress(progress, out)
+    }
+
+    /// Does what a line asks for that makes a store, or changes it.
+    fn change(
+        &mut self,
+        alloc: Global,
+        shelf: &mut Shelf,
+        word: &str,
+        rest: &str,
+        out: &mut Text,
+    ) -> Result<(), Halt> {
+        match word {
+            "store" => self.open(alloc, shelf, Opening::Create(sets(rest)?), out),
+            "recover" => self.open(alloc, shelf, Opening::Recover(sets(rest)?), out),
+            "offer" => self.offer(alloc, rest, out),
+            "commit" => self.commit(out),
+            "then" => {
+                self.note(alloc, rest)?;
+                put_ok(out)
+            }
+            "run" => self.drive(alloc, out),
+            _ => Err(Halt::Words),
+        }
+    }
+
+    /// `.. every device at each call TEARS`, or `DEVICE at K TEAR`
+    fn stop_or_all(
+        &mut self,
+        alloc: Global,
+        shelf: &mut Shelf,
+        rest: &str,
+        out: &mut Text,
+    ) -> Result<(), Halt> {
+        match rest.strip_prefix("every device at each call ") {
+            Some(tears) => put_stops(alloc, &self.run, tears, out),
+            None => self.stop(alloc, shelf, rest, out),
+        }
+    }
+
+    /// Does what a line asks for that looks at a store, or at what a stop leaves of it.
+    fn look(
+        &mut self,
+        alloc: Global,
+        shelf: &mut Shelf,
+        word: &str,
+        rest: &str,
+        out: &mut Text,
+    ) -> Result<(), Halt> {
+        match word {
+            "expect" => self.tell(alloc, rest, out),
+            "read" => self.read(alloc, rest, out),
+            "remember" => self.remember(alloc, out),
+            "found" => find(alloc, shelf, out),
+            "stop" => self.stop_or_all(alloc, shelf, rest, out),
+            "profile" => put_profile(out),
+            _ => Err(Halt::Words),
+        }
+    }
+
+    /// Does what a line asks for that concerns a store.
+    pub fn perform(
+        &mut self,
+        alloc: Global,
+        shelf: &mut Shelf,
+        word: &str,
+        rest: &str,
+        out: &mut Text,
+    ) -> Result<(), Halt> {
+        match word {
+            "store" | "recover" | "offer" | "commit" | "then" | "run" => {
+                self.change(alloc, shelf, word, rest, out)
+            }
+            _ => self.look(alloc, shelf, word, rest, out),
+        }
+    }
+}

@@ -1,0 +1,99 @@
+//! Events as a line names them, one or a row of them.
+
+use crate::words::{Halt, number, number_of, short_number};
+use hg_model::event::{Access, Block, Event, Named};
+use hg_wire::line::read_line;
+
+/// Events under numbers that follow one another: the first, the last number, and by how many bytes each is further on than
+/// the one before.
+#[derive(Clone, Copy)]
+struct Row {
+    first: Named,
+    last: u64,
+    step: u64,
+}
+
+fn read_event(text: &str) -> Result<Event, Halt> {
+    match read_line(text.as_bytes()) {
+        Ok(event) => Ok(event),
+        Err(_) => Err(Halt::Words),
+    }
+}
+
+/// `to LAST `, or nothing, behind the first number
+fn read_last(first: u64, text: &str) -> Result<(u64, &str), Halt> {
+    match text.strip_prefix("to ") {
+        Some(rest) => number(rest),
+        None => Ok((first, text)),
+    }
+}
+
+fn row_by(text: &str, step: u64) -> Result<Row, Halt> {
+    let (source, rest) = short_number(text)?;
+    let (sent, rest) = number(rest)?;
+    let (last, rest) = read_last(sent, rest)?;
+    let first = Named {
+        source,
+        number: sent,
+        event: read_event(rest)?,
+    };
+    Ok(Row { first, last, step })
+}
+
+/// `SOURCE NUMBER EVENT`, or `SOURCE FIRST to LAST EVENT`, with ` step BYTES` behind it or without
+fn read_row(text: &str) -> Result<Row, Halt> {
+    match text.split_once(" step ") {
+        Some((text, step)) => row_by(text, number_of(step)?),
+        None => row_by(text, 0),
+    }
+}
+
+fn access_on(access: Access, step: u64) -> Access {
+    Access {
+        at: access.at.wrapping_add(step),
+        ..access
+    }
+}
+
+fn block_on(block: Block, step: u64) -> Block {
+    Block {
+        at: block.at.wrapping_add(step),
+        ..block
+    }
+}
+
+/// The next event of a row.
+fn next_of(named: Named, step: u64) -> Named {
+    let event = match named.event {
+        Event::Read(access) => Event::Read(access_on(access, step)),
+        Event::Write(access) => Event::Write(access_on(access, step)),
+        Event::Alloc(block) => Event::Alloc(block_on(block, step)),
+        Event::Free(block) => Event::Free(block_on(block, step)),
+        other => other,
+    };
+    Named {
+        source: named.source,
+        number: named.number.wrapping_add(1),
+        event,
+    }
+}
+
+/// Appends an event.
+pub fn put_event(named: Named, events: &mut Vec<Named>) -> Result<(), Halt> {
+    match events.push(named) {
+        Ok(()) => Ok(()),
+        Err(_) => Err(Halt::Memory),
+    }
+}
+
+/// Appends the events that a line names.
+pub fn put_events(text: &str, events: &mut Vec<Named>) -> Result<(), Halt> {
+    let row = read_row(text)?;
+    let mut named = row.first;
+    put_event(named, events)?;
+    for _ in row.first.number..row.last {
+        named = next_of(named, row.step);
+        put_event(named, events)?;
+    }
+    Ok(())
+}

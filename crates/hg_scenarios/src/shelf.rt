@@ -1,0 +1,221 @@
+//! What the disks of a scenario have while nothing is open over them.
+
+use crate::answers::{Text, put_bytes, put_number, put_ok};
+use crate::device::{Device, read_device};
+use crate::tears::tear;
+use crate::words::{Halt, after, number};
+use hg_disk::{FuseDisk, MemDisk, Tear};
+use hg_store::devices::Devices;
+use std::alloc::{AllocError, Global};
+
+/// A disk of a scenario.
+pub type Held = FuseDisk<MemDisk>;
+
+/// When a disk fails: never, at the call after so many, or at all calls after so many.
+#[derive(Clone, Copy)]
+pub enum Fuse {
+    Never,
+    Once(u64),
+    On(u64),
+}
+
+pub const NO_FUSES: Devices<Fuse> = Devices {
+    journal: Fuse::Never,
+    slots: Fuse::Never,
+    root0: Fuse::Never,
+    root1: Fuse::Never,
+};
+
+const NO_CALLS: Devices<u64> = Devices {
+    journal: 0,
+    slots: 0,
+    root0: 0,
+    root1: 0,
+};
+
+/// The bytes of the four devices.
+pub struct Image {
+    pub parts: Devices<Vec<u8>>,
+}
+
+impl Drop for Image {
+    fn drop(self) {
+        let Image { parts: _ } = self;
+    }
+}
+
+impl Image {
+    /// Four devices without a byte.
+    pub fn new(alloc: Global) -> Image {
+        Image {
+            parts: Devices {
+                journal: Vec::new(alloc),
+                slots: Vec::new(alloc),
+                root0: Vec::new(alloc),
+                root1: Vec::new(alloc),
+            },
+        }
+    }
+
+    pub fn clear(&mut self) {
+        self.parts.journal.clear();
+        self.parts.slots.clear();
+        self.parts.root0.clear();
+        self.parts.root1.clear();
+    }
+
+    /// Has the bytes of another one.
+    pub fn copy(&mut self, other: &Image) -> Result<(), AllocError> {
+        self.clear();
+        self.parts.journal.extend_from_slice(&other.parts.journal)?;
+        self.parts.slots.extend_from_slice(&other.parts.slots)?;
+        self.parts.root0.extend_from_slice(&other.parts.root0)?;
+        self.parts.root1.extend_from_slice(&other.parts.root1)
+    }
+}
+
+/// The most bytes of a disk to start from.
+const MOST_BYTES: usize = 1 << 24;
+
+/// A disk in memory with these bytes.
+fn memory_with(alloc: Global, bytes: &[u8]) -> Result<MemDisk, AllocError> {
+    if bytes.len() > MOST_BYTES {
+        return Err(AllocError);
+    }
+    MemDisk::holding(alloc, Vec::from_slice(alloc, bytes)?)
+}
+
+/// A disk with these bytes that fails as is told.
+pub fn disk_with(alloc: Global, bytes: &[u8], fuse: Fuse) -> Result<Held, AllocError> {
+    let disk = memory_with(alloc, bytes)?;
+    Ok(match fuse {
+        Fuse::Never => FuseDisk::once(disk, u64::MAX),
+        Fuse::Once(after) => FuseDisk::once(disk, after.saturating_add(1)),
+        Fuse::On(after) => FuseDisk::stop(disk, after.saturating_add(1)),
+    })
+}
+
+/// The disks' bytes, how many calls each had, and when those that are opened next fail.
+pub struct Shelf {
+    pub image: Image,
+    pub calls: Devices<u64>,
+    pub fuses: Devices<Fuse>,
+    /// What a crash makes of what is not synced, as a disk is put back.
+    pub tear: Tear,
+}
+
+impl Drop for Shelf {
+    fn drop(self) {
+        let Shelf {
+            image: _,
+            calls: _,
+            fuses: _,
+            tear: _,
+        } = self;
+    }
+}
+
+/// Copies what a crash leaves of a disk.
+fn copy_image(disk: &MemDisk, tear: Tear, bytes: &mut Vec<u8>) -> Result<(), AllocError> {
+    let image = disk.image(disk.calls().len(), tear)?;
+    bytes.clear();
+    bytes.extend_from_slice(&image)
+}
+
+/// Takes a disk back: its bytes, and how many calls it had.
+fn put_back(
+    disk: Held,
+    tear: Tear,
+    bytes: &mut Vec<u8>,
+    calls: &mut u64,
+) -> Result<(), AllocError> {
+    let disk = disk.into_inner();
+    *calls = disk.calls().len() as u64;
+    copy_image(&disk, tear, bytes)
+}
+
+impl Shelf {
+    /// Four disks without a byte.
+    pub fn new(alloc: Global) -> Shelf {
+        Shelf {
+            image: Image::new(alloc),
+            calls: NO_CALLS,
+            fuses: NO_FUSES,
+            tear: Tear::Kept,
+        }
+    }
+
+    pub fn clear(&mut self) {
+        self.image.clear();
+        self.calls = NO_CALLS;
+        self.fuses = NO_FUSES;
+        self.tear = Tear::Kept;
+    }
+
+    /// A disk of its own for what is to be opened.
+    pub fn take(&mut self, alloc: Global, device: Device) -> Result<Held, AllocError> {
+        let fuse = *device.of(&self.fuses);
+        *device.of_mut(&mut self.fuses) = Fuse::Never;
+        disk_with(alloc, device.of(&self.image.parts), fuse)
+    }
+
+    /// Takes a disk back.
+    pub fn put(&mut self, device: Device, disk: Held) -> Result<(), AllocError> {
+        let bytes = device.of_mut(&mut self.image.parts);
+        put_back(disk, self.tear, bytes, device.of_mut(&mut self.calls))
+    }
+
+    /// `DEVICE call K once`, or `.. on`
+    fn fail(&mut self, text: &str) -> Result<(), Halt> {
+        let (device, rest) = read_device(text)?;
+        let (call, rest) = number(after("call ", rest)?)?;
+        let before = call.saturating_sub(1);
+        let fuse = match rest {
+            "once" => Fuse::Once(before),
+            "on" => Fuse::On(before),
+            _ => return Err(Halt::Words),
+        };
+        *device.of_mut(&mut self.fuses) = fuse;
+        Ok(())
+    }
+
+    /// `DEVICE BYTES`
+    fn set(&mut self, text: &str) -> Result<(), Halt> {
+        let (device, rest) = read_device(text)?;
+        let bytes = device.of_mut(&mut self.image.parts);
+        bytes.clear();
+        crate::words::put_bytes(rest, bytes)
+    }
+
+    /// What a device that is closed has, or had: its bytes, how many, or how many calls.
+    fn tell(&self, word: &str, rest: &str, out: &mut Text) -> Result<(), Halt> {
+        let (device, _) = read_device(rest)?;
+        let bytes = device.of(&self.image.parts);
+        match word {
+            "bytes" => put_bytes(bytes, out),
+            "length" => put_number(bytes.len() as u64, out),
+            _ => put_number(*device.of(&self.calls), out),
+        }
+        Ok(())
+    }
+
+    /// Does what a line asks for that concerns the disks alone.
+    pub fn perform(&mut self, word: &str, rest: &str, out: &mut Text) -> Result<(), Halt> {
+        match word {
+            "disk" => self.set(rest)?,
+            "fail" => self.fail(rest)?,
+            _ => return self.tell(word, rest, out),
+        }
+        put_ok(out)
+    }
+
+    /// Has each disk that is put back be torn as is told, until it is told otherwise.
+    pub fn tear_by(&mut self, text: &str) -> Result<(), Halt> {
+        let (found, _) = tear(text)?;
+        match found {
+            Some(found) => self.tear = found,
+            None => return Err(Halt::Words),
+        }
+        Ok(())
+    }
+}

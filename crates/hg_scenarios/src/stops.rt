@@ -1,0 +1,238 @@
+//! A stop of each device at each of its calls.
+
+use crate::answers::{Text, put_count, put_tear};
+use crate::device::{DEVICES, Device};
+use crate::running::{Progress, Reference, Run, reference_of, resume, stop_run};
+use crate::shelf::Image;
+use crate::stores::{Memories, Opening};
+use crate::tears::tears_of;
+use crate::words::Halt;
+use hg_disk::{Answer, Call, MemDisk, Tear};
+use hg_store::devices::Devices;
+use std::alloc::{AllocError, Global};
+
+/// How many stops were gone on from, and how often the commit that was under way was found.
+#[derive(Clone, Copy)]
+pub struct Count {
+    pub stops: u64,
+    pub ahead: u64,
+}
+
+/// The most calls of a device.
+const MOST_CALLS: u64 = 1_000_000;
+
+pub const NO_PROGRESS: Progress = Progress {
+    is_open: false,
+    acknowledged: 0,
+    accepted: 0,
+    in_doubt: false,
+};
+
+/// How many writes and cuts there were since the last sync, and how many bytes they wrote.
+fn since_sync(disk: &MemDisk) -> (u64, usize) {
+    let mut changes = 0_u64;
+    let mut bytes = 0_usize;
+    for told in disk.calls() {
+        match (told.call, told.answer) {
+            (Call::Sync, Answer::Done) => {
+                changes = 0;
+                bytes = 0;
+            }
+            (Call::Write { .. } | Call::Cut { .. }, _) => {
+                changes = changes.wrapping_add(1);
+                bytes = bytes.wrapping_add(told.len_written());
+            }
+            _ => {}
+        }
+    }
+    (changes, bytes)
+}
+
+/// Whether each device but this one is synced.
+fn others_are_synced(devices: &Devices<MemDisk>, torn: Device) -> bool {
+    for device in DEVICES {
+        if device as u8 != torn as u8 && since_sync(device.of(devices)).0 > 0 {
+            return false;
+        }
+    }
+    true
+}
+
+fn put_image(disk: &MemDisk, tear: Tear, bytes: &mut Vec<u8>) -> Result<(), AllocError> {
+    let image = disk.image(disk.calls().len(), tear)?;
+    bytes.clear();
+    bytes.extend_from_slice(&image)
+}
+
+/// What a stop leaves of disks: one is torn, and the others are torn alike.
+pub fn put_images(
+    devices: &Devices<MemDisk>,
+    torn: Device,
+    tear: Tear,
+    others: Tear,
+    image: &mut Image,
+) -> Result<(), AllocError> {
+    for device in DEVICES {
+        put_image(device.of(devices), others, device.of_mut(&mut image.parts))?;
+    }
+    put_image(torn.of(devices), tear, torn.of_mut(&mut image.parts))
+}
+
+/// A stop, and where it is.
+#[derive(Clone, Copy)]
+struct Stop<'a> {
+    run: &'a Run,
+    reference: &'a Reference,
+    devices: &'a Devices<MemDisk>,
+    progress: Progress,
+    device: Device,
+    after: u64,
+}
+
+/// `DEVICE after K calls, TEAR: `
+fn put_place(stop: &Stop, tear: Tear, out: &mut Text) {
+    out.clear();
+    out.put(stop.device.name());
+    put_count(b" after ", stop.after, out);
+    out.put(b" calls, ");
+    put_tear(tear, out);
+    out.put(b": ");
+}
+
+/// Goes on from one image.
+fn try_image(
+    alloc: Global,
+    stop: &Stop,
+    tear: Tear,
+    others: Tear,
+    count: &mut Count,
+    out: &mut Text,
+) -> Result<(), Halt> {
+    put_place(stop, tear, out);
+    let mut image = Image::new(alloc);
+    put_images(stop.devices, stop.device, tear, others, &mut image)?;
+    let found = resume(alloc, &image, stop.run, stop.progress, stop.reference, out)?;
+    count.stops = count.stops.wrapping_add(1);
+    if found > stop.progress.acknowledged {
+        count.ahead = count.ahead.wrapping_add(1);
+    }
+    Ok(())
+}
+
+/// Goes on from one tear, with the other devices as they read, and as they were synced where that differs.
+fn try_tear(
+    alloc: Global,
+    stop: &Stop,
+    tear: Tear,
+    count: &mut Count,
+    out: &mut Text,
+) -> Result<(), Halt> {
+    try_image(alloc, stop, tear, Tear::Kept, count, out)?;
+    if others_are_synced(stop.devices, stop.device) {
+        return Ok(());
+    }
+    try_image(alloc, stop, tear, Tear::Lost, count, out)
+}
+
+/// Goes on from each front of what is not synced.
+fn try_fronts(alloc: Global, stop: &Stop, count: &mut Count, out: &mut Text) -> Result<(), Halt> {
+    let (_, bytes) = since_sync(stop.device.of(stop.devices));
+    for front in 0..bytes {
+        try_tear(alloc, stop, Tear::Front(front), count, out)?;
+    }
+    Ok(())
+}
+
+/// Goes on from each tear of one stop.
+fn try_stop(
+    alloc: Global,
+    stop: &Stop,
+    tears: &[Option<Tear>],
+    count: &mut Count,
+    out: &mut Text,
+) -> Result<(), Halt> {
+    for tear in tears {
+        match *tear {
+            Some(tear) => try_tear(alloc, stop, tear, count, out)?,
+            None => try_fronts(alloc, stop, count, out)?,
+        }
+    }
+    Ok(())
+}
+
+/// Goes on from the stop of a device after so many calls. It is none where the run has no more.
+fn try_call(
+    alloc: Global,
+    run: &Run,
+    reference: &Reference,
+    device: Device,
+    after: u64,
+    tears: &[Option<Tear>],
+    count: &mut Count,
+    out: &mut Text,
+) -> Result<bool, Halt> {
+    let mut progress = NO_PROGRESS;
+    let stopped = stop_run(alloc, run, device, after, &mut progress)?;
+    let devices = &stopped.devices;
+    if (device.of(devices).calls().len() as u64) < after {
+        return Ok(false);
+    }
+    let stop = Stop {
+        run,
+        reference,
+        devices,
+        progress,
+        device,
+        after,
+    };
+    // Of a stop inside a making nothing is promised.
+    if progress.is_open || matches!(run.opening, Opening::Recover(_)) {
+        try_stop(alloc, &stop, tears, count, out)?;
+    }
+    Ok(true)
+}
+
+/// Goes on from each stop of one device.
+fn try_device(
+    alloc: Global,
+    run: &Run,
+    reference: &Reference,
+    device: Device,
+    tears: &[Option<Tear>],
+    count: &mut Count,
+    out: &mut Text,
+) -> Result<(), Halt> {
+    for after in 0..MOST_CALLS {
+        if !try_call(alloc, run, reference, device, after, tears, count, out)? {
+            return Ok(());
+        }
+    }
+    Ok(())
+}
+
+/// Goes on from each stop of each device, for each of the tears that the words name.
+fn count_stops(
+    alloc: Global,
+    run: &Run,
+    words: &str,
+    count: &mut Count,
+    out: &mut Text,
+) -> Result<(), Halt> {
+    let tears = tears_of(alloc, words)?;
+    let reference = reference_of(alloc, run)?;
+    for device in DEVICES {
+        try_device(alloc, run, &reference, device, &tears, count, out)?;
+    }
+    Ok(())
+}
+
+/// Goes on from each stop of each device: `N ended alike, M of them ahead`.
+pub fn put_stops(alloc: Global, run: &Run, words: &str, out: &mut Text) -> Result<(), Halt> {
+    let mut count = Count { stops: 0, ahead: 0 };
+    count_stops(alloc, run, words, &mut count, out)?;
+    out.clear();
+    put_count(b"", count.stops, out);
+    put_count(b" ended alike, ", count.ahead, out);
+    out.put(b" of them ahead");
+    Ok(())
+}

@@ -1,0 +1,157 @@
+//! Stores over disks in memory.
+//!
+//! A store has many parts, and each exit of a function that owns one lets all of them go. So the owners here have a `drop`
+//! of their own: what lets them go is one call.
+
+ghost use Rattle.std.specs.Prelude.{◌≡◌, ◌≤◌};
+
+use crate::shelf::{Fuse, Held, Image, NO_FUSES, disk_with};
+use hg_disk::MemDisk;
+use hg_store::create::CreateFault;
+use hg_store::devices::{Caps, Devices};
+use hg_store::store::Store;
+use std::alloc::{AllocError, Global};
+
+/// How a store comes to be, with room for how many sets.
+#[derive(Clone, Copy)]
+pub enum Opening {
+    Create(u32),
+    Recover(u32),
+}
+
+/// The disks of a store.
+pub struct Disks {
+    devices: Devices<Held>,
+}
+
+impl Drop for Disks {
+    fn drop(self) {
+        let Disks { devices } = self;
+        drop(devices);
+    }
+}
+
+/// What is below the fuses of disks.
+pub struct Memories {
+    pub devices: Devices<MemDisk>,
+}
+
+impl Drop for Memories {
+    fn drop(self) {
+        let Memories { devices } = self;
+        drop(devices);
+    }
+}
+
+/// A store that is open.
+pub struct OpenStore {
+    pub store: Store<Held>,
+}
+
+impl Drop for OpenStore {
+    fn drop(self) {
+        let OpenStore { store } = self;
+        drop(store);
+    }
+}
+
+impl OpenStore {
+    /// Its devices. What was pending is lost.
+    pub fn into_disks(self) -> Disks {
+        let OpenStore { store } = self;
+        Disks {
+            devices: store.into_devices(),
+        }
+    }
+}
+
+/// A disk, or one without a byte, and a word that memory was refused.
+fn disk_or_none(alloc: Global, bytes: &[u8], fuse: Fuse, is_whole: &mut bool) -> Held {
+    match disk_with(alloc, bytes, fuse) {
+        Ok(disk) => disk,
+        Err(AllocError) => {
+            *is_whole = false;
+            Held::once(MemDisk::new(alloc), 1)
+        }
+    }
+}
+
+impl Disks {
+    /// Disks with these bytes, that fail as is told.
+    pub fn new(alloc: Global, image: &Image, fuses: &Devices<Fuse>) -> Result<Disks, AllocError> {
+        let parts = &image.parts;
+        let mut is_whole = true;
+        let devices = Devices {
+            journal: disk_or_none(alloc, &parts.journal, fuses.journal, &mut is_whole),
+            slots: disk_or_none(alloc, &parts.slots, fuses.slots, &mut is_whole),
+            root0: disk_or_none(alloc, &parts.root0, fuses.root0, &mut is_whole),
+            root1: disk_or_none(alloc, &parts.root1, fuses.root1, &mut is_whole),
+        };
+        let disks = Disks { devices };
+        if is_whole { Ok(disks) } else { Err(AllocError) }
+    }
+
+    /// Disks that don't fail.
+    pub fn whole(alloc: Global, image: &Image) -> Result<Disks, AllocError> {
+        Disks::new(alloc, image, &NO_FUSES)
+    }
+
+    pub fn into_devices(self) -> Devices<Held> {
+        let Disks { devices } = self;
+        devices
+    }
+
+    /// What is below their fuses.
+    pub fn into_memories(self) -> Memories {
+        let Disks { devices } = self;
+        let Devices {
+            journal,
+            slots,
+            root0,
+            root1,
+        } = devices;
+        Memories {
+            devices: Devices {
+                journal: journal.into_inner(),
+                slots: slots.into_inner(),
+                root0: root0.into_inner(),
+                root1: root1.into_inner(),
+            },
+        }
+    }
+}
+
+fn caps_of(sets: u32) -> Caps
+    ensures { (1 ≤ result.sets) × (result.sets ≤ 262144) × (result.slots ≡ 16) }
+{
+    Caps {
+        sets: sets.clamp(1, 262_144),
+        slots: 16,
+    }
+}
+
+fn create(alloc: Global, disks: Disks, sets: u32) -> Result<OpenStore, (CreateFault, Disks)> {
+    match Store::create(alloc, disks.into_devices(), 4, caps_of(sets)) {
+        Ok(store) => Ok(OpenStore { store }),
+        Err((fault, devices)) => Err((fault, Disks { devices })),
+    }
+}
+
+fn recover(alloc: Global, disks: Disks, sets: u32) -> Result<OpenStore, (CreateFault, Disks)> {
+    match Store::recover(alloc, disks.into_devices(), 4, caps_of(sets)) {
+        Ok(store) => Ok(OpenStore { store }),
+        Err((refusal, devices)) => Err((CreateFault::Refused(refusal), Disks { devices })),
+    }
+}
+
+/// Makes or recovers a store. A refusal hands the disks back.
+pub fn open(
+    alloc: Global,
+    disks: Disks,
+    opening: Opening,
+) -> Result<OpenStore, (CreateFault, Disks)> {
+    match opening {
+        Opening::Create(sets) => create(alloc, disks, sets),
+        Opening::Recover(sets) => recover(alloc, disks, sets),
+    }
+}

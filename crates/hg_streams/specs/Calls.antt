@@ -1,0 +1,80 @@
+-- What the calls of a stream gave and took. Lists of calls have the newest first.
+use Rattle.std.specs.Prelude.{ℕ, ◌+◌, List, [], ◌∷◌, ◌++◌, take, ⊤, Option, Some, None, Result, Ok, Err}
+use Rattle.std.specs.declared.io.ErrorKind.{ErrorKind}
+use Rattle.std.specs.declared.io.ErrorKind.TheVariants.{Interrupted}
+use Rattle.hg_streams.specs.declared.call.ReadCall.{ReadCall}
+use Rattle.hg_streams.specs.declared.call.ReadCall.TheVariants.{Gave, Erred}
+use Rattle.hg_streams.specs.declared.call.WriteCall.{WriteCall}
+use Rattle.hg_streams.specs.declared.call.WriteCall.TheVariants.{Took, Torn, Flushed, NotFlushed}
+
+-- the bytes that the reads gave, the oldest first
+abbrev pub given : List ReadCall → List ℕ
+given [] = []
+given (Gave bytes ∷ earlier) = given earlier ++ bytes
+given (Erred kind ∷ earlier) = given earlier
+
+-- how many failures an error of a read is: none where a signal interrupted it
+abbrev pub failure : ErrorKind → ℕ
+failure Interrupted = 0
+failure _ = 1
+
+-- how many reads failed
+abbrev pub failed_reads : List ReadCall → ℕ
+failed_reads [] = 0
+failed_reads (Gave bytes ∷ earlier) = failed_reads earlier
+failed_reads (Erred kind ∷ earlier) = failure kind + failed_reads earlier
+
+-- the bytes that the writes took, the oldest first, but for those that failed
+abbrev pub taken : List WriteCall → List ℕ
+taken [] = []
+taken (Took bytes ∷ earlier) = taken earlier ++ bytes
+taken (Torn bytes ∷ earlier) = taken earlier
+taken (Flushed ∷ earlier) = taken earlier
+taken (NotFlushed ∷ earlier) = taken earlier
+
+-- how many calls failed
+abbrev pub failed_writes : List WriteCall → ℕ
+failed_writes [] = 0
+failed_writes (Took bytes ∷ earlier) = failed_writes earlier
+failed_writes (Torn bytes ∷ earlier) = 1 + failed_writes earlier
+failed_writes (Flushed ∷ earlier) = failed_writes earlier
+failed_writes (NotFlushed ∷ earlier) = 1 + failed_writes earlier
+
+-- the bytes of a write that failed, some of which may have been taken from the front on
+abbrev pub torn : List WriteCall → List ℕ
+torn [] = []
+torn (Took bytes ∷ earlier) = torn earlier
+torn (Torn bytes ∷ earlier) = torn earlier ++ bytes
+torn (Flushed ∷ earlier) = torn earlier
+torn (NotFlushed ∷ earlier) = torn earlier
+
+-- a read, with this answer of the reader and these bytes in the buffer
+abbrev pub read_call : Result ℕ ErrorKind → List ℕ → ReadCall
+read_call (Ok n) buffer = Gave (take n buffer)
+read_call (Err kind) buffer = Erred kind
+
+-- a read that did not fail: one that was interrupted gave nothing
+abbrev pub got_call : Option ℕ → List ℕ → ReadCall
+got_call (Some n) buffer = Gave (take n buffer)
+got_call None buffer = Erred Interrupted
+
+-- what a write came to
+abbrev pub write_call : {E : Type 0} → Result ⊤ E → List ℕ → WriteCall
+write_call (Ok done) text = Took text
+write_call (Err e) text = Torn text
+
+-- what a flush came to
+abbrev pub flush_call : {E : Type 0} → Result ⊤ E → WriteCall
+flush_call (Ok done) = Flushed
+flush_call (Err e) = NotFlushed
+
+-- a read as std's clauses have it, which say nothing of why one failed
+abbrev pub as_read : {E : Type 0} → Result ℕ E → Result ℕ ⊤
+as_read (Ok n) = Ok n
+as_read (Err e) = Err tt
+
+-- the same, of a read that tells an interruption apart
+abbrev pub as_got : {E : Type 0} → Result (Option ℕ) E → Result ℕ ⊤
+as_got (Ok (Some n)) = Ok n
+as_got (Ok None) = Err tt
+as_got (Err e) = Err tt

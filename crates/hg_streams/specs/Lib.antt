@@ -1,0 +1,4 @@
+pub mod Calls
+pub mod Shown
+pub mod Trail
+pub mod Told

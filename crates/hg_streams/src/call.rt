@@ -1,0 +1,26 @@
+//! The calls of a stream, as it keeps them.
+
+use crate::trail::Trail;
+use std::io::ErrorKind;
+
+/// A read, and what the reader said to it.
+#[derive(Drop)]
+pub enum ReadCall {
+    /// It gave these bytes: none only at the end of the input.
+    Gave { bytes: Trail<u8> },
+    /// It gave none, for this reason. `Interrupted` is no failure: the read can be made again.
+    Erred { kind: ErrorKind },
+}
+
+/// A write or a flush, and what it came to.
+#[derive(Drop)]
+pub enum WriteCall {
+    /// It took these bytes, all that it was given.
+    Took { bytes: Trail<u8> },
+    /// It failed, and may have taken some of these bytes from the front on.
+    Torn { bytes: Trail<u8> },
+    /// A flush.
+    Flushed,
+    /// A flush that failed.
+    NotFlushed,
+}

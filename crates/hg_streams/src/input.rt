@@ -1,0 +1,79 @@
+//! Readers that keep their reads.
+
+ghost use Rattle.std.specs.Prelude.{◌≡◌, ◌+◌, ◌<◌, ◌≤◌, ◌∷◌, [], length, IfOk, IfErr, IfSome};
+ghost use Rattle.std.specs.Io.KnownBytes.{ReadConsumes};
+ghost use Rattle.hg_streams.specs.Calls.{as_got, as_read, failed_reads, got_call, read_call};
+ghost use Rattle.hg_streams.specs.Told.{told};
+
+use crate::call::ReadCall;
+use crate::trail::Trail;
+use hg_model::verdict::Refusal;
+use std::io::{ErrorKind, Read};
+use std::marker::Model;
+
+/// A reader, and its reads so far, which take no memory.
+#[derive(Drop)]
+pub struct Input<R> {
+    stream: R,
+    calls: Trail<ReadCall>,
+}
+
+impl<R> Model for Input<R> {
+    ghost use Rattle.hg_streams.specs.Shown.{Incoming};
+
+    ghost Value = { Incoming R };
+
+    ghost view = { λ a. record { stream = a.stream; calls = a.calls } };
+}
+
+impl<R: Read> Input<R> {
+    /// Of a reader that was not called yet.
+    pub fn new(stream: R) -> Input<R>
+        ensures stream { result.stream ≡ stream }
+        ensures calls { result.calls ≡ [] }
+    {
+        Input {
+            stream,
+            calls: Trail::new(),
+        }
+    }
+
+    /// Reads once, and answers what the reader said.
+    fn ask(&mut self, buffer: &mut [u8]) -> Result<usize, ErrorKind>
+        requires room { 0 < length buffer.old }
+        ensures calls { self.new.calls ≡ read_call result buffer.new ∷ self.old.calls }
+        ensures within { IfOk result (λ n. n ≤ length buffer.new) }
+        ensures known { ReadConsumes (R.remaining self.old.stream) (R.remaining self.new.stream) (as_read result) buffer.new }
+    {
+        match self.stream.read(buffer) {
+            Ok(count) => {
+                self.calls.push(ReadCall::Gave {
+                    bytes: Trail::of(&buffer[..count]),
+                });
+                Ok(count)
+            }
+            Err(error) => {
+                let kind = error.kind();
+                self.calls.push(ReadCall::Erred { kind });
+                Err(kind)
+            }
+        }
+    }
+
+    /// Reads once. `None` says that the read was interrupted.
+    pub fn read(&mut self, buffer: &mut [u8]) -> Result<Option<usize>, Refusal>
+        requires room { 0 < length buffer.old }
+        ensures calls { IfOk result (λ count. self.new.calls ≡ got_call count buffer.new ∷ self.old.calls) }
+        ensures within { IfOk result (λ count. IfSome count (λ n. n ≤ length buffer.new)) }
+        ensures known { ReadConsumes (R.remaining self.old.stream) (R.remaining self.new.stream) (as_got result) buffer.new }
+        ensures cause { IfErr result (λ r. r ≡ Refusal.DeviceFault) }
+        ensures fault { failed_reads self.new.calls ≡ told result + failed_reads self.old.calls }
+        ensures counted { length self.new.calls ≡ 1 + length self.old.calls }
+    {
+        match self.ask(buffer) {
+            Ok(count) => Ok(Some(count)),
+            Err(ErrorKind::Interrupted) => Ok(None),
+            Err(_) => Err(Refusal::DeviceFault),
+        }
+    }
+}

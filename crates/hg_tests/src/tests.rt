@@ -1,0 +1,11 @@
+mod cells;
+mod detect;
+mod disk;
+mod graph;
+mod lines;
+mod model;
+mod plain;
+mod records;
+mod sets;
+mod streams;
+mod text;

@@ -1,0 +1,85 @@
+use hg_model::event::{Access, Block, Event, Named};
+use hg_records::record::{put_record, read_record};
+use std::test::Fail;
+
+/// The record of `fork 0 1`, number 1 of source 3.
+const WORKED: [u8; 15] = [0, 3, 0, 0, 0, 0, 0, 0, 0, 1, 1, 0, 0, 0, 1];
+
+fn named(event: Event) -> Named {
+    Named {
+        source: 0x0102,
+        number: 0x0304_0506_0708_090a,
+        event,
+    }
+}
+
+#[test]
+fn puts_the_worked_record(rt: HostRuntime) -> Result<(), Fail> {
+    let mut out = Vec::new(rt.alloc());
+    let fork = Named {
+        source: 3,
+        number: 1,
+        event: Event::Fork { p: 0, c: 1 },
+    };
+    put_record(&fork, &mut out)?;
+    assert_eq!(rt; out.as_slice(), WORKED.as_slice());
+    assert_eq!(rt; read_record(WORKED.as_slice()), Some((fork, 15)));
+    Ok(())
+}
+
+#[test]
+fn spells_each_kind(rt: HostRuntime) -> Result<(), Fail> {
+    let access = Access {
+        t: 0x0b0c,
+        at: 0x1112_1314_1516_1718,
+        len: 0x19,
+    };
+    let block = Block {
+        t: 0x0b0c,
+        at: 0x1112_1314_1516_1718,
+        len: 0x191a,
+    };
+    let (t, l) = (0x0b0c, 0x0d0e);
+    let pair = [0x0b, 0x0c, 0x0d, 0x0e];
+    let operands = [
+        0x0b, 0x0c, 0x11, 0x12, 0x13, 0x14, 0x15, 0x16, 0x17, 0x18, 0x19, 0x1a,
+    ];
+    let events = [
+        (1, Event::Fork { p: t, c: l }, pair.as_slice()),
+        (2, Event::Join { p: t, c: l }, pair.as_slice()),
+        (3, Event::Lock { t, l }, pair.as_slice()),
+        (4, Event::RdLock { t, l }, pair.as_slice()),
+        (5, Event::Unlock { t, l }, pair.as_slice()),
+        (6, Event::Read(access), &operands[..11]),
+        (7, Event::Write(access), &operands[..11]),
+        (8, Event::Alloc(block), operands.as_slice()),
+        (9, Event::Free(block), operands.as_slice()),
+    ];
+    for (kind, event, after) in &events {
+        let mut expected = Vec::new(rt.alloc());
+        expected.extend_from_slice(&[1, 2, 3, 4, 5, 6, 7, 8, 9, 10, *kind])?;
+        expected.extend_from_slice(after)?;
+        let mut out = Vec::new(rt.alloc());
+        put_record(&named(*event), &mut out)?;
+        assert_eq!(rt; out.as_slice(), expected.as_slice());
+        out.extend_from_slice(b"more")?;
+        assert_eq!(rt;
+            read_record(out.as_slice()),
+            Some((named(*event), expected.len()))
+        );
+        for len in 0..expected.len() {
+            assert_eq!(rt; read_record(&expected.as_slice()[..len]), None);
+        }
+    }
+    Ok(())
+}
+
+#[test]
+fn reads_no_other_kind(rt: HostRuntime) {
+    for kind in 0..=255u8 {
+        let mut bytes = [0u8; 23];
+        bytes[10] = kind;
+        let is_one = read_record(bytes.as_slice()).is_some();
+        assert_eq!(rt; is_one, 1 <= kind && kind <= 9);
+    }
+}
