@@ -1,7 +1,5 @@
-//! Tests of a store where memory is refused, and of the commands over a store. All else is tried by scenarios (hg_scenarios).
+//! A test of a store over its public calls where memory is refused. All else is tried by scenarios (hg_scenarios).
 #![tactic(auto)]
 
-#[cfg(test)]
-mod commands;
 #[cfg(test)]
 mod tests;
