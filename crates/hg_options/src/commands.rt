@@ -1,7 +1,7 @@
 //! The commands of `hgd`, their arguments and options.
 
 ghost use Rattle.std.specs.Prelude.{◌≡◌, IfOk, false};
-ghost use Rattle.clap.specs.Words.{app_of, rule_of, shape_of};
+ghost use Rattle.clap.specs.Words.{Shape, app_of, rule_of, shape_of, with_subcommand};
 ghost use Rattle.hg_options.specs.CommandLine as spec;
 ghost use Rattle.hg_options.specs.Tools.{HasNoGlobals};
 
@@ -97,11 +97,11 @@ fn feed<'a>(alloc: Global) -> Result<Command<'a>, AllocError>
     ensures app { IfOk result (λ c. shape_of c ≡ spec.feed) }
     ensures local { IfOk result HasNoGlobals }
 {
-    Command::new(alloc, "feed")
-        .about("Reads a trace on standard input, and has a store accept its events")
-        .arg(directory(alloc, true))?
-        .arg(source(alloc))?
-        .arg(frames(alloc))
+    let begun = Command::new(alloc, "feed")
+        .about("Reads a trace on standard input, and has a store accept its events");
+    let of_store = begun.arg(directory(alloc, true))?;
+    let of_source = of_store.arg(source(alloc))?;
+    of_source.arg(frames(alloc))
 }
 
 /// The command line of `hgd`, without its commands.
@@ -115,18 +115,27 @@ fn start<'a>(alloc: Global) -> Command<'a>
         .subcommand_required(true)
 }
 
+/// A command with one subcommand more, unless memory was refused for that one or is refused now.
+fn with_command<'a>(
+    command: Command<'a>,
+    added: Result<Command<'a>, AllocError>,
+) -> Result<Command<'a>, AllocError>
+    requires local { HasNoGlobals command }
+    requires added { IfOk added HasNoGlobals }
+    ensures app { (shape : Shape) → IfOk added.entry (λ c. shape_of c ≡ shape) → IfOk result (λ c. app_of c ≡ with_subcommand (app_of command.entry) shape) }
+    ensures local { IfOk result HasNoGlobals }
+{
+    command.subcommand(added?)
+}
+
 /// The command line of `hgd`.
 pub fn hgd<'a>(alloc: Global) -> Result<Command<'a>, AllocError>
     ensures app { IfOk result (λ c. app_of c ≡ spec.hgd) }
     ensures local { IfOk result HasNoGlobals }
 {
     let checking = start(alloc).subcommand(check(alloc))?;
-    let graph = graph(alloc)?;
-    let graphing = checking.subcommand(graph)?;
-    let create = create(alloc)?;
-    let creating = graphing.subcommand(create)?;
-    let feed = feed(alloc)?;
-    let feeding = creating.subcommand(feed)?;
-    let reports = reports(alloc)?;
-    feeding.subcommand(reports)
+    let graphing = with_command(checking, graph(alloc))?;
+    let creating = with_command(graphing, create(alloc))?;
+    let feeding = with_command(creating, feed(alloc))?;
+    with_command(feeding, reports(alloc))
 }

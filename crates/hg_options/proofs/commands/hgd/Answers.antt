@@ -1,20 +1,14 @@
-use Rattle.std.proofs.Common.{◌≡◌, IfOk}
+use Rattle.std.proofs.Common.{◌≡◌, ◌∙◌, ap, IfOk}
 use Rattle.std.proofs.lemmas.Result.{IfOk-weaker}
-use Rattle.hg_options.proofs.Adding.{added, still_local}
+use Rattle.clap.specs.Words.{with_subcommand}
+use Rattle.hg_options.specs.CommandLine as spec
+use Rattle.hg_options.proofs.Adding.{added}
 use Rattle.hg_options.proofs.commands.hgd.Goals as goal
 
 pub returns-clause-app : goal.returns-clause-app
 returns-clause-app c =
     let checking_is = added c.start.result c.check.result c.in_ok-checking.checking _ _ c.in_ok-checking.ensures c.start.ensures.app c.check.ensures.app c.check.ensures.local in
-    let graphing_is = added c.in_ok-checking.checking c.in_ok-graph.graph c.in_ok-graphing.graphing _ _ c.in_ok-graphing.ensures checking_is c.in_ok-graph.ensures.app c.in_ok-graph.ensures.local in
-    let creating_is = added c.in_ok-graphing.graphing c.in_ok-create.create c.in_ok-creating.creating _ _ c.in_ok-creating.ensures graphing_is c.in_ok-create.ensures.app c.in_ok-create.ensures.local in
-    let feeding_is = added c.in_ok-creating.creating c.in_ok-feed.feed c.in_ok-feeding.feeding _ _ c.in_ok-feeding.ensures creating_is c.in_ok-feed.ensures.app c.in_ok-feed.ensures.local in
-    IfOk-weaker c.subcommand-5.result _ _ (λ new adds. added c.in_ok-feeding.feeding c.in_ok-reports.reports new _ _ adds feeding_is c.in_ok-reports.ensures.app c.in_ok-reports.ensures.local) c.subcommand-5.ensures
-
-pub returns-clause-local : goal.returns-clause-local
-returns-clause-local c =
-    let checking_is = still_local c.start.result c.check.result c.in_ok-checking.checking c.in_ok-checking.ensures c.start.ensures.local c.check.ensures.local in
-    let graphing_is = still_local c.in_ok-checking.checking c.in_ok-graph.graph c.in_ok-graphing.graphing c.in_ok-graphing.ensures checking_is c.in_ok-graph.ensures.local in
-    let creating_is = still_local c.in_ok-graphing.graphing c.in_ok-create.create c.in_ok-creating.creating c.in_ok-creating.ensures graphing_is c.in_ok-create.ensures.local in
-    let feeding_is = still_local c.in_ok-creating.creating c.in_ok-feed.feed c.in_ok-feeding.feeding c.in_ok-feeding.ensures creating_is c.in_ok-feed.ensures.local in
-    IfOk-weaker c.subcommand-5.result _ _ (λ new adds. still_local c.in_ok-feeding.feeding c.in_ok-reports.reports new adds feeding_is c.in_ok-reports.ensures.local) c.subcommand-5.ensures
+    let graphing_is = c.in_ok-graphing.ensures.app spec.graph c.graph.ensures.app ∙ ap (λ a. with_subcommand a spec.graph) checking_is in
+    let creating_is = c.in_ok-creating.ensures.app spec.create c.create.ensures.app ∙ ap (λ a. with_subcommand a spec.create) graphing_is in
+    let feeding_is = c.in_ok-feeding.ensures.app spec.feed c.feed.ensures.app ∙ ap (λ a. with_subcommand a spec.feed) creating_is in
+    IfOk-weaker c.with_command-4.result _ _ (λ new new_is. new_is ∙ ap (λ a. with_subcommand a spec.reports) feeding_is) (c.with_command-4.ensures.app spec.reports c.reports.ensures.app)

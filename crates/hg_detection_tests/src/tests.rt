@@ -1,0 +1,7 @@
+mod cells;
+mod detect;
+mod graph;
+mod model;
+mod own;
+mod plain;
+mod sets;

@@ -1,0 +1,5 @@
+mod disk;
+mod lines;
+mod records;
+mod streams;
+mod text;
