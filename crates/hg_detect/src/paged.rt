@@ -27,11 +27,22 @@ const HINTS: usize = 16_384;
 ///
 /// A page is found by a hint, a small row of places by the last bits of a page's number. A hint that is wrong costs a
 /// look-up, and says nothing else.
-#[derive(Drop)]
 pub struct PagedWords {
     alloc: Global,
     pages: IndexMap<u64, Box<Page>>,
     hints: Vec<u32>,
+}
+
+impl Drop for PagedWords {
+    fn drop(self) {
+        let PagedWords {
+            alloc: _,
+            pages,
+            hints,
+        } = self;
+        drop(pages);
+        drop(hints);
+    }
 }
 
 impl PagedWords {

@@ -14,7 +14,6 @@ use std::os::unix::fs::FileExt;
 /// It is safe whatever the file does. Nothing is promised of the file's bytes, so it is not honest.
 ///
 /// A missing file is a disk without a byte that can't be changed: each write, cut and read fails, and a sync has nothing to do.
-#[derive(Drop)]
 pub struct FileDisk {
     file: Option<File>,
     opened_len: u64,
@@ -22,6 +21,19 @@ pub struct FileDisk {
     history: Record,
     ghost shows: { len ≡ length (replay (replicate opened_len 0) history.events).contents },
     ghost fits: { len ≤ 2 ^ 62 },
+}
+
+impl Drop for FileDisk {
+    fn drop(self) {
+        let FileDisk {
+            file,
+            opened_len: _,
+            len: _,
+            history,
+        } = self;
+        drop(file);
+        drop(history);
+    }
 }
 
 impl FileDisk {

@@ -10,12 +10,24 @@ use crate::{Disk, DiskFault};
 
 /// Passes calls on, but for one, or for one and all after it. A call that it refuses changes no byte, and counts as
 /// failed.
-#[derive(Drop)]
 pub struct FuseDisk<D: Disk> {
     inner: D,
     calls_left: Option<u64>,
     stops: bool,
     history: Record,
+}
+
+impl<D: Disk + Drop> Drop for FuseDisk<D> {
+    fn drop(self) {
+        let FuseDisk {
+            inner,
+            calls_left: _,
+            stops: _,
+            history,
+        } = self;
+        drop(inner);
+        drop(history);
+    }
 }
 
 impl<D: Disk> FuseDisk<D> {

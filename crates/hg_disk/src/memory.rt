@@ -19,7 +19,6 @@ use std::mem;
 ///
 /// A call that is refused memory fails. If it was refused the memory to be kept itself, the disk is full: each call
 /// from then on fails too.
-#[derive(Drop)]
 pub struct MemDisk {
     start: Vec<u8>,
     bytes: Vec<u8>,
@@ -27,6 +26,20 @@ pub struct MemDisk {
     fails_next: bool,
     ghost shows: { bytes.items ≡ (replay start.items tape.history.events).contents },
     ghost fits: { length bytes.items ≤ 2 ^ 62 },
+}
+
+impl Drop for MemDisk {
+    fn drop(self) {
+        let MemDisk {
+            start,
+            bytes,
+            tape,
+            fails_next: _,
+        } = self;
+        drop(start);
+        drop(bytes);
+        drop(tape);
+    }
 }
 
 impl MemDisk {

@@ -18,10 +18,19 @@ const BODY_AT: u64 = 9;
 
 /// A file that is closed, or open with a body: a gate, the length of the body in eight bytes, the greatest first, the
 /// body, and then anything.
-#[derive(Drop)]
 pub struct Gated<D: Disk> {
     disk: D,
     is_broken: bool,
+}
+
+impl<D: Disk + Drop> Drop for Gated<D> {
+    fn drop(self) {
+        let Gated {
+            disk,
+            is_broken: _,
+        } = self;
+        drop(disk);
+    }
 }
 
 impl<D: Disk> Gated<D> {

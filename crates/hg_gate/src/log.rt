@@ -26,7 +26,6 @@ const MAX_FRAME: usize = 4 + MAX_BODY_LEN + 1;
 /// Batches on a disk, each of which is durable once its `append` has answered `Ok`. The file is a header, then the
 /// batches, each a gate that is open, a length in four bytes, the greatest first, and a body; then a gate that is
 /// closed, and then anything.
-#[derive(Drop)]
 pub struct Log<D: Disk> {
     disk: D,
     end: u64,
@@ -34,6 +33,19 @@ pub struct Log<D: Disk> {
     buffer: Vec<u8>,
     ghost small: { end ≤ 2 ^ 62 },
     ghost room: { 23557 ≤ vec_capacity buffer },
+}
+
+impl<D: Disk + Drop> Drop for Log<D> {
+    fn drop(self) {
+        let Log {
+            disk,
+            end: _,
+            is_broken: _,
+            buffer,
+        } = self;
+        drop(disk);
+        drop(buffer);
+    }
 }
 
 // The length, the body and a closed gate. The room is there, so it can't fail.

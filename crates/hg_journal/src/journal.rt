@@ -23,11 +23,21 @@ pub const MAX_BATCH_EVENTS: usize = 1_024;
 const _: () = prove!(MAX_BATCH_EVENTS * MAX_RECORD_LEN <= MAX_BODY_LEN);
 
 /// The events on a disk. They lie in the batches of a log, of which each is the records of some events.
-#[derive(Drop)]
 pub struct Journal<D: Disk> {
     log: Log<D>,
     body: Vec<u8>,
     ghost room: { 23552 ≤ vec_capacity body },
+}
+
+impl<D: Disk + Drop> Drop for Journal<D> {
+    fn drop(self) {
+        let Journal {
+            log,
+            body,
+        } = self;
+        drop(log);
+        drop(body);
+    }
 }
 
 /// A place among the events of a journal: the next one to be read.

@@ -18,11 +18,23 @@ use std::marker::Model;
 pub const MOST_SETS: u32 = 262_144;
 
 /// Interned sets of numbers. Each set stands once, under a number below `len`, which it keeps; number 0 is the empty set.
-#[derive(Drop)]
 pub struct SetTable {
     interner: Interner,
     joins: Vec<Option<KnownJoin>>,
     meets: Vec<Option<KnownMeet>>,
+}
+
+impl Drop for SetTable {
+    fn drop(self) {
+        let SetTable {
+            interner,
+            joins,
+            meets,
+        } = self;
+        drop(interner);
+        drop(joins);
+        drop(meets);
+    }
 }
 
 impl Model for SetTable {

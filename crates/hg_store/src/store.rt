@@ -32,7 +32,6 @@ pub const MOST_PENDING: usize = MAX_BATCH_EVENTS;
 ///
 /// After a commit that a device's fault ended, each call answers `Broken` until the devices are taken back and the
 /// store is recovered.
-#[derive(Drop)]
 pub struct Store<D: Disk> {
     pub(crate) journal: Journal<D>,
     pub(crate) slots: D,
@@ -42,6 +41,27 @@ pub struct Store<D: Disk> {
     pub(crate) pending: Vec<Named>,
     pub(crate) durable: u64,
     pub(crate) is_broken: bool,
+}
+
+impl<D: Disk + Drop> Drop for Store<D> {
+    fn drop(self) {
+        let Store {
+            journal,
+            slots,
+            root0,
+            root1,
+            detector,
+            pending,
+            durable: _,
+            is_broken: _,
+        } = self;
+        drop(journal);
+        drop(slots);
+        drop(root0);
+        drop(root1);
+        drop(detector);
+        drop(pending);
+    }
 }
 
 impl<D: Disk> Model for Store<D> {
