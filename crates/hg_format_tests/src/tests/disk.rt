@@ -3,13 +3,14 @@ ghost use Rattle.std.specs.Prelude.{◌<◌};
 use hg_disk::{
     Answer, Answered, Call, Disk, DiskFault, FileDisk, FuseDisk, MemDisk, Tear, write_through,
 };
-use std::alloc::AllocError;
+use std::alloc::{AllocError, Global};
 use std::fs::OpenOptions;
 use std::process::Abort;
 use std::test::Fail;
 use std::{fs, io};
 
 /// An image after the first so many calls, with a tear, and its bytes.
+#[derive(Clone, Copy)]
 struct Image<'a>(usize, Tear, &'a [u8]);
 
 /// Whether a disk's images are these.
@@ -22,137 +23,176 @@ fn expect(rt: &impl Abort, disk: &MemDisk, images: &[Image]) -> Result<(), Alloc
     Ok(())
 }
 
+/// A call that is answered Ok.
+fn done(rt: &impl Abort, answer: Result<(), DiskFault>) {
+    assert_eq!(rt; answer, Ok(()));
+}
+
+/// A call that failed.
+fn failed(rt: &impl Abort, answer: Result<(), DiskFault>) {
+    assert_eq!(rt; answer, Err(DiskFault));
+}
+
+/// Whether a disk reads so.
+fn has(rt: &impl Abort, disk: &MemDisk, bytes: &[u8]) {
+    assert_eq!(rt; disk.bytes(), bytes);
+}
+
+/// Cuts a disk that is so long at least.
+fn cut<D: Disk>(rt: &impl Abort, disk: &mut D, at: u64) -> Result<(), DiskFault> {
+    assert!(rt; at <= disk.len());
+    disk.cut(at)
+}
+
+/// Reads three bytes that a disk has.
+fn read_three<D: Disk>(rt: &impl Abort, disk: &mut D, at: u64) -> Result<[u8; 3], DiskFault> {
+    let mut buf = [0; 3];
+    assert!(rt; at <= 1 << 60 && at + 3 <= disk.len());
+    disk.read_at(at, &mut buf)?;
+    Ok(buf)
+}
+
+/// The images of two writes that overlap.
+const OVERLAPPING: [Image; 19] = [
+    Image(0, Tear::Fill(b'?'), b""),
+    Image(1, Tear::Lost, b""),
+    Image(1, Tear::Kept, b"abcdef"),
+    Image(1, Tear::Front(2), b"ab"),
+    Image(1, Tear::Fill(b'?'), b"??????"),
+    Image(2, Tear::Lost, b"abcdef"),
+    Image(2, Tear::Fill(b'?'), b"abcdef"),
+    Image(3, Tear::Lost, b"abcdef"),
+    Image(3, Tear::Kept, b"aXYZef"),
+    Image(3, Tear::Fill(b'?'), b"a???ef"),
+    Image(4, Tear::Lost, b"abcdef"),
+    Image(4, Tear::Kept, b"aXY12f"),
+    Image(4, Tear::Front(0), b"abcdef"),
+    Image(4, Tear::Front(2), b"aXYdef"),
+    Image(4, Tear::Front(3), b"aXYZef"),
+    Image(4, Tear::Front(4), b"aXY1ef"),
+    Image(4, Tear::Front(5), b"aXY12f"),
+    Image(4, Tear::Front(99), b"aXY12f"),
+    Image(4, Tear::Fill(b'?'), b"a????f"),
+];
+
 #[test]
 fn tears_two_writes_that_overlap(rt: HostRuntime) -> Result<(), Fail> {
     let mut disk = MemDisk::new(rt.alloc());
-    assert_eq!(rt; disk.write_at(0, b"abcdef"), Ok(()));
-    assert_eq!(rt; disk.sync(), Ok(()));
-    assert_eq!(rt; disk.write_at(1, b"XYZ"), Ok(()));
-    assert_eq!(rt; disk.write_at(3, b"12"), Ok(()));
-    let images = [
-        Image(0, Tear::Fill(b'?'), b""),
-        Image(1, Tear::Lost, b""),
-        Image(1, Tear::Kept, b"abcdef"),
-        Image(1, Tear::Front(2), b"ab"),
-        Image(1, Tear::Fill(b'?'), b"??????"),
-        Image(2, Tear::Lost, b"abcdef"),
-        Image(2, Tear::Fill(b'?'), b"abcdef"),
-        Image(3, Tear::Lost, b"abcdef"),
-        Image(3, Tear::Kept, b"aXYZef"),
-        Image(3, Tear::Fill(b'?'), b"a???ef"),
-        Image(4, Tear::Lost, b"abcdef"),
-        Image(4, Tear::Kept, b"aXY12f"),
-        Image(4, Tear::Front(0), b"abcdef"),
-        Image(4, Tear::Front(2), b"aXYdef"),
-        Image(4, Tear::Front(3), b"aXYZef"),
-        Image(4, Tear::Front(4), b"aXY1ef"),
-        Image(4, Tear::Front(5), b"aXY12f"),
-        Image(4, Tear::Front(99), b"aXY12f"),
-        Image(4, Tear::Fill(b'?'), b"a????f"),
-    ];
-    expect(&rt, &disk, &images)?;
+    done(&rt, disk.write_at(0, b"abcdef"));
+    done(&rt, disk.sync());
+    done(&rt, disk.write_at(1, b"XYZ"));
+    done(&rt, disk.write_at(3, b"12"));
+    expect(&rt, &disk, &OVERLAPPING)?;
     Ok(())
 }
+
+/// A disk with these bytes, durably.
+fn holding(alloc: Global, bytes: &[u8]) -> Result<MemDisk, AllocError> {
+    MemDisk::holding(alloc, Vec::from_slice(alloc, bytes)?)
+}
+
+/// The images of a cut, a write above the end, and one that fills the gap.
+const ABOVE_THE_END: [Image; 12] = [
+    Image(1, Tear::Lost, b"abcdefgh"),
+    Image(1, Tear::Kept, b"abc"),
+    Image(1, Tear::Front(0), b"abcdefgh"),
+    Image(1, Tear::Front(1), b"abc"),
+    Image(1, Tear::Fill(b'?'), b"abc"),
+    Image(2, Tear::Lost, b"abcdefgh"),
+    Image(2, Tear::Kept, b"abc\0\0Z"),
+    Image(2, Tear::Front(1), b"abc\0\0Z"),
+    Image(2, Tear::Fill(b'?'), b"abc???"),
+    Image(3, Tear::Front(4), b"abc123"),
+    Image(3, Tear::Front(1), b"abc\0\0Z"),
+    Image(3, Tear::Fill(b'?'), b"abc????????"),
+];
 
 #[test]
 fn tears_a_cut_and_a_write_above_the_end(rt: HostRuntime) -> Result<(), Fail> {
-    let start = Vec::from_slice(rt.alloc(), b"abcdefgh")?;
-    let mut disk = MemDisk::holding(rt.alloc(), start)?;
-    assert!(rt; disk.len() >= 3);
-    assert_eq!(rt; disk.cut(3), Ok(()));
-    assert_eq!(rt; disk.write_at(5, b"Z"), Ok(()));
-    assert_eq!(rt; disk.bytes(), b"abc\0\0Z".as_slice());
-    assert_eq!(rt; disk.write_at(3, b"12345678"), Ok(()));
-    let images = [
-        Image(1, Tear::Lost, b"abcdefgh"),
-        Image(1, Tear::Kept, b"abc"),
-        Image(1, Tear::Front(0), b"abcdefgh"),
-        Image(1, Tear::Front(1), b"abc"),
-        Image(1, Tear::Fill(b'?'), b"abc"),
-        Image(2, Tear::Lost, b"abcdefgh"),
-        Image(2, Tear::Kept, b"abc\0\0Z"),
-        Image(2, Tear::Front(1), b"abc\0\0Z"),
-        Image(2, Tear::Fill(b'?'), b"abc???"),
-        Image(3, Tear::Front(4), b"abc123"),
-        Image(3, Tear::Front(1), b"abc\0\0Z"),
-        Image(3, Tear::Fill(b'?'), b"abc????????"),
-    ];
-    expect(&rt, &disk, &images)?;
+    let mut disk = holding(rt.alloc(), b"abcdefgh")?;
+    done(&rt, cut(&rt, &mut disk, 3));
+    done(&rt, disk.write_at(5, b"Z"));
+    has(&rt, &disk, b"abc\0\0Z");
+    done(&rt, disk.write_at(3, b"12345678"));
+    expect(&rt, &disk, &ABOVE_THE_END)?;
     Ok(())
 }
 
+/// The images of calls of which some failed.
+const FAILED_CALLS: [Image; 13] = [
+    Image(1, Tear::Lost, b"abcdef"),
+    Image(1, Tear::Kept, b"abcdef"),
+    Image(1, Tear::Front(2), b"abcdef"),
+    Image(1, Tear::Fill(b'?'), b"ab??ef"),
+    Image(2, Tear::Front(1), b"Wbcdef"),
+    Image(2, Tear::Fill(b'?'), b"?b??ef"),
+    Image(3, Tear::Lost, b"abcdef"),
+    Image(3, Tear::Kept, b"Wbcdef"),
+    Image(3, Tear::Fill(b'?'), b"?b??ef"),
+    Image(4, Tear::Fill(b'?'), b"?b??e?"),
+    Image(5, Tear::Lost, b"Wbcdef"),
+    Image(5, Tear::Fill(b'?'), b"Wbcdef"),
+    Image(6, Tear::Fill(b'?'), b"Wbcdef"),
+];
+
 #[test]
 fn counts_calls_that_failed(rt: HostRuntime) -> Result<(), Fail> {
-    let start = Vec::from_slice(rt.alloc(), b"abcdef")?;
-    let mut disk = MemDisk::holding(rt.alloc(), start)?;
+    let mut disk = holding(rt.alloc(), b"abcdef")?;
     disk.fail_next();
-    assert_eq!(rt; disk.write_at(2, b"XY"), Err(DiskFault));
-    assert_eq!(rt; disk.write_at(0, b"W"), Ok(()));
+    failed(&rt, disk.write_at(2, b"XY"));
+    done(&rt, disk.write_at(0, b"W"));
     disk.fail_next();
-    assert_eq!(rt; disk.sync(), Err(DiskFault));
-    assert!(rt; disk.len() >= 5);
+    failed(&rt, disk.sync());
     disk.fail_next();
-    assert_eq!(rt; disk.cut(5), Err(DiskFault));
-    assert_eq!(rt; disk.sync(), Ok(()));
-    assert_eq!(rt; disk.write_at(1 << 62, b"far"), Err(DiskFault));
-    assert_eq!(rt; disk.bytes(), b"Wbcdef".as_slice());
-    let images = [
-        Image(1, Tear::Lost, b"abcdef"),
-        Image(1, Tear::Kept, b"abcdef"),
-        Image(1, Tear::Front(2), b"abcdef"),
-        Image(1, Tear::Fill(b'?'), b"ab??ef"),
-        Image(2, Tear::Front(1), b"Wbcdef"),
-        Image(2, Tear::Fill(b'?'), b"?b??ef"),
-        Image(3, Tear::Lost, b"abcdef"),
-        Image(3, Tear::Kept, b"Wbcdef"),
-        Image(3, Tear::Fill(b'?'), b"?b??ef"),
-        Image(4, Tear::Fill(b'?'), b"?b??e?"),
-        Image(5, Tear::Lost, b"Wbcdef"),
-        Image(5, Tear::Fill(b'?'), b"Wbcdef"),
-        Image(6, Tear::Fill(b'?'), b"Wbcdef"),
-    ];
-    expect(&rt, &disk, &images)?;
+    failed(&rt, cut(&rt, &mut disk, 5));
+    done(&rt, disk.sync());
+    failed(&rt, disk.write_at(1 << 62, b"far"));
+    has(&rt, &disk, b"Wbcdef");
+    expect(&rt, &disk, &FAILED_CALLS)?;
     Ok(())
+}
+
+/// A call that was answered Ok.
+const fn answered(call: Call) -> Answered {
+    Answered {
+        call,
+        answer: Answer::Done,
+    }
 }
 
 #[test]
 fn keeps_its_calls(rt: HostRuntime) -> Result<(), Fail> {
     let mut disk = MemDisk::with_room(rt.alloc(), 3, 8)?;
-    assert_eq!(rt; disk.write_at(4, b"1234"), Ok(()));
-    let mut buf = [0; 3];
-    assert!(rt; disk.len() >= 8);
-    assert_eq!(rt; disk.read_at(3, &mut buf), Ok(()));
-    assert_eq!(rt; buf, *b"\x0012");
-    assert_eq!(rt; disk.sync(), Ok(()));
-    let done = |call: Call| Answered {
-        call,
-        answer: Answer::Done,
-    };
+    done(&rt, disk.write_at(4, b"1234"));
+    assert_eq!(rt; read_three(&rt, &mut disk, 3), Ok(*b"\x0012"));
+    done(&rt, disk.sync());
     let calls = [
-        done(Call::Write { at: 4, len: 4 }),
-        done(Call::Read),
-        done(Call::Sync),
+        answered(Call::Write { at: 4, len: 4 }),
+        answered(Call::Read),
+        answered(Call::Sync),
     ];
     assert_eq!(rt; disk.calls(), calls.as_slice());
     Ok(())
 }
 
 #[test]
-fn blows_once_or_for_good(rt: HostRuntime) -> Result<(), Fail> {
+fn blows_once(rt: HostRuntime) {
     let mut once = FuseDisk::once(MemDisk::new(rt.alloc()), 2);
-    assert_eq!(rt; once.write_at(0, b"abc"), Ok(()));
-    assert_eq!(rt; once.write_at(0, b"X"), Err(DiskFault));
-    assert_eq!(rt; once.sync(), Ok(()));
-    assert_eq!(rt; once.into_inner().bytes(), b"abc".as_slice());
+    done(&rt, once.write_at(0, b"abc"));
+    failed(&rt, once.write_at(0, b"X"));
+    done(&rt, once.sync());
+    has(&rt, &once.into_inner(), b"abc");
+}
+
+#[test]
+fn blows_for_good(rt: HostRuntime) -> Result<(), Fail> {
     let mut stop = FuseDisk::stop(MemDisk::new(rt.alloc()), 2);
-    assert_eq!(rt; write_through(&mut stop, 0, b"abc"), Err(DiskFault));
-    let mut buf = [0; 3];
-    assert!(rt; stop.len() == 3);
-    assert_eq!(rt; stop.read_at(0, &mut buf), Err(DiskFault));
-    assert_eq!(rt; stop.cut(1), Err(DiskFault));
-    assert_eq!(rt; stop.sync(), Err(DiskFault));
+    failed(&rt, write_through(&mut stop, 0, b"abc"));
+    assert_eq!(rt; read_three(&rt, &mut stop, 0), Err(DiskFault));
+    failed(&rt, cut(&rt, &mut stop, 1));
+    failed(&rt, stop.sync());
     let disk = stop.into_inner();
-    assert_eq!(rt; disk.bytes(), b"abc".as_slice());
+    has(&rt, &disk, b"abc");
     expect(&rt, &disk, &[Image(1, Tear::Lost, b"")])?;
     Ok(())
 }
@@ -181,56 +221,80 @@ fn open_file(rt: &HostRuntime) -> io::Result<FileDisk> {
     FileDisk::new(file)
 }
 
-// One random call on both disks, whose answers are to be equal.
+/// One random write on both disks.
+fn write_both<A: Disk, B: Disk>(rt: &impl Abort, state: &mut u64, one: &mut A, other: &mut B) {
+    let at = next_below(state, 5000);
+    let len = next_below(state, 65) as usize;
+    let mut bytes = [0; 64];
+    for byte in &mut bytes {
+        *byte = next_below(state, 256) as u8;
+    }
+    let written = one.write_at(at, &bytes[..len]);
+    assert_eq!(rt; written, other.write_at(at, &bytes[..len]));
+}
+
+/// One random read of both disks.
+fn read_both<A: Disk, B: Disk>(rt: &impl Abort, state: &mut u64, one: &mut A, other: &mut B) {
+    let at = next_below(state, 5000);
+    let len = next_below(state, 65) as usize;
+    if at + len as u64 > one.len() || at + len as u64 > other.len() {
+        return;
+    }
+    let mut bytes = [0; 64];
+    let mut back = [0; 64];
+    let read = one.read_at(at, &mut bytes[..len]);
+    assert_eq!(rt; read, other.read_at(at, &mut back[..len]));
+    assert_eq!(rt; bytes, back);
+}
+
+/// One random cut of both disks.
+fn cut_both<A: Disk, B: Disk>(rt: &impl Abort, state: &mut u64, one: &mut A, other: &mut B) {
+    let at = next_below(state, 5000);
+    if at <= one.len() && at <= other.len() {
+        assert_eq!(rt; one.cut(at), other.cut(at));
+    }
+}
+
+/// One random call on both disks, whose answers are to be equal. Half are writes, a quarter reads, few cuts and syncs.
 fn call_both<A: Disk, B: Disk>(rt: &impl Abort, state: &mut u64, one: &mut A, other: &mut B) {
     assert_eq!(rt; one.len(), other.len());
-    let kind = next_below(state, 8);
-    let at = next_below(state, 5000);
-    let mut bytes = [0; 64];
-    let n = next_below(state, 65) as usize;
-    if kind < 4 {
-        for byte in &mut bytes {
-            *byte = next_below(state, 256) as u8;
-        }
-        assert_eq!(rt;
-            one.write_at(at, &bytes[..n]),
-            other.write_at(at, &bytes[..n])
-        );
-    } else if kind < 6 {
-        let mut back = [0; 64];
-        if at + n as u64 <= one.len() && at + n as u64 <= other.len() {
-            assert_eq!(rt;
-                one.read_at(at, &mut bytes[..n]),
-                other.read_at(at, &mut back[..n])
-            );
-            assert_eq!(rt; bytes, back);
-        }
-    } else if kind == 6 && n < 8 {
-        if at <= one.len() && at <= other.len() {
-            assert_eq!(rt; one.cut(at), other.cut(at));
-        }
-    } else if n == 9 {
-        assert_eq!(rt; one.sync(), other.sync());
+    match next_below(state, 64) {
+        0..=31 => write_both(rt, state, one, other),
+        32..=47 => read_both(rt, state, one, other),
+        48 => cut_both(rt, state, one, other),
+        49 => assert_eq!(rt; one.sync(), other.sync()),
+        _ => {}
     }
+}
+
+/// Whether the file at the path has these bytes.
+fn file_has(rt: &HostRuntime, abort: &impl Abort, bytes: &[u8]) -> Result<(), Fail> {
+    assert_eq!(abort; fs::read(rt, PATH)?.as_slice(), bytes);
+    let mut again = open_file(rt)?;
+    let mut back = Vec::from_elem(rt.alloc(), 0, bytes.len())?;
+    assert!(abort; again.len() == bytes.len() as u64);
+    done(abort, again.read_at(0, &mut back));
+    assert_eq!(abort; back.as_slice(), bytes);
+    Ok(())
+}
+
+/// 10,000 random calls on a file, with the answers that the disk in memory gives.
+fn call_file(rt: &HostRuntime, abort: &impl Abort, memory: &mut MemDisk) -> Result<(), Fail> {
+    let mut file = open_file(rt)?;
+    let mut state = 7;
+    for _ in 0..10_000 {
+        call_both(abort, &mut state, memory, &mut file);
+    }
+    Ok(())
 }
 
 #[test]
 fn writes_a_file_as_memory(rt: HostRuntime) -> Result<(), Fail> {
     let _ = fs::remove_dir_all(&rt, FOLDER);
     fs::create_dir(&rt, FOLDER)?;
-    let mut file = open_file(&rt)?;
     let mut memory = MemDisk::new(rt.alloc());
-    let mut state = 7;
-    for _ in 0..10_000 {
-        call_both(&rt, &mut state, &mut memory, &mut file);
-    }
-    drop(file);
-    assert_eq!(rt; fs::read(&rt, PATH)?.as_slice(), memory.bytes());
-    let mut again = open_file(&rt)?;
-    let mut back = Vec::from_elem(rt.alloc(), 0, memory.bytes().len())?;
-    assert!(rt; again.len() == memory.bytes().len() as u64);
-    assert_eq!(rt; again.read_at(0, &mut back), Ok(()));
-    assert_eq!(rt; back.as_slice(), memory.bytes());
+    call_file(&rt, &rt, &mut memory)?;
+    file_has(&rt, &rt, memory.bytes())?;
     fs::remove_dir_all(&rt, FOLDER)?;
     Ok(())
 }

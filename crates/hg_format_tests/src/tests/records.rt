@@ -1,5 +1,7 @@
 use hg_model::event::{Access, Block, Event, Named};
 use hg_records::record::{put_record, read_record};
+use std::alloc::{AllocError, Global};
+use std::process::Abort;
 use std::test::Fail;
 
 /// The record of `fork 0 1`, number 1 of source 3.
@@ -27,49 +29,60 @@ fn puts_the_worked_record(rt: HostRuntime) -> Result<(), Fail> {
     Ok(())
 }
 
+/// Whether an event is spelled by its kind and then these bytes, and read again from there and from nothing shorter.
+fn expect_spelled(
+    rt: &impl Abort,
+    alloc: Global,
+    kind: u8,
+    event: Event,
+    operands: &[u8],
+) -> Result<(), AllocError> {
+    let mut expected = Vec::from_slice(alloc, &[1, 2, 3, 4, 5, 6, 7, 8, 9, 10, kind])?;
+    expected.extend_from_slice(operands)?;
+    let mut out = Vec::new(alloc);
+    put_record(&named(event), &mut out)?;
+    assert_eq!(rt; out.as_slice(), expected.as_slice());
+    for len in 0..expected.len() {
+        assert_eq!(rt; read_record(&expected.as_slice()[..len]), None);
+    }
+    out.extend_from_slice(b"more")?;
+    assert_eq!(rt;
+        read_record(out.as_slice()),
+        Some((named(event), expected.len()))
+    );
+    Ok(())
+}
+
 #[test]
-fn spells_each_kind(rt: HostRuntime) -> Result<(), Fail> {
-    let access = Access {
-        t: 0x0b0c,
-        at: 0x1112_1314_1516_1718,
-        len: 0x19,
-    };
-    let block = Block {
-        t: 0x0b0c,
-        at: 0x1112_1314_1516_1718,
-        len: 0x191a,
-    };
+fn spells_pairs(rt: HostRuntime) -> Result<(), Fail> {
     let (t, l) = (0x0b0c, 0x0d0e);
     let pair = [0x0b, 0x0c, 0x0d, 0x0e];
+    let events = [
+        (1, Event::Fork { p: t, c: l }),
+        (2, Event::Join { p: t, c: l }),
+        (3, Event::Lock { t, l }),
+        (4, Event::RdLock { t, l }),
+        (5, Event::Unlock { t, l }),
+    ];
+    for (kind, event) in events {
+        expect_spelled(&rt, rt.alloc(), kind, event, &pair)?;
+    }
+    Ok(())
+}
+
+#[test]
+fn spells_accesses_and_blocks(rt: HostRuntime) -> Result<(), Fail> {
+    let (t, at) = (0x0b0c, 0x1112_1314_1516_1718);
+    let access = Access { t, at, len: 0x19 };
+    let block = Block { t, at, len: 0x191a };
     let operands = [
         0x0b, 0x0c, 0x11, 0x12, 0x13, 0x14, 0x15, 0x16, 0x17, 0x18, 0x19, 0x1a,
     ];
-    let events = [
-        (1, Event::Fork { p: t, c: l }, pair.as_slice()),
-        (2, Event::Join { p: t, c: l }, pair.as_slice()),
-        (3, Event::Lock { t, l }, pair.as_slice()),
-        (4, Event::RdLock { t, l }, pair.as_slice()),
-        (5, Event::Unlock { t, l }, pair.as_slice()),
-        (6, Event::Read(access), &operands[..11]),
-        (7, Event::Write(access), &operands[..11]),
-        (8, Event::Alloc(block), operands.as_slice()),
-        (9, Event::Free(block), operands.as_slice()),
-    ];
-    for (kind, event, after) in &events {
-        let mut expected = Vec::new(rt.alloc());
-        expected.extend_from_slice(&[1, 2, 3, 4, 5, 6, 7, 8, 9, 10, *kind])?;
-        expected.extend_from_slice(after)?;
-        let mut out = Vec::new(rt.alloc());
-        put_record(&named(*event), &mut out)?;
-        assert_eq!(rt; out.as_slice(), expected.as_slice());
-        out.extend_from_slice(b"more")?;
-        assert_eq!(rt;
-            read_record(out.as_slice()),
-            Some((named(*event), expected.len()))
-        );
-        for len in 0..expected.len() {
-            assert_eq!(rt; read_record(&expected.as_slice()[..len]), None);
-        }
+    for (kind, event) in [(6, Event::Read(access)), (7, Event::Write(access))] {
+        expect_spelled(&rt, rt.alloc(), kind, event, &operands[..11])?;
+    }
+    for (kind, event) in [(8, Event::Alloc(block)), (9, Event::Free(block))] {
+        expect_spelled(&rt, rt.alloc(), kind, event, &operands)?;
     }
     Ok(())
 }
