@@ -12,6 +12,7 @@ use hg_detect::paged::PagedWords;
 use hg_detect::words::Words;
 use hg_model::event::{Access, Block, Event, Named};
 use hg_model::report::Report;
+use hg_model::segment::Segment;
 use hg_model::verdict::{Refusal, Verdict};
 use std::alloc::{AllocError, Global};
 use std::process::Abort;
@@ -118,6 +119,44 @@ fn answer(
     detector.apply(next)
 }
 
+/// Offers an event, which has to be answered so.
+fn answers(
+    rt: &impl Abort,
+    detector: &mut Detector<PagedWords>,
+    next: &Named,
+    wanted: Result<Answer, Refusal>,
+)
+    requires { AtPresent AreWithin detector.old }
+    ensures { AtPresent AreWithin detector.new }
+{
+    assert_eq!(rt; answer(rt, detector, next), wanted, "of {next:?}");
+}
+
+/// Whether a detector is as it was.
+fn is_as(rt: &impl Abort, detector: &Detector<PagedWords>, before: &Picture) {
+    assert_eq!(rt; picture_of(detector), *before);
+}
+
+/// Whether so many reports came.
+fn reported(rt: &impl Abort, detector: &Detector<PagedWords>, total: u64) {
+    assert_eq!(rt; detector.total(), total);
+}
+
+/// Whether a table has so many sets.
+fn has_sets(rt: &impl Abort, detector: &Detector<PagedWords>, count: u32) {
+    assert_eq!(rt; detector.sets().len(), count);
+}
+
+/// Whether a set has this number.
+fn is_set(rt: &impl Abort, detector: &Detector<PagedWords>, members: &[u16], number: u32) {
+    assert_eq!(rt; detector.sets().find(members), Some(number));
+}
+
+/// Whether a word has this cell.
+fn is_cell(rt: &impl Abort, detector: &Detector<PagedWords>, word: u64, cell: Cell) {
+    assert_eq!(rt; detector.words().get(word), cell);
+}
+
 /// Offers events, numbered by source 0, each of which has to be accepted.
 fn offer(rt: &impl Abort, detector: &mut Detector<PagedWords>, events: &[Event])
     requires { AtPresent AreWithin detector.old }
@@ -152,6 +191,47 @@ fn compare(rt: &impl Abort, reports: &[Report], races: &[Race]) {
     }
 }
 
+/// Whether a detector kept just these reports.
+fn expect(
+    rt: &impl Abort,
+    alloc: Global,
+    detector: &Detector<PagedWords>,
+    races: &[Race],
+) -> Result<(), AllocError> {
+    let reports = reports_of(alloc, detector)?;
+    compare(rt, &reports, races);
+    assert_eq!(rt; detector.kept(), races.len());
+    Ok(())
+}
+
+/// Whether the last report is of this event.
+fn expect_last(
+    rt: &impl Abort,
+    alloc: Global,
+    detector: &Detector<PagedWords>,
+    event: u64,
+) -> Result<(), AllocError> {
+    let Some(last) = detector.kept().checked_sub(1) else {
+        return Ok(());
+    };
+    let report = match detector.report(alloc, last) {
+        Ok(report) => report,
+        Err(_) => detector.report(alloc, last)?,
+    };
+    assert_eq!(rt; report.event, event);
+    Ok(())
+}
+
+/// Whether these are the segments of a thread that forks one other and joins it.
+fn expect_segments(rt: &impl Abort, segments: &[Segment]) {
+    let wanted: [(u16, &[u32]); 4] = [(0, &[]), (1, &[0]), (0, &[0]), (0, &[1, 2])];
+    assert_eq!(rt; segments.len(), wanted.len());
+    for (segment, (thread, before)) in segments.iter().zip(wanted.iter()) {
+        assert_eq!(rt; segment.thread, *thread);
+        assert!(rt; segment.before.as_slice() == *before);
+    }
+}
+
 #[test]
 fn a_full_table_of_sets_refuses_and_changes_nothing(rt: HostRuntime) -> Result<(), Fail> {
     let mut own = begin(rt.alloc(), 1)?;
@@ -159,9 +239,9 @@ fn a_full_table_of_sets_refuses_and_changes_nothing(rt: HostRuntime) -> Result<(
     offer(&rt, detector, &[fork(0, 1), write(0, 0x1000, 4)]);
     let before = picture_of(detector);
     let third = named(3, write(1, 0x1000, 4));
-    assert_eq!(rt; answer(&rt, detector, &third), Err(Refusal::FullSets));
-    assert_eq!(rt; picture_of(detector), before);
-    assert_eq!(rt; detector.sets().len(), 1);
+    answers(&rt, detector, &third, Err(Refusal::FullSets));
+    is_as(&rt, detector, &before);
+    has_sets(&rt, detector, 1);
     assert_eq!(rt; detector.verdict(&third), Verdict::Accept);
     Ok(())
 }
@@ -172,10 +252,9 @@ fn with_one_set_more_it_is_reported(rt: HostRuntime) -> Result<(), Fail> {
     let detector = &mut own.it;
     let row = [fork(0, 1), write(0, 0x1000, 4), write(1, 0x1000, 4)];
     offer(&rt, detector, &row);
-    assert_eq!(rt; detector.total(), 1);
-    let reports = reports_of(rt.alloc(), detector)?;
-    compare(&rt, &reports, &[Race(3, true, 1, 0x1000, &[0, 1])]);
-    assert_eq!(rt; detector.sets().len(), 2);
+    reported(&rt, detector, 1);
+    expect(&rt, rt.alloc(), detector, &[Race(3, true, 1, 0x1000, &[0, 1])])?;
+    has_sets(&rt, detector, 2);
     Ok(())
 }
 
@@ -187,13 +266,13 @@ fn a_refused_access_leaves_the_sets_made_before(rt: HostRuntime) -> Result<(), F
     offer(&rt, detector, &row);
     let before = picture_of(detector);
     let next = named(4, write(1, 0x1000, 4));
-    assert_eq!(rt; answer(&rt, detector, &next), Err(Refusal::FullSets));
-    assert_eq!(rt; picture_of(detector), before);
-    assert_eq!(rt; detector.sets().find(&[0, 1]), Some(1));
-    assert_eq!(rt; answer(&rt, detector, &next), Err(Refusal::FullSets));
-    assert_eq!(rt; detector.sets().len(), 2);
+    answers(&rt, detector, &next, Err(Refusal::FullSets));
+    is_as(&rt, detector, &before);
+    is_set(&rt, detector, &[0, 1], 1);
+    answers(&rt, detector, &next, Err(Refusal::FullSets));
+    has_sets(&rt, detector, 2);
     offer(&rt, detector, &[unlock(1, 7), write(1, 0x1000, 4)]);
-    assert_eq!(rt; detector.total(), 1);
+    reported(&rt, detector, 1);
     Ok(())
 }
 
@@ -204,18 +283,12 @@ fn answers_by_the_number_of_the_event(rt: HostRuntime) -> Result<(), Fail> {
     offer(&rt, detector, &[read(0, 0x1000, 4)]);
     let before = picture_of(detector);
     let again = named(1, write(0, 0x1000, 4));
-    assert_eq!(rt;
-        answer(&rt, detector, &again),
-        Ok(Answer::Duplicate(1))
-    );
+    answers(&rt, detector, &again, Ok(Answer::Duplicate(1)));
     let later = named(3, write(0, 0x1000, 4));
-    assert_eq!(rt; answer(&rt, detector, &later), Err(Refusal::Gap(2)));
+    answers(&rt, detector, &later, Err(Refusal::Gap(2)));
     let outside = named(2, write(0, 0xffff_ffff_ffff_ffff, 2));
-    assert_eq!(rt;
-        answer(&rt, detector, &outside),
-        Err(Refusal::AddressEnd)
-    );
-    assert_eq!(rt; picture_of(detector), before);
+    answers(&rt, detector, &outside, Err(Refusal::AddressEnd));
+    is_as(&rt, detector, &before);
     assert_eq!(rt; detector.last(1), 0);
     Ok(())
 }
@@ -234,12 +307,12 @@ fn keeps_the_threads_and_the_common_lock(rt: HostRuntime) -> Result<(), Fail> {
         unlock(1, 7),
     ];
     offer(&rt, detector, &row);
-    assert_eq!(rt; detector.total(), 0);
+    reported(&rt, detector, 0);
     assert_eq!(rt; detector.kept(), 0);
-    assert_eq!(rt; detector.words().get(WORD), Cell::SharedModified(1, 2));
-    assert_eq!(rt; detector.words().get(WORD + 1), Cell::New);
-    assert_eq!(rt; detector.sets().find(&[0, 1]), Some(1));
-    assert_eq!(rt; detector.sets().find(&[7]), Some(2));
+    is_cell(&rt, detector, WORD, Cell::SharedModified(1, 2));
+    is_cell(&rt, detector, WORD + 1, Cell::New);
+    is_set(&rt, detector, &[0, 1], 1);
+    is_set(&rt, detector, &[7], 2);
     Ok(())
 }
 
@@ -254,13 +327,8 @@ fn shows_the_segments(rt: HostRuntime) -> Result<(), Fail> {
         write(0, 0x1000, 4),
     ];
     offer(&rt, detector, &row);
-    assert_eq!(rt; detector.total(), 0);
-    let wanted: [(u16, &[u32]); 4] = [(0, &[]), (1, &[0]), (0, &[0]), (0, &[1, 2])];
-    assert_eq!(rt; detector.segments().len(), wanted.len());
-    for (segment, (thread, before)) in detector.segments().iter().zip(wanted.iter()) {
-        assert_eq!(rt; segment.thread, *thread);
-        assert!(rt; segment.before.as_slice() == *before);
-    }
+    reported(&rt, detector, 0);
+    expect_segments(&rt, detector.segments());
     Ok(())
 }
 
@@ -286,22 +354,17 @@ fn reports_each_word_once_until_an_alloc(rt: HostRuntime) -> Result<(), Fail> {
         detector,
         &[write(0, 0x13fc, 8), write(1, 0x1400, 1)],
     );
-    let reports = reports_of(rt.alloc(), detector)?;
-    compare(
+    expect(
         &rt,
-        &reports,
+        rt.alloc(),
+        detector,
         &[
             Race(3, true, 1, 0x13fc, &[0, 1]),
             Race(3, true, 1, 0x1400, &[0, 1]),
             Race(7, true, 1, 0x1400, &[0, 1]),
         ],
-    );
-    assert_eq!(rt; detector.kept(), 3);
-    let last = match detector.report(rt.alloc(), 2) {
-        Ok(report) => report,
-        Err(_) => detector.report(rt.alloc(), 2)?,
-    };
-    assert_eq!(rt; last.event, 7);
+    )?;
+    expect_last(&rt, rt.alloc(), detector, 7)?;
     Ok(())
 }
 
@@ -325,6 +388,6 @@ fn lends_its_words(rt: HostRuntime) -> Result<(), Fail> {
     let words = detector.words_mut();
     words.keep(0x1000, 4)?;
     words.reset(0x1000, 4);
-    assert_eq!(rt; detector.words().get(WORD), Cell::New);
+    is_cell(&rt, detector, WORD, Cell::New);
     Ok(())
 }

@@ -1,4 +1,4 @@
-ghost use Rattle.std.specs.Prelude.{◌<◌};
+ghost use Rattle.std.specs.Prelude.{◌<◌, ◌≤◌, length};
 
 use hg_disk::{
     Answer, Answered, Call, Disk, DiskFault, FileDisk, FuseDisk, MemDisk, Tear, write_through,
@@ -87,7 +87,9 @@ fn tears_two_writes_that_overlap(rt: HostRuntime) -> Result<(), Fail> {
 }
 
 /// A disk with these bytes, durably.
-fn holding(alloc: Global, bytes: &[u8]) -> Result<MemDisk, AllocError> {
+fn holding(alloc: Global, bytes: &[u8]) -> Result<MemDisk, AllocError>
+    requires { length bytes.now ≤ 8 }
+{
     MemDisk::holding(alloc, Vec::from_slice(alloc, bytes)?)
 }
 
