@@ -4,4 +4,5 @@ mod graph;
 mod model;
 mod own;
 mod plain;
+mod races;
 mod sets;

@@ -6,6 +6,8 @@ ghost use Rattle.std.specs.Prelude.{◌≤◌, IfOk};
 ghost use Rattle.hg_detect.specs.Engine.{AtPresent};
 ghost use Rattle.hg_detect.specs.Paged.{AreWithin};
 
+use crate::tests::own::Own;
+use crate::tests::races::{Race, compare};
 use hg_cells::Cell;
 use hg_detect::detector::{Answer, Detector};
 use hg_detect::paged::PagedWords;
@@ -18,13 +20,8 @@ use std::alloc::{AllocError, Global};
 use std::process::Abort;
 use std::test::Fail;
 
-use crate::tests::own::Own;
-
 /// The number of the word at 0x1000.
 const WORD: u64 = 0x400;
-
-/// A report that is expected: its event, whether it writes, its thread, the address of its word, its threads.
-struct Race<'a>(u64, bool, u16, u64, &'a [u16]);
 
 fn fork(p: u16, c: u16) -> Event {
     Event::Fork { p, c }
@@ -180,17 +177,6 @@ fn reports_of(alloc: Global, detector: &Detector<PagedWords>) -> Result<Vec<Repo
     }
 }
 
-fn compare(rt: &impl Abort, reports: &[Report], races: &[Race]) {
-    assert_eq!(rt; reports.len(), races.len());
-    for (report, race) in reports.iter().zip(races.iter()) {
-        assert_eq!(rt; report.event, race.0);
-        assert_eq!(rt; report.write, race.1);
-        assert_eq!(rt; report.thread, race.2);
-        assert_eq!(rt; report.word, race.3);
-        assert!(rt; report.threads.as_slice() == race.4);
-    }
-}
-
 /// Whether a detector kept just these reports.
 fn expect(
     rt: &impl Abort,
@@ -224,13 +210,23 @@ fn expect_last(
 
 /// Whether these are the segments of a thread that forks one other and joins it.
 fn expect_segments(rt: &impl Abort, segments: &[Segment]) {
-    let wanted: [(u16, &[u32]); 4] = [(0, &[]), (1, &[0]), (0, &[0]), (0, &[1, 2])];
-    assert_eq!(rt; segments.len(), wanted.len());
-    for (segment, (thread, before)) in segments.iter().zip(wanted.iter()) {
-        assert_eq!(rt; segment.thread, *thread);
-        assert!(rt; segment.before.as_slice() == *before);
+    assert_eq!(rt; segments.len(), SEGMENTS.len());
+    for (segment, wanted) in segments.iter().zip(SEGMENTS.iter()) {
+        assert_eq!(rt; segment.thread, wanted.0);
+        assert!(rt; segment.before.as_slice() == wanted.1);
     }
 }
+
+/// A thread, and the predecessors of a segment of its.
+#[derive(Clone, Copy)]
+struct Opened(u16, &'static [u32]);
+
+const SEGMENTS: [Opened; 4] = [
+    Opened(0, &[]),
+    Opened(1, &[0]),
+    Opened(0, &[0]),
+    Opened(0, &[1, 2]),
+];
 
 #[test]
 fn a_full_table_of_sets_refuses_and_changes_nothing(rt: HostRuntime) -> Result<(), Fail> {
@@ -253,7 +249,12 @@ fn with_one_set_more_it_is_reported(rt: HostRuntime) -> Result<(), Fail> {
     let row = [fork(0, 1), write(0, 0x1000, 4), write(1, 0x1000, 4)];
     offer(&rt, detector, &row);
     reported(&rt, detector, 1);
-    expect(&rt, rt.alloc(), detector, &[Race(3, true, 1, 0x1000, &[0, 1])])?;
+    expect(
+        &rt,
+        rt.alloc(),
+        detector,
+        &[Race(3, true, 1, 0x1000, &[0, 1])],
+    )?;
     has_sets(&rt, detector, 2);
     Ok(())
 }
@@ -349,11 +350,7 @@ fn reports_each_word_once_until_an_alloc(rt: HostRuntime) -> Result<(), Fail> {
     ];
     offer(&rt, detector, &row);
     assert_eq!(rt; picture_of(detector).cells, [Cell::New; 4]);
-    offer(
-        &rt,
-        detector,
-        &[write(0, 0x13fc, 8), write(1, 0x1400, 1)],
-    );
+    offer(&rt, detector, &[write(0, 0x13fc, 8), write(1, 0x1400, 1)]);
     expect(
         &rt,
         rt.alloc(),

@@ -2,16 +2,13 @@
 ghost use Rattle.std.specs.Prelude.{◌≡◌, ◌<◌, ◌^◌, length, reverse};
 ghost use Rattle.hg_plain.specs.Split.{InSpace};
 
+use crate::tests::races::{Race, compare};
 use hg_model::event::{Access, Block, Event};
-use hg_model::report::Report;
 use hg_model::word::WordState;
 use hg_plain::{reports_of, state_of};
 use std::alloc::Global;
 use std::process::Abort;
 use std::test::Fail;
-
-/// A report that is expected: its event, whether it writes, its thread, the address of its word, its threads.
-struct Race<'a>(u64, bool, u16, u64, &'a [u16]);
 
 fn fork(p: u16, c: u16) -> Event
     ensures { result ≡ Event.Fork p c }
@@ -106,21 +103,15 @@ fn expect(rt: &impl Abort, alloc: Global, events: &[Event], races: &[Race]) -> R
     Ok(())
 }
 
-fn compare(rt: &impl Abort, reports: &[Report], races: &[Race]) {
-    assert_eq!(rt; reports.len(), races.len());
-    for (report, race) in reports.iter().zip(races.iter()) {
-        assert_eq!(rt; report.event, race.0);
-        assert_eq!(rt; report.write, race.1);
-        assert_eq!(rt; report.thread, race.2);
-        assert_eq!(rt; report.word, race.3);
-        assert!(rt; report.threads.as_slice() == race.4);
-    }
-}
-
 #[test]
 fn unordered_writes_race(rt: HostRuntime) -> Result<(), Fail> {
     let events = [fork(0, 1), write(0, 0x1000, 4), write(1, 0x1000, 4)];
-    expect(&rt, rt.alloc(), &events, &[Race(3, true, 1, 0x1000, &[0, 1])])
+    expect(
+        &rt,
+        rt.alloc(),
+        &events,
+        &[Race(3, true, 1, 0x1000, &[0, 1])],
+    )
 }
 
 #[test]
@@ -164,7 +155,12 @@ fn shared_reads_and_then_a_write(rt: HostRuntime) -> Result<(), Fail> {
         read(2, 0x1000, 4),
         write(2, 0x1000, 4),
     ];
-    expect(&rt, rt.alloc(), &events, &[Race(6, true, 2, 0x1000, &[1, 2])])
+    expect(
+        &rt,
+        rt.alloc(),
+        &events,
+        &[Race(6, true, 2, 0x1000, &[1, 2])],
+    )
 }
 
 #[test]
@@ -175,7 +171,12 @@ fn a_read_lock_does_not_count_for_a_write(rt: HostRuntime) -> Result<(), Fail> {
         rdlock(1, 5),
         write(1, 0x1000, 4),
     ];
-    expect(&rt, rt.alloc(), &events, &[Race(4, true, 1, 0x1000, &[0, 1])])
+    expect(
+        &rt,
+        rt.alloc(),
+        &events,
+        &[Race(4, true, 1, 0x1000, &[0, 1])],
+    )
 }
 
 #[test]
@@ -255,7 +256,12 @@ fn a_read_is_reported_once_a_word_was_written(rt: HostRuntime) -> Result<(), Fai
         write(1, 0x1000, 4),
         read(0, 0x1000, 4),
     ];
-    expect(&rt, rt.alloc(), &events, &[Race(5, false, 0, 0x1000, &[0, 1])])
+    expect(
+        &rt,
+        rt.alloc(),
+        &events,
+        &[Race(5, false, 0, 0x1000, &[0, 1])],
+    )
 }
 
 /// The example that docs/DEFINITIONS.md draws.
@@ -271,7 +277,12 @@ fn the_drawn_example(rt: HostRuntime) -> Result<(), Fail> {
         read(1, 0x1000, 4),
     ];
     expect_modified(&rt, rt.alloc(), &events[..6])?;
-    expect(&rt, rt.alloc(), &events, &[Race(7, false, 1, 0x1000, &[0, 1])])
+    expect(
+        &rt,
+        rt.alloc(),
+        &events,
+        &[Race(7, false, 1, 0x1000, &[0, 1])],
+    )
 }
 
 #[test]

@@ -1,11 +1,11 @@
-ghost use Rattle.std.specs.Prelude.{◌≡◌, ◌≤◌, IfOk};
+ghost use Rattle.std.specs.Prelude.{◌≡◌, ◌<◌, ◌≤◌, length, IfOk};
 ghost use Rattle.hg_sets.specs.Interning.{AreSets, first_table};
 
+use crate::tests::own::Own;
 use hg_sets::{SetFault, SetTable};
 use std::alloc::{AllocError, Global};
+use std::process::Abort;
 use std::test::Fail;
-
-use crate::tests::own::Own;
 
 /// A table of so many sets at most.
 fn table_of(alloc: Global, limit: u32) -> Result<Own<SetTable>, AllocError>
@@ -19,20 +19,37 @@ fn table_of(alloc: Global, limit: u32) -> Result<Own<SetTable>, AllocError>
     })
 }
 
+/// Whether a set was answered so.
+fn is(rt: &impl Abort, found: Result<u32, SetFault>, wanted: Result<u32, SetFault>) {
+    assert_eq!(rt; found, wanted);
+}
+
+/// Whether a set has these members.
+fn has(rt: &impl Abort, table: &SetTable, id: u32, members: &[u16])
+    requires { id < length table.now.sets }
+{
+    assert_eq!(rt; table.members(id), members);
+}
+
+/// Whether a table has so many sets.
+fn has_sets(rt: &impl Abort, table: &SetTable, count: u32) {
+    assert_eq!(rt; table.len(), count);
+}
+
 #[test]
 fn names_sets_by_their_order_of_coming(rt: HostRuntime) -> Result<(), Fail> {
     let mut own = table_of(rt.alloc(), 16)?;
     let table = &mut own.it;
-    assert_eq!(rt; table.len(), 1);
-    assert_eq!(rt; table.intern(&[])?, 0);
-    assert_eq!(rt; table.intern(&[7, 300])?, 1);
-    assert_eq!(rt; table.find(&[7]), None);
-    assert_eq!(rt; table.intern(&[7])?, 2);
-    assert_eq!(rt; table.intern(&[7, 300])?, 1);
+    has_sets(&rt, table, 1);
+    is(&rt, table.intern(&[]), Ok(0));
+    is(&rt, table.intern(&[7, 300]), Ok(1));
+    assert!(rt; table.find(&[7]).is_none());
+    is(&rt, table.intern(&[7]), Ok(2));
     assert_eq!(rt; table.find(&[7]), Some(2));
-    assert_eq!(rt; table.len(), 3);
+    has_sets(&rt, table, 3);
     let pair = table.intern(&[7, 300])?;
-    assert_eq!(rt; table.members(pair), [7, 300].as_slice());
+    is(&rt, Ok(pair), Ok(1));
+    has(&rt, table, pair, &[7, 300]);
     Ok(())
 }
 
@@ -42,10 +59,10 @@ fn joins_a_member(rt: HostRuntime) -> Result<(), Fail> {
     let table = &mut own.it;
     let pair = table.intern(&[2, 9])?;
     let more = table.join(pair, 5)?;
-    assert_eq!(rt; table.members(more), [2, 5, 9].as_slice());
-    assert_eq!(rt; table.join(more, 5)?, more);
-    assert_eq!(rt; table.join(pair, 5)?, more);
-    assert_eq!(rt; table.len(), 3);
+    has(&rt, table, more, &[2, 5, 9]);
+    is(&rt, table.join(more, 5), Ok(more));
+    is(&rt, table.join(pair, 5), Ok(more));
+    has_sets(&rt, table, 3);
     Ok(())
 }
 
@@ -55,13 +72,13 @@ fn meets_others(rt: HostRuntime) -> Result<(), Fail> {
     let table = &mut own.it;
     let all = table.intern(&[2, 5, 9])?;
     let some = table.meet(all, &[1, 2, 9, 10])?;
-    assert_eq!(rt; table.members(some), [2, 9].as_slice());
-    assert_eq!(rt; table.meet(all, &[1, 2, 9, 10])?, some);
-    assert_eq!(rt; table.meet(all, &[2, 3, 5, 9])?, all);
-    assert_eq!(rt; table.meet(all, &[1, 2, 3, 4, 6, 7, 9])?, some);
-    assert_eq!(rt; table.meet(all, &[1, 3])?, 0);
-    assert_eq!(rt; table.meet(all, &[])?, 0);
-    assert_eq!(rt; table.len(), 3);
+    has(&rt, table, some, &[2, 9]);
+    is(&rt, table.meet(all, &[1, 2, 9, 10]), Ok(some));
+    is(&rt, table.meet(all, &[2, 3, 5, 9]), Ok(all));
+    is(&rt, table.meet(all, &[1, 2, 3, 4, 6, 7, 9]), Ok(some));
+    is(&rt, table.meet(all, &[1, 3]), Ok(0));
+    is(&rt, table.meet(all, &[]), Ok(0));
+    has_sets(&rt, table, 3);
     Ok(())
 }
 
@@ -69,10 +86,10 @@ fn meets_others(rt: HostRuntime) -> Result<(), Fail> {
 fn is_full_at_its_limit(rt: HostRuntime) -> Result<(), Fail> {
     let mut own = table_of(rt.alloc(), 2)?;
     let table = &mut own.it;
-    assert_eq!(rt; table.join(0, 5), Ok(1));
-    assert_eq!(rt; table.join(0, 6), Err(SetFault::Full));
-    assert_eq!(rt; table.intern(&[5, 6]), Err(SetFault::Full));
-    assert_eq!(rt; table.intern(&[5]), Ok(1));
-    assert_eq!(rt; table.len(), 2);
+    is(&rt, table.join(0, 5), Ok(1));
+    is(&rt, table.join(0, 6), Err(SetFault::Full));
+    is(&rt, table.intern(&[5, 6]), Err(SetFault::Full));
+    is(&rt, table.intern(&[5]), Ok(1));
+    has_sets(&rt, table, 2);
     Ok(())
 }
