@@ -8,7 +8,7 @@ ghost use Rattle.hg_store.specs.Images.{HasContent, Image, IsLeft, failures_of, 
 ghost use Rattle.hg_store.specs.Recovering.{IsEmpty, empty_image};
 ghost use Rattle.hg_commands.specs.Creating.{EndsByCreateFault, HasCreateCause, IsCleared};
 
-use crate::saying::print_now;
+use crate::printing::print_now;
 use hg_check::telling::tell;
 use hg_disk::{Disk, DiskFault};
 use hg_model::verdict::Refusal;
@@ -40,8 +40,8 @@ fn cleared<D: Disk>(devices: Devices<D>) -> Devices<D>
     devices
 }
 
-/// Makes a store, and says so. The status is 0, or 2 where a device has bytes.
-fn make_and_say<D: Disk, W: Write>(
+/// Makes a store, and prints that. The status is 0, or 2 where a device has bytes.
+fn make_and_print<D: Disk, W: Write>(
     alloc: Global,
     devices: Devices<D>,
     output: &mut Output<W>,
@@ -88,8 +88,8 @@ pub fn create_store<D: Disk, W: Write, V: Write>(
     ensures quiet { (result.0 ≡ 3 → ⊥) → Took faults.old.calls faults.new.calls [] }
     ensures fault { result.0 ≡ 3 → EndsByCreateFault ⟦<D as Disk>⟧ devices result.1 output.old.calls output.new.calls faults.old.calls faults.new.calls }
 {
-    let (said, devices) = make_and_say(alloc, devices, output);
-    match said {
+    let (made, devices) = make_and_print(alloc, devices, output);
+    match made {
         Ok(status) => (status, devices),
         Err(refusal) => {
             tell(refusal, faults);

@@ -9,7 +9,7 @@ use Rattle.hg_store.specs.declared.create.CreateFault.TheVariants.{NotEmpty, Ref
 use Rattle.hg_streams.specs.Told.{told_refusal}
 use Rattle.hg_commands.proofs.Causes.{refusal_is_counted}
 use Rattle.hg_commands.proofs.FeedDone.{fresh_is_left}
-use Rattle.hg_commands.proofs.creating.make_and_say.Goals as goal
+use Rattle.hg_commands.proofs.creating.make_and_print.Goals as goal
 
 pub returns-in-Ok-print_now-clause-durable : goal.returns-in-Ok-print_now-clause-durable
 returns-in-Ok-print_now-clause-durable g c _ image left = fresh_is_left g.D.Disk c.in-Ok.store empty_content c.into_devices.result image c.in-Ok.ensures.fresh c.into_devices.ensures left
