@@ -1,10 +1,7 @@
 -- What a store that is fed keeps.
-use Rattle.std.proofs.Common.{◌≡◌, ◌⊎◌, ℕ, ◌+◌, ◌≤◌, List, [], ◌∷◌, ◌++◌, length, Option, Some, Result, Ok, Err, IsTrue, Bool, true, false, All, codes, refl, sym, ap, subst, ◌∙◌, inl, inr, ⊎_elim, arith}
+use Rattle.std.proofs.Common.{◌≡◌, ℕ, ◌≤◌, List, [], ◌∷◌, ◌++◌, length, Some, Result, Ok, Err, IsTrue, Bool, true, false, refl, sym, ap, subst, ◌∙◌, inl, inr, arith}
 use Rattle.std.proofs.lemmas.Bool.{false≢true}
-use Rattle.std.proofs.lemmas.List.{append_assoc}
-use Rattle.std.proofs.lemmas.List.Elements.{All-nil, All-cons, All-weaker}
 use Rattle.hg_streams.specs.declared.call.WriteCall.{WriteCall}
-use Rattle.hg_streams.specs.declared.call.WriteCall.TheVariants as WriteCall
 use Rattle.hg_model.specs.declared.event.Named.{Named}
 use Rattle.hg_model.specs.declared.verdict.Refusal.{Refusal}
 use Rattle.hg_model.specs.Contents.{Content}
@@ -16,65 +13,20 @@ use Rattle.hg_detect.specs.declared.paged.PagedWords.{PagedWords}
 use Rattle.hg_detect.specs.Memory.{content_of}
 use Rattle.hg_store.specs.declared.devices.Devices.{Devices}
 use Rattle.hg_store.specs.Images.{EachImage, HasContent, Image, IsLeft, read_of}
-use Rattle.hg_store.specs.Offers.{CommitDone, OfferDone, durable_after, if_accepted}
+use Rattle.hg_store.specs.Offers.{CommitDone, OfferDone, if_accepted}
 use Rattle.hg_store.specs.Shown.{Shown}
 use Rattle.hg_store.specs.Store.{Backs, IsFresh, Stands}
 use Rattle.hg_store.proofs.Contents.{followed_append, followed_events}
 use Rattle.hg_store.proofs.Moments.{all_still}
 use Rattle.hg_commands.specs.Feeding.{ack_text}
 use Rattle.hg_commands.specs.Instants.{Instant, instant}
-use Rattle.hg_commands.specs.Keeping.{AcksAtMost, EachAckIsKept, HasAcked, HasAtLeast, IsKept, IsKeptAlong, IsKeptBetween, IsOn, IsOther, KeepsOn, given_to}
-use Rattle.hg_commands.specs.Printed.{IsPrintedNow}
-
--- the calls of an output
+use Rattle.hg_commands.specs.Keeping.{AcksAtMost, EachAckIsKept, HasAtLeast, IsKept, IsKeptAlong, IsKeptBetween, KeepsOn}
+use Rattle.hg_commands.specs.Printed.{IsPrintedNow, WereGiven}
+use Rattle.hg_commands.proofs.Given.{given_none, given_printed, given_weaker, grows}
 
 acks_more : (n m : ℕ) (text : List ℕ) → n ≤ m → AcksAtMost n text → AcksAtMost m text
 acks_more n m text more (inl ack) = inl (ack.0, omega (arith, more, ack.1), ack.2)
 acks_more n m text more (inr other) = inr other
-
-acked_more : (first now : List WriteCall) (n m : ℕ) → n ≤ m → HasAcked first now n → HasAcked first now m
-acked_more first now n m more h = record {
-  later = h.later;
-  since = h.since;
-  at_most = All-weaker (λ call. AcksAtMost n (given_to call)) (λ call. AcksAtMost m (given_to call)) (λ call. acks_more n m (given_to call) more) h.later h.at_most;
-}
-
-acked_on : (first now new : List WriteCall) (call : WriteCall) (n : ℕ) → new ≡ call ∷ now → AcksAtMost n (given_to call) → HasAcked first now n → HasAcked first new n
-acked_on first now new call n is says h = record {
-  later = call ∷ h.later;
-  since = is ∙ ap (λ t. call ∷ t) h.since;
-  at_most = All-cons (λ x. AcksAtMost n (given_to x)) call h.later says h.at_most;
-}
-
--- after a text was printed, or failed to be
-acked_printed : (first now new : List WriteCall) (text : List ℕ) (n : ℕ) → IsPrintedNow now new text → AcksAtMost n text → HasAcked first now n → HasAcked first new n
-acked_printed first now new text n printed says h =
-    let none : AcksAtMost n [] = inr (inl refl) in
-    let took = acked_on first now (WriteCall.Took text ∷ now) (WriteCall.Took text) n refl says h in
-    ⊎_elim
-    (λ same. subst (λ t. HasAcked first t n) (sym same) h)
-    (λ more. ⊎_elim
-    (λ torn. acked_on first now new (WriteCall.Torn text) n torn says h)
-    (λ whole. ⊎_elim
-    (λ a. acked_on first (WriteCall.Took text ∷ now) new WriteCall.NotFlushed n a none took)
-    (λ b. acked_on first (WriteCall.Took text ∷ now) new WriteCall.Flushed n b none took)
-    whole)
-    more)
-    printed
-
--- the calls of an output grow
-grows : (old now new : List WriteCall) (text : List ℕ) → IsPrintedNow now new text → (later : List WriteCall) × (now ≡ later ++ old) → (later : List WriteCall) × (new ≡ later ++ old)
-grows old now new text printed h =
-    ⊎_elim
-    (λ same. (h.0, same ∙ h.1))
-    (λ more. ⊎_elim
-    (λ torn. (WriteCall.Torn text ∷ h.0, torn ∙ ap (λ t. WriteCall.Torn text ∷ t) h.1))
-    (λ whole. ⊎_elim
-    (λ a. (WriteCall.NotFlushed ∷ WriteCall.Took text ∷ h.0, a ∙ ap (λ t. WriteCall.NotFlushed ∷ WriteCall.Took text ∷ t) h.1))
-    (λ b. (WriteCall.Flushed ∷ WriteCall.Took text ∷ h.0, b ∙ ap (λ t. WriteCall.Flushed ∷ WriteCall.Took text ∷ t) h.1))
-    whole)
-    more)
-    printed
 
 -- the images
 
@@ -174,7 +126,7 @@ module _ {D : Type 0} (g : disk.Ghosts D) where
   }
 
   -- what is kept while the devices are not called, and nothing is written but what acknowledges durable events
-  standing : (s : Shown D) (calls : List WriteCall) (start newest : Instant D) (first durable : Content) (front : List Named) → Backs g s durable → followed first front ≡ Some durable → HasAcked start.calls calls durable.events
+  standing : (s : Shown D) (calls : List WriteCall) (start newest : Instant D) (first durable : Content) (front : List Named) → Backs g s durable → followed first front ≡ Some durable → WereGiven (AcksAtMost durable.events) start.calls calls
       → s.devices ≡ newest.devices → (later : List WriteCall) × (calls ≡ later ++ newest.calls) → IsKeptBetween g first (content_of s.detector) start.calls newest (instant s.devices calls)
   standing s calls start newest first durable front backs before acked still goes =
       let live = content_of s.detector in
@@ -199,7 +151,8 @@ module _ {D : Type 0} (g : disk.Ghosts D) where
       let mid = instant m.devices calls in
       let front = h.front ++ s.pending in
       let before : followed first front ≡ Some live = followed_append h.front s.pending first h.durable h.before ∙ h.backs.live in
-      let acked = acked_more start.calls calls h.durable.events live.events (omega (arith, followed_events s.pending h.durable live h.backs.live)) h.acked in
+      let acked =
+      given_weaker (AcksAtMost h.durable.events) (AcksAtMost live.events) start.calls calls (λ text. acks_more h.durable.events live.events text (omega (arith, followed_events s.pending h.durable live h.backs.live))) h.acked in
       let backed = backs h.durable honest h.backs in
       record {
         durable = live;
@@ -223,7 +176,7 @@ module _ {D : Type 0} (g : disk.Ghosts D) where
   pub keeps_printed : (s : Shown D) (calls new : List WriteCall) (moments : List (Instant D)) (text : List ℕ) → s.is_broken ≡ false → IsPrintedNow calls new text
       → ((d : Content) → Backs g s d → AcksAtMost d.events text) → KeepsOn g s calls moments s new moments
   keeps_printed s calls new moments text works printed says = λ start first honest h.
-      let acked = acked_printed start.calls calls new text h.durable.events printed (says h.durable h.backs) h.acked in
+      let acked = given_printed (AcksAtMost h.durable.events) start.calls calls new text printed (says h.durable h.backs) (inr (inl refl)) h.acked in
       record {
         durable = h.durable;
         backs = h.backs;
@@ -252,7 +205,7 @@ module _ {D : Type 0} (g : disk.Ghosts D) where
   fresh_kept : (old : Devices D) (s : Shown D) (first : Content) (calls : List WriteCall) → EachImage g old s.devices (IsLeft g old) → IsFresh g s first
       → IsKept g (instant old calls) first (instant s.devices calls ∷ []) s calls
   fresh_kept old s first calls recovery fresh =
-      let none : HasAcked calls calls first.events = record { later = []; since = refl; at_most = All-nil (λ call. AcksAtMost first.events (given_to call)) } in
+      let none = given_none (AcksAtMost first.events) calls in
       record {
         durable = first;
         backs = fresh.backs;

@@ -1,27 +1,19 @@
 -- What is kept of a store's events while it is fed, whatever fails meanwhile.
-use Rattle.std.specs.Prelude.{◌≡◌, ◌⊎◌, ℕ, ◌≤◌, List, [], ◌∷◌, ◌++◌, Some, IsTrue, All, Bool, false, codes}
+use Rattle.std.specs.Prelude.{◌≡◌, ◌⊎◌, ℕ, ◌≤◌, List, [], ◌∷◌, ◌++◌, Some, IsTrue, false, codes}
 use Rattle.hg_streams.specs.declared.call.WriteCall.{WriteCall}
-use Rattle.hg_streams.specs.declared.call.WriteCall.TheVariants.{Took, Torn, Flushed, NotFlushed}
 use Rattle.hg_model.specs.declared.event.Named.{Named}
 use Rattle.hg_model.specs.Contents.{Content}
 use Rattle.hg_model.specs.Change.{followed}
 use Rattle.hg_disk.specs.declared.disk.Disk as disk
 use Rattle.hg_detect.specs.Memory.{content_of}
-use Rattle.hg_store.specs.declared.devices.Devices.{Devices}
 use Rattle.hg_store.specs.Images.{EachImage, HasContent, Image, IsLeft, read_of}
 use Rattle.hg_store.specs.Shown.{Shown}
 use Rattle.hg_store.specs.Store.{Backs}
 use Rattle.hg_check.specs.declared.checker.Ending.{Ending}
 use Rattle.hg_commands.specs.Feeding.{ack_text, feed_end_text}
 use Rattle.hg_commands.specs.Instants.{Instant, instant}
+use Rattle.hg_commands.specs.Printed.{WereGiven}
 use Rattle.hg_commands.specs.Storing.{number_text}
-
--- the bytes that a call was given, be it that it failed
-abbrev pub given_to : WriteCall → List ℕ
-given_to (Took bytes) = bytes
-given_to (Torn bytes) = bytes
-given_to Flushed = []
-given_to NotFlushed = []
 
 -- A text that acknowledges nothing: none, the line of `resume`, or the last line.
 abbrev pub IsOther : List ℕ → Type 0
@@ -30,12 +22,6 @@ IsOther text = (text ≡ []) ⊎ (((k : ℕ) × (text ≡ number_text (codes "re
 -- A text that acknowledges so many events at most: an `ack` of no more, or one that acknowledges nothing.
 abbrev pub AcksAtMost : ℕ → List ℕ → Type 0
 AcksAtMost n text = ((m : ℕ) × (m ≤ n) × (text ≡ ack_text m)) ⊎ IsOther text
-
--- Each call of an output from the first ones to those of now was given such a text, be it that it failed.
-pub record HasAcked (first now : List WriteCall) (n : ℕ) : Type 0 where
-  pub later : List WriteCall
-  pub since : now ≡ later ++ first
-  pub at_most : All (λ call. AcksAtMost n (given_to call)) later
 
 -- The image has the content after a front of the events that lead from the first content to the last.
 pub record IsOn (first last : Content) (image : Image) : Type 0 where
@@ -57,7 +43,7 @@ module _ {D : Type 0} (g : disk.Ghosts D) where
     pub later : List WriteCall
     pub since : new.calls ≡ later ++ old.calls
     pub count : ℕ
-    pub acked : HasAcked start new.calls count
+    pub acked : WereGiven (AcksAtMost count) start new.calls
     pub each : EachImage g old.devices new.devices (HasAtLeast first last count)
 
   -- From the start of a feeding to now, over the moments between, the newest first. Up to the oldest of them, at which the store is open,
@@ -81,7 +67,7 @@ module _ {D : Type 0} (g : disk.Ghosts D) where
     pub backs : Backs g s durable
     pub front : List Named
     pub before : followed first front ≡ Some durable
-    pub acked : HasAcked start.calls now durable.events
+    pub acked : WereGiven (AcksAtMost durable.events) start.calls now
     pub newest : Instant D
     pub earlier : List (Instant D)
     pub is : moments ≡ newest ∷ earlier

@@ -211,15 +211,7 @@ fn advance<D: Disk, R: Read, W: Write>(
     if count == 0 {
         return Ok(Progress::AtEnd);
     }
-    match feed_piece(
-        reader,
-        store,
-        fed,
-        &buffer[..count],
-        held,
-        output,
-        moments,
-    )? {
+    match feed_piece(reader, store, fed, &buffer[..count], held, output, moments)? {
         None => Ok(Progress::Underway),
         Some(end) => Ok(Progress::Stopped(end)),
     }
@@ -411,8 +403,15 @@ pub fn feed<D: Disk, R: Read, W: Write, V: Write>(
     ensures kept { IsTrue D.is_honest → EachAckIsKept ⟦<D as Disk>⟧ (instant devices output.old.calls) result.moments (instant result.devices output.new.calls) }
 {
     let mut moments = Trail::new();
-    let (ended, devices) =
-        recover_and_feed(alloc, devices, source, frames, input, output, &mut moments);
+    let (ended, devices) = recover_and_feed(
+        alloc,
+        devices,
+        source,
+        frames,
+        input,
+        output,
+        &mut moments,
+    );
     match ended {
         Ok(end) => Outcome {
             status: status_of_end(end),

@@ -3,7 +3,7 @@ use Rattle.std.proofs.lemmas.List.{length-append, length-drop, length-take}
 use Rattle.std.proofs.lemmas.Result.{IfOk-weaker, on_ok_weaker}
 use Rattle.hg_detect.specs.Memory.{content_of}
 use Rattle.hg_wire.specs.Streams.{readings_from}
-use Rattle.hg_commands.specs.FeedRunning.{FeedAdvances, Feeds, GoesOn, LeadsOn, Place, place}
+use Rattle.hg_commands.specs.FeedRunning.{FeedAdvances, Feeds, GoesOn, LeadsOn, place}
 use Rattle.hg_commands.proofs.FeedSteps.{goes_on}
 use Rattle.hg_commands.proofs.FeedUnderway.{feeding_first, feeding_on, feeds_at_end}
 use Rattle.hg_commands.proofs.Kept.{keeps_then}

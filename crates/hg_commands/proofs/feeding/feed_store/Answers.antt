@@ -1,4 +1,4 @@
-use Rattle.std.proofs.Common.{◌≡◌, ℕ, Bool, true, false, Result, Ok, Err, cond, codes, refl, subst, inl, inr, ◌+◌, arith}
+use Rattle.std.proofs.Common.{◌≡◌, ℕ, Bool, true, false, Result, Ok, Err, cond, codes, refl, subst, inl, inr, arith}
 use Rattle.hg_check.specs.Printing.{Took}
 use Rattle.hg_model.specs.declared.verdict.Refusal.{Refusal}
 use Rattle.hg_model.specs.declared.verdict.Refusal.TheVariants as refusal
@@ -8,7 +8,6 @@ use Rattle.hg_commands.specs.Storing.{number_text}
 use Rattle.hg_commands.proofs.Kept.{keeps_printed, keeps_then}
 use Rattle.hg_commands.proofs.FeedDone.{was_fed}
 use Rattle.std.proofs.lemmas.Result.{err_from_is_err_and}
-use Rattle.hg_commands.proofs.FeedDone.{took_intact}
 use Rattle.hg_commands.proofs.FeedUnderway.{reads_intact}
 use Rattle.hg_commands.proofs.feeding.feed_store.Goals as goal
 
@@ -84,7 +83,7 @@ returns-in_err-acknowledge-clause-kept g c =
     c.acknowledge.ensures.kept
 
 pub returns-in_err-print_end-clause-kept : goal.returns-in_err-print_end-clause-kept
-returns-in_err-print_end-clause-kept g c = 
+returns-in_err-print_end-clause-kept g c =
     let s = c.args.store.now in
     let end = feed_end_text (content_of c.acknowledge.new.store.detector) c.in_ok-end.end in
     keeps_then g.D.Disk s c.acknowledge.new.store c.acknowledge.new.store c.args.output.now.calls c.acknowledge.new.output.calls c.print_end.new.output.calls
@@ -101,7 +100,7 @@ returns-in_err-print_end-clause-kept g c =
     c.in_ok-acknowledge.ensures.committed.works c.print_end.ensures.calls (λ d backs. inr (inr (inr (content_of c.acknowledge.new.store.detector, c.in_ok-end.end, refl)))))
 
 pub returns-clause-kept : goal.returns-clause-kept
-returns-clause-kept g c = 
+returns-clause-kept g c =
     let s = c.args.store.now in
     let end = feed_end_text (content_of c.acknowledge.new.store.detector) c.in_ok-end.end in
     keeps_then g.D.Disk s c.acknowledge.new.store c.acknowledge.new.store c.args.output.now.calls c.acknowledge.new.output.calls c.print_end.new.output.calls

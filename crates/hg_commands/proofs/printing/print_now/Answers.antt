@@ -1,6 +1,5 @@
-use Rattle.std.proofs.Common.{◌≡◌, ◌∷◌, [], ◌++◌, List, ℕ, refl, sym, ap, subst, ◌∙◌}
+use Rattle.std.proofs.Common.{◌∷◌, [], List, ℕ, refl, sym, ap, subst, ◌∙◌}
 use Rattle.hg_streams.specs.declared.call.WriteCall.{WriteCall}
-use Rattle.hg_streams.specs.declared.call.WriteCall.TheVariants as WriteCall
 use Rattle.hg_check.specs.Printing.{Took}
 use Rattle.hg_commands.proofs.printing.print_now.Goals as goal
 
