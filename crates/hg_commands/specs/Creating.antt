@@ -56,7 +56,7 @@ module _ {D : Type 0} (g : disk.Ghosts D) where
       ⊎ (((failed_writes start.calls < failed_writes old.calls) × (new.calls ≡ old.calls))
       ⊎ EachImage g old.devices new.devices (λ image. HasContent image empty_content))
 
-  -- At each moment of a making, whatever ends it, `created` is true: so it is from each of these moments, the newest first, to the next one.
+  -- At each moment of a making, whatever ends it, `created` is true: so it is between each two neighbours of these moments, the newest first.
   abbrev pub CreatedIsKept : Instant D → List (Instant D) → Instant D → Type 0
   CreatedIsKept start [] now = IsMadeBetween start start now
   CreatedIsKept start (mid ∷ earlier) now = IsMadeBetween start mid now × CreatedIsKept start earlier mid

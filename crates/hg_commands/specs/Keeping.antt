@@ -53,7 +53,8 @@ module _ {D : Type 0} (g : disk.Ghosts D) where
   IsKeptAlong first last start (mid ∷ earlier) now = IsKeptBetween first last start.calls mid now × IsKeptAlong first last start earlier mid
 
   -- At each moment of a feeding, whatever ends it, each image of the devices has each event that is counted by an `ack` that was written by then,
-  -- in a front of the accepted events, which lead from the content that the devices read at the start to the last one.
+  -- in a front of the accepted events, which lead from the content that the devices read at the start to the last one. Each moment lies between
+  -- two that are neighbours here, and only moments that there were can be listed (`Moment::of`): a list that lacks one asks for more, not for less.
   pub record EachAckIsKept (start : Instant D) (moments : List (Instant D)) (now : Instant D) : Type 0 where
     pub first : Content
     pub last : Content
