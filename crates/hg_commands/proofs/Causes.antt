@@ -5,7 +5,7 @@ use Rattle.hg_model.specs.declared.verdict.Refusal.{Refusal}
 use Rattle.hg_model.specs.declared.verdict.Refusal.TheVariants.{Damaged, FullSets, DeviceFault}
 use Rattle.hg_disk.specs.declared.disk.Disk as disk
 use Rattle.hg_store.specs.declared.devices.Devices.{Devices}
-use Rattle.hg_store.specs.Images.{HasContent, failures_of, read_of}
+use Rattle.hg_store.specs.Images.{HasContent, read_of}
 use Rattle.hg_journal.specs.Journal.{after_refusal, failed_after}
 use Rattle.hg_store.specs.Recovering.{IsOfRecovery, IsTooSmall}
 use Rattle.hg_streams.specs.Told.{told, told_refusal}

@@ -5,3 +5,5 @@ mod FeedSteps
 mod FeedUnderway
 mod Unique
 mod Kept
+mod Given
+mod Made

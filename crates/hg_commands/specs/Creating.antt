@@ -1,15 +1,24 @@
--- How making a store ends by a fault.
-use Rattle.std.specs.Prelude.{◌≡◌, ◌⊎◌, ℕ, ◌+◌, List, []}
+-- How making a store ends by a fault, and what is kept of it.
+use Rattle.std.specs.Prelude.{◌≡◌, ◌⊎◌, ℕ, ◌+◌, ◌<◌, List, [], ◌∷◌, codes}
 use Rattle.hg_model.specs.declared.verdict.Refusal.{Refusal}
 use Rattle.hg_model.specs.declared.verdict.Refusal.TheVariants.{DeviceFault, OutOfMemory}
 use Rattle.hg_disk.specs.declared.disk.Disk as disk
 use Rattle.hg_disk.specs.State.{settled}
+use Rattle.hg_model.specs.Change.{empty_content}
 use Rattle.hg_store.specs.declared.devices.Devices.{Devices}
+use Rattle.hg_store.specs.Images.{EachImage, HasContent}
 use Rattle.hg_store.specs.Recovering.{IsEmpty}
 use Rattle.hg_streams.specs.declared.call.WriteCall.{WriteCall}
+use Rattle.hg_streams.specs.Calls.{failed_writes}
 use Rattle.hg_streams.specs.Told.{told_refusal}
 use Rattle.hg_check.specs.Streaming.{IsTold}
+use Rattle.hg_commands.specs.Instants.{Instant}
+use Rattle.hg_commands.specs.Printed.{WereGiven}
 use Rattle.hg_commands.specs.Storing.{failed_calls}
+
+-- a text that tells of no store that was made
+abbrev pub IsOfNone : List ℕ → Type 0
+IsOfNone text = (text ≡ []) ⊎ (text ≡ codes "not empty\n")
 
 module _ {D : Type 0} (g : disk.Ghosts D) where
   -- The device has no byte, durably, unless a call of it failed since.
@@ -38,3 +47,16 @@ module _ {D : Type 0} (g : disk.Ghosts D) where
   -- It was told, or that failed too.
   abbrev pub EndsByCreateFault : Devices D → Devices D → List WriteCall → List WriteCall → List WriteCall → List WriteCall → Type 0
   EndsByCreateFault old new calls_old calls_new faults_old faults_new = (r : Refusal) × (HasCreateCause old new calls_old calls_new r × IsTold faults_old faults_new r)
+
+  -- Of a making that began at `start`, from one moment to a later one: `created` has not been written by the later one; or its writing had
+  -- failed by the earlier one, and nothing is written since; or each image of the devices meanwhile has the content of a store of no events.
+  abbrev pub IsMadeBetween : Instant D → Instant D → Instant D → Type 0
+  IsMadeBetween start old new =
+      WereGiven IsOfNone start.calls new.calls
+      ⊎ (((failed_writes start.calls < failed_writes old.calls) × (new.calls ≡ old.calls))
+      ⊎ EachImage g old.devices new.devices (λ image. HasContent image empty_content))
+
+  -- At each moment of a making, whatever ends it, `created` is true: so it is between each two neighbours of these moments, the newest first.
+  abbrev pub CreatedIsKept : Instant D → List (Instant D) → Instant D → Type 0
+  CreatedIsKept start [] now = IsMadeBetween start start now
+  CreatedIsKept start (mid ∷ earlier) now = IsMadeBetween start mid now × CreatedIsKept start earlier mid

@@ -1,41 +1,27 @@
 -- What is kept of a store's events while it is fed, whatever fails meanwhile.
-use Rattle.std.specs.Prelude.{◌≡◌, ◌⊎◌, ℕ, ◌≤◌, List, [], ◌∷◌, ◌++◌, Some, IsTrue, codes}
+use Rattle.std.specs.Prelude.{◌≡◌, ◌⊎◌, ℕ, ◌≤◌, List, [], ◌∷◌, ◌++◌, Some, IsTrue, false, codes}
 use Rattle.hg_streams.specs.declared.call.WriteCall.{WriteCall}
-use Rattle.hg_streams.specs.declared.call.WriteCall.TheVariants.{Took, Torn, Flushed, NotFlushed}
 use Rattle.hg_model.specs.declared.event.Named.{Named}
 use Rattle.hg_model.specs.Contents.{Content}
 use Rattle.hg_model.specs.Change.{followed}
 use Rattle.hg_disk.specs.declared.disk.Disk as disk
 use Rattle.hg_detect.specs.Memory.{content_of}
-use Rattle.hg_store.specs.declared.devices.Devices.{Devices}
 use Rattle.hg_store.specs.Images.{EachImage, HasContent, Image, IsLeft, read_of}
 use Rattle.hg_store.specs.Shown.{Shown}
 use Rattle.hg_store.specs.Store.{Backs}
 use Rattle.hg_check.specs.declared.checker.Ending.{Ending}
 use Rattle.hg_commands.specs.Feeding.{ack_text, feed_end_text}
+use Rattle.hg_commands.specs.Instants.{Instant, instant}
+use Rattle.hg_commands.specs.Printed.{WereGiven}
 use Rattle.hg_commands.specs.Storing.{number_text}
-
--- the bytes that a call was given, be it that it failed
-abbrev pub given_to : WriteCall → List ℕ
-given_to (Took bytes) = bytes
-given_to (Torn bytes) = bytes
-given_to Flushed = []
-given_to NotFlushed = []
 
 -- A text that acknowledges nothing: none, the line of `resume`, or the last line.
 abbrev pub IsOther : List ℕ → Type 0
 IsOther text = (text ≡ []) ⊎ (((k : ℕ) × (text ≡ number_text (codes "resume ") k)) ⊎ ((c : Content) × (end : Ending) × (text ≡ feed_end_text c end)))
 
--- The newest `ack` among these calls is of so many events, be it that its write failed; where there is none, of no event. They were given nothing else but the other lines.
-abbrev pub Acknowledge : List WriteCall → ℕ → Type 0
-Acknowledge [] n = n ≡ 0
-Acknowledge (call ∷ earlier) n = (given_to call ≡ ack_text n) ⊎ (IsOther (given_to call) × Acknowledge earlier n)
-
--- From the first calls of an output to those of now, so many events were acknowledged.
-pub record HasTold (first now : List WriteCall) (n : ℕ) : Type 0 where
-  pub later : List WriteCall
-  pub since : now ≡ later ++ first
-  pub tells : Acknowledge later n
+-- A text that acknowledges so many events at most: an `ack` of no more, or one that acknowledges nothing.
+abbrev pub AcksAtMost : ℕ → List ℕ → Type 0
+AcksAtMost n text = ((m : ℕ) × (m ≤ n) × (text ≡ ack_text m)) ⊎ IsOther text
 
 -- The image has the content after a front of the events that lead from the first content to the last.
 pub record IsOn (first last : Content) (image : Image) : Type 0 where
@@ -46,48 +32,50 @@ pub record IsOn (first last : Content) (image : Image) : Type 0 where
   pub before : followed first front ≡ Some content
   pub behind : followed content back ≡ Some last
 
-module _ {D : Type 0} (g : disk.Ghosts D) where
-  -- At each moment from `start` to `now`, each image of the devices has P. The moments between are the newest first.
-  abbrev pub AllAlong : (Image → Type 0) → Devices D → List (Devices D) → Devices D → Type 0
-  AllAlong P start [] now = EachImage g start now P
-  AllAlong P start (mid ∷ earlier) now = EachImage g mid now P × AllAlong P start earlier mid
+-- the same, with so many of the events at least
+abbrev pub HasAtLeast : Content → Content → ℕ → Image → Type 0
+HasAtLeast first last n image = (on : IsOn first last image) × (n ≤ on.content.events)
 
-  -- While a store that was opened on the devices `start` with the first content is fed: at each moment each image has a front of the
-  -- events that were accepted; now it has the durable ones, or, after a commit that failed, all; and the durable ones are as many as
-  -- the output was told at least.
-  pub record IsKept (start : Devices D) (first : Content) (calls : List WriteCall) (s : Shown D) (now : List WriteCall) : Type 0 where
+module _ {D : Type 0} (g : disk.Ghosts D) where
+  -- Of a feeding whose output had the calls `start` at first, from one moment to a later one: each image of the devices meanwhile has a
+  -- front of the accepted events, with as many of them at least as each `ack` counts that was written by the later moment.
+  pub record IsKeptBetween (first last : Content) (start : List WriteCall) (old new : Instant D) : Type 0 where
+    pub later : List WriteCall
+    pub since : new.calls ≡ later ++ old.calls
+    pub count : ℕ
+    pub acked : WereGiven (AcksAtMost count) start new.calls
+    pub each : EachImage g old.devices new.devices (HasAtLeast first last count)
+
+  -- From the start of a feeding to now, over the moments between, the newest first. Up to the oldest of them, at which the store is open,
+  -- nothing is written, and each image is one that there was at the start; and so it is all along where there is none.
+  abbrev pub IsKeptAlong : Content → Content → Instant D → List (Instant D) → Instant D → Type 0
+  IsKeptAlong first last start [] now = EachImage g start.devices now.devices (IsLeft g start.devices) × (now.calls ≡ start.calls)
+  IsKeptAlong first last start (mid ∷ earlier) now = IsKeptBetween first last start.calls mid now × IsKeptAlong first last start earlier mid
+
+  -- At each moment of a feeding, whatever ends it, each image of the devices has each event that is counted by an `ack` that was written by then,
+  -- in a front of the accepted events, which lead from the content that the devices read at the start to the last one. Each moment lies between
+  -- two that are neighbours here, and only moments that there were can be listed (`Moment::of`): a list that lacks one asks for more, not for less.
+  pub record EachAckIsKept (start : Instant D) (moments : List (Instant D)) (now : Instant D) : Type 0 where
+    pub first : Content
+    pub last : Content
+    pub opened : (moments ≡ [] → ⊥) → HasContent (read_of g start.devices) first
+    pub along : IsKeptAlong first last start moments now
+
+  -- While a store that was opened on devices with the first content is fed: it stands for a durable content, which leads from the first one by
+  -- accepted events and has each acknowledged one; while it works, the devices are those of the newest moment; and all is kept so far.
+  pub record IsKept (start : Instant D) (first : Content) (moments : List (Instant D)) (s : Shown D) (now : List WriteCall) : Type 0 where
     pub durable : Content
     pub backs : Backs g s durable
     pub front : List Named
     pub before : followed first front ≡ Some durable
-    pub count : ℕ
-    pub told : HasTold calls now count
-    pub enough : count ≤ durable.events
-    pub mids : List (Devices D)
-    pub along : AllAlong (IsOn first (content_of s.detector)) start mids s.devices
+    pub acked : WereGiven (AcksAtMost durable.events) start.calls now
+    pub newest : Instant D
+    pub earlier : List (Instant D)
+    pub is : moments ≡ newest ∷ earlier
+    pub still : s.is_broken ≡ false → s.devices ≡ newest.devices
+    pub along : IsKeptAlong first (content_of s.detector) start (newest ∷ earlier) (instant s.devices now)
 
   -- What is kept stays kept from one moment to another.
-  abbrev pub KeepsOn : Shown D → List WriteCall → Shown D → List WriteCall → Type 0
-  KeepsOn old before new after =
-      (start : Devices D) (first : Content) (calls : List WriteCall) → IsTrue g.is_honest → IsKept start first calls old before → IsKept start first calls new after
-
-  -- An image that has a front of the accepted events, with so many of them at least.
-  abbrev pub HasAtLeast : Content → Content → ℕ → Image → Type 0
-  HasAtLeast first last n image = (on : IsOn first last image) × (n ≤ on.content.events)
-
-  -- What was fed from `old` on, the content `first` in it: a recovery up to `opened`, in which each image is one that there was; then each image at
-  -- each moment has a front of the accepted events, which lead to `last`; and at the end each has those that were acknowledged.
-  pub record IsFedFrom (old new : Devices D) (first : Content) (before after : List WriteCall) : Type 0 where
-    pub opened : Devices D
-    pub recovery : EachImage g old opened (IsLeft g old)
-    pub last : Content
-    pub mids : List (Devices D)
-    pub along : AllAlong (IsOn first last) opened mids new
-    pub count : ℕ
-    pub told : HasTold before after count
-    pub each : (image : Image) → IsLeft g new image → HasAtLeast first last count image
-
-  -- Whatever ended a feeding, nothing is lost. Where there was no store, the devices have what they had, and nothing was acknowledged.
-  abbrev pub NothingLost : Devices D → Devices D → List WriteCall → List WriteCall → Type 0
-  NothingLost old new before after =
-      (EachImage g old new (IsLeft g old) × (after ≡ before)) ⊎ ((first : Content) × HasContent (read_of g old) first × IsFedFrom old new first before after)
+  abbrev pub KeepsOn : Shown D → List WriteCall → List (Instant D) → Shown D → List WriteCall → List (Instant D) → Type 0
+  KeepsOn old before earlier new after later =
+      (start : Instant D) (first : Content) → IsTrue g.is_honest → IsKept start first earlier old before → IsKept start first later new after

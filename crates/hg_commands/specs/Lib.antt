@@ -5,3 +5,4 @@ pub mod Storing
 pub mod Laws
 pub mod Keeping
 pub mod Printed
+pub mod Instants

@@ -1,8 +1,21 @@
--- What a text that is printed at once leaves of an output's calls.
-use Rattle.std.specs.Prelude.{◌≡◌, ◌⊎◌, ℕ, List, ◌∷◌}
+-- What an output was given.
+use Rattle.std.specs.Prelude.{◌≡◌, ◌⊎◌, ℕ, List, [], ◌∷◌, ◌++◌, All}
 use Rattle.hg_streams.specs.declared.call.WriteCall.{WriteCall}
 use Rattle.hg_streams.specs.declared.call.WriteCall.TheVariants.{Took, Torn, Flushed, NotFlushed}
 
--- It was not written; or its write failed; or it was written, and then flushed, or that failed.
+-- A text that is printed at once was not written; or its write failed; or it was written, and then flushed, or that failed.
 abbrev pub IsPrintedNow : List WriteCall → List WriteCall → List ℕ → Type 0
 IsPrintedNow old new text = (new ≡ old) ⊎ ((new ≡ Torn text ∷ old) ⊎ ((new ≡ NotFlushed ∷ Took text ∷ old) ⊎ (new ≡ Flushed ∷ Took text ∷ old)))
+
+-- the bytes that a call was given, be it that it failed
+abbrev pub given_to : WriteCall → List ℕ
+given_to (Took bytes) = bytes
+given_to (Torn bytes) = bytes
+given_to Flushed = []
+given_to NotFlushed = []
+
+-- Each call of an output from the first ones to those of now was given a text that has P.
+pub record WereGiven (P : List ℕ → Type 0) (first now : List WriteCall) : Type 0 where
+  pub later : List WriteCall
+  pub since : now ≡ later ++ first
+  pub each : All (λ call. P (given_to call)) later

@@ -6,9 +6,11 @@ ghost use Rattle.hg_disk.specs.State.{counted, settled};
 ghost use Rattle.hg_model.specs.Change.{empty_content};
 ghost use Rattle.hg_store.specs.Images.{HasContent, Image, IsLeft, failures_of, read_of};
 ghost use Rattle.hg_store.specs.Recovering.{IsEmpty, empty_image};
-ghost use Rattle.hg_commands.specs.Creating.{EndsByCreateFault, HasCreateCause, IsCleared};
+ghost use Rattle.hg_commands.specs.Creating.{CreatedIsKept, EndsByCreateFault, HasCreateCause, IsCleared};
+ghost use Rattle.hg_commands.specs.Instants.{instant};
 
-use crate::saying::print_now;
+use crate::moment::{Moment, Outcome};
+use crate::printing::print_now;
 use hg_check::telling::tell;
 use hg_disk::{Disk, DiskFault};
 use hg_model::verdict::Refusal;
@@ -16,6 +18,7 @@ use hg_store::create::CreateFault;
 use hg_store::devices::{Caps, Devices};
 use hg_store::store::Store;
 use hg_streams::output::Output;
+use hg_streams::trail::Trail;
 use std::alloc::Global;
 use std::io::Write;
 
@@ -40,12 +43,14 @@ fn cleared<D: Disk>(devices: Devices<D>) -> Devices<D>
     devices
 }
 
-/// Makes a store, and says so. The status is 0, or 2 where a device has bytes.
-fn make_and_say<D: Disk, W: Write>(
+/// Makes a store, and prints that. The status is 0, or 2 where a device has bytes.
+fn make_and_print<D: Disk, W: Write>(
     alloc: Global,
     devices: Devices<D>,
     output: &mut Output<W>,
+    moments: &mut Trail<Moment<D, W>>,
 ) -> (Result<u8, Refusal>, Devices<D>)
+    requires none { moments.old ≡ [] }
     ensures status { IfOk result.0 (λ s. (s ≡ 0) ⊎ (s ≡ 2)) }
     ensures durable { result.0 ≡ Ok 0 → (image : Image) → IsLeft ⟦<D as Disk>⟧ result.1 image → HasContent image empty_content }
     ensures created { result.0 ≡ Ok 0 → IsEmpty ⟦<D as Disk>⟧ devices × (read_of ⟦<D as Disk>⟧ result.1 ≡ empty_image)
@@ -54,12 +59,18 @@ fn make_and_say<D: Disk, W: Write>(
         × Took output.old.calls output.new.calls (codes "not empty\n") }
     ensures device { OnOk result.0 (failures_of ⟦<D as Disk>⟧ result.1 ≡ failures_of ⟦<D as Disk>⟧ devices) }
     ensures cause { IfErr result.0 (λ r. HasCreateCause ⟦<D as Disk>⟧ devices result.1 output.old.calls output.new.calls r) }
+    ensures kept { CreatedIsKept ⟦<D as Disk>⟧ (instant devices output.old.calls) moments.new (instant result.1 output.new.calls) }
 {
     match Store::create(alloc, devices, 64, Caps::profile()) {
-        Ok(store) => match print_now(b"created\n", output) {
-            Ok(()) => (Ok(0), store.into_devices()),
-            Err(refusal) => (Err(refusal), cleared(store.into_devices())),
-        },
+        Ok(store) => {
+            moments.push(Moment::of(&store, &*output));
+            let printed = print_now(b"created\n", output);
+            moments.push(Moment::of(&store, &*output));
+            match printed {
+                Ok(()) => (Ok(0), store.into_devices()),
+                Err(refusal) => (Err(refusal), cleared(store.into_devices())),
+            }
+        }
         Err((CreateFault::NotEmpty, devices)) => match print_now(b"not empty\n", output) {
             Ok(()) => (Ok(2), devices),
             Err(refusal) => (Err(refusal), devices),
@@ -68,32 +79,45 @@ fn make_and_say<D: Disk, W: Write>(
     }
 }
 
-/// Makes a store of no events on the devices. Answers the status and the devices: 0, and any crash from then on leaves such a
-/// store; 2 where a device has bytes, and nothing is changed; or 3 where a device or the output failed, or memory was refused,
-/// which is told on `faults`. With status 3, devices that had no byte have none again, as far as they answer, so that the store
-/// can be made once the cause is mended, and other devices are as they were.
+/// Makes a store of no events on the devices. The status is 0, and any crash from then on leaves such a store; 2 where a device
+/// has bytes, and nothing is changed; or 3 where a device or the output failed, or memory was refused, which is told on `faults`.
+/// With status 3, devices that had no byte have none again, as far as they answer, so that the store can be made once the cause
+/// is mended, and other devices are as they were.
+///
+/// Whatever the status, `created` is written only while a crash leaves such a store, and so it does from then on, unless the
+/// writing failed. The moments in the outcome show it: one comes before `created` is written, and one after that.
 pub fn create_store<D: Disk, W: Write, V: Write>(
     alloc: Global,
     devices: Devices<D>,
     output: &mut Output<W>,
     faults: &mut Output<V>,
-) -> (u8, Devices<D>)
-    ensures status { (result.0 ≡ 0) ⊎ ((result.0 ≡ 2) ⊎ (result.0 ≡ 3)) }
-    ensures durable { result.0 ≡ 0 → (image : Image) → IsLeft ⟦<D as Disk>⟧ result.1 image → HasContent image empty_content }
-    ensures created { result.0 ≡ 0 → IsEmpty ⟦<D as Disk>⟧ devices × (read_of ⟦<D as Disk>⟧ result.1 ≡ empty_image)
+) -> Outcome<D, W>
+    ensures status { (result.status ≡ 0) ⊎ ((result.status ≡ 2) ⊎ (result.status ≡ 3)) }
+    ensures durable { result.status ≡ 0 → (image : Image) → IsLeft ⟦<D as Disk>⟧ result.devices image → HasContent image empty_content }
+    ensures created { result.status ≡ 0 → IsEmpty ⟦<D as Disk>⟧ devices × (read_of ⟦<D as Disk>⟧ result.devices ≡ empty_image)
         × Took output.old.calls output.new.calls (codes "created\n") }
-    ensures not_empty { result.0 ≡ 2 → ¬ IsEmpty ⟦<D as Disk>⟧ devices × (result.1 ≡ devices)
+    ensures not_empty { result.status ≡ 2 → ¬ IsEmpty ⟦<D as Disk>⟧ devices × (result.devices ≡ devices)
         × Took output.old.calls output.new.calls (codes "not empty\n") }
-    ensures device { (result.0 ≡ 3 → ⊥) → failures_of ⟦<D as Disk>⟧ result.1 ≡ failures_of ⟦<D as Disk>⟧ devices }
-    ensures quiet { (result.0 ≡ 3 → ⊥) → Took faults.old.calls faults.new.calls [] }
-    ensures fault { result.0 ≡ 3 → EndsByCreateFault ⟦<D as Disk>⟧ devices result.1 output.old.calls output.new.calls faults.old.calls faults.new.calls }
+    ensures device { (result.status ≡ 3 → ⊥) → failures_of ⟦<D as Disk>⟧ result.devices ≡ failures_of ⟦<D as Disk>⟧ devices }
+    ensures quiet { (result.status ≡ 3 → ⊥) → Took faults.old.calls faults.new.calls [] }
+    ensures fault { result.status ≡ 3 → EndsByCreateFault ⟦<D as Disk>⟧ devices result.devices output.old.calls output.new.calls faults.old.calls faults.new.calls }
+    ensures kept { CreatedIsKept ⟦<D as Disk>⟧ (instant devices output.old.calls) result.moments (instant result.devices output.new.calls) }
 {
-    let (said, devices) = make_and_say(alloc, devices, output);
-    match said {
-        Ok(status) => (status, devices),
+    let mut moments = Trail::new();
+    let (made, devices) = make_and_print(alloc, devices, output, &mut moments);
+    match made {
+        Ok(status) => Outcome {
+            status,
+            devices,
+            moments,
+        },
         Err(refusal) => {
             tell(refusal, faults);
-            (3, devices)
+            Outcome {
+                status: 3,
+                devices,
+                moments,
+            }
         }
     }
 }

@@ -11,13 +11,15 @@ ghost use Rattle.hg_check.specs.Printing.{status_of};
 ghost use Rattle.hg_commands.specs.Feeding.{ack_text, feed_end_text};
 ghost use Rattle.hg_commands.specs.FeedRunning.{EndsAt, FeedAdvances, FeedDone, FeedEndsIn, FeedFails, FeedMeetsEnd, FeedReaches, FeedStops, Feeds, GoesOn, IsReady, LeadsOn, Passes, WasCommitted, WasCounted, WasFed, WasSent, place};
 ghost use Rattle.hg_check.specs.Streaming.{IsStreamFault};
-ghost use Rattle.hg_commands.specs.Keeping.{KeepsOn, NothingLost};
+ghost use Rattle.hg_commands.specs.Instants.{instant};
+ghost use Rattle.hg_commands.specs.Keeping.{EachAckIsKept, KeepsOn};
 ghost use Rattle.hg_commands.specs.Printed.{IsPrintedNow};
 ghost use Rattle.hg_commands.specs.Storing.{EndsByFeedFault, HasFeedCause, failed_calls};
 
 use crate::listing::hold_end_line;
+use crate::moment::{Moment, Outcome};
 use crate::opening::open_store;
-use crate::saying::{print_now, print_number};
+use crate::printing::{print_now, print_number};
 use hg_check::checker::{Ending, stop};
 use hg_check::commands::status_of_end;
 use hg_check::printing::hold_stop;
@@ -31,6 +33,7 @@ use hg_store::devices::Devices;
 use hg_store::store::Store;
 use hg_streams::input::Input;
 use hg_streams::output::Output;
+use hg_streams::trail::Trail;
 use hg_wire::reader::{EventReader, Reading, Taken};
 use std::alloc::Global;
 use std::io::{Read, Write};
@@ -54,6 +57,7 @@ fn acknowledge<D: Disk, W: Write>(
     store: &mut Store<D>,
     held: &mut Vec<u8>,
     output: &mut Output<W>,
+    moments: &mut Trail<Moment<D, W>>,
 ) -> Result<(), Refusal>
     requires works { store.old.is_broken ≡ false }
     requires none { held.old.items ≡ [] }
@@ -62,9 +66,10 @@ fn acknowledge<D: Disk, W: Write>(
     ensures none { OnOk result (held.new.items ≡ []) }
     ensures cause { IfErr result IsStreamFault }
     ensures fault { failed_calls ⟦<D as Disk>⟧ store.new.devices output.new.calls ≡ told result + failed_calls ⟦<D as Disk>⟧ store.old.devices output.old.calls }
-    ensures kept { KeepsOn ⟦<D as Disk>⟧ store.old output.old.calls store.new output.new.calls }
+    ensures kept { KeepsOn ⟦<D as Disk>⟧ store.old output.old.calls moments.old store.new output.new.calls moments.new }
 {
     let count = store.commit()?;
+    moments.push(Moment::of(&*store, &*output));
     print_number(b"ack ", count, held, output)
 }
 
@@ -74,6 +79,7 @@ fn count_accepted<D: Disk, W: Write>(
     fed: &mut Fed,
     held: &mut Vec<u8>,
     output: &mut Output<W>,
+    moments: &mut Trail<Moment<D, W>>,
 ) -> Result<(), Refusal>
     requires works { store.old.is_broken ≡ false }
     requires none { held.old.items ≡ [] }
@@ -83,11 +89,11 @@ fn count_accepted<D: Disk, W: Write>(
     ensures none { OnOk result (held.new.items ≡ []) }
     ensures cause { IfErr result IsStreamFault }
     ensures fault { failed_calls ⟦<D as Disk>⟧ store.new.devices output.new.calls ≡ told result + failed_calls ⟦<D as Disk>⟧ store.old.devices output.old.calls }
-    ensures kept { KeepsOn ⟦<D as Disk>⟧ store.old output.old.calls store.new output.new.calls }
+    ensures kept { KeepsOn ⟦<D as Disk>⟧ store.old output.old.calls moments.old store.new output.new.calls moments.new }
 {
     fed.accepted += 1;
     if fed.accepted % BATCH == 0 {
-        return acknowledge(store, held, output);
+        return acknowledge(store, held, output, moments);
     }
     Ok(())
 }
@@ -112,6 +118,7 @@ fn feed_reading<D: Disk, W: Write>(
     reading: &Reading,
     held: &mut Vec<u8>,
     output: &mut Output<W>,
+    moments: &mut Trail<Moment<D, W>>,
 ) -> Result<Option<Ending>, Refusal>
     requires ready { IsReady store.old fed.old }
     requires room { fed.old.number + 1 < 2 ^ 64 }
@@ -121,7 +128,7 @@ fn feed_reading<D: Disk, W: Write>(
     ensures none { OnOk result (held.new.items ≡ []) }
     ensures cause { IfErr result IsStreamFault }
     ensures fault { failed_calls ⟦<D as Disk>⟧ store.new.devices output.new.calls ≡ told result + failed_calls ⟦<D as Disk>⟧ store.old.devices output.old.calls }
-    ensures kept { KeepsOn ⟦<D as Disk>⟧ store.old output.old.calls store.new output.new.calls }
+    ensures kept { KeepsOn ⟦<D as Disk>⟧ store.old output.old.calls moments.old store.new output.new.calls moments.new }
 {
     let line = reading.line;
     let Ok(event) = reading.event else {
@@ -129,7 +136,7 @@ fn feed_reading<D: Disk, W: Write>(
     };
     match send(store, fed, event) {
         Ok(Answer::Accepted) => {
-            count_accepted(store, fed, held, output)?;
+            count_accepted(store, fed, held, output, moments)?;
             Ok(None)
         }
         Ok(Answer::Duplicate(_)) => Ok(None),
@@ -146,6 +153,7 @@ fn feed_piece<D: Disk, W: Write>(
     piece: &[u8],
     held: &mut Vec<u8>,
     output: &mut Output<W>,
+    moments: &mut Trail<Moment<D, W>>,
 ) -> Result<Option<Ending>, Refusal>
     requires ready { IsReady store.old fed.old }
     requires lines { reader.old.lines + length piece.now < 2 ^ 64 }
@@ -156,7 +164,7 @@ fn feed_piece<D: Disk, W: Write>(
     ensures none { OnOk result (held.new.items ≡ []) }
     ensures cause { IfErr result IsStreamFault }
     ensures fault { failed_calls ⟦<D as Disk>⟧ store.new.devices output.new.calls ≡ told result + failed_calls ⟦<D as Disk>⟧ store.old.devices output.old.calls }
-    ensures kept { KeepsOn ⟦<D as Disk>⟧ store.old output.old.calls store.new output.new.calls }
+    ensures kept { KeepsOn ⟦<D as Disk>⟧ store.old output.old.calls moments.old store.new output.new.calls moments.new }
 {
     let mut rest = piece;
     loop {
@@ -164,7 +172,7 @@ fn feed_piece<D: Disk, W: Write>(
             return Ok(None);
         };
         rest = &rest[used..];
-        let end = feed_reading(store, fed, &reading, held, output)?;
+        let end = feed_reading(store, fed, &reading, held, output, moments)?;
         if end.is_some() {
             return Ok(end);
         }
@@ -180,6 +188,7 @@ fn advance<D: Disk, R: Read, W: Write>(
     fed: &mut Fed,
     held: &mut Vec<u8>,
     output: &mut Output<W>,
+    moments: &mut Trail<Moment<D, W>>,
 ) -> Result<Progress, Refusal>
     requires ready { IsReady store.old fed.old }
     requires some { 0 < length buffer.old }
@@ -194,7 +203,7 @@ fn advance<D: Disk, R: Read, W: Write>(
     ensures cause { IfErr result IsStreamFault }
     ensures fault { failed_reads input.new.calls + failed_calls ⟦<D as Disk>⟧ store.new.devices output.new.calls ≡ told result + (failed_reads input.old.calls + failed_calls ⟦<D as Disk>⟧ store.old.devices output.old.calls) }
     ensures counted { length input.new.calls ≡ 1 + length input.old.calls }
-    ensures kept { KeepsOn ⟦<D as Disk>⟧ store.old output.old.calls store.new output.new.calls }
+    ensures kept { KeepsOn ⟦<D as Disk>⟧ store.old output.old.calls moments.old store.new output.new.calls moments.new }
 {
     let Some(count) = input.read(buffer)? else {
         return Ok(Progress::Underway);
@@ -202,7 +211,7 @@ fn advance<D: Disk, R: Read, W: Write>(
     if count == 0 {
         return Ok(Progress::AtEnd);
     }
-    match feed_piece(reader, store, fed, &buffer[..count], held, output)? {
+    match feed_piece(reader, store, fed, &buffer[..count], held, output, moments)? {
         None => Ok(Progress::Underway),
         Some(end) => Ok(Progress::Stopped(end)),
     }
@@ -215,6 +224,7 @@ fn finish<D: Disk, W: Write>(
     fed: &mut Fed,
     held: &mut Vec<u8>,
     output: &mut Output<W>,
+    moments: &mut Trail<Moment<D, W>>,
 ) -> Result<Ending, Refusal>
     requires ready { IsReady store.old fed.old }
     requires lines { reader.lines + 1 < 2 ^ 64 }
@@ -225,12 +235,12 @@ fn finish<D: Disk, W: Write>(
     ensures none { OnOk result (held.new.items ≡ []) }
     ensures cause { IfErr result IsStreamFault }
     ensures fault { failed_calls ⟦<D as Disk>⟧ store.new.devices output.new.calls ≡ told result + failed_calls ⟦<D as Disk>⟧ store.old.devices output.old.calls }
-    ensures kept { KeepsOn ⟦<D as Disk>⟧ store.old output.old.calls store.new output.new.calls }
+    ensures kept { KeepsOn ⟦<D as Disk>⟧ store.old output.old.calls moments.old store.new output.new.calls moments.new }
 {
     let Some(reading) = reader.finish() else {
         return Ok(Ending::Ended);
     };
-    match feed_reading(store, fed, &reading, held, output)? {
+    match feed_reading(store, fed, &reading, held, output, moments)? {
         None => Ok(Ending::Ended),
         Some(end) => Ok(end),
     }
@@ -244,6 +254,7 @@ fn feed_all<D: Disk, R: Read, W: Write>(
     input: &mut Input<R>,
     held: &mut Vec<u8>,
     output: &mut Output<W>,
+    moments: &mut Trail<Moment<D, W>>,
 ) -> Result<Ending, Refusal>
     requires ready { IsReady store.old fed.old }
     requires start { fed.old.number ≡ 0 }
@@ -252,7 +263,7 @@ fn feed_all<D: Disk, R: Read, W: Write>(
     ensures feeds { IfOk result (λ end. Feeds input.old.calls input.new.calls fed.old.source store.old.detector.sets (content_of store.old.detector) (content_of store.new.detector) end) }
     ensures none { OnOk result (held.new.items ≡ []) }
     ensures cause { IfErr result (λ r. FeedFails ⟦<D as Disk>⟧ store.old store.new input.old.calls input.new.calls output.old.calls output.new.calls r) }
-    ensures kept { KeepsOn ⟦<D as Disk>⟧ store.old output.old.calls store.new output.new.calls }
+    ensures kept { KeepsOn ⟦<D as Disk>⟧ store.old output.old.calls moments.old store.new output.new.calls moments.new }
 {
     let mut reader = reader_at_start(alloc)?;
     let mut buffer = piece_buffer(alloc)?;
@@ -267,11 +278,12 @@ fn feed_all<D: Disk, R: Read, W: Write>(
             fed,
             held,
             output,
+            moments,
         )?;
         match progress {
             Progress::Underway => {}
             Progress::Stopped(end) => return Ok(end),
-            Progress::AtEnd => return finish(reader, store, fed, held, output),
+            Progress::AtEnd => return finish(reader, store, fed, held, output, moments),
         }
     }
     Err(Refusal::DeviceFault)
@@ -316,12 +328,13 @@ fn feed_store<D: Disk, R: Read, W: Write>(
     source: u16,
     input: &mut Input<R>,
     output: &mut Output<W>,
+    moments: &mut Trail<Moment<D, W>>,
 ) -> Result<Ending, Refusal>
     requires works { store.old.is_broken ≡ false }
     requires pending { store.old.pending ≡ [] }
     ensures fed { IfOk result (λ end. WasFed ⟦<D as Disk>⟧ input.old.calls input.new.calls source store.old store.new output.old.calls output.new.calls end) }
     ensures cause { IfErr result (λ r. FeedFails ⟦<D as Disk>⟧ store.old store.new input.old.calls input.new.calls output.old.calls output.new.calls r) }
-    ensures kept { KeepsOn ⟦<D as Disk>⟧ store.old output.old.calls store.new output.new.calls }
+    ensures kept { KeepsOn ⟦<D as Disk>⟧ store.old output.old.calls moments.old store.new output.new.calls moments.new }
 {
     let mut held = Vec::new(alloc);
     let mut fed = Fed {
@@ -331,8 +344,8 @@ fn feed_store<D: Disk, R: Read, W: Write>(
     };
     let last = store.last(source)?;
     print_number(b"resume ", last, &mut held, output)?;
-    let end = feed_all(alloc, store, &mut fed, input, &mut held, output)?;
-    acknowledge(store, &mut held, output)?;
+    let end = feed_all(alloc, store, &mut fed, input, &mut held, output, moments)?;
+    acknowledge(store, &mut held, output, moments)?;
     print_end(store, end, &mut held, output)?;
     Ok(end)
 }
@@ -345,16 +358,19 @@ fn recover_and_feed<D: Disk, R: Read, W: Write>(
     frames: u16,
     input: &mut Input<R>,
     output: &mut Output<W>,
+    moments: &mut Trail<Moment<D, W>>,
 ) -> (Result<Ending, Refusal>, Devices<D>)
-    requires { (4 ≤ frames) × (frames ≤ 4096) }
+    requires frames { (4 ≤ frames) × (frames ≤ 4096) }
+    requires none { moments.old ≡ [] }
     ensures fed { IfOk result.0 (λ end. FeedDone ⟦<D as Disk>⟧ input.old.calls input.new.calls source devices result.1 output.old.calls output.new.calls end) }
     ensures cause { IfErr result.0 (λ r. HasFeedCause ⟦<D as Disk>⟧ devices result.1 input.old.calls input.new.calls output.old.calls output.new.calls r) }
-    ensures lost { IsTrue D.is_honest → NothingLost ⟦<D as Disk>⟧ devices result.1 output.old.calls output.new.calls }
+    ensures kept { IsTrue D.is_honest → EachAckIsKept ⟦<D as Disk>⟧ (instant devices output.old.calls) moments.new (instant result.1 output.new.calls) }
 {
     match open_store(alloc, devices, frames) {
         Ok(store) => {
             let mut store = store;
-            let end = feed_store(alloc, &mut store, source, input, output);
+            moments.push(Moment::of(&store, &*output));
+            let end = feed_store(alloc, &mut store, source, input, output, moments);
             (end, store.into_devices())
         }
         Err((refusal, devices)) => (Err(refusal), devices),
@@ -366,8 +382,11 @@ fn recover_and_feed<D: Disk, R: Read, W: Write>(
 /// commit, which comes after each 256th accepted event and at the end, and the end line, or the line that was refused or bad,
 /// after which nothing is read. Events that were sent before are passed over.
 ///
-/// Answers the status and the devices: 0, 2 where a line was refused or bad, or 3 where the devices hold no store, a device or
-/// a stream failed, or memory or room was refused, which is told on `faults`.
+/// The status is 0, 2 where a line was refused or bad, or 3 where the devices hold no store, a device or a stream failed, or
+/// memory or room was refused, which is told on `faults`.
+///
+/// Whatever the status, at each moment of the call a crash leaves devices with each event that is counted by an `ack` that was
+/// written by then. The moments in the outcome show it: the first is that at which the store is open, and one comes after each commit.
 pub fn feed<D: Disk, R: Read, W: Write, V: Write>(
     alloc: Global,
     devices: Devices<D>,
@@ -376,19 +395,36 @@ pub fn feed<D: Disk, R: Read, W: Write, V: Write>(
     input: &mut Input<R>,
     output: &mut Output<W>,
     faults: &mut Output<V>,
-) -> (u8, Devices<D>)
+) -> Outcome<D, W>
     requires { (4 ≤ frames) × (frames ≤ 4096) }
-    ensures fed { (result.0 ≡ 3 → ⊥) → (end : EndingOf) × (result.0 ≡ status_of end) × FeedDone ⟦<D as Disk>⟧ input.old.calls input.new.calls source devices result.1 output.old.calls output.new.calls end }
-    ensures quiet { (result.0 ≡ 3 → ⊥) → Took faults.old.calls faults.new.calls [] }
-    ensures fault { result.0 ≡ 3 → EndsByFeedFault ⟦<D as Disk>⟧ devices result.1 input.old.calls input.new.calls output.old.calls output.new.calls faults.old.calls faults.new.calls }
-    ensures lost { IsTrue D.is_honest → NothingLost ⟦<D as Disk>⟧ devices result.1 output.old.calls output.new.calls }
+    ensures fed { (result.status ≡ 3 → ⊥) → (end : EndingOf) × (result.status ≡ status_of end) × FeedDone ⟦<D as Disk>⟧ input.old.calls input.new.calls source devices result.devices output.old.calls output.new.calls end }
+    ensures quiet { (result.status ≡ 3 → ⊥) → Took faults.old.calls faults.new.calls [] }
+    ensures fault { result.status ≡ 3 → EndsByFeedFault ⟦<D as Disk>⟧ devices result.devices input.old.calls input.new.calls output.old.calls output.new.calls faults.old.calls faults.new.calls }
+    ensures kept { IsTrue D.is_honest → EachAckIsKept ⟦<D as Disk>⟧ (instant devices output.old.calls) result.moments (instant result.devices output.new.calls) }
 {
-    let (ended, devices) = recover_and_feed(alloc, devices, source, frames, input, output);
+    let mut moments = Trail::new();
+    let (ended, devices) = recover_and_feed(
+        alloc,
+        devices,
+        source,
+        frames,
+        input,
+        output,
+        &mut moments,
+    );
     match ended {
-        Ok(end) => (status_of_end(end), devices),
+        Ok(end) => Outcome {
+            status: status_of_end(end),
+            devices,
+            moments,
+        },
         Err(refusal) => {
             tell(refusal, faults);
-            (3, devices)
+            Outcome {
+                status: 3,
+                devices,
+                moments,
+            }
         }
     }
 }

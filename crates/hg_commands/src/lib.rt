@@ -5,5 +5,6 @@ pub mod creating;
 pub mod feeding;
 pub mod laws;
 pub mod listing;
+pub mod moment;
 pub mod opening;
-pub mod saying;
+pub mod printing;

@@ -94,23 +94,25 @@ fn perform_on_store(rt: &HostRuntime, directory: &str, task: StoreTask) -> u8 {
     let mut input = Input::new(rt.stdin());
     let mut output = Output::new(rt.stdout());
     let mut faults = Output::new(rt.stderr());
-    let (status, _) = match task {
-        StoreTask::Create => create_store(alloc, devices, &mut output, &mut faults),
-        StoreTask::Graph => store_graph(alloc, devices, 64, &mut output, &mut faults),
+    match task {
+        StoreTask::Create => create_store(alloc, devices, &mut output, &mut faults).status,
+        StoreTask::Graph => store_graph(alloc, devices, 64, &mut output, &mut faults).0,
         StoreTask::Reports { frames } => {
-            store_reports(alloc, devices, frames.pages, &mut output, &mut faults)
+            store_reports(alloc, devices, frames.pages, &mut output, &mut faults).0
         }
-        StoreTask::Feed { source, frames } => feed(
-            alloc,
-            devices,
-            source.number,
-            frames.pages,
-            &mut input,
-            &mut output,
-            &mut faults,
-        ),
-    };
-    status
+        StoreTask::Feed { source, frames } => {
+            feed(
+                alloc,
+                devices,
+                source.number,
+                frames.pages,
+                &mut input,
+                &mut output,
+                &mut faults,
+            )
+            .status
+        }
+    }
 }
 
 fn main(rt: HostRuntime) -> ExitCode {

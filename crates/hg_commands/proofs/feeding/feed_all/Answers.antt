@@ -3,7 +3,7 @@ use Rattle.std.proofs.lemmas.List.{length-append, length-drop, length-take}
 use Rattle.std.proofs.lemmas.Result.{IfOk-weaker, on_ok_weaker}
 use Rattle.hg_detect.specs.Memory.{content_of}
 use Rattle.hg_wire.specs.Streams.{readings_from}
-use Rattle.hg_commands.specs.FeedRunning.{FeedAdvances, Feeds, GoesOn, LeadsOn, Place, place}
+use Rattle.hg_commands.specs.FeedRunning.{FeedAdvances, Feeds, GoesOn, LeadsOn, place}
 use Rattle.hg_commands.proofs.FeedSteps.{goes_on}
 use Rattle.hg_commands.proofs.FeedUnderway.{feeding_first, feeding_on, feeds_at_end}
 use Rattle.hg_commands.proofs.Kept.{keeps_then}
@@ -18,7 +18,7 @@ loop-reads-init g c = record {
   run = feeding_first g.D.Disk c.args.input.now.calls (place c.args.store.now c.args.fed.now c.args.output.now.calls) c.in_ok-reader.reader (length c.in_ok-buffer.buffer.items)
       c.requires.ready c.requires.start c.in_ok-reader.ensures.start c.in_ok-buffer.ensures.size;
   none = c.requires.none;
-  kept = λ start content calls honest h. h;
+  kept = λ start content honest h. h;
   counted = omega arith;
   intact = refl;
 }
@@ -36,7 +36,7 @@ loop-reads-preserved g c =
           (ap length c.as_mut_slice.ensures.value) (c.in_ok-progress.ensures.underway (ap Ok c.in-Underway.is)))
           (resized c.loop-reads.buffer.len c.advance.new.buffer c.loop-reads.buffer.items (c.advance.ensures.size ∙ ap length c.as_mut_slice.ensures.value) (sym c.as_mut_slice.ensures.len ∙ ap length c.as_mut_slice.ensures.value));
       none = c.in_ok-progress.ensures.none;
-      kept = keeps_then g.D.Disk c.args.store.now c.loop-reads.store c.advance.new.store c.args.output.now.calls c.loop-reads.output.calls c.advance.new.output.calls c.loop-reads.invariant.kept c.advance.ensures.kept;
+      kept = keeps_then g.D.Disk c.args.store.now c.loop-reads.store c.advance.new.store c.args.output.now.calls c.loop-reads.output.calls c.advance.new.output.calls c.args.moments.now c.loop-reads.moments c.advance.new.moments c.loop-reads.invariant.kept c.advance.ensures.kept;
       counted = omega (arith, c.in_ok-progress.ensures.counted, c.loop-reads.invariant.counted);
       intact = omega (arith, c.in_ok-progress.ensures.fault, (c.in_ok-progress.ensures.underway (ap Ok c.in-Underway.is)).goes.failures, c.loop-reads.invariant.intact);
     }

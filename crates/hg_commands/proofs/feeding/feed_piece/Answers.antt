@@ -1,4 +1,4 @@
-use Rattle.std.proofs.Common.{◌≡◌, ℕ, ◌+◌, ◌-◌, ◌≤◌, false, List, Ok, Option, Some, None, refl, length, take, drop, ap, subst, sym, ◌∙◌, arith}
+use Rattle.std.proofs.Common.{◌≡◌, ℕ, ◌-◌, false, List, Ok, Option, Some, None, refl, length, take, drop, ap, subst, sym, ◌∙◌, arith}
 use Rattle.std.proofs.lemmas.List.{length-drop, take_all}
 use Rattle.std.specs.Option.{is_some}
 use Rattle.hg_check.specs.declared.checker.Ending.{Ending}
@@ -25,7 +25,7 @@ loop-reading-preserved g c =
           (feed_reaches_on g.D.Disk c.args.reader.now c.loop-reading.reader c.take.new.self old mid new c.args.piece.now rest c.in-Line.reading used c.loop-reading.invariant.0
           c.in-Line.ensures (c.in_ok-end.ensures.passes (ap Ok (none_is c.in_ok-end.end (sym c.is_some.ensures ∙ c.if-is_some.false))))),
       c.in_ok-end.ensures.none,
-      keeps_then g.D.Disk c.args.store.now c.loop-reading.store c.feed_reading.new.store c.args.output.now.calls c.loop-reading.output.calls c.feed_reading.new.output.calls c.loop-reading.invariant.2 c.feed_reading.ensures.kept,
+      keeps_then g.D.Disk c.args.store.now c.loop-reading.store c.feed_reading.new.store c.args.output.now.calls c.loop-reading.output.calls c.feed_reading.new.output.calls c.args.moments.now c.loop-reading.moments c.feed_reading.new.moments c.loop-reading.invariant.2 c.feed_reading.ensures.kept,
     )
 
 pub returns-then-is_some-clause-ends : goal.returns-then-is_some-clause-ends

@@ -28,12 +28,16 @@ returns-in-Err-clause-ends g c end given =
 
 pub returns-in_err-count_accepted-in-Ok-Accepted-clause-kept : goal.returns-in_err-count_accepted-in-Ok-Accepted-clause-kept
 returns-in_err-count_accepted-in-Ok-Accepted-clause-kept g c =
-    keeps_then g.D.Disk c.args.store.now c.send.new.store c.count_accepted.new.store c.args.output.now.calls c.args.output.now.calls c.count_accepted.new.output.calls
-    (keeps_offer g.D.Disk c.args.store.now c.send.new.store c.args.output.now.calls (sent c.args.fed.now.source c.args.fed.now.number c.in-Ok.event) c.send.result c.send.ensures.done c.send.ensures.backs)
+    keeps_then g.D.Disk c.args.store.now c.send.new.store c.count_accepted.new.store c.args.output.now.calls c.args.output.now.calls c.count_accepted.new.output.calls c.args.moments.now c.args.moments.now c.count_accepted.new.moments
+    (keeps_offer g.D.Disk c.args.store.now c.send.new.store c.args.output.now.calls c.args.moments.now (sent c.args.fed.now.source c.args.fed.now.number c.in-Ok.event) c.send.result c.send.ensures.done c.send.ensures.backs)
     c.count_accepted.ensures.kept
 
 pub returns-in_ok-count_accepted-in-Ok-Accepted-clause-kept : goal.returns-in_ok-count_accepted-in-Ok-Accepted-clause-kept
 returns-in_ok-count_accepted-in-Ok-Accepted-clause-kept g c =
-    keeps_then g.D.Disk c.args.store.now c.send.new.store c.count_accepted.new.store c.args.output.now.calls c.args.output.now.calls c.count_accepted.new.output.calls
-    (keeps_offer g.D.Disk c.args.store.now c.send.new.store c.args.output.now.calls (sent c.args.fed.now.source c.args.fed.now.number c.in-Ok.event) c.send.result c.send.ensures.done c.send.ensures.backs)
+    keeps_then g.D.Disk c.args.store.now c.send.new.store c.count_accepted.new.store c.args.output.now.calls c.args.output.now.calls c.count_accepted.new.output.calls c.args.moments.now c.args.moments.now c.count_accepted.new.moments
+    (keeps_offer g.D.Disk c.args.store.now c.send.new.store c.args.output.now.calls c.args.moments.now (sent c.args.fed.now.source c.args.fed.now.number c.in-Ok.event) c.send.result c.send.ensures.done c.send.ensures.backs)
     c.count_accepted.ensures.kept
+
+pub returns-in-Err-clause-kept : goal.returns-in-Err-clause-kept
+returns-in-Err-clause-kept g c =
+    keeps_offer g.D.Disk c.args.store.now c.send.new.store c.args.output.now.calls c.args.moments.now (sent c.args.fed.now.source c.args.fed.now.number c.in-Ok.event) c.send.result c.send.ensures.done c.send.ensures.backs

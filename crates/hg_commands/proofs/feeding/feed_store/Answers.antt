@@ -1,14 +1,13 @@
-use Rattle.std.proofs.Common.{◌≡◌, ℕ, Bool, true, false, Result, Ok, Err, cond, codes, refl, subst, inl, inr, ◌+◌, arith}
+use Rattle.std.proofs.Common.{◌≡◌, ℕ, Bool, true, false, Result, Ok, Err, cond, codes, refl, subst, inl, inr, arith}
 use Rattle.hg_check.specs.Printing.{Took}
 use Rattle.hg_model.specs.declared.verdict.Refusal.{Refusal}
 use Rattle.hg_model.specs.declared.verdict.Refusal.TheVariants as refusal
 use Rattle.hg_detect.specs.Memory.{content_of}
 use Rattle.hg_commands.specs.Feeding.{feed_end_text}
 use Rattle.hg_commands.specs.Storing.{number_text}
-use Rattle.hg_commands.proofs.Kept.{keeps_other, keeps_then}
+use Rattle.hg_commands.proofs.Kept.{keeps_printed, keeps_then}
 use Rattle.hg_commands.proofs.FeedDone.{was_fed}
 use Rattle.std.proofs.lemmas.Result.{err_from_is_err_and}
-use Rattle.hg_commands.proofs.FeedDone.{took_intact}
 use Rattle.hg_commands.proofs.FeedUnderway.{reads_intact}
 use Rattle.hg_commands.proofs.feeding.feed_store.Goals as goal
 
@@ -61,38 +60,58 @@ returns-in_err-print_end-clause-cause g c =
 
 pub returns-in_err-print_number-clause-kept : goal.returns-in_err-print_number-clause-kept
 returns-in_err-print_number-clause-kept g c =
-    keeps_other g.D.Disk c.args.store.now c.args.output.now.calls c.print_number.new.output.calls (number_text (codes "resume ") c.in_ok-last.last) c.print_number.ensures.calls (inr (inl (c.in_ok-last.last, refl)))
+    keeps_printed g.D.Disk c.args.store.now c.args.output.now.calls c.print_number.new.output.calls c.args.moments.now (number_text (codes "resume ") c.in_ok-last.last)
+    c.requires.works c.print_number.ensures.calls (λ d backs. inr (inr (inl (c.in_ok-last.last, refl))))
 
 pub returns-in_err-end-clause-kept : goal.returns-in_err-end-clause-kept
 returns-in_err-end-clause-kept g c =
     keeps_then g.D.Disk c.args.store.now c.args.store.now c.feed_all.new.store c.args.output.now.calls c.print_number.new.output.calls c.feed_all.new.output.calls
-    (keeps_other g.D.Disk c.args.store.now c.args.output.now.calls c.print_number.new.output.calls (number_text (codes "resume ") c.in_ok-last.last) c.print_number.ensures.calls (inr (inl (c.in_ok-last.last, refl))))
+    c.args.moments.now c.args.moments.now c.feed_all.new.moments
+    (keeps_printed g.D.Disk c.args.store.now c.args.output.now.calls c.print_number.new.output.calls c.args.moments.now (number_text (codes "resume ") c.in_ok-last.last)
+    c.requires.works c.print_number.ensures.calls (λ d backs. inr (inr (inl (c.in_ok-last.last, refl)))))
     c.feed_all.ensures.kept
 
 pub returns-in_err-acknowledge-clause-kept : goal.returns-in_err-acknowledge-clause-kept
 returns-in_err-acknowledge-clause-kept g c =
     keeps_then g.D.Disk c.args.store.now c.feed_all.new.store c.acknowledge.new.store c.args.output.now.calls c.feed_all.new.output.calls c.acknowledge.new.output.calls
+    c.args.moments.now c.feed_all.new.moments c.acknowledge.new.moments
     (keeps_then g.D.Disk c.args.store.now c.args.store.now c.feed_all.new.store c.args.output.now.calls c.print_number.new.output.calls c.feed_all.new.output.calls
-    (keeps_other g.D.Disk c.args.store.now c.args.output.now.calls c.print_number.new.output.calls (number_text (codes "resume ") c.in_ok-last.last) c.print_number.ensures.calls (inr (inl (c.in_ok-last.last, refl))))
+    c.args.moments.now c.args.moments.now c.feed_all.new.moments
+    (keeps_printed g.D.Disk c.args.store.now c.args.output.now.calls c.print_number.new.output.calls c.args.moments.now (number_text (codes "resume ") c.in_ok-last.last)
+    c.requires.works c.print_number.ensures.calls (λ d backs. inr (inr (inl (c.in_ok-last.last, refl)))))
     c.feed_all.ensures.kept)
     c.acknowledge.ensures.kept
 
 pub returns-in_err-print_end-clause-kept : goal.returns-in_err-print_end-clause-kept
 returns-in_err-print_end-clause-kept g c =
-    keeps_then g.D.Disk c.args.store.now c.acknowledge.new.store c.acknowledge.new.store c.args.output.now.calls c.acknowledge.new.output.calls c.print_end.new.output.calls
-    (keeps_then g.D.Disk c.args.store.now c.feed_all.new.store c.acknowledge.new.store c.args.output.now.calls c.feed_all.new.output.calls c.acknowledge.new.output.calls
-    (keeps_then g.D.Disk c.args.store.now c.args.store.now c.feed_all.new.store c.args.output.now.calls c.print_number.new.output.calls c.feed_all.new.output.calls
-    (keeps_other g.D.Disk c.args.store.now c.args.output.now.calls c.print_number.new.output.calls (number_text (codes "resume ") c.in_ok-last.last) c.print_number.ensures.calls (inr (inl (c.in_ok-last.last, refl))))
+    let s = c.args.store.now in
+    let end = feed_end_text (content_of c.acknowledge.new.store.detector) c.in_ok-end.end in
+    keeps_then g.D.Disk s c.acknowledge.new.store c.acknowledge.new.store c.args.output.now.calls c.acknowledge.new.output.calls c.print_end.new.output.calls
+    c.args.moments.now c.acknowledge.new.moments c.acknowledge.new.moments
+    (keeps_then g.D.Disk s c.feed_all.new.store c.acknowledge.new.store c.args.output.now.calls c.feed_all.new.output.calls c.acknowledge.new.output.calls
+    c.args.moments.now c.feed_all.new.moments c.acknowledge.new.moments
+    (keeps_then g.D.Disk s s c.feed_all.new.store c.args.output.now.calls c.print_number.new.output.calls c.feed_all.new.output.calls
+    c.args.moments.now c.args.moments.now c.feed_all.new.moments
+    (keeps_printed g.D.Disk s c.args.output.now.calls c.print_number.new.output.calls c.args.moments.now (number_text (codes "resume ") c.in_ok-last.last)
+    c.requires.works c.print_number.ensures.calls (λ d backs. inr (inr (inl (c.in_ok-last.last, refl)))))
     c.feed_all.ensures.kept)
     c.acknowledge.ensures.kept)
-    (keeps_other g.D.Disk c.acknowledge.new.store c.acknowledge.new.output.calls c.print_end.new.output.calls (feed_end_text (content_of c.acknowledge.new.store.detector) c.in_ok-end.end) c.print_end.ensures.calls (inr (inr (content_of c.acknowledge.new.store.detector, c.in_ok-end.end, refl))))
+    (keeps_printed g.D.Disk c.acknowledge.new.store c.acknowledge.new.output.calls c.print_end.new.output.calls c.acknowledge.new.moments end
+    c.in_ok-acknowledge.ensures.committed.works c.print_end.ensures.calls (λ d backs. inr (inr (inr (content_of c.acknowledge.new.store.detector, c.in_ok-end.end, refl)))))
 
 pub returns-clause-kept : goal.returns-clause-kept
 returns-clause-kept g c =
-    keeps_then g.D.Disk c.args.store.now c.acknowledge.new.store c.acknowledge.new.store c.args.output.now.calls c.acknowledge.new.output.calls c.print_end.new.output.calls
-    (keeps_then g.D.Disk c.args.store.now c.feed_all.new.store c.acknowledge.new.store c.args.output.now.calls c.feed_all.new.output.calls c.acknowledge.new.output.calls
-    (keeps_then g.D.Disk c.args.store.now c.args.store.now c.feed_all.new.store c.args.output.now.calls c.print_number.new.output.calls c.feed_all.new.output.calls
-    (keeps_other g.D.Disk c.args.store.now c.args.output.now.calls c.print_number.new.output.calls (number_text (codes "resume ") c.in_ok-last.last) c.print_number.ensures.calls (inr (inl (c.in_ok-last.last, refl))))
+    let s = c.args.store.now in
+    let end = feed_end_text (content_of c.acknowledge.new.store.detector) c.in_ok-end.end in
+    keeps_then g.D.Disk s c.acknowledge.new.store c.acknowledge.new.store c.args.output.now.calls c.acknowledge.new.output.calls c.print_end.new.output.calls
+    c.args.moments.now c.acknowledge.new.moments c.acknowledge.new.moments
+    (keeps_then g.D.Disk s c.feed_all.new.store c.acknowledge.new.store c.args.output.now.calls c.feed_all.new.output.calls c.acknowledge.new.output.calls
+    c.args.moments.now c.feed_all.new.moments c.acknowledge.new.moments
+    (keeps_then g.D.Disk s s c.feed_all.new.store c.args.output.now.calls c.print_number.new.output.calls c.feed_all.new.output.calls
+    c.args.moments.now c.args.moments.now c.feed_all.new.moments
+    (keeps_printed g.D.Disk s c.args.output.now.calls c.print_number.new.output.calls c.args.moments.now (number_text (codes "resume ") c.in_ok-last.last)
+    c.requires.works c.print_number.ensures.calls (λ d backs. inr (inr (inl (c.in_ok-last.last, refl)))))
     c.feed_all.ensures.kept)
     c.acknowledge.ensures.kept)
-    (keeps_other g.D.Disk c.acknowledge.new.store c.acknowledge.new.output.calls c.print_end.new.output.calls (feed_end_text (content_of c.acknowledge.new.store.detector) c.in_ok-end.end) c.print_end.ensures.calls (inr (inr (content_of c.acknowledge.new.store.detector, c.in_ok-end.end, refl))))
+    (keeps_printed g.D.Disk c.acknowledge.new.store c.acknowledge.new.output.calls c.print_end.new.output.calls c.acknowledge.new.moments end
+    c.in_ok-acknowledge.ensures.committed.works c.print_end.ensures.calls (λ d backs. inr (inr (inr (content_of c.acknowledge.new.store.detector, c.in_ok-end.end, refl)))))

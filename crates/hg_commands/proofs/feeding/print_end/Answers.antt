@@ -1,4 +1,4 @@
-use Rattle.std.proofs.Common.{◌≡◌, List, ℕ, ◌++◌, ap, subst, ◌∙◌}
+use Rattle.std.proofs.Common.{List, ℕ, ◌++◌, ap, subst, ◌∙◌}
 use Rattle.hg_check.specs.Printing.{Took}
 use Rattle.hg_detect.specs.Memory.{content_of}
 use Rattle.hg_commands.specs.Feeding.{feed_end_text}

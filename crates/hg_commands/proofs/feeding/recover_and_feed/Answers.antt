@@ -2,7 +2,7 @@ use Rattle.std.proofs.lemmas.Result.{IfOk-weaker}
 use Rattle.hg_check.specs.declared.checker.Ending.{Ending}
 use Rattle.hg_commands.specs.FeedRunning.{FeedDone, WasFed}
 use Rattle.hg_commands.proofs.FeedDone.{feed_done}
-use Rattle.hg_commands.proofs.Kept.{nothing_lost}
+use Rattle.hg_commands.proofs.Kept.{fed_is_kept, none_is_kept}
 use Rattle.hg_commands.proofs.feeding.recover_and_feed.Goals as goal
 
 pub returns-in-Ok-clause-fed : goal.returns-in-Ok-clause-fed
@@ -18,7 +18,15 @@ returns-in-Ok-clause-fed g c =
     before after end c.in-Ok.ensures.content c.in-Ok.ensures.sets c.in-Ok.ensures.device was c.into_devices.ensures)
     c.feed_store-end.ensures.fed
 
-pub returns-in-Ok-clause-lost : goal.returns-in-Ok-clause-lost
-returns-in-Ok-clause-lost g c honest =
-    nothing_lost g.D.Disk c.args.devices c.into_devices.result c.in-Ok.store c.feed_store-end.new.store c.args.output.now.calls c.feed_store-end.new.output.calls
-    c.in-Ok.ensures.images (c.in-Ok.ensures.content honest) honest c.feed_store-end.ensures.kept c.into_devices.ensures
+pub returns-in-Ok-clause-kept : goal.returns-in-Ok-clause-kept
+returns-in-Ok-clause-kept g c honest =
+    let s = c.in-Ok.store in
+    let u = c.feed_store-end.new.store in
+    let before = c.args.output.now.calls in
+    let after = c.feed_store-end.new.output.calls in
+    fed_is_kept g.D.Disk c.args.devices c.into_devices.result s u before after c.args.moments.now c.push.new.self c.feed_store-end.new.moments c.of.result
+    c.in-Ok.ensures.images (c.in-Ok.ensures.content honest) honest c.feed_store-end.ensures.kept c.push.ensures c.of.ensures c.requires.none c.into_devices.ensures
+
+pub returns-in-Err-clause-kept : goal.returns-in-Err-clause-kept
+returns-in-Err-clause-kept g c honest =
+    none_is_kept g.D.Disk c.args.devices c.in-Err.devices c.args.output.now.calls c.args.moments.now c.requires.none c.in-Err.ensures.images

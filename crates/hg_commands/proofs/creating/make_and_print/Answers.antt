@@ -1,4 +1,4 @@
-use Rattle.std.proofs.Common.{◌≡◌, ◌⊎◌, ℕ, ◌+◌, Err, inl, inr, ⊎_elim, ap, sym, ◌∙◌, arith}
+use Rattle.std.proofs.Common.{◌≡◌, ◌⊎◌, ◌+◌, inl, inr, ⊎_elim, ap, sym, ◌∙◌, arith}
 use Rattle.hg_model.specs.declared.verdict.Refusal.{Refusal}
 use Rattle.hg_model.specs.declared.verdict.Refusal.TheVariants as refusal
 use Rattle.hg_model.specs.Change.{empty_content}
@@ -9,10 +9,34 @@ use Rattle.hg_store.specs.declared.create.CreateFault.TheVariants.{NotEmpty, Ref
 use Rattle.hg_streams.specs.Told.{told_refusal}
 use Rattle.hg_commands.proofs.Causes.{refusal_is_counted}
 use Rattle.hg_commands.proofs.FeedDone.{fresh_is_left}
-use Rattle.hg_commands.proofs.creating.make_and_say.Goals as goal
+use Rattle.hg_commands.proofs.Made.{none_is_made, one_is_made, one_is_there}
+use Rattle.hg_commands.proofs.creating.make_and_print.Goals as goal
 
-pub returns-in-Ok-print_now-clause-durable : goal.returns-in-Ok-print_now-clause-durable
-returns-in-Ok-print_now-clause-durable g c _ image left = fresh_is_left g.D.Disk c.in-Ok.store empty_content c.into_devices.result image c.in-Ok.ensures.fresh c.into_devices.ensures left
+pub returns-in-Ok-printed-clause-durable : goal.returns-in-Ok-printed-clause-durable
+returns-in-Ok-printed-clause-durable g c _ image left = fresh_is_left g.D.Disk c.in-Ok.store empty_content c.into_devices.result image c.in-Ok.ensures.fresh c.into_devices.ensures left
+
+pub returns-in-Ok-printed-clause-kept : goal.returns-in-Ok-printed-clause-kept
+returns-in-Ok-printed-clause-kept g c =
+    one_is_made g.D.Disk c.args.devices c.into_devices.result c.in-Ok.store c.args.output.now.calls c.print_now-printed.new.output.calls c.args.moments.now c.push.new.self c.push-in-Ok.new.self
+    c.of.result c.of-in-Ok.result c.in-Ok.ensures.fresh c.requires.none c.push.ensures c.of.ensures c.push-in-Ok.ensures c.of-in-Ok.ensures (inr c.into_devices.ensures)
+
+pub returns-in-Err-clause-kept : goal.returns-in-Err-clause-kept
+returns-in-Err-clause-kept g c =
+    one_is_made g.D.Disk c.args.devices c.cleared.result c.in-Ok.store c.args.output.now.calls c.print_now-printed.new.output.calls c.args.moments.now c.push.new.self c.push-in-Ok.new.self
+    c.of.result c.of-in-Ok.result c.in-Ok.ensures.fresh c.requires.none c.push.ensures c.of.ensures c.push-in-Ok.ensures c.of-in-Ok.ensures
+    (inl (omega (arith, c.in-Err.ensures.fault, ap (λ (r : Refusal). told_refusal r) c.in-Err.ensures.cause)))
+
+pub returns-in-Ok-print_now-clause-kept : goal.returns-in-Ok-print_now-clause-kept
+returns-in-Ok-print_now-clause-kept g c =
+    one_is_there g.D.Disk c.args.devices c.in-Err-NotEmpty-default.devices c.args.output.now.calls c.print_now.new.output.calls c.args.moments.now c.requires.none c.print_now.ensures.calls
+
+pub returns-in-Err-print_now-clause-kept : goal.returns-in-Err-print_now-clause-kept
+returns-in-Err-print_now-clause-kept g c =
+    one_is_there g.D.Disk c.args.devices c.in-Err-NotEmpty-default.devices c.args.output.now.calls c.print_now.new.output.calls c.args.moments.now c.requires.none c.print_now.ensures.calls
+
+pub returns-in-Err-Refused-default-clause-kept : goal.returns-in-Err-Refused-default-clause-kept
+returns-in-Err-Refused-default-clause-kept g c =
+    none_is_made g.D.Disk c.args.devices c.cleared-in-Err-Refused-default.result c.args.output.now.calls c.args.moments.now c.requires.none
 
 pub returns-in-Err-clause-cause : goal.returns-in-Err-clause-cause
 returns-in-Err-clause-cause g c = record {
