@@ -3,7 +3,7 @@
 
 pub mod directory;
 
-ghost use Rattle.std.specs.Prelude.{◌≡◌, ◌⊎◌, IfErr};
+ghost use Rattle.std.specs.Prelude.{◌≡◌, ◌⊎◌};
 
 use crate::directory::{Access, make_directory, open_directory};
 use hg_check::commands::{check, graph};
@@ -11,11 +11,9 @@ use hg_check::telling::tell;
 use hg_commands::creating::create_store;
 use hg_commands::feeding::feed;
 use hg_commands::listing::{store_graph, store_reports};
-use hg_disk::FileDisk;
 use hg_model::verdict::Refusal;
 use hg_options::reading::read;
-use hg_options::task::{Misread, StoreTask, Task};
-use hg_store::devices::Devices;
+use hg_options::task::{Frames, Misread, Source, StoreTask, Task};
 use hg_streams::input::Input;
 use hg_streams::output::Output;
 use std::env;
@@ -52,66 +50,98 @@ fn explain(rt: &HostRuntime, misread: &Misread) -> u8 {
     status
 }
 
+/// Checks the trace on standard input.
+fn check_input(rt: &HostRuntime) -> u8 {
+    let mut input = Input::new(rt.stdin());
+    let mut output = Output::new(rt.stdout());
+    let mut faults = Output::new(rt.stderr());
+    check(rt.alloc(), &mut input, &mut output, &mut faults)
+}
+
+/// Prints the segments of the trace on standard input.
+fn graph_input(rt: &HostRuntime) -> u8 {
+    let mut input = Input::new(rt.stdin());
+    let mut output = Output::new(rt.stdout());
+    let mut faults = Output::new(rt.stderr());
+    graph(rt.alloc(), &mut input, &mut output, &mut faults)
+}
+
+/// Makes the store in a directory.
+fn create_in(rt: &HostRuntime, directory: &str) -> u8 {
+    let devices = match make_directory(rt, directory) {
+        Ok(devices) => devices,
+        Err(refusal) => return fail(rt, refusal),
+    };
+    let mut output = Output::new(rt.stdout());
+    let mut faults = Output::new(rt.stderr());
+    create_store(rt.alloc(), devices, &mut output, &mut faults).status
+}
+
+/// Feeds the trace on standard input to the store in a directory.
+fn feed_in(rt: &HostRuntime, directory: &str, source: Source, frames: Frames) -> u8 {
+    let devices = match open_directory(rt, directory, Access::Change) {
+        Ok(devices) => devices,
+        Err(refusal) => return fail(rt, refusal),
+    };
+    let mut input = Input::new(rt.stdin());
+    let mut output = Output::new(rt.stdout());
+    let mut faults = Output::new(rt.stderr());
+    feed(
+        rt.alloc(),
+        devices,
+        source.number,
+        frames.pages,
+        &mut input,
+        &mut output,
+        &mut faults,
+    )
+    .status
+}
+
+/// Prints the reports of the store in a directory.
+fn reports_in(rt: &HostRuntime, directory: &str, frames: Frames) -> u8 {
+    let devices = match open_directory(rt, directory, Access::Look) {
+        Ok(devices) => devices,
+        Err(refusal) => return fail(rt, refusal),
+    };
+    let mut output = Output::new(rt.stdout());
+    let mut faults = Output::new(rt.stderr());
+    let (status, _) = store_reports(rt.alloc(), devices, frames.pages, &mut output, &mut faults);
+    status
+}
+
+/// Prints the segments of the store in a directory.
+fn graph_in(rt: &HostRuntime, directory: &str) -> u8 {
+    let devices = match open_directory(rt, directory, Access::Look) {
+        Ok(devices) => devices,
+        Err(refusal) => return fail(rt, refusal),
+    };
+    let mut output = Output::new(rt.stdout());
+    let mut faults = Output::new(rt.stderr());
+    let (status, _) = store_graph(rt.alloc(), devices, 64, &mut output, &mut faults);
+    status
+}
+
+/// Does what is asked for of the store in a directory.
+fn perform_on_store(rt: &HostRuntime, directory: &str, task: StoreTask) -> u8 {
+    match task {
+        StoreTask::Create => create_in(rt, directory),
+        StoreTask::Feed { source, frames } => feed_in(rt, directory, source, frames),
+        StoreTask::Reports { frames } => reports_in(rt, directory, frames),
+        StoreTask::Graph => graph_in(rt, directory),
+    }
+}
+
 /// Does what the words of the command line ask for, and answers the status.
 fn perform(rt: &HostRuntime, words: &[String]) -> u8 {
     let task = match read(rt.alloc(), words) {
         Ok(task) => task,
         Err(misread) => return explain(rt, &misread),
     };
-    let mut input = Input::new(rt.stdin());
-    let mut output = Output::new(rt.stdout());
-    let mut faults = Output::new(rt.stderr());
     match task {
-        Task::Check => check(rt.alloc(), &mut input, &mut output, &mut faults),
-        Task::Graph => graph(rt.alloc(), &mut input, &mut output, &mut faults),
+        Task::Check => check_input(rt),
+        Task::Graph => graph_input(rt),
         Task::OnStore { directory, task } => perform_on_store(rt, directory, task),
-    }
-}
-
-/// Opens the store in a directory, for what is asked for of it.
-fn open_store(
-    rt: &HostRuntime,
-    directory: &str,
-    task: StoreTask,
-) -> Result<Devices<FileDisk>, Refusal>
-    ensures { IfErr result (λ r. (r ≡ Refusal.DeviceFault) ⊎ (r ≡ Refusal.OutOfMemory)) }
-{
-    match task {
-        StoreTask::Create => make_directory(rt, directory),
-        StoreTask::Feed { .. } => open_directory(rt, directory, Access::Change),
-        StoreTask::Graph => open_directory(rt, directory, Access::Look),
-        StoreTask::Reports { .. } => open_directory(rt, directory, Access::Look),
-    }
-}
-
-/// Does what is asked for of the store in a directory.
-fn perform_on_store(rt: &HostRuntime, directory: &str, task: StoreTask) -> u8 {
-    let devices = match open_store(rt, directory, task) {
-        Ok(devices) => devices,
-        Err(refusal) => return fail(rt, refusal),
-    };
-    let alloc = rt.alloc();
-    let mut input = Input::new(rt.stdin());
-    let mut output = Output::new(rt.stdout());
-    let mut faults = Output::new(rt.stderr());
-    match task {
-        StoreTask::Create => create_store(alloc, devices, &mut output, &mut faults).status,
-        StoreTask::Graph => store_graph(alloc, devices, 64, &mut output, &mut faults).0,
-        StoreTask::Reports { frames } => {
-            store_reports(alloc, devices, frames.pages, &mut output, &mut faults).0
-        }
-        StoreTask::Feed { source, frames } => {
-            feed(
-                alloc,
-                devices,
-                source.number,
-                frames.pages,
-                &mut input,
-                &mut output,
-                &mut faults,
-            )
-            .status
-        }
     }
 }
 

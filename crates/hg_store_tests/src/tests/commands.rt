@@ -1,8 +1,10 @@
 ghost use Rattle.std.specs.Prelude.{◌≤◌};
 
+use crate::tests::disks::Disks;
 use hg_commands::creating::create_store;
 use hg_commands::feeding::feed;
 use hg_commands::listing::{store_graph, store_reports};
+use hg_commands::moment::Outcome;
 use hg_disk::{FuseDisk, MemDisk};
 use hg_store::devices::{Caps, Devices};
 use hg_store::store::Store;
@@ -11,8 +13,6 @@ use hg_streams::output::Output;
 use std::alloc::{AllocError, Global};
 use std::process::Abort;
 use std::test::Fail;
-
-use crate::tests::disks::Disks;
 
 const RACE: &[u8] = b"fork 0 1\nwrite 0 0x1000 4\nwrite 1 0x1000 4\n";
 
@@ -27,7 +27,11 @@ fn made(rt: &impl Abort, alloc: Global) -> Disks {
     let mut output = Output::new(Vec::new(alloc));
     let mut faults = Output::new(Vec::new(alloc));
     let empty = Disks::new(alloc).into_devices();
-    let (status, devices) = create_store(alloc, empty, &mut output, &mut faults);
+    let Outcome {
+        status,
+        devices,
+        moments: _,
+    } = create_store(alloc, empty, &mut output, &mut faults);
     assert_eq!(rt; status, 0);
     assert_eq!(rt; output.stream().as_slice(), b"created\n".as_slice());
     assert_eq!(rt; faults.stream().as_slice(), b"".as_slice());
@@ -76,7 +80,11 @@ fn a_store_is_made_once(rt: HostRuntime) {
     assert_eq!(rt; devices.root1.bytes(), b"\x5A".as_slice());
     let mut output = Output::new(Vec::new(alloc));
     let mut faults = Output::new(Vec::new(alloc));
-    let (status, devices) = create_store(alloc, devices, &mut output, &mut faults);
+    let Outcome {
+        status,
+        devices,
+        moments: _,
+    } = create_store(alloc, devices, &mut output, &mut faults);
     assert_eq!(rt; status, 2);
     assert_eq!(rt; output.stream().as_slice(), b"not empty\n".as_slice());
     assert_eq!(rt; faults.stream().as_slice(), b"".as_slice());
@@ -89,7 +97,11 @@ fn what_was_fed_is_listed(rt: HostRuntime) {
     let mut output = Output::new(Vec::new(alloc));
     let mut faults = Output::new(Vec::new(alloc));
     let mut input = Input::new(RACE);
-    let (status, devices) = feed(
+    let Outcome {
+        status,
+        devices,
+        moments: _,
+    } = feed(
         alloc,
         made(&rt, alloc).into_devices(),
         3,
@@ -128,7 +140,11 @@ fn feed_failing(rt: &impl Abort, alloc: Global, text: &[u8], k: u64) -> Result<b
     let mut input = Input::new(text);
     let mut output = Output::new(Vec::new(alloc));
     let mut faults = Output::new(Vec::new(alloc));
-    let (status, devices) = feed(alloc, devices, 3, 64, &mut input, &mut output, &mut faults);
+    let Outcome {
+        status,
+        devices,
+        moments: _,
+    } = feed(alloc, devices, 3, 64, &mut input, &mut output, &mut faults);
     let told = acknowledged(rt, output.stream().as_slice());
     let devices = Devices {
         journal: devices.journal.into_inner(),
@@ -166,13 +182,22 @@ fn what_was_acknowledged_is_there_after_each_failing_call(rt: HostRuntime) -> Re
 }
 
 /// Feeds 600 events to a new store, with so much room for what is printed. Each event that was acknowledged is there.
-fn feed_to_full_output(rt: &impl Abort, alloc: Global, text: &[u8], page: &mut [u8]) -> Result<(), Fail> {
+fn feed_to_full_output(
+    rt: &impl Abort,
+    alloc: Global,
+    text: &[u8],
+    page: &mut [u8],
+) -> Result<(), Fail> {
     let room = page.len();
     let mut input = Input::new(text);
     let mut output = Output::new(page);
     let mut faults = Output::new(Vec::new(alloc));
     let devices = made(rt, alloc).into_devices();
-    let (status, devices) = feed(alloc, devices, 3, 64, &mut input, &mut output, &mut faults);
+    let Outcome {
+        status,
+        devices,
+        moments: _,
+    } = feed(alloc, devices, 3, 64, &mut input, &mut output, &mut faults);
     let disks = Disks { devices };
     assert_eq!(rt; status, 3);
     assert_eq!(rt; faults.stream().as_slice(), b"fault 21\n".as_slice());

@@ -2,6 +2,7 @@
 //! this is a run of twelve events in three commits. All else that is tried of a store stands in tests/scenarios/.
 ghost use Rattle.std.specs.Prelude.{◌≤◌};
 
+use crate::tests::disks::Disks;
 use hg_detect::detector::Answer;
 use hg_disk::MemDisk;
 use hg_model::event::{Access, Event, Named};
@@ -11,8 +12,6 @@ use hg_store::store::Store;
 use std::alloc::{AllocError, Global};
 use std::process::Abort;
 use std::test::Fail;
-
-use crate::tests::disks::Disks;
 
 const CAPS: Caps = Caps {
     sets: 64,
