@@ -17,6 +17,7 @@ use hg_options::task::{Frames, Misread, Source, StoreTask, Task};
 use hg_streams::input::Input;
 use hg_streams::output::Output;
 use std::env;
+use std::io::ErrorKind;
 use std::process::ExitCode;
 
 /// The status of a fault.
@@ -154,6 +155,7 @@ fn main(rt: HostRuntime) -> ExitCode {
                 Err(_) => fail(&rt, Refusal::OutOfMemory),
             }
         }
+        Err(error) if error.kind() == ErrorKind::OutOfMemory => fail(&rt, Refusal::OutOfMemory),
         Err(_) => {
             let _ = rt.eprint("error: an argument is not valid UTF-8\n");
             BAD_COMMAND_LINE
