@@ -32,6 +32,13 @@ impl<W> Output<W> {
     {
         &self.stream
     }
+
+    /// Its writes and flushes so far, which contracts alone see.
+    pub fn calls(&self) -> &Trail<WriteCall>
+        ensures { result.now ≡ self.now.calls }
+    {
+        &self.calls
+    }
 }
 
 impl<W: Write> Output<W> {
