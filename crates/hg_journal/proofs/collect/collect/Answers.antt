@@ -4,7 +4,7 @@ use Rattle.hg_model.specs.declared.event.Named.{Named}
 use Rattle.hg_journal.specs.Reading.{disk_of}
 use Rattle.hg_journal.proofs.Collecting.{at_last, found_more, passed_more, stopped, unless_damaged}
 use Rattle.hg_journal.proofs.Journaling.{bytes_now}
-use Rattle.hg_journal.proofs.Staying.{then}
+use Rattle.hg_disk.proofs.Staying.{then}
 use Rattle.hg_journal.proofs.collect.collect.Goals as goal
 
 pub returns-clause-events : goal.returns-clause-events

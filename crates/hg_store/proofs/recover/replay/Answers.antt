@@ -5,7 +5,7 @@ use Rattle.hg_store.specs.Recovering.{IsTooSmall}
 use Rattle.hg_journal.specs.Reading.{disk_of}
 use Rattle.hg_store.proofs.Replaying.{no_content, read_more, too_small}
 use Rattle.hg_journal.proofs.Journaling.{bytes_now}
-use Rattle.hg_journal.proofs.Staying.{then}
+use Rattle.hg_disk.proofs.Staying.{then}
 use Rattle.hg_store.proofs.recover.replay.Goals as goal
 
 pub returns-in_err-named-clause-any_moment : goal.returns-in_err-named-clause-any_moment
