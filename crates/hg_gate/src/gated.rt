@@ -53,8 +53,8 @@ impl<D: Disk> Gated<D> {
         disk
     }
 
-    /// Closes the gate, which an empty file then has too. What stands behind it stays. It makes two device calls at
-    /// most; after an `Err` each later call but `into_disks` answers `Broken`.
+    /// Closes the gate. An empty file becomes one closed gate; what stands behind the gate stays. It makes two device calls
+    /// at most; after an `Err` each later call but `into_disks` answers `Broken`.
     pub fn close(&mut self) -> Result<(), GateFault>
         ensures closed { (file : List ℕ) → Rests ⟦<D as Disk>⟧ self.old file → OnOk result (Rests ⟦<D as Disk>⟧ self.new (closed_gate ∷ drop 1 file)) }
 

@@ -47,6 +47,12 @@ pub record MakingCalls {D : Type 0} (g : disk.Ghosts D) (old new : Devices D) : 
   pub root0 : CallsAtMost g 2 old.root0 new.root0
   pub root1 : CallsAtMost g 2 old.root1 new.root1
 
+-- A recovery syncs each device once, and reads one byte of each root; how often it reads the journal is another matter.
+pub record RecoveryCalls {D : Type 0} (g : disk.Ghosts D) (old new : Devices D) : Type 0 where
+  pub slots : CallsAtMost g 1 old.slots new.slots
+  pub root0 : CallsAtMost g 2 old.root0 new.root0
+  pub root1 : CallsAtMost g 2 old.root1 new.root1
+
 -- how many calls of devices have failed after this fault, of n before
 abbrev pub after_create_fault : CreateFault → ℕ → ℕ
 after_create_fault NotEmpty n = n

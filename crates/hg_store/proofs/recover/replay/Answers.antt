@@ -59,6 +59,7 @@ loop-reader-preserved g c = record {
   works = search rules;
   state = c.next.ensures.state ∙ c.loop-reader.invariant.state;
   moments = then g.D.Disk (disk_of c.args.journal.now) (disk_of c.loop-reader.journal) (disk_of c.next.new.self) c.loop-reader.invariant.moments c.next.ensures.any_moment;
+  calls = search rules;
   failures = search rules;
   read = λ bodies honest opens.
       let read = c.loop-reader.invariant.read bodies honest opens in
