@@ -82,10 +82,10 @@ pub keeps_image : (s : DiskState) (at : ℕ) (bytes image : List ℕ) → Keeps 
 keeps_image s at bytes image was is =
     holds_as image at bytes (omega (arith, was.long, is.long)) (λ i lt. is.kept (at + i) (omega (arith, lt, was.long)) (was.untouched i lt) ∙ was.same i lt)
 
-held_end : (file : List ℕ) (at : ℕ) (bytes : List ℕ) → Holds file at bytes → at + length bytes ≤ length file
+pub held_end : (file : List ℕ) (at : ℕ) (bytes : List ℕ) → Holds file at bytes → at + length bytes ≤ length file
 held_end file at bytes has = omega (arith, ap length has.whole, has.place, length-append has.before (bytes ++ has.after), length-append bytes has.after)
 
-held_byte : (file : List ℕ) (at : ℕ) (bytes : List ℕ) (i : ℕ) → Holds file at bytes → i < length bytes → get_or file (at + i) 0 ≡ get_or bytes i 0
+pub held_byte : (file : List ℕ) (at : ℕ) (bytes : List ℕ) (i : ℕ) → Holds file at bytes → i < length bytes → get_or file (at + i) 0 ≡ get_or bytes i 0
 held_byte file at bytes i has lt = ap (λ (l : List ℕ). get_or l (at + i) 0) has.whole ∙ held_at has.before bytes has.after at i has.place lt
 
 -- what a read gives there

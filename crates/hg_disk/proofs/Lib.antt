@@ -1,6 +1,8 @@
+pub mod Certain
 pub mod Overwriting
 pub mod Rooming
 pub mod Moments
+pub mod Staying
 pub mod Images
 pub mod Keeping
 pub mod Filling

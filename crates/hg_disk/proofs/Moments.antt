@@ -1,9 +1,9 @@
 -- What a crash may leave over several calls.
-use Rattle.std.proofs.Common.{◌≡◌, ℕ, Result, Ok, Err, OnOk, OnErr, List, [], ◌∷◌, ◌++◌, refl, sym, ◌∙◌, ap, subst}
-use Rattle.std.proofs.lemmas.List.{append_assoc}
+use Rattle.std.proofs.Common.{◌≡◌, ◌⊎◌, inl, inr, ℕ, Result, Ok, Err, OnOk, OnErr, List, [], ◌∷◌, ◌++◌, refl, sym, ◌∙◌, ap, subst}
+use Rattle.std.proofs.lemmas.List.{append_assoc, append_cancel_right}
 use Rattle.hg_disk.specs.State.{DiskState, IsImage, SameImages, after_write, after_cut, after_sync}
 use Rattle.hg_disk.specs.Kept.{image_of_write, image_of_cut}
-use Rattle.hg_disk.specs.Moments.{Leaves, EachLeaves, history, LeavesOnly}
+use Rattle.hg_disk.specs.Moments.{EachLeaves, GoesOn, HasGone, IsAmong, Leaves, LeavesOnly, MayLeave, history}
 use Rattle.hg_disk.specs.declared.disk.Disk as disk
 
 -- the images of a state with the same bytes at the sync and the same changes since
@@ -38,6 +38,11 @@ each-append P (s ∷ later) earlier new old = (new.0, each-append P later earlie
 each_weaker : (P Q : List ℕ → Type 0) (states : List DiskState) → ((image : List ℕ) → P image → Q image) → EachLeaves P states → EachLeaves Q states
 each_weaker P Q [] implies has = tt
 each_weaker P Q (s ∷ earlier) implies has = (λ image is. implies image (has.0 image is), each_weaker P Q earlier implies has.1)
+
+each_leaves : (P : List ℕ → Type 0) (states : List DiskState) (bytes : List ℕ) → EachLeaves P states → IsAmong states bytes → P bytes
+each_leaves P [] bytes each among = absurd among
+each_leaves P (s ∷ earlier) bytes each (inl is) = each.0 bytes is
+each_leaves P (s ∷ earlier) bytes each (inr among) = each_leaves P earlier bytes each.1 among
 
 newest : DiskState → List DiskState → DiskState
 newest s [] = s
@@ -109,3 +114,33 @@ module _ {D : Type 0} (g : disk.Ghosts D) where
   -- a read
   pub read_leaves : (old new : D) → g.state new ≡ g.state old → g.past new ≡ (g.state old ∷ g.past old) → LeavesOnly g old new (IsImage (g.state old))
   read_leaves old new same clock = one_call old new (IsImage (g.state old)) clock (λ image is. is) (λ image is. subst (λ (s : DiskState). IsImage s image) same is)
+
+  -- the states that a disk went through are settled by its clock
+  gone_once : (old new : D) (first second : List DiskState) → HasGone g old new first → HasGone g old new second → first ≡ second
+  gone_once old new first second a b = append_cancel_right first second (history g old) (sym a ∙ b)
+
+  -- what each image meanwhile has
+  pub may_leave : (old new : D) (P : List ℕ → Type 0) (bytes : List ℕ) → LeavesOnly g old new P → MayLeave g old new bytes → P bytes
+  may_leave old new P bytes only may = leaves may.among where
+    leaves : IsImage (g.state old) bytes ⊎ IsAmong may.later bytes → P bytes
+    leaves (inl is) = only.first bytes is
+    leaves (inr among) = each_leaves P only.later bytes only.each (subst (λ (states : List DiskState). IsAmong states bytes) (gone_once old new may.later only.later may.has_gone only.has_gone) among)
+
+  -- a disk that was not called
+  pub stays : (d : D) → GoesOn g d d
+  stays d = ([], refl)
+
+  pub still : (d : D) (bytes : List ℕ) → MayLeave g d d bytes → IsImage (g.state d) bytes
+  still d bytes may = leaves may.among where
+    leaves : IsImage (g.state d) bytes ⊎ IsAmong may.later bytes → IsImage (g.state d) bytes
+    leaves (inl is) = is
+    leaves (inr among) = absurd (subst (λ (states : List DiskState). IsAmong states bytes) (gone_once d d may.later [] may.has_gone refl) among)
+
+  -- what is left at the end is left meanwhile
+  pub left_at_end : (old new : D) (bytes : List ℕ) → GoesOn g old new → IsImage (g.state new) bytes → MayLeave g old new bytes
+  left_at_end old new bytes ([], gone) is =
+      let same : g.state new ≡ g.state old = cc in
+      record { later = []; has_gone = gone; among = inl (subst (λ (s : DiskState). IsImage s bytes) same is) }
+  left_at_end old new bytes (s ∷ earlier, gone) is =
+      let same : g.state new ≡ s = cc in
+      record { later = s ∷ earlier; has_gone = gone; among = inr (inl (subst (λ (t : DiskState). IsImage t bytes) same is)) }

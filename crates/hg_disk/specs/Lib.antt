@@ -1,4 +1,5 @@
 pub mod Blots
+pub mod Calls
 pub mod Event
 pub mod File
 pub mod Fuse

@@ -1,5 +1,5 @@
 -- What a crash may leave from one moment of a disk to another.
-use Rattle.std.specs.Prelude.{◌-◌, length, get_or, ◌≡◌, ℕ, List, [], ◌∷◌, ◌++◌}
+use Rattle.std.specs.Prelude.{◌-◌, length, get_or, ◌≡◌, ◌⊎◌, ℕ, List, [], ◌∷◌, ◌++◌}
 use Rattle.hg_disk.specs.State.{DiskState, IsImage}
 use Rattle.hg_disk.specs.declared.disk.Disk as disk
 
@@ -11,6 +11,11 @@ Leaves P s = (image : List ℕ) → IsImage s image → P image
 abbrev pub EachLeaves : (List ℕ → Type 0) → List DiskState → Type 0
 EachLeaves P [] = Unit {0}
 EachLeaves P (s ∷ earlier) = Leaves P s × EachLeaves P earlier
+
+-- one of these states leaves the bytes
+abbrev pub IsAmong : List DiskState → List ℕ → Type 0
+IsAmong [] bytes = ⊥
+IsAmong (s ∷ earlier) bytes = IsImage s bytes ⊎ IsAmong earlier bytes
 
 -- the state at moment k of a disk with this state now and these before, the newest first
 abbrev pub at_moment : ℕ → DiskState → List DiskState → DiskState
@@ -31,3 +36,13 @@ module _ {D : Type 0} (g : disk.Ghosts D) where
     pub has_gone : HasGone old new later
     pub first : Leaves P (g.state old)
     pub each : EachLeaves P later
+
+  -- No moment of the disk lies before its earlier one.
+  abbrev pub GoesOn : D → D → Type 0
+  GoesOn old new = (later : List DiskState) × HasGone old new later
+
+  -- At some moment from `old` to `new`, both included, a crash may leave these bytes.
+  pub record MayLeave (old new : D) (bytes : List ℕ) : Type 0 where
+    pub later : List DiskState
+    pub has_gone : HasGone old new later
+    pub among : IsImage (g.state old) bytes ⊎ IsAmong later bytes

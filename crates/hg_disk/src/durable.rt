@@ -1,16 +1,19 @@
 //! A write and the sync that makes it durable.
 ghost use Rattle.std.specs.Prelude.{◌≡◌, ◌+◌, ◌≤◌, ◌^◌, length, OnOk};
 ghost use Rattle.hg_disk.specs.State.{IsImage, settled, overwritten, after_write, counted};
+ghost use Rattle.hg_disk.specs.Calls.{CallsAtMost};
 ghost use Rattle.hg_disk.specs.Moments.{LeavesOnly};
 
 use crate::{Disk, DiskFault};
 
 /// Writes the bytes and syncs. A crash at any moment until it has answered leaves what a torn write may leave, and so
-/// does one after it failed. After an `Ok` a crash leaves the file with these bytes, and nothing else.
+/// does one after it failed. After an `Ok` a crash leaves the file with these bytes, and nothing else. It makes two device
+/// calls at most.
 pub fn write_through<D: Disk>(disk: &mut D, at: u64, bytes: &[u8]) -> Result<(), DiskFault>
     ensures durable { OnOk result (D.state disk.new ≡ settled (overwritten (D.state disk.old).contents at bytes.now)) }
     ensures any_moment { LeavesOnly ⟦<D as Disk>⟧ disk.old disk.new (IsImage (after_write at bytes.now (D.state disk.old))) }
     ensures fits { OnOk result (at + length bytes.now ≤ 2 ^ 62) }
+    ensures calls { CallsAtMost ⟦<D as Disk>⟧ 2 disk.old disk.new }
     ensures failures { D.failures disk.new ≡ counted result (D.failures disk.old) }
 {
     disk.write_at(at, bytes)?;

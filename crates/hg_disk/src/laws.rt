@@ -2,7 +2,7 @@
 ghost use Rattle.std.specs.Prelude.{◌≡◌, ◌+◌, ◌≤◌, ◌++◌, Bool, List, ℕ, length, take, drop, IsTrue};
 ghost use Rattle.hg_disk.specs.State.{DiskState, IsImage, SameImages, settled, overwritten, after_write, after_cut, after_sync};
 ghost use Rattle.hg_disk.specs.Laws.{Begins, Torn, Holds, Keeps};
-ghost use Rattle.hg_disk.specs.Moments.{Leaves, LeavesOnly};
+ghost use Rattle.hg_disk.specs.Moments.{GoesOn, Leaves, LeavesOnly, MayLeave};
 
 use crate::Disk;
 
@@ -33,6 +33,11 @@ pub fn places_stay()
     ensures image { (s : DiskState) (at : ℕ) (bytes image : List ℕ) → Keeps s at bytes → IsImage s image → Holds image at bytes }
 {}
 
+/// What each image has is on the disk.
+pub fn kept_by_images()
+    ensures { (s : DiskState) (at : ℕ) (bytes : List ℕ) → IsImage s s.contents → Leaves (λ image. Holds image at bytes) s → Keeps s at bytes }
+{}
+
 /// What stands at a place is read there, and stays through writes and cuts elsewhere.
 pub fn places_read()
     ensures read { (file : List ℕ) (at : ℕ) (bytes : List ℕ) → Holds file at bytes → take (length bytes) (drop at file) ≡ bytes }
@@ -56,4 +61,11 @@ pub fn moments_join<D: Disk>()
     ensures started { (d : D) (p : List ℕ → Bool) → Leaves (λ image. IsTrue (p image)) (D.state d) → LeavesOnly ⟦<D as Disk>⟧ d d (λ image. IsTrue (p image)) }
     ensures joined { (old mid new : D) (p : List ℕ → Bool) → LeavesOnly ⟦<D as Disk>⟧ old mid (λ image. IsTrue (p image)) → LeavesOnly ⟦<D as Disk>⟧ mid new (λ image. IsTrue (p image)) → LeavesOnly ⟦<D as Disk>⟧ old new (λ image. IsTrue (p image)) }
     ensures at_end { (old new : D) (p : List ℕ → Bool) → LeavesOnly ⟦<D as Disk>⟧ old new (λ image. IsTrue (p image)) → Leaves (λ image. IsTrue (p image)) (D.state new) }
+{}
+
+/// What a crash may leave at some moment of a run of calls. `p` is any test of bytes.
+pub fn moments_of_images<D: Disk>()
+    ensures each { (old new : D) (p : List ℕ → Bool) (bytes : List ℕ) → LeavesOnly ⟦<D as Disk>⟧ old new (λ image. IsTrue (p image)) → MayLeave ⟦<D as Disk>⟧ old new bytes → IsTrue (p bytes) }
+    ensures still { (d : D) (bytes : List ℕ) → MayLeave ⟦<D as Disk>⟧ d d bytes → IsImage (D.state d) bytes }
+    ensures at_end { (old new : D) (bytes : List ℕ) → GoesOn ⟦<D as Disk>⟧ old new → IsImage (D.state new) bytes → MayLeave ⟦<D as Disk>⟧ old new bytes }
 {}

@@ -1,5 +1,5 @@
 -- A walk over the batches of a log.
-use Rattle.std.proofs.Common.{◌≡◌, ◌≢◌, ◌+◌, ℕ, min, Result, IsErrOf, IfErr, List, [], ◌∷◌, ◌++◌, length, take, drop, refl, sym, ◌∙◌, ap, subst, arith, append_assoc, length-append, take-append-drop}
+use Rattle.std.proofs.Common.{◌≡◌, ◌≢◌, ◌≤◌, ◌+◌, ℕ, min, Result, IsErrOf, IfErr, List, [], ◌∷◌, ◌++◌, length, take, drop, refl, sym, ◌∙◌, ap, subst, arith, append_assoc, length-append, take-append-drop}
 use Rattle.std.proofs.lemmas.List.{drop_at, take_at, take_min, length-take, length-take-le, append_cancel_left}
 use Rattle.std.specs.List.{flat_map, AllByRecursion}
 use Rattle.std.specs.Int.{w32, to_be_bytes}
@@ -53,6 +53,11 @@ module _ (file : List ℕ) (at n : ℕ) (w : Walked file at) (o : IsOpen (drop a
     each = each_push w.bodies body w.each is_body;
   }
 
+  -- and no more
+  pub walk_counts : length walk_on.bodies ≡ length w.bodies + 1
+  unfolding walk_on
+  walk_counts = length-append w.bodies (body ∷ [])
+
 -- what is left of the batches
 pub record Left (seen bodies : List (List ℕ)) (tail : List ℕ) : Type 0 where
   pub more : List (List ℕ)
@@ -80,6 +85,12 @@ pub left_of : (file : List ℕ) (at : ℕ) (bodies : List (List ℕ)) (w : Walke
 left_of file at bodies w has =
     strip w.bodies bodies (drop at file) has.gate has.rest w.each has.each has.closed
     (append_cancel_left header _ _ (sym (append_assoc header (flat_map batch bodies) (has.gate ∷ has.rest)) ∙ sym has.spelling ∙ w.front ∙ append_assoc header (flat_map batch w.bodies) (drop at file)))
+
+-- a walk has passed no more batches than there are
+pub few_walked : (file : List ℕ) (at : ℕ) (bodies : List (List ℕ)) (w : Walked file at) → IsLog file bodies → length w.bodies ≤ length bodies
+few_walked file at bodies w has =
+    let left = left_of file at bodies w has in
+    omega (arith, ap (λ (l : List (List ℕ)). length l) left.all, length-append w.bodies left.more)
 
 pub no_log : (file : List ℕ) (at : ℕ) → Walked file at → ((bodies : List (List ℕ)) → IsTail (drop at file) bodies → ⊥) → (bodies : List (List ℕ)) → IsLog file bodies → ⊥
 no_log file at w none bodies has = let left = left_of file at bodies w has in none left.more left.is_tail

@@ -1,6 +1,7 @@
 //! A file whose first byte says whether the rest counts.
 ghost use Rattle.std.specs.Prelude.{◌≡◌, ◌≢◌, ◌+◌, ◌<◌, ◌≤◌, ◌↔◌, ◌++◌, ◌∷◌, [], ℕ, List, length, get_or, take, drop, false, IsTrue, OnOk, OnErr, IsErrOf, Err, IfOk, IfErr, MatchOption};
 ghost use Rattle.hg_disk.specs.State.{IsImage, settled, counted};
+ghost use Rattle.hg_disk.specs.Calls.{CallsAtMost};
 ghost use Rattle.hg_disk.specs.Moments.{Leaves, LeavesOnly};
 ghost use Rattle.std.specs.Int.{w64, to_be_bytes};
 ghost use Rattle.hg_gate.specs.Gated.{framed, IsOpenWith};
@@ -25,10 +26,7 @@ pub struct Gated<D: Disk> {
 
 impl<D: Disk + Drop> Drop for Gated<D> {
     fn drop(self) {
-        let Gated {
-            disk,
-            is_broken: _,
-        } = self;
+        let Gated { disk, is_broken: _ } = self;
         drop(disk);
     }
 }
@@ -55,8 +53,8 @@ impl<D: Disk> Gated<D> {
         disk
     }
 
-    /// Closes the gate, which an empty file then has too. What stands behind it stays. It makes two device calls at
-    /// most; after an `Err` each later call but `into_disks` answers `Broken`.
+    /// Closes the gate. An empty file becomes one closed gate; what stands behind the gate stays. It makes two device calls
+    /// at most; after an `Err` each later call but `into_disks` answers `Broken`.
     pub fn close(&mut self) -> Result<(), GateFault>
         ensures closed { (file : List ℕ) → Rests ⟦<D as Disk>⟧ self.old file → OnOk result (Rests ⟦<D as Disk>⟧ self.new (closed_gate ∷ drop 1 file)) }
 
@@ -65,6 +63,7 @@ impl<D: Disk> Gated<D> {
             → LeavesOnly ⟦<D as Disk>⟧ (disk_of self.old) (disk_of self.new) (IsBehindGate rest) }
 
         ensures fault { IfErr result IsBrokenOrDevice }
+        ensures calls { CallsAtMost ⟦<D as Disk>⟧ 2 (disk_of self.old) (disk_of self.new) }
         ensures device { D.failures (disk_of self.new) ≡ failures_after result (D.failures (disk_of self.old)) }
         ensures broken { IsErrOf result GateFault.Broken → IsTrue (is_broken self.old) }
         ensures breaks { OnErr result (IsTrue (is_broken self.new)) }
@@ -89,6 +88,7 @@ impl<D: Disk> Gated<D> {
             → LeavesOnly ⟦<D as Disk>⟧ (disk_of self.old) (disk_of self.new) IsClosed }
 
         ensures fault { IfErr result IsBrokenOrDevice }
+        ensures calls { CallsAtMost ⟦<D as Disk>⟧ 4 (disk_of self.old) (disk_of self.new) }
         ensures device { D.failures (disk_of self.new) ≡ failures_after result (D.failures (disk_of self.old)) }
         ensures broken { IsErrOf result GateFault.Broken → IsTrue (is_broken self.old) }
         ensures breaks { OnErr result (IsTrue (is_broken self.new)) }
@@ -114,6 +114,7 @@ impl<D: Disk> Gated<D> {
             → LeavesOnly ⟦<D as Disk>⟧ (disk_of self.old) (disk_of self.new) (IsClosedOrOpenWith body) }
 
         ensures fault { IfErr result IsBrokenOrDevice }
+        ensures calls { CallsAtMost ⟦<D as Disk>⟧ 2 (disk_of self.old) (disk_of self.new) }
         ensures device { D.failures (disk_of self.new) ≡ failures_after result (D.failures (disk_of self.old)) }
         ensures broken { IsErrOf result GateFault.Broken → IsTrue (is_broken self.old) }
         ensures breaks { OnErr result (IsTrue (is_broken self.new)) }
@@ -139,6 +140,7 @@ impl<D: Disk> Gated<D> {
         ensures rests { (file : List ℕ) → Rests ⟦<D as Disk>⟧ self.old file → Rests ⟦<D as Disk>⟧ self.new file }
         ensures state { D.state (disk_of self.new) ≡ D.state (disk_of self.old) }
         ensures any_moment { LeavesOnly ⟦<D as Disk>⟧ (disk_of self.old) (disk_of self.new) (IsImage (D.state (disk_of self.old))) }
+        ensures calls { CallsAtMost ⟦<D as Disk>⟧ 3 (disk_of self.old) (disk_of self.new) }
         ensures device { D.failures (disk_of self.new) ≡ failures_after result (D.failures (disk_of self.old)) }
         ensures works { is_broken self.new ≡ is_broken self.old }
         ensures broken { IsErrOf result GateFault.Broken → IsTrue (is_broken self.old) }
@@ -161,6 +163,7 @@ impl<D: Disk> Gated<D> {
 fn replace_body<D: Disk>(disk: &mut D, body: &[u8]) -> Result<(), DiskFault>
     ensures written { (gate : ℕ) (rest : List ℕ) → D.state disk.old ≡ settled (gate ∷ rest) → OnOk result (D.state disk.new ≡ settled (gate ∷ framed body.now)) }
     ensures any_moment { (gate : ℕ) (rest : List ℕ) → D.state disk.old ≡ settled (gate ∷ rest) → gate ≢ open_gate → LeavesOnly ⟦<D as Disk>⟧ disk.old disk.new IsClosed }
+    ensures calls { CallsAtMost ⟦<D as Disk>⟧ 4 disk.old disk.new }
     ensures failures { D.failures disk.new ≡ counted result (D.failures disk.old) }
 {
     disk.write_at(1, &(body.len() as u64).to_be_bytes())?;
@@ -176,6 +179,7 @@ fn is_open<D: Disk>(disk: &mut D) -> Result<bool, GateFault>
     ensures damaged { IsErrOf result GateFault.Damaged → (D.state disk.old).contents ≡ [] }
     ensures fault { IfErr result IsDamagedOrDevice }
     ensures device { D.failures disk.new ≡ failures_after result (D.failures disk.old) }
+    ensures calls { CallsAtMost ⟦<D as Disk>⟧ 1 disk.old disk.new }
     ensures state { D.state disk.new ≡ D.state disk.old }
     ensures any_moment { LeavesOnly ⟦<D as Disk>⟧ disk.old disk.new (IsImage (D.state disk.old)) }
 {
@@ -194,6 +198,7 @@ fn read_length<D: Disk>(disk: &mut D) -> Result<u64, GateFault>
     ensures damaged { IsTrue D.is_honest → IsErrOf result GateFault.Damaged → (body : List ℕ) → ¬ IsOpenWith body (D.state disk.old).contents }
     ensures fault { IfErr result IsDamagedOrDevice }
     ensures device { D.failures disk.new ≡ failures_after result (D.failures disk.old) }
+    ensures calls { CallsAtMost ⟦<D as Disk>⟧ 1 disk.old disk.new }
     ensures state { D.state disk.new ≡ D.state disk.old }
     ensures any_moment { LeavesOnly ⟦<D as Disk>⟧ disk.old disk.new (IsImage (D.state disk.old)) }
 {

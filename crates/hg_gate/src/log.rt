@@ -1,6 +1,7 @@
 //! A log of batches.
 ghost use Rattle.std.specs.Prelude.{◌≡◌, ◌≢◌, ◌⊎◌, ◌+◌, ◌≤◌, ◌^◌, ◌++◌, ◌∷◌, [], ℕ, List, length, vec_capacity, false, IsTrue, IfOk, IfErr, OnOk, OnErr, IsErrOf, Err};
 ghost use Rattle.hg_disk.specs.State.{IsImage, settled};
+ghost use Rattle.hg_disk.specs.Calls.{CallsAtMost};
 ghost use Rattle.hg_disk.specs.Moments.{Leaves, LeavesOnly};
 ghost use Rattle.hg_gate.specs.Batches.{IsLog, IsBeforeOrAfter, sized, closed_gate, header};
 ghost use Rattle.hg_gate.specs.Fault.{failures_after, IsBrokenOrDevice, IsDamagedOrDevice};
@@ -35,6 +36,21 @@ pub struct Log<D: Disk> {
     ghost room: { 23557 ≤ vec_capacity buffer },
 }
 
+/// The memory of a log, taken before its disk is called.
+#[derive(Drop)]
+pub struct LogRoom {
+    buffer: Vec<u8>,
+    ghost room: { 23557 ≤ vec_capacity buffer },
+}
+
+impl LogRoom {
+    /// Takes the memory of a log.
+    pub fn new(alloc: Global) -> Result<LogRoom, AllocError> {
+        let buffer = Vec::with_capacity(alloc, MAX_FRAME)?;
+        Ok(LogRoom { buffer })
+    }
+}
+
 impl<D: Disk + Drop> Drop for Log<D> {
     fn drop(self) {
         let Log {
@@ -65,17 +81,30 @@ impl<D: Disk> Log<D> {
     ghost use Rattle.hg_gate.specs.Batch.{body_of};
     ghost use Rattle.hg_gate.specs.Log.{Has, Reads, IsBehind, IsFirst, given, disk_of, disk_after, failures_of_making, is_broken};
 
-    /// A log of no batches, on an empty disk. A refusal hands the disk back.
+    /// A log of no batches, on an empty disk. A refusal hands the disk back; with `OutOfMemory` it was not called. It makes
+    /// two device calls at most.
     pub fn create(alloc: Global, disk: D) -> Result<Log<D>, (GateFault, D)>
         requires { length (D.state disk).contents ≡ 0 }
         ensures empty { IfOk result (λ log. Has log [] × (D.state (disk_of log) ≡ settled (header ++ closed_gate ∷ [])) × (D.failures (disk_of log) ≡ D.failures disk)) }
+        ensures calls { CallsAtMost ⟦<D as Disk>⟧ 2 disk (disk_after result) }
         ensures device { IfErr result (λ e. e.0 ≡ GateFault.DeviceFault → D.failures e.1 ≡ D.failures disk + 1) }
         ensures memory { IfErr result (λ e. (e.0 ≡ GateFault.DeviceFault) ⊎ ((e.0 ≡ GateFault.OutOfMemory) × (e.1 ≡ disk))) }
     {
-        let buffer = match Vec::with_capacity(alloc, MAX_FRAME) {
-            Ok(buffer) => buffer,
-            Err(AllocError) => return Err((GateFault::OutOfMemory, disk)),
-        };
+        match LogRoom::new(alloc) {
+            Ok(room) => Log::create_in(room, disk),
+            Err(AllocError) => Err((GateFault::OutOfMemory, disk)),
+        }
+    }
+
+    /// A log of no batches, on an empty disk, in memory that was taken before. `DeviceFault` hands the disk back. It makes
+    /// two device calls at most.
+    pub fn create_in(room: LogRoom, disk: D) -> Result<Log<D>, (GateFault, D)>
+        requires { length (D.state disk).contents ≡ 0 }
+        ensures empty { IfOk result (λ log. Has log [] × (D.state (disk_of log) ≡ settled (header ++ closed_gate ∷ [])) × (D.failures (disk_of log) ≡ D.failures disk)) }
+        ensures calls { CallsAtMost ⟦<D as Disk>⟧ 2 disk (disk_after result) }
+        ensures device { IfErr result (λ e. (e.0 ≡ GateFault.DeviceFault) × (D.failures e.1 ≡ D.failures disk + 1)) }
+    {
+        let LogRoom { buffer } = room;
         let mut disk = disk;
         if write_through(&mut disk, 0, &START).is_err() {
             return Err((GateFault::DeviceFault, disk));
@@ -97,6 +126,10 @@ impl<D: Disk> Log<D> {
         ensures damaged { IsTrue D.is_honest → IfErr result (λ e. e.0 ≡ GateFault.Damaged → (bodies : List (List ℕ)) → ¬ IsLog (D.state disk).contents bodies) }
         ensures works { IfOk result (λ log. is_broken log ≡ false) }
         ensures fault { IfErr result (λ e. IsDamagedOrDevice e.0 ⊎ (e.0 ≡ GateFault.OutOfMemory)) }
+        // As many device calls as the disk has bytes, at most; of an honest one two, and one a batch.
+        ensures calls { CallsAtMost ⟦<D as Disk>⟧ (length (D.state disk).contents) disk (disk_after result) }
+        ensures one_a_batch { IsTrue D.is_honest → (bodies : List (List ℕ)) → IsLog (D.state disk).contents bodies → CallsAtMost ⟦<D as Disk>⟧ (length bodies + 2) disk (disk_after result) }
+
         ensures device { D.failures (disk_after result) ≡ failures_of_making result (D.failures disk) }
         ensures state { D.state (disk_after result) ≡ D.state disk }
         ensures any_moment { LeavesOnly ⟦<D as Disk>⟧ disk (disk_after result) (IsImage (D.state disk)) }
@@ -142,6 +175,7 @@ impl<D: Disk> Log<D> {
             → LeavesOnly ⟦<D as Disk>⟧ (disk_of self.old) (disk_of self.new) (IsBeforeOrAfter bodies (body_of batch.now)) }
 
         ensures fault { IfErr result IsBrokenOrDevice }
+        ensures calls { CallsAtMost ⟦<D as Disk>⟧ 4 (disk_of self.old) (disk_of self.new) }
         ensures device { D.failures (disk_of self.new) ≡ failures_after result (D.failures (disk_of self.old)) }
         ensures broken { IsErrOf result GateFault.Broken → IsTrue (is_broken self.old) }
         ensures breaks { OnErr result (IsTrue (is_broken self.new)) }
@@ -192,6 +226,7 @@ impl<D: Disk> Log<D> {
         ensures has { (bodies : List (List ℕ)) → Has self.old bodies → Has self.new bodies }
         ensures state { D.state (disk_of self.new) ≡ D.state (disk_of self.old) }
         ensures any_moment { LeavesOnly ⟦<D as Disk>⟧ (disk_of self.old) (disk_of self.new) (IsImage (D.state (disk_of self.old))) }
+        ensures calls { CallsAtMost ⟦<D as Disk>⟧ 2 (disk_of self.old) (disk_of self.new) }
         ensures device { D.failures (disk_of self.new) ≡ failures_after result (D.failures (disk_of self.old)) }
         ensures broken { IsErrOf result GateFault.Broken → IsTrue (is_broken self.old) }
         ensures refuses { IsTrue (is_broken self.old) → result ≡ Err GateFault.Broken }

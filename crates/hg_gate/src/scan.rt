@@ -1,6 +1,7 @@
 //! Where the batches of a log end.
 ghost use Rattle.std.specs.Prelude.{◌≡◌, ◌⊎◌, ◌+◌, ◌<◌, ◌≤◌, ◌↔◌, ◌^◌, ℕ, List, length, take, drop, IsTrue, IfOk, IfErr, OnOk, IsErrOf};
 ghost use Rattle.hg_disk.specs.State.{IsImage};
+ghost use Rattle.hg_disk.specs.Calls.{CallsAtMost};
 ghost use Rattle.hg_disk.specs.Moments.{LeavesOnly};
 ghost use Rattle.hg_gate.specs.Batches.{IsLog, IsBodyLength};
 ghost use Rattle.hg_gate.specs.Fault.{failures_after, IsDamagedOrDevice};
@@ -60,6 +61,7 @@ pub(crate) fn read_head<D: Disk>(disk: &mut D, at: u64) -> Result<Option<u32>, G
     ensures damaged { IsTrue D.is_honest → IsErrOf result GateFault.Damaged → (bodies : List (List ℕ)) → ¬ IsTail (drop at (D.state disk.old).contents) bodies }
     ensures fault { IfErr result IsDamagedOrDevice }
     ensures device { D.failures disk.new ≡ failures_after result (D.failures disk.old) }
+    ensures calls { CallsAtMost ⟦<D as Disk>⟧ 1 disk.old disk.new }
     ensures state { D.state disk.new ≡ D.state disk.old }
     ensures any_moment { LeavesOnly ⟦<D as Disk>⟧ disk.old disk.new (IsImage (D.state disk.old)) }
 {
@@ -77,6 +79,8 @@ pub(crate) fn find_end<D: Disk>(disk: &mut D) -> Result<u64, GateFault>
     ensures damaged { IsTrue D.is_honest → IsErrOf result GateFault.Damaged → (bodies : List (List ℕ)) → ¬ IsLog (D.state disk.old).contents bodies }
     ensures fault { IfErr result IsDamagedOrDevice }
     ensures device { D.failures disk.new ≡ failures_after result (D.failures disk.old) }
+    ensures calls { CallsAtMost ⟦<D as Disk>⟧ (length (D.state disk.old).contents) disk.old disk.new }
+    ensures one_a_batch { IsTrue D.is_honest → (bodies : List (List ℕ)) → IsLog (D.state disk.old).contents bodies → CallsAtMost ⟦<D as Disk>⟧ (length bodies + 2) disk.old disk.new }
     ensures state { D.state disk.new ≡ D.state disk.old }
     ensures any_moment { LeavesOnly ⟦<D as Disk>⟧ disk.old disk.new (IsImage (D.state disk.old)) }
 {
@@ -95,6 +99,8 @@ fn read_header<D: Disk>(disk: &mut D) -> Result<(), GateFault>
     ensures damaged { IsTrue D.is_honest → IsErrOf result GateFault.Damaged → (bodies : List (List ℕ)) → ¬ IsLog (D.state disk.old).contents bodies }
     ensures fault { IfErr result IsDamagedOrDevice }
     ensures device { D.failures disk.new ≡ failures_after result (D.failures disk.old) }
+    ensures calls { CallsAtMost ⟦<D as Disk>⟧ 1 disk.old disk.new }
+    ensures few { CallsAtMost ⟦<D as Disk>⟧ (length (D.state disk.old).contents) disk.old disk.new }
     ensures state { D.state disk.new ≡ D.state disk.old }
     ensures any_moment { LeavesOnly ⟦<D as Disk>⟧ disk.old disk.new (IsImage (D.state disk.old)) }
 {
@@ -115,6 +121,7 @@ pub(crate) fn read_bytes<D: Disk>(disk: &mut D, at: u64, buf: &mut [u8]) -> Resu
     ensures bytes { IsTrue D.is_honest → OnOk result (buf.new ≡ take (length buf.old) (drop at (D.state disk.old).contents)) }
     ensures fault { IfErr result (λ e. e ≡ GateFault.DeviceFault) }
     ensures device { D.failures disk.new ≡ failures_after result (D.failures disk.old) }
+    ensures calls { CallsAtMost ⟦<D as Disk>⟧ 1 disk.old disk.new }
     ensures state { D.state disk.new ≡ D.state disk.old }
     ensures any_moment { LeavesOnly ⟦<D as Disk>⟧ disk.old disk.new (IsImage (D.state disk.old)) }
 {
@@ -134,6 +141,7 @@ pub(crate) fn read_vec<D: Disk>(
     ensures len { IfOk result (λ v. length v.items ≡ len) }
     ensures fault { IfErr result (λ e. (e ≡ GateFault.DeviceFault) ⊎ (e ≡ GateFault.OutOfMemory)) }
     ensures device { D.failures disk.new ≡ failures_after result (D.failures disk.old) }
+    ensures calls { CallsAtMost ⟦<D as Disk>⟧ 1 disk.old disk.new }
     ensures state { D.state disk.new ≡ D.state disk.old }
     ensures any_moment { LeavesOnly ⟦<D as Disk>⟧ disk.old disk.new (IsImage (D.state disk.old)) }
 {

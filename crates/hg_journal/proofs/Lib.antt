@@ -2,4 +2,3 @@ pub mod Collecting
 pub mod Filling
 pub mod Journaling
 pub mod Journals
-pub mod Staying

@@ -1,8 +1,9 @@
 //! Reading events back.
 
-ghost use Rattle.std.specs.Prelude.{◌≡◌, ◌≢◌, ◌+◌, ◌-◌, List, length, take, drop, IsTrue, IfOk, IfErr, OnOk, ◌++◌, ◌∷◌, [], false};
+ghost use Rattle.std.specs.Prelude.{◌≡◌, ◌≢◌, ◌+◌, ◌-◌, ◌*◌, List, length, take, drop, IsTrue, IfOk, IfErr, OnOk, ◌++◌, ◌∷◌, [], false};
 ghost use Rattle.hg_model.specs.declared.event.Named.{Named as NamedOf};
 ghost use Rattle.hg_disk.specs.State.{IsImage};
+ghost use Rattle.hg_disk.specs.Calls.{CallsAtMost};
 ghost use Rattle.hg_disk.specs.Moments.{LeavesOnly};
 ghost use Rattle.hg_journal.specs.Journal.{IsOfReading, failed_after};
 ghost use Rattle.hg_journal.specs.Reading.{Keeps, disk_of, is_broken};
@@ -13,7 +14,8 @@ use hg_model::event::Named;
 use hg_model::verdict::Refusal;
 use std::alloc::Global;
 
-/// Of the first `count` events of a journal, those from number `from` on, at most `max`.
+/// Of the first `count` events of a journal, those from number `from` on, at most `max`. It makes two device calls an event
+/// at most.
 pub fn collect<D: Disk>(
     journal: &mut Journal<D>,
     alloc: Global,
@@ -27,6 +29,7 @@ pub fn collect<D: Disk>(
     ensures keeps { (events : List NamedOf) → Keeps journal.old events → Keeps journal.new events }
     ensures works { is_broken journal.new ≡ false }
     ensures refusal { IfErr result IsOfReading }
+    ensures calls { CallsAtMost ⟦<D as Disk>⟧ (2 * count) (disk_of journal.old) (disk_of journal.new) }
     ensures device { D.failures (disk_of journal.new) ≡ failed_after result (D.failures (disk_of journal.old)) }
     ensures state { D.state (disk_of journal.new) ≡ D.state (disk_of journal.old) }
     ensures any_moment { LeavesOnly ⟦<D as Disk>⟧ (disk_of journal.old) (disk_of journal.new) (IsImage (D.state (disk_of journal.old))) }

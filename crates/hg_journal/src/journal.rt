@@ -3,14 +3,15 @@ ghost use Rattle.std.specs.Prelude.{◌≡◌, ◌≢◌, ◌⊎◌, ◌+◌, �
 ghost use Rattle.std.specs.List.{AllByRecursion};
 ghost use Rattle.hg_model.specs.declared.event.Named.{Named as NamedOf};
 ghost use Rattle.hg_disk.specs.State.{IsImage, settled};
+ghost use Rattle.hg_disk.specs.Calls.{CallsAtMost};
 ghost use Rattle.hg_disk.specs.Moments.{Leaves, LeavesOnly};
 ghost use Rattle.hg_gate.specs.Batch.{vec_of};
-ghost use Rattle.hg_gate.specs.Batches.{IsBody, closed_gate, header};
+ghost use Rattle.hg_gate.specs.Batches.{IsBody, IsLog, closed_gate, header};
 ghost use Rattle.hg_records.specs.Records.{BeginsWith, RecordFits};
 ghost use Rattle.hg_journal.specs.Journal.{IsBrokenOrDevice, IsJournal, IsOfReading, batch_text, failed_after, told_as};
 
 use hg_disk::Disk;
-use hg_gate::{Batch, Batches, GateFault, Log, MAX_BODY_LEN};
+use hg_gate::{Batch, Batches, GateFault, Log, LogRoom, MAX_BODY_LEN};
 use hg_model::event::Named;
 use hg_model::verdict::Refusal;
 use hg_records::record::{MAX_RECORD_LEN, put_record, read_record};
@@ -31,12 +32,26 @@ pub struct Journal<D: Disk> {
 
 impl<D: Disk + Drop> Drop for Journal<D> {
     fn drop(self) {
-        let Journal {
-            log,
-            body,
-        } = self;
+        let Journal { log, body } = self;
         drop(log);
         drop(body);
+    }
+}
+
+/// The memory of a journal, taken before its disk is called.
+#[derive(Drop)]
+pub struct JournalRoom {
+    log: LogRoom,
+    body: Vec<u8>,
+    ghost room: { 23552 ≤ vec_capacity body },
+}
+
+impl JournalRoom {
+    /// Takes the memory of a journal.
+    pub fn new(alloc: Global) -> Result<JournalRoom, AllocError> {
+        let body = Vec::with_capacity(alloc, MAX_BODY_LEN)?;
+        let log = LogRoom::new(alloc)?;
+        Ok(JournalRoom { log, body })
     }
 }
 
@@ -105,18 +120,31 @@ impl JournalReader {
 impl<D: Disk> Journal<D> {
     ghost use Rattle.hg_journal.specs.Reading.{IsAt, Keeps, Opens, disk_after, disk_of, failures_of_making, is_broken, rest_of};
 
-    /// A journal of no events, on an empty disk. A refusal hands the disk back.
+    /// A journal of no events, on an empty disk. A refusal hands the disk back; with `OutOfMemory` it was not called. It
+    /// makes two device calls at most.
     pub fn create(alloc: Global, disk: D) -> Result<Journal<D>, (Refusal, D)>
         requires { length (D.state disk).contents ≡ 0 }
         ensures empty { IfOk result (λ journal. Keeps journal [] × (D.state (disk_of journal) ≡ settled (header ++ closed_gate ∷ [])) × (D.failures (disk_of journal) ≡ D.failures disk)) }
+        ensures calls { CallsAtMost ⟦<D as Disk>⟧ 2 disk (disk_after result) }
         ensures device { IfErr result (λ e. e.0 ≡ Refusal.DeviceFault → D.failures e.1 ≡ D.failures disk + 1) }
         ensures memory { IfErr result (λ e. (e.0 ≡ Refusal.DeviceFault) ⊎ ((e.0 ≡ Refusal.OutOfMemory) × (e.1 ≡ disk))) }
     {
-        let body = match Vec::with_capacity(alloc, MAX_BODY_LEN) {
-            Ok(body) => body,
-            Err(AllocError) => return Err((Refusal::OutOfMemory, disk)),
-        };
-        match Log::create(alloc, disk) {
+        match JournalRoom::new(alloc) {
+            Ok(room) => Journal::create_in(room, disk),
+            Err(AllocError) => Err((Refusal::OutOfMemory, disk)),
+        }
+    }
+
+    /// A journal of no events, on an empty disk, in memory that was taken before. `DeviceFault` hands the disk back. It makes
+    /// two device calls at most.
+    pub fn create_in(room: JournalRoom, disk: D) -> Result<Journal<D>, (Refusal, D)>
+        requires { length (D.state disk).contents ≡ 0 }
+        ensures empty { IfOk result (λ journal. Keeps journal [] × (D.state (disk_of journal) ≡ settled (header ++ closed_gate ∷ [])) × (D.failures (disk_of journal) ≡ D.failures disk)) }
+        ensures calls { CallsAtMost ⟦<D as Disk>⟧ 2 disk (disk_after result) }
+        ensures device { IfErr result (λ e. (e.0 ≡ Refusal.DeviceFault) × (D.failures e.1 ≡ D.failures disk + 1)) }
+    {
+        let JournalRoom { log, body } = room;
+        match Log::create_in(log, disk) {
             Ok(log) => Ok(Journal { log, body }),
             Err((fault, disk)) => Err((refusal_of(fault), disk)),
         }
@@ -130,6 +158,10 @@ impl<D: Disk> Journal<D> {
         ensures damaged { IsTrue D.is_honest → IfErr result (λ e. e.0 ≡ Refusal.Damaged → (events : List NamedOf) → ¬ IsJournal (D.state disk).contents events) }
         ensures works { IfOk result (λ journal. is_broken journal ≡ false) }
         ensures fault { IfErr result (λ e. IsOfReading e.0) }
+        // As many device calls as the disk has bytes, at most; of an honest one two, and one a batch.
+        ensures calls { CallsAtMost ⟦<D as Disk>⟧ (length (D.state disk).contents) disk (disk_after result) }
+        ensures one_a_batch { IsTrue D.is_honest → (bodies : List (List ℕ)) → IsLog (D.state disk).contents bodies → CallsAtMost ⟦<D as Disk>⟧ (length bodies + 2) disk (disk_after result) }
+
         ensures device { D.failures (disk_after result) ≡ failures_of_making result (D.failures disk) }
         ensures state { D.state (disk_after result) ≡ D.state disk }
         ensures any_moment { LeavesOnly ⟦<D as Disk>⟧ disk (disk_after result) (IsImage (D.state disk)) }
@@ -166,6 +198,7 @@ impl<D: Disk> Journal<D> {
             → LeavesOnly ⟦<D as Disk>⟧ (disk_of self.old) (disk_of self.new) (λ image. IsJournal image past ⊎ IsJournal image (past ++ events.now)) }
 
         ensures fault { IfErr result IsBrokenOrDevice }
+        ensures calls { CallsAtMost ⟦<D as Disk>⟧ 4 (disk_of self.old) (disk_of self.new) }
         ensures device { D.failures (disk_of self.new) ≡ failed_after result (D.failures (disk_of self.old)) }
         ensures broken { IsErrOf result Refusal.Broken → IsTrue (is_broken self.old) }
         ensures breaks { OnErr result (IsTrue (is_broken self.new)) }
@@ -214,6 +247,7 @@ impl<D: Disk> Journal<D> {
         ensures state { D.state (disk_of self.new) ≡ D.state (disk_of self.old) }
         ensures any_moment { LeavesOnly ⟦<D as Disk>⟧ (disk_of self.old) (disk_of self.new) (IsImage (D.state (disk_of self.old))) }
         ensures fault { IfErr result (λ e. IsOfReading e ⊎ (e ≡ Refusal.Broken)) }
+        ensures calls { CallsAtMost ⟦<D as Disk>⟧ 2 (disk_of self.old) (disk_of self.new) }
         ensures device { D.failures (disk_of self.new) ≡ failed_after result (D.failures (disk_of self.old)) }
         ensures broken { IsErrOf result Refusal.Broken → IsTrue (is_broken self.old) }
         ensures refuses { IsTrue (is_broken self.old) → result ≡ Err Refusal.Broken }
@@ -253,6 +287,7 @@ impl<D: Disk> Journal<D> {
         ensures state { D.state (disk_of self.new) ≡ D.state (disk_of self.old) }
         ensures any_moment { LeavesOnly ⟦<D as Disk>⟧ (disk_of self.old) (disk_of self.new) (IsImage (D.state (disk_of self.old))) }
         ensures fault { IfErr result (λ e. IsOfReading e ⊎ (e ≡ Refusal.Broken)) }
+        ensures calls { CallsAtMost ⟦<D as Disk>⟧ 2 (disk_of self.old) (disk_of self.new) }
         ensures device { D.failures (disk_of self.new) ≡ failed_after result (D.failures (disk_of self.old)) }
         ensures broken { IsErrOf result Refusal.Broken → IsTrue (is_broken self.old) }
         ensures refuses { IsTrue (is_broken self.old) → result ≡ Err Refusal.Broken }

@@ -5,4 +5,5 @@ pub mod Remaining
 pub mod Replaying
 pub mod Runs
 pub mod Staying
+pub mod Stepping
 pub mod Stores

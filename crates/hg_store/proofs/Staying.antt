@@ -1,11 +1,11 @@
 -- Devices whose images stay what they were.
 use Rattle.hg_disk.specs.State.{IsImage}
 use Rattle.hg_disk.specs.declared.disk.Disk as disk
-use Rattle.hg_journal.proofs.Staying.{then}
+use Rattle.hg_disk.proofs.Staying.{then}
 use Rattle.hg_store.specs.declared.devices.Devices.{Devices}
 use Rattle.hg_store.specs.Images.{EachImage, IsLeft}
 use Rattle.hg_store.specs.Recovering.{Stay}
-use Rattle.hg_store.proofs.Moments.{may_leave}
+use Rattle.hg_disk.proofs.Moments.{may_leave}
 
 module _ {D : Type 0} (g : disk.Ghosts D) where
   pub stay_then : (old mid new : Devices D) → Stay g old mid → Stay g mid new → Stay g old new

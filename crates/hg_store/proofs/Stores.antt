@@ -18,7 +18,8 @@ use Rattle.hg_store.specs.Shown.{Shown}
 use Rattle.hg_detect.specs.Memory.{content_of}
 use Rattle.hg_store.specs.Store.{Backs, Stands}
 use Rattle.hg_store.proofs.Contents.{followed_append, followed_one}
-use Rattle.hg_store.proofs.Moments.{all_still, each_at_end, may_leave, read_is_left, stays, still}
+use Rattle.hg_disk.proofs.Moments.{may_leave, stays, still}
+use Rattle.hg_store.proofs.Moments.{all_still, each_at_end, read_is_left}
 
 stood : (d live other : Content) (broken : Bool) (image : Image) → broken ≡ false → Stands d live broken image → Stands d other broken image
 stood d live other broken image works (inl a) = inl a

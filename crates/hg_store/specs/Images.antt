@@ -1,10 +1,10 @@
 -- What a crash may leave of the four devices of a store, and the content that it gives.
-use Rattle.std.specs.Prelude.{◌≡◌, ◌⊎◌, ◌+◌, ℕ, List, [], ◌∷◌, Some}
+use Rattle.std.specs.Prelude.{◌≡◌, ◌+◌, ℕ, List, Some}
 use Rattle.hg_model.specs.declared.event.Named.{Named}
 use Rattle.hg_model.specs.Contents.{Content}
 use Rattle.hg_model.specs.Change.{followed, empty_content}
-use Rattle.hg_disk.specs.State.{DiskState, IsImage}
-use Rattle.hg_disk.specs.Moments.{HasGone}
+use Rattle.hg_disk.specs.State.{IsImage}
+use Rattle.hg_disk.specs.Moments.{GoesOn, MayLeave}
 use Rattle.hg_disk.specs.declared.disk.Disk as disk
 use Rattle.hg_gate.specs.Batches.{IsClosed}
 use Rattle.hg_journal.specs.Journal.{IsJournal}
@@ -25,35 +25,20 @@ pub record HasContent (image : Image) (c : Content) : Type 0 where
   pub journal : IsJournal image.journal events
   pub gives : followed empty_content events ≡ Some c
 
--- one of these states leaves the bytes
-abbrev pub IsAmong : List DiskState → List ℕ → Type 0
-IsAmong [] bytes = ⊥
-IsAmong (s ∷ earlier) bytes = IsImage s bytes ⊎ IsAmong earlier bytes
-
 module _ {D : Type 0} (g : disk.Ghosts D) where
-  -- At some moment from `old` to `new`, both included, a crash may leave these bytes of a disk.
-  pub record MayLeave (old new : D) (bytes : List ℕ) : Type 0 where
-    pub later : List DiskState
-    pub has_gone : HasGone g old new later
-    pub among : IsImage (g.state old) bytes ⊎ IsAmong later bytes
-
   -- what a crash may leave of the devices from one moment of each to another, each device by itself
   pub record MayLeaveAll (old new : Devices D) (image : Image) : Type 0 where
-    pub journal : MayLeave old.journal new.journal image.journal
-    pub slots : MayLeave old.slots new.slots image.slots
-    pub root0 : MayLeave old.root0 new.root0 image.root0
-    pub root1 : MayLeave old.root1 new.root1 image.root1
-
-  -- No moment of a device lies before its earlier one.
-  abbrev pub GoesOn : D → D → Type 0
-  GoesOn old new = (later : List DiskState) × HasGone g old new later
+    pub journal : MayLeave g old.journal new.journal image.journal
+    pub slots : MayLeave g old.slots new.slots image.slots
+    pub root0 : MayLeave g old.root0 new.root0 image.root0
+    pub root1 : MayLeave g old.root1 new.root1 image.root1
 
   -- Each image of the devices from `old` to `new`, both included, has P.
   pub record EachImage (old new : Devices D) (P : Image → Type 0) : Type 0 where
-    pub journal : GoesOn old.journal new.journal
-    pub slots : GoesOn old.slots new.slots
-    pub root0 : GoesOn old.root0 new.root0
-    pub root1 : GoesOn old.root1 new.root1
+    pub journal : GoesOn g old.journal new.journal
+    pub slots : GoesOn g old.slots new.slots
+    pub root0 : GoesOn g old.root0 new.root0
+    pub root1 : GoesOn g old.root1 new.root1
     pub each : (image : Image) → MayLeaveAll old new image → P image
 
   -- what a crash may leave of the devices as they are

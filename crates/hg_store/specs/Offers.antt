@@ -9,7 +9,7 @@ use Rattle.hg_model.specs.Contents.{Content}
 use Rattle.hg_model.specs.Verdicts.{verdict, standing_of}
 use Rattle.hg_model.specs.Change.{followed}
 use Rattle.hg_sets.specs.declared.fault.SetFault.TheVariants.{Full}
-use Rattle.hg_detect.specs.Making.{Asks, sets_asked}
+use Rattle.hg_detect.specs.Making.{Asks, AsksBy, sets_asked}
 use Rattle.hg_detect.specs.declared.detector.Answer.{Answer}
 use Rattle.hg_detect.specs.declared.detector.Answer.TheVariants.{Accepted, Duplicate}
 use Rattle.hg_store.specs.declared.steps.Step.{Step}
@@ -37,10 +37,12 @@ if_accepted n (Ok (Duplicate last)) = []
 if_accepted n (Err refusal) = []
 
 -- What an offer leaves of the table of sets. An accepted event got each set that it asks for, and one that found the table full came
--- to a set for which it has no room. After another answer than these and want of memory, nothing of the store has changed.
+-- to a set for which it has no room. Memory may run out before the sets, at one of them or after them, and those before it stand in
+-- the table. After another answer than these, nothing of the store has changed.
 pub record TableDone {D : Type 0} (old new : Shown D) (n : Named) (result : Result Answer Refusal) : Type 0 where
   pub accepted : result ≡ Ok Accepted → Asks old.detector.sets (sets_asked (content_of old.detector) n.event) None new.detector.sets
   pub full : verdict (standing_of (content_of old.detector)) n ≡ Accept → result ≡ Err FullSets → Asks old.detector.sets (sets_asked (content_of old.detector) n.event) (Some Full) new.detector.sets
+  pub memory : result ≡ Err OutOfMemory → AsksBy old.detector.sets (sets_asked (content_of old.detector) n.event) (Err OutOfMemory) new.detector.sets
   pub same : (result ≡ Ok Accepted → ⊥) → (result ≡ Err FullSets → ⊥) → (result ≡ Err OutOfMemory → ⊥) → new ≡ old
 
 -- An accepted event joins the live content and the pending events; nothing else changes but the table.

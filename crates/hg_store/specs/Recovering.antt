@@ -12,6 +12,7 @@ use Rattle.hg_sets.specs.declared.fault.SetFault.TheVariants.{Full}
 use Rattle.hg_detect.specs.Making.{Asks, sets_asked}
 use Rattle.hg_disk.specs.declared.disk.Disk as disk
 use Rattle.hg_disk.specs.State.{IsImage, settled}
+use Rattle.hg_disk.specs.Calls.{CallsAtMost}
 use Rattle.hg_disk.specs.Moments.{LeavesOnly}
 use Rattle.hg_gate.specs.Batches.{header, closed_gate}
 use Rattle.hg_store.specs.declared.devices.Devices.{Devices}
@@ -37,6 +38,20 @@ pub record IsEmpty {D : Type 0} (g : disk.Ghosts D) (devices : Devices D) : Type
 abbrev pub made_of : {D E : Type 0} → Result (Shown D) (E × Devices D) → Devices D
 made_of (Ok store) = store.devices
 made_of (Err refused) = refused.1
+
+-- A store is made in so many calls of each device, at most: a write and a sync of the journal and of each root, and a sync of
+-- the slots.
+pub record MakingCalls {D : Type 0} (g : disk.Ghosts D) (old new : Devices D) : Type 0 where
+  pub journal : CallsAtMost g 2 old.journal new.journal
+  pub slots : CallsAtMost g 1 old.slots new.slots
+  pub root0 : CallsAtMost g 2 old.root0 new.root0
+  pub root1 : CallsAtMost g 2 old.root1 new.root1
+
+-- A recovery syncs each device once, and reads one byte of each root; how often it reads the journal is another matter.
+pub record RecoveryCalls {D : Type 0} (g : disk.Ghosts D) (old new : Devices D) : Type 0 where
+  pub slots : CallsAtMost g 1 old.slots new.slots
+  pub root0 : CallsAtMost g 2 old.root0 new.root0
+  pub root1 : CallsAtMost g 2 old.root1 new.root1
 
 -- how many calls of devices have failed after this fault, of n before
 abbrev pub after_create_fault : CreateFault → ℕ → ℕ

@@ -10,11 +10,11 @@ use Rattle.hg_store.specs.declared.steps.Step.{Step}
 use Rattle.hg_store.specs.declared.steps.Step.TheVariants.{Offer, Commit}
 use Rattle.hg_store.specs.declared.steps.StepResult.{StepResult}
 use Rattle.hg_store.specs.declared.steps.StepResult.TheVariants.{Offered, Committed}
-use Rattle.hg_store.specs.Images.{Image, HasContent, EachImage}
+use Rattle.hg_store.specs.Images.{Image, HasContent, EachImage, failures_of}
 use Rattle.hg_store.specs.Shown.{Shown}
 use Rattle.hg_detect.specs.Memory.{content_of}
 use Rattle.hg_store.specs.Store.{Backs}
-use Rattle.hg_store.specs.Offers.{OfferAnswers, StepDone, if_accepted, in_doubt_during}
+use Rattle.hg_store.specs.Offers.{OfferAnswers, StepDone, failed_by, if_accepted, in_doubt_during}
 
 -- The events of the offers answered Accepted: those before the last commit answered Ok, and those since.
 -- In doubt: a commit was answered by a fault of a device.
@@ -63,6 +63,21 @@ Lawful start run Commit (Offered result) = ⊥
 abbrev pub begins : {D : Type 0} → Told D → Shown D → Shown D
 begins [] end = end
 begins (a ∷ told) end = a.0
+
+-- Each step has one answer, leads from the store as it began to that as the next one did, or to the end, and a device failed in it
+-- just where it was answered so.
+abbrev pub LeadsOn : {D : Type 0} → disk.Ghosts D → List Step → Told D → Shown D → Type 0
+LeadsOn g [] [] end = Unit {0}
+LeadsOn g (step ∷ steps) (a ∷ told) end =
+    StepDone a.0 (begins told end) step a.1 × (failures_of g (begins told end).devices ≡ failed_by a.1 (failures_of g a.0.devices)) × LeadsOn g steps told end
+LeadsOn g [] (a ∷ told) end = ⊥
+LeadsOn g (step ∷ steps) [] end = ⊥
+
+-- A list of steps was run on the store, whatever its devices are.
+pub record StepsDone {D : Type 0} (g : disk.Ghosts D) (old new : Shown D) (steps : List Step) (told : Told D) : Type 0 where
+  -- the first step began where the list did
+  pub first : begins told new ≡ old
+  pub each : LeadsOn g steps told new
 
 -- Each step is answered as it may be, leads from the store as it began to that as the next one did, or to the end, and each image
 -- meanwhile stands for the run so far.

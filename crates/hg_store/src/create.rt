@@ -2,6 +2,7 @@
 
 ghost use Rattle.std.specs.Prelude.{◌≡◌, ◌⊎◌, ◌+◌, ◌≤◌, ◌∷◌, [], vec_capacity, IsTrue, IfOk, IfErr, OnOk};
 ghost use Rattle.hg_model.specs.Change.{empty_content};
+ghost use Rattle.hg_disk.specs.Calls.{CallsAtMost};
 ghost use Rattle.hg_disk.specs.State.{counted, settled};
 ghost use Rattle.hg_gate.specs.Batches.{closed_gate};
 ghost use Rattle.hg_store.specs.Images.{failures_of, read_of};
@@ -14,7 +15,7 @@ use crate::store::{MOST_PENDING, Store};
 use hg_detect::memory::new_detector;
 use hg_disk::{Disk, DiskFault, write_through};
 use hg_gate::CLOSED;
-use hg_journal::journal::Journal;
+use hg_journal::journal::{Journal, JournalRoom};
 use hg_model::event::Named;
 use hg_model::verdict::Refusal;
 use std::alloc::{AllocError, Global};
@@ -36,6 +37,16 @@ pub(crate) fn pending_room(alloc: Global) -> Result<Vec<Named>, Refusal>
 {
     match Vec::with_capacity(alloc, MOST_PENDING) {
         Ok(pending) => Ok(pending),
+        Err(AllocError) => Err(Refusal::OutOfMemory),
+    }
+}
+
+/// The memory of the journal.
+fn journal_room(alloc: Global) -> Result<JournalRoom, Refusal>
+    ensures refusal { IfErr result (λ refusal. refusal ≡ Refusal.OutOfMemory) }
+{
+    match JournalRoom::new(alloc) {
+        Ok(room) => Ok(room),
         Err(AllocError) => Err(Refusal::OutOfMemory),
     }
 }
@@ -62,6 +73,9 @@ fn close_roots<D: Disk>(slots: &mut D, root0: &mut D, root1: &mut D) -> Result<(
     ensures slots { OnOk result (D.state slots.new ≡ settled (D.state slots.old).contents) }
     ensures first { (D.state root0.old).contents ≡ [] → OnOk result (D.state root0.new ≡ settled (closed_gate ∷ [])) }
     ensures second { (D.state root1.old).contents ≡ [] → OnOk result (D.state root1.new ≡ settled (closed_gate ∷ [])) }
+    ensures slots_calls { CallsAtMost ⟦<D as Disk>⟧ 1 slots.old slots.new }
+    ensures first_calls { CallsAtMost ⟦<D as Disk>⟧ 2 root0.old root0.new }
+    ensures second_calls { CallsAtMost ⟦<D as Disk>⟧ 2 root1.old root1.new }
     ensures failures { D.failures slots.new + D.failures root0.new + D.failures root1.new ≡ counted result (D.failures slots.old + D.failures root0.old + D.failures root1.old) }
 {
     slots.sync()?;
@@ -70,10 +84,11 @@ fn close_roots<D: Disk>(slots: &mut D, root0: &mut D, root1: &mut D) -> Result<(
 }
 
 impl<D: Disk> Store<D> {
-    ghost use Rattle.hg_store.specs.Recovering.{made_of, tells_create};
+    ghost use Rattle.hg_store.specs.Recovering.{MakingCalls, made_of, tells_create};
 
-    /// Makes a store of no events on four devices without a byte. A refusal hands the devices back: `NotEmpty`, with
-    /// nothing changed, or `DeviceFault` or `OutOfMemory`. Of a stop inside it nothing is promised.
+    /// Makes a store of no events on four devices without a byte. A refusal hands the devices back: `NotEmpty` or
+    /// `OutOfMemory`, with nothing changed, or `DeviceFault`. All memory is taken before the first device is called, and then
+    /// seven calls are made at most. Of a stop inside it nothing is promised.
     ///
     /// All words stand in memory, so `frames`, the number of pages that a store with a file of pages may have in memory,
     /// changes nothing yet. It is 4 to 4,096.
@@ -92,6 +107,8 @@ impl<D: Disk> Store<D> {
         ensures empty { IfOk result (λ _. IsEmpty ⟦<D as Disk>⟧ devices) }
         ensures not_empty { IfErr result (λ e. e.0 ≡ CreateFault.NotEmpty → ¬ IsEmpty ⟦<D as Disk>⟧ devices × (e.1 ≡ devices)) }
         ensures else_empty { IfErr result (λ e. (e.0 ≡ CreateFault.NotEmpty → ⊥) → IsEmpty ⟦<D as Disk>⟧ devices) }
+        ensures memory { IfErr result (λ e. e.0 ≡ CreateFault.Refused Refusal.OutOfMemory → e.1 ≡ devices) }
+        ensures calls { MakingCalls ⟦<D as Disk>⟧ devices (made_of result) }
         ensures refusal { IfErr result (λ e. (e.0 ≡ CreateFault.NotEmpty) ⊎ ((e.0 ≡ CreateFault.Refused Refusal.DeviceFault) ⊎ (e.0 ≡ CreateFault.Refused Refusal.OutOfMemory))) }
         ensures device { failures_of ⟦<D as Disk>⟧ (made_of result) ≡ tells_create result (failures_of ⟦<D as Disk>⟧ devices) }
     {
@@ -106,6 +123,10 @@ impl<D: Disk> Store<D> {
             Ok(pending) => pending,
             Err(refusal) => return Err((CreateFault::Refused(refusal), devices)),
         };
+        let room = match journal_room(alloc) {
+            Ok(room) => room,
+            Err(refusal) => return Err((CreateFault::Refused(refusal), devices)),
+        };
         let mut devices = devices;
         if close_roots(&mut devices.slots, &mut devices.root0, &mut devices.root1).is_err() {
             return Err((CreateFault::Refused(Refusal::DeviceFault), devices));
@@ -116,7 +137,7 @@ impl<D: Disk> Store<D> {
             root0,
             root1,
         } = devices;
-        match Journal::create(alloc, journal) {
+        match Journal::create_in(room, journal) {
             Ok(journal) => Ok(Store {
                 journal,
                 slots,

@@ -2,9 +2,9 @@
 
 ghost use Rattle.std.specs.Prelude.{◌≡◌, ◌++◌, ◌∷◌, [], map, IsTrue, IfOk, IfErr, cond};
 ghost use Rattle.hg_model.specs.Contents.{Content};
-ghost use Rattle.hg_store.specs.Images.{EachImage};
-ghost use Rattle.hg_store.specs.Offers.{StepDone, durable_by, in_doubt_during};
-ghost use Rattle.hg_store.specs.Runs.{DriveDone};
+ghost use Rattle.hg_store.specs.Images.{EachImage, failures_of};
+ghost use Rattle.hg_store.specs.Offers.{StepDone, durable_by, failed_by, in_doubt_during};
+ghost use Rattle.hg_store.specs.Runs.{DriveDone, StepsDone};
 ghost use Rattle.hg_detect.specs.Memory.{content_of};
 ghost use Rattle.hg_store.specs.Store.{Backs, Stands};
 
@@ -27,6 +27,7 @@ impl<D: Disk> Store<D> {
     fn answered(&mut self, step: &Step) -> StepAnswer<D>
         ensures began { result.began.value ≡ self.old }
         ensures done { StepDone self.old self.new step.now result.result }
+        ensures device { failures_of ⟦<D as Disk>⟧ self.new.devices ≡ failed_by result.result (failures_of ⟦<D as Disk>⟧ self.old.devices) }
         ensures backs { (start : Content) → IsTrue D.is_honest → Backs ⟦<D as Disk>⟧ self.old start
             → Backs ⟦<D as Disk>⟧ self.new (durable_by result.result start (content_of self.old.detector)) }
         ensures images { (start : Content) → IsTrue D.is_honest → Backs ⟦<D as Disk>⟧ self.old start
@@ -54,6 +55,10 @@ impl<D: Disk> Store<D> {
     ) -> Result<Vec<StepAnswer<D>>, Refusal>
         ensures run { IsTrue D.is_honest → IfOk result (λ answers. (start : Content) → Backs ⟦<D as Disk>⟧ self.old start
             → DriveDone ⟦<D as Disk>⟧ start self.old self.new (done.now ++ last.now ∷ []) (map (λ a. (a.began.value, a.result)) answers.items)) }
+
+        // Whatever the devices are, each step has one answer, and leads to where the next one began.
+        ensures each { IfOk result (λ answers. StepsDone ⟦<D as Disk>⟧ self.old self.new (done.now ++ last.now ∷ []) (map (λ a. (a.began.value, a.result)) answers.items)) }
+
         ensures err { IfErr result (λ refusal. (self.new ≡ self.old) × (refusal ≡ cond self.old.is_broken Refusal.Broken Refusal.OutOfMemory)) }
         ensures broken { IsTrue self.old.is_broken → IfErr result (λ refusal. refusal ≡ Refusal.Broken) }
     {

@@ -1,14 +1,15 @@
 //! Recovering a store.
 
-ghost use Rattle.std.specs.Prelude.{◌≡◌, ◌⊎◌, ◌<◌, ◌≤◌, ◌^◌, [], ℕ, List, Ok, Err, Some, None, IsTrue, IfOk, IfErr, OnOk, false};
+ghost use Rattle.std.specs.Prelude.{◌≡◌, ◌⊎◌, ◌<◌, ◌≤◌, ◌+◌, ◌*◌, ◌^◌, [], ℕ, List, Ok, Err, Some, None, IsTrue, IfOk, IfErr, OnErr, OnOk, false, length};
 ghost use Rattle.hg_model.specs.Contents.{Content};
 ghost use Rattle.hg_model.specs.Change.{after, empty_content, followed};
 ghost use Rattle.hg_model.specs.declared.event.Named.{Named as NamedOf};
 ghost use Rattle.hg_sets.specs.declared.fault.SetFault.TheVariants as SetFault;
 ghost use Rattle.hg_detect.specs.Making.{Asks, sets_asked};
+ghost use Rattle.hg_disk.specs.Calls.{CallsAtMost};
 ghost use Rattle.hg_disk.specs.State.{IsImage, counted, settled};
 ghost use Rattle.hg_disk.specs.Moments.{LeavesOnly};
-ghost use Rattle.hg_gate.specs.Batches.{IsClosed};
+ghost use Rattle.hg_gate.specs.Batches.{IsClosed, IsLog};
 ghost use Rattle.hg_store.specs.Images.{EachImage, HasContent, IsLeft, failures_of, read_of};
 ghost use Rattle.hg_journal.specs.Journal.{IsJournal, failed_after};
 ghost use Rattle.hg_store.specs.Recovering.{HasSets, IsAccepted, IsOfRecovery, IsTooSmall, Settled, Stay};
@@ -32,6 +33,10 @@ use std::alloc::Global;
 fn sync_all<D: Disk>(devices: &mut Devices<D>) -> Result<(), DiskFault>
     ensures settled { OnOk result (Settled ⟦<D as Disk>⟧ devices.old devices.new) }
     ensures failures { failures_of ⟦<D as Disk>⟧ devices.new ≡ counted result (failures_of ⟦<D as Disk>⟧ devices.old) }
+    ensures journal_calls { CallsAtMost ⟦<D as Disk>⟧ 1 devices.old.journal devices.new.journal }
+    ensures slots_calls { CallsAtMost ⟦<D as Disk>⟧ 1 devices.old.slots devices.new.slots }
+    ensures first_calls { CallsAtMost ⟦<D as Disk>⟧ 1 devices.old.root0 devices.new.root0 }
+    ensures second_calls { CallsAtMost ⟦<D as Disk>⟧ 1 devices.old.root1 devices.new.root1 }
     ensures stay { Stay ⟦<D as Disk>⟧ devices.old devices.new }
 {
     devices.journal.sync()?;
@@ -45,6 +50,7 @@ fn check_closed<D: Disk>(root: &mut D) -> Result<(), Refusal>
     ensures closed { IsTrue D.is_honest → OnOk result (IsClosed (D.state root.old).contents) }
     ensures damaged { IsTrue D.is_honest → result ≡ Err Refusal.Damaged → ¬ IsClosed (D.state root.old).contents }
     ensures refusal { IfErr result (λ refusal. (refusal ≡ Refusal.Damaged) ⊎ (refusal ≡ Refusal.DeviceFault)) }
+    ensures calls { CallsAtMost ⟦<D as Disk>⟧ 1 root.old root.new }
     ensures device { D.failures root.new ≡ failed_after result (D.failures root.old) }
     ensures state { D.state root.new ≡ D.state root.old }
     ensures any_moment { LeavesOnly ⟦<D as Disk>⟧ root.old root.new (IsImage (D.state root.old)) }
@@ -70,6 +76,10 @@ fn settle<D: Disk>(devices: &mut Devices<D>) -> Result<(), Refusal>
     ensures damaged { IsTrue D.is_honest → result ≡ Err Refusal.Damaged → (c : Content) → ¬ HasContent (read_of ⟦<D as Disk>⟧ devices.old) c }
     ensures refusal { IfErr result (λ refusal. (refusal ≡ Refusal.Damaged) ⊎ (refusal ≡ Refusal.DeviceFault)) }
     ensures device { failures_of ⟦<D as Disk>⟧ devices.new ≡ failed_after result (failures_of ⟦<D as Disk>⟧ devices.old) }
+    ensures journal_calls { CallsAtMost ⟦<D as Disk>⟧ 1 devices.old.journal devices.new.journal }
+    ensures slots_calls { CallsAtMost ⟦<D as Disk>⟧ 1 devices.old.slots devices.new.slots }
+    ensures first_calls { CallsAtMost ⟦<D as Disk>⟧ 2 devices.old.root0 devices.new.root0 }
+    ensures second_calls { CallsAtMost ⟦<D as Disk>⟧ 2 devices.old.root1 devices.new.root1 }
     ensures stay { Stay ⟦<D as Disk>⟧ devices.old devices.new }
 {
     if sync_all(devices).is_err() {
@@ -83,6 +93,7 @@ fn settle<D: Disk>(devices: &mut Devices<D>) -> Result<(), Refusal>
 fn follow(detector: &mut MemoryDetector, named: &Named) -> Result<(), Refusal>
     requires whole { IsWhole detector.old }
     ensures accepted { OnOk result (IsAccepted (content_of detector.old) named.now × (content_of detector.new ≡ after (content_of detector.old) named.now)) }
+    ensures unchanged { OnErr result (content_of detector.new ≡ content_of detector.old) }
     ensures asked { OnOk result (Asks detector.old.sets (sets_asked (content_of detector.old) named.now.event) None detector.new.sets) }
     ensures few { OnOk result ((content_of detector.old).events < 2 ^ 58) }
     ensures damaged { result ≡ Err Refusal.Damaged → ¬ IsAccepted (content_of detector.old) named.now }
@@ -115,6 +126,7 @@ fn replay<D: Disk>(journal: &mut Journal<D>, detector: &mut MemoryDetector) -> R
     ensures whole { IsWhole detector.new }
     ensures works { is_broken journal.new ≡ false }
     ensures refusal { IfErr result IsOfRecovery }
+    ensures calls { CallsAtMost ⟦<D as Disk>⟧ (2 * (content_of detector.new).events + 2) (disk_of journal.old) (disk_of journal.new) }
     ensures device { D.failures (disk_of journal.new) ≡ failed_after result (D.failures (disk_of journal.old)) }
     ensures state { D.state (disk_of journal.new) ≡ D.state (disk_of journal.old) }
     ensures any_moment { LeavesOnly ⟦<D as Disk>⟧ (disk_of journal.old) (disk_of journal.new) (IsImage (D.state (disk_of journal.old))) }
@@ -129,12 +141,15 @@ fn replay<D: Disk>(journal: &mut Journal<D>, detector: &mut MemoryDetector) -> R
 }
 
 impl<D: Disk> Store<D> {
-    ghost use Rattle.hg_store.specs.Recovering.{made_of, tells_recover};
+    ghost use Rattle.hg_store.specs.Recovering.{RecoveryCalls, made_of, tells_recover};
 
     /// The store that four devices hold, with nothing pending. First each device is synced, so that what it reads is durable;
     /// then the journal is read in pieces, from its first event on. A refusal hands the devices back: `Damaged` where their
     /// bytes have no content, `FullSets` where a table of `caps.sets` sets is too small for it, `DeviceFault` where a device
     /// failed, `OutOfMemory`. A stop inside it leaves images that there were before.
+    ///
+    /// It calls the slots once and each root twice, at most, and an honest journal once for each batch, twice for each event and
+    /// five times more.
     ///
     /// `frames` changes nothing yet. It is 4 to 4,096.
     pub fn recover(
@@ -153,6 +168,10 @@ impl<D: Disk> Store<D> {
         ensures full { IsTrue D.is_honest → IfErr result (λ e. e.0 ≡ Refusal.FullSets → IsTooSmall caps.sets (D.state devices.journal).contents) }
         ensures refusal { IfErr result (λ e. IsOfRecovery e.0) }
         ensures device { failures_of ⟦<D as Disk>⟧ (made_of result) ≡ tells_recover result (failures_of ⟦<D as Disk>⟧ devices) }
+
+        ensures calls { RecoveryCalls ⟦<D as Disk>⟧ devices (made_of result) }
+        ensures journal_calls { IsTrue D.is_honest → (bodies : List (List ℕ)) → IsLog (D.state devices.journal).contents bodies
+            → IfOk result (λ store. CallsAtMost ⟦<D as Disk>⟧ (length bodies + 2 * (content_of store.detector).events + 5) devices.journal store.devices.journal) }
 
         // A crash at any moment leaves an image that there was before, and so it does afterwards.
         ensures images { EachImage ⟦<D as Disk>⟧ devices (made_of result) (IsLeft ⟦<D as Disk>⟧ devices) }

@@ -1,10 +1,11 @@
 //! The store.
 
-ghost use Rattle.std.specs.Prelude.{◌≡◌, ◌≢◌, ◌⊎◌, ◌≤◌, ◌-◌, [], List, Ok, Err, length, take, drop, false, true, IsTrue, OnOk, IfOk, IfErr, cond};
+ghost use Rattle.std.specs.Prelude.{◌≡◌, ◌≢◌, ◌⊎◌, ◌≤◌, ◌-◌, ◌*◌, [], List, Ok, Err, length, take, drop, false, true, IsTrue, OnOk, IfOk, IfErr, cond};
 ghost use Rattle.hg_model.specs.Contents.{Content};
 ghost use Rattle.hg_model.specs.Verdicts as rules;
 ghost use Rattle.hg_model.specs.declared.event.Named.{Named as NamedOf};
 ghost use Rattle.hg_detect.specs.Answering.{done};
+ghost use Rattle.hg_disk.specs.Calls.{CallsAtMost};
 ghost use Rattle.hg_store.specs.Images.{EachImage, IsLeft, failures_of};
 ghost use Rattle.hg_journal.specs.Journal.{IsJournal, IsOfReading, failed_after};
 ghost use Rattle.hg_store.specs.Offers.{CommitDone, OfferDone, StepDone, durable_after, durable_by, failed_by, in_doubt_during};
@@ -84,7 +85,7 @@ impl<D: Disk> Store<D> {
     /// Offers an event. It is accepted, or it was sent before, or it is refused; the first refusal that applies is
     /// answered: `Broken`, those of the trace rules, `FullPending` where 1,024 events wait for a commit, and then
     /// `FullSets` and `OutOfMemory`. A refusal leaves the content and what is pending as they were; the last two may leave some of
-    /// the event's sets in the table.
+    /// the event's sets in the table: those that come before the one that was refused.
     pub fn offer(&mut self, named: &Named) -> Result<Answer, Refusal>
         ensures done { OfferDone self.old self.new named.now result }
         ensures backs { (start : Content) → Backs ⟦<D as Disk>⟧ self.old start → Backs ⟦<D as Disk>⟧ self.new start }
@@ -105,10 +106,11 @@ impl<D: Disk> Store<D> {
         Ok(Answer::Accepted)
     }
 
-    /// Makes all accepted events durable, and answers their count. With nothing pending it calls no device. It takes
-    /// no memory. A crash during it leaves the events of the last commit, or all accepted ones.
+    /// Makes all accepted events durable, and answers their count. It calls the journal four times at most, and with nothing
+    /// pending no device. It takes no memory. A crash during it leaves the events of the last commit, or all accepted ones.
     pub fn commit(&mut self) -> Result<u64, Refusal>
         ensures done { CommitDone self.old self.new result }
+        ensures calls { CallsAtMost ⟦<D as Disk>⟧ 4 self.old.devices.journal self.new.devices.journal }
         ensures device { failures_of ⟦<D as Disk>⟧ self.new.devices ≡ failed_after result (failures_of ⟦<D as Disk>⟧ self.old.devices) }
         ensures backs { (start : Content) → IsTrue D.is_honest → Backs ⟦<D as Disk>⟧ self.old start
             → Backs ⟦<D as Disk>⟧ self.new (durable_after result start (content_of self.old.detector)) }
@@ -218,7 +220,8 @@ impl<D: Disk> Store<D> {
     }
 
     /// Durable events of the journal, at most `max`, from the one numbered `from` on, where the first is number 1 (and 0 is
-    /// read as 1). It reads the journal from its beginning on, and takes memory for the answer and for one batch.
+    /// read as 1). It reads the journal from its beginning on, in two device calls an event at most, and takes memory for the
+    /// answer and for one batch.
     pub fn durable_events(
         &mut self,
         alloc: Global,
@@ -233,6 +236,7 @@ impl<D: Disk> Store<D> {
         ensures refusal { IfErr result (λ refusal. IsOfReading refusal ⊎ (refusal ≡ Refusal.Broken)) }
         ensures device { failures_of ⟦<D as Disk>⟧ self.new.devices ≡ failed_after result (failures_of ⟦<D as Disk>⟧ self.old.devices) }
         ensures rest { SameButDevices self.old self.new }
+        ensures calls { CallsAtMost ⟦<D as Disk>⟧ (2 * self.old.durable) self.old.devices.journal self.new.devices.journal }
         ensures backs { (start : Content) → Backs ⟦<D as Disk>⟧ self.old start → Backs ⟦<D as Disk>⟧ self.new start }
         ensures images { EachImage ⟦<D as Disk>⟧ self.old.devices self.new.devices (IsLeft ⟦<D as Disk>⟧ self.old.devices) }
     {
@@ -267,6 +271,7 @@ impl<D: Disk> Store<D> {
     /// One step.
     pub fn step(&mut self, step: &Step) -> StepResult
         ensures done { StepDone self.old self.new step.now result }
+        ensures calls { CallsAtMost ⟦<D as Disk>⟧ 4 self.old.devices.journal self.new.devices.journal }
         ensures device { failures_of ⟦<D as Disk>⟧ self.new.devices ≡ failed_by result (failures_of ⟦<D as Disk>⟧ self.old.devices) }
         ensures backs { (start : Content) → IsTrue D.is_honest → Backs ⟦<D as Disk>⟧ self.old start
             → Backs ⟦<D as Disk>⟧ self.new (durable_by result start (content_of self.old.detector)) }

@@ -4,7 +4,7 @@ use Rattle.hg_model.specs.declared.event.Named.{Named}
 use Rattle.hg_journal.specs.Reading.{disk_of}
 use Rattle.hg_journal.proofs.Collecting.{at_last, found_more, passed_more, stopped, unless_damaged}
 use Rattle.hg_journal.proofs.Journaling.{bytes_now}
-use Rattle.hg_journal.proofs.Staying.{then}
+use Rattle.hg_disk.proofs.Staying.{then}
 use Rattle.hg_journal.proofs.collect.collect.Goals as goal
 
 pub returns-clause-events : goal.returns-clause-events
@@ -50,6 +50,7 @@ loop-number-preserved g c =
       works = search rules;
       state = c.next.ensures.state ∙ l.invariant.state;
       moments = then g.D.Disk (disk_of c.args.journal.now) (disk_of l.journal) (disk_of c.next.new.self) l.invariant.moments c.next.ensures.any_moment;
+      calls = let one = c.next.ensures.calls in let before = l.invariant.calls in omega (arith, one, before);
       failures = search rules;
       keeps = λ events keeps. c.next.ensures.keeps events (l.invariant.keeps events keeps);
       within = search rules;
@@ -71,6 +72,7 @@ loop-number-preserved-in-Continue-branch-4 g c =
       works = search rules;
       state = c.next.ensures.state ∙ l.invariant.state;
       moments = then g.D.Disk (disk_of c.args.journal.now) (disk_of l.journal) (disk_of c.next.new.self) l.invariant.moments c.next.ensures.any_moment;
+      calls = let one = c.next.ensures.calls in let before = l.invariant.calls in omega (arith, one, before);
       failures = search rules;
       keeps = λ events keeps. c.next.ensures.keeps events (l.invariant.keeps events keeps);
       within = search rules;

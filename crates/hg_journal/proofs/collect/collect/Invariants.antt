@@ -1,5 +1,6 @@
-use Rattle.std.proofs.Common.{◌≡◌, ◌-◌, ◌≤◌, List, length, false, IsTrue}
+use Rattle.std.proofs.Common.{◌≡◌, ◌-◌, ◌*◌, ◌≤◌, List, length, false, IsTrue}
 use Rattle.hg_model.specs.declared.event.Named.{Named}
+use Rattle.hg_disk.specs.Calls.{CallsAtMost}
 use Rattle.hg_disk.specs.State.{IsImage}
 use Rattle.hg_disk.specs.Moments.{LeavesOnly}
 use Rattle.hg_journal.specs.Reading.{Keeps, disk_of, is_broken}
@@ -11,6 +12,7 @@ invariant-loop-number g l = record {
   works : is_broken l.journal ≡ false;
   state : g.D.Disk.state (disk_of l.journal) ≡ g.D.Disk.state (disk_of l.fn.journal);
   moments : LeavesOnly g.D.Disk (disk_of l.fn.journal) (disk_of l.journal) (IsImage (g.D.Disk.state (disk_of l.fn.journal)));
+  calls : CallsAtMost g.D.Disk (2 * l.number) (disk_of l.fn.journal) (disk_of l.journal);
   failures : g.D.Disk.failures (disk_of l.journal) ≡ g.D.Disk.failures (disk_of l.fn.journal);
   keeps : (events : List Named) → Keeps l.fn.journal events → Keeps l.journal events;
   within : l.number ≤ l.fn.count;

@@ -5,7 +5,7 @@ use Rattle.hg_store.specs.Recovering.{IsTooSmall}
 use Rattle.hg_journal.specs.Reading.{disk_of}
 use Rattle.hg_store.proofs.Replaying.{no_content, read_more, too_small}
 use Rattle.hg_journal.proofs.Journaling.{bytes_now}
-use Rattle.hg_journal.proofs.Staying.{then}
+use Rattle.hg_disk.proofs.Staying.{then}
 use Rattle.hg_store.proofs.recover.replay.Goals as goal
 
 pub returns-in_err-named-clause-any_moment : goal.returns-in_err-named-clause-any_moment
@@ -59,6 +59,7 @@ loop-reader-preserved g c = record {
   works = search rules;
   state = c.next.ensures.state ∙ c.loop-reader.invariant.state;
   moments = then g.D.Disk (disk_of c.args.journal.now) (disk_of c.loop-reader.journal) (disk_of c.next.new.self) c.loop-reader.invariant.moments c.next.ensures.any_moment;
+  calls = search rules;
   failures = search rules;
   read = λ bodies honest opens.
       let read = c.loop-reader.invariant.read bodies honest opens in

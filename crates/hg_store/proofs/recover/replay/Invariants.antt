@@ -1,4 +1,5 @@
-use Rattle.std.proofs.Common.{◌≡◌, ◌-◌, ◌^◌, ℕ, List, false, IsTrue}
+use Rattle.std.proofs.Common.{◌≡◌, ◌-◌, ◌*◌, ◌^◌, ℕ, List, false, IsTrue}
+use Rattle.hg_disk.specs.Calls.{CallsAtMost}
 use Rattle.hg_disk.specs.State.{IsImage}
 use Rattle.hg_disk.specs.Moments.{LeavesOnly}
 use Rattle.hg_journal.specs.Reading.{Opens, disk_of, is_broken}
@@ -12,6 +13,7 @@ invariant-loop-reader g l = record {
   works : is_broken l.journal ≡ false;
   state : g.D.Disk.state (disk_of l.journal) ≡ g.D.Disk.state (disk_of l.fn.journal);
   moments : LeavesOnly g.D.Disk (disk_of l.fn.journal) (disk_of l.journal) (IsImage (g.D.Disk.state (disk_of l.fn.journal)));
+  calls : CallsAtMost g.D.Disk (2 * (content_of l.detector).events) (disk_of l.fn.journal) (disk_of l.journal);
   failures : g.D.Disk.failures (disk_of l.journal) ≡ g.D.Disk.failures (disk_of l.fn.journal);
   read : (bodies : List (List ℕ)) → IsTrue g.D.Disk.is_honest → Opens l.fn.journal bodies → HasRead l.journal l.reader l.fn.detector l.detector;
 }

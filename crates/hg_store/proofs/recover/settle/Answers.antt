@@ -1,4 +1,4 @@
-use Rattle.hg_journal.proofs.Staying.{same}
+use Rattle.hg_disk.proofs.Staying.{same}
 use Rattle.hg_store.proofs.Staying.{stay_then}
 use Rattle.hg_store.proofs.recover.settle.Goals as goal
 

@@ -1,5 +1,5 @@
 use Rattle.hg_disk.proofs.Moments.{sync_leaves}
-use Rattle.hg_journal.proofs.Staying.{same}
+use Rattle.hg_disk.proofs.Staying.{same}
 use Rattle.hg_store.proofs.recover.sync_all.Goals as goal
 
 pub returns-in_err-sync-clause-stay : goal.returns-in_err-sync-clause-stay

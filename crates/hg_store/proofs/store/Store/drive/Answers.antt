@@ -4,6 +4,7 @@ use Rattle.hg_model.specs.declared.event.Event.TheVariants.{Fork}
 use Rattle.hg_store.specs.declared.steps.Step.{Step}
 use Rattle.hg_store.specs.declared.steps.Step.TheVariants.{Offer}
 use Rattle.hg_store.proofs.Runs.{drive_turn}
+use Rattle.hg_store.proofs.Stepping.{steps_turn}
 use Rattle.hg_store.proofs.store.Store.drive.Goals as goal
 
 pub loop-step-preserved : goal.loop-step-preserved
@@ -16,6 +17,9 @@ loop-step-preserved g c =
           (take i c.args.done.now) (take (i + 1) c.args.done.now) c.loop-step.answers.items c.push_reserved.new.self.items c.answered.result
           (take_more c.args.done.now i any c.loop-step-test.true) c.push_reserved.ensures.items c.answered.ensures.began refl (c.loop-step.invariant.so_far honest start backs) c.answered.ensures.done
           (λ d b. c.answered.ensures.backs d honest b) (λ d b. c.answered.ensures.images d honest b);
+      steps = steps_turn g.D.Disk c.loop-step.self c.answered.new.self step c.answered.result.result (λ a. a.began.value) (λ a. a.result) c.args.self.now
+          (take i c.args.done.now) (take (i + 1) c.args.done.now) c.loop-step.answers.items c.push_reserved.new.self.items c.answered.result
+          (take_more c.args.done.now i any c.loop-step-test.true) c.push_reserved.ensures.items c.answered.ensures.began refl c.loop-step.invariant.steps c.answered.ensures.done c.answered.ensures.device;
       count = search rules;
       room = search rules;
     }
@@ -26,3 +30,10 @@ returns-clause-run g c =
     (take c.loop-step.step-index c.args.done.now) (c.args.done.now ++ c.args.last.now ∷ []) c.loop-step.answers.items c.push_reserved-2.new.self.items c.answered-2.result
     (ap (λ (steps : List Step). steps ++ c.args.last.now ∷ []) (sym (take_all c.loop-step.step-index c.args.done.now (search rules)))) c.push_reserved-2.ensures.items c.answered-2.ensures.began refl
     (c.loop-step.invariant.so_far honest start backs) c.answered-2.ensures.done (λ d b. c.answered-2.ensures.backs d honest b) (λ d b. c.answered-2.ensures.images d honest b)
+
+pub returns-clause-each : goal.returns-clause-each
+returns-clause-each g c =
+    steps_turn g.D.Disk c.loop-step.self c.answered-2.new.self c.args.last.now c.answered-2.result.result (λ a. a.began.value) (λ a. a.result) c.args.self.now
+    (take c.loop-step.step-index c.args.done.now) (c.args.done.now ++ c.args.last.now ∷ []) c.loop-step.answers.items c.push_reserved-2.new.self.items c.answered-2.result
+    (ap (λ (steps : List Step). steps ++ c.args.last.now ∷ []) (sym (take_all c.loop-step.step-index c.args.done.now (search rules)))) c.push_reserved-2.ensures.items c.answered-2.ensures.began refl
+    c.loop-step.invariant.steps c.answered-2.ensures.done c.answered-2.ensures.device

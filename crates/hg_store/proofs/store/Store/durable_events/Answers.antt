@@ -7,7 +7,7 @@ use Rattle.hg_journal.specs.Reading.{disk_of}
 use Rattle.hg_journal.proofs.Journals.{one_reading}
 use Rattle.hg_journal.proofs.Journaling.{bytes_now}
 use Rattle.hg_store.proofs.Moments.{all_still}
-use Rattle.hg_journal.proofs.Staying.{same}
+use Rattle.hg_disk.proofs.Staying.{same}
 use Rattle.hg_store.proofs.Staying.{stay_images}
 use Rattle.hg_store.proofs.store.Store.durable_events.Goals as goal
 

@@ -1,5 +1,8 @@
-use Rattle.std.proofs.Common.{rules, Some, refl, sym, ◌∙◌, ap}
+use Rattle.std.proofs.Common.{rules, ◌≡◌, arith, subst, Err, Some, refl, sym, ◌∙◌, ap}
 use Rattle.hg_model.specs.Contents.{Content}
+use Rattle.hg_model.specs.declared.verdict.Refusal.{Refusal}
+use Rattle.hg_model.specs.declared.verdict.Refusal.TheVariants.{OutOfMemory}
+use Rattle.hg_detect.specs.Making.{AsksBy, sets_asked}
 use Rattle.hg_store.specs.Shown.{Shown}
 use Rattle.hg_journal.specs.Reading.{disk_of}
 use Rattle.hg_detect.specs.Memory.{content_of}
@@ -14,7 +17,26 @@ returns-clause-done g c = rw (← c.self.view_is) (record {
   table = record {
     accepted = λ _. c.in_ok-accept.ensures.sets c.self.invariant.whole;
     full = λ _ is. absurd (cc);
+    memory = λ is. absurd (cc);
     same = λ not. absurd (not refl);
+  };
+  pending = search rules;
+  devices = search rules;
+  durable = search rules;
+  is_broken = search rules;
+})
+
+pub returns-in_err-accept-clause-done : goal.returns-in_err-accept-clause-done
+returns-in_err-accept-clause-done g c = rw (← c.self.view_is) (record {
+  answer = search rules;
+  live = search rules;
+  table = record {
+    accepted = search rules;
+    full = search rules;
+    memory = λ is.
+        let same : c.in_err-accept.field-0.0 ≡ OutOfMemory = grind arith in
+        subst (λ (r : Refusal). AsksBy c.self.inside.detector.sets (sets_asked (content_of c.self.inside.detector) c.args.named.now.event) (Err r) c.accept.new.self.sets) same (c.in_err-accept.ensures.sets c.self.invariant.whole);
+    same = search rules;
   };
   pending = search rules;
   devices = search rules;

@@ -8,7 +8,7 @@ use Rattle.hg_detect.specs.Memory.{content_of}
 use Rattle.hg_store.proofs.Contents.{counted_all}
 use Rattle.hg_journal.proofs.Journaling.{bytes_now, each_image_has}
 use Rattle.hg_store.proofs.Making.{fresh, settled_leaves, settled_reads, settled_self}
-use Rattle.hg_journal.proofs.Staying.{same, then}
+use Rattle.hg_disk.proofs.Staying.{same, then}
 use Rattle.hg_store.proofs.Staying.{stay_images, stay_then}
 use Rattle.hg_store.proofs.store.Store.recover.Goals as goal
 
