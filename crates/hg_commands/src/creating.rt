@@ -48,7 +48,7 @@ fn make_and_print<D: Disk, W: Write>(
     alloc: Global,
     devices: Devices<D>,
     output: &mut Output<W>,
-    moments: &mut Trail<Moment<D>>,
+    moments: &mut Trail<Moment<D, W>>,
 ) -> (Result<u8, Refusal>, Devices<D>)
     requires none { moments.old ≡ [] }
     ensures status { IfOk result.0 (λ s. (s ≡ 0) ⊎ (s ≡ 2)) }
@@ -91,7 +91,7 @@ pub fn create_store<D: Disk, W: Write, V: Write>(
     devices: Devices<D>,
     output: &mut Output<W>,
     faults: &mut Output<V>,
-) -> Outcome<D>
+) -> Outcome<D, W>
     ensures status { (result.status ≡ 0) ⊎ ((result.status ≡ 2) ⊎ (result.status ≡ 3)) }
     ensures durable { result.status ≡ 0 → (image : Image) → IsLeft ⟦<D as Disk>⟧ result.devices image → HasContent image empty_content }
     ensures created { result.status ≡ 0 → IsEmpty ⟦<D as Disk>⟧ devices × (read_of ⟦<D as Disk>⟧ result.devices ≡ empty_image)

@@ -57,7 +57,7 @@ fn acknowledge<D: Disk, W: Write>(
     store: &mut Store<D>,
     held: &mut Vec<u8>,
     output: &mut Output<W>,
-    moments: &mut Trail<Moment<D>>,
+    moments: &mut Trail<Moment<D, W>>,
 ) -> Result<(), Refusal>
     requires works { store.old.is_broken ≡ false }
     requires none { held.old.items ≡ [] }
@@ -79,7 +79,7 @@ fn count_accepted<D: Disk, W: Write>(
     fed: &mut Fed,
     held: &mut Vec<u8>,
     output: &mut Output<W>,
-    moments: &mut Trail<Moment<D>>,
+    moments: &mut Trail<Moment<D, W>>,
 ) -> Result<(), Refusal>
     requires works { store.old.is_broken ≡ false }
     requires none { held.old.items ≡ [] }
@@ -118,7 +118,7 @@ fn feed_reading<D: Disk, W: Write>(
     reading: &Reading,
     held: &mut Vec<u8>,
     output: &mut Output<W>,
-    moments: &mut Trail<Moment<D>>,
+    moments: &mut Trail<Moment<D, W>>,
 ) -> Result<Option<Ending>, Refusal>
     requires ready { IsReady store.old fed.old }
     requires room { fed.old.number + 1 < 2 ^ 64 }
@@ -153,7 +153,7 @@ fn feed_piece<D: Disk, W: Write>(
     piece: &[u8],
     held: &mut Vec<u8>,
     output: &mut Output<W>,
-    moments: &mut Trail<Moment<D>>,
+    moments: &mut Trail<Moment<D, W>>,
 ) -> Result<Option<Ending>, Refusal>
     requires ready { IsReady store.old fed.old }
     requires lines { reader.old.lines + length piece.now < 2 ^ 64 }
@@ -188,7 +188,7 @@ fn advance<D: Disk, R: Read, W: Write>(
     fed: &mut Fed,
     held: &mut Vec<u8>,
     output: &mut Output<W>,
-    moments: &mut Trail<Moment<D>>,
+    moments: &mut Trail<Moment<D, W>>,
 ) -> Result<Progress, Refusal>
     requires ready { IsReady store.old fed.old }
     requires some { 0 < length buffer.old }
@@ -224,7 +224,7 @@ fn finish<D: Disk, W: Write>(
     fed: &mut Fed,
     held: &mut Vec<u8>,
     output: &mut Output<W>,
-    moments: &mut Trail<Moment<D>>,
+    moments: &mut Trail<Moment<D, W>>,
 ) -> Result<Ending, Refusal>
     requires ready { IsReady store.old fed.old }
     requires lines { reader.lines + 1 < 2 ^ 64 }
@@ -254,7 +254,7 @@ fn feed_all<D: Disk, R: Read, W: Write>(
     input: &mut Input<R>,
     held: &mut Vec<u8>,
     output: &mut Output<W>,
-    moments: &mut Trail<Moment<D>>,
+    moments: &mut Trail<Moment<D, W>>,
 ) -> Result<Ending, Refusal>
     requires ready { IsReady store.old fed.old }
     requires start { fed.old.number ≡ 0 }
@@ -328,7 +328,7 @@ fn feed_store<D: Disk, R: Read, W: Write>(
     source: u16,
     input: &mut Input<R>,
     output: &mut Output<W>,
-    moments: &mut Trail<Moment<D>>,
+    moments: &mut Trail<Moment<D, W>>,
 ) -> Result<Ending, Refusal>
     requires works { store.old.is_broken ≡ false }
     requires pending { store.old.pending ≡ [] }
@@ -358,7 +358,7 @@ fn recover_and_feed<D: Disk, R: Read, W: Write>(
     frames: u16,
     input: &mut Input<R>,
     output: &mut Output<W>,
-    moments: &mut Trail<Moment<D>>,
+    moments: &mut Trail<Moment<D, W>>,
 ) -> (Result<Ending, Refusal>, Devices<D>)
     requires frames { (4 ≤ frames) × (frames ≤ 4096) }
     requires none { moments.old ≡ [] }
@@ -395,7 +395,7 @@ pub fn feed<D: Disk, R: Read, W: Write, V: Write>(
     input: &mut Input<R>,
     output: &mut Output<W>,
     faults: &mut Output<V>,
-) -> Outcome<D>
+) -> Outcome<D, W>
     requires { (4 ≤ frames) × (frames ≤ 4096) }
     ensures fed { (result.status ≡ 3 → ⊥) → (end : EndingOf) × (result.status ≡ status_of end) × FeedDone ⟦<D as Disk>⟧ input.old.calls input.new.calls source devices result.devices output.old.calls output.new.calls end }
     ensures quiet { (result.status ≡ 3 → ⊥) → Took faults.old.calls faults.new.calls [] }

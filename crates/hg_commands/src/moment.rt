@@ -6,7 +6,6 @@ ghost use Rattle.hg_commands.specs.Instants.{instant};
 use hg_disk::Disk;
 use hg_store::devices::Devices;
 use hg_store::store::Store;
-use hg_streams::call::WriteCall;
 use hg_streams::output::Output;
 use hg_streams::trail::Trail;
 use std::marker::Model;
@@ -15,38 +14,38 @@ use std::snapshot::Snapshot;
 /// The devices of a store and an output as they were at one moment. It has no bytes. Nothing but `of` makes one, and that
 /// borrows both at once: so each moment is one that there was, and of two of them the earlier one has the shorter histories.
 #[derive(Drop)]
-pub struct Moment<D: Disk> {
+pub struct Moment<D: Disk, W> {
     store: Snapshot<Store<D>>,
-    calls: Snapshot<Trail<WriteCall>>,
+    output: Snapshot<Output<W>>,
 }
 
-impl<D: Disk> Model for Moment<D> {
+impl<D: Disk, W> Model for Moment<D, W> {
     ghost use Rattle.hg_commands.specs.Instants.{Instant};
 
     ghost Value = { Instant D };
 
-    ghost view = { λ m. record { devices = m.store.value.devices; calls = m.calls.value } };
+    ghost view = { λ m. record { devices = m.store.value.devices; calls = m.output.value.calls } };
 }
 
-impl<D: Disk> Moment<D> {
+impl<D: Disk, W> Moment<D, W> {
     /// This moment.
-    pub fn of<W>(store: &Store<D>, output: &Output<W>) -> Moment<D>
+    pub fn of(store: &Store<D>, output: &Output<W>) -> Moment<D, W>
         ensures { result ≡ instant store.now.devices output.now.calls }
     {
         Moment {
             store: Snapshot::of(store),
-            calls: Snapshot::of(output.calls()),
+            output: Snapshot::of(output),
         }
     }
 }
 
 /// What a command that changes a store comes to.
 #[derive(Drop)]
-pub struct Outcome<D: Disk> {
+pub struct Outcome<D: Disk, W> {
     /// The exit status.
     pub status: u8,
     /// The devices of the store.
     pub devices: Devices<D>,
     /// Moments of the command, the newest first, which contracts alone see.
-    pub moments: Trail<Moment<D>>,
+    pub moments: Trail<Moment<D, W>>,
 }

@@ -32,13 +32,6 @@ impl<W> Output<W> {
     {
         &self.stream
     }
-
-    /// Its writes and flushes so far, which contracts alone see.
-    pub fn calls(&self) -> &Trail<WriteCall>
-        ensures { result.now ≡ self.now.calls }
-    {
-        &self.calls
-    }
 }
 
 impl<W: Write> Output<W> {
