@@ -11,6 +11,7 @@ use hg_store::store::Store;
 use hg_streams::input::Input;
 use hg_streams::output::Output;
 use std::alloc::{AllocError, Global};
+use std::io::Cursor;
 use std::process::Abort;
 use std::test::Fail;
 
@@ -22,20 +23,54 @@ const FED: &[u8] = b"resume 0\nack 256\nack 512\nack 600\nend events 600 races 0
 /// How much of that is printed when so many events were acknowledged.
 const ACKNOWLEDGED: [(usize, u64); 4] = [(0, 0), (17, 256), (25, 512), (33, 600)];
 
-/// The devices of a store that was just made.
-fn made(rt: &impl Abort, alloc: Global) -> Disks {
+/// Whether a command ended so.
+fn ended(rt: &impl Abort, status: u8, wanted: u8) {
+    assert_eq!(rt; status, wanted);
+}
+
+/// Whether a text was printed, and nothing else.
+fn printed(rt: &impl Abort, output: &Output<Vec<u8>>, text: &[u8]) {
+    assert_eq!(rt; output.stream().as_slice(), text);
+}
+
+/// Whether a disk reads so.
+fn has(rt: &impl Abort, disk: &MemDisk, bytes: &[u8]) {
+    assert_eq!(rt; disk.bytes(), bytes);
+}
+
+/// Whether the devices have the bytes of a new store.
+fn are_new(rt: &impl Abort, devices: &Devices<MemDisk>) {
+    has(rt, &devices.journal, b"HGJRNL1\n\x5A");
+    has(rt, &devices.slots, b"");
+    has(rt, &devices.root0, b"\x5A");
+    has(rt, &devices.root1, b"\x5A");
+}
+
+/// Makes a store on devices, and sees how that ends and what it prints.
+fn create(
+    rt: &impl Abort,
+    alloc: Global,
+    devices: Devices<MemDisk>,
+    wanted: u8,
+    text: &[u8],
+) -> Disks {
     let mut output = Output::new(Vec::new(alloc));
     let mut faults = Output::new(Vec::new(alloc));
-    let empty = Disks::new(alloc).into_devices();
     let Outcome {
         status,
         devices,
         moments: _,
-    } = create_store(alloc, empty, &mut output, &mut faults);
-    assert_eq!(rt; status, 0);
-    assert_eq!(rt; output.stream().as_slice(), b"created\n".as_slice());
-    assert_eq!(rt; faults.stream().as_slice(), b"".as_slice());
+    } = create_store(alloc, devices, &mut output, &mut faults);
+    ended(rt, status, wanted);
+    printed(rt, &output, text);
+    printed(rt, &faults, b"");
     Disks { devices }
+}
+
+/// The devices of a store that was just made.
+fn made(rt: &impl Abort, alloc: Global) -> Devices<MemDisk> {
+    let empty = Disks::new(alloc).into_devices();
+    create(rt, alloc, empty, 0, b"created\n").into_devices()
 }
 
 /// 600 lines.
@@ -72,98 +107,130 @@ fn recovered(alloc: Global, disks: Disks) -> Result<u64, Fail> {
 
 #[test]
 fn a_store_is_made_once(rt: HostRuntime) {
-    let alloc = rt.alloc();
-    let devices = made(&rt, alloc).into_devices();
-    assert_eq!(rt; devices.journal.bytes(), b"HGJRNL1\n\x5A".as_slice());
-    assert_eq!(rt; devices.slots.bytes(), b"".as_slice());
-    assert_eq!(rt; devices.root0.bytes(), b"\x5A".as_slice());
-    assert_eq!(rt; devices.root1.bytes(), b"\x5A".as_slice());
-    let mut output = Output::new(Vec::new(alloc));
-    let mut faults = Output::new(Vec::new(alloc));
+    let devices = made(&rt, rt.alloc());
+    are_new(&rt, &devices);
+    let again = create(&rt, rt.alloc(), devices, 2, b"not empty\n");
+    are_new(&rt, &again.devices);
+}
+
+const LISTED: &[u8] = b"resume 0\nack 3\nend events 3 races 1 segments 3\n\
+    race 1 event 3 write thread 1 word 0x0000000000001000 threads 0,1\n\
+    end events 3 races 1 segments 3\n\
+    segment 0 thread 0 after -\nsegment 1 thread 1 after 0\nsegment 2 thread 0 after 0\n";
+
+/// Feeds a trace to a new store, and lists what it has.
+fn feed_and_list(
+    rt: &impl Abort,
+    alloc: Global,
+    output: &mut Output<Vec<u8>>,
+    faults: &mut Output<Vec<u8>>,
+) {
+    let mut input = Input::new(RACE);
+    let devices = made(rt, alloc);
     let Outcome {
         status,
         devices,
         moments: _,
-    } = create_store(alloc, devices, &mut output, &mut faults);
-    assert_eq!(rt; status, 2);
-    assert_eq!(rt; output.stream().as_slice(), b"not empty\n".as_slice());
-    assert_eq!(rt; faults.stream().as_slice(), b"".as_slice());
-    assert_eq!(rt; devices.journal.bytes(), b"HGJRNL1\n\x5A".as_slice());
+    } = feed(alloc, devices, 3, 64, &mut input, output, faults);
+    ended(rt, status, 0);
+    let (status, devices) = store_reports(alloc, devices, 64, output, faults);
+    ended(rt, status, 0);
+    let (status, _) = store_graph(alloc, devices, 64, output, faults);
+    ended(rt, status, 0);
 }
 
 #[test]
 fn what_was_fed_is_listed(rt: HostRuntime) {
-    let alloc = rt.alloc();
-    let mut output = Output::new(Vec::new(alloc));
+    let mut output = Output::new(Vec::new(rt.alloc()));
+    let mut faults = Output::new(Vec::new(rt.alloc()));
+    feed_and_list(&rt, rt.alloc(), &mut output, &mut faults);
+    printed(&rt, &output, LISTED);
+    printed(&rt, &faults, b"");
+}
+
+/// The same devices, whose journal fails at its call `k`.
+fn failing(devices: Devices<MemDisk>, k: u64) -> Devices<FuseDisk<MemDisk>>
+    requires { 1 ≤ k }
+{
+    let Devices {
+        journal,
+        slots,
+        root0,
+        root1,
+    } = devices;
+    Devices {
+        journal: FuseDisk::once(journal, k),
+        slots: FuseDisk::once(slots, u64::MAX),
+        root0: FuseDisk::once(root0, u64::MAX),
+        root1: FuseDisk::once(root1, u64::MAX),
+    }
+}
+
+/// The devices below.
+fn whole(devices: Devices<FuseDisk<MemDisk>>) -> Disks {
+    let Devices {
+        journal,
+        slots,
+        root0,
+        root1,
+    } = devices;
+    Disks {
+        devices: Devices {
+            journal: journal.into_inner(),
+            slots: slots.into_inner(),
+            root0: root0.into_inner(),
+            root1: root1.into_inner(),
+        },
+    }
+}
+
+/// Sees that no event is lost that was told of: all are there, or those of the last commit that was told, or those of one more.
+fn keep_told(rt: &impl Abort, told: u64, events: u64) {
+    assert!(rt;
+        events == told || events.saturating_sub(told) == 256 || events == 600,
+        "{told} {events}"
+    );
+}
+
+/// Feeds 600 events to devices. Answers the status and what is left.
+fn feed_to(
+    rt: &impl Abort,
+    alloc: Global,
+    devices: Devices<FuseDisk<MemDisk>>,
+    text: &[u8],
+    output: &mut Output<Vec<u8>>,
+) -> (u8, Disks) {
+    let mut input = Input::new(text);
     let mut faults = Output::new(Vec::new(alloc));
-    let mut input = Input::new(RACE);
     let Outcome {
         status,
         devices,
         moments: _,
-    } = feed(
-        alloc,
-        made(&rt, alloc).into_devices(),
-        3,
-        64,
-        &mut input,
-        &mut output,
-        &mut faults,
-    );
-    assert_eq!(rt; status, 0);
-    let (status, devices) = store_reports(alloc, devices, 64, &mut output, &mut faults);
-    assert_eq!(rt; status, 0);
-    let (status, _) = store_graph(alloc, devices, 64, &mut output, &mut faults);
-    assert_eq!(rt; status, 0);
-    assert_eq!(rt;
-        output.stream().as_slice(),
-        b"resume 0\nack 3\nend events 3 races 1 segments 3\n\
-          race 1 event 3 write thread 1 word 0x0000000000001000 threads 0,1\n\
-          end events 3 races 1 segments 3\n\
-          segment 0 thread 0 after -\nsegment 1 thread 1 after 0\nsegment 2 thread 0 after 0\n"
-            .as_slice()
-    );
-    assert_eq!(rt; faults.stream().as_slice(), b"".as_slice());
+    } = feed(alloc, devices, 3, 64, &mut input, output, &mut faults);
+    if status == 0 {
+        printed(rt, &faults, b"");
+    } else {
+        ended(rt, status, 3);
+        printed(rt, &faults, b"fault 21\n");
+    }
+    (status, whole(devices))
 }
 
 /// Feeds 600 events to a new store whose journal fails at its call `k`. Whether it failed.
 fn feed_failing(rt: &impl Abort, alloc: Global, text: &[u8], k: u64) -> Result<bool, Fail>
     requires { 1 ≤ k }
 {
-    let made = made(rt, alloc).into_devices();
-    let devices = Devices {
-        journal: FuseDisk::once(made.journal, k),
-        slots: FuseDisk::once(made.slots, u64::MAX),
-        root0: FuseDisk::once(made.root0, u64::MAX),
-        root1: FuseDisk::once(made.root1, u64::MAX),
-    };
-    let mut input = Input::new(text);
     let mut output = Output::new(Vec::new(alloc));
-    let mut faults = Output::new(Vec::new(alloc));
-    let Outcome {
-        status,
-        devices,
-        moments: _,
-    } = feed(alloc, devices, 3, 64, &mut input, &mut output, &mut faults);
+    let devices = failing(made(rt, alloc), k);
+    let (status, disks) = feed_to(rt, alloc, devices, text, &mut output);
     let told = acknowledged(rt, output.stream().as_slice());
-    let devices = Devices {
-        journal: devices.journal.into_inner(),
-        slots: devices.slots.into_inner(),
-        root0: devices.root0.into_inner(),
-        root1: devices.root1.into_inner(),
-    };
-    let events = recovered(alloc, Disks { devices })?;
+    let events = recovered(alloc, disks)?;
     if status == 0 {
-        assert_eq!(rt; output.stream().as_slice(), FED);
-        assert_eq!(rt; (told, events), (600, 600));
+        printed(rt, &output, FED);
+        assert!(rt; told == 600 && events == 600);
         return Ok(false);
     }
-    assert_eq!(rt; status, 3);
-    assert_eq!(rt; faults.stream().as_slice(), b"fault 21\n".as_slice());
-    assert!(rt;
-        events == told || events.saturating_sub(told) == 256 || events == 600,
-        "{told} {events}"
-    );
+    keep_told(rt, told, events);
     Ok(true)
 }
 
@@ -181,44 +248,37 @@ fn what_was_acknowledged_is_there_after_each_failing_call(rt: HostRuntime) -> Re
     Ok(())
 }
 
-/// Feeds 600 events to a new store, with so much room for what is printed. Each event that was acknowledged is there.
-fn feed_to_full_output(
-    rt: &impl Abort,
-    alloc: Global,
-    text: &[u8],
-    page: &mut [u8],
-) -> Result<(), Fail> {
-    let room = page.len();
+/// How many bytes a page has.
+const PAGE: usize = 80;
+
+/// Feeds 600 events to a new store, with room for so many bytes of what is printed. Each event that was acknowledged is there.
+fn feed_to_full_output(rt: &impl Abort, alloc: Global, text: &[u8], room: usize) -> Result<(), Fail>
+    requires { room ≤ 80 }
+{
+    let mut page = Cursor::new([0; PAGE]);
+    page.set_position((PAGE - room) as u64);
     let mut input = Input::new(text);
     let mut output = Output::new(page);
     let mut faults = Output::new(Vec::new(alloc));
-    let devices = made(rt, alloc).into_devices();
+    let devices = made(rt, alloc);
     let Outcome {
         status,
         devices,
         moments: _,
     } = feed(alloc, devices, 3, 64, &mut input, &mut output, &mut faults);
-    let disks = Disks { devices };
-    assert_eq!(rt; status, 3);
-    assert_eq!(rt; faults.stream().as_slice(), b"fault 21\n".as_slice());
-    let events = recovered(alloc, disks)?;
-    let mut told = 0;
-    for (len, count) in ACKNOWLEDGED {
-        if room >= len {
-            told = count;
-        }
-    }
+    ended(rt, status, 3);
+    printed(rt, &faults, b"fault 21\n");
+    let told = acknowledged(rt, &output.stream().get_ref()[PAGE - room..]);
+    let events = recovered(alloc, Disks { devices })?;
     assert!(rt; events >= told, "{room} {events}");
     Ok(())
 }
 
 #[test]
-fn output_that_fails_ends_each_command(rt: HostRuntime) -> Result<(), Fail> {
+fn output_that_fails_ends_a_feeding(rt: HostRuntime) -> Result<(), Fail> {
     let text = writes(rt.alloc())?;
-    let mut page = [0; 80];
     for room in 0..FED.len() {
-        feed_to_full_output(&rt, rt.alloc(), text.as_slice(), &mut page[..room])?;
-        assert!(rt; FED.starts_with(&page[..room]));
+        feed_to_full_output(&rt, rt.alloc(), text.as_slice(), room)?;
     }
     Ok(())
 }
