@@ -1,5 +1,5 @@
 -- What was printed.
-use Rattle.std.proofs.Common.{◌≡◌, ℕ, ◌+◌, ◌<◌, List, [], ◌∷◌, ◌++◌, arith, inl, inr, ⊎_elim, refl, sym, ap, subst, ◌∙◌}
+use Rattle.std.proofs.Common.{◌≡◌, ℕ, ◌+◌, ◌<◌, Result, Ok, Err, OnErr, OnOk, List, [], ◌∷◌, ◌++◌, arith, inl, inr, ⊎_elim, refl, sym, ap, subst, ◌∙◌}
 use Rattle.std.proofs.lemmas.List.{append-nil, append_assoc}
 use Rattle.hg_streams.specs.declared.call.WriteCall.{WriteCall}
 use Rattle.hg_streams.specs.Calls.{failed_writes, taken, torn}
@@ -177,3 +177,30 @@ cause_by_flush reads reads_new first now new held rest goal r p is more =
     let same : failed_writes now ≡ failed_writes first = due_failed first now held rest goal p in
     let one : failed_writes new ≡ 1 + failed_writes now = ap failed_writes more in
     inr (is, inr (omega (arith, same, one)))
+
+-- a front of a front
+pub front_more : (first now : List WriteCall) (text more goal : List ℕ) → text ++ more ≡ goal → TookFront first now text → TookFront first now goal
+front_more first now text more goal whole f = record {
+  later = f.later;
+  since = f.since;
+  rest = f.rest ++ more;
+  front = sym (append_assoc (taken f.later ++ torn f.later) f.rest more) ∙ (ap (λ t. t ++ more) f.front ∙ whole);
+}
+
+-- a flush failed
+pub front_by_flush : (first now new : List WriteCall) (held rest goal : List ℕ) → new ≡ WriteCall.NotFlushed ∷ now → IsDue first now held rest goal → TookFront first new goal
+front_by_flush first now new held rest goal is p =
+    let f = front_due first now held rest goal p in
+    record { later = WriteCall.NotFlushed ∷ f.later; since = is ∙ ap (λ t. WriteCall.NotFlushed ∷ t) f.since; rest = f.rest; front = f.front }
+
+pub front_none : (old : List WriteCall) (goal : List ℕ) → TookFront old old goal
+front_none old goal = record { later = []; since = refl; rest = goal; front = refl }
+
+-- what holds anyway holds of each result
+pub always_ok : {T E : Type 0} {P : Type 0} (r : Result T E) → P → OnOk r P
+always_ok (Ok x) p = p
+always_ok (Err e) p = tt
+
+pub always_err : {T E : Type 0} {P : Type 0} (r : Result T E) → P → OnErr r P
+always_err (Ok x) p = tt
+always_err (Err e) p = p

@@ -116,6 +116,9 @@ pub fn print_segments<W: Write>(
     ensures printed { (first : List WriteCall) (rest goal : List ℕ)
         → IsDue first output.old.calls held.old.items (segments_text 0 segments.now ++ rest) goal
         → OnOk result (IsDue first output.new.calls held.new.items rest goal) }
+    ensures front { (first : List WriteCall) (rest goal : List ℕ)
+        → IsDue first output.old.calls held.old.items (segments_text 0 segments.now ++ rest) goal
+        → OnErr result (TookFront first output.new.calls goal) }
     ensures cause { IfErr result (λ r. HasWriteCause output.old.calls output.new.calls r) }
     ensures fault { failed_writes output.new.calls ≡ told result + failed_writes output.old.calls }
 {
