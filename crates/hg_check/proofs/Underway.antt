@@ -20,7 +20,7 @@ use Rattle.hg_check.specs.declared.checker.Ending.TheVariants.{Ended}
 use Rattle.hg_check.specs.Printing.{EachIsNeeded, IsDue, MayBe, ReadsTo, line_text, live_text, reports_text}
 use Rattle.hg_detect.specs.Memory.{IsWhole, content_of}
 use Rattle.hg_check.specs.Running.{Advances, EndsIn, Foretells, HasFew, HasRead, HasReports, MeetsEnd, Reaches, ReportsGrow, Stopped as StoppedAt}
-use Rattle.hg_check.proofs.Steps.{leads_grow, reports_grow_on, reports_stay}
+use Rattle.hg_check.proofs.Steps.{leads_grow, reports_stay}
 use Rattle.hg_check.proofs.Printed.{due_more}
 
 reports_text_on : (k : ℕ) (xs ys : List Report) → reports_text k (xs ++ ys) ≡ reports_text k xs ++ reports_text (k + length xs) ys

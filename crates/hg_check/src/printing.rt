@@ -16,7 +16,7 @@ use hg_model::report::Report;
 use hg_model::segment::Segment;
 use hg_model::verdict::Refusal;
 use hg_streams::output::Output;
-use hg_wire::lines::{put_bad_line, put_fault_line, put_refused_line, put_segment_line};
+use hg_wire::lines::{put_bad_line, put_refused_line, put_segment_line};
 use hg_wire::report::{put_end_line, put_report_line};
 use std::alloc::{AllocError, Global};
 use std::io::Write;
