@@ -57,8 +57,8 @@ settled : (reads : List ReadCall) (c d : Content) (end stop : Ending) (input : L
 settled reads c d end stop input ends m l =
     ⊎_elim
     (λ met. let none : m.more ≡ [] = m.over (met_some reads met.0 met.1) in
-        let is : input ≡ given met.0 = m.joined ∙ (ap (λ t. given reads ++ t) none ∙ (append-nil (given reads) ∙ (ap given met.1 ∙ append-nil (given met.0)))) in
-        checks_to_one (given met.0) c d end stop met.2 (subst (λ t. ChecksTo t d stop) is l))
+    let is : input ≡ given met.0 = m.joined ∙ (ap (λ t. given reads ++ t) none ∙ (append-nil (given reads) ∙ (ap given met.1 ∙ append-nil (given met.0)))) in
+    checks_to_one (given met.0) c d end stop met.2 (subst (λ t. ChecksTo t d stop) is l))
     (λ stopped. checks_to_one (given reads ++ m.more) c d end stop (stopped m.more) (subst (λ t. ChecksTo t d stop) m.joined l))
     ends
 

@@ -1,5 +1,5 @@
 -- Each trace text leads to something.
-use Rattle.std.proofs.Common.{◌≡◌, ◌⊎◌, ℕ, zero, suc, ◌+◌, ◌<◌, ◌≤◌, List, [], ◌∷◌, ◌++◌, length, get_or, Contains, Option, Some, None, Result, Ok, Err, refl, sym, ap, subst, inl, inr, ⊎_elim, arith}
+use Rattle.std.proofs.Common.{◌≡◌, ◌⊎◌, ℕ, zero, suc, ◌<◌, ◌≤◌, List, [], ◌∷◌, length, get_or, Contains, Some, None, Result, Ok, Err, refl, inl, inr, ⊎_elim, arith}
 use Rattle.std.proofs.lemmas.Bool.{cases_eq, cases_lt}
 use Rattle.std.proofs.lemmas.List.{length_push}
 use Rattle.hg_model.specs.declared.event.Event.{Event}
@@ -9,7 +9,7 @@ use Rattle.hg_model.specs.declared.verdict.Verdict.TheVariants.{Accept, Duplicat
 use Rattle.hg_model.specs.Change.{after, empty_content}
 use Rattle.hg_model.specs.Contents.{Content}
 use Rattle.hg_model.specs.Verdicts.{standing_of, verdict}
-use Rattle.hg_sets.specs.Interning.{Adds, Interns, StandsAt, Table, first_table, with_set}
+use Rattle.hg_sets.specs.Interning.{Interns, StandsAt, Table, first_table, with_set}
 use Rattle.hg_sets.specs.declared.fault.SetFault.TheVariants.{Full}
 use Rattle.hg_detect.specs.Making.{Asks, sets_asked}
 use Rattle.hg_wire.specs.declared.line.LineFault.{LineFault}
