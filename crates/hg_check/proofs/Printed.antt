@@ -1,5 +1,5 @@
 -- What was printed.
-use Rattle.std.proofs.Common.{◌≡◌, ℕ, ◌+◌, ◌<◌, List, [], ◌∷◌, ◌++◌, arith, inl, inr, ⊎_elim, refl, sym, ap, subst, ◌∙◌}
+use Rattle.std.proofs.Common.{◌≡◌, ℕ, ◌+◌, ◌<◌, Result, Ok, Err, OnErr, OnOk, List, [], ◌∷◌, ◌++◌, drop, arith, inl, inr, ⊎_elim, refl, sym, ap, subst, ◌∙◌}
 use Rattle.std.proofs.lemmas.List.{append-nil, append_assoc}
 use Rattle.hg_streams.specs.declared.call.WriteCall.{WriteCall}
 use Rattle.hg_streams.specs.Calls.{failed_writes, taken, torn}
@@ -40,6 +40,13 @@ none_torn (WriteCall.Torn x ∷ later) h = absurd (not_one (failed_writes later)
 none_torn (WriteCall.Flushed ∷ later) h = none_torn later h
 none_torn (WriteCall.NotFlushed ∷ later) h = absurd (not_one (failed_writes later) h)
 
+none_earlier : (later : List WriteCall) → failed_writes later ≡ 0 → failed_writes (drop 1 later) ≡ 0
+none_earlier [] h = refl
+none_earlier (WriteCall.Took x ∷ later) h = h
+none_earlier (WriteCall.Torn x ∷ later) h = absurd (not_one (failed_writes later) h)
+none_earlier (WriteCall.Flushed ∷ later) h = h
+none_earlier (WriteCall.NotFlushed ∷ later) h = absurd (not_one (failed_writes later) h)
+
 pub took_write : (now : List WriteCall) (bytes : List ℕ) → Took now (WriteCall.Took bytes ∷ now) bytes
 took_write now bytes = record { later = WriteCall.Took bytes ∷ []; since = refl; whole = refl; all = refl }
 
@@ -54,6 +61,7 @@ pub front_torn : (first now : List WriteCall) (held rest goal : List ℕ) → Is
 front_torn first now held rest goal p = record {
   later = WriteCall.Torn held ∷ p.appended.later;
   since = ap (λ t. WriteCall.Torn held ∷ t) p.appended.since;
+  earlier = p.appended.whole;
   rest = rest;
   front = append_assoc (taken p.appended.later) (torn p.appended.later ++ held) rest
       ∙ ap (λ t. t ++ ((torn p.appended.later ++ held) ++ rest)) p.appended.all
@@ -66,6 +74,7 @@ pub front_due : (first now : List WriteCall) (held rest goal : List ℕ) → IsD
 front_due first now held rest goal p = record {
   later = p.appended.later;
   since = p.appended.since;
+  earlier = none_earlier p.appended.later p.appended.whole;
   rest = held ++ rest;
   front = ap (λ t. (t ++ torn p.appended.later) ++ (held ++ rest)) p.appended.all
       ∙ ap (λ t. (p.written ++ t) ++ (held ++ rest)) (none_torn p.appended.later p.appended.whole)
@@ -177,3 +186,38 @@ cause_by_flush reads reads_new first now new held rest goal r p is more =
     let same : failed_writes now ≡ failed_writes first = due_failed first now held rest goal p in
     let one : failed_writes new ≡ 1 + failed_writes now = ap failed_writes more in
     inr (is, inr (omega (arith, same, one)))
+
+-- a front of a front
+pub front_more : (first now : List WriteCall) (text more goal : List ℕ) → text ++ more ≡ goal → TookFront first now text → TookFront first now goal
+front_more first now text more goal whole f = record {
+  later = f.later;
+  since = f.since;
+  earlier = f.earlier;
+  rest = f.rest ++ more;
+  front = sym (append_assoc (taken f.later ++ torn f.later) f.rest more) ∙ (ap (λ t. t ++ more) f.front ∙ whole);
+}
+
+-- a flush failed
+pub front_by_flush : (first now new : List WriteCall) (held rest goal : List ℕ) → new ≡ WriteCall.NotFlushed ∷ now → IsDue first now held rest goal → TookFront first new goal
+unfolding front_due
+front_by_flush first now new held rest goal is p =
+    let f = front_due first now held rest goal p in
+    record {
+      later = WriteCall.NotFlushed ∷ p.appended.later;
+      since = is ∙ ap (λ t. WriteCall.NotFlushed ∷ t) p.appended.since;
+      earlier = p.appended.whole;
+      rest = held ++ rest;
+      front = f.front;
+    }
+
+pub front_none : (old : List WriteCall) (goal : List ℕ) → TookFront old old goal
+front_none old goal = record { later = []; since = refl; earlier = refl; rest = goal; front = refl }
+
+-- what holds anyway holds of each result
+pub always_ok : {T E : Type 0} {P : Type 0} (r : Result T E) → P → OnOk r P
+always_ok (Ok x) p = p
+always_ok (Err e) p = tt
+
+pub always_err : {T E : Type 0} {P : Type 0} (r : Result T E) → P → OnErr r P
+always_err (Ok x) p = tt
+always_err (Err e) p = p

@@ -1,10 +1,10 @@
 -- A run between two reads.
-use Rattle.std.proofs.Common.{◌≡◌, ℕ, suc, ◌+◌, ◌*◌, ◌≤◌, Bool, true, false, List, [], ◌∷◌, ◌++◌, length, drop, take, refl, sym, ap, subst, ◌∙◌, inl, inr, arith}
+use Rattle.std.proofs.Common.{◌≡◌, ℕ, suc, ◌+◌, ◌*◌, ◌<◌, ◌≤◌, Bool, true, false, List, [], ◌∷◌, ◌++◌, length, drop, take, refl, sym, ap, subst, ◌∙◌, inl, inr, arith}
 use Rattle.std.proofs.lemmas.List.{append-nil, append_assoc, length-take}
 use Rattle.hg_streams.specs.declared.call.ReadCall.{ReadCall}
 use Rattle.std.specs.declared.io.ErrorKind.TheVariants.{Interrupted}
 use Rattle.hg_streams.specs.declared.call.WriteCall.{WriteCall}
-use Rattle.hg_streams.specs.Calls.{given}
+use Rattle.hg_streams.specs.Calls.{ends_met, given}
 use Rattle.hg_model.specs.declared.report.Report.{Report}
 use Rattle.hg_model.specs.Change.{empty_content}
 use Rattle.hg_model.specs.Contents.{Content}
@@ -12,14 +12,15 @@ use Rattle.hg_detect.specs.declared.detector.Detector.{Detector}
 use Rattle.hg_detect.specs.declared.paged.PagedWords.{PagedWords}
 use Rattle.hg_sets.specs.Interning.{Table}
 use Rattle.hg_wire.specs.Reports.{report_line}
-use Rattle.hg_wire.specs.Streams.{Pending, at_start, readings, readings_from}
+use Rattle.hg_wire.specs.Streams.{Pending, at_start, ended_from, ended_readings, readings, readings_from}
 use Rattle.hg_check.specs.declared.checker.Ending.{Ending}
 use Rattle.hg_sets.specs.Interning.{first_table}
-use Rattle.hg_check.specs.Checking.{ChecksTo, LeadsTo}
-use Rattle.hg_check.specs.Printing.{IsDue, ReadsTo, line_text, live_text, reports_text}
+use Rattle.hg_check.specs.Checking.{ChecksTo, LeadsTo, PassesTo}
+use Rattle.hg_check.specs.declared.checker.Ending.TheVariants.{Ended}
+use Rattle.hg_check.specs.Printing.{EachIsNeeded, IsDue, MayBe, ReadsTo, line_text, live_text, reports_text}
 use Rattle.hg_detect.specs.Memory.{IsWhole, content_of}
-use Rattle.hg_check.specs.Running.{Advances, EndsIn, HasRead, MeetsEnd, Reaches, ReportsGrow, Stopped as StoppedAt}
-use Rattle.hg_check.proofs.Pieces.{reports_stay}
+use Rattle.hg_check.specs.Running.{Advances, EndsIn, Foretells, HasFew, HasRead, HasReports, MeetsEnd, Reaches, ReportsGrow, Stopped as StoppedAt}
+use Rattle.hg_check.proofs.Steps.{leads_grow, reports_stay}
 use Rattle.hg_check.proofs.Printed.{due_more}
 
 reports_text_on : (k : ℕ) (xs ys : List Report) → reports_text k (xs ++ ys) ≡ reports_text k xs ++ reports_text (k + length xs) ys
@@ -69,6 +70,17 @@ leads_at_first known p d start empty sets = record {
   later = [];
   since = refl;
   intact = refl;
+  underway = refl;
+  few = subst HasFew (sym empty) (omega arith);
+  none_left = ap (λ (q : Pending). ended_from q []) start;
+  ended = λ more last end h.
+      subst (λ c. LeadsTo (ended_readings more) (first_table 262144) c last end) empty
+      (subst (λ (t : Table). LeadsTo (ended_readings more) t (content_of d) last end) sets
+      (subst (λ (q : Pending). LeadsTo (ended_from q more) d.sets (content_of d) last end) start h));
+  back = λ more last end h.
+      subst (λ (q : Pending). LeadsTo (readings_from q more) d.sets (content_of d) last end) (sym start)
+      (subst (λ (t : Table). LeadsTo (readings more) t (content_of d) last end) (sym sets)
+      (subst (λ c. LeadsTo (readings more) (first_table 262144) c last end) (sym empty) h));
   leads = λ more last end h.
       subst (λ c. LeadsTo (readings more) (first_table 262144) c last end) empty
       (subst (λ (t : Table). LeadsTo (readings more) t (content_of d) last end) sets
@@ -102,6 +114,17 @@ underway_on known left later first now new before held kept live p q d e printed
   full = same ∙ u.full;
 }
 
+-- the lines that had come whole were accepted
+pub passed : (first reads : List ReadCall) (p : Pending) (d : Detector PagedWords) (h : HasRead first reads p d) → PassesTo (given h.later) (content_of d)
+passed first reads p d h =
+    subst (λ t. LeadsTo (ended_readings t) (first_table 262144) empty_content (content_of d) Ended) (append-nil (given h.later))
+    (h.ended [] (content_of d) Ended (subst (λ rs. LeadsTo rs d.sets (content_of d) (content_of d) Ended) (sym h.none_left) (refl, refl)))
+
+-- one read more was needed
+pub needed : (first reads : List ReadCall) (p : Pending) (d : Detector PagedWords) (call : ReadCall) (h : HasRead first reads p d) → EachIsNeeded (call ∷ h.later)
+needed first reads p d call h =
+    record { last = call; earlier = h.later; newest = refl; underway = h.underway; content = content_of d; passed = passed first reads p d h }
+
 -- at the end of the input, its last line ends the run
 pub leads_at_end : (first reads now : List ReadCall) (p : Pending) (d : Detector PagedWords) (c : Content) (end : Ending)
     → HasRead first reads p d → now ≡ ReadCall.Gave [] ∷ reads → LeadsTo (readings_from p []) d.sets (content_of d) c end → ReadsTo first now c end
@@ -109,6 +132,7 @@ leads_at_end first reads now p d c end h met l = record {
   later = ReadCall.Gave [] ∷ h.later;
   since = met ∙ ap (λ t. ReadCall.Gave [] ∷ t) h.since;
   whole = h.intact;
+  needed = needed first reads p d (ReadCall.Gave []) h;
   leads = inl (h.later, refl, subst (λ t. ChecksTo t c end) (append-nil (given h.later)) (h.leads [] c end l));
 }
 
@@ -118,15 +142,30 @@ read_nothing first reads p d h = record {
   later = ReadCall.Erred Interrupted ∷ h.later;
   since = ap (λ t. ReadCall.Erred Interrupted ∷ t) h.since;
   intact = omega (arith, h.intact);
+  underway = h.underway;
+  few = h.few;
+  none_left = h.none_left;
+  ended = h.ended;
+  back = h.back;
   leads = h.leads;
 }
 
+still_underway : (piece : List ℕ) (later : List ReadCall) → 0 < length piece → ends_met later ≡ 0 → ends_met (ReadCall.Gave piece ∷ later) ≡ 0
+still_underway [] later some h = absurd (omega arith)
+still_underway (b ∷ piece) later some h = h
+
 -- a read that gave a piece, all of whose events were accepted
-pub read_piece : (first reads : List ReadCall) (p q : Pending) (d e : Detector PagedWords) (piece : List ℕ) → Reaches p d piece q e [] → HasRead first reads p d → HasRead first (ReadCall.Gave piece ∷ reads) q e
-read_piece first reads p q d e piece r h = record {
+pub read_piece : (first reads : List ReadCall) (p q : Pending) (d e : Detector PagedWords) (piece : List ℕ) → 0 < length piece → Reaches p d piece q e [] → ended_from q [] ≡ []
+    → HasRead first reads p d → HasRead first (ReadCall.Gave piece ∷ reads) q e
+read_piece first reads p q d e piece some r none h = record {
   later = ReadCall.Gave piece ∷ h.later;
   since = ap (λ t. ReadCall.Gave piece ∷ t) h.since;
   intact = h.intact;
+  underway = still_underway piece h.later some h.underway;
+  few = r.few h.few;
+  none_left = none;
+  ended = λ more last end l. subst (λ t. LeadsTo (ended_readings t) (first_table 262144) empty_content last end) (sym (append_assoc (given h.later) piece more)) (h.ended (piece ++ more) last end (r.ended more last end l));
+  back = λ more last end l. r.back more last end (h.back (piece ++ more) last end (subst (λ t. ChecksTo t last end) (append_assoc (given h.later) piece more) l));
   leads = λ more last end l. subst (λ t. ChecksTo t last end) (sym (append_assoc (given h.later) piece more)) (h.leads (piece ++ more) last end (r.leads more last end l));
 }
 
@@ -136,6 +175,7 @@ read_stop first reads p d e piece end r h = record {
   later = ReadCall.Gave piece ∷ h.later;
   since = ap (λ t. ReadCall.Gave piece ∷ t) h.since;
   whole = h.intact;
+  needed = needed first reads p d (ReadCall.Gave piece) h;
   leads = inr (λ more. subst (λ t. ChecksTo t (content_of e) end) (sym (append_assoc (given h.later) piece more)) (h.leads (piece ++ more) (content_of e) end (r.leads more)));
 }
 
@@ -149,10 +189,10 @@ advances_nothing reads later p d room is whole = record {
   whole = whole;
 }
 
-pub advances_by_piece : (reads later : List ReadCall) (p q : Pending) (d e : Detector PagedWords) (buffer : List ℕ) (n room : ℕ) → later ≡ ReadCall.Gave (take n buffer) ∷ reads → Reaches p d (take n buffer) q e [] → length buffer ≡ room
-    → Advances reads later p d q e room
-advances_by_piece reads later p q d e buffer n room is r size = record {
-  leads = λ first h. subst (λ t. HasRead first t q e) (sym is) (read_piece first reads p q d e (take n buffer) r h);
+pub advances_by_piece : (reads later : List ReadCall) (p q : Pending) (d e : Detector PagedWords) (buffer : List ℕ) (n room : ℕ) → later ≡ ReadCall.Gave (take n buffer) ∷ reads → 0 < n → n ≤ length buffer → Reaches p d (take n buffer) q e [] → ended_from q [] ≡ []
+    → length buffer ≡ room → Advances reads later p d q e room
+advances_by_piece reads later p q d e buffer n room is some within r none size = record {
+  leads = λ first h. subst (λ t. HasRead first t q e) (sym is) (read_piece first reads p q d e (take n buffer) (omega (arith, length-take n buffer)) r none h);
   lines = omega (arith, r.lines, length-take n buffer, size);
   events = omega (arith, r.events, length-take n buffer, size);
   reports = r.reports;
@@ -165,12 +205,69 @@ stopped_by_piece reads later p d e piece end is r = record {
   reports = r.reports;
 }
 
-pub met_reports : (reads later : List ReadCall) (p q : Pending) (d e : Detector PagedWords) → MeetsEnd reads later p d q e → ReportsGrow (content_of d) (content_of e)
-met_reports reads later p q d e m = subst (λ (t : Detector PagedWords). ReportsGrow (content_of d) (content_of t)) (sym m.detector) (reports_stay (content_of d))
-
 pub leads_at_met : (first reads now : List ReadCall) (p q : Pending) (d e : Detector PagedWords) (c : Content) (end : Ending)
     → HasRead first reads p d → MeetsEnd reads now p d q e → LeadsTo (readings_from q []) e.sets (content_of e) c end → ReadsTo first now c end
 leads_at_met first reads now p q d e c end h m l =
     leads_at_end first reads now p d c end h m.met
     (subst (λ (t : Detector PagedWords). LeadsTo (readings_from p []) t.sets (content_of t) c end) m.detector
     (subst (λ (t : Pending). LeadsTo (readings_from t []) e.sets (content_of e) c end) m.pending l))
+
+-- ---- the reports so far begin those of whatever the whole input may be
+
+may_be_earlier : (call : ReadCall) (later : List ReadCall) (input : List ℕ) → ends_met later ≡ 0 → MayBe (call ∷ later) input → MayBe later input
+may_be_earlier (ReadCall.Gave piece) later input none m = record {
+  more = piece ++ m.more;
+  joined = m.joined ∙ append_assoc (given later) piece m.more;
+  over = λ some. absurd (omega (arith, none, some));
+}
+may_be_earlier (ReadCall.Erred kind) later input none m = record {
+  more = m.more;
+  joined = m.joined;
+  over = λ some. absurd (omega (arith, none, some));
+}
+
+-- a read that changed nothing
+pub reports_by_read : (first reads now : List ReadCall) (call : ReadCall) (p : Pending) (d : Detector PagedWords) → now ≡ call ∷ reads → HasRead first reads p d → HasReports first now (content_of d)
+reports_by_read first reads now call p d is h = record {
+  later = call ∷ h.later;
+  since = is ∙ ap (λ t. call ∷ t) h.since;
+  grows = λ input last end m l. let e = may_be_earlier call h.later input h.underway m in
+      leads_grow (readings_from p e.more) d.sets (content_of d) last end h.few (h.back e.more last end (subst (λ t. ChecksTo t last end) e.joined l));
+}
+
+pub reports_so_far : (first reads : List ReadCall) (p : Pending) (d : Detector PagedWords) → HasRead first reads p d → HasReports first reads (content_of d)
+reports_so_far first reads p d h = record {
+  later = h.later;
+  since = h.since;
+  grows = λ input last end m l. leads_grow (readings_from p m.more) d.sets (content_of d) last end h.few (h.back m.more last end (subst (λ t. ChecksTo t last end) m.joined l));
+}
+
+pub reports_by_piece : (first reads now : List ReadCall) (p : Pending) (d e : Detector PagedWords) (piece : List ℕ) → now ≡ ReadCall.Gave piece ∷ reads → Foretells p d piece e → HasRead first reads p d
+    → HasReports first now (content_of e)
+reports_by_piece first reads now p d e piece is foretells h = record {
+  later = ReadCall.Gave piece ∷ h.later;
+  since = is ∙ ap (λ t. ReadCall.Gave piece ∷ t) h.since;
+  grows = λ input last end m l. foretells h.few m.more last end
+      (h.back (piece ++ m.more) last end (subst (λ t. ChecksTo t last end) (m.joined ∙ append_assoc (given h.later) piece m.more) l));
+}
+
+-- at the end of the input, the last line gave what it gave
+pub reports_at_end : (first reads now : List ReadCall) (p q : Pending) (d e f : Detector PagedWords) → MeetsEnd reads now p d q e → HasRead first reads p d
+    → ((last : Content) (end : Ending) → HasFew (content_of e) → LeadsTo (readings_from q []) e.sets (content_of e) last end → ReportsGrow (content_of f) last)
+    → HasReports first now (content_of f)
+reports_at_end first reads now p q d e f met h front = record {
+  later = ReadCall.Gave [] ∷ h.later;
+  since = met.met ∙ ap (λ t. ReadCall.Gave [] ∷ t) h.since;
+  grows = λ input last end m l.
+      let none : m.more ≡ [] = m.over (omega arith) in
+      let is : input ≡ given h.later ++ [] = m.joined ∙ (ap (λ t. (given h.later ++ []) ++ t) none ∙ append-nil (given h.later ++ [])) in
+      front last end (subst (λ (t : Detector PagedWords). HasFew (content_of t)) (sym met.detector) h.few)
+      (subst (λ (t : Pending). LeadsTo (readings_from t []) e.sets (content_of e) last end) (sym met.pending)
+      (subst (λ (t : Detector PagedWords). LeadsTo (readings_from p []) t.sets (content_of t) last end) (sym met.detector)
+      (h.back [] last end (subst (λ t. ChecksTo t last end) is l))));
+}
+
+pub live_text_grows : (live : Bool) (c d : Content) → ReportsGrow c d → (more : List ℕ) × (live_text live c ++ more ≡ live_text live d)
+live_text_grows true c d grow =
+    (reports_text (1 + length c.reports) grow.0, sym (ap (λ xs. reports_text 1 xs) grow.1 ∙ reports_text_on 1 c.reports grow.0))
+live_text_grows false c d grow = ([], refl)

@@ -1,11 +1,13 @@
 -- What is read and written, and how that fails.
-use Rattle.std.specs.Prelude.{◌≡◌, ◌⊎◌, ◌+◌, ◌<◌, ◌≤◌, ◌^◌, List, length}
+use Rattle.std.specs.Prelude.{◌≡◌, ◌⊎◌, ◌+◌, ◌<◌, ◌≤◌, ◌^◌, ℕ, List, length}
 use Rattle.hg_model.specs.declared.verdict.Refusal.{Refusal}
 use Rattle.hg_model.specs.Codes.{code_of}
 use Rattle.hg_streams.specs.declared.call.ReadCall.{ReadCall}
 use Rattle.hg_streams.specs.declared.call.WriteCall.{WriteCall}
 use Rattle.hg_streams.specs.Calls.{failed_reads, failed_writes}
-use Rattle.hg_check.specs.Printing.{Took, fault_text}
+use Rattle.hg_model.specs.Contents.{Content}
+use Rattle.hg_check.specs.declared.checker.Ending.{Ending}
+use Rattle.hg_check.specs.Printing.{Took, WroteFront, fault_text}
 use Rattle.hg_model.specs.declared.verdict.Refusal.TheVariants.{Damaged, FullSets, DeviceFault, OutOfMemory}
 
 -- A write or a flush failed.
@@ -36,6 +38,7 @@ IsFault r = (r ≡ Damaged) ⊎ ((r ≡ FullSets) ⊎ ((r ≡ DeviceFault) ⊎ (
 abbrev pub IsTold : List WriteCall → List WriteCall → Refusal → Type 0
 IsTold old new r = WriteFailed old new ⊎ Took old new (fault_text (code_of r))
 
--- A run that ended by a fault: it had a cause, and was told.
-abbrev pub EndsByFault : List ReadCall → List ReadCall → List WriteCall → List WriteCall → List WriteCall → List WriteCall → Type 0
-EndsByFault reads_old reads_new old new faults_old faults_new = (r : Refusal) × (HasCause reads_old reads_new old new r × IsTold faults_old faults_new r)
+-- A run that ended by a fault: it had a cause, it was told, and what was written before is a front of what was due.
+abbrev pub EndsByFault : (Content → Ending → List ℕ) → List ReadCall → List ReadCall → List WriteCall → List WriteCall → List WriteCall → List WriteCall → Type 0
+EndsByFault text reads_old reads_new old new faults_old faults_new =
+    (r : Refusal) × (HasCause reads_old reads_new old new r × (IsTold faults_old faults_new r × WroteFront text reads_old reads_new old new))

@@ -16,7 +16,7 @@ use hg_model::report::Report;
 use hg_model::segment::Segment;
 use hg_model::verdict::Refusal;
 use hg_streams::output::Output;
-use hg_wire::lines::{put_bad_line, put_fault_line, put_refused_line, put_segment_line};
+use hg_wire::lines::{put_bad_line, put_refused_line, put_segment_line};
 use hg_wire::report::{put_end_line, put_report_line};
 use std::alloc::{AllocError, Global};
 use std::io::Write;
@@ -116,6 +116,9 @@ pub fn print_segments<W: Write>(
     ensures printed { (first : List WriteCall) (rest goal : List ℕ)
         → IsDue first output.old.calls held.old.items (segments_text 0 segments.now ++ rest) goal
         → OnOk result (IsDue first output.new.calls held.new.items rest goal) }
+    ensures front { (first : List WriteCall) (rest goal : List ℕ)
+        → IsDue first output.old.calls held.old.items (segments_text 0 segments.now ++ rest) goal
+        → OnErr result (TookFront first output.new.calls goal) }
     ensures cause { IfErr result (λ r. HasWriteCause output.old.calls output.new.calls r) }
     ensures fault { failed_writes output.new.calls ≡ told result + failed_writes output.old.calls }
 {

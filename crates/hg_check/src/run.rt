@@ -7,9 +7,9 @@ ghost use Rattle.hg_wire.specs.Streams.{at_start, readings_from};
 ghost use Rattle.hg_check.specs.declared.checker.Ending.{Ending as EndingOf};
 ghost use Rattle.hg_sets.specs.Interning.{first_table};
 ghost use Rattle.hg_check.specs.Checking.{LeadsTo};
-ghost use Rattle.hg_check.specs.Printing.{IsDue, ReadsTo, TookFront, live_text};
+ghost use Rattle.hg_check.specs.Printing.{IsDue, ReadsTo, TookFront, WroteFront, live_text};
 ghost use Rattle.hg_detect.specs.Memory.{IsWhole, content_of};
-ghost use Rattle.hg_check.specs.Running.{Advances, MeetsEnd, ReportsGrow, Stopped as StoppedAt};
+ghost use Rattle.hg_check.specs.Running.{Advances, HasFew, HasRead, HasReports, MeetsEnd, ReportsGrow, Stopped as StoppedAt};
 ghost use Rattle.hg_streams.specs.declared.call.WriteCall.{WriteCall};
 ghost use Rattle.hg_streams.specs.Calls.{failed_reads, failed_writes};
 ghost use Rattle.hg_streams.specs.declared.call.ReadCall.{ReadCall};
@@ -75,6 +75,8 @@ fn advance<R: Read>(
     ensures at_end { result ≡ Ok Progress.AtEnd
         → MeetsEnd input.old.calls input.new.calls reader.old detector.old reader.new detector.new }
     ensures stopped { (end : EndingOf) → result ≡ Ok (Progress.Stopped end) → StoppedAt input.old.calls input.new.calls reader.old detector.old detector.new end }
+    ensures front { (first : List ReadCall) → HasRead first input.old.calls reader.old detector.old → HasReports first input.new.calls (content_of detector.new) }
+    ensures reports { ReportsGrow (content_of detector.old) (content_of detector.new) }
     ensures size { length buffer.new ≡ length buffer.old }
     ensures cause { IfErr result (λ r. (r ≡ Refusal.OutOfMemory) ⊎ (r ≡ Refusal.DeviceFault)) }
     ensures fault { failed_reads input.new.calls ≡ told result + failed_reads input.old.calls }
@@ -98,7 +100,9 @@ fn finish(reader: EventReader, detector: &mut MemoryDetector) -> Result<Ending, 
     requires lines { reader.lines + 1 < 2 ^ 64 }
     requires events { (content_of detector.old).last 0 + 1 < 2 ^ 64 }
     ensures ends { IfOk result (λ end. LeadsTo (readings_from reader []) detector.old.sets (content_of detector.old) (content_of detector.new) end) }
-    ensures reports { OnOk result (ReportsGrow (content_of detector.old) (content_of detector.new)) }
+    ensures front { (last : Content) (end : EndingOf) → HasFew (content_of detector.old) → LeadsTo (readings_from reader []) detector.old.sets (content_of detector.old) last end
+        → ReportsGrow (content_of detector.new) last }
+    ensures reports { ReportsGrow (content_of detector.old) (content_of detector.new) }
     ensures cause { IfErr result (λ r. r ≡ Refusal.OutOfMemory) }
 {
     let Some(reading) = reader.finish() else {
@@ -153,6 +157,8 @@ pub fn run<R: Read, W: Write>(
     ensures ends { IfOk result (λ end. ReadsTo input.old.calls input.new.calls (content_of detector.new) end) }
     ensures printed { (first : List WriteCall) → IsDue first output.old.calls held.old.items [] []
         → OnOk result (IsDue first output.new.calls held.new.items [] (live_text live (content_of detector.new))) }
+    ensures front { (first : List WriteCall) → IsDue first output.old.calls held.old.items [] []
+        → OnErr result (WroteFront (λ c end. live_text live c) input.old.calls input.new.calls first output.new.calls) }
     ensures cause { IfErr result (λ r. HasCause input.old.calls input.new.calls output.old.calls output.new.calls r) }
 {
     let mut reader = reader_at_start(alloc)?;

@@ -24,6 +24,13 @@ failed_reads [] = 0
 failed_reads (Gave bytes ∷ earlier) = failed_reads earlier
 failed_reads (Erred kind ∷ earlier) = failure kind + failed_reads earlier
 
+-- how many reads met the end of the input
+abbrev pub ends_met : List ReadCall → ℕ
+ends_met [] = 0
+ends_met (Gave [] ∷ earlier) = 1 + ends_met earlier
+ends_met (Gave (byte ∷ bytes) ∷ earlier) = ends_met earlier
+ends_met (Erred kind ∷ earlier) = ends_met earlier
+
 -- the bytes that the writes took, the oldest first, but for those that failed
 abbrev pub taken : List WriteCall → List ℕ
 taken [] = []

@@ -1,6 +1,8 @@
 //! Readers that keep their reads.
 
-ghost use Rattle.std.specs.Prelude.{◌≡◌, ◌+◌, ◌<◌, ◌≤◌, ◌∷◌, [], length, IfOk, IfErr, IfSome};
+ghost use Rattle.std.specs.Prelude.{◌≡◌, ◌+◌, ◌<◌, ◌≤◌, ◌∷◌, [], length, IfOk, IfErr, IfSome, OnErr};
+ghost use Rattle.std.specs.declared.io.ErrorKind.{ErrorKind as ErrorKindOf};
+ghost use Rattle.hg_streams.specs.declared.call.ReadCall.TheVariants.{Erred};
 ghost use Rattle.std.specs.Io.KnownBytes.{ReadConsumes};
 ghost use Rattle.hg_streams.specs.Calls.{as_got, as_read, failed_reads, got_call, read_call};
 ghost use Rattle.hg_streams.specs.Told.{told};
@@ -64,6 +66,7 @@ impl<R: Read> Input<R> {
     pub fn read(&mut self, buffer: &mut [u8]) -> Result<Option<usize>, Refusal>
         requires room { 0 < length buffer.old }
         ensures calls { IfOk result (λ count. self.new.calls ≡ got_call count buffer.new ∷ self.old.calls) }
+        ensures failed { OnErr result ((kind : ErrorKindOf) × (self.new.calls ≡ Erred kind ∷ self.old.calls)) }
         ensures within { IfOk result (λ count. IfSome count (λ n. n ≤ length buffer.new)) }
         ensures known { ReadConsumes (R.remaining self.old.stream) (R.remaining self.new.stream) (as_got result) buffer.new }
         ensures cause { IfErr result (λ r. r ≡ Refusal.DeviceFault) }

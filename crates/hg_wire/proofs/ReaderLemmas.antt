@@ -1,5 +1,5 @@
 -- What is read of lines.
-use Rattle.std.proofs.Common.{◌≡◌, ◌≢◌, ℕ, zero, suc, ◌+◌, ◌-◌, ◌<◌, ◌≤◌, true, false, not, List, [], ◌∷◌, ◌++◌, length, get_or, take, drop, map, Ok, refl, sym, ◌∙◌, ap, subst, arith, inl, inr}
+use Rattle.std.proofs.Common.{◌≡◌, ◌≢◌, ℕ, zero, suc, ◌+◌, ◌-◌, ◌<◌, ◌≤◌, Bool, true, false, not, List, [], ◌∷◌, ◌++◌, length, get_or, take, drop, map, Ok, refl, sym, ◌∙◌, ap, subst, arith, inl, inr}
 use Rattle.std.proofs.lemmas.Bool.{cond-true, cond-false, cases_Bool, eq-eqb, ne_eqb, cases_lt, lt-ltb}
 use Rattle.std.proofs.lemmas.List.{append_assoc, length-append, length-take-le, length-drop, drop-drop, drop_at, take_at, get_or_at}
 use Rattle.std.proofs.lemmas.Slice.{between_to_end}
@@ -11,7 +11,7 @@ use Rattle.hg_wire.specs.declared.reader.Reading.{Reading}
 use Rattle.hg_wire.specs.Words.{NoByte}
 use Rattle.hg_wire.specs.Verbs.{row_of}
 use Rattle.hg_wire.specs.Lines.{AreOperands, IsLine, HasEventLine, EndsLineBefore, line_of}
-use Rattle.hg_wire.specs.Streams.{lines_of, is_skipped, reading_of, readings_in, readings_after, readings_from, lines_from, Pending, Splitting, EndsLine, EndsNoLine, GivesReading, GivesNoReading}
+use Rattle.hg_wire.specs.Streams.{lines_when, is_skipped, reading_of, readings_in, readings_when, lines_from, Pending, Splitting, EndsLine, EndsNoLine, GivesReading, GivesNoReading}
 use Rattle.hg_wire.proofs.NumberLemmas.{number_no_byte}
 use Rattle.hg_wire.proofs.WordLemmas.{led_by}
 use Rattle.hg_wire.proofs.VerbLemmas.{each_is_verb, no_low_byte}
@@ -63,25 +63,29 @@ readings_shown n (line ∷ lines) =
           ∙ (more ∙ sym (skip_more n line (enumerate_from (n + 1) lines) skipped)))
     ]
 
-pub from_lines : (pending : Pending) (rest : List ℕ) → readings_from pending rest ≡ readings_in (lines_from pending rest)
-from_lines pending rest = sym (readings_shown (pending.lines + 1) (lines_of (pending.begun ++ rest)))
+-- what is read of the rest of a stream, which is over or may go on
+abbrev pub read_from : Bool → Pending → List ℕ → List Reading
+read_from over pending rest = readings_when over pending.lines (pending.begun ++ rest)
+
+pub from_lines : (over : Bool) (pending : Pending) (rest : List ℕ) → read_from over pending rest ≡ readings_in (lines_from over pending rest)
+from_lines over pending rest = sym (readings_shown (pending.lines + 1) (lines_when over (pending.begun ++ rest)))
 
 -- ---- a line that a splitter ended
 
-pub line_read : (old new : Splitting) (piece : List ℕ) (used : ℕ) → EndsLine old new piece used → not (is_skipped new.last) ≡ true → (more : List ℕ)
-    → readings_from old.pending (piece ++ more) ≡ reading_of (new.pending.lines, new.last) ∷ readings_from new.pending (drop used piece ++ more)
-line_read old new piece used h read more =
-    from_lines old.pending (piece ++ more) ∙ (ap readings_in (h.line more) ∙ (read_more new.pending.lines new.last (lines_from new.pending (drop used piece ++ more)) read
-    ∙ ap (λ rs. reading_of (new.pending.lines, new.last) ∷ rs) (sym (from_lines new.pending (drop used piece ++ more)))))
+pub line_read : (over : Bool) (old new : Splitting) (piece : List ℕ) (used : ℕ) → EndsLine old new piece used → not (is_skipped new.last) ≡ true → (more : List ℕ)
+    → read_from over old.pending (piece ++ more) ≡ reading_of (new.pending.lines, new.last) ∷ read_from over new.pending (drop used piece ++ more)
+line_read over old new piece used h read more =
+    from_lines over old.pending (piece ++ more) ∙ (ap readings_in (h.line over more) ∙ (read_more new.pending.lines new.last (lines_from over new.pending (drop used piece ++ more)) read
+    ∙ ap (λ rs. reading_of (new.pending.lines, new.last) ∷ rs) (sym (from_lines over new.pending (drop used piece ++ more)))))
 
-pub line_skipped : (old new : Splitting) (piece : List ℕ) (used : ℕ) → EndsLine old new piece used → not (is_skipped new.last) ≡ false → (more : List ℕ)
-    → readings_from old.pending (piece ++ more) ≡ readings_from new.pending (drop used piece ++ more)
-line_skipped old new piece used h skipped more =
-    from_lines old.pending (piece ++ more) ∙ (ap readings_in (h.line more) ∙ (skip_more new.pending.lines new.last (lines_from new.pending (drop used piece ++ more)) skipped
-    ∙ sym (from_lines new.pending (drop used piece ++ more))))
+pub line_skipped : (over : Bool) (old new : Splitting) (piece : List ℕ) (used : ℕ) → EndsLine old new piece used → not (is_skipped new.last) ≡ false → (more : List ℕ)
+    → read_from over old.pending (piece ++ more) ≡ read_from over new.pending (drop used piece ++ more)
+line_skipped over old new piece used h skipped more =
+    from_lines over old.pending (piece ++ more) ∙ (ap readings_in (h.line over more) ∙ (skip_more new.pending.lines new.last (lines_from over new.pending (drop used piece ++ more)) skipped
+    ∙ sym (from_lines over new.pending (drop used piece ++ more))))
 
-pub no_line_read : (old new : Splitting) (piece : List ℕ) → EndsNoLine old new piece → (more : List ℕ) → readings_from old.pending (piece ++ more) ≡ readings_from new.pending more
-no_line_read old new piece h more = from_lines old.pending (piece ++ more) ∙ (ap readings_in (h.lines more) ∙ sym (from_lines new.pending more))
+pub no_line_read : (over : Bool) (old new : Splitting) (piece : List ℕ) → EndsNoLine old new piece → (more : List ℕ) → read_from over old.pending (piece ++ more) ≡ read_from over new.pending more
+no_line_read over old new piece h more = from_lines over old.pending (piece ++ more) ∙ (ap readings_in (h.lines over more) ∙ sym (from_lines over new.pending more))
 
 -- ---- an event line at the front of a piece
 
@@ -124,15 +128,16 @@ strip_one line =
     cond-true _ _ _ (eq-eqb _ _ here) ∙ (ap (λ k. take k (line ++ 13 ∷ [])) last ∙ take_at line (13 ∷ []) (length line) refl)
 
 -- the line that a line feed ends, perhaps behind a carriage return
-line_before : (text middle rest more : List ℕ) → NoByte 10 text → NoByte 13 text → EndsLineBefore middle rest → lines_of ((text ++ middle) ++ more) ≡ text ∷ lines_of (rest ++ more)
-line_before text middle rest more no_feed no_return (inl e) =
+line_before : (over : Bool) (text middle rest more : List ℕ) → NoByte 10 text → NoByte 13 text → EndsLineBefore middle rest
+    → lines_when over ((text ++ middle) ++ more) ≡ text ∷ lines_when over (rest ++ more)
+line_before over text middle rest more no_feed no_return (inl e) =
     let is : (text ++ middle) ++ more ≡ text ++ 10 ∷ (rest ++ more) = append_assoc text middle more ∙ ap (λ m. text ++ (m ++ more)) e in
-    ap lines_of is ∙ (ap (map strip_carriage_return) (part_ends text (rest ++ more) no_feed) ∙ ap (λ line. line ∷ lines_of (rest ++ more)) (strip_none text no_return))
-line_before text middle rest more no_feed no_return (inr e) =
+    ap (lines_when over) is ∙ (ap (map strip_carriage_return) (part_ends over text (rest ++ more) no_feed) ∙ ap (λ line. line ∷ lines_when over (rest ++ more)) (strip_none text no_return))
+line_before over text middle rest more no_feed no_return (inr e) =
     let is : (text ++ middle) ++ more ≡ (text ++ 13 ∷ []) ++ 10 ∷ (rest ++ more) =
     append_assoc text middle more ∙ (ap (λ m. text ++ (m ++ more)) e ∙ sym (append_assoc text (13 ∷ []) (10 ∷ (rest ++ more)))) in
     let no_feed' : NoByte 10 (text ++ 13 ∷ []) = no_byte_append 10 text (13 ∷ []) no_feed ((λ e. omega arith), tt) in
-    ap lines_of is ∙ (ap (map strip_carriage_return) (part_ends (text ++ 13 ∷ []) (rest ++ more) no_feed') ∙ ap (λ line. line ∷ lines_of (rest ++ more)) (strip_one text))
+    ap (lines_when over) is ∙ (ap (map strip_carriage_return) (part_ends over (text ++ 13 ∷ []) (rest ++ more) no_feed') ∙ ap (λ line. line ∷ lines_when over (rest ++ more)) (strip_one text))
 
 after_end : (middle rest : List ℕ) → EndsLineBefore middle rest → (end : List ℕ) × (middle ≡ end ++ rest) × (1 ≤ length end)
 after_end middle rest (inl e) = (10 ∷ [], e, omega arith)
@@ -146,17 +151,17 @@ event_line_rest piece event used h =
     let count : length (h.text ++ end.0) ≡ used = omega (arith, ap length joined, length-append (h.text ++ end.0) h.rest, h.count) in
     (ap (drop used) joined ∙ drop_at (h.text ++ end.0) h.rest used count, omega (arith, length-append h.text end.0, end.2), omega (arith, h.count))
 
-pub event_line_read : (n : ℕ) (piece : List ℕ) (event : Event) (used : ℕ) → HasEventLine piece event used → (more : List ℕ)
-    → readings_after n (piece ++ more) ≡ record { line = n + 1; event = Ok event } ∷ readings_after (n + 1) (drop used piece ++ more)
-event_line_read n piece event used h more =
+pub event_line_read : (over : Bool) (n : ℕ) (piece : List ℕ) (event : Event) (used : ℕ) → HasEventLine piece event used → (more : List ℕ)
+    → readings_when over n (piece ++ more) ≡ record { line = n + 1; event = Ok event } ∷ readings_when over (n + 1) (drop used piece ++ more)
+event_line_read over n piece event used h more =
     let no_feed = line_no_byte 10 h.text event (omega arith) (omega arith) (λ e. omega arith) (λ e. omega arith) h.spelled in
     let no_return = line_no_byte 13 h.text event (omega arith) (omega arith) (λ e. omega arith) (λ e. omega arith) h.spelled in
-    let lines : lines_of (piece ++ more) ≡ h.text ∷ lines_of (h.rest ++ more) =
-    ap (λ b. lines_of (b ++ more)) h.joined ∙ line_before h.text h.middle h.rest more no_feed no_return h.ends in
+    let lines : lines_when over (piece ++ more) ≡ h.text ∷ lines_when over (h.rest ++ more) =
+    ap (λ b. lines_when over (b ++ more)) h.joined ∙ line_before over h.text h.middle h.rest more no_feed no_return h.ends in
     let left : drop used piece ≡ h.rest = (event_line_rest piece event used h).0 in
-    ap (λ ls. readings_in (enumerate_from (n + 1) ls)) lines ∙ (read_more (n + 1) h.text (enumerate_from (n + 1 + 1) (lines_of (h.rest ++ more))) (line_not_skipped h.text event h.spelled)
-    ∙ (ap (λ r. record { line = n + 1; event = r } ∷ readings_after (n + 1) (h.rest ++ more)) (event_reads h.text event h.spelled)
-    ∙ ap (λ b. record { line = n + 1; event = Ok event } ∷ readings_after (n + 1) (b ++ more)) (sym left)))
+    ap (λ ls. readings_in (enumerate_from (n + 1) ls)) lines ∙ (read_more (n + 1) h.text (enumerate_from (n + 1 + 1) (lines_when over (h.rest ++ more))) (line_not_skipped h.text event h.spelled)
+    ∙ (ap (λ r. record { line = n + 1; event = r } ∷ readings_when over (n + 1) (h.rest ++ more)) (event_reads h.text event h.spelled)
+    ∙ ap (λ b. record { line = n + 1; event = Ok event } ∷ readings_when over (n + 1) (b ++ more)) (sym left)))
 
 -- ---- lines that are taken one after another
 
@@ -165,17 +170,17 @@ pub record IsTakenTo (old now : Pending) (piece rest : List ℕ) : Type 0 where
   pub shorter : length rest ≤ length piece
   pub left : drop (length piece - length rest) piece ≡ rest
   pub counted : now.lines + length rest ≤ old.lines + length piece
-  pub readings : (more : List ℕ) → readings_from old (piece ++ more) ≡ readings_from now (rest ++ more)
+  pub readings : (over : Bool) (more : List ℕ) → read_from over old (piece ++ more) ≡ read_from over now (rest ++ more)
 
-line_gives : (old new : Splitting) (piece : List ℕ) (used : ℕ) (rs : List Reading) → EndsLine old new piece used → rs ≡ readings_in ((new.pending.lines, new.last) ∷ []) → (more : List ℕ)
-    → readings_from old.pending (piece ++ more) ≡ rs ++ readings_from new.pending (drop used piece ++ more)
-line_gives old new piece used rs h is more =
-    let after = readings_from new.pending (drop used piece ++ more) in
+line_gives : (over : Bool) (old new : Splitting) (piece : List ℕ) (used : ℕ) (rs : List Reading) → EndsLine old new piece used → rs ≡ readings_in ((new.pending.lines, new.last) ∷ []) → (more : List ℕ)
+    → read_from over old.pending (piece ++ more) ≡ rs ++ read_from over new.pending (drop used piece ++ more)
+line_gives over old new piece used rs h is more =
+    let after = read_from over new.pending (drop used piece ++ more) in
     elim (cases_Bool (not (is_skipped new.last))) [
       | inl read ↦ (let one : rs ≡ reading_of (new.pending.lines, new.last) ∷ [] = is ∙ read_more new.pending.lines new.last [] read in
-          line_read old new piece used h read more ∙ ap (λ r. r ++ after) (sym one))
+          line_read over old new piece used h read more ∙ ap (λ r. r ++ after) (sym one))
       | inr skipped ↦ (let none : rs ≡ [] = is ∙ skip_more new.pending.lines new.last [] skipped in
-          line_skipped old new piece used h skipped more ∙ ap (λ r. r ++ after) (sym none))
+          line_skipped over old new piece used h skipped more ∙ ap (λ r. r ++ after) (sym none))
     ]
 
 -- one line more of the piece
@@ -183,14 +188,14 @@ taken_on : (old : Pending) (now new : Splitting) (piece rest : List ℕ) (used :
     → rs ≡ readings_in ((new.pending.lines, new.last) ∷ [])
     → (length (drop used rest) < length rest) × (drop (length piece - length (drop used rest)) piece ≡ drop used rest)
     × (new.pending.lines + length (drop used rest) ≤ old.lines + length piece)
-    × ((more : List ℕ) → readings_from old (piece ++ more) ≡ rs ++ readings_from new.pending (drop used rest ++ more))
+    × ((over : Bool) (more : List ℕ) → read_from over old (piece ++ more) ≡ rs ++ read_from over new.pending (drop used rest ++ more))
 taken_on old now new piece rest used rs t h is =
     let count : length (drop used rest) ≡ length rest - used = length-drop used rest in
     let place : length piece - length (drop used rest) ≡ length piece - length rest + used = omega (arith, t.shorter, h.some, h.within) in (
       omega (arith, h.some, h.within),
       ap (λ k. drop k piece) place ∙ (sym (drop-drop used (length piece - length rest) piece) ∙ ap (drop used) t.left),
       omega (arith, t.counted, h.counted, h.some, h.within),
-      λ more. t.readings more ∙ line_gives now new rest used rs h is more,
+      λ over more. t.readings over more ∙ line_gives over now new rest used rs h is more,
     )
 
 pub taken_skips : (old : Pending) (now new : Splitting) (piece rest : List ℕ) (used : ℕ) → IsTakenTo old now.pending piece rest → EndsLine now new rest used
@@ -213,23 +218,30 @@ taken_gives old now new piece rest used reading t h one =
       some = omega (arith, on.0, t.shorter);
       within = omega arith;
       counted = omega (arith, on.2, on.0, t.shorter);
-      readings = λ more. on.3 more ∙ ap (λ left. reading ∷ readings_from new.pending (left ++ more)) (sym on.1);
+      readings = λ more. on.3 true more ∙ ap (λ left. reading ∷ read_from true new.pending (left ++ more)) (sym on.1);
+      ended = λ more. on.3 false more ∙ ap (λ left. reading ∷ read_from false new.pending (left ++ more)) (sym on.1);
     }
     )
 
 pub taken_all : (old : Pending) (now new : Splitting) (piece rest : List ℕ) → IsTakenTo old now.pending piece rest → EndsNoLine now new rest → GivesNoReading old new.pending piece
 taken_all old now new piece rest t h =
-    record { counted = omega (arith, t.counted, h.counted); readings = λ more. t.readings more ∙ no_line_read now new rest h more }
+    record {
+      counted = omega (arith, t.counted, h.counted);
+      readings = λ more. t.readings true more ∙ no_line_read true now new rest h more;
+      ended = λ more. t.readings false more ∙ no_line_read false now new rest h more;
+      none_left = from_lines false new.pending [] ∙ ap readings_in h.none_left;
+    }
 
 -- an event line in front of a piece, between lines
 pub event_gives : (pending : Pending) (piece : List ℕ) (event : Event) (used : ℕ) → pending.begun ≡ [] → HasEventLine piece event used
     → GivesReading pending (record { lines = pending.lines + 1; begun = pending.begun }) piece (record { line = pending.lines + 1; event = Ok event }) used
 event_gives pending piece event used between_lines h =
     let left = event_line_rest piece event used h in
-    record {
-      some = left.1;
-      within = left.2;
-      counted = omega (arith, left.1);
-      readings = λ more. ap (λ b. readings_after pending.lines (b ++ (piece ++ more))) between_lines ∙ (event_line_read pending.lines piece event used h more
-          ∙ ap (λ b. record { line = pending.lines + 1; event = Ok event } ∷ readings_after (pending.lines + 1) (b ++ (drop used piece ++ more))) (sym between_lines));
-    }
+    record { some = left.1; within = left.2; counted = omega (arith, left.1); readings = gives true; ended = gives false }
+  where
+    gives : (over : Bool) (more : List ℕ)
+        → read_from over pending (piece ++ more)
+        ≡ record { line = pending.lines + 1; event = Ok event } ∷ read_from over (record { lines = pending.lines + 1; begun = pending.begun }) (drop used piece ++ more)
+    gives over more =
+        ap (λ b. readings_when over pending.lines (b ++ (piece ++ more))) between_lines ∙ (event_line_read over pending.lines piece event used h more
+        ∙ ap (λ b. record { line = pending.lines + 1; event = Ok event } ∷ readings_when over (pending.lines + 1) (b ++ (drop used piece ++ more))) (sym between_lines))

@@ -1,12 +1,12 @@
 -- The lines of a stream, as its bytes come.
-use Rattle.std.proofs.Common.{◌≡◌, ◌≢◌, ℕ, zero, suc, ◌+◌, ◌-◌, ◌<◌, ◌≤◌, eqb, List, [], ◌∷◌, ◌++◌, length, get_or, take, drop, map, Some, None, refl, sym, ◌∙◌, ap, subst, arith, inl, inr}
-use Rattle.std.proofs.lemmas.Bool.{cond-true, cond-false, cases_Bool, eqb-true, eq-eqb, ne_eqb, cases_lt}
+use Rattle.std.proofs.Common.{◌≡◌, ◌≢◌, ℕ, zero, suc, ◌+◌, ◌-◌, ◌<◌, ◌≤◌, eqb, Bool, true, false, if◌then◌else◌, List, [], ◌∷◌, ◌++◌, length, get_or, take, drop, map, Some, None, refl, sym, ◌∙◌, ap, subst, arith, inl, inr}
+use Rattle.std.proofs.lemmas.Bool.{cond-true, cond-false, cases_Bool, eqb-true, eq-eqb, ne_eqb, cases_lt, lt-ltb}
 use Rattle.std.proofs.lemmas.List.{append_assoc, append-nil, length-append, length-take-le, get_or-take, take_at, take-append-le, take-append-drop, drop_more}
 use Rattle.std.specs.List.{slice_split, onto_first}
 use Rattle.std.specs.Str.Lines.{strip_carriage_return}
 use Rattle.memchr.specs.Find.{IsFirstByte, is_byte}
 use Rattle.hg_wire.specs.Words.{NoByte}
-use Rattle.hg_wire.specs.Streams.{without_empty_end, lines_of, held}
+use Rattle.hg_wire.specs.Streams.{lines_among, lines_when, held}
 use Rattle.hg_wire.proofs.WordLemmas.{Parts, led_by, split_parts, split_joined}
 use Rattle.hg_wire.proofs.HeldLemmas.{held_short, held_long}
 
@@ -34,24 +34,34 @@ no_byte_everywhere c (x ∷ xs) h = (h 0 (omega arith), no_byte_everywhere c xs 
 
 -- ---- the parts between line feeds
 
-abbrev pub parts_of : List ℕ → List (List ℕ)
-parts_of stream = without_empty_end (slice_split (λ b. eqb b 10) stream)
+abbrev pub parts_of : Bool → List ℕ → List (List ℕ)
+parts_of over stream = lines_among over (slice_split (λ b. eqb b 10) stream)
+
+-- the last line, where the stream is over
+abbrev pub last_when : Bool → List ℕ → List (List ℕ)
+last_when over line = if over then line ∷ [] else []
 
 split_at : (c : ℕ) (xs ys : List ℕ) → NoByte c xs → slice_split (λ b. eqb b c) (xs ++ c ∷ ys) ≡ xs ∷ slice_split (λ b. eqb b c) ys
 split_at c [] ys h = cond-true _ _ _ (eq-eqb c c refl)
 split_at c (x ∷ xs) ys h = cond-false _ _ _ (ne_eqb x c h.0) ∙ ap (onto_first x) (split_at c xs ys h.1)
 
 -- a line feed ends a part
-pub part_ends : (xs ys : List ℕ) → NoByte 10 xs → parts_of (xs ++ 10 ∷ ys) ≡ xs ∷ parts_of ys
-part_ends xs ys h =
+pub part_ends : (over : Bool) (xs ys : List ℕ) → NoByte 10 xs → parts_of over (xs ++ 10 ∷ ys) ≡ xs ∷ parts_of over ys
+part_ends over xs ys h =
     let p = split_parts 10 ys in
-    ap without_empty_end (split_at 10 xs ys h) ∙ (ap (λ parts. without_empty_end (xs ∷ parts)) p.2.split ∙ ap (λ parts. xs ∷ without_empty_end parts) (sym p.2.split))
+    ap (lines_among over) (split_at 10 xs ys h) ∙ (ap (λ parts. lines_among over (xs ∷ parts)) p.2.split ∙ ap (λ parts. xs ∷ lines_among over parts) (sym p.2.split))
 
--- what has no line feed is one part, or none where it is empty
-pub part_alone : (xs : List ℕ) → 0 < length xs → NoByte 10 xs → parts_of xs ≡ xs ∷ []
-part_alone xs some h =
-    let whole : slice_split (λ b. eqb b 10) xs ≡ xs ∷ [] = ap (slice_split (λ b. eqb b 10)) (sym (append-nil xs)) ∙ split_joined 10 xs [] h tt in
-    ap without_empty_end whole ∙ cond-false _ _ _ (ne_eqb _ _ (λ e. (let none : length xs ≡ 0 = e in omega arith)))
+one_part : (xs : List ℕ) → NoByte 10 xs → slice_split (λ b. eqb b 10) xs ≡ xs ∷ []
+one_part xs h = ap (slice_split (λ b. eqb b 10)) (sym (append-nil xs)) ∙ split_joined 10 xs [] h tt
+
+-- what has no line feed is a line where the stream is over
+pub part_alone : (over : Bool) (xs : List ℕ) → 0 < length xs → NoByte 10 xs → parts_of over xs ≡ last_when over xs
+part_alone true xs some h = ap (lines_among true) (one_part xs h) ∙ cond-true _ _ _ (lt-ltb _ _ some)
+part_alone false xs some h = ap (lines_among false) (one_part xs h)
+
+-- and none where the stream may go on
+pub no_part : (xs : List ℕ) → NoByte 10 xs → parts_of false xs ≡ []
+no_part xs h = ap (lines_among false) (one_part xs h)
 
 -- ---- lines as they are shown
 
@@ -87,53 +97,60 @@ shown_held xs more =
       | inr short ↦ ap (λ b. shown (b ++ more)) (held_short xs short)
     ]
 
-abbrev pub shown_lines : List ℕ → List (List ℕ)
-shown_lines stream = map (take 257) (lines_of stream)
+abbrev pub shown_lines : Bool → List ℕ → List (List ℕ)
+shown_lines over stream = map (take 257) (lines_when over stream)
 
 -- a line that a line feed ends
-pub shown_line_ends : (xs first tail more : List ℕ) → NoByte 10 xs → NoByte 10 first → more ≡ first ++ 10 ∷ tail → shown_lines (xs ++ more) ≡ shown (xs ++ first) ∷ shown_lines tail
-shown_line_ends xs first tail more h k is =
+pub shown_line_ends : (over : Bool) (xs first tail more : List ℕ) → NoByte 10 xs → NoByte 10 first → more ≡ first ++ 10 ∷ tail
+    → shown_lines over (xs ++ more) ≡ shown (xs ++ first) ∷ shown_lines over tail
+shown_line_ends over xs first tail more h k is =
     let regrouped : xs ++ more ≡ (xs ++ first) ++ 10 ∷ tail = ap (λ b. xs ++ b) is ∙ sym (append_assoc xs first (10 ∷ tail)) in
-    ap shown_lines regrouped ∙ ap (λ parts. map (take 257) (map strip_carriage_return parts)) (part_ends (xs ++ first) tail (no_byte_append 10 xs first h k))
+    ap (shown_lines over) regrouped ∙ ap (λ parts. map (take 257) (map strip_carriage_return parts)) (part_ends over (xs ++ first) tail (no_byte_append 10 xs first h k))
 
 -- a last line that lacks it
-pub shown_line_alone : (xs more : List ℕ) → 0 < length xs → NoByte 10 xs → NoByte 10 more → shown_lines (xs ++ more) ≡ shown (xs ++ more) ∷ []
-shown_line_alone xs more some h k =
+pub shown_line_alone : (over : Bool) (xs more : List ℕ) → 0 < length xs → NoByte 10 xs → NoByte 10 more → shown_lines over (xs ++ more) ≡ last_when over (shown (xs ++ more))
+shown_line_alone true xs more some h k =
     let nonempty : 0 < length (xs ++ more) = omega (arith, length-append xs more) in
-    ap (λ parts. map (take 257) (map strip_carriage_return parts)) (part_alone (xs ++ more) nonempty (no_byte_append 10 xs more h k))
+    ap (λ parts. map (take 257) (map strip_carriage_return parts)) (part_alone true (xs ++ more) nonempty (no_byte_append 10 xs more h k))
+shown_line_alone false xs more some h k =
+    ap (λ parts. map (take 257) (map strip_carriage_return parts)) (no_part (xs ++ more) (no_byte_append 10 xs more h k))
+
+-- no line has ended in what has no line feed
+pub no_line_shown : (xs : List ℕ) → NoByte 10 xs → shown_lines false (xs ++ []) ≡ []
+no_line_shown xs h = ap (shown_lines false) (append-nil xs) ∙ ap (λ parts. map (take 257) (map strip_carriage_return parts)) (no_part xs h)
 
 length_held_long : (xs : List ℕ) → 257 < length xs → 0 < length (held xs)
 length_held_long xs long = rw (held_long xs long) (omega (arith, length-append (take 257 xs) (0 ∷ [])))
 
-shown_held_long : (xs more : List ℕ) → 257 < length xs → NoByte 10 xs → shown_lines (held xs ++ more) ≡ shown_lines (xs ++ more)
-shown_held_long xs more long h = go (split_parts 10 more).0 (split_parts 10 more).1 (split_parts 10 more).2
+shown_held_long : (over : Bool) (xs more : List ℕ) → 257 < length xs → NoByte 10 xs → shown_lines over (held xs ++ more) ≡ shown_lines over (xs ++ more)
+shown_held_long over xs more long h = go (split_parts 10 more).0 (split_parts 10 more).1 (split_parts 10 more).2
   where
     none_held : NoByte 10 (held xs)
     none_held = no_byte_held 10 xs (λ e. omega arith) h
 
-    go : (first : List ℕ) (rest : List (List ℕ)) → Parts 10 more first rest → shown_lines (held xs ++ more) ≡ shown_lines (xs ++ more)
+    go : (first : List ℕ) (rest : List (List ℕ)) → Parts 10 more first rest → shown_lines over (held xs ++ more) ≡ shown_lines over (xs ++ more)
     go first [] p =
         let none_more : NoByte 10 more = subst (NoByte 10) (sym (p.joined ∙ append-nil first)) p.none in
-        shown_line_alone (held xs) more (length_held_long xs long) none_held none_more ∙ (ap (λ line. line ∷ []) (shown_held xs more)
-        ∙ sym (shown_line_alone xs more (omega arith) h none_more))
+        shown_line_alone over (held xs) more (length_held_long xs long) none_held none_more ∙ (ap (last_when over) (shown_held xs more)
+        ∙ sym (shown_line_alone over xs more (omega arith) h none_more))
     go first (r ∷ rs) p =
-        shown_line_ends (held xs) first (r ++ led_by 10 rs) more none_held p.none p.joined ∙ (ap (λ line. line ∷ shown_lines (r ++ led_by 10 rs)) (shown_held xs first)
-        ∙ sym (shown_line_ends xs first (r ++ led_by 10 rs) more h p.none p.joined))
+        shown_line_ends over (held xs) first (r ++ led_by 10 rs) more none_held p.none p.joined ∙ (ap (λ line. line ∷ shown_lines over (r ++ led_by 10 rs)) (shown_held xs first)
+        ∙ sym (shown_line_ends over xs first (r ++ led_by 10 rs) more h p.none p.joined))
 
 -- a line is as good as what is held of it, however the stream goes on
-pub shown_lines_held : (xs more : List ℕ) → NoByte 10 xs → shown_lines (held xs ++ more) ≡ shown_lines (xs ++ more)
-shown_lines_held xs more h =
+pub shown_lines_held : (over : Bool) (xs more : List ℕ) → NoByte 10 xs → shown_lines over (held xs ++ more) ≡ shown_lines over (xs ++ more)
+shown_lines_held over xs more h =
     elim (cases_lt 257 (length xs)) [
-      | inl long ↦ shown_held_long xs more long h
-      | inr short ↦ ap (λ b. shown_lines (b ++ more)) (held_short xs short)
+      | inl long ↦ shown_held_long over xs more long h
+      | inr short ↦ ap (λ b. shown_lines over (b ++ more)) (held_short xs short)
     ]
 
 -- ---- steps of a splitter
 
 -- all of a piece goes onto the line
-pub piece_held : (begun piece more : List ℕ) → NoByte 10 begun → NoByte 10 piece → shown_lines (begun ++ (piece ++ more)) ≡ shown_lines (held (begun ++ piece) ++ more)
-piece_held begun piece more h k =
-    ap shown_lines (sym (append_assoc begun piece more)) ∙ sym (shown_lines_held (begun ++ piece) more (no_byte_append 10 begun piece h k))
+pub piece_held : (over : Bool) (begun piece more : List ℕ) → NoByte 10 begun → NoByte 10 piece → shown_lines over (begun ++ (piece ++ more)) ≡ shown_lines over (held (begun ++ piece) ++ more)
+piece_held over begun piece more h k =
+    ap (shown_lines over) (sym (append_assoc begun piece more)) ∙ sym (shown_lines_held over (begun ++ piece) more (no_byte_append 10 begun piece h k))
 
 -- what stands before the first line feed of a piece, and after it
 pub record IsParted (piece : List ℕ) (end : ℕ) : Type 0 where
@@ -142,18 +159,18 @@ pub record IsParted (piece : List ℕ) (end : ℕ) : Type 0 where
   pub joined : piece ≡ take end piece ++ 10 ∷ drop (end + 1) piece
 
 -- a line feed ends the line
-pub line_taken : (begun piece more : List ℕ) (end : ℕ) → NoByte 10 begun → IsParted piece end
-    → shown_lines (begun ++ (piece ++ more)) ≡ shown (held (begun ++ take end piece)) ∷ shown_lines (drop (end + 1) piece ++ more)
-line_taken begun piece more end h p =
+pub line_taken : (over : Bool) (begun piece more : List ℕ) (end : ℕ) → NoByte 10 begun → IsParted piece end
+    → shown_lines over (begun ++ (piece ++ more)) ≡ shown (held (begun ++ take end piece)) ∷ shown_lines over (drop (end + 1) piece ++ more)
+line_taken over begun piece more end h p =
     let front = take end piece in
     let rest = drop (end + 1) piece ++ more in
     let parted : piece ++ more ≡ front ++ 10 ∷ rest = ap (λ b. b ++ more) p.joined ∙ append_assoc front (10 ∷ drop (end + 1) piece) more in
     let alone : shown (held (begun ++ front)) ≡ shown (begun ++ front) = (
     ap shown (sym (append-nil (held (begun ++ front)))) ∙ (shown_held (begun ++ front) [] ∙ ap shown (append-nil (begun ++ front)))) in
-    shown_line_ends begun front rest (piece ++ more) h p.none parted ∙ ap (λ line. line ∷ shown_lines rest) (sym alone)
+    shown_line_ends over begun front rest (piece ++ more) h p.none parted ∙ ap (λ line. line ∷ shown_lines over rest) (sym alone)
 
-pub last_line_taken : (begun : List ℕ) → 0 < length begun → NoByte 10 begun → shown_lines (begun ++ []) ≡ shown begun ∷ []
-last_line_taken begun some h = shown_line_alone begun [] some h tt ∙ ap (λ b. shown b ∷ []) (append-nil begun)
+pub last_line_taken : (begun : List ℕ) → 0 < length begun → NoByte 10 begun → shown_lines true (begun ++ []) ≡ shown begun ∷ []
+last_line_taken begun some h = shown_line_alone true begun [] some h tt ∙ ap (λ b. shown b ∷ []) (append-nil begun)
 
 -- ---- what a search for the first line feed says
 

@@ -1,5 +1,5 @@
 -- The lines of a trace text, and what is read of them.
-use Rattle.std.specs.Prelude.{◌≡◌, ℕ, ◌+◌, ◌<◌, ◌≤◌, Bool, true, not, ◌==◌, nat_lt, List, [], ◌∷◌, ◌++◌, length, take, drop, map, filter, if◌then◌else◌}
+use Rattle.std.specs.Prelude.{◌≡◌, ℕ, ◌+◌, ◌<◌, ◌≤◌, Bool, true, false, not, ◌&&◌, ◌==◌, nat_lt, List, [], ◌∷◌, ◌++◌, length, take, drop, map, filter, if◌then◌else◌}
 use Rattle.std.specs.List.{slice_split, enumerate_from}
 use Rattle.std.specs.Str.Lines.{strip_carriage_return}
 use Rattle.hg_wire.specs.declared.reader.Reading.{Reading}
@@ -7,15 +7,19 @@ use Rattle.hg_wire.specs.declared.reader.Taken.{Taken}
 use Rattle.hg_wire.specs.declared.reader.Taken.TheVariants.{Line, More}
 use Rattle.hg_wire.specs.Lines.{line_of}
 
--- the parts between line feeds: what follows the last of them is a line where it is not empty
-abbrev pub without_empty_end : List (List ℕ) → List (List ℕ)
-without_empty_end [] = []
-without_empty_end (part ∷ []) = if length part == 0 then [] else part ∷ []
-without_empty_end (part ∷ next ∷ parts) = part ∷ without_empty_end (next ∷ parts)
+-- The lines among the parts between line feeds: what follows the last line feed is one where the stream is over and it is not empty.
+abbrev pub lines_among : Bool → List (List ℕ) → List (List ℕ)
+lines_among over [] = []
+lines_among over (part ∷ []) = if over && nat_lt 0 (length part) then part ∷ [] else []
+lines_among over (part ∷ next ∷ parts) = part ∷ lines_among over (next ∷ parts)
 
--- The lines of a stream, each without its line feed and without the one carriage return that may stand before it.
+-- The lines of a stream that is over, or that may go on, each without its line feed and without the one carriage return that may stand before it.
+abbrev pub lines_when : Bool → List ℕ → List (List ℕ)
+lines_when over stream = map strip_carriage_return (lines_among over (slice_split (λ b. b == 10) stream))
+
+-- The lines of a whole stream.
 abbrev pub lines_of : List ℕ → List (List ℕ)
-lines_of stream = map strip_carriage_return (without_empty_end (slice_split (λ b. b == 10) stream))
+lines_of stream = lines_when true stream
 
 -- an empty line, and a line that begins with `#`, is skipped
 abbrev pub is_skipped : List ℕ → Bool
@@ -29,13 +33,21 @@ reading_of numbered = record { line = numbered.0; event = line_of numbered.1 }
 abbrev pub readings_in : List (ℕ × List ℕ) → List Reading
 readings_in lines = map reading_of (filter (λ numbered. not (is_skipped numbered.1)) lines)
 
--- What is read of a stream of which n lines came before: lines are counted from n + 1 on, and all of them are.
+-- What is read of a stream of which n lines came before, and which is over or may go on: lines are counted from n + 1 on, and all of them are.
+abbrev pub readings_when : Bool → ℕ → List ℕ → List Reading
+readings_when over n stream = readings_in (enumerate_from (n + 1) (lines_when over stream))
+
+-- What is read of the rest of a stream of which n lines came before.
 abbrev pub readings_after : ℕ → List ℕ → List Reading
-readings_after n stream = readings_in (enumerate_from (n + 1) (lines_of stream))
+readings_after n stream = readings_when true n stream
 
 -- What is read of a whole stream.
 abbrev pub readings : List ℕ → List Reading
 readings stream = readings_after 0 stream
+
+-- What is read of a stream that may go on: of those of its lines that a line feed ends.
+abbrev pub ended_readings : List ℕ → List Reading
+ended_readings stream = readings_when false 0 stream
 
 -- How far a stream has come: how many lines have ended, and what has come of the line that has not.
 -- (A line that is too long to be an event is as good as its first 257 bytes and one byte more, so that it may be held as those.)
@@ -50,9 +62,13 @@ at_start = record { lines = 0; begun = [] }
 abbrev pub readings_from : Pending → List ℕ → List Reading
 readings_from pending rest = readings_after pending.lines (pending.begun ++ rest)
 
--- The lines that end in the rest of a stream, each with its number, and shown by its first 257 bytes at most.
-abbrev pub lines_from : Pending → List ℕ → List (ℕ × List ℕ)
-lines_from pending rest = enumerate_from (pending.lines + 1) (map (take 257) (lines_of (pending.begun ++ rest)))
+-- The same, of the lines that a line feed ends.
+abbrev pub ended_from : Pending → List ℕ → List Reading
+ended_from pending rest = readings_when false pending.lines (pending.begun ++ rest)
+
+-- The lines that end in the rest of a stream, which is over or may go on, each with its number, and shown by its first 257 bytes at most.
+abbrev pub lines_from : Bool → Pending → List ℕ → List (ℕ × List ℕ)
+lines_from over pending rest = enumerate_from (pending.lines + 1) (map (take 257) (lines_when over (pending.begun ++ rest)))
 
 -- what is held of the bytes of a line: its first 257, and a 0 for those after them
 abbrev pub held : List ℕ → List ℕ
@@ -68,18 +84,19 @@ pub record EndsLine (old new : Splitting) (piece : List ℕ) (used : ℕ) : Type
   pub some : 0 < used
   pub within : used ≤ length piece
   pub counted : new.pending.lines ≡ old.pending.lines + 1
-  pub line : (more : List ℕ) → lines_from old.pending (piece ++ more) ≡ (new.pending.lines, new.last) ∷ lines_from new.pending (drop used piece ++ more)
+  pub line : (over : Bool) (more : List ℕ) → lines_from over old.pending (piece ++ more) ≡ (new.pending.lines, new.last) ∷ lines_from over new.pending (drop used piece ++ more)
 
 -- Taking all of the piece ends no line.
 pub record EndsNoLine (old new : Splitting) (piece : List ℕ) : Type 0 where
   pub counted : new.pending.lines ≡ old.pending.lines
-  pub lines : (more : List ℕ) → lines_from old.pending (piece ++ more) ≡ lines_from new.pending more
+  pub lines : (over : Bool) (more : List ℕ) → lines_from over old.pending (piece ++ more) ≡ lines_from over new.pending more
+  pub none_left : lines_from false new.pending [] ≡ []
 
 -- At the end of the stream the line that lacks its line feed ends.
 pub record EndsLastLine (old new : Splitting) : Type 0 where
   pub counted : new.pending.lines ≡ old.pending.lines + 1
   pub begun : new.pending.begun ≡ []
-  pub line : lines_from old.pending [] ≡ (new.pending.lines, new.last) ∷ []
+  pub line : lines_from true old.pending [] ≡ (new.pending.lines, new.last) ∷ []
 
 -- Taking so many bytes of the piece gives one reading.
 pub record GivesReading (old new : Pending) (piece : List ℕ) (reading : Reading) (used : ℕ) : Type 0 where
@@ -87,11 +104,14 @@ pub record GivesReading (old new : Pending) (piece : List ℕ) (reading : Readin
   pub within : used ≤ length piece
   pub counted : new.lines ≤ old.lines + used
   pub readings : (more : List ℕ) → readings_from old (piece ++ more) ≡ reading ∷ readings_from new (drop used piece ++ more)
+  pub ended : (more : List ℕ) → ended_from old (piece ++ more) ≡ reading ∷ ended_from new (drop used piece ++ more)
 
--- Taking all of the piece gives none.
+-- Taking all of the piece gives none, and each line that a line feed ends in it is taken.
 pub record GivesNoReading (old new : Pending) (piece : List ℕ) : Type 0 where
   pub counted : new.lines ≤ old.lines + length piece
   pub readings : (more : List ℕ) → readings_from old (piece ++ more) ≡ readings_from new more
+  pub ended : (more : List ℕ) → ended_from old (piece ++ more) ≡ ended_from new more
+  pub none_left : ended_from new [] ≡ []
 
 -- What is taken of a piece.
 abbrev pub Takes : Pending → Pending → List ℕ → Taken → Type 0

@@ -2,7 +2,7 @@
 
 ghost use Rattle.std.specs.Prelude.{◌≡◌, ◌++◌, OnOk, OnErr};
 ghost use Rattle.std.specs.Fmt.{decimal};
-ghost use Rattle.hg_wire.specs.Reports.{bad_line, fault_line, predecessors_text, refused_line, segment_front, segment_line};
+ghost use Rattle.hg_wire.specs.Reports.{bad_line, predecessors_text, refused_line, segment_front, segment_line};
 
 use crate::report::{put_all, put_number_after};
 use hg_model::segment::Segment;
@@ -32,14 +32,6 @@ pub fn put_bad_line(line: u64, out: &mut Vec<u8>) -> Result<(), AllocError>
     ensures err { OnErr result (out.new.items ≡ out.old.items) }
 {
     put_number_after(b"bad line ", line, out)
-}
-
-/// Appends the line of a fault. An `Err` leaves `out` as it was.
-pub fn put_fault_line(code: u8, out: &mut Vec<u8>) -> Result<(), AllocError>
-    ensures ok { OnOk result (out.new.items ≡ out.old.items ++ fault_line code) }
-    ensures err { OnErr result (out.new.items ≡ out.old.items) }
-{
-    put_number_after(b"fault ", u64::from(code), out)
 }
 
 /// Appends the line of the segment that was opened as `number`, from 0 on. An `Err` leaves `out` as it was.

@@ -33,7 +33,7 @@ impl Model for Splitter {
 }
 
 impl Splitter {
-    ghost use Rattle.std.specs.Prelude.{take};
+    ghost use Rattle.std.specs.Prelude.{take, true};
     ghost use Rattle.std.specs.Str.Lines.{strip_carriage_return};
     ghost use Rattle.hg_wire.specs.Streams.{at_start, lines_from, EndsLine, EndsNoLine, EndsLastLine};
 
@@ -107,7 +107,7 @@ impl Splitter {
     pub fn finish(&mut self) -> bool
         requires { self.old.pending.lines + 1 < 2 ^ 64 }
         ensures line { OnTrue result (EndsLastLine self.old self.new) }
-        ensures none { OnFalse result ((self.new ≡ self.old) × (lines_from self.old.pending [] ≡ [])) }
+        ensures none { OnFalse result ((self.new ≡ self.old) × (lines_from true self.old.pending [] ≡ [])) }
     {
         if self.line.is_empty() {
             return false;

@@ -1,5 +1,4 @@
 use Rattle.std.proofs.Common.{arith, [], ◌∷◌}
-use Rattle.hg_model.specs.declared.event.Event.TheVariants.{Read, Write}
 use Rattle.hg_wire.specs.Verbs.{verb_of, AllFit}
 use Rattle.hg_wire.specs.declared.verb.VerbKind.TheVariants as kind
 use Rattle.hg_wire.proofs.EventLemmas.{event_follows, event_line, makes_access, operands_fit}

@@ -1,4 +1,3 @@
-use Rattle.std.proofs.Common.{refl}
 use Rattle.hg_wire.proofs.ReaderLemmas.{event_gives}
 use Rattle.hg_wire.proofs.reader.EventReader.take_access.Goals as goal
 

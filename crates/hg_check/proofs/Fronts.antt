@@ -1,0 +1,73 @@
+-- What was written when a run was broken off.
+use Rattle.std.proofs.Common.{◌≡◌, ℕ, ◌<◌, Bool, true, false, List, [], ◌∷◌, ◌++◌, refl, sym, ap, subst, ◌∙◌, ⊎_elim, arith}
+use Rattle.std.proofs.lemmas.List.{append-nil}
+use Rattle.hg_streams.specs.declared.call.ReadCall.{ReadCall}
+use Rattle.hg_streams.specs.declared.call.WriteCall.{WriteCall}
+use Rattle.hg_streams.specs.Calls.{ends_met, given}
+use Rattle.hg_model.specs.Change.{empty_content}
+use Rattle.hg_model.specs.Contents.{Content}
+use Rattle.hg_sets.specs.Interning.{first_table}
+use Rattle.hg_wire.specs.Streams.{readings}
+use Rattle.hg_check.specs.declared.checker.Ending.{Ending}
+use Rattle.hg_check.specs.Checking.{ChecksTo}
+use Rattle.hg_check.specs.Printing.{EndsBy, MayBe, ReadsTo, TookFront, WroteFront, check_text, graph_text, last_line, line_text, live_text}
+use Rattle.hg_check.specs.Running.{HasReports}
+use Rattle.hg_check.proofs.Printed.{front_more, front_none}
+use Rattle.hg_check.proofs.Underway.{live_text_grows}
+use Rattle.hg_check.proofs.Unique.{leads_to_one}
+
+-- the reports of a content were written, or a front of them
+pub wrote_live : (live : Bool) (reads reads_new : List ReadCall) (first now : List WriteCall) (c : Content) → HasReports reads reads_new c → TookFront first now (live_text live c)
+    → WroteFront (λ d end. live_text live d) reads reads_new first now
+wrote_live live reads reads_new first now c h f = record {
+  later = h.later;
+  since = h.since;
+  front = λ input d end m l. let more = live_text_grows live c d (h.grows input d end m l) in front_more first now (live_text live c) more.0 (live_text live d) more.1 f;
+}
+
+pub wrote_none : (text : Content → Ending → List ℕ) (reads : List ReadCall) (old : List WriteCall) → WroteFront text reads reads old old
+wrote_none text reads old = record { later = []; since = refl; front = λ input d end m l. front_none old (text d end) }
+
+pub wrote_nothing : (text : Content → Ending → List ℕ) (reads : List ReadCall) (first now : List WriteCall) → TookFront first now [] → WroteFront text reads reads first now
+wrote_nothing text reads first now f = record { later = []; since = refl; front = λ input d end m l. front_more first now [] (text d end) (text d end) refl f }
+
+-- the reports are the front of what `check` prints
+pub wrote_check : (reads reads_new : List ReadCall) (first now : List WriteCall) → WroteFront (λ d end. live_text true d) reads reads_new first now → WroteFront check_text reads reads_new first now
+wrote_check reads reads_new first now w = record {
+  later = w.later;
+  since = w.since;
+  front = λ input d end m l. front_more first now (live_text true d) (line_text (last_line d end)) (check_text d end) refl (w.front input d end m l);
+}
+
+-- and nothing is the front of what `graph` prints
+pub wrote_graph : (reads reads_new : List ReadCall) (first now : List WriteCall) → WroteFront (λ d end. live_text false d) reads reads_new first now → WroteFront graph_text reads reads_new first now
+wrote_graph reads reads_new first now w = record {
+  later = w.later;
+  since = w.since;
+  front = λ input d end m l. front_more first now [] (graph_text d end) (graph_text d end) refl (w.front input d end m l);
+}
+
+checks_to_one : (input : List ℕ) (c d : Content) (first second : Ending) → ChecksTo input c first → ChecksTo input d second → (c ≡ d) × (first ≡ second)
+checks_to_one input c d first second h k = leads_to_one (readings input) (first_table 262144) empty_content c d first second h k
+
+met_some : (reads earlier : List ReadCall) → reads ≡ ReadCall.Gave [] ∷ earlier → 0 < ends_met reads
+met_some reads earlier is = subst (λ t. 0 < ends_met t) (sym is) (omega arith)
+
+settled : (reads : List ReadCall) (c d : Content) (end stop : Ending) (input : List ℕ) → EndsBy reads c end → MayBe reads input → ChecksTo input d stop → (c ≡ d) × (end ≡ stop)
+settled reads c d end stop input ends m l =
+    ⊎_elim
+    (λ met. let none : m.more ≡ [] = m.over (met_some reads met.0 met.1) in
+    let is : input ≡ given met.0 = m.joined ∙ (ap (λ t. given reads ++ t) none ∙ (append-nil (given reads) ∙ (ap given met.1 ∙ append-nil (given met.0)))) in
+    checks_to_one (given met.0) c d end stop met.2 (subst (λ t. ChecksTo t d stop) is l))
+    (λ stopped. checks_to_one (given reads ++ m.more) c d end stop (stopped m.more) (subst (λ t. ChecksTo t d stop) m.joined l))
+    ends
+
+-- what the reads led to is settled, and a front of its text was written
+pub wrote_settled : (text : Content → Ending → List ℕ) (reads reads_new : List ReadCall) (first now : List WriteCall) (c : Content) (end : Ending) → ReadsTo reads reads_new c end → TookFront first now (text c end)
+    → WroteFront text reads reads_new first now
+wrote_settled text reads reads_new first now c end r f = record {
+  later = r.later;
+  since = r.since;
+  front = λ input d stop m l. let same = settled r.later c d end stop input r.leads m l in
+      subst (λ (x : Content). TookFront first now (text x stop)) same.0 (subst (λ (x : Ending). TookFront first now (text c x)) same.1 f);
+}
