@@ -10,7 +10,9 @@ use Rattle.hg_sets.specs.Interning.{first_table}
 use Rattle.hg_wire.specs.Streams.{readings}
 use Rattle.hg_check.specs.declared.checker.Ending.{Ending}
 use Rattle.hg_check.specs.Checking.{ChecksTo}
-use Rattle.hg_check.specs.Printing.{EndsBy, MayBe, ReadsTo, TookFront, WroteFront, check_text, graph_text, last_line, line_text, live_text}
+use Rattle.hg_check.specs.Printing.{EndsBy, MayBe, ReadsTo, WroteFront, check_text, graph_text, last_line, line_text}
+use Rattle.hg_check.specs.Written.{TookFront}
+use Rattle.hg_check.specs.Running.{live_text}
 use Rattle.hg_check.specs.Running.{HasReports}
 use Rattle.hg_check.proofs.Printed.{front_more, front_none}
 use Rattle.hg_check.proofs.Underway.{live_text_grows}

@@ -8,7 +8,8 @@ use Rattle.hg_model.specs.declared.verdict.Refusal.{Refusal}
 use Rattle.hg_model.specs.declared.verdict.Refusal.TheVariants as refusal
 use Rattle.hg_check.specs.Streaming.{HasCause, HasWriteCause}
 use Rattle.hg_streams.specs.Told.{told_refusal}
-use Rattle.hg_check.specs.Printing.{HoldsNext, IsDue, Took, TookFront}
+use Rattle.hg_check.specs.Holding.{HoldsNext, IsDue}
+use Rattle.hg_check.specs.Written.{Took, TookFront}
 
 none_more : (n : ℕ) → n ≡ 0 + n
 none_more n = omega arith

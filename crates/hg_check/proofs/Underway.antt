@@ -17,7 +17,9 @@ use Rattle.hg_check.specs.declared.checker.Ending.{Ending}
 use Rattle.hg_sets.specs.Interning.{first_table}
 use Rattle.hg_check.specs.Checking.{ChecksTo, LeadsTo, PassesTo}
 use Rattle.hg_check.specs.declared.checker.Ending.TheVariants.{Ended}
-use Rattle.hg_check.specs.Printing.{EachIsNeeded, IsDue, MayBe, ReadsTo, line_text, live_text, reports_text}
+use Rattle.hg_check.specs.Printing.{EachIsNeeded, MayBe, ReadsTo, line_text, reports_text}
+use Rattle.hg_check.specs.Holding.{IsDue}
+use Rattle.hg_check.specs.Running.{live_text}
 use Rattle.hg_detect.specs.Memory.{IsWhole, content_of}
 use Rattle.hg_check.specs.Running.{Advances, EndsIn, Foretells, HasFew, HasRead, HasReports, MeetsEnd, Reaches, ReportsGrow, Stopped as StoppedAt}
 use Rattle.hg_check.proofs.Steps.{leads_grow, reports_stay}

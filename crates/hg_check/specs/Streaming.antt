@@ -1,4 +1,4 @@
--- What is read and written, and how that fails.
+-- Definition: part of what `check` promises. What is read and written, and how that fails.
 use Rattle.std.specs.Prelude.{◌≡◌, ◌⊎◌, ◌+◌, ◌<◌, ◌≤◌, ◌^◌, ℕ, List, length}
 use Rattle.hg_model.specs.declared.verdict.Refusal.{Refusal}
 use Rattle.hg_model.specs.Codes.{code_of}
@@ -7,7 +7,8 @@ use Rattle.hg_streams.specs.declared.call.WriteCall.{WriteCall}
 use Rattle.hg_streams.specs.Calls.{failed_reads, failed_writes}
 use Rattle.hg_model.specs.Contents.{Content}
 use Rattle.hg_check.specs.declared.checker.Ending.{Ending}
-use Rattle.hg_check.specs.Printing.{Took, WroteFront, fault_text}
+use Rattle.hg_check.specs.Written.{Took}
+use Rattle.hg_check.specs.Printing.{WroteFront, fault_text}
 use Rattle.hg_model.specs.declared.verdict.Refusal.TheVariants.{Damaged, FullSets, DeviceFault, OutOfMemory}
 
 -- A write or a flush failed.

@@ -1,7 +1,9 @@
 //! What a run prints: reports, segments and its last line.
 
 ghost use Rattle.std.specs.Prelude.{◌≡◌, ℕ, ◌+◌, ◌<◌, ◌++◌, Option, List, true, length, drop, IfErr, OnErr, OnOk};
-ghost use Rattle.hg_check.specs.Printing.{HoldsNext, IsDue, TookFront, last_line, line_text, reports_text, segments_text, stop_text};
+ghost use Rattle.hg_check.specs.Holding.{HoldsNext, IsDue};
+ghost use Rattle.hg_check.specs.Written.{TookFront};
+ghost use Rattle.hg_check.specs.Printing.{last_line, line_text, reports_text, segments_text, stop_text};
 ghost use Rattle.hg_detect.specs.Memory.{content_of};
 ghost use Rattle.hg_streams.specs.declared.call.WriteCall.{WriteCall};
 ghost use Rattle.hg_streams.specs.Calls.{failed_writes};

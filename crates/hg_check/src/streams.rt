@@ -3,7 +3,8 @@
 ghost use Rattle.std.specs.Prelude.{◌≡◌, ℕ, ◌+◌, List, [], IfErr, OnErr, OnOk};
 ghost use Rattle.hg_streams.specs.declared.call.WriteCall.{WriteCall};
 ghost use Rattle.hg_streams.specs.Calls.{failed_writes};
-ghost use Rattle.hg_check.specs.Printing.{IsDue, TookFront};
+ghost use Rattle.hg_check.specs.Holding.{IsDue};
+ghost use Rattle.hg_check.specs.Written.{TookFront};
 ghost use Rattle.hg_streams.specs.Told.{told};
 
 use hg_model::verdict::Refusal;

@@ -6,7 +6,8 @@ use Rattle.hg_wire.specs.declared.verb.Verb.{Verb}
 use Rattle.hg_model.specs.declared.event.Event.TheVariants.{Read, Write}
 use Rattle.hg_wire.specs.declared.verb.VerbKind.TheVariants as kind
 use Rattle.hg_wire.specs.Verbs.{row_of, verb_of, AllFit, Makes}
-use Rattle.hg_wire.specs.Lines.{AreOperands, HasOperands, HasEvent, HasEventLine, EndsLineBefore, line_of}
+use Rattle.hg_wire.specs.Lines.{AreOperands, line_of}
+use Rattle.hg_wire.specs.InFront.{HasOperands, HasEvent, HasEventLine, EndsLineBefore}
 use Rattle.hg_wire.proofs.WordLemmas.{led_by}
 use Rattle.hg_wire.proofs.VerbLemmas.{each_is_verb}
 use Rattle.hg_wire.proofs.LineLemmas.{operands_are_words, event_reads}

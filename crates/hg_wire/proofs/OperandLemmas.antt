@@ -3,9 +3,10 @@ use Rattle.std.proofs.Common.{◌≡◌, ℕ, ◌≤◌, List, [], ◌∷◌, �
 use Rattle.std.proofs.lemmas.List.{append_assoc, append-nil}
 use Rattle.std.proofs.lemmas.Slice.{first_rest}
 use Rattle.std.specs.List.{between}
-use Rattle.hg_wire.specs.Numbers.{HasNumber}
+use Rattle.hg_wire.specs.InFront.{HasNumber}
 use Rattle.hg_wire.specs.Verbs.{AllFit}
-use Rattle.hg_wire.specs.Lines.{AreOperands, HasOperands}
+use Rattle.hg_wire.specs.Lines.{AreOperands}
+use Rattle.hg_wire.specs.InFront.{HasOperands}
 use Rattle.hg_wire.proofs.WordLemmas.{led_by}
 
 pub one_operand : (bytes : List ℕ) (n : ℕ) (rest : List ℕ) → 1 ≤ length bytes → get_or bytes 0 0 ≡ 32 → HasNumber (between 1 (length bytes) bytes) n rest → HasOperands (64 ∷ []) bytes (n ∷ []) rest

@@ -10,7 +10,8 @@ use Rattle.hg_model.specs.declared.event.Event.{Event}
 use Rattle.hg_wire.specs.declared.reader.Reading.{Reading}
 use Rattle.hg_wire.specs.Words.{NoByte}
 use Rattle.hg_wire.specs.Verbs.{row_of}
-use Rattle.hg_wire.specs.Lines.{AreOperands, IsLine, HasEventLine, EndsLineBefore, line_of}
+use Rattle.hg_wire.specs.Lines.{AreOperands, IsLine, line_of}
+use Rattle.hg_wire.specs.InFront.{HasEventLine, EndsLineBefore}
 use Rattle.hg_wire.specs.Streams.{lines_when, is_skipped, reading_of, readings_in, readings_when, lines_from, Pending, Splitting, EndsLine, EndsNoLine, GivesReading, GivesNoReading}
 use Rattle.hg_wire.proofs.NumberLemmas.{number_no_byte}
 use Rattle.hg_wire.proofs.WordLemmas.{led_by}

@@ -8,7 +8,8 @@ use Rattle.std.proofs.lemmas.Slice.{between_to_end}
 use Rattle.std.specs.Char.{digit_value}
 use Rattle.std.specs.List.{between}
 use Rattle.std.specs.Str.Parse.{AllDigits, digits_value}
-use Rattle.hg_wire.specs.Numbers.{HasRun, IsFourDigits, HasNumeral, HasNumber, Decimal, Hexadecimal}
+use Rattle.hg_wire.specs.Numbers.{Decimal, Hexadecimal}
+use Rattle.hg_wire.specs.InFront.{HasRun, IsFourDigits, HasNumeral, HasNumber}
 use Rattle.hg_wire.proofs.NumberLemmas.{digits_value_is}
 
 pub run_starts : (base most : ℕ) (bytes : List ℕ) → HasRun base most bytes bytes 0

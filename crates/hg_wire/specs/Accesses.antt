@@ -1,4 +1,4 @@
--- The lines of reads and writes.
+-- For proofs alone: the lines of reads and writes, taken in their parts.
 use Rattle.std.specs.Prelude.{if◌then◌else◌}
 use Rattle.hg_model.specs.declared.event.Event.{Event}
 use Rattle.hg_model.specs.declared.event.Event.TheVariants.{Read, Write}

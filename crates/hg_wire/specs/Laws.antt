@@ -1,4 +1,4 @@
--- The laws of the grammar, which empty public functions promise.
+-- Definition: part of what `check` promises. The laws of the grammar, which empty public functions promise.
 use Rattle.std.specs.Prelude.{◌≡◌, ℕ, ◌↔◌, List, Ok, Err}
 use Rattle.hg_model.specs.declared.event.Event.{Event}
 use Rattle.hg_wire.specs.declared.line.LineFault.{LineFault}

@@ -2,7 +2,9 @@ pub mod Words
 pub mod Numbers
 pub mod Verbs
 pub mod Lines
+pub mod InFront
 pub mod Accesses
+pub mod Readings
 pub mod Streams
 pub mod Reports
 pub mod Laws

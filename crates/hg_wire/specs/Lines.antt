@@ -1,5 +1,5 @@
--- One line of the trace text, without its line end.
-use Rattle.std.specs.Prelude.{◌≡◌, ℕ, ◌+◌, ◌<◌, ◌≤◌, ◌^◌, Bool, ◌&&◌, ◌==◌, nat_lt, List, [], ◌∷◌, ◌++◌, length, find, Option, Some, None, option_and_then, option_map, ok_or, Result, Ok, Err, if◌then◌else◌, ⊤, ◌≢◌, ◌⊎◌}
+-- Definition: part of what `check` promises. One line of the trace text, without its line end.
+use Rattle.std.specs.Prelude.{◌≡◌, ℕ, ◌<◌, ◌≤◌, ◌^◌, Bool, ◌&&◌, ◌==◌, nat_lt, List, [], ◌∷◌, ◌++◌, length, find, Option, Some, None, option_and_then, option_map, ok_or, Result, Ok, Err, if◌then◌else◌, ⊤, ◌≢◌}
 use Rattle.std.specs.List.{slice_split, list_all, flat_map, before_first, AllByRecursion}
 use Rattle.std.specs.Borrow.{Bor}
 use Rattle.std.specs.Str.{bytes_eq}
@@ -95,33 +95,7 @@ of_words (word ∷ words) = of_verb (verb_named word) words
 unfoldable pub line_of : List ℕ → Result Event LineFault
 line_of line = if nat_lt 256 (length line) then Err TooLong else of_words (words_of line)
 
--- The bytes are a space and a word for each value, and then the rest.
-pub record HasOperands (widths bytes values rest : List ℕ) : Type 0 where
-  pub words : List (List ℕ)
-  pub operands : AreOperands widths words values
-  pub joined : bytes ≡ flat_map (λ word. 32 ∷ word) words ++ rest
-
--- The bytes spell the event, and then come the rest.
-pub record HasEvent (bytes : List ℕ) (event : Event) (rest : List ℕ) : Type 0 where
-  pub text : List ℕ
-  pub spelled : IsLine text event
-  pub joined : bytes ≡ text ++ rest
-
 -- the words of what follows a space, where one was found
 abbrev pub words_after : Option (Bor (List ℕ)) → List (List ℕ)
 words_after None = []
 words_after (Some line) = words_of line.now
-
--- The bytes are a line feed, perhaps with one carriage return before it, and then the rest.
-abbrev pub EndsLineBefore : List ℕ → List ℕ → Type 0
-EndsLineBefore bytes rest = (bytes ≡ 10 ∷ rest) ⊎ (bytes ≡ 13 ∷ 10 ∷ rest)
-
--- The first so many bytes are a line that spells the event, with its line feed.
-pub record HasEventLine (bytes : List ℕ) (event : Event) (used : ℕ) : Type 0 where
-  pub text : List ℕ
-  pub spelled : IsLine text event
-  pub middle : List ℕ
-  pub rest : List ℕ
-  pub joined : bytes ≡ text ++ middle
-  pub ends : EndsLineBefore middle rest
-  pub count : used + length rest ≡ length bytes

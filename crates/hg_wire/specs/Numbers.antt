@@ -1,5 +1,5 @@
--- Numbers of the trace text.
-use Rattle.std.specs.Prelude.{◌≡◌, ℕ, ◌+◌, ◌*◌, ◌^◌, ◌<◌, ◌≤◌, ◌&&◌, nat_eq, nat_le, List, [], ◌∷◌, ◌++◌, length, drop, codes, Option, Some, None, if◌then◌else◌}
+-- Definition: part of what `check` promises. Numbers of the trace text.
+use Rattle.std.specs.Prelude.{◌≡◌, ℕ, ◌+◌, ◌*◌, ◌^◌, ◌≤◌, ◌&&◌, nat_eq, nat_le, List, [], ◌∷◌, ◌++◌, length, drop, codes, Option, Some, None, if◌then◌else◌}
 use Rattle.std.specs.Char.{digit_value, is_digit}
 use Rattle.std.specs.List.{list_all, starts_with}
 use Rattle.std.specs.Str.Parse.{AllDigits, digits_value}
@@ -28,30 +28,3 @@ numeral base most digits =
 -- The number that the bytes spell, if they spell one.
 abbrev pub number_of : List ℕ → Option ℕ
 number_of bytes = if starts_with nat_eq bytes (codes "0x") then numeral 16 16 (drop 2 bytes) else numeral 10 20 bytes
-
--- Digits stand before the rest, and the value is theirs unless they are too many.
-pub record HasRun (base most : ℕ) (bytes rest : List ℕ) (value : ℕ) : Type 0 where
-  pub digits : List ℕ
-  pub each : AllDigits base digits
-  pub joined : bytes ≡ digits ++ rest
-  pub read : length digits ≤ most → value ≡ digits_value base digits
-
--- The four bytes are hexadecimal digits, which write the value.
-pub record IsFourDigits (a b c d value : ℕ) : Type 0 where
-  pub each : AllDigits 16 (a ∷ b ∷ c ∷ d ∷ [])
-  pub read : value ≡ digit_value a * 4096 + digit_value b * 256 + digit_value c * 16 + digit_value d
-
--- The bytes are a numeral of the number n of 64 bits, and then the rest.
-pub record HasNumeral (base most : ℕ) (bytes : List ℕ) (n : ℕ) (rest : List ℕ) : Type 0 where
-  pub digits : List ℕ
-  pub numeral : IsNumeral base most digits
-  pub value : n ≡ value_of base digits
-  pub fits : n < 2 ^ 64
-  pub joined : bytes ≡ digits ++ rest
-
--- The bytes spell the number n of 64 bits, and then come the rest.
-pub record HasNumber (bytes : List ℕ) (n : ℕ) (rest : List ℕ) : Type 0 where
-  pub text : List ℕ
-  pub spelled : IsNumber text n
-  pub fits : n < 2 ^ 64
-  pub joined : bytes ≡ text ++ rest

@@ -1,4 +1,4 @@
--- The lines that a run prints, without their line feeds.
+-- Definition: part of what `check` promises. The lines that a run prints, without their line feeds.
 use Rattle.std.specs.Prelude.{ℕ, ◌-◌, ◌/◌, ◌%◌, ◌^◌, Bool, List, [], ◌∷◌, ◌++◌, map, codes, if◌then◌else◌}
 use Rattle.std.specs.List.{join_with_byte, range_with_len}
 use Rattle.std.specs.Char.{digit_char}

@@ -1,4 +1,4 @@
--- The verbs of the trace text.
+-- Definition: part of what `check` promises. The verbs of the trace text.
 use Rattle.std.specs.Prelude.{◌≡◌, ◌<◌, ◌^◌, ℕ, List, [], ◌∷◌, codes, slice_index, if◌then◌else◌, ⊤}
 use Rattle.hg_model.specs.declared.event.Access.{Access}
 use Rattle.hg_model.specs.declared.event.Block.{Block}

@@ -1,4 +1,4 @@
--- Bytes without a given one.
+-- Definition: part of what `check` promises. Bytes without a given one.
 use Rattle.std.specs.Prelude.{◌≢◌, ℕ, List}
 use Rattle.std.specs.List.{AllByRecursion}
 

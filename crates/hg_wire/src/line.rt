@@ -2,7 +2,8 @@
 
 ghost use Rattle.std.specs.Prelude.{◌≡◌, IfSome};
 ghost use Rattle.hg_wire.specs.Accesses.{event_of};
-ghost use Rattle.hg_wire.specs.Lines.{HasEvent, HasEventLine, EndsLineBefore, line_of};
+ghost use Rattle.hg_wire.specs.Lines.{line_of};
+ghost use Rattle.hg_wire.specs.InFront.{HasEvent, HasEventLine, EndsLineBefore};
 
 use crate::operands::{long_in_front, short_in_front};
 use crate::verb::{VerbKind, access_verb_in_front, pair_event, sized_event, verb_in_front};

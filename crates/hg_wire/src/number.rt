@@ -2,7 +2,8 @@
 
 ghost use Rattle.std.specs.Prelude.{◌≡◌, ◌≤◌, IfSome, length, drop};
 ghost use Rattle.std.specs.Char.{digit_value};
-ghost use Rattle.hg_wire.specs.Numbers.{HasRun, HasNumeral, HasNumber, IsFourDigits, numeral};
+ghost use Rattle.hg_wire.specs.Numbers.{numeral};
+ghost use Rattle.hg_wire.specs.InFront.{HasRun, HasNumeral, HasNumber, IsFourDigits};
 ghost use Rattle.hg_wire.specs.Lines.{fitting, operand_of};
 
 /// The value of each byte as a digit of base 36, in either case, and 36 for the bytes that are none.

@@ -1,7 +1,7 @@
 //! The operands that follow a verb.
 
 ghost use Rattle.std.specs.Prelude.{[], ◌∷◌, IfSome};
-ghost use Rattle.hg_wire.specs.Lines.{HasOperands};
+ghost use Rattle.hg_wire.specs.InFront.{HasOperands};
 
 use crate::number::number_in_front;
 

@@ -2,7 +2,8 @@ use Rattle.std.proofs.Common.{◌≡◌, ℕ, ◌+◌, ◌<◌, ◌++◌, ◌∷
 use Rattle.std.proofs.lemmas.List.{drop_more}
 use Rattle.hg_model.specs.declared.segment.Segment.{Segment}
 use Rattle.hg_wire.specs.Reports.{segment_line}
-use Rattle.hg_check.specs.Printing.{HoldsNext, line_text, segments_text}
+use Rattle.hg_check.specs.Holding.{HoldsNext}
+use Rattle.hg_check.specs.Printing.{line_text, segments_text}
 use Rattle.hg_check.proofs.Printed.{always_err, front_due, holds_next}
 use Rattle.hg_check.proofs.printing.print_segments.Goals as goal
 

@@ -1,5 +1,5 @@
 use Rattle.std.proofs.Common.{◌-◌, ◌≤◌, length, drop}
-use Rattle.hg_wire.specs.Numbers.{HasRun}
+use Rattle.hg_wire.specs.InFront.{HasRun}
 use Rattle.hg_wire.proofs.number.hexadecimal_in_front.Given as goal
 
 abbrev pub invariant-loop-count : goal.invariant-loop-count

@@ -1,0 +1,14 @@
+-- For proofs alone: what is held of the text that is to be printed.
+use Rattle.std.specs.Prelude.{◌≡◌, ℕ, List, ◌++◌}
+use Rattle.hg_streams.specs.declared.call.WriteCall.{WriteCall}
+use Rattle.hg_check.specs.Written.{Took}
+
+-- The goal is what is to be printed in all since the output was as it was at first: some of it was written, some is held, and the rest is to come.
+pub record IsDue (first now : List WriteCall) (held rest goal : List ℕ) : Type 0 where
+  pub written : List ℕ
+  pub appended : Took first now written
+  pub whole : written ++ (held ++ rest) ≡ goal
+
+-- What comes next is held, and then less is to come.
+abbrev pub HoldsNext : List ℕ → List ℕ → List ℕ → List ℕ → Type 0
+HoldsNext old new more less = (first now : List WriteCall) (rest goal : List ℕ) → IsDue first now old (more ++ rest) goal → IsDue first now new (less ++ rest) goal
