@@ -7,3 +7,4 @@ mod Unique
 mod Kept
 mod Given
 mod Made
+mod Summing
