@@ -97,8 +97,9 @@ fn feed<'a>(alloc: Global) -> Result<Command<'a>, AllocError>
     ensures app { IfOk result (λ c. shape_of c ≡ spec.feed) }
     ensures local { IfOk result HasNoGlobals }
 {
-    let begun = Command::new(alloc, "feed")
-        .about("Reads a trace on standard input, and has a store accept its events");
+    let begun = Command::new(alloc, "feed").about(
+        "Reads a trace on standard input, and has a store accept its events",
+    );
     let of_store = begun.arg(directory(alloc, true))?;
     let of_source = of_store.arg(source(alloc))?;
     of_source.arg(frames(alloc))
