@@ -3,6 +3,7 @@ mod FeedDone
 mod FeedPieces
 mod FeedSteps
 mod FeedUnderway
+mod Fronts
 mod Unique
 mod Kept
 mod Given
