@@ -3,7 +3,7 @@ use Rattle.std.proofs.Common.{ℕ, List, [], ◌++◌, drop, sym, subst, arith}
 use Rattle.std.proofs.lemmas.List.{length-drop}
 use Rattle.hg_disk.specs.declared.disk.Disk as disk
 use Rattle.hg_wire.specs.declared.reader.Reading.{Reading}
-use Rattle.hg_wire.specs.Streams.{GivesNoReading, GivesReading, Pending, readings_from}
+use Rattle.hg_wire.specs.Streams.{GivesNoReading, GivesReading, Pending, ended_from, readings_from}
 use Rattle.hg_check.specs.declared.checker.Ending.{Ending}
 use Rattle.hg_commands.specs.FeedRunning.{EndsAt, FeedEndsIn, FeedReaches, IsReady, LeadsOn, Passes, Place, content_at}
 use Rattle.hg_commands.proofs.FeedSteps.{goes_on, stays_there}
@@ -13,6 +13,7 @@ module _ {D : Type 0} (g : disk.Ghosts D) where
   feed_reaches_first before p piece ready = record {
     goes = stays_there g p ready;
     leads = λ more last end h. h;
+    ended = λ more last end h. h;
     lines = omega arith;
     number = omega arith;
   }
@@ -23,6 +24,8 @@ module _ {D : Type 0} (g : disk.Ghosts D) where
     goes = goes_on g p q r so_far.goes on.goes;
     leads = λ more last end h. so_far.leads more last end
         (subst (λ xs. LeadsOn q xs last end) (sym (gives.readings more)) (on.leads (readings_from now (drop used rest ++ more)) last end h));
+    ended = λ more last end h. so_far.ended more last end
+        (subst (λ xs. LeadsOn q xs last end) (sym (gives.ended more)) (on.leads (ended_from now (drop used rest ++ more)) last end h));
     lines = omega (arith, so_far.lines, gives.counted, gives.within, length-drop used rest);
     number = omega (arith, so_far.number, on.number, gives.some, gives.within, length-drop used rest);
   }
@@ -31,6 +34,7 @@ module _ {D : Type 0} (g : disk.Ghosts D) where
   feed_reaches_end before mid now p q piece rest so_far gives = record {
     goes = so_far.goes;
     leads = λ more last end h. so_far.leads more last end (subst (λ xs. LeadsOn q xs last end) (sym (gives.readings more)) h);
+    ended = λ more last end h. so_far.ended more last end (subst (λ xs. LeadsOn q xs last end) (sym (gives.ended more)) h);
     lines = omega (arith, so_far.lines, gives.counted);
     number = omega (arith, so_far.number);
   }

@@ -9,7 +9,7 @@ use Rattle.hg_model.specs.Contents.{Content}
 use Rattle.hg_streams.specs.declared.call.ReadCall.{ReadCall}
 use Rattle.hg_streams.specs.declared.call.ReadCall.TheVariants.{Gave}
 use Rattle.hg_streams.specs.declared.call.WriteCall.{WriteCall}
-use Rattle.hg_streams.specs.Calls.{failed_reads, given}
+use Rattle.hg_streams.specs.Calls.{ends_met, failed_reads, given}
 use Rattle.hg_check.specs.Printing.{Took}
 use Rattle.hg_disk.specs.declared.disk.Disk as disk
 use Rattle.hg_store.specs.Shown.{Shown}
@@ -20,8 +20,9 @@ use Rattle.hg_store.specs.Images.{HasContent, Image, IsLeft, failures_of, read_o
 use Rattle.hg_store.specs.Offers.{OfferDone}
 use Rattle.hg_store.specs.Recovering.{HasSets}
 use Rattle.hg_wire.specs.declared.reader.Reading.{Reading}
-use Rattle.hg_wire.specs.Streams.{Pending, readings, readings_from}
+use Rattle.hg_wire.specs.Streams.{Pending, ended_from, ended_readings, readings, readings_from}
 use Rattle.hg_check.specs.declared.checker.Ending.{Ending}
+use Rattle.hg_check.specs.declared.checker.Ending.TheVariants.{Ended}
 use Rattle.hg_commands.specs.declared.feeding.Fed.{Fed}
 use Rattle.hg_streams.specs.Told.{told_refusal}
 use Rattle.hg_check.specs.Streaming.{IsStreamFault}
@@ -87,6 +88,7 @@ pub record EndsAt {D : Type 0} (g : disk.Ghosts D) (old new : Place D) (reading 
 pub record FeedReaches {D : Type 0} (g : disk.Ghosts D) (before : Pending) (old : Place D) (piece : List ℕ) (now : Pending) (new : Place D) (rest : List ℕ) : Type 0 where
   pub goes : GoesOn g old new
   pub leads : (more : List ℕ) (last : Content) (end : Ending) → LeadsOn new (readings_from now (rest ++ more)) last end → LeadsOn old (readings_from before (piece ++ more)) last end
+  pub ended : (more : List ℕ) (last : Content) (end : Ending) → LeadsOn new (ended_from now (rest ++ more)) last end → LeadsOn old (ended_from before (piece ++ more)) last end
   pub lines : now.lines + length rest ≤ before.lines + length piece
   pub number : new.fed.number + length rest ≤ old.fed.number + length piece
 
@@ -102,18 +104,31 @@ FeedEndsBy source table first reads last end =
     ((earlier : List ReadCall) × (reads ≡ Gave [] ∷ earlier) × FeedsTo source (readings (given earlier)) table first 0 last end)
     ⊎ ((more : List ℕ) → FeedsTo source (readings (given reads ++ more)) table first 0 last end)
 
--- From the first reads to those of now, none failed, and what they gave leads from a table and a content to the last content and the ending.
+-- Each of these reads was needed: before the last of them none had met the end of the input, and each line that had come whole was passed: its event was accepted, or was sent before.
+pub record EachIsNeeded (source : ℕ) (table : Table) (start : Content) (reads : List ReadCall) : Type 0 where
+  pub last : ReadCall
+  pub earlier : List ReadCall
+  pub newest : reads ≡ last ∷ earlier
+  pub underway : ends_met earlier ≡ 0
+  pub content : Content
+  pub passed : FeedsTo source (ended_readings (given earlier)) table start 0 content Ended
+
+-- From the first reads to those of now, none failed, each was needed, and what they gave leads from a table and a content to the last content and the ending.
 pub record Feeds (first now : List ReadCall) (source : ℕ) (table : Table) (start last : Content) (end : Ending) : Type 0 where
   pub later : List ReadCall
   pub since : now ≡ later ++ first
   pub whole : failed_reads later ≡ 0
+  pub needed : EachIsNeeded source table start later
   pub leads : FeedEndsBy source table start later last end
 
--- From the first reads to those of now none failed, and whatever follows what they gave, what that leads to from here is what all of it leads to.
+-- From the first reads to those of now none failed and none met the end, each line that a line feed ended was passed, and whatever follows what they gave, what that leads to from here is what all of it leads to.
 pub record HasFed {D : Type 0} (first now : List ReadCall) (source : ℕ) (table : Table) (start : Content) (p : Pending) (here : Place D) : Type 0 where
   pub later : List ReadCall
   pub since : now ≡ later ++ first
   pub intact : failed_reads later ≡ 0
+  pub underway : ends_met later ≡ 0
+  pub none_left : ended_from p [] ≡ []
+  pub ended : (more : List ℕ) (last : Content) (end : Ending) → LeadsOn here (ended_from p more) last end → FeedsTo source (ended_readings (given later ++ more)) table start 0 last end
   pub leads : (more : List ℕ) (last : Content) (end : Ending) → LeadsOn here (readings_from p more) last end → FeedsTo source (readings (given later ++ more)) table start 0 last end
 
 -- A read of at most so many bytes brought feeding from here to there.

@@ -5,7 +5,7 @@ ghost use Rattle.hg_streams.specs.Calls.{failed_reads, failed_writes};
 ghost use Rattle.hg_streams.specs.Told.{told};
 ghost use Rattle.hg_check.specs.Printing.{Took};
 ghost use Rattle.hg_detect.specs.Memory.{content_of};
-ghost use Rattle.hg_wire.specs.Streams.{readings_from};
+ghost use Rattle.hg_wire.specs.Streams.{ended_from, readings_from};
 ghost use Rattle.hg_check.specs.declared.checker.Ending.{Ending as EndingOf};
 ghost use Rattle.hg_check.specs.Printing.{status_of};
 ghost use Rattle.hg_commands.specs.Feeding.{ack_text, feed_end_text};
@@ -160,6 +160,7 @@ fn feed_piece<D: Disk, W: Write>(
     requires number { fed.old.number + length piece.now < 2 ^ 64 }
     requires none { held.old.items ≡ [] }
     ensures reaches { result ≡ Ok None → FeedReaches ⟦<D as Disk>⟧ reader.old (place store.old fed.old output.old.calls) piece.now reader.new (place store.new fed.new output.new.calls) [] }
+    ensures none_left { result ≡ Ok None → ended_from reader.new [] ≡ [] }
     ensures ends { (end : EndingOf) → result ≡ Ok (Some end) → FeedEndsIn ⟦<D as Disk>⟧ reader.old (place store.old fed.old output.old.calls) piece.now (place store.new fed.new output.new.calls) end }
     ensures none { OnOk result (held.new.items ≡ []) }
     ensures cause { IfErr result IsStreamFault }

@@ -1,4 +1,4 @@
-use Rattle.std.proofs.Common.{◌≡◌, ◌∷◌, Result, Ok, take, length, ap, subst, ◌∙◌, arith}
+use Rattle.std.proofs.Common.{◌≡◌, ◌<◌, ◌≤◌, ◌∷◌, IfSome, Result, Ok, take, length, ap, subst, ◌∙◌, arith}
 use Rattle.std.proofs.lemmas.List.{length-take}
 use Rattle.hg_model.specs.declared.verdict.Refusal.{Refusal}
 use Rattle.hg_streams.specs.Calls.{got_call}
@@ -20,10 +20,13 @@ returns-in_default-clause-underway g c same =
 pub returns-in-None-clause-underway : goal.returns-in-None-clause-underway
 returns-in-None-clause-underway g c same =
     let same_length : length c.read.new.buffer ≡ length c.args.buffer.now = grind arith in
+    let within : c.in-Some.count ≤ length c.read.new.buffer = subst (λ x. IfSome x (λ n. n ≤ length c.read.new.buffer)) c.in-Some.is c.in_ok-count.ensures.within in
+    let some : 0 < c.in-Some.count = grind arith in
     advances_by_piece g.D.Disk c.args.input.now.calls c.read.new.self.calls c.args.reader.now c.feed_piece.new.reader
     (place c.args.store.now c.args.fed.now c.args.output.now.calls) (place c.feed_piece.new.store c.feed_piece.new.fed c.feed_piece.new.output.calls) (take c.in-Some.count c.read.new.buffer) (length c.args.buffer.now)
     (c.in_ok-count.ensures.calls ∙ ap (λ x. got_call x c.read.new.buffer ∷ c.args.input.now.calls) c.in-Some.is)
-    (c.in_ok-feed_piece.ensures.reaches (ap Ok c.in-None.is)) (omega (arith, length-take c.in-Some.count c.read.new.buffer, same_length))
+    (c.in_ok-feed_piece.ensures.reaches (ap Ok c.in-None.is)) (c.in_ok-feed_piece.ensures.none_left (ap Ok c.in-None.is))
+    (omega (arith, length-take c.in-Some.count c.read.new.buffer, within, some)) (omega (arith, length-take c.in-Some.count c.read.new.buffer, same_length))
 
 pub returns-in-Some-2-clause-stopped : goal.returns-in-Some-2-clause-stopped
 returns-in-Some-2-clause-stopped g c end same =
