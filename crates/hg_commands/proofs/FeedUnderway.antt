@@ -29,6 +29,9 @@ fed_at_first first p place start none = record {
   intact = refl;
   underway = refl;
   none_left = ap (λ (q : Pending). ended_from q []) start;
+  back = λ more last end h.
+      subst (λ (q : Pending). LeadsOn place (readings_from q more) last end) (sym start)
+      (subst (λ (k : ℕ). FeedsTo place.fed.source (readings more) (table_at place) (content_at place) k last end) (sym none) h);
   ended = λ more last end h.
       subst (λ (k : ℕ). FeedsTo place.fed.source (ended_readings more) (table_at place) (content_at place) k last end) none
       (subst (λ (q : Pending). LeadsOn place (ended_from q more) last end) start h);
@@ -112,6 +115,7 @@ advances_nothing g calls later p here room ready is = record {
     intact = omega (arith, h.intact);
     underway = h.underway;
     none_left = h.none_left;
+    back = h.back;
     ended = h.ended;
     leads = h.leads;
   };
@@ -130,6 +134,8 @@ advances_by_piece g calls later p q here there piece room is r none some within 
     intact = h.intact;
     underway = still_underway piece h.later some h.underway;
     none_left = none;
+    back = λ more last end l.
+        r.back more last end (h.back (piece ++ more) last end (subst (λ t. FeedsTo source (readings t) table start 0 last end) (append_assoc (given h.later) piece more) l));
     ended = λ more last end l.
         subst (λ t. FeedsTo source (ended_readings t) table start 0 last end) (sym (append_assoc (given h.later) piece more))
         (h.ended (piece ++ more) last end (r.ended more last end l));

@@ -4,6 +4,7 @@ mod FeedPieces
 mod FeedSteps
 mod FeedUnderway
 mod Fronts
+mod FeedFronts
 mod Unique
 mod Kept
 mod Given

@@ -65,8 +65,3 @@ module _ {D : Type 0} (g : disk.Ghosts D) where
   abbrev pub EndsByStoreFault : Listing → Devices D → Devices D → List WriteCall → List WriteCall → List WriteCall → List WriteCall → Type 0
   EndsByStoreFault listing old new calls_old calls_new faults_old faults_new =
       (r : Refusal) × (HasStoreCause old new calls_old calls_new r × (IsTold faults_old faults_new r × WroteListing listing old calls_old calls_new))
-
-  -- A command that reads ended by a fault: it had a cause, and was told, or that failed too.
-  abbrev pub EndsByFeedFault : Devices D → Devices D → List ReadCall → List ReadCall → List WriteCall → List WriteCall → List WriteCall → List WriteCall → Type 0
-  EndsByFeedFault old new reads_old reads_new calls_old calls_new faults_old faults_new =
-      (r : Refusal) × (HasFeedCause old new reads_old reads_new calls_old calls_new r × IsTold faults_old faults_new r)
