@@ -2,10 +2,11 @@
 use Rattle.std.proofs.Common.{ℕ, List, [], ◌++◌, drop, sym, subst, arith}
 use Rattle.std.proofs.lemmas.List.{length-drop}
 use Rattle.hg_disk.specs.declared.disk.Disk as disk
+use Rattle.hg_streams.specs.declared.call.WriteCall.{WriteCall}
 use Rattle.hg_wire.specs.declared.reader.Reading.{Reading}
-use Rattle.hg_wire.specs.Streams.{GivesNoReading, GivesReading, Pending, readings_from}
+use Rattle.hg_wire.specs.Streams.{GivesNoReading, GivesReading, Pending, ended_from, readings_from}
 use Rattle.hg_check.specs.declared.checker.Ending.{Ending}
-use Rattle.hg_commands.specs.FeedRunning.{EndsAt, FeedEndsIn, FeedReaches, IsReady, LeadsOn, Passes, Place, content_at}
+use Rattle.hg_commands.specs.FeedRunning.{BreaksAt, BreaksIn, EndsAt, FeedEndsIn, FeedReaches, IsReady, LeadsOn, Passes, Place, content_at}
 use Rattle.hg_commands.proofs.FeedSteps.{goes_on, stays_there}
 
 module _ {D : Type 0} (g : disk.Ghosts D) where
@@ -13,6 +14,8 @@ module _ {D : Type 0} (g : disk.Ghosts D) where
   feed_reaches_first before p piece ready = record {
     goes = stays_there g p ready;
     leads = λ more last end h. h;
+    back = λ more last end h. h;
+    ended = λ more last end h. h;
     lines = omega arith;
     number = omega arith;
   }
@@ -23,6 +26,10 @@ module _ {D : Type 0} (g : disk.Ghosts D) where
     goes = goes_on g p q r so_far.goes on.goes;
     leads = λ more last end h. so_far.leads more last end
         (subst (λ xs. LeadsOn q xs last end) (sym (gives.readings more)) (on.leads (readings_from now (drop used rest ++ more)) last end h));
+    back = λ more last end h. on.back (readings_from now (drop used rest ++ more)) last end
+        (subst (λ xs. LeadsOn q xs last end) (gives.readings more) (so_far.back more last end h));
+    ended = λ more last end h. so_far.ended more last end
+        (subst (λ xs. LeadsOn q xs last end) (sym (gives.ended more)) (on.leads (ended_from now (drop used rest ++ more)) last end h));
     lines = omega (arith, so_far.lines, gives.counted, gives.within, length-drop used rest);
     number = omega (arith, so_far.number, on.number, gives.some, gives.within, length-drop used rest);
   }
@@ -31,6 +38,8 @@ module _ {D : Type 0} (g : disk.Ghosts D) where
   feed_reaches_end before mid now p q piece rest so_far gives = record {
     goes = so_far.goes;
     leads = λ more last end h. so_far.leads more last end (subst (λ xs. LeadsOn q xs last end) (sym (gives.readings more)) h);
+    back = λ more last end h. subst (λ xs. LeadsOn q xs last end) (gives.readings more) (so_far.back more last end h);
+    ended = λ more last end h. so_far.ended more last end (subst (λ xs. LeadsOn q xs last end) (sym (gives.ended more)) h);
     lines = omega (arith, so_far.lines, gives.counted);
     number = omega (arith, so_far.number);
   }
@@ -42,3 +51,10 @@ module _ {D : Type 0} (g : disk.Ghosts D) where
     leads = λ more. so_far.leads more (content_at r) end
         (subst (λ xs. LeadsOn q xs (content_at r) end) (sym (gives.readings more)) (ends.leads (readings_from now (drop used rest ++ more))));
   }
+
+  -- a reading of the piece broke it off
+  pub breaks_in : (before mid now : Pending) (p q : Place D) (piece rest : List ℕ) (reading : Reading) (used : ℕ) (written : List WriteCall)
+      → FeedReaches g before p piece mid q rest → GivesReading mid now rest reading used → BreaksAt q reading written → BreaksIn before p piece written
+  breaks_in before mid now p q piece rest reading used written so_far gives broken more last end h first front events is =
+      broken (readings_from now (drop used rest ++ more)) last end (subst (λ xs. LeadsOn q xs last end) (gives.readings more) (so_far.back more last end h)) first front events
+      (so_far.goes.printed first front events is)

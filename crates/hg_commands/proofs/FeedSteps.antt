@@ -1,5 +1,5 @@
 -- One line of a trace text that is fed to a store.
-use Rattle.std.proofs.Common.{◌≡◌, ◌⊎◌, ℕ, suc, ◌+◌, ◌%◌, ◌<◌, Bool, true, false, cond, nat_eq, List, [], ◌++◌, length, Option, Some, None, Result, Ok, Err, refl, sym, ap, ◌∙◌, subst, inl, inr, ⊎_elim, arith, if◌then◌else◌}
+use Rattle.std.proofs.Common.{◌≡◌, ◌⊎◌, ℕ, suc, ◌+◌, ◌-◌, ◌%◌, ◌<◌, ◌≤◌, Bool, true, false, cond, nat_eq, List, [], ◌∷◌, ◌++◌, length, Option, Some, None, Result, Ok, Err, refl, sym, ap, ◌∙◌, subst, inl, inr, ⊎_elim, arith, if◌then◌else◌}
 use Rattle.std.proofs.lemmas.Bool.{lt-leb}
 use Rattle.std.proofs.lemmas.List.{append-nil, append_assoc}
 use Rattle.hg_streams.specs.declared.call.WriteCall.{WriteCall}
@@ -34,9 +34,13 @@ use Rattle.hg_check.specs.declared.checker.Ending.TheVariants.{Refused, Bad}
 use Rattle.hg_commands.specs.declared.feeding.Fed.{Fed}
 use Rattle.hg_commands.specs.Feeding.{Answers, FeedsTo, IsOffered, ack_text, acks_text, sent}
 use Rattle.hg_commands.specs.Storing.{failed_calls}
-use Rattle.hg_commands.specs.FeedRunning.{EndsAt, GoesOn, IsBacked, IsPrinted, IsReady, Passes, Place, WasCounted, WasSent, content_at, place, table_at}
+use Rattle.hg_commands.specs.FeedRunning.{BreaksAt, EndsAt, GoesOn, IsBacked, IsPrinted, IsReady, Passes, Place, WasCounted, WasSent, content_at, place, table_at}
 use Rattle.hg_check.specs.Running.{Stops}
-use Rattle.hg_check.proofs.Printed.{appends_on}
+use Rattle.hg_check.proofs.Printed.{appends_on, front_more}
+use Rattle.hg_check.specs.Written.{TookFront}
+use Rattle.hg_commands.specs.Printed.{IsPrintedNow}
+use Rattle.hg_commands.proofs.Fronts.{acks_front, feeds_grow, printed_front_on, printed_grown}
+use Rattle.hg_detect.proofs.Asking.{asks_not_both, asks_same}
 
 -- what an answered offer says of the verdict
 
@@ -79,6 +83,15 @@ feeds_same later last end s t v w c d k l source table content number h =
     (subst (λ (x : Table). FeedsTo s later x d l last end) table
     (subst (λ (x : Content). FeedsTo s later v x l last end) content
     (subst (λ (x : ℕ). FeedsTo s later v c x last end) number h)))
+
+-- what an accepted event led to is what is led to from behind it
+accepted_back : (t new : Table) (c last : Content) (n : Named) (line : ℕ) (later : Table → Content → Type 0) (end : Ending) → Asks t (sets_asked c n.event) None new
+    → Answers Accept t c n line later last end → later new (after c n)
+accepted_back t new c last n line later end sets h =
+    ⊎_elim
+    (λ went. subst (λ (u : Table). later u (after c n)) (asks_same (sets_asked c n.event) t h.0 new went.0 sets) went.1)
+    (λ full. absurd (asks_not_both (sets_asked c n.event) t new h.0 sets full.0))
+    h.1
 
 -- an event that was offered and accepted, and counted
 
@@ -151,6 +164,11 @@ module _ {D : Type 0} (g : disk.Ghosts D) where
                 feeds_same later last end j.source f.source t.detector.sets t.detector.sets (content_of t.detector) (after (content_of s.detector) (sent f.source f.number e)) j.number (f.number + 1) is.source refl is.content is.number h,
               ),
             ));
+        back = λ later last end h.
+            feeds_same later last end f.source j.source t.detector.sets t.detector.sets (after (content_of s.detector) (sent f.source f.number e)) (content_of t.detector) (f.number + 1) j.number (sym is.source) refl (sym is.content) (sym is.number)
+            (accepted_back s.detector.sets t.detector.sets (content_of s.detector) last (sent f.source f.number e) reading.line (λ t d. FeedsTo f.source later t d (f.number + 1) last end) end is.sets
+            (subst (λ v. Answers v s.detector.sets (content_of s.detector) (sent f.source f.number e) reading.line (λ t d. FeedsTo f.source later t d (f.number + 1) last end) last end) is.accept
+            (subst (λ x. IsOffered x f.source s.detector.sets (content_of s.detector) f.number reading.line (λ t d. FeedsTo f.source later t d (f.number + 1) last end) last end) event h)));
       }
 
   -- an answer that accepts nothing changes no content
@@ -197,6 +215,13 @@ module _ {D : Type 0} (g : disk.Ghosts D) where
   passed_over (Duplicate j) pending k line table c n later last end few h on = on
   passed_over (Refuse r) pending k line table c n later last end few h on = absurd (cc)
 
+  passed_back : (v : Verdict) (pending k line : ℕ) (table : Table) (c : Content) (n : Named) (later : Table → Content → Type 0) (last : Content) (end : Ending) → pending < 1024 → ByVerdict v pending (Ok (answer.Duplicate k))
+      → Answers v table c n line later last end → later table c
+  passed_back Accept pending k line table c n later last end few h on =
+      ⊎_elim (λ a. absurd (cc)) (λ b. ⊎_elim (λ x. absurd (cc)) (λ y. absurd (cc)) b) (never_full pending (Ok (answer.Duplicate k)) few h)
+  passed_back (Duplicate j) pending k line table c n later last end few h on = on
+  passed_back (Refuse r) pending k line table c n later last end few h on = absurd (cc)
+
   pub passes_duplicate : (s m : Shown D) (f i : Fed) (e : Event) (k : ℕ) (o : List WriteCall) (reading : Reading) → reading.event ≡ Ok e → IsReady s f → WasSent g s m f i e (Ok (answer.Duplicate k))
       → Passes g (place s f o) (place m i o) reading
   passes_duplicate s m f i e k o reading event ready was =
@@ -211,6 +236,12 @@ module _ {D : Type 0} (g : disk.Ghosts D) where
             (passed_over (verdict (standing_of c) n) (length s.pending) k reading.line s.detector.sets c n (λ t d. FeedsTo f.source later t d (f.number + 1) last end) last end (few_pending s f ready)
             (by_verdict s.is_broken (verdict (standing_of c) n) (length s.pending) (Ok (answer.Duplicate k)) ready.works was.done.answer)
             (feeds_same later last end i.source f.source m.detector.sets s.detector.sets (content_of m.detector) c i.number (f.number + 1) is.source (ap (λ (x : Shown D). x.detector.sets) (was.done.table.same (λ is. absurd (cc)) (λ is. absurd (cc)) (λ is. absurd (cc)))) is.content is.number h));
+        back = λ later last end h.
+            feeds_same later last end f.source i.source s.detector.sets m.detector.sets c (content_of m.detector) (f.number + 1) i.number (sym is.source)
+            (sym (ap (λ (x : Shown D). x.detector.sets) (was.done.table.same (λ is. absurd (cc)) (λ is. absurd (cc)) (λ is. absurd (cc))))) (sym is.content) (sym is.number)
+            (passed_back (verdict (standing_of c) n) (length s.pending) k reading.line s.detector.sets c n (λ t d. FeedsTo f.source later t d (f.number + 1) last end) last end (few_pending s f ready)
+            (by_verdict s.is_broken (verdict (standing_of c) n) (length s.pending) (Ok (answer.Duplicate k)) ready.works was.done.answer)
+            (subst (λ x. IsOffered x f.source s.detector.sets c f.number reading.line (λ t d. FeedsTo f.source later t d (f.number + 1) last end) last end) event h));
       }
 
   error_is : (y z : Refusal) → ◌≡◌ {A = Result Answer Refusal} (Err y) (Err z) → y ≡ z
@@ -276,3 +307,32 @@ module _ {D : Type 0} (g : disk.Ghosts D) where
         subst (λ x. IsOffered x f.source s.detector.sets (content_of s.detector) f.number reading.line (λ t d. FeedsTo f.source later t d (f.number + 1) (content_of s.detector) (Bad reading.line)) (content_of s.detector) (Bad reading.line)) (sym event)
         (refl, refl);
   }
+
+  -- an event was accepted, and its commit or the line of it was broken off
+  pub breaks_accepted : (s m : Shown D) (f i : Fed) (e : Event) (o p : List WriteCall) (reading : Reading) → reading.event ≡ Ok e → IsReady s f → WasSent g s m f i e (Ok answer.Accepted)
+      → IsPrintedNow o p (if nat_eq ((i.accepted + 1) % 256) 0 then ack_text (content_of m.detector).events else []) → BreaksAt (place s f o) reading p
+  breaks_accepted s m f i e o p reading event ready was now later last end l first front events h =
+      let c = content_of s.detector in
+      let n = sent f.source f.number e in
+      let accept = accepted_verdict (verdict (standing_of c) n) (length s.pending) (by_verdict s.is_broken (verdict (standing_of c) n) (length s.pending) (Ok answer.Accepted) ready.works was.done.answer) in
+      let content : content_of m.detector ≡ after c n = one_after (verdict (standing_of c) n) c (content_of m.detector) (after c n) accept was.done.live in
+      let on : FeedsTo f.source later m.detector.sets (after c n) (f.number + 1) last end =
+      accepted_back s.detector.sets m.detector.sets c last n reading.line (λ t d. FeedsTo f.source later t d (f.number + 1) last end) end (was.done.table.accepted refl)
+      (subst (λ v. Answers v s.detector.sets c n reading.line (λ t d. FeedsTo f.source later t d (f.number + 1) last end) last end) accept
+      (subst (λ x. IsOffered x f.source s.detector.sets c f.number reading.line (λ t d. FeedsTo f.source later t d (f.number + 1) last end) last end) event l)) in
+      let grown : c.events + 1 ≤ last.events = feeds_grow f.source later m.detector.sets (after c n) (f.number + 1) last end on in
+      let total : (content_of m.detector).events ≡ c.events + 1 = ap (λ (d : Content). d.events) content in
+      let same : i.accepted ≡ f.accepted = ap (λ (x : Fed). x.accepted) was.fed in
+      let sum : (content_of m.detector).events ≡ events + (i.accepted + 1) = omega (arith, total, h.count, same) in
+      let line = if nat_eq ((i.accepted + 1) % 256) 0 then ack_text (content_of m.detector).events else [] in
+      let more = acks_front events (i.accepted + 1) (last.events - events) (omega (arith, grown, total, sum)) in
+      let next : i.accepted + 1 ≡ f.accepted + 1 = omega (arith, same) in
+      front_more first p (front ++ acks_text events (i.accepted + 1)) more.0 (front ++ acks_text events (last.events - events))
+      (append_assoc front (acks_text events (i.accepted + 1)) more.0 ∙ ap (λ (t : List ℕ). front ++ t) more.1)
+      (subst (λ (t : List ℕ). TookFront first p t)
+      (append_assoc front (acks_text events f.accepted) line ∙ ap (λ (t : List ℕ). front ++ t) (sym (acks_on events f.accepted (i.accepted + 1) (content_of m.detector).events next sum)))
+      (printed_front_on first o p (front ++ acks_text events f.accepted) line h.printed now))
+
+  -- nothing was written since
+  pub breaks_still : (s : Shown D) (f : Fed) (o : List WriteCall) (reading : Reading) → BreaksAt (place s f o) reading o
+  breaks_still s f o reading later last end l = printed_grown (place s f o) last (feeds_grow f.source (reading ∷ later) s.detector.sets (content_of s.detector) f.number last end l)

@@ -1,16 +1,17 @@
 -- Feeding between two reads.
-use Rattle.std.proofs.Common.{◌≡◌, ℕ, ◌+◌, ◌*◌, ◌≤◌, List, [], ◌∷◌, ◌++◌, length, refl, sym, ap, subst, ◌∙◌, inl, inr, arith}
+use Rattle.std.proofs.Common.{◌≡◌, ℕ, ◌+◌, ◌*◌, ◌<◌, ◌≤◌, List, [], ◌∷◌, ◌++◌, length, refl, sym, ap, subst, ◌∙◌, inl, inr, arith}
 use Rattle.std.proofs.lemmas.List.{append-nil, append_assoc}
 use Rattle.std.specs.declared.io.ErrorKind.TheVariants.{Interrupted}
 use Rattle.hg_streams.specs.declared.call.ReadCall.{ReadCall}
-use Rattle.hg_streams.specs.Calls.{failed_reads, given}
+use Rattle.hg_streams.specs.Calls.{ends_met, failed_reads, given}
 use Rattle.hg_model.specs.Contents.{Content}
 use Rattle.hg_disk.specs.declared.disk.Disk as disk
 use Rattle.hg_sets.specs.Interning.{Table}
-use Rattle.hg_wire.specs.Streams.{Pending, at_start, readings, readings_from}
+use Rattle.hg_wire.specs.Streams.{Pending, at_start, ended_from, ended_readings, readings, readings_from}
 use Rattle.hg_check.specs.declared.checker.Ending.{Ending}
+use Rattle.hg_check.specs.declared.checker.Ending.TheVariants.{Ended}
 use Rattle.hg_commands.specs.Feeding.{FeedsTo}
-use Rattle.hg_commands.specs.FeedRunning.{FeedAdvances, FeedEndsIn, FeedMeetsEnd, FeedReaches, FeedStops, Feeds, GoesOn, HasFed, IsReady, LeadsOn, Place, content_at, table_at}
+use Rattle.hg_commands.specs.FeedRunning.{EachIsNeeded, FeedAdvances, FeedEndsIn, FeedMeetsEnd, FeedReaches, FeedStops, Feeds, GoesOn, HasFed, IsReady, LeadsOn, Place, content_at, table_at}
 use Rattle.hg_commands.proofs.FeedSteps.{goes_on, stays_there}
 
 -- What holds between two reads.
@@ -26,6 +27,14 @@ fed_at_first first p place start none = record {
   later = [];
   since = refl;
   intact = refl;
+  underway = refl;
+  none_left = ap (λ (q : Pending). ended_from q []) start;
+  back = λ more last end h.
+      subst (λ (q : Pending). LeadsOn place (readings_from q more) last end) (sym start)
+      (subst (λ (k : ℕ). FeedsTo place.fed.source (readings more) (table_at place) (content_at place) k last end) (sym none) h);
+  ended = λ more last end h.
+      subst (λ (k : ℕ). FeedsTo place.fed.source (ended_readings more) (table_at place) (content_at place) k last end) none
+      (subst (λ (q : Pending). LeadsOn place (ended_from q more) last end) start h);
   leads = λ more last end h.
       subst (λ (k : ℕ). FeedsTo place.fed.source (readings more) (table_at place) (content_at place) k last end) none
       (subst (λ (q : Pending). LeadsOn place (readings_from q more) last end) start h);
@@ -51,6 +60,23 @@ feeding_on g first calls later a b c p q reads size resized h on same = record {
   full = same ∙ h.full;
 }
 
+-- one read more was needed
+needed : {D : Type 0} (first calls : List ReadCall) (source : ℕ) (table : Table) (start : Content) (p : Pending) (here : Place D) (call : ReadCall) (h : HasFed first calls source table start p here)
+    → EachIsNeeded source table start (call ∷ h.later)
+needed {D} first calls source table start p here call h = record {
+  last = call;
+  earlier = h.later;
+  newest = refl;
+  underway = h.underway;
+  content = content_at here;
+  passed = subst (λ t. FeedsTo source (ended_readings t) table start 0 (content_at here) Ended) (append-nil (given h.later))
+      (h.ended [] (content_at here) Ended (subst (λ rs. LeadsOn here rs (content_at here) Ended) (sym h.none_left) (refl, refl)));
+}
+
+still_underway : (piece : List ℕ) (later : List ReadCall) → 0 < length piece → ends_met later ≡ 0 → ends_met (ReadCall.Gave piece ∷ later) ≡ 0
+still_underway [] later some h = absurd (omega arith)
+still_underway (b ∷ piece) later some h = h
+
 -- at the end of the input, its last line ends feeding
 pub feeds_at_end : {D : Type 0} (g : disk.Ghosts D) (first calls later : List ReadCall) (source : ℕ) (table : Table) (start : Content) (p q : Pending) (here there : Place D) (last : Content) (end : Ending)
     → HasFed first calls source table start p here → FeedMeetsEnd g calls later p here q there → LeadsOn there (readings_from q []) last end → Feeds first later source table start last end
@@ -58,6 +84,7 @@ feeds_at_end {D} g first calls later source table start p q here there last end 
   later = ReadCall.Gave [] ∷ h.later;
   since = m.met ∙ ap (λ t. ReadCall.Gave [] ∷ t) h.since;
   whole = h.intact;
+  needed = needed first calls source table start p here (ReadCall.Gave []) h;
   leads = inl (
     h.later,
     refl,
@@ -86,6 +113,10 @@ advances_nothing g calls later p here room ready is = record {
     later = ReadCall.Erred Interrupted ∷ h.later;
     since = is ∙ ap (λ t. ReadCall.Erred Interrupted ∷ t) h.since;
     intact = omega (arith, h.intact);
+    underway = h.underway;
+    none_left = h.none_left;
+    back = h.back;
+    ended = h.ended;
     leads = h.leads;
   };
   lines = omega arith;
@@ -94,13 +125,20 @@ advances_nothing g calls later p here room ready is = record {
 
 -- a read gave a piece, all of whose events were offered
 pub advances_by_piece : {D : Type 0} (g : disk.Ghosts D) (calls later : List ReadCall) (p q : Pending) (here there : Place D) (piece : List ℕ) (room : ℕ)
-    → later ≡ ReadCall.Gave piece ∷ calls → FeedReaches g p here piece q there [] → length piece ≤ room → FeedAdvances g calls later p here q there room
-advances_by_piece g calls later p q here there piece room is r within = record {
+    → later ≡ ReadCall.Gave piece ∷ calls → FeedReaches g p here piece q there [] → ended_from q [] ≡ [] → 0 < length piece → length piece ≤ room → FeedAdvances g calls later p here q there room
+advances_by_piece g calls later p q here there piece room is r none some within = record {
   goes = r.goes;
   leads = λ first source table start h. record {
     later = ReadCall.Gave piece ∷ h.later;
     since = is ∙ ap (λ t. ReadCall.Gave piece ∷ t) h.since;
     intact = h.intact;
+    underway = still_underway piece h.later some h.underway;
+    none_left = none;
+    back = λ more last end l.
+        r.back more last end (h.back (piece ++ more) last end (subst (λ t. FeedsTo source (readings t) table start 0 last end) (append_assoc (given h.later) piece more) l));
+    ended = λ more last end l.
+        subst (λ t. FeedsTo source (ended_readings t) table start 0 last end) (sym (append_assoc (given h.later) piece more))
+        (h.ended (piece ++ more) last end (r.ended more last end l));
     leads = λ more last end l.
         subst (λ t. FeedsTo source (readings t) table start 0 last end) (sym (append_assoc (given h.later) piece more))
         (h.leads (piece ++ more) last end (r.leads more last end l));
@@ -118,6 +156,7 @@ stops_by_piece g calls later p here there piece end is r = record {
     later = ReadCall.Gave piece ∷ h.later;
     since = is ∙ ap (λ t. ReadCall.Gave piece ∷ t) h.since;
     whole = h.intact;
+    needed = needed first calls source table start p here (ReadCall.Gave piece) h;
     leads = inr (λ more.
         subst (λ t. FeedsTo source (readings t) table start 0 (content_at there) end) (sym (append_assoc (given h.later) piece more))
         (h.leads (piece ++ more) (content_at there) end (r.leads more)));

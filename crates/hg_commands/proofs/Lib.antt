@@ -3,6 +3,8 @@ mod FeedDone
 mod FeedPieces
 mod FeedSteps
 mod FeedUnderway
+mod Fronts
+mod FeedFronts
 mod Unique
 mod Kept
 mod Given

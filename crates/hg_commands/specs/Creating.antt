@@ -12,6 +12,7 @@ use Rattle.hg_streams.specs.declared.call.WriteCall.{WriteCall}
 use Rattle.hg_streams.specs.Calls.{failed_writes}
 use Rattle.hg_streams.specs.Told.{told_refusal}
 use Rattle.hg_check.specs.Streaming.{IsTold}
+use Rattle.hg_check.specs.Written.{TookFront}
 use Rattle.hg_commands.specs.Instants.{Instant}
 use Rattle.hg_commands.specs.Printed.{WereGiven}
 use Rattle.hg_commands.specs.Storing.{failed_calls}
@@ -44,9 +45,15 @@ module _ {D : Type 0} (g : disk.Ghosts D) where
     pub failed : failed_calls g mid calls_new ≡ told_refusal r + failed_calls g old calls_old
     pub left : IsLeftBy old mid new
 
-  -- It was told, or that failed too.
+  -- What was written is a front of the line that is due, which tells whether the devices had a byte.
+  abbrev pub WroteAnswer : Devices D → List WriteCall → List WriteCall → Type 0
+  WroteAnswer old calls_old calls_new =
+      (IsEmpty g old × TookFront calls_old calls_new (codes "created\n")) ⊎ ((¬ IsEmpty g old) × TookFront calls_old calls_new (codes "not empty\n"))
+
+  -- It was told, or that failed too, and what was written before is a front of what was due.
   abbrev pub EndsByCreateFault : Devices D → Devices D → List WriteCall → List WriteCall → List WriteCall → List WriteCall → Type 0
-  EndsByCreateFault old new calls_old calls_new faults_old faults_new = (r : Refusal) × (HasCreateCause old new calls_old calls_new r × IsTold faults_old faults_new r)
+  EndsByCreateFault old new calls_old calls_new faults_old faults_new =
+      (r : Refusal) × (HasCreateCause old new calls_old calls_new r × (IsTold faults_old faults_new r × WroteAnswer old calls_old calls_new))
 
   -- Of a making that began at `start`, from one moment to a later one: `created` has not been written by the later one; or its writing had
   -- failed by the earlier one, and nothing is written since; or each image of the devices meanwhile has the content of a store of no events.

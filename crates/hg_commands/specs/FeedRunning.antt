@@ -1,5 +1,5 @@
 -- How far feeding has come.
-use Rattle.std.specs.Prelude.{◌≡◌, ◌⊎◌, ℕ, ◌+◌, ◌≤◌, ◌%◌, ◌^◌, false, nat_eq, List, [], ◌∷◌, ◌++◌, length, Result, IsTrue, if◌then◌else◌}
+use Rattle.std.specs.Prelude.{◌≡◌, ◌⊎◌, ℕ, ◌+◌, ◌-◌, ◌≤◌, ◌%◌, ◌^◌, false, nat_eq, List, [], ◌∷◌, ◌++◌, length, Result, IsTrue, if◌then◌else◌}
 use Rattle.hg_model.specs.declared.verdict.Refusal.{Refusal}
 use Rattle.hg_model.specs.declared.event.Event.{Event}
 use Rattle.hg_model.specs.declared.verdict.Refusal.TheVariants.{DeviceFault}
@@ -9,8 +9,9 @@ use Rattle.hg_model.specs.Contents.{Content}
 use Rattle.hg_streams.specs.declared.call.ReadCall.{ReadCall}
 use Rattle.hg_streams.specs.declared.call.ReadCall.TheVariants.{Gave}
 use Rattle.hg_streams.specs.declared.call.WriteCall.{WriteCall}
-use Rattle.hg_streams.specs.Calls.{failed_reads, given}
-use Rattle.hg_check.specs.Printing.{Took}
+use Rattle.hg_streams.specs.Calls.{ends_met, failed_reads, given}
+use Rattle.hg_check.specs.Printing.{MayBe, Took}
+use Rattle.hg_check.specs.Written.{TookFront}
 use Rattle.hg_disk.specs.declared.disk.Disk as disk
 use Rattle.hg_store.specs.Shown.{Shown}
 use Rattle.hg_detect.specs.Memory.{content_of}
@@ -20,12 +21,13 @@ use Rattle.hg_store.specs.Images.{HasContent, Image, IsLeft, failures_of, read_o
 use Rattle.hg_store.specs.Offers.{OfferDone}
 use Rattle.hg_store.specs.Recovering.{HasSets}
 use Rattle.hg_wire.specs.declared.reader.Reading.{Reading}
-use Rattle.hg_wire.specs.Streams.{Pending, readings, readings_from}
+use Rattle.hg_wire.specs.Streams.{Pending, ended_from, ended_readings, readings, readings_from}
 use Rattle.hg_check.specs.declared.checker.Ending.{Ending}
+use Rattle.hg_check.specs.declared.checker.Ending.TheVariants.{Ended}
 use Rattle.hg_commands.specs.declared.feeding.Fed.{Fed}
 use Rattle.hg_streams.specs.Told.{told_refusal}
-use Rattle.hg_check.specs.Streaming.{IsStreamFault}
-use Rattle.hg_commands.specs.Storing.{failed_calls}
+use Rattle.hg_check.specs.Streaming.{IsStreamFault, IsTold}
+use Rattle.hg_commands.specs.Storing.{HasFeedCause, failed_calls}
 use Rattle.hg_commands.specs.Feeding.{FeedsTo, ack_text, acks_text, feed_text, sent}
 
 -- a store, what was fed to it, and the output
@@ -77,6 +79,7 @@ pub record Passes {D : Type 0} (g : disk.Ghosts D) (old new : Place D) (reading 
   pub goes : GoesOn g old new
   pub number : new.fed.number ≡ old.fed.number + 1
   pub leads : (later : List Reading) (last : Content) (end : Ending) → LeadsOn new later last end → LeadsOn old (reading ∷ later) last end
+  pub back : (later : List Reading) (last : Content) (end : Ending) → LeadsOn old (reading ∷ later) last end → LeadsOn new later last end
 
 -- A reading ended the feeding, whatever follows it.
 pub record EndsAt {D : Type 0} (g : disk.Ghosts D) (old new : Place D) (reading : Reading) (end : Ending) : Type 0 where
@@ -87,6 +90,8 @@ pub record EndsAt {D : Type 0} (g : disk.Ghosts D) (old new : Place D) (reading 
 pub record FeedReaches {D : Type 0} (g : disk.Ghosts D) (before : Pending) (old : Place D) (piece : List ℕ) (now : Pending) (new : Place D) (rest : List ℕ) : Type 0 where
   pub goes : GoesOn g old new
   pub leads : (more : List ℕ) (last : Content) (end : Ending) → LeadsOn new (readings_from now (rest ++ more)) last end → LeadsOn old (readings_from before (piece ++ more)) last end
+  pub back : (more : List ℕ) (last : Content) (end : Ending) → LeadsOn old (readings_from before (piece ++ more)) last end → LeadsOn new (readings_from now (rest ++ more)) last end
+  pub ended : (more : List ℕ) (last : Content) (end : Ending) → LeadsOn new (ended_from now (rest ++ more)) last end → LeadsOn old (ended_from before (piece ++ more)) last end
   pub lines : now.lines + length rest ≤ before.lines + length piece
   pub number : new.fed.number + length rest ≤ old.fed.number + length piece
 
@@ -102,19 +107,78 @@ FeedEndsBy source table first reads last end =
     ((earlier : List ReadCall) × (reads ≡ Gave [] ∷ earlier) × FeedsTo source (readings (given earlier)) table first 0 last end)
     ⊎ ((more : List ℕ) → FeedsTo source (readings (given reads ++ more)) table first 0 last end)
 
--- From the first reads to those of now, none failed, and what they gave leads from a table and a content to the last content and the ending.
+-- Each of these reads was needed: before the last of them none had met the end of the input, and each line that had come whole was passed: its event was accepted, or was sent before.
+pub record EachIsNeeded (source : ℕ) (table : Table) (start : Content) (reads : List ReadCall) : Type 0 where
+  pub last : ReadCall
+  pub earlier : List ReadCall
+  pub newest : reads ≡ last ∷ earlier
+  pub underway : ends_met earlier ≡ 0
+  pub content : Content
+  pub passed : FeedsTo source (ended_readings (given earlier)) table start 0 content Ended
+
+-- From the first reads to those of now, none failed, each was needed, and what they gave leads from a table and a content to the last content and the ending.
 pub record Feeds (first now : List ReadCall) (source : ℕ) (table : Table) (start last : Content) (end : Ending) : Type 0 where
   pub later : List ReadCall
   pub since : now ≡ later ++ first
   pub whole : failed_reads later ≡ 0
+  pub needed : EachIsNeeded source table start later
   pub leads : FeedEndsBy source table start later last end
 
--- From the first reads to those of now none failed, and whatever follows what they gave, what that leads to from here is what all of it leads to.
+-- From the first reads to those of now none failed and none met the end, each line that a line feed ended was passed, and whatever follows what they gave, what that leads to from here is what all of it leads to.
 pub record HasFed {D : Type 0} (first now : List ReadCall) (source : ℕ) (table : Table) (start : Content) (p : Pending) (here : Place D) : Type 0 where
   pub later : List ReadCall
   pub since : now ≡ later ++ first
   pub intact : failed_reads later ≡ 0
+  pub underway : ends_met later ≡ 0
+  pub none_left : ended_from p [] ≡ []
+  pub back : (more : List ℕ) (last : Content) (end : Ending) → FeedsTo source (readings (given later ++ more)) table start 0 last end → LeadsOn here (readings_from p more) last end
+  pub ended : (more : List ℕ) (last : Content) (end : Ending) → LeadsOn here (ended_from p more) last end → FeedsTo source (ended_readings (given later ++ more)) table start 0 last end
   pub leads : (more : List ℕ) (last : Content) (end : Ending) → LeadsOn here (readings_from p more) last end → FeedsTo source (readings (given later ++ more)) table start 0 last end
+
+-- What was written since the output was as it was at first is a front of what is due for this content: a front, and the lines of commits up to it.
+abbrev pub FrontFor : {D : Type 0} → Place D → List WriteCall → Content → Type 0
+FrontFor old now last = (first : List WriteCall) (front : List ℕ) (events : ℕ) → IsPrinted first front events old → TookFront first now (front ++ acks_text events (last.events - events))
+
+-- Feeding was broken off at a reading: whatever follows it, what was written is a front of what is due for that.
+abbrev pub BreaksAt : {D : Type 0} → Place D → Reading → List WriteCall → Type 0
+BreaksAt old reading now = (later : List Reading) (last : Content) (end : Ending) → LeadsOn old (reading ∷ later) last end → FrontFor old now last
+
+-- the same in a piece
+abbrev pub BreaksIn : {D : Type 0} → Pending → Place D → List ℕ → List WriteCall → Type 0
+BreaksIn before old piece now = (more : List ℕ) (last : Content) (end : Ending) → LeadsOn old (readings_from before (piece ++ more)) last end → FrontFor old now last
+
+-- the same at the end of the input
+abbrev pub BreaksLast : {D : Type 0} → Pending → Place D → List WriteCall → Type 0
+BreaksLast before old now = (last : Content) (end : Ending) → LeadsOn old (readings_from before []) last end → FrontFor old now last
+
+-- Whatever the whole input may be by the reads that were made, what was written is a front of what is due for it.
+pub record HasFront {D : Type 0} (first reads : List ReadCall) (source : ℕ) (table : Table) (start : Content) (old : Place D) (now : List WriteCall) : Type 0 where
+  pub later : List ReadCall
+  pub since : reads ≡ later ++ first
+  pub front : (input : List ℕ) (last : Content) (end : Ending) → MayBe later input → FeedsTo source (readings input) table start 0 last end → FrontFor old now last
+
+-- Feeding was broken off by a read or behind it.
+abbrev pub FeedBreaks : {D : Type 0} → List ReadCall → List ReadCall → Pending → Place D → List WriteCall → Type 0
+FeedBreaks reads later before old now =
+    (first : List ReadCall) (source : ℕ) (table : Table) (start : Content) → HasFed first reads source table start before old → HasFront first later source table start old now
+
+-- Whatever the whole input may be by the reads that were made, what was written is a front of the text for it, from a table and a content.
+pub record WroteFrontFrom (source : ℕ) (table : Table) (start : Content) (reads_old reads_new : List ReadCall) (old new : List WriteCall) : Type 0 where
+  pub later : List ReadCall
+  pub since : reads_new ≡ later ++ reads_old
+  pub front : (input : List ℕ) (last : Content) (end : Ending) → MayBe later input → FeedsTo source (readings input) table start 0 last end → TookFront old new (feed_text source start last end)
+
+-- What was written is a front of what is due from a table and a content, which honest devices have; or nothing was written.
+abbrev pub WroteFeedFront : {D : Type 0} → disk.Ghosts D → ℕ → Devices D → List ReadCall → List ReadCall → List WriteCall → List WriteCall → Type 0
+WroteFeedFront g source old reads_old reads_new calls_old calls_new =
+    (calls_new ≡ calls_old)
+    ⊎ ((table : Table) × ((first : Content) × ((IsTrue g.is_honest → HasContent (read_of g old) first × HasSets 262144 (g.state old.journal).contents first table)
+    × WroteFrontFrom source table first reads_old reads_new calls_old calls_new)))
+
+-- A feeding that ended by a fault: it had a cause, it was told, or that failed too, and what was written before is a front of what was due.
+abbrev pub EndsByFeedFault : {D : Type 0} → disk.Ghosts D → ℕ → Devices D → Devices D → List ReadCall → List ReadCall → List WriteCall → List WriteCall → List WriteCall → List WriteCall → Type 0
+EndsByFeedFault g source old new reads_old reads_new calls_old calls_new faults_old faults_new =
+    (r : Refusal) × (HasFeedCause g old new reads_old reads_new calls_old calls_new r × (IsTold faults_old faults_new r × WroteFeedFront g source old reads_old reads_new calls_old calls_new))
 
 -- A read of at most so many bytes brought feeding from here to there.
 pub record FeedAdvances {D : Type 0} (g : disk.Ghosts D) (reads later : List ReadCall) (before : Pending) (old : Place D) (now : Pending) (new : Place D) (room : ℕ) : Type 0 where

@@ -17,6 +17,7 @@ use Rattle.hg_commands.specs.declared.listing.Listing.{Listing}
 use Rattle.hg_commands.specs.declared.listing.Listing.TheVariants.{Reports, Segments}
 use Rattle.hg_check.specs.Printing.{line_text, reports_text, segments_text}
 use Rattle.hg_check.specs.Streaming.{IsTold}
+use Rattle.hg_check.specs.Written.{TookFront}
 
 -- a line of a word and a number
 abbrev pub number_text : List ℕ → ℕ → List ℕ
@@ -55,11 +56,12 @@ module _ {D : Type 0} (g : disk.Ghosts D) where
     pub failed : (failed_reads reads_new + failed_calls new calls_new ≡ told_refusal r + (failed_reads reads_old + failed_calls old calls_old))
         ⊎ ((r ≡ DeviceFault) × (2 ^ 32 + length reads_old ≤ length reads_new))
 
-  -- A command that ended by a fault: it had a cause, and was told, or that failed too.
-  abbrev pub EndsByStoreFault : Devices D → Devices D → List WriteCall → List WriteCall → List WriteCall → List WriteCall → Type 0
-  EndsByStoreFault old new calls_old calls_new faults_old faults_new = (r : Refusal) × (HasStoreCause old new calls_old calls_new r × IsTold faults_old faults_new r)
+  -- What was written is a front of the listing of a content, which honest devices have; or nothing was written.
+  abbrev pub WroteListing : Listing → Devices D → List WriteCall → List WriteCall → Type 0
+  WroteListing listing old calls_old calls_new =
+      (calls_new ≡ calls_old) ⊎ ((c : Content) × ((IsTrue g.is_honest → HasContent (read_of g old) c) × TookFront calls_old calls_new (listing_text listing c)))
 
-  -- the same of a command that reads
-  abbrev pub EndsByFeedFault : Devices D → Devices D → List ReadCall → List ReadCall → List WriteCall → List WriteCall → List WriteCall → List WriteCall → Type 0
-  EndsByFeedFault old new reads_old reads_new calls_old calls_new faults_old faults_new =
-      (r : Refusal) × (HasFeedCause old new reads_old reads_new calls_old calls_new r × IsTold faults_old faults_new r)
+  -- A listing that ended by a fault: it had a cause, it was told, or that failed too, and what was written before is a front of what was due.
+  abbrev pub EndsByStoreFault : Listing → Devices D → Devices D → List WriteCall → List WriteCall → List WriteCall → List WriteCall → Type 0
+  EndsByStoreFault listing old new calls_old calls_new faults_old faults_new =
+      (r : Refusal) × (HasStoreCause old new calls_old calls_new r × (IsTold faults_old faults_new r × WroteListing listing old calls_old calls_new))

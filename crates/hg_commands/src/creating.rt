@@ -1,12 +1,12 @@
 //! The command that makes a store.
 
-ghost use Rattle.std.specs.Prelude.{◌≡◌, ◌⊎◌, [], Ok, Err, OnOk, IfOk, IfErr, codes};
+ghost use Rattle.std.specs.Prelude.{◌≡◌, ◌⊎◌, [], Ok, Err, OnErr, OnOk, IfOk, IfErr, codes};
 ghost use Rattle.hg_check.specs.Printing.{Took};
 ghost use Rattle.hg_disk.specs.State.{counted, settled};
 ghost use Rattle.hg_model.specs.Change.{empty_content};
 ghost use Rattle.hg_store.specs.Images.{HasContent, Image, IsLeft, failures_of, read_of};
 ghost use Rattle.hg_store.specs.Recovering.{IsEmpty, empty_image};
-ghost use Rattle.hg_commands.specs.Creating.{CreatedIsKept, EndsByCreateFault, HasCreateCause, IsCleared};
+ghost use Rattle.hg_commands.specs.Creating.{CreatedIsKept, EndsByCreateFault, HasCreateCause, IsCleared, WroteAnswer};
 ghost use Rattle.hg_commands.specs.Instants.{instant};
 
 use crate::moment::{Moment, Outcome};
@@ -57,6 +57,7 @@ fn make_and_print<D: Disk, W: Write>(
         × Took output.old.calls output.new.calls (codes "created\n") }
     ensures not_empty { result.0 ≡ Ok 2 → ¬ IsEmpty ⟦<D as Disk>⟧ devices × (result.1 ≡ devices)
         × Took output.old.calls output.new.calls (codes "not empty\n") }
+    ensures front { OnErr result.0 (WroteAnswer ⟦<D as Disk>⟧ devices output.old.calls output.new.calls) }
     ensures device { OnOk result.0 (failures_of ⟦<D as Disk>⟧ result.1 ≡ failures_of ⟦<D as Disk>⟧ devices) }
     ensures cause { IfErr result.0 (λ r. HasCreateCause ⟦<D as Disk>⟧ devices result.1 output.old.calls output.new.calls r) }
     ensures kept { CreatedIsKept ⟦<D as Disk>⟧ (instant devices output.old.calls) moments.new (instant result.1 output.new.calls) }

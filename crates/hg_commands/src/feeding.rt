@@ -1,20 +1,20 @@
 //! Feeding the events of a trace text to a store.
 
-ghost use Rattle.std.specs.Prelude.{◌≡◌, ◌+◌, ◌<◌, ◌≤◌, ◌^◌, ◌++◌, ◌%◌, true, false, Option, [], Ok, Some, None, length, IfOk, IfErr, IsTrue, OnOk};
+ghost use Rattle.std.specs.Prelude.{◌≡◌, ◌+◌, ◌<◌, ◌≤◌, ◌^◌, ◌++◌, ◌%◌, true, false, nat_eq, Option, [], Ok, Some, None, length, IfOk, IfErr, IsTrue, OnErr, OnOk, if◌then◌else◌};
 ghost use Rattle.hg_streams.specs.Calls.{failed_reads, failed_writes};
 ghost use Rattle.hg_streams.specs.Told.{told};
 ghost use Rattle.hg_check.specs.Printing.{Took};
 ghost use Rattle.hg_detect.specs.Memory.{content_of};
-ghost use Rattle.hg_wire.specs.Streams.{readings_from};
+ghost use Rattle.hg_wire.specs.Streams.{ended_from, readings_from};
 ghost use Rattle.hg_check.specs.declared.checker.Ending.{Ending as EndingOf};
 ghost use Rattle.hg_check.specs.Printing.{status_of};
 ghost use Rattle.hg_commands.specs.Feeding.{ack_text, feed_end_text};
-ghost use Rattle.hg_commands.specs.FeedRunning.{EndsAt, FeedAdvances, FeedDone, FeedEndsIn, FeedFails, FeedMeetsEnd, FeedReaches, FeedStops, Feeds, GoesOn, IsReady, LeadsOn, Passes, WasCommitted, WasCounted, WasFed, WasSent, place};
+ghost use Rattle.hg_commands.specs.FeedRunning.{BreaksAt, BreaksIn, BreaksLast, EndsAt, EndsByFeedFault, FeedAdvances, FeedBreaks, FeedDone, FeedEndsIn, FeedFails, FeedMeetsEnd, FeedReaches, FeedStops, Feeds, GoesOn, HasFront, IsReady, LeadsOn, Passes, WasCommitted, WasCounted, WasFed, WasSent, WroteFeedFront, WroteFrontFrom, place};
 ghost use Rattle.hg_check.specs.Streaming.{IsStreamFault};
 ghost use Rattle.hg_commands.specs.Instants.{instant};
 ghost use Rattle.hg_commands.specs.Keeping.{EachAckIsKept, KeepsOn};
 ghost use Rattle.hg_commands.specs.Printed.{IsPrintedNow};
-ghost use Rattle.hg_commands.specs.Storing.{EndsByFeedFault, HasFeedCause, failed_calls};
+ghost use Rattle.hg_commands.specs.Storing.{HasFeedCause, failed_calls};
 
 use crate::listing::hold_end_line;
 use crate::moment::{Moment, Outcome};
@@ -63,6 +63,7 @@ fn acknowledge<D: Disk, W: Write>(
     requires none { held.old.items ≡ [] }
     ensures committed { OnOk result (WasCommitted ⟦<D as Disk>⟧ store.old store.new) }
     ensures printed { OnOk result (Took output.old.calls output.new.calls (ack_text (content_of store.old.detector).events)) }
+    ensures calls { IsPrintedNow output.old.calls output.new.calls (ack_text (content_of store.old.detector).events) }
     ensures none { OnOk result (held.new.items ≡ []) }
     ensures cause { IfErr result IsStreamFault }
     ensures fault { failed_calls ⟦<D as Disk>⟧ store.new.devices output.new.calls ≡ told result + failed_calls ⟦<D as Disk>⟧ store.old.devices output.old.calls }
@@ -86,6 +87,7 @@ fn count_accepted<D: Disk, W: Write>(
     requires pending { length store.old.pending ≡ fed.old.accepted % 256 + 1 }
     requires room { fed.old.accepted + 1 < 2 ^ 64 }
     ensures counted { OnOk result (WasCounted ⟦<D as Disk>⟧ (place store.old fed.old output.old.calls) (place store.new fed.new output.new.calls)) }
+    ensures calls { IsPrintedNow output.old.calls output.new.calls (if nat_eq ((fed.old.accepted + 1) % 256) 0 then ack_text (content_of store.old.detector).events else []) }
     ensures none { OnOk result (held.new.items ≡ []) }
     ensures cause { IfErr result IsStreamFault }
     ensures fault { failed_calls ⟦<D as Disk>⟧ store.new.devices output.new.calls ≡ told result + failed_calls ⟦<D as Disk>⟧ store.old.devices output.old.calls }
@@ -125,6 +127,7 @@ fn feed_reading<D: Disk, W: Write>(
     requires none { held.old.items ≡ [] }
     ensures passes { result ≡ Ok None → Passes ⟦<D as Disk>⟧ (place store.old fed.old output.old.calls) (place store.new fed.new output.new.calls) reading.now }
     ensures ends { (end : EndingOf) → result ≡ Ok (Some end) → EndsAt ⟦<D as Disk>⟧ (place store.old fed.old output.old.calls) (place store.new fed.new output.new.calls) reading.now end }
+    ensures front { OnErr result (BreaksAt (place store.old fed.old output.old.calls) reading.now output.new.calls) }
     ensures none { OnOk result (held.new.items ≡ []) }
     ensures cause { IfErr result IsStreamFault }
     ensures fault { failed_calls ⟦<D as Disk>⟧ store.new.devices output.new.calls ≡ told result + failed_calls ⟦<D as Disk>⟧ store.old.devices output.old.calls }
@@ -160,7 +163,9 @@ fn feed_piece<D: Disk, W: Write>(
     requires number { fed.old.number + length piece.now < 2 ^ 64 }
     requires none { held.old.items ≡ [] }
     ensures reaches { result ≡ Ok None → FeedReaches ⟦<D as Disk>⟧ reader.old (place store.old fed.old output.old.calls) piece.now reader.new (place store.new fed.new output.new.calls) [] }
+    ensures none_left { result ≡ Ok None → ended_from reader.new [] ≡ [] }
     ensures ends { (end : EndingOf) → result ≡ Ok (Some end) → FeedEndsIn ⟦<D as Disk>⟧ reader.old (place store.old fed.old output.old.calls) piece.now (place store.new fed.new output.new.calls) end }
+    ensures front { OnErr result (BreaksIn reader.old (place store.old fed.old output.old.calls) piece.now output.new.calls) }
     ensures none { OnOk result (held.new.items ≡ []) }
     ensures cause { IfErr result IsStreamFault }
     ensures fault { failed_calls ⟦<D as Disk>⟧ store.new.devices output.new.calls ≡ told result + failed_calls ⟦<D as Disk>⟧ store.old.devices output.old.calls }
@@ -199,6 +204,7 @@ fn advance<D: Disk, R: Read, W: Write>(
     ensures at_end { result ≡ Ok Progress.AtEnd → FeedMeetsEnd ⟦<D as Disk>⟧ input.old.calls input.new.calls reader.old (place store.old fed.old output.old.calls) reader.new (place store.new fed.new output.new.calls) }
     ensures stopped { (end : EndingOf) → result ≡ Ok (Progress.Stopped end) → FeedStops ⟦<D as Disk>⟧ input.old.calls input.new.calls reader.old (place store.old fed.old output.old.calls) (place store.new fed.new output.new.calls) end }
     ensures size { length buffer.new ≡ length buffer.old }
+    ensures front { OnErr result (FeedBreaks input.old.calls input.new.calls reader.old (place store.old fed.old output.old.calls) output.new.calls) }
     ensures none { OnOk result (held.new.items ≡ []) }
     ensures cause { IfErr result IsStreamFault }
     ensures fault { failed_reads input.new.calls + failed_calls ⟦<D as Disk>⟧ store.new.devices output.new.calls ≡ told result + (failed_reads input.old.calls + failed_calls ⟦<D as Disk>⟧ store.old.devices output.old.calls) }
@@ -232,6 +238,7 @@ fn finish<D: Disk, W: Write>(
     requires none { held.old.items ≡ [] }
     ensures goes { OnOk result (GoesOn ⟦<D as Disk>⟧ (place store.old fed.old output.old.calls) (place store.new fed.new output.new.calls)) }
     ensures leads { IfOk result (λ end. LeadsOn (place store.old fed.old output.old.calls) (readings_from reader []) (content_of store.new.detector) end) }
+    ensures front { OnErr result (BreaksLast reader (place store.old fed.old output.old.calls) output.new.calls) }
     ensures none { OnOk result (held.new.items ≡ []) }
     ensures cause { IfErr result IsStreamFault }
     ensures fault { failed_calls ⟦<D as Disk>⟧ store.new.devices output.new.calls ≡ told result + failed_calls ⟦<D as Disk>⟧ store.old.devices output.old.calls }
@@ -261,6 +268,7 @@ fn feed_all<D: Disk, R: Read, W: Write>(
     requires none { held.old.items ≡ [] }
     ensures goes { OnOk result (GoesOn ⟦<D as Disk>⟧ (place store.old fed.old output.old.calls) (place store.new fed.new output.new.calls)) }
     ensures feeds { IfOk result (λ end. Feeds input.old.calls input.new.calls fed.old.source store.old.detector.sets (content_of store.old.detector) (content_of store.new.detector) end) }
+    ensures front { OnErr result (HasFront input.old.calls input.new.calls fed.old.source store.old.detector.sets (content_of store.old.detector) (place store.old fed.old output.old.calls) output.new.calls) }
     ensures none { OnOk result (held.new.items ≡ []) }
     ensures cause { IfErr result (λ r. FeedFails ⟦<D as Disk>⟧ store.old store.new input.old.calls input.new.calls output.old.calls output.new.calls r) }
     ensures kept { KeepsOn ⟦<D as Disk>⟧ store.old output.old.calls moments.old store.new output.new.calls moments.new }
@@ -333,6 +341,7 @@ fn feed_store<D: Disk, R: Read, W: Write>(
     requires works { store.old.is_broken ≡ false }
     requires pending { store.old.pending ≡ [] }
     ensures fed { IfOk result (λ end. WasFed ⟦<D as Disk>⟧ input.old.calls input.new.calls source store.old store.new output.old.calls output.new.calls end) }
+    ensures front { OnErr result (WroteFrontFrom source store.old.detector.sets (content_of store.old.detector) input.old.calls input.new.calls output.old.calls output.new.calls) }
     ensures cause { IfErr result (λ r. FeedFails ⟦<D as Disk>⟧ store.old store.new input.old.calls input.new.calls output.old.calls output.new.calls r) }
     ensures kept { KeepsOn ⟦<D as Disk>⟧ store.old output.old.calls moments.old store.new output.new.calls moments.new }
 {
@@ -363,6 +372,7 @@ fn recover_and_feed<D: Disk, R: Read, W: Write>(
     requires frames { (4 ≤ frames) × (frames ≤ 4096) }
     requires none { moments.old ≡ [] }
     ensures fed { IfOk result.0 (λ end. FeedDone ⟦<D as Disk>⟧ input.old.calls input.new.calls source devices result.1 output.old.calls output.new.calls end) }
+    ensures front { OnErr result.0 (WroteFeedFront ⟦<D as Disk>⟧ source devices input.old.calls input.new.calls output.old.calls output.new.calls) }
     ensures cause { IfErr result.0 (λ r. HasFeedCause ⟦<D as Disk>⟧ devices result.1 input.old.calls input.new.calls output.old.calls output.new.calls r) }
     ensures kept { IsTrue D.is_honest → EachAckIsKept ⟦<D as Disk>⟧ (instant devices output.old.calls) moments.new (instant result.1 output.new.calls) }
 {
@@ -383,7 +393,7 @@ fn recover_and_feed<D: Disk, R: Read, W: Write>(
 /// after which nothing is read. Events that were sent before are passed over.
 ///
 /// The status is 0, 2 where a line was refused or bad, or 3 where the devices hold no store, a device or a stream failed, or
-/// memory or room was refused, which is told on `faults`.
+/// memory or room was refused, which is told on `faults`. What was printed before that is a front of what was due.
 ///
 /// Whatever the status, at each moment of the call a crash leaves devices with each event that is counted by an `ack` that was
 /// written by then. The moments in the outcome show it: the first is that at which the store is open, and one comes after each commit.
@@ -399,7 +409,7 @@ pub fn feed<D: Disk, R: Read, W: Write, V: Write>(
     requires { (4 ≤ frames) × (frames ≤ 4096) }
     ensures fed { (result.status ≡ 3 → ⊥) → (end : EndingOf) × (result.status ≡ status_of end) × FeedDone ⟦<D as Disk>⟧ input.old.calls input.new.calls source devices result.devices output.old.calls output.new.calls end }
     ensures quiet { (result.status ≡ 3 → ⊥) → Took faults.old.calls faults.new.calls [] }
-    ensures fault { result.status ≡ 3 → EndsByFeedFault ⟦<D as Disk>⟧ devices result.devices input.old.calls input.new.calls output.old.calls output.new.calls faults.old.calls faults.new.calls }
+    ensures fault { result.status ≡ 3 → EndsByFeedFault ⟦<D as Disk>⟧ source devices result.devices input.old.calls input.new.calls output.old.calls output.new.calls faults.old.calls faults.new.calls }
     ensures kept { IsTrue D.is_honest → EachAckIsKept ⟦<D as Disk>⟧ (instant devices output.old.calls) result.moments (instant result.devices output.new.calls) }
 {
     let mut moments = Trail::new();

@@ -1,6 +1,6 @@
 //! The commands that print what a store holds.
 
-ghost use Rattle.std.specs.Prelude.{◌≡◌, ◌⊎◌, ◌++◌, ◌+◌, ◌≤◌, [], ℕ, List, Option, Ok, Err, OnOk, IfErr, IsTrue, true, false};
+ghost use Rattle.std.specs.Prelude.{◌≡◌, ◌⊎◌, ◌++◌, ◌+◌, ◌≤◌, [], ℕ, List, Option, Ok, Err, OnErr, OnOk, IfErr, IsTrue, true, false};
 ghost use Rattle.hg_streams.specs.Calls.{failed_writes};
 ghost use Rattle.hg_streams.specs.Told.{told};
 ghost use Rattle.hg_streams.specs.declared.call.WriteCall.{WriteCall};
@@ -8,7 +8,8 @@ ghost use Rattle.hg_model.specs.Contents.{Content};
 ghost use Rattle.hg_store.specs.Images.{EachImage, HasContent, IsLeft, failures_of, read_of};
 ghost use Rattle.hg_detect.specs.Memory.{content_of};
 ghost use Rattle.hg_check.specs.Printing.{IsDue, Took, line_text, reports_text, segments_text};
-ghost use Rattle.hg_commands.specs.Storing.{EndsByStoreFault, HasStoreCause, listing_text, store_end_line};
+ghost use Rattle.hg_commands.specs.Storing.{EndsByStoreFault, HasStoreCause, WroteListing, listing_text, store_end_line};
+ghost use Rattle.hg_check.specs.Written.{TookFront};
 ghost use Rattle.hg_check.specs.Streaming.{IsStreamFault};
 
 use crate::opening::open_store;
@@ -56,6 +57,9 @@ fn print_kept<W: Write>(
     ensures printed { (first : List WriteCall) (rest goal : List ℕ)
         → IsDue first output.old.calls held.old.items (reports_text 1 reports.now ++ rest) goal
         → OnOk result (IsDue first output.new.calls held.new.items rest goal) }
+    ensures front { (first : List WriteCall) (rest goal : List ℕ)
+        → IsDue first output.old.calls held.old.items (reports_text 1 reports.now ++ rest) goal
+        → OnErr result (TookFront first output.new.calls goal) }
     ensures cause { IfErr result IsStreamFault }
     ensures fault { failed_writes output.new.calls ≡ told result + failed_writes output.old.calls }
 {
@@ -79,6 +83,7 @@ fn print_most<D: Disk, W: Write>(
     requires works { store.now.is_broken ≡ false }
     requires none { held.old.items ≡ [] }
     ensures printed { OnOk result (IsDue output.old.calls output.new.calls held.new.items [] (listing_text listing (content_of store.now.detector))) }
+    ensures front { OnErr result (TookFront output.old.calls output.new.calls (listing_text listing (content_of store.now.detector))) }
     ensures cause { IfErr result IsStreamFault }
     ensures fault { failed_writes output.new.calls ≡ told result + failed_writes output.old.calls }
 {
@@ -101,6 +106,7 @@ fn print_store<D: Disk, W: Write>(
 ) -> Result<(), Refusal>
     requires works { store.now.is_broken ≡ false }
     ensures printed { OnOk result (Took output.old.calls output.new.calls (listing_text listing (content_of store.now.detector))) }
+    ensures front { OnErr result (TookFront output.old.calls output.new.calls (listing_text listing (content_of store.now.detector))) }
     ensures cause { IfErr result IsStreamFault }
     ensures fault { failed_writes output.new.calls ≡ told result + failed_writes output.old.calls }
 {
@@ -122,6 +128,7 @@ fn recover_and_print<D: Disk, W: Write>(
     requires { (4 ≤ frames) × (frames ≤ 4096) }
     ensures prints { IsTrue D.is_honest → OnOk result.0 ((c : Content) × HasContent (read_of ⟦<D as Disk>⟧ devices) c
         × Took output.old.calls output.new.calls (listing_text listing c)) }
+    ensures front { OnErr result.0 (WroteListing ⟦<D as Disk>⟧ listing devices output.old.calls output.new.calls) }
     ensures device { OnOk result.0 (failures_of ⟦<D as Disk>⟧ result.1 ≡ failures_of ⟦<D as Disk>⟧ devices) }
     ensures cause { IfErr result.0 (λ r. HasStoreCause ⟦<D as Disk>⟧ devices result.1 output.old.calls output.new.calls r) }
     ensures images { EachImage ⟦<D as Disk>⟧ devices result.1 (IsLeft ⟦<D as Disk>⟧ devices) }
@@ -150,7 +157,7 @@ fn list_store<D: Disk, W: Write, V: Write>(
         × Took output.old.calls output.new.calls (listing_text listing c) }
     ensures device { result.0 ≡ 0 → failures_of ⟦<D as Disk>⟧ result.1 ≡ failures_of ⟦<D as Disk>⟧ devices }
     ensures quiet { result.0 ≡ 0 → Took faults.old.calls faults.new.calls [] }
-    ensures fault { result.0 ≡ 3 → EndsByStoreFault ⟦<D as Disk>⟧ devices result.1 output.old.calls output.new.calls faults.old.calls faults.new.calls }
+    ensures fault { result.0 ≡ 3 → EndsByStoreFault ⟦<D as Disk>⟧ listing devices result.1 output.old.calls output.new.calls faults.old.calls faults.new.calls }
     ensures images { EachImage ⟦<D as Disk>⟧ devices result.1 (IsLeft ⟦<D as Disk>⟧ devices) }
 {
     let (printed, devices) = recover_and_print(alloc, devices, frames, listing, output);
@@ -165,7 +172,7 @@ fn list_store<D: Disk, W: Write, V: Write>(
 
 /// Recovers the store that the devices hold, and prints its kept reports and the end line. Answers the status and the
 /// devices: 0, or 3 where they hold no store, a device or the output failed, or memory or room was refused, which is
-/// told on `faults`. A crash at any moment leaves images that there were before.
+/// told on `faults`. What was printed before that is a front of what was due. A crash at any moment leaves images that there were before.
 pub fn store_reports<D: Disk, W: Write, V: Write>(
     alloc: Global,
     devices: Devices<D>,
@@ -179,7 +186,7 @@ pub fn store_reports<D: Disk, W: Write, V: Write>(
         × Took output.old.calls output.new.calls (reports_text 1 c.reports ++ line_text (store_end_line c)) }
     ensures device { result.0 ≡ 0 → failures_of ⟦<D as Disk>⟧ result.1 ≡ failures_of ⟦<D as Disk>⟧ devices }
     ensures quiet { result.0 ≡ 0 → Took faults.old.calls faults.new.calls [] }
-    ensures fault { result.0 ≡ 3 → EndsByStoreFault ⟦<D as Disk>⟧ devices result.1 output.old.calls output.new.calls faults.old.calls faults.new.calls }
+    ensures fault { result.0 ≡ 3 → EndsByStoreFault ⟦<D as Disk>⟧ Listing.Reports devices result.1 output.old.calls output.new.calls faults.old.calls faults.new.calls }
     ensures images { EachImage ⟦<D as Disk>⟧ devices result.1 (IsLeft ⟦<D as Disk>⟧ devices) }
 {
     list_store(alloc, devices, frames, Listing::Reports, output, faults)
@@ -199,7 +206,7 @@ pub fn store_graph<D: Disk, W: Write, V: Write>(
         × Took output.old.calls output.new.calls (segments_text 0 c.segments) }
     ensures device { result.0 ≡ 0 → failures_of ⟦<D as Disk>⟧ result.1 ≡ failures_of ⟦<D as Disk>⟧ devices }
     ensures quiet { result.0 ≡ 0 → Took faults.old.calls faults.new.calls [] }
-    ensures fault { result.0 ≡ 3 → EndsByStoreFault ⟦<D as Disk>⟧ devices result.1 output.old.calls output.new.calls faults.old.calls faults.new.calls }
+    ensures fault { result.0 ≡ 3 → EndsByStoreFault ⟦<D as Disk>⟧ Listing.Segments devices result.1 output.old.calls output.new.calls faults.old.calls faults.new.calls }
     ensures images { EachImage ⟦<D as Disk>⟧ devices result.1 (IsLeft ⟦<D as Disk>⟧ devices) }
 {
     list_store(alloc, devices, frames, Listing::Segments, output, faults)

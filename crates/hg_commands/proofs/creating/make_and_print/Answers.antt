@@ -1,4 +1,4 @@
-use Rattle.std.proofs.Common.{◌≡◌, ◌⊎◌, ◌+◌, inl, inr, ⊎_elim, ap, sym, ◌∙◌, arith}
+use Rattle.std.proofs.Common.{◌≡◌, ◌⊎◌, ◌+◌, inl, inr, ⊎_elim, ap, sym, ◌∙◌, arith, codes}
 use Rattle.hg_model.specs.declared.verdict.Refusal.{Refusal}
 use Rattle.hg_model.specs.declared.verdict.Refusal.TheVariants as refusal
 use Rattle.hg_model.specs.Change.{empty_content}
@@ -9,6 +9,8 @@ use Rattle.hg_store.specs.declared.create.CreateFault.TheVariants.{NotEmpty, Ref
 use Rattle.hg_streams.specs.Told.{told_refusal}
 use Rattle.hg_commands.proofs.Causes.{refusal_is_counted}
 use Rattle.hg_commands.proofs.FeedDone.{fresh_is_left}
+use Rattle.hg_commands.proofs.Fronts.{printed_front}
+use Rattle.hg_check.proofs.Printed.{front_none}
 use Rattle.hg_commands.proofs.Made.{none_is_made, one_is_made, one_is_there}
 use Rattle.hg_commands.proofs.creating.make_and_print.Goals as goal
 
@@ -85,3 +87,19 @@ returns-in-Err-Refused-default-clause-cause g c =
       failed = omega (arith, counted);
       left = inr (c.in-Err-Refused-default.ensures.else_empty (λ n. none x r (sym is ∙ n)), c.cleared-in-Err-Refused-default.ensures);
     }
+
+pub returns-in-Err-clause-front : goal.returns-in-Err-clause-front
+returns-in-Err-clause-front g c =
+    inl (c.in-Ok.ensures.empty, printed_front c.args.output.now.calls c.print_now-printed.new.output.calls (codes "created\n") c.print_now-printed.ensures.calls)
+
+pub returns-in-Err-print_now-clause-front : goal.returns-in-Err-print_now-clause-front
+returns-in-Err-print_now-clause-front g c =
+    let h = c.in-Err-NotEmpty-default.ensures.not_empty c.in-Err-NotEmpty-default.field-0-0-is in
+    inr (h.0, printed_front c.args.output.now.calls c.print_now.new.output.calls (codes "not empty\n") c.print_now.ensures.calls)
+
+pub returns-in-Err-Refused-default-clause-front : goal.returns-in-Err-Refused-default-clause-front
+returns-in-Err-Refused-default-clause-front g c =
+    inl (
+      c.in-Err-Refused-default.ensures.else_empty (λ n. none c.in-Err-Refused-default.field-0-0 c.in-Err-Refused-default.refusal (sym c.in-Err-Refused-default.field-0-0-is ∙ n)),
+      front_none c.args.output.now.calls (codes "created\n"),
+    )

@@ -7,6 +7,9 @@ use Rattle.hg_commands.specs.FeedRunning.{FeedAdvances, Feeds, GoesOn, LeadsOn, 
 use Rattle.hg_commands.proofs.FeedSteps.{goes_on}
 use Rattle.hg_commands.proofs.FeedUnderway.{feeding_first, feeding_on, feeds_at_end}
 use Rattle.hg_commands.proofs.Kept.{keeps_then}
+use Rattle.hg_check.proofs.Printed.{always_err}
+use Rattle.hg_commands.proofs.Fronts.{on_err_weaker}
+use Rattle.hg_commands.proofs.FeedFronts.{front_at_end, front_at_first, front_from, front_so_far}
 use Rattle.hg_commands.proofs.feeding.feed_all.Goals as goal
 
 resized : (n : ℕ) (new items : List ℕ) → length new ≡ length items → n ≡ length items → length (take n (new ++ drop (length new) items)) ≡ length items
@@ -69,3 +72,38 @@ returns-in-AtEnd-clause-feeds g c =
     c.loop-reads.reader c.advance.new.reader mid last (content_of c.finish.new.store.detector) end
     c.loop-reads.invariant.run.leads (c.in_ok-progress.ensures.at_end (ap Ok c.in-AtEnd.is)) l)
     c.finish.ensures.leads
+
+pub returns-in_err-reader-clause-front : goal.returns-in_err-reader-clause-front
+returns-in_err-reader-clause-front g c = always_err _ (front_at_first (place c.args.store.now c.args.fed.now c.args.output.now.calls) c.args.input.now.calls)
+
+pub returns-in_err-buffer-clause-front : goal.returns-in_err-buffer-clause-front
+returns-in_err-buffer-clause-front g c = always_err _ (front_at_first (place c.args.store.now c.args.fed.now c.args.output.now.calls) c.args.input.now.calls)
+
+pub returns-in_err-progress-clause-front : goal.returns-in_err-progress-clause-front
+returns-in_err-progress-clause-front g c =
+    let reads = c.args.input.now.calls in
+    let s = c.args.store.now in
+    let old = place s c.args.fed.now c.args.output.now.calls in
+    let mid = place c.loop-reads.store c.loop-reads.fed c.loop-reads.output.calls in
+    always_err _ (front_from g.D.Disk reads c.advance.new.input.calls c.args.fed.now.source s.detector.sets (content_of s.detector) old mid c.advance.new.output.calls c.loop-reads.invariant.run.goes
+    (c.in_err-progress.ensures.front reads c.args.fed.now.source s.detector.sets (content_of s.detector) c.loop-reads.invariant.run.leads))
+
+pub returns-in-AtEnd-clause-front : goal.returns-in-AtEnd-clause-front
+returns-in-AtEnd-clause-front g c =
+    let s = c.args.store.now in
+    let old = place s c.args.fed.now c.args.output.now.calls in
+    let mid = place c.loop-reads.store c.loop-reads.fed c.loop-reads.output.calls in
+    let last = place c.advance.new.store c.advance.new.fed c.advance.new.output.calls in
+    on_err_weaker c.finish.result
+    (λ b. front_at_end g.D.Disk c.args.input.now.calls c.loop-reads.input.calls c.advance.new.input.calls c.args.fed.now.source s.detector.sets (content_of s.detector)
+    c.loop-reads.reader c.advance.new.reader old mid last c.finish.new.output.calls c.loop-reads.invariant.run.goes
+    c.loop-reads.invariant.run.leads (c.in_ok-progress.ensures.at_end (ap Ok c.in-AtEnd.is)) b)
+    c.finish.ensures.front
+
+pub returns-clause-front : goal.returns-clause-front
+returns-clause-front g c =
+    let s = c.args.store.now in
+    let old = place s c.args.fed.now c.args.output.now.calls in
+    let mid = place c.loop-reads.store c.loop-reads.fed c.loop-reads.output.calls in
+    front_so_far g.D.Disk c.args.input.now.calls c.loop-reads.input.calls c.args.fed.now.source s.detector.sets (content_of s.detector) c.loop-reads.reader old mid
+    c.loop-reads.invariant.run.goes c.loop-reads.invariant.run.leads

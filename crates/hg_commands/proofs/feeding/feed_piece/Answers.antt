@@ -3,8 +3,9 @@ use Rattle.std.proofs.lemmas.List.{length-drop, take_all}
 use Rattle.std.specs.Option.{is_some}
 use Rattle.hg_check.specs.declared.checker.Ending.{Ending}
 use Rattle.hg_commands.specs.FeedRunning.{FeedReaches, place}
-use Rattle.hg_commands.proofs.FeedPieces.{feed_ends_in, feed_reaches_on}
+use Rattle.hg_commands.proofs.FeedPieces.{breaks_in, feed_ends_in, feed_reaches_on}
 use Rattle.hg_commands.proofs.Kept.{keeps_then}
+use Rattle.hg_check.proofs.Printed.{always_err}
 use Rattle.hg_commands.proofs.feeding.feed_piece.Goals as goal
 
 rest_is : (k : ℕ) (rest : List ℕ) → take (length rest - k) (drop k rest) ≡ drop k rest
@@ -35,3 +36,10 @@ returns-then-is_some-clause-ends g c end same =
     let new = place c.feed_reading.new.store c.feed_reading.new.fed c.feed_reading.new.output.calls in
     feed_ends_in g.D.Disk c.args.reader.now c.loop-reading.reader c.take.new.self old mid new c.args.piece.now c.loop-reading.rest.now c.in-Line.reading c.in-Line.used end c.loop-reading.invariant.0
     c.in-Line.ensures (c.in_ok-end.ensures.ends end same)
+
+pub returns-in_err-end-clause-front : goal.returns-in_err-end-clause-front
+returns-in_err-end-clause-front g c =
+    let old = place c.args.store.now c.args.fed.now c.args.output.now.calls in
+    let mid = place c.loop-reading.store c.loop-reading.fed c.loop-reading.output.calls in
+    always_err _ (breaks_in g.D.Disk c.args.reader.now c.loop-reading.reader c.take.new.self old mid c.args.piece.now c.loop-reading.rest.now c.in-Line.reading c.in-Line.used c.feed_reading.new.output.calls
+    c.loop-reading.invariant.0 c.in-Line.ensures c.in_err-end.ensures.front)

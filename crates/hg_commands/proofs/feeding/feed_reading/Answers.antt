@@ -1,9 +1,10 @@
 use Rattle.std.proofs.Common.{Ok, subst, ap, ◌∙◌}
 use Rattle.hg_detect.specs.declared.detector.Answer.{Answer}
 use Rattle.hg_commands.specs.FeedRunning.{WasSent}
-use Rattle.hg_commands.proofs.FeedSteps.{ends_refused, passes_accepted, passes_duplicate}
+use Rattle.hg_commands.proofs.FeedSteps.{breaks_accepted, breaks_still, ends_refused, passes_accepted, passes_duplicate}
 use Rattle.hg_commands.specs.Feeding.{sent}
 use Rattle.hg_commands.proofs.Kept.{keeps_offer, keeps_then}
+use Rattle.hg_check.proofs.Printed.{always_err}
 use Rattle.hg_commands.proofs.feeding.feed_reading.Goals as goal
 
 pub returns-in_ok-count_accepted-in-Ok-Accepted-clause-passes : goal.returns-in_ok-count_accepted-in-Ok-Accepted-clause-passes
@@ -41,3 +42,13 @@ returns-in_ok-count_accepted-in-Ok-Accepted-clause-kept g c =
 pub returns-in-Err-clause-kept : goal.returns-in-Err-clause-kept
 returns-in-Err-clause-kept g c =
     keeps_offer g.D.Disk c.args.store.now c.send.new.store c.args.output.now.calls c.args.moments.now (sent c.args.fed.now.source c.args.fed.now.number c.in-Ok.event) c.send.result c.send.ensures.done c.send.ensures.backs
+
+pub returns-in_err-count_accepted-in-Ok-Accepted-clause-front : goal.returns-in_err-count_accepted-in-Ok-Accepted-clause-front
+returns-in_err-count_accepted-in-Ok-Accepted-clause-front g c =
+    always_err _ (breaks_accepted g.D.Disk c.args.store.now c.send.new.store c.args.fed.now c.send.new.fed c.in-Ok.event
+    c.args.output.now.calls c.count_accepted.new.output.calls c.args.reading.now c.in-Ok.is c.requires.ready
+    (subst (λ r. WasSent g.D.Disk c.args.store.now c.send.new.store c.args.fed.now c.send.new.fed c.in-Ok.event r) (c.in-Ok-Accepted.is ∙ ap (λ (a : Answer). Ok a) c.in-Ok-Accepted.field-0-is) c.send.ensures)
+    c.count_accepted.ensures.calls)
+
+pub returns-in-Err-clause-front : goal.returns-in-Err-clause-front
+returns-in-Err-clause-front g c = always_err _ (breaks_still g.D.Disk c.args.store.now c.args.fed.now c.args.output.now.calls c.args.reading.now)

@@ -1,4 +1,4 @@
-use Rattle.std.proofs.Common.{◌≡◌, ℕ, Bool, true, false, Result, Ok, Err, cond, codes, refl, subst, inl, inr, arith}
+use Rattle.std.proofs.Common.{◌≡◌, ℕ, Bool, true, false, Result, Ok, Err, cond, codes, refl, ap, subst, inl, inr, arith}
 use Rattle.hg_check.specs.Printing.{Took}
 use Rattle.hg_model.specs.declared.verdict.Refusal.{Refusal}
 use Rattle.hg_model.specs.declared.verdict.Refusal.TheVariants as refusal
@@ -9,6 +9,12 @@ use Rattle.hg_commands.proofs.Kept.{keeps_printed, keeps_then}
 use Rattle.hg_commands.proofs.FeedDone.{was_fed}
 use Rattle.std.proofs.lemmas.Result.{err_from_is_err_and}
 use Rattle.hg_commands.proofs.FeedUnderway.{reads_intact}
+use Rattle.hg_check.specs.Written.{TookFront}
+use Rattle.hg_check.proofs.Printed.{always_err, front_none}
+use Rattle.hg_detect.specs.declared.detector.Detector.{Detector}
+use Rattle.hg_detect.specs.declared.paged.PagedWords.{PagedWords}
+use Rattle.hg_commands.proofs.Fronts.{printed_front}
+use Rattle.hg_commands.proofs.FeedFronts.{resumed, wrote_acks, wrote_end, wrote_fed, wrote_resume}
 use Rattle.hg_commands.proofs.feeding.feed_store.Goals as goal
 
 last_is : (b : Bool) (n x : ℕ) → b ≡ false → ◌≡◌ {A = Result ℕ Refusal} (Ok n) (cond b (Err refusal.Broken) (Ok x)) → n ≡ x
@@ -115,3 +121,49 @@ returns-clause-kept g c =
     c.acknowledge.ensures.kept)
     (keeps_printed g.D.Disk c.acknowledge.new.store c.acknowledge.new.output.calls c.print_end.new.output.calls c.acknowledge.new.moments end
     c.in_ok-acknowledge.ensures.committed.works c.print_end.ensures.calls (λ d backs. inr (inr (inr (content_of c.acknowledge.new.store.detector, c.in_ok-end.end, refl)))))
+
+pub returns-in_err-last-clause-front : goal.returns-in_err-last-clause-front
+returns-in_err-last-clause-front g c =
+    let o = c.args.output.now.calls in
+    let s = c.args.store.now in
+    always_err _ (wrote_resume c.args.source s.detector.sets (content_of s.detector) c.args.input.now.calls o o (front_none o (number_text (codes "resume ") ((content_of s.detector).last c.args.source))))
+
+pub returns-in_err-print_number-clause-front : goal.returns-in_err-print_number-clause-front
+returns-in_err-print_number-clause-front g c =
+    let o = c.args.output.now.calls in
+    let p = c.print_number.new.output.calls in
+    let s = c.args.store.now in
+    always_err _ (wrote_resume c.args.source s.detector.sets (content_of s.detector) c.args.input.now.calls o p
+    (subst (λ (n : ℕ). TookFront o p (number_text (codes "resume ") n)) (last_is s.is_broken c.in_ok-last.last ((content_of s.detector).last c.args.source) c.requires.works c.in_ok-last.ensures)
+    (printed_front o p (number_text (codes "resume ") c.in_ok-last.last) c.print_number.ensures.calls)))
+
+pub returns-in_err-end-clause-front : goal.returns-in_err-end-clause-front
+returns-in_err-end-clause-front g c =
+    let o = c.args.output.now.calls in
+    let p = c.print_number.new.output.calls in
+    let s = c.args.store.now in
+    always_err _ (wrote_fed s (record { source = c.args.source; number = 0; accepted = 0 }) c.args.source c.args.input.now.calls c.feed_all.new.input.calls o p c.feed_all.new.output.calls
+    (resumed s (record { source = c.args.source; number = 0; accepted = 0 }) o p c.args.source refl
+    (subst (λ (n : ℕ). Took o p (number_text (codes "resume ") n)) (last_is c.args.store.now.is_broken c.in_ok-last.last ((content_of c.args.store.now.detector).last c.args.source) c.requires.works c.in_ok-last.ensures) c.in_ok-print_number.ensures.printed))
+    c.in_err-end.ensures.front)
+
+pub returns-in_err-acknowledge-clause-front : goal.returns-in_err-acknowledge-clause-front
+returns-in_err-acknowledge-clause-front g c =
+    let o = c.args.output.now.calls in
+    let p = c.print_number.new.output.calls in
+    always_err _ (wrote_acks g.D.Disk c.args.input.now.calls c.feed_all.new.input.calls c.args.source c.args.store.now c.feed_all.new.store
+    (record { source = c.args.source; number = 0; accepted = 0 }) c.feed_all.new.fed
+    o p c.feed_all.new.output.calls c.acknowledge.new.output.calls c.in_ok-end.end refl
+    (subst (λ (n : ℕ). Took o p (number_text (codes "resume ") n)) (last_is c.args.store.now.is_broken c.in_ok-last.last ((content_of c.args.store.now.detector).last c.args.source) c.requires.works c.in_ok-last.ensures) c.in_ok-print_number.ensures.printed)
+    c.in_ok-end.ensures.goes c.in_ok-end.ensures.feeds c.acknowledge.ensures.calls)
+
+pub returns-in_err-print_end-clause-front : goal.returns-in_err-print_end-clause-front
+returns-in_err-print_end-clause-front g c =
+    let o = c.args.output.now.calls in
+    let p = c.print_number.new.output.calls in
+    always_err _ (wrote_end g.D.Disk c.args.input.now.calls c.feed_all.new.input.calls c.args.source c.args.store.now c.feed_all.new.store
+    (record { source = c.args.source; number = 0; accepted = 0 }) c.feed_all.new.fed
+    o p c.feed_all.new.output.calls c.acknowledge.new.output.calls c.print_end.new.output.calls (content_of c.acknowledge.new.store.detector) c.in_ok-end.end refl
+    (subst (λ (n : ℕ). Took o p (number_text (codes "resume ") n)) (last_is c.args.store.now.is_broken c.in_ok-last.last ((content_of c.args.store.now.detector).last c.args.source) c.requires.works c.in_ok-last.ensures) c.in_ok-print_number.ensures.printed)
+    c.in_ok-end.ensures.goes c.in_ok-end.ensures.feeds c.in_ok-acknowledge.ensures.printed
+    (ap (λ (d : Detector PagedWords). content_of d) c.in_ok-acknowledge.ensures.committed.detector) c.print_end.ensures.calls)

@@ -3,6 +3,10 @@ use Rattle.hg_check.specs.declared.checker.Ending.{Ending}
 use Rattle.hg_commands.specs.FeedRunning.{FeedDone, WasFed}
 use Rattle.hg_commands.proofs.FeedDone.{feed_done}
 use Rattle.hg_commands.proofs.Kept.{fed_is_kept, none_is_kept}
+use Rattle.std.proofs.Common.{inr, sym, subst}
+use Rattle.hg_detect.specs.Memory.{content_of}
+use Rattle.hg_store.specs.Images.{HasContent, read_of}
+use Rattle.hg_commands.proofs.Fronts.{on_err_weaker}
 use Rattle.hg_commands.proofs.feeding.recover_and_feed.Goals as goal
 
 pub returns-in-Ok-clause-fed : goal.returns-in-Ok-clause-fed
@@ -30,3 +34,12 @@ returns-in-Ok-clause-kept g c honest =
 pub returns-in-Err-clause-kept : goal.returns-in-Err-clause-kept
 returns-in-Err-clause-kept g c honest =
     none_is_kept g.D.Disk c.args.devices c.in-Err.devices c.args.output.now.calls c.args.moments.now c.requires.none c.in-Err.ensures.images
+
+pub returns-in-Ok-clause-front : goal.returns-in-Ok-clause-front
+returns-in-Ok-clause-front g c =
+    on_err_weaker c.feed_store-end.result
+    (λ w. inr (
+      c.in-Ok.store.detector.sets,
+      (content_of c.in-Ok.store.detector, (λ honest. let began = c.in-Ok.ensures.content honest in (subst (λ x. HasContent (read_of g.D.Disk c.args.devices) x) (sym began.2.has) began.1, c.in-Ok.ensures.sets honest), w)),
+    ))
+    c.feed_store-end.ensures.front
