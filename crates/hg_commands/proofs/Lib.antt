@@ -5,6 +5,7 @@ mod FeedSteps
 mod FeedUnderway
 mod Fronts
 mod FeedFronts
+mod Outcome
 mod Unique
 mod Kept
 mod Given

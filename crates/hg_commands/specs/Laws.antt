@@ -1,5 +1,5 @@
 -- What every trace text that is fed leads to.
-use Rattle.std.specs.Prelude.{◌≡◌, ◌⊎◌, ℕ, ◌+◌, nat_le, List, [], ◌∷◌, ◌++◌, map, length, Result, Ok, Err, if◌then◌else◌}
+use Rattle.std.specs.Prelude.{◌≡◌, ◌⊎◌, ℕ, ◌+◌, ◌≤◌, nat_le, List, [], ◌∷◌, ◌++◌, map, length, Result, Ok, Err, if◌then◌else◌}
 use Rattle.hg_model.specs.declared.event.Event.{Event}
 use Rattle.hg_model.specs.declared.event.Named.{Named}
 use Rattle.hg_model.specs.declared.verdict.Refusal.{Refusal}
@@ -19,6 +19,12 @@ use Rattle.hg_commands.specs.Feeding.{FeedsTo, sent}
 abbrev pub FeedingIsUnique : Type 0
 FeedingIsUnique = (source : ℕ) (bytes : List ℕ) (table : Table) (start c d : Content) (first second : Ending)
     → FeedsTo source (readings bytes) table start 0 c first → FeedsTo source (readings bytes) table start 0 d second → (c ≡ d) × (first ≡ second)
+
+-- From a content, and a table that has no more sets than its limit, feeding a text of a source leads to some content, and ends in some
+-- way. The table of every store is such a one (`within` of `AreSets`).
+abbrev pub EveryTextFedHasAnOutcome : Type 0
+EveryTextFedHasAnOutcome = (source : ℕ) (bytes : List ℕ) (table : Table) (start : Content) → length table.sets ≤ table.limit
+    → (c : Content) × ((end : Ending) × FeedsTo source (readings bytes) table start 0 c end)
 
 -- The trace, newest event first, with the event of the line that follows so many others of its source. An event that the trace
 -- has already, by its number, is passed over.
