@@ -6,6 +6,9 @@
  *   CALLS_KILL=N        the program is killed as it makes the N-th call
  *   CALLS_STOP=N        it is stopped there, until it gets SIGCONT
  *   CALLS_READ_ONLY=1   files that are opened for writing, or to be made, answer EROFS
+ *   CALLS_SHORT=N       a read or write of a standard stream takes N bytes at most
+ *   CALLS_INTERRUPT=N   each N-th read or write of a standard stream is interrupted, with EINTR, and does nothing
+ *   CALLS_TICK=1        a signal comes each millisecond, and interrupts a call that waits
  *
  * Calls are counted from 1: open, mkdir, statx, flock, ftruncate, fsync, pread, pwrite, read, write.
  */
@@ -20,6 +23,7 @@
 #include <string.h>
 #include <sys/stat.h>
 #include <sys/syscall.h>
+#include <sys/time.h>
 #include <sys/types.h>
 #include <unistd.h>
 
@@ -85,6 +89,40 @@ static int fails(int is_write)
         return 1;
     }
     return 0;
+}
+
+static void nothing(int signal)
+{
+    (void)signal;
+}
+
+/* Has a signal come each millisecond, after which no call is made again by the system itself. */
+__attribute__((constructor)) static void tick(void)
+{
+    if (!number("CALLS_TICK"))
+        return;
+    struct sigaction action = {.sa_handler = nothing};
+    sigaction(SIGALRM, &action, NULL);
+    struct itimerval each = {{0, 1000}, {0, 1000}};
+    setitimer(ITIMER_REAL, &each, NULL);
+}
+
+/* Whether a call of a standard stream is interrupted, with errno set. */
+static int is_interrupted(int fd)
+{
+    static long made;
+    long each = number("CALLS_INTERRUPT");
+    if (fd > 2 || !each || ++made % each)
+        return 0;
+    errno = EINTR;
+    return 1;
+}
+
+/* How many bytes a call of a standard stream takes of so many. */
+static size_t shortened(int fd, size_t len)
+{
+    size_t most = (size_t)number("CALLS_SHORT");
+    return fd <= 2 && most && len > most ? most : len;
 }
 
 #define REAL(name) ((__typeof__(&name))dlsym(RTLD_NEXT, #name))
@@ -167,14 +205,14 @@ ssize_t pwrite(int fd, const void *buffer, size_t len, off_t at)
 
 ssize_t read(int fd, void *buffer, size_t len)
 {
-    ssize_t result = fails(0) ? -1 : REAL(read)(fd, buffer, len);
+    ssize_t result = is_interrupted(fd) || fails(0) ? -1 : REAL(read)(fd, buffer, shortened(fd, len));
     note("read %s = %zd", name_of(fd), result);
     return result;
 }
 
 ssize_t write(int fd, const void *buffer, size_t len)
 {
-    ssize_t result = fails(0) ? -1 : REAL(write)(fd, buffer, len);
+    ssize_t result = is_interrupted(fd) || fails(0) ? -1 : REAL(write)(fd, buffer, shortened(fd, len));
     int shown = len > 200 ? 200 : (int)len;
     while (shown > 0 && ((const char *)buffer)[shown - 1] == '\n')
         shown--;
