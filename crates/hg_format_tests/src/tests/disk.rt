@@ -199,6 +199,17 @@ fn blows_for_good(rt: HostRuntime) -> Result<(), Fail> {
     Ok(())
 }
 
+/// A file that there is none of is empty and can't be changed; a sync of it has nothing to do.
+#[test]
+fn a_missing_file_is_empty(rt: HostRuntime) {
+    let mut disk = FileDisk::missing();
+    assert!(rt; disk.len() == 0);
+    failed(&rt, disk.write_at(0, b"a"));
+    failed(&rt, cut(&rt, &mut disk, 0));
+    done(&rt, disk.sync());
+    assert!(rt; disk.len() == 0);
+}
+
 const FOLDER: &str = "hg_disk_test_folder";
 
 const PATH: &str = "hg_disk_test_folder/file";
