@@ -1,5 +1,5 @@
 -- A record that is read is the record that was written, and what was written is read again.
-use Rattle.std.proofs.Common.{◌≡◌, ℕ, suc, ◌+◌, ◌^◌, ◌<◌, ◌≤◌, Bool, true, false, cond, ltb, nat_eq, List, [], ◌∷◌, ◌++◌, length, get_or, take, drop, Option, Some, None, refl, sym, ap, subst, ◌∙◌, append_assoc, arith, inl, inr, ◌⊎◌}
+use Rattle.std.proofs.Common.{◌≡◌, ℕ, suc, ◌+◌, ◌-◌, ◌^◌, ◌<◌, ◌≤◌, Bool, true, false, cond, ltb, nat_eq, List, [], ◌∷◌, ◌++◌, length, get_or, take, drop, Option, Some, None, refl, sym, ap, subst, ◌∙◌, append_assoc, arith, inl, inr, ◌⊎◌}
 use Rattle.std.specs.Int.{Width, w16, w64, byte_len, from_be_bytes, to_be_bytes}
 use Rattle.std.specs.List.{flat_map, AllByRecursion}
 use Rattle.std.proofs.lemmas.Bool.{cases_lt, eqb-true, ltb-false, le-ltb}
@@ -48,6 +48,15 @@ pub record Takes (bytes text rest : List ℕ) : Type 0 where
 
 Takes-then : (a x b y c : List ℕ) → Takes a x b → Takes b y c → Takes a (x ++ y) c
 Takes-then a x b y c p q = record { parts = p.parts ∙ ap (λ (t : List ℕ). x ++ t) q.parts ∙ sym (append_assoc x y c); rest_fits = q.rest_fits }
+
+-- how much was taken, by the lengths of what there was and of what is left
+pub taken : (bytes text rest : List ℕ) → Takes bytes text rest → (length rest ≤ length bytes) × ((length bytes - length rest ≡ length text) × (bytes ≡ text ++ drop (length bytes - length rest) bytes))
+taken bytes text rest takes =
+    let all : length bytes ≡ length text + length rest = ap length takes.parts ∙ length-append text rest in
+    let used : length bytes - length rest ≡ length text = omega (arith, all) in
+    let after : drop (length bytes - length rest) bytes ≡ rest =
+    ap (λ xs. drop (length bytes - length rest) xs) takes.parts ∙ drop_at text rest (length bytes - length rest) (sym used) in
+    (omega (arith, all), (used, takes.parts ∙ ap (λ xs. text ++ xs) (sym after)))
 
 record IsWide (w : Width) (limit : ℕ) : Type 0 where
   pub len : (n : ℕ) → length (to_be_bytes w n) ≡ byte_len w
@@ -236,7 +245,7 @@ operands_takes kind t bytes e rest fits small h =
           | inr differs ↦ later differs.1
         ]
 
-event_takes : (bytes : List ℕ) (e : Event) (rest : List ℕ) → IsBytes bytes → event_at bytes ≡ Some (e, rest) → Takes bytes (event_text e) rest × EventFits e
+pub event_takes : (bytes : List ℕ) (e : Event) (rest : List ℕ) → IsBytes bytes → event_at bytes ≡ Some (e, rest) → Takes bytes (event_text e) rest × EventFits e
 unfolding event_at
 event_takes bytes e rest fits h =
     let first = bind_some (byte_at bytes) (λ kind. number_at w16 kind.1 >>= λ t. operands_at kind.0 t.0 t.1) (e, rest) h in
@@ -280,7 +289,7 @@ thread_again kind t text rest small =
 pair_again : (make : ℕ → Event) (n : ℕ) (rest : List ℕ) → n < 2 ^ 16 → making make (number_at w16 (to_be_bytes w16 n ++ rest)) ≡ Some (make n, rest)
 pair_again make n rest lt = ap (λ r. making make r) (number_again w16 (2 ^ 16) wide16 n rest lt)
 
-event_again : (e : Event) (rest : List ℕ) → EventFits e → event_at (event_text e ++ rest) ≡ Some (e, rest)
+pub event_again : (e : Event) (rest : List ℕ) → EventFits e → event_at (event_text e ++ rest) ≡ Some (e, rest)
 unfolding operands_at
 event_again (Fork t n) rest fits = thread_again 1 t (to_be_bytes w16 n) rest fits.0 ∙ pair_again (λ c. Fork t c) n rest fits.1
 event_again (Join t n) rest fits = thread_again 2 t (to_be_bytes w16 n) rest fits.0 ∙ pair_again (λ c. Join t c) n rest fits.1
@@ -304,6 +313,12 @@ record_again n rest fits =
     ∙ (ap (λ r. r >>= λ number. event_at number.1 >>= λ event. Some (record { source = n.source; number = number.0; event = event.0 }, event.1))
     (number_again w64 (2 ^ 64) wide64 n.number (event_text n.event ++ rest) fits.1.0)
     ∙ ap (λ r. r >>= λ event. Some (record { source = n.source; number = n.number; event = event.0 }, event.1)) (event_again n.event rest fits.1.1))))
+
+-- No event begins another.
+pub one_event : (a b : Event) (x y : List ℕ) → EventFits a → EventFits b → event_text a ++ x ≡ event_text b ++ y → (a ≡ b) × (x ≡ y)
+one_event a b x y fits again same =
+    let is : (a, x) ≡ (b, y) = some_is (a, x) (b, y) (sym (event_again a x fits) ∙ (ap (λ bytes. event_at bytes) same ∙ event_again b y again)) in
+    (ap (λ (p : Event × List ℕ). p.0) is, ap (λ (p : Event × List ℕ). p.1) is)
 
 -- No record begins another.
 pub one_record : (a b : Named) (x y : List ℕ) → RecordFits a → RecordFits b → record_text a ++ x ≡ record_text b ++ y → (a ≡ b) × (x ≡ y)

@@ -61,3 +61,7 @@ RecordFits n = (n.source < 2 ^ 16) × ((n.number < 2 ^ 64) × EventFits n.event)
 -- The bytes begin with the record of this event.
 abbrev pub BeginsWith : List ℕ → Named → List ℕ → Type 0
 BeginsWith bytes n rest = RecordFits n × (bytes ≡ record_text n ++ rest)
+
+-- The bytes begin with this event, as a record has it after its name.
+abbrev pub BeginsWithEvent : List ℕ → Event → List ℕ → Type 0
+BeginsWithEvent bytes e rest = EventFits e × (bytes ≡ event_text e ++ rest)

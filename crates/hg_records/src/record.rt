@@ -2,8 +2,9 @@
 
 ghost use Rattle.std.specs.Prelude.{◌≡◌, ◌≤◌, ◌++◌, ◌+◌, ◌∷◌, List, ℕ, Some, length, drop, vec_capacity, IsOk, OnOk, OnErr, IfSome, IfNone};
 ghost use Rattle.std.specs.Int.{w16, w64, to_be_bytes};
+ghost use Rattle.hg_model.specs.declared.event.Event.{Event as EventOf};
 ghost use Rattle.hg_model.specs.declared.event.Named.{Named as NamedOf};
-ghost use Rattle.hg_records.specs.Records.{AccessFits, BeginsWith, BlockFits, EventFits, PairFits, RecordFits, access_text, block_text, event_text, pair_text, record_text};
+ghost use Rattle.hg_records.specs.Records.{AccessFits, BeginsWith, BeginsWithEvent, BlockFits, EventFits, PairFits, RecordFits, access_text, block_text, event_text, pair_text, record_text};
 ghost use Rattle.hg_records.specs.RecordReading.{Gives, access_at, block_at, byte_at, event_at, number_at, operands_at, record_at};
 
 use hg_model::event::{Access, Block, Event, Named};
@@ -146,6 +147,18 @@ pub fn read_record(bytes: &[u8]) -> Option<(Named, usize)>
     }
 }
 
+/// Reads the event at the front of the bytes, as a record has it after its name, and how many bytes it takes. `None` says
+/// that the bytes begin with no event. Takes no memory.
+pub fn read_event(bytes: &[u8]) -> Option<(Event, usize)>
+    ensures read { IfSome result (λ r. (r.1 ≡ length (event_text r.0)) × BeginsWithEvent bytes.now r.0 (drop r.1 bytes.now)) }
+    ensures none { IfNone result ((e : EventOf) (rest : List ℕ) → BeginsWithEvent bytes.now e rest → ⊥) }
+{
+    match event_of(bytes) {
+        None => None,
+        Some((event, rest)) => Some((event, bytes.len() - rest.len())),
+    }
+}
+
 /// Appends the record of an event. An `Err` leaves `out` as it was. It takes no memory where `out` has room for
 /// `MAX_RECORD_LEN` bytes more.
 pub fn put_record(named: &Named, out: &mut Vec<u8>) -> Result<(), AllocError>
@@ -180,7 +193,7 @@ fn put_name(source: u16, number: u64, out: &mut Vec<u8>) -> Result<(), AllocErro
 }
 
 /// Appends an event's kind, thread and operands. An `Err` changes nothing.
-fn put_event(event: &Event, out: &mut Vec<u8>) -> Result<(), AllocError>
+pub fn put_event(event: &Event, out: &mut Vec<u8>) -> Result<(), AllocError>
     ensures ok { OnOk result (out.new.items ≡ out.old.items ++ event_text event.now) }
     ensures err { OnErr result (out.new.items ≡ out.old.items) }
     ensures room { length out.old.items + 13 ≤ vec_capacity out.old → IsOk result }
