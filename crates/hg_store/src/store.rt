@@ -1,6 +1,6 @@
 //! The store.
 
-ghost use Rattle.std.specs.Prelude.{◌≡◌, ◌≢◌, ◌⊎◌, ◌≤◌, ◌-◌, ◌*◌, [], List, Ok, Err, length, take, drop, false, true, IsTrue, OnOk, IfOk, IfErr, cond};
+ghost use Rattle.std.specs.Prelude.{◌≡◌, ◌≢◌, ◌⊎◌, ◌≤◌, ◌+◌, ◌-◌, ◌*◌, [], List, Ok, Err, length, take, drop, false, true, IsTrue, OnOk, IfOk, IfErr, cond};
 ghost use Rattle.hg_model.specs.Contents.{Content};
 ghost use Rattle.hg_model.specs.Verdicts as rules;
 ghost use Rattle.hg_model.specs.declared.event.Named.{Named as NamedOf};
@@ -138,7 +138,8 @@ impl<D: Disk> Store<D> {
 
     /// The count of the accepted events.
     pub fn events(&self) -> Result<u64, Refusal>
-        ensures { result ≡ cond self.now.is_broken (Err Refusal.Broken) (Ok (content_of self.now.detector).events) }
+        ensures count { result ≡ cond self.now.is_broken (Err Refusal.Broken) (Ok (content_of self.now.detector).events) }
+        ensures all { (content_of self.now.detector).events ≡ self.now.durable + length self.now.pending }
     {
         if self.is_broken {
             return Err(Refusal::Broken);

@@ -1,0 +1,107 @@
+-- What a frame is answered, and what it does to the store.
+use Rattle.std.specs.Prelude.{◌≡◌, ◌⊎◌, ℕ, nat_lt, Bool, true, List, [], ◌∷◌, length, cond, Result, Ok, Err}
+use Rattle.hg_model.specs.Contents.{Content}
+use Rattle.hg_model.specs.Codes.{code_of}
+use Rattle.hg_model.specs.declared.event.Named.{Named}
+use Rattle.hg_model.specs.declared.verdict.Refusal.{Refusal}
+use Rattle.hg_model.specs.declared.verdict.Refusal.TheVariants.{Gap, BadNumber, Broken, OutOfMemory}
+use Rattle.hg_detect.specs.Memory.{content_of}
+use Rattle.hg_detect.specs.declared.detector.Answer.{Answer}
+use Rattle.hg_detect.specs.declared.detector.Answer.TheVariants.{Accepted as IsAccepted, Duplicate as IsDuplicate}
+use Rattle.hg_disk.specs.declared.disk.Disk as disk
+use Rattle.hg_frames.specs.declared.frame.Frame.{Frame}
+use Rattle.hg_frames.specs.declared.frame.Frame.TheVariants.{Hello, Event as Numbered, Ask, Reports, Bye}
+use Rattle.hg_frames.specs.declared.reply.Reply.{Reply}
+use Rattle.hg_frames.specs.declared.reply.Reply.TheVariants.{Welcome, Accepted, Duplicate, Refused, Ack, Line, Fault, Lines, Nothing}
+use Rattle.hg_frames.specs.declared.lines.ReportLines.{ReportLines}
+use Rattle.hg_store.specs.declared.steps.Step.TheVariants.{Offer, Commit}
+use Rattle.hg_store.specs.declared.steps.StepResult.TheVariants.{Offered, Committed}
+use Rattle.hg_store.specs.Shown.{Shown}
+use Rattle.hg_desk.specs.declared.desk.Stage.{Stage}
+use Rattle.hg_desk.specs.declared.desk.Stage.TheVariants.{Greeting, Talking, Over}
+use Rattle.hg_desk.specs.Told.{Told, StepKept}
+
+-- the number that a source has to send next, where a refusal is of a gap
+abbrev pub expected_of : Refusal → ℕ
+expected_of (Gap n) = n
+expected_of _ = 0
+
+abbrev pub refused : ℕ → Refusal → Reply
+refused number refusal = Refused number (code_of refusal) (expected_of refusal)
+
+abbrev pub offer_reply : ℕ → Result Answer Refusal → Reply
+offer_reply number (Ok IsAccepted) = Accepted number
+offer_reply number (Ok (IsDuplicate last)) = Duplicate last
+offer_reply number (Err refusal) = refused number refusal
+
+abbrev pub commit_reply : ℕ → Result ℕ Refusal → Reply
+commit_reply last (Ok count) = Ack last
+commit_reply last (Err refusal) = refused 0 refusal
+
+-- the lines of all kept reports, and the end line
+abbrev pub lines_of : Content → ReportLines
+lines_of c = record { reports = c.reports; events = c.events; races = c.total; segments = length c.segments }
+
+-- Only memory can be wanting.
+abbrev pub ReportsAnswer : Bool → Content → Reply → Type 0
+ReportsAnswer is_broken c reply = cond is_broken (reply ≡ refused 0 Broken) ((reply ≡ Lines (lines_of c)) ⊎ (reply ≡ refused 0 OutOfMemory))
+
+-- The answer to a Hello: a source above 1023 is refused before the store is asked.
+abbrev pub hello_reply : ℕ → Bool → Content → Reply
+hello_reply source is_broken c = cond (nat_lt 1023 source) (refused 0 BadNumber) (cond is_broken (refused 0 Broken) (Welcome (c.last source)))
+
+abbrev pub stage_after_hello : ℕ → Bool → Stage
+stage_after_hello source is_broken = cond (nat_lt 1023 source) Greeting (cond is_broken Greeting (Talking source))
+
+-- Nothing of the store has changed, and the share was told nothing.
+abbrev pub Still : {D : Type 0} → (old new : Shown D) → (told told_after : Told) → Type 0
+Still old new told told_after = (new ≡ old) × (told_after ≡ told)
+
+abbrev pub Leads : Stage → Reply → Stage → Reply → Type 0
+Leads stage reply to said = (stage ≡ to) × (reply ≡ said)
+
+-- before the Welcome
+abbrev pub Greets : {D : Type 0} → (old new : Shown D) → (told told_after : Told) → Frame → Stage → Reply → Type 0
+Greets old new told told_after (Hello source) stage reply = Still old new told told_after × Leads stage reply (stage_after_hello source old.is_broken) (hello_reply source old.is_broken (content_of old.detector))
+Greets old new told told_after (Numbered number event) stage reply = Still old new told told_after × Leads stage reply Over (Fault 2)
+Greets old new told told_after Ask stage reply = Still old new told told_after × Leads stage reply Over (Fault 2)
+Greets old new told told_after Reports stage reply = Still old new told told_after × Leads stage reply Over (Fault 2)
+Greets old new told told_after Bye stage reply = Still old new told told_after × Leads stage reply Over (Fault 2)
+
+-- between the Welcome and the end: one offer for an Event, one commit for an Ask, and no other step
+abbrev pub Talks : {D : Type 0} → disk.Ghosts D → ℕ → (old new : Shown D) → (told told_after : Told) → Frame → Stage → Reply → Type 0
+Talks g source old new told told_after (Hello other) stage reply = Still old new told told_after × Leads stage reply Over (Fault 3)
+Talks g source old new told told_after (Numbered number event) stage reply =
+    (result : Result Answer Refusal) × StepKept g old new told told_after (Offer (record { source = source; number = number; event = event })) (Offered result)
+    × Leads stage reply (Talking source) (offer_reply number result)
+Talks g source old new told told_after Ask stage reply =
+    (result : Result ℕ Refusal) × StepKept g old new told told_after Commit (Committed result)
+    × Leads stage reply (Talking source) (commit_reply ((content_of new.detector).last source) result)
+Talks g source old new told told_after Reports stage reply = Still old new told told_after × (stage ≡ Talking source) × ReportsAnswer old.is_broken (content_of old.detector) reply
+Talks g source old new told told_after Bye stage reply = Still old new told told_after × Leads stage reply Over Nothing
+
+-- The answer to a frame at a stage of a conversation.
+abbrev pub Answers : {D : Type 0} → disk.Ghosts D → Stage → (old new : Shown D) → (told told_after : Told) → Frame → Stage → Reply → Type 0
+Answers g Greeting old new told told_after frame stage reply = Greets old new told told_after frame stage reply
+Answers g (Talking source) old new told told_after frame stage reply = Talks g source old new told told_after frame stage reply
+Answers g Over old new told told_after frame stage reply = Still old new told told_after × Leads stage reply Over (Fault 4)
+
+-- What a share is told by a frame, whatever the store was: one more where an event was answered Accepted, and of durable events never less.
+abbrev pub accepted_by : Reply → ℕ
+accepted_by (Accepted number) = 1
+accepted_by (Welcome last) = 0
+accepted_by (Duplicate last) = 0
+accepted_by (Refused number code expected) = 0
+accepted_by (Ack number) = 0
+accepted_by (Line line) = 0
+accepted_by (Fault code) = 0
+accepted_by (Lines lines) = 0
+accepted_by Nothing = 0
+
+-- Frames are answered one after another, each as the conversation and the store stand by then.
+abbrev pub Converses : {D : Type 0} → disk.Ghosts D → Stage → (old new : Shown D) → (told told_after : Told) → List Frame → Stage → List Reply → Type 0
+Converses g stage old new told told_after [] to [] = (to ≡ stage) × Still old new told told_after
+Converses {D} g stage old new told told_after (frame ∷ frames) to (reply ∷ replies) =
+    (mid : Shown D) × (between : Told) × (next : Stage) × Answers g stage old mid told between frame next reply × Converses g next mid new between told_after frames to replies
+Converses g stage old new told told_after [] to (reply ∷ replies) = ⊥
+Converses g stage old new told told_after (frame ∷ frames) to [] = ⊥

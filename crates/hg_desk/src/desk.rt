@@ -1,0 +1,213 @@
+//! One conversation with a client.
+
+ghost use Rattle.std.specs.Prelude.{◌≡◌, ℕ, Result, IfOk, OnErr};
+ghost use Rattle.hg_model.specs.declared.verdict.Refusal.{Refusal as RefusalOf};
+ghost use Rattle.hg_detect.specs.Memory.{content_of};
+ghost use Rattle.hg_detect.specs.declared.detector.Answer.{Answer as AnswerOf};
+ghost use Rattle.hg_store.specs.declared.steps.Step.TheVariants.{Offer, Commit};
+ghost use Rattle.hg_store.specs.declared.steps.StepResult.TheVariants.{Offered, Committed};
+ghost use Rattle.hg_desk.specs.Conversation.{Answers, Converses, Greets, Talks, commit_reply, expected_of, hello_reply, offer_reply, refused as refused_reply, stage_after_hello};
+ghost use Rattle.hg_desk.specs.Told.{Told, StepKept};
+
+use crate::locked::Core;
+use crate::share::{Column, Share};
+use hg_detect::detector::Answer;
+use hg_disk::Disk;
+use hg_frames::frame::Frame;
+use hg_frames::reply::Reply;
+use hg_model::event::Named;
+use hg_model::verdict::Refusal;
+use hg_store::steps::{Step, StepResult};
+use std::alloc::{AllocError, Global};
+use std::marker::Model;
+
+/// The greatest number of a source.
+const MOST_SOURCE: u16 = 1023;
+
+/// How far a conversation has come.
+#[derive(Clone, Copy, Debug, PartialEq, Eq, Drop)]
+pub enum Stage {
+    /// No Welcome was said yet.
+    Greeting,
+    /// Events are of this source.
+    Talking { source: u16 },
+    /// Every further frame is answered Fault 4.
+    Over,
+}
+
+/// One conversation with a client.
+#[derive(Debug, Drop)]
+pub struct Desk {
+    stage: Stage,
+}
+
+impl Model for Desk {
+    ghost use Rattle.hg_desk.specs.declared.desk.Stage.{Stage};
+
+    ghost Value = { Stage };
+
+    ghost view = { λ d. d.stage };
+}
+
+/// The number that a source has to send next, where a refusal is of a gap.
+fn expected(refusal: Refusal) -> u64
+    ensures { result ≡ expected_of refusal }
+{
+    match refusal {
+        Refusal::Gap(expected) => expected,
+        _ => 0,
+    }
+}
+
+/// How a refusal is told.
+pub(crate) fn refused(number: u64, refusal: Refusal) -> Reply
+    ensures { result ≡ refused_reply number refusal }
+{
+    Reply::Refused {
+        number,
+        code: refusal.code(),
+        expected: expected(refusal),
+    }
+}
+
+impl Desk {
+    ghost use Rattle.hg_desk.specs.declared.desk.Stage.TheVariants.{Greeting};
+
+    /// A conversation that has not begun.
+    pub fn new() -> Desk
+        ensures { result ≡ Greeting }
+    {
+        Desk {
+            stage: Stage::Greeting,
+        }
+    }
+
+    /// Answers a frame: one offer to the store for an Event, one commit for an Ask, and no other step.
+    pub fn answer<D: Disk, A: Column, B: Column>(
+        &mut self,
+        alloc: Global,
+        core: &mut Core<D, A, B>,
+        share: &mut Share<A, B>,
+        frame: &Frame,
+    ) -> Reply
+        ensures { Answers ⟦<D as Disk>⟧ self.old core.old core.new share.old share.new frame.now self.new result }
+    {
+        let (stage, reply) = match self.stage {
+            Stage::Greeting => greet(core, frame),
+            Stage::Talking { source } => talk(alloc, core, share, source, frame),
+            Stage::Over => (Stage::Over, Reply::Fault { code: 4 }),
+        };
+        self.stage = stage;
+        reply
+    }
+
+    /// Answers frames in their order. Room for the replies is made first: where it is refused, nothing was changed.
+    pub fn answer_all<D: Disk, A: Column, B: Column>(
+        &mut self,
+        alloc: Global,
+        core: &mut Core<D, A, B>,
+        share: &mut Share<A, B>,
+        frames: &[Frame],
+    ) -> Result<Vec<Reply>, AllocError>
+        ensures ok { IfOk result (λ replies. Converses ⟦<D as Disk>⟧ self.old core.old core.new share.old share.new frames.now self.new replies.items) }
+        ensures err { OnErr result ((self.new ≡ self.old) × ((core.new ≡ core.old) × (share.new ≡ share.old))) }
+    {
+        let Ok(mut replies) = Vec::with_capacity(alloc, frames.len()) else {
+            return Err(AllocError);
+        };
+        for frame in frames {
+            replies.push_reserved(self.answer(alloc, core, share, frame));
+        }
+        Ok(replies)
+    }
+}
+
+/// Before the Welcome.
+fn greet<D: Disk, A: Column, B: Column>(core: &Core<D, A, B>, frame: &Frame) -> (Stage, Reply)
+    ensures { (told : Told) → Greets core.now core.now told told frame.now result.0 result.1 }
+{
+    match frame {
+        Frame::Hello { source } => welcome(core, *source),
+        Frame::Event { .. } => (Stage::Over, Reply::Fault { code: 2 }),
+        Frame::Ask => (Stage::Over, Reply::Fault { code: 2 }),
+        Frame::Reports => (Stage::Over, Reply::Fault { code: 2 }),
+        Frame::Bye => (Stage::Over, Reply::Fault { code: 2 }),
+    }
+}
+
+/// The answer to the first Hello.
+fn welcome<D: Disk, A: Column, B: Column>(core: &Core<D, A, B>, source: u16) -> (Stage, Reply)
+    ensures stage { result.0 ≡ stage_after_hello source core.now.is_broken }
+    ensures reply { result.1 ≡ hello_reply source core.now.is_broken (content_of core.now.detector) }
+{
+    if source > MOST_SOURCE {
+        return (Stage::Greeting, refused(0, Refusal::BadNumber));
+    }
+    match core.last(source) {
+        Ok(last) => (Stage::Talking { source }, Reply::Welcome { last }),
+        Err(refusal) => (Stage::Greeting, refused(0, refusal)),
+    }
+}
+
+/// Between the Welcome and the end.
+fn talk<D: Disk, A: Column, B: Column>(
+    alloc: Global,
+    core: &mut Core<D, A, B>,
+    share: &mut Share<A, B>,
+    source: u16,
+    frame: &Frame,
+) -> (Stage, Reply)
+    ensures { Talks ⟦<D as Disk>⟧ source core.old core.new share.old share.new frame.now result.0 result.1 }
+{
+    match frame {
+        Frame::Hello { .. } => (Stage::Over, Reply::Fault { code: 3 }),
+        Frame::Event { number, event } => {
+            let named = Named {
+                source,
+                number: *number,
+                event: *event,
+            };
+            let reply = offer(core, share, &named);
+            (Stage::Talking { source }, reply)
+        }
+        Frame::Ask => {
+            let reply = commit(core, share, source);
+            (Stage::Talking { source }, reply)
+        }
+        Frame::Reports => (Stage::Talking { source }, core.report_lines(alloc)),
+        Frame::Bye => (Stage::Over, Reply::Nothing),
+    }
+}
+
+fn offer<D: Disk, A: Column, B: Column>(
+    core: &mut Core<D, A, B>,
+    share: &mut Share<A, B>,
+    named: &Named,
+) -> Reply
+    ensures { (r : Result AnswerOf RefusalOf) × StepKept ⟦<D as Disk>⟧ core.old core.new share.old share.new (Offer named.now) (Offered r) × (result ≡ offer_reply named.now.number r) }
+{
+    match core.step(share, &Step::Offer(*named)) {
+        StepResult::Offered(Ok(Answer::Accepted)) => Reply::Accepted {
+            number: named.number,
+        },
+        StepResult::Offered(Ok(Answer::Duplicate(last))) => Reply::Duplicate { last },
+        StepResult::Offered(Err(refusal)) => refused(named.number, refusal),
+        StepResult::Committed(_) => Reply::Nothing,
+    }
+}
+
+fn commit<D: Disk, A: Column, B: Column>(
+    core: &mut Core<D, A, B>,
+    share: &mut Share<A, B>,
+    source: u16,
+) -> Reply
+    ensures { (r : Result ℕ RefusalOf) × StepKept ⟦<D as Disk>⟧ core.old core.new share.old share.new Commit (Committed r) × (result ≡ commit_reply ((content_of core.new.detector).last source) r) }
+{
+    match core.step(share, &Step::Commit) {
+        StepResult::Committed(Ok(_)) => Reply::Ack {
+            number: core.last(source).unwrap_or(0),
+        },
+        StepResult::Committed(Err(refusal)) => refused(0, refusal),
+        StepResult::Offered(_) => Reply::Nothing,
+    }
+}

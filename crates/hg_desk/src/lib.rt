@@ -1,0 +1,6 @@
+//! Conversations with clients over a store that threads share.
+#![tactic(auto)]
+
+pub mod desk;
+pub mod locked;
+pub mod share;

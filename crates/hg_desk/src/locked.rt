@@ -1,0 +1,142 @@
+//! The value behind the lock.
+
+ghost use Rattle.std.specs.Prelude.{◌≡◌, ◌+◌, ◌<◌, ◌^◌, Ok, Err, cond};
+ghost use Rattle.hg_model.specs.declared.verdict.Refusal.TheVariants.{Broken};
+ghost use Rattle.hg_detect.specs.Memory.{content_of};
+ghost use Rattle.hg_desk.specs.Conversation.{ReportsAnswer};
+ghost use Rattle.hg_desk.specs.Told.{StepKept};
+
+use crate::desk::refused;
+use crate::share::{Column, Share};
+use hg_detect::detector::Answer;
+use hg_disk::Disk;
+use hg_frames::lines::{ReportLines, ReportList};
+use hg_frames::reply::Reply;
+use hg_model::verdict::Refusal;
+use hg_store::steps::{Step, StepResult};
+use hg_store::store::Store;
+use std::alloc::Global;
+use std::marker::Model;
+use std::sync::ledger::Book;
+
+/// A store, and the books: how many events were accepted and made durable since the opening. The books have no bytes, so
+/// the counts stand beside them.
+#[derive(Drop)]
+pub struct Core<D: Disk, A: Column, B: Column> {
+    pub(crate) store: Store<D>,
+    pub(crate) accepted: Book<A>,
+    pub(crate) durable: Book<B>,
+    pub(crate) accepted_count: u64,
+    pub(crate) durable_count: u64,
+}
+
+impl<D: Disk, A: Column, B: Column> Model for Core<D, A, B> {
+    ghost use Rattle.hg_store.specs.Shown.{Shown};
+    ghost use Rattle.hg_desk.specs.Told.{IsCore};
+    ghost use Rattle.hg_detect.specs.contracts.paged.PagedWords as words;
+    ghost use Rattle.std.specs.Coded.{codes};
+
+    ghost Value = { Shown D };
+
+    ghost coded = { Prim.hlevel (codes, words.the_row.coded) };
+
+    ghost view = { λ c. c.store };
+
+    ghost invariant = { λ c. IsCore ⟦<D as Disk>⟧ A.opening B.opening c.store c.accepted.total c.durable.total c.accepted_count c.durable_count };
+}
+
+/// Counts an accepted event.
+fn note_accepted<A: Column, B: Column>(
+    book: &mut Book<A>,
+    count: &mut u64,
+    share: &mut Share<A, B>,
+)
+    requires counted { count.old ≡ book.old.total }
+    requires fits { book.old.total + 1 < 2 ^ 64 }
+    ensures book { book.new.total ≡ book.old.total + 1 }
+    ensures count { count.new ≡ book.new.total }
+    ensures share { share.new ≡ record { accepted = share.old.accepted + 1; durable = share.old.durable } }
+{
+    book.audit(&mut share.accepted_part);
+    book.add(&mut share.accepted_part, 1);
+    *count += 1;
+    share.accepted += 1;
+}
+
+/// Counts events that a commit made durable.
+fn note_durable<A: Column, B: Column>(
+    book: &mut Book<B>,
+    count: &mut u64,
+    share: &mut Share<A, B>,
+    more: u64,
+)
+    requires counted { count.old ≡ book.old.total }
+    requires fits { book.old.total + more < 2 ^ 64 }
+    ensures book { book.new.total ≡ book.old.total + more }
+    ensures count { count.new ≡ book.new.total }
+    ensures share { share.new ≡ record { accepted = share.old.accepted; durable = share.old.durable + more } }
+{
+    book.audit(&mut share.durable_part);
+    book.add(&mut share.durable_part, more);
+    *count += more;
+    share.durable += more;
+}
+
+impl<D: Disk, A: Column, B: Column> Core<D, A, B> {
+    /// One step of the store, which the books and the share count.
+    pub fn step(&mut self, share: &mut Share<A, B>, step: &Step) -> StepResult
+        ensures { StepKept ⟦<D as Disk>⟧ self.old self.new share.old share.new step.now result }
+    {
+        let _events = self.store.events();
+        let before = self.store.durable().unwrap_or(0);
+        let result = self.store.step(step);
+        match result {
+            StepResult::Offered(Ok(Answer::Accepted)) => {
+                let _events = self.store.events();
+                note_accepted(&mut self.accepted, &mut self.accepted_count, share);
+            }
+            StepResult::Offered(Ok(Answer::Duplicate(_))) => {}
+            StepResult::Offered(Err(_)) => {}
+            StepResult::Committed(Ok(count)) => {
+                note_durable(
+                    &mut self.durable,
+                    &mut self.durable_count,
+                    share,
+                    count - before,
+                );
+            }
+            StepResult::Committed(Err(_)) => {}
+        }
+        result
+    }
+
+    /// The last accepted number of a source, 0 where it sent nothing.
+    pub fn last(&self, source: u16) -> Result<u64, Refusal>
+        ensures { result ≡ cond self.now.is_broken (Err Broken) (Ok ((content_of self.now.detector).last source)) }
+    {
+        self.store.last(source)
+    }
+
+    /// The answer to a Reports.
+    pub fn report_lines(&self, alloc: Global) -> Reply
+        ensures { ReportsAnswer self.now.is_broken (content_of self.now.detector) result }
+    {
+        let reports = match self.store.reports(alloc) {
+            Ok(reports) => reports,
+            Err(refusal) => return refused(0, refusal),
+        };
+        let (Ok(events), Ok(races), Ok(segments)) =
+            (self.store.events(), self.store.total(), self.store.graph())
+        else {
+            return refused(0, Refusal::Broken);
+        };
+        Reply::Lines {
+            lines: ReportLines {
+                reports: ReportList::from_vec(reports),
+                events,
+                races,
+                segments: segments.len() as u64,
+            },
+        }
+    }
+}
