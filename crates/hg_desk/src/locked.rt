@@ -1,10 +1,12 @@
 //! The value behind the lock.
 
-ghost use Rattle.std.specs.Prelude.{◌≡◌, ◌+◌, ◌<◌, ◌^◌, Ok, Err, cond};
+ghost use Rattle.std.specs.Prelude.{◌≡◌, ◌+◌, ◌<◌, ◌^◌, Ok, Err, cond, vec_len, All, IfOk, IfErr, IsTrue};
+ghost use Rattle.hg_model.specs.Contents.{Content};
 ghost use Rattle.hg_model.specs.declared.verdict.Refusal.TheVariants.{Broken};
 ghost use Rattle.hg_detect.specs.Memory.{content_of};
 ghost use Rattle.hg_desk.specs.Conversation.{ReportsAnswer};
-ghost use Rattle.hg_desk.specs.Told.{StepKept};
+ghost use Rattle.hg_desk.specs.Told.{StepKept, nothing_told};
+ghost use Rattle.hg_store.specs.Store.{Backs};
 
 use crate::desk::refused;
 use crate::share::{Column, Share};
@@ -17,7 +19,7 @@ use hg_store::steps::{Step, StepResult};
 use hg_store::store::Store;
 use std::alloc::Global;
 use std::marker::Model;
-use std::sync::ledger::Book;
+use std::sync::ledger::{Blank, Book};
 
 /// A store, and the books: how many events were accepted and made durable since the opening. The books have no bytes, so
 /// the counts stand beside them.
@@ -83,6 +85,43 @@ fn note_durable<A: Column, B: Column>(
 }
 
 impl<D: Disk, A: Column, B: Column> Core<D, A, B> {
+    /// Opens the books over a store, with a share for each part of the two blanks. Where memory is refused, all is handed back.
+    pub fn open(
+        alloc: Global,
+        store: Store<D>,
+        accepted: Blank,
+        durable: Blank,
+        shares: usize,
+    ) -> Result<(Self, Vec<Share<A, B>>), (Store<D>, Blank, Blank)>
+        requires accepted { (accepted.name ≡ A.name) × (accepted.parts ≡ A.parts) × (accepted.parts ≡ shares) }
+        requires durable { (durable.name ≡ B.name) × (durable.parts ≡ B.parts) × (durable.parts ≡ shares) }
+        requires opening { ((content_of store.detector).events ≡ A.opening) × (store.durable ≡ B.opening) }
+        requires backs { IsTrue D.is_honest → (d : Content) × Backs ⟦<D as Disk>⟧ store d }
+        ensures core { IfOk result (λ r. r.0 ≡ store) }
+        ensures shares { IfOk result (λ r. (vec_len r.1 ≡ shares) × All (λ s. s ≡ nothing_told) r.1.items) }
+        ensures err { IfErr result (λ e. (e.0 ≡ store) × (e.1 ≡ accepted) × (e.2 ≡ durable)) }
+    {
+        let Ok(mut all) = Vec::with_capacity(alloc, shares) else {
+            return Err((store, accepted, durable));
+        };
+        let (accepted, mut accepted_rest) = accepted.open::<A>();
+        let (durable, mut durable_rest) = durable.open::<B>();
+        for _i in 0..shares {
+            all.push_reserved(Share::none(
+                accepted_rest.split_off(1, 0),
+                durable_rest.split_off(1, 0),
+            ));
+        }
+        let core = Core {
+            store,
+            accepted,
+            durable,
+            accepted_count: 0,
+            durable_count: 0,
+        };
+        Ok((core, all))
+    }
+
     /// One step of the store, which the books and the share count.
     pub fn step(&mut self, share: &mut Share<A, B>, step: &Step) -> StepResult
         ensures { StepKept ⟦<D as Disk>⟧ self.old self.new share.old share.new step.now result }
