@@ -3,6 +3,7 @@
 ghost use Rattle.std.specs.Prelude.{◌≡◌, ℕ, Result, IfOk, OnErr};
 ghost use Rattle.hg_model.specs.declared.verdict.Refusal.{Refusal as RefusalOf};
 ghost use Rattle.hg_detect.specs.Memory.{content_of};
+ghost use Rattle.hg_frames.specs.Spelling.{FitsFrames};
 ghost use Rattle.hg_detect.specs.declared.detector.Answer.{Answer as AnswerOf};
 ghost use Rattle.hg_store.specs.declared.steps.Step.TheVariants.{Offer, Commit};
 ghost use Rattle.hg_store.specs.declared.steps.StepResult.TheVariants.{Offered, Committed};
@@ -61,7 +62,8 @@ fn expected(refusal: Refusal) -> u64
 
 /// How a refusal is told.
 pub(crate) fn refused(number: u64, refusal: Refusal) -> Reply
-    ensures { result ≡ refused_reply number refusal }
+    ensures answer { result ≡ refused_reply number refusal }
+    ensures fits { FitsFrames result }
 {
     Reply::Refused {
         number,
@@ -90,7 +92,8 @@ impl Desk {
         share: &mut Share<A, B>,
         frame: &Frame,
     ) -> Reply
-        ensures { Answers ⟦<D as Disk>⟧ self.old core.old core.new share.old share.new frame.now self.new result }
+        ensures answer { Answers ⟦<D as Disk>⟧ self.old core.old core.new share.old share.new frame.now self.new result }
+        ensures fits { FitsFrames result }
     {
         let (stage, reply) = match self.stage {
             Stage::Greeting => greet(core, frame),
@@ -124,7 +127,8 @@ impl Desk {
 
 /// Before the Welcome.
 fn greet<D: Disk, A: Column, B: Column>(core: &Core<D, A, B>, frame: &Frame) -> (Stage, Reply)
-    ensures { (told : Told) → Greets core.now core.now told told frame.now result.0 result.1 }
+    ensures answer { (told : Told) → Greets core.now core.now told told frame.now result.0 result.1 }
+    ensures fits { FitsFrames result.1 }
 {
     match frame {
         Frame::Hello { source } => welcome(core, *source),
@@ -139,6 +143,7 @@ fn greet<D: Disk, A: Column, B: Column>(core: &Core<D, A, B>, frame: &Frame) -> 
 fn welcome<D: Disk, A: Column, B: Column>(core: &Core<D, A, B>, source: u16) -> (Stage, Reply)
     ensures stage { result.0 ≡ stage_after_hello source core.now.is_broken }
     ensures reply { result.1 ≡ hello_reply source core.now.is_broken (content_of core.now.detector) }
+    ensures fits { FitsFrames result.1 }
 {
     if source > MOST_SOURCE {
         return (Stage::Greeting, refused(0, Refusal::BadNumber));
@@ -157,7 +162,8 @@ fn talk<D: Disk, A: Column, B: Column>(
     source: u16,
     frame: &Frame,
 ) -> (Stage, Reply)
-    ensures { Talks ⟦<D as Disk>⟧ source core.old core.new share.old share.new frame.now result.0 result.1 }
+    ensures answer { Talks ⟦<D as Disk>⟧ source core.old core.new share.old share.new frame.now result.0 result.1 }
+    ensures fits { FitsFrames result.1 }
 {
     match frame {
         Frame::Hello { .. } => (Stage::Over, Reply::Fault { code: 3 }),
@@ -184,7 +190,8 @@ fn offer<D: Disk, A: Column, B: Column>(
     share: &mut Share<A, B>,
     named: &Named,
 ) -> Reply
-    ensures { (r : Result AnswerOf RefusalOf) × StepKept ⟦<D as Disk>⟧ core.old core.new share.old share.new (Offer named.now) (Offered r) × (result ≡ offer_reply named.now.number r) }
+    ensures answer { (r : Result AnswerOf RefusalOf) × StepKept ⟦<D as Disk>⟧ core.old core.new share.old share.new (Offer named.now) (Offered r) × (result ≡ offer_reply named.now.number r) }
+    ensures fits { FitsFrames result }
 {
     match core.step(share, &Step::Offer(*named)) {
         StepResult::Offered(Ok(Answer::Accepted)) => Reply::Accepted {
@@ -201,7 +208,8 @@ fn commit<D: Disk, A: Column, B: Column>(
     share: &mut Share<A, B>,
     source: u16,
 ) -> Reply
-    ensures { (r : Result ℕ RefusalOf) × StepKept ⟦<D as Disk>⟧ core.old core.new share.old share.new Commit (Committed r) × (result ≡ commit_reply ((content_of core.new.detector).last source) r) }
+    ensures answer { (r : Result ℕ RefusalOf) × StepKept ⟦<D as Disk>⟧ core.old core.new share.old share.new Commit (Committed r) × (result ≡ commit_reply ((content_of core.new.detector).last source) r) }
+    ensures fits { FitsFrames result }
 {
     match core.step(share, &Step::Commit) {
         StepResult::Committed(Ok(_)) => Reply::Ack {

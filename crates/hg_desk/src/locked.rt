@@ -3,7 +3,9 @@
 ghost use Rattle.std.specs.Prelude.{◌≡◌, ◌+◌, ◌<◌, ◌^◌, Ok, Err, cond, vec_len, All, IfOk, IfErr, IsTrue};
 ghost use Rattle.hg_model.specs.Contents.{Content};
 ghost use Rattle.hg_model.specs.declared.verdict.Refusal.TheVariants.{Broken};
+ghost use Rattle.hg_model.specs.ThreadSets.{HasThreadSets};
 ghost use Rattle.hg_detect.specs.Memory.{content_of};
+ghost use Rattle.hg_frames.specs.Spelling.{FitsFrames};
 ghost use Rattle.hg_desk.specs.Conversation.{ReportsAnswer};
 ghost use Rattle.hg_desk.specs.Told.{StepKept, nothing_told};
 ghost use Rattle.hg_store.specs.Store.{Backs};
@@ -97,6 +99,7 @@ impl<D: Disk, A: Column, B: Column> Core<D, A, B> {
         requires durable { (durable.name ≡ B.name) × (durable.parts ≡ B.parts) × (durable.parts ≡ shares) }
         requires opening { ((content_of store.detector).events ≡ A.opening) × (store.durable ≡ B.opening) }
         requires backs { IsTrue D.is_honest → (d : Content) × Backs ⟦<D as Disk>⟧ store d }
+        requires small { HasThreadSets (content_of store.detector) }
         ensures core { IfOk result (λ r. r.0 ≡ store) }
         ensures shares { IfOk result (λ r. (vec_len r.1 ≡ shares) × All (λ s. s ≡ nothing_told) r.1.items) }
         ensures err { IfErr result (λ e. (e.0 ≡ store) × (e.1 ≡ accepted) × (e.2 ≡ durable)) }
@@ -158,7 +161,8 @@ impl<D: Disk, A: Column, B: Column> Core<D, A, B> {
 
     /// The answer to a Reports.
     pub fn report_lines(&self, alloc: Global) -> Reply
-        ensures { ReportsAnswer self.now.is_broken (content_of self.now.detector) result }
+        ensures answer { ReportsAnswer self.now.is_broken (content_of self.now.detector) result }
+        ensures fits { FitsFrames result }
     {
         let reports = match self.store.reports(alloc) {
             Ok(reports) => reports,

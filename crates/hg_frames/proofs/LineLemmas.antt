@@ -1,22 +1,23 @@
 -- The line of a report, and the end line, fit a frame.
 use Rattle.std.proofs.Common.{◌≡◌, ℕ, ◌+◌, ◌*◌, ◌<◌, ◌≤◌, ◌^◌, List, [], ◌∷◌, ◌++◌, length, map, codes, Bool, true, false, arith}
 use Rattle.std.specs.Fmt.{decimal}
-use Rattle.std.specs.List.{AllByRecursion, join_with_byte}
+use Rattle.std.specs.List.{join_with_byte}
 use Rattle.std.proofs.lemmas.Fmt.{length-decimal-le}
 use Rattle.std.proofs.lemmas.List.{length-append}
 use Rattle.hg_model.specs.declared.report.Report.{Report}
+use Rattle.hg_model.specs.ThreadSets.{IsThreadSet, RisesFrom}
+use Rattle.hg_model.proofs.ThreadSets.{few}
 use Rattle.hg_wire.specs.Reports.{access_name, end_line, report_front, report_line, sixteen_digits}
-use Rattle.hg_frames.specs.Spelling.{HasFewThreads}
 
 few_digits : (t : ℕ) → t ≤ 1023 → length (decimal t) ≤ 4
 few_digits t small = length-decimal-le 4 t (omega arith) (omega arith) (omega arith)
 
-threads_len : (ts : List ℕ) → AllByRecursion (λ t. t ≤ 1023) ts → length (join_with_byte 44 (map decimal ts)) ≤ 5 * length ts
-threads_len [] small = omega arith
-threads_len (t ∷ []) small = let one = few_digits t small.0 in omega (arith, one)
-threads_len (t ∷ u ∷ ts) small =
-    let one = few_digits t small.0 in
-    let more = threads_len (u ∷ ts) small.1 in
+threads_len : (n : ℕ) (ts : List ℕ) → RisesFrom n ts → length (join_with_byte 44 (map decimal ts)) ≤ 5 * length ts
+threads_len n [] rises = omega arith
+threads_len n (t ∷ []) rises = let one = few_digits t rises.1 in omega (arith, one)
+threads_len n (t ∷ u ∷ ts) rises =
+    let one = few_digits t rises.1 in
+    let more = threads_len (t + 1) (u ∷ ts) rises.2 in
     let all = length-append (decimal t) (44 ∷ join_with_byte 44 (map decimal (u ∷ ts))) in
     omega (arith, one, more, all)
 
@@ -52,11 +53,11 @@ front_len k r small event thread =
     joined word_told (codes " threads ") 110 9 word_told_len (omega arith)
 
 -- The line of a report with few threads fits a frame.
-pub report_line_len : (k : ℕ) (r : Report) → k < 2 ^ 64 → r.event < 2 ^ 64 → r.thread < 2 ^ 64 → HasFewThreads r → length (report_line k r) ≤ 8191
-report_line_len k r small event thread few =
+pub report_line_len : (k : ℕ) (r : Report) → k < 2 ^ 64 → r.event < 2 ^ 64 → r.thread < 2 ^ 64 → IsThreadSet r.threads → length (report_line k r) ≤ 8191
+report_line_len k r small event thread rises =
     let front = front_len k r small event thread in
-    let back = threads_len r.threads few.small in
-    let count = few.few in
+    let back = threads_len 0 r.threads rises in
+    let count = few r.threads rises in
     let all = length-append (report_front k r) (join_with_byte 44 (map decimal r.threads)) in
     omega (arith, front, back, count, all)
 

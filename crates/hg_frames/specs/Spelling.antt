@@ -2,6 +2,7 @@
 use Rattle.std.specs.Prelude.{ℕ, ◌+◌, ◌≤◌, List, [], ◌∷◌, ◌++◌, length}
 use Rattle.std.specs.List.{AllByRecursion}
 use Rattle.hg_model.specs.declared.report.Report.{Report}
+use Rattle.hg_model.specs.ThreadSets.{IsThreadSet}
 use Rattle.hg_wire.specs.Reports.{report_line, end_line}
 use Rattle.hg_frames.specs.declared.lines.ReportLines.{ReportLines}
 use Rattle.hg_frames.specs.declared.reply.Reply.{Reply}
@@ -30,12 +31,7 @@ reply_text (Fault code) = framed (reply_body (Fault code))
 reply_text (Lines lines) = lines_text lines
 reply_text Nothing = []
 
--- The threads of a report, as a detector has them: numbers up to 1023, each once. So its line fits a frame.
-pub record HasFewThreads (report : Report) : Type 0 where
-  pub few : length report.threads ≤ 1024
-  pub small : AllByRecursion (λ t. t ≤ 1023) report.threads
-
--- each line of the reply fits a frame
+-- Each line of the reply fits a frame: the threads of each report are a set of threads, as they are in a detector.
 abbrev pub FitsFrames : Reply → Type 0
 FitsFrames (Welcome last) = Unit {0}
 FitsFrames (Accepted number) = Unit {0}
@@ -44,5 +40,5 @@ FitsFrames (Refused number code expected) = Unit {0}
 FitsFrames (Ack number) = Unit {0}
 FitsFrames (Line line) = length line ≤ 8191
 FitsFrames (Fault code) = Unit {0}
-FitsFrames (Lines lines) = AllByRecursion HasFewThreads lines.reports
+FitsFrames (Lines lines) = AllByRecursion (λ r. IsThreadSet r.threads) lines.reports
 FitsFrames Nothing = Unit {0}

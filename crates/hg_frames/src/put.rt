@@ -2,12 +2,13 @@
 
 ghost use Rattle.std.specs.Prelude.{◌≡◌, ◌≤◌, ◌<◌, ◌^◌, ◌+◌, ◌++◌, ◌∷◌, ℕ, List, [], length, OnOk, OnErr};
 ghost use Rattle.std.specs.List.{AllByRecursion};
+ghost use Rattle.hg_model.specs.ThreadSets.{IsThreadSet};
 ghost use Rattle.hg_records.specs.Records.{event_text};
 ghost use Rattle.hg_wire.specs.Reports.{report_line, end_line};
 ghost use Rattle.hg_frames.specs.Framing.{framed, frame_text};
 ghost use Rattle.hg_frames.specs.Frames.{numbered_text};
 ghost use Rattle.hg_frames.specs.Replies.{line_body, number_body, refused_body};
-ghost use Rattle.hg_frames.specs.Spelling.{FitsFrames, HasFewThreads, lines_text, report_frames, reply_text};
+ghost use Rattle.hg_frames.specs.Spelling.{FitsFrames, lines_text, report_frames, reply_text};
 
 use crate::frame::Frame;
 use crate::lines::ReportLines;
@@ -128,7 +129,7 @@ fn put_report(
     out: &mut Vec<u8>,
 ) -> Result<(), AllocError>
     requires none { line.old.items ≡ [] }
-    requires few { HasFewThreads report.now }
+    requires few { IsThreadSet report.now.threads }
     ensures ok { OnOk result (out.new.items ≡ out.old.items ++ framed (line_body (report_line k report.now))) }
     ensures err { OnErr result (out.new.items ≡ out.old.items) }
     ensures none { line.new.items ≡ [] }
@@ -147,7 +148,7 @@ fn put_reports(
     out: &mut Vec<u8>,
 ) -> Result<(), AllocError>
     requires none { line.old.items ≡ [] }
-    requires few { AllByRecursion HasFewThreads reports.now }
+    requires few { AllByRecursion (λ r. IsThreadSet r.threads) reports.now }
     ensures ok { OnOk result (out.new.items ≡ out.old.items ++ report_frames 1 reports.now) }
     ensures err { OnErr result ((front : List ℕ) × (out.new.items ≡ out.old.items ++ front)) }
     ensures none { line.new.items ≡ [] }
@@ -165,7 +166,7 @@ fn put_reports(
 
 /// Appends the frames of the reports, and that of the end line. After an `Err` some may stand behind what was there.
 fn put_lines(lines: &ReportLines, out: &mut Vec<u8>) -> Result<(), AllocError>
-    requires { AllByRecursion HasFewThreads lines.now.reports }
+    requires { AllByRecursion (λ r. IsThreadSet r.threads) lines.now.reports }
     ensures ok { OnOk result (out.new.items ≡ out.old.items ++ lines_text lines.now) }
     ensures err { OnErr result ((front : List ℕ) × (out.new.items ≡ out.old.items ++ front)) }
 {

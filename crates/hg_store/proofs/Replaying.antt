@@ -1,6 +1,8 @@
 -- How far a journal was followed.
 use Rattle.std.proofs.Common.{◌≡◌, ℕ, List, [], ◌∷◌, ◌++◌, Some, None, refl, sym, ap, ◌∙◌, subst, append_assoc}
 use Rattle.hg_model.specs.declared.event.Named.{Named}
+use Rattle.hg_model.specs.ThreadSets.{HasThreadSets}
+use Rattle.hg_model.proofs.ThreadSets.{kept}
 use Rattle.hg_model.specs.Contents.{Content}
 use Rattle.hg_model.specs.Verdicts.{verdict, standing_of}
 use Rattle.hg_model.specs.Change.{after, empty_content, followed}
@@ -79,3 +81,7 @@ module _ {D : Type 0} (g : disk.Ghosts D) where
       left = left;
       full = full;
     }
+
+-- an accepted event keeps the sets of threads small
+pub small_after : (c : Content) (n : Named) → IsAccepted c n → HasThreadSets c → HasThreadSets (after c n)
+small_after c n accepted has = kept c (after c n) (n ∷ []) (followed_one c n accepted) has

@@ -2,6 +2,7 @@
 
 ghost use Rattle.std.specs.Prelude.{◌≡◌, ◌⊎◌, ◌<◌, ◌≤◌, ◌+◌, ◌*◌, ◌^◌, [], ℕ, List, Ok, Err, Some, None, IsTrue, IfOk, IfErr, OnErr, OnOk, false, length};
 ghost use Rattle.hg_model.specs.Contents.{Content};
+ghost use Rattle.hg_model.specs.ThreadSets.{HasThreadSets};
 ghost use Rattle.hg_model.specs.Change.{after, empty_content, followed};
 ghost use Rattle.hg_model.specs.declared.event.Named.{Named as NamedOf};
 ghost use Rattle.hg_sets.specs.declared.fault.SetFault.TheVariants as SetFault;
@@ -123,6 +124,7 @@ fn replay<D: Disk>(journal: &mut Journal<D>, detector: &mut MemoryDetector) -> R
         → (events : List NamedOf) (c : Content) → IsJournal (D.state (disk_of journal.old)).contents events → ¬ (followed empty_content events ≡ Some c) }
     ensures full { (bodies : List (List ℕ)) (limit : ℕ) → IsTrue D.is_honest → Opens journal.old bodies → detector.old.sets ≡ first_table limit → result ≡ Err Refusal.FullSets
         → IsTooSmall limit (D.state (disk_of journal.old)).contents }
+    ensures small { HasThreadSets (content_of detector.new) }
     ensures whole { IsWhole detector.new }
     ensures works { is_broken journal.new ≡ false }
     ensures refusal { IfErr result IsOfRecovery }
@@ -163,6 +165,7 @@ impl<D: Disk> Store<D> {
         requires slots { (1 ≤ caps.slots) × (caps.slots ≤ 1048576) }
         ensures content { IsTrue D.is_honest → IfOk result (λ store. (c : Content) × HasContent (read_of ⟦<D as Disk>⟧ devices) c × IsFresh ⟦<D as Disk>⟧ store c) }
         ensures sets { IsTrue D.is_honest → IfOk result (λ store. HasSets caps.sets (D.state devices.journal).contents (content_of store.detector) store.detector.sets) }
+        ensures small { IfOk result (λ store. HasThreadSets (content_of store.detector)) }
         ensures idle { IfOk result (λ store. (store.is_broken ≡ false) × (store.pending ≡ [])) }
         ensures damaged { IsTrue D.is_honest → IfErr result (λ e. e.0 ≡ Refusal.Damaged → (c : Content) → ¬ HasContent (read_of ⟦<D as Disk>⟧ devices) c) }
         ensures full { IsTrue D.is_honest → IfErr result (λ e. e.0 ≡ Refusal.FullSets → IsTooSmall caps.sets (D.state devices.journal).contents) }

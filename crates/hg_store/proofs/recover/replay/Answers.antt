@@ -3,7 +3,10 @@ use Rattle.hg_disk.specs.State.{DiskState}
 use Rattle.hg_journal.specs.Journal.{IsJournal}
 use Rattle.hg_store.specs.Recovering.{IsTooSmall}
 use Rattle.hg_journal.specs.Reading.{disk_of}
-use Rattle.hg_store.proofs.Replaying.{no_content, read_more, too_small}
+use Rattle.hg_model.specs.ThreadSets.{HasThreadSets}
+use Rattle.hg_model.proofs.ThreadSets.{start}
+use Rattle.hg_detect.specs.Memory.{content_of}
+use Rattle.hg_store.proofs.Replaying.{no_content, read_more, small_after, too_small}
 use Rattle.hg_journal.proofs.Journaling.{bytes_now}
 use Rattle.hg_disk.proofs.Staying.{then}
 use Rattle.hg_store.proofs.recover.replay.Goals as goal
@@ -53,9 +56,14 @@ returns-in_err-follow-in-Some-clause-full g c bodies limit honest opens first to
     subst (λ (s : DiskState). IsTooSmall limit s.contents) (c.next.ensures.state ∙ c.loop-reader.invariant.state)
     (too_small g.D.Disk c.loop-reader.journal c.loop-reader.reader c.args.detector.now c.loop-reader.detector read c.next.new.self c.next.new.reader c.in-Some.named (rw c.in-Some.is at (c.in_ok-named.ensures.next read.seen honest read.at)) limit _ first full.0 full.1)
 
+pub loop-reader-init : goal.loop-reader-init
+loop-reader-init g c = let small = subst HasThreadSets (sym c.requires.content) start in search rules
+
 pub loop-reader-preserved : goal.loop-reader-preserved
 loop-reader-preserved g c = record {
   whole = search rules;
+  small = subst HasThreadSets (sym c.in_ok-follow-in-Some.ensures.accepted.1)
+      (small_after (content_of c.loop-reader.detector) c.in-Some.named c.in_ok-follow-in-Some.ensures.accepted.0 c.loop-reader.invariant.small);
   works = search rules;
   state = c.next.ensures.state ∙ c.loop-reader.invariant.state;
   moments = then g.D.Disk (disk_of c.args.journal.now) (disk_of c.loop-reader.journal) (disk_of c.next.new.self) c.loop-reader.invariant.moments c.next.ensures.any_moment;

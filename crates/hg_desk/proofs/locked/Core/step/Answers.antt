@@ -12,7 +12,7 @@ use Rattle.hg_desk.proofs.locked.Core.step.Goals as goal
 pub invariant_of-self : goal.invariant_of-self
 invariant_of-self g c =
     let same : c.step-result.result ≡ Offered (Ok Accepted) = grind arith in
-    core_accepted g.D.Disk g.A.Column.opening g.B.Column.opening c.self.inside.store c.step-result.new.self c.step-result.result
+    core_accepted g.D.Disk g.A.Column.opening g.B.Column.opening c.self.inside.store c.step-result.new.self c.args.step.now c.step-result.result c.step-result.ensures.done
         c.self.inside.accepted.total c.self.inside.durable.total c.self.inside.accepted_count c.self.inside.durable_count
         c.self.invariant (λ start honest. c.step-result.ensures.backs start honest) c.note_accepted.new.book.total c.note_accepted.new.count
         (took c.self.inside.store c.step-result.new.self c.args.step.now (subst (λ (r : StepResult). StepDone c.self.inside.store c.step-result.new.self c.args.step.now r) same c.step-result.ensures.done))
@@ -33,7 +33,7 @@ invariant_of-self-in-Committed-Ok g c =
     let d : c.durable.result ≡ Ok c.self.inside.store.durable = c.durable.ensures ∙ ap (λ (b : Bool). cond {A = Result ℕ Refusal} b (Err Broken) (Ok c.self.inside.store.durable)) m.worked in
     let was : c.unwrap_or-before.result ≡ c.self.inside.store.durable = grind arith in
     let less : c.unwrap_or-before.result ≤ c.in-Committed-Ok.count = omega (arith, was, m.count_is, c.events-events.ensures.all) in
-    core_committed g.D.Disk g.A.Column.opening g.B.Column.opening c.self.inside.store c.step-result.new.self c.step-result.result
+    core_committed g.D.Disk g.A.Column.opening g.B.Column.opening c.self.inside.store c.step-result.new.self c.args.step.now c.step-result.result c.step-result.ensures.done
         c.self.inside.accepted.total c.self.inside.durable.total c.self.inside.accepted_count c.self.inside.durable_count
         c.self.invariant (λ start honest. c.step-result.ensures.backs start honest) c.note_durable.new.book.total c.note_durable.new.count
         c.unwrap_or-before.result c.in-Committed-Ok.count m was less c.note_durable.ensures.book c.note_durable.ensures.count
