@@ -1,8 +1,7 @@
 -- What a frame is answered, and what it does to the store.
-use Rattle.std.specs.Prelude.{◌≡◌, ◌⊎◌, ℕ, nat_lt, Bool, true, List, [], ◌∷◌, length, cond, Result, Ok, Err}
+use Rattle.std.specs.Prelude.{◌≡◌, ◌⊎◌, ℕ, nat_lt, Bool, List, [], ◌∷◌, length, cond, Result, Ok, Err}
 use Rattle.hg_model.specs.Contents.{Content}
 use Rattle.hg_model.specs.Codes.{code_of}
-use Rattle.hg_model.specs.declared.event.Named.{Named}
 use Rattle.hg_model.specs.declared.verdict.Refusal.{Refusal}
 use Rattle.hg_model.specs.declared.verdict.Refusal.TheVariants.{Gap, BadNumber, Broken, OutOfMemory}
 use Rattle.hg_detect.specs.Memory.{content_of}

@@ -50,11 +50,7 @@ impl<D: Disk, A: Column, B: Column> Model for Core<D, A, B> {
 }
 
 /// Counts an accepted event.
-fn note_accepted<A: Column, B: Column>(
-    book: &mut Book<A>,
-    count: &mut u64,
-    share: &mut Share<A, B>,
-)
+fn note_accepted<A: Column, B: Column>(book: &mut Book<A>, count: &mut u64, share: &mut Share<A, B>)
     requires counted { count.old ≡ book.old.total }
     requires fits { book.old.total + 1 < 2 ^ 64 }
     ensures book { book.new.total ≡ book.old.total + 1 }
@@ -168,9 +164,11 @@ impl<D: Disk, A: Column, B: Column> Core<D, A, B> {
             Ok(reports) => reports,
             Err(refusal) => return refused(0, refusal),
         };
-        let (Ok(events), Ok(races), Ok(segments)) =
-            (self.store.events(), self.store.total(), self.store.graph())
-        else {
+        let (Ok(events), Ok(races), Ok(segments)) = (
+            self.store.events(),
+            self.store.total(),
+            self.store.graph(),
+        ) else {
             return refused(0, Refusal::Broken);
         };
         Reply::Lines {

@@ -1,13 +1,12 @@
 -- What stands at the front of a frame's bytes.
-use Rattle.std.proofs.Common.{◌≡◌, ◌⊎◌, inl, inr, ℕ, ◌+◌, ◌<◌, ◌≤◌, ◌^◌, List, [], ◌∷◌, ◌++◌, length, take, drop, Option, Some, None, refl, sym, ap, subst, ◌∙◌, append_assoc, arith}
-use Rattle.std.specs.Int.{w16, to_be_bytes, from_be_bytes}
+use Rattle.std.proofs.Common.{◌≡◌, inl, inr, ℕ, ◌+◌, ◌<◌, ◌≤◌, ◌^◌, List, [], ◌∷◌, ◌++◌, length, take, drop, Option, Some, None, refl, sym, ap, subst, ◌∙◌, append_assoc, arith}
 use Rattle.std.specs.List.{flat_map, AllByRecursion}
 use Rattle.std.proofs.lemmas.List.{take_at, drop_at, length-append}
 use Rattle.std.proofs.lemmas.Nat.{from_be_bytes-to_be_bytes_2}
 use Rattle.hg_frames.specs.declared.message.Message as message
 use Rattle.hg_frames.specs.declared.message.FrameFault.{FrameFault}
 use Rattle.hg_frames.specs.declared.message.FrameFault.TheVariants.{Length, Body}
-use Rattle.hg_frames.specs.Framing.{HasBadBody, HasBadLength, HasFault, HasLength, IsUnfinished, body_in_front, frame_text, framed, length_in_front}
+use Rattle.hg_frames.specs.Framing.{HasBadLength, HasFault, HasLength, IsUnfinished, body_in_front, frame_text, framed, length_in_front}
 use Rattle.hg_frames.specs.Streams.{EndsBy, IsRead}
 
 front_length : (body x : List ℕ) → length body < 2 ^ 16 → length_in_front (framed body ++ x) ≡ length body
@@ -133,7 +132,7 @@ module _ {M : Type 0} (g : message.Ghosts M) where
         let left = flat_map (frame_text g) ms ++ x in
         let right = flat_map (frame_text g) ns ++ y in
         let same : frame_text g m ++ left ≡ frame_text g n ++ right =
-            sym (append_assoc (frame_text g m) (flat_map (frame_text g) ms) x) ∙ sym read.spelled ∙ again.spelled ∙ append_assoc (frame_text g n) (flat_map (frame_text g) ns) y in
+        sym (append_assoc (frame_text g m) (flat_map (frame_text g) ms) x) ∙ sym read.spelled ∙ again.spelled ∙ append_assoc (frame_text g n) (flat_map (frame_text g) ns) y in
         let first = one_frame m n left right read.fits.0 again.fits.0 same in
         let later = one_reading left x y ms ns a b (record { spelled = refl; fits = read.fits.1; ends = read.ends }) (record { spelled = first.1; fits = again.fits.1; ends = again.ends }) in
         (λ i. first.0 i ∷ later.0 i, later.1, later.2)

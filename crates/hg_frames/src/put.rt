@@ -87,9 +87,7 @@ fn put_number(kind: u8, number: u64, out: &mut Vec<u8>) -> Result<(), AllocError
     ensures err { OnErr result (out.new.items ≡ out.old.items) }
 {
     let n = number.to_be_bytes();
-    out.extend_from_slice(&[
-        0, 9, kind, n[0], n[1], n[2], n[3], n[4], n[5], n[6], n[7],
-    ])
+    out.extend_from_slice(&[0, 9, kind, n[0], n[1], n[2], n[3], n[4], n[5], n[6], n[7]])
 }
 
 /// Appends the frame of a refusal. An `Err` leaves `out` as it was.
@@ -142,11 +140,7 @@ fn put_report(
 }
 
 /// Appends the frames of the reports. After an `Err` some may stand behind what was there.
-fn put_reports(
-    reports: &[Report],
-    line: &mut Vec<u8>,
-    out: &mut Vec<u8>,
-) -> Result<(), AllocError>
+fn put_reports(reports: &[Report], line: &mut Vec<u8>, out: &mut Vec<u8>) -> Result<(), AllocError>
     requires none { line.old.items ≡ [] }
     requires few { AllByRecursion (λ r. IsThreadSet r.threads) reports.now }
     ensures ok { OnOk result (out.new.items ≡ out.old.items ++ report_frames 1 reports.now) }

@@ -48,22 +48,40 @@ impl Line {
 #[derive(Drop)]
 pub enum Reply {
     /// To a Hello: the last number that the source has sent.
-    Welcome { last: u64 },
+    Welcome {
+        last: u64,
+    },
     /// The event of this number was accepted.
-    Accepted { number: u64 },
+    Accepted {
+        number: u64,
+    },
     /// The event was sent before; `last` is the last number of its source.
-    Duplicate { last: u64 },
+    Duplicate {
+        last: u64,
+    },
     /// The event of this number was refused, for the cause with this code. Where that is a gap, code 1, `expected` is the number
     /// that the source has to send next, else 0.
-    Refused { number: u64, code: u8, expected: u64 },
+    Refused {
+        number: u64,
+        code: u8,
+        expected: u64,
+    },
     /// To an Ask: the events of the source up to this number are durable.
-    Ack { number: u64 },
+    Ack {
+        number: u64,
+    },
     /// One line of what a Reports is answered.
-    Line { line: Line },
+    Line {
+        line: Line,
+    },
     /// The client broke the conversation's rules: 1 a false frame, 2 no Hello yet, 3 a second Hello, 4 the conversation has ended.
-    Fault { code: u8 },
+    Fault {
+        code: u8,
+    },
     /// To a Reports: a line for each kept report, and the end line. A feed never gives it, but its lines one by one.
-    Lines { lines: ReportLines },
+    Lines {
+        lines: ReportLines,
+    },
     /// To a Bye. It has no bytes.
     Nothing,
 }

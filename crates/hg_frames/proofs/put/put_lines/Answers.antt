@@ -1,4 +1,4 @@
-use Rattle.std.proofs.Common.{rules, ◌≡◌, ◌≤◌, ◌<◌, ◌^◌, List, ℕ, length, subst, sym, ◌∙◌, arith}
+use Rattle.std.proofs.Common.{rules, ◌<◌, ◌^◌}
 use Rattle.hg_frames.proofs.LineLemmas.{end_line_len}
 use Rattle.hg_frames.proofs.put.put_lines.Goals as goal
 

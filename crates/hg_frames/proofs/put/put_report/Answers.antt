@@ -1,4 +1,4 @@
-use Rattle.std.proofs.Common.{rules, ◌≡◌, ◌≤◌, ◌<◌, ◌^◌, List, ℕ, length, subst, sym, ◌∙◌, arith}
+use Rattle.std.proofs.Common.{rules, ◌<◌, ◌^◌, arith}
 use Rattle.hg_frames.proofs.LineLemmas.{report_line_len}
 use Rattle.hg_frames.proofs.put.put_report.Goals as goal
 

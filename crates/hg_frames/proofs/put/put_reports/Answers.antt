@@ -1,4 +1,4 @@
-use Rattle.std.proofs.Common.{◌≡◌, ◌+◌, ◌++◌, ◌∷◌, ℕ, List, drop, ap, sym, ◌∙◌, append_assoc, arith}
+use Rattle.std.proofs.Common.{◌≡◌, ◌+◌, ◌++◌, ◌∷◌, ℕ, List, drop, ap, sym, ◌∙◌, append_assoc}
 use Rattle.std.proofs.lemmas.List.{drop_more}
 use Rattle.hg_model.specs.declared.report.Report.{Report}
 use Rattle.hg_wire.specs.Reports.{report_line}
@@ -21,9 +21,9 @@ loop-report-preserved c =
     let text = framed (line_body (report_line (i + 1) c.report-item.result)) in
     let count : c.loop-report.k + 1 ≡ i + 1 = ap (λ (n : ℕ). n + 1) c.loop-report.invariant.counted in
     let put : c.put_report.new.out.items ≡ c.loop-report.out.items ++ text =
-        c.in-Ok.ensures.ok ∙ ap (λ (n : ℕ). c.loop-report.out.items ++ framed (line_body (report_line n c.report-item.result))) count in
+    c.in-Ok.ensures.ok ∙ ap (λ (n : ℕ). c.loop-report.out.items ++ framed (line_body (report_line n c.report-item.result))) count in
     let step : report_frames (i + 1) (drop i reports) ≡ text ++ later =
-        ap (λ (xs : List Report). report_frames (i + 1) xs) (drop_more reports i c.report-item.result c.loop-report-test.true ∙ ap (λ (x : Report). x ∷ drop (i + 1) reports) (sym c.report-item.is)) in
+    ap (λ (xs : List Report). report_frames (i + 1) xs) (drop_more reports i c.report-item.result c.loop-report-test.true ∙ ap (λ (x : Report). x ∷ drop (i + 1) reports) (sym c.report-item.is)) in
     record {
       counted = count;
       line = c.in-Ok.ensures.none;

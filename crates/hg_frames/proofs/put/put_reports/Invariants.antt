@@ -1,5 +1,4 @@
 use Rattle.std.proofs.Common.{◌≡◌, ◌+◌, ◌++◌, ℕ, List, [], drop}
-use Rattle.hg_frames.specs.Replies.{line_body}
 use Rattle.hg_frames.specs.Spelling.{report_frames}
 use Rattle.hg_frames.proofs.put.put_reports.Given as goal
 

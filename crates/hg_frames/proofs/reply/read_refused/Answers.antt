@@ -1,4 +1,4 @@
-use Rattle.std.proofs.Common.{◌≡◌, ◌≢◌, ◌<◌, ◌^◌, ℕ, arith, rules}
+use Rattle.std.proofs.Common.{◌≢◌, ◌<◌, ◌^◌, rules}
 use Rattle.hg_frames.proofs.ReplyLemmas.{no_refusal, only_refusal}
 use Rattle.hg_frames.proofs.reply.read_refused.Goals as goal
 

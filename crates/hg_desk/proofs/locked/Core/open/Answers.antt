@@ -1,4 +1,4 @@
-use Rattle.std.proofs.Common.{rules, ◌≡◌, ◌+◌, ◌≤◌, ℕ, List, [], ◌∷◌, All, vec_len, vec_capacity, arith}
+use Rattle.std.proofs.Common.{rules, ◌≡◌, [], ◌∷◌, arith}
 use Rattle.std.proofs.lemmas.List.Elements.{All-append, All-cons}
 use Rattle.hg_desk.specs.Told.{Told, nothing_told}
 use Rattle.hg_desk.proofs.locked.Core.open.Goals as goal

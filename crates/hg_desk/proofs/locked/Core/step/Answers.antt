@@ -1,22 +1,21 @@
-use Rattle.std.proofs.Common.{rules, ◌≡◌, ◌+◌, ◌-◌, ◌≤◌, ℕ, Bool, false, cond, Result, Ok, Err, arith, subst, ap, sym, ◌∙◌, refl}
+use Rattle.std.proofs.Common.{rules, ◌≡◌, ◌≤◌, ℕ, Bool, cond, Result, Ok, Err, arith, subst, ap, ◌∙◌}
 use Rattle.hg_model.specs.declared.verdict.Refusal.{Refusal}
 use Rattle.hg_model.specs.declared.verdict.Refusal.TheVariants.{Broken}
-use Rattle.hg_detect.specs.Memory.{content_of}
 use Rattle.hg_detect.specs.declared.detector.Answer.TheVariants.{Accepted}
 use Rattle.hg_store.specs.declared.steps.StepResult.{StepResult}
 use Rattle.hg_store.specs.declared.steps.StepResult.TheVariants.{Offered, Committed}
 use Rattle.hg_store.specs.Offers.{StepDone}
-use Rattle.hg_desk.proofs.Counts.{Made, core_accepted, core_committed, made, took}
+use Rattle.hg_desk.proofs.Counts.{core_accepted, core_committed, made, took}
 use Rattle.hg_desk.proofs.locked.Core.step.Goals as goal
 
 pub invariant_of-self : goal.invariant_of-self
 invariant_of-self g c =
     let same : c.step-result.result ≡ Offered (Ok Accepted) = grind arith in
     core_accepted g.D.Disk g.A.Column.opening g.B.Column.opening c.self.inside.store c.step-result.new.self c.args.step.now c.step-result.result c.step-result.ensures.done
-        c.self.inside.accepted.total c.self.inside.durable.total c.self.inside.accepted_count c.self.inside.durable_count
-        c.self.invariant (λ start honest. c.step-result.ensures.backs start honest) c.note_accepted.new.book.total c.note_accepted.new.count
-        (took c.self.inside.store c.step-result.new.self c.args.step.now (subst (λ (r : StepResult). StepDone c.self.inside.store c.step-result.new.self c.args.step.now r) same c.step-result.ensures.done))
-        c.note_accepted.ensures.book c.note_accepted.ensures.count
+    c.self.inside.accepted.total c.self.inside.durable.total c.self.inside.accepted_count c.self.inside.durable_count
+    c.self.invariant (λ start honest. c.step-result.ensures.backs start honest) c.note_accepted.new.book.total c.note_accepted.new.count
+    (took c.self.inside.store c.step-result.new.self c.args.step.now (subst (λ (r : StepResult). StepDone c.self.inside.store c.step-result.new.self c.args.step.now r) same c.step-result.ensures.done))
+    c.note_accepted.ensures.book c.note_accepted.ensures.count
 
 pub overflow_sub-count : goal.overflow_sub-count
 overflow_sub-count g c =
@@ -34,9 +33,9 @@ invariant_of-self-in-Committed-Ok g c =
     let was : c.unwrap_or-before.result ≡ c.self.inside.store.durable = grind arith in
     let less : c.unwrap_or-before.result ≤ c.in-Committed-Ok.count = omega (arith, was, m.count_is, c.events-events.ensures.all) in
     core_committed g.D.Disk g.A.Column.opening g.B.Column.opening c.self.inside.store c.step-result.new.self c.args.step.now c.step-result.result c.step-result.ensures.done
-        c.self.inside.accepted.total c.self.inside.durable.total c.self.inside.accepted_count c.self.inside.durable_count
-        c.self.invariant (λ start honest. c.step-result.ensures.backs start honest) c.note_durable.new.book.total c.note_durable.new.count
-        c.unwrap_or-before.result c.in-Committed-Ok.count m was less c.note_durable.ensures.book c.note_durable.ensures.count
+    c.self.inside.accepted.total c.self.inside.durable.total c.self.inside.accepted_count c.self.inside.durable_count
+    c.self.invariant (λ start honest. c.step-result.ensures.backs start honest) c.note_durable.new.book.total c.note_durable.new.count
+    c.unwrap_or-before.result c.in-Committed-Ok.count m was less c.note_durable.ensures.book c.note_durable.ensures.count
 
 pub returns-in-Committed-Ok : goal.returns-in-Committed-Ok
 returns-in-Committed-Ok g c =
