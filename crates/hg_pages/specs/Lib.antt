@@ -1,0 +1,6 @@
+pub mod Encoded
+pub mod Fault
+pub mod Slots
+pub mod Reading
+pub mod Tables
+pub mod Marks

@@ -1,0 +1,14 @@
+//! Pages as bytes, the tables that say where they lie, and the file of slots in which they lie.
+#![tactic(auto)]
+
+mod cell;
+mod decoded;
+mod encoded;
+mod entries;
+mod fault;
+mod table;
+
+pub use decoded::{MOST_PAGES, decode};
+pub use encoded::{EncodedPage, SLOT_LEN, encode};
+pub use fault::SlotFault;
+pub use table::Table;
