@@ -1,7 +1,7 @@
 -- The cells of a slot, read back one by one.
-use Rattle.std.proofs.Common.{◌≡◌, ◌≢◌, ◌<◌, ◌≤◌, ◌+◌, ◌*◌, ◌^◌, ◌∙◌, ℕ, zero, suc, List, [], ◌∷◌, ◌++◌, length, take, drop, set, get_or, refl, sym, ap, subst, arith, append_assoc, length-append, length-drop, take-append-drop}
+use Rattle.std.proofs.Common.{◌≡◌, ◌<◌, ◌+◌, ◌*◌, ◌^◌, ◌∙◌, ℕ, zero, suc, List, [], ◌∷◌, ◌++◌, length, take, drop, set, get_or, refl, sym, ap, subst, arith, length-drop, take-append-drop}
 use Rattle.std.specs.List.{flat_map, AllByRecursion}
-use Rattle.std.specs.Int.{w32, w64, to_be_bytes, from_be_bytes}
+use Rattle.std.specs.Int.{w64, to_be_bytes, from_be_bytes}
 use Rattle.std.proofs.lemmas.List.{append-nil, take_at, drop_at, drop-drop, take_all, take_more_set}
 use Rattle.std.proofs.lemmas.Grind.{flat_map-append}
 use Rattle.std.proofs.Math.Seq.{take-add}
@@ -9,7 +9,7 @@ use Rattle.std.proofs.lemmas.Nat.{from_be_bytes-to_be_bytes_4, from_be_bytes-to_
 use Rattle.hg_cells.specs.declared.cell.Cell.{Cell}
 use Rattle.hg_cells.specs.declared.cell.Cell.TheVariants.{New, Exclusive, SharedRead, SharedModified}
 use Rattle.hg_pages.specs.Reading.{cell_bytes, cell_in}
-use Rattle.hg_pages.specs.Slots.{AreKnown, CellFits, IsKnown, IsPage, IsSlot, cell_text, slot_text}
+use Rattle.hg_pages.specs.Slots.{AreKnown, CellFits, IsSlot, cell_text, slot_text}
 use Rattle.hg_pages.proofs.Encoding.{each_more, length-cell_text, take_whole}
 
 -- what is spelled is read again
@@ -63,7 +63,7 @@ spelled_more bytes cells i c lt so_far is =
     let next : 12 * (i + 1) ≡ 12 * i + 12 = omega arith in
     let there : take 12 (drop (12 * i) (drop 8 bytes)) ≡ cell_text c = ap (λ (l : List ℕ). take 12 l) (drop-drop (12 * i) 8 bytes) ∙ is in
     let more : flat_map cell_text (take (i + 1) (set cells i c)) ≡ flat_map cell_text (take i cells) ++ cell_text c =
-        ap (λ (l : List Cell). flat_map cell_text l) (take_more_set cells i c lt) ∙ flat_map-append cell_text (take i cells) (c ∷ []) ∙ ap (λ (l : List ℕ). flat_map cell_text (take i cells) ++ l) (append-nil (cell_text c)) in
+    ap (λ (l : List Cell). flat_map cell_text l) (take_more_set cells i c lt) ∙ flat_map-append cell_text (take i cells) (c ∷ []) ∙ ap (λ (l : List ℕ). flat_map cell_text (take i cells) ++ l) (append-nil (cell_text c)) in
     ap (λ (n : ℕ). take n (drop 8 bytes)) next ∙ take-add (12 * i) 12 (drop 8 bytes) ∙ (λ j. so_far j ++ there j) ∙ sym more
 
 pub each_set : (P : Cell → Type 0) (cells : List Cell) (i : ℕ) (c : Cell) → i < length cells → AllByRecursion P (take i cells) → P c → AllByRecursion P (take (i + 1) (set cells i c))
@@ -75,8 +75,10 @@ pub decoded : (bytes : List ℕ) (page i segments : ℕ) (sets : List (List ℕ)
     → IsSlot page cells bytes × AreKnown segments sets cells
 decoded bytes page i segments sets cells below size end words number text fit known =
     let all : take i cells ≡ cells = ap (λ (n : ℕ). take n cells) (end ∙ sym words) ∙ take_whole cells in
-    let rest : take (12 * i) (drop 8 bytes) ≡ drop 8 bytes = take_all (12 * i) (drop 8 bytes) (omega (arith, end, size, length-drop 8 bytes)) in
-    (record {
-       page_is = record { number = below; words = words; fit = subst (λ (l : List Cell). AllByRecursion CellFits l) all fit };
-       spelling = sym (take-append-drop 8 bytes) ∙ (λ j. number j ++ (sym rest ∙ text ∙ ap (λ (l : List Cell). flat_map cell_text l) all) j);
-     }, subst (λ (l : List Cell). AreKnown segments sets l) all known)
+    let rest : take (12 * i) (drop 8 bytes) ≡ drop 8 bytes = take_all (12 * i) (drop 8 bytes) (omega (arith, end, size, length-drop 8 bytes)) in (
+      record {
+        page_is = record { number = below; words = words; fit = subst (λ (l : List Cell). AllByRecursion CellFits l) all fit };
+        spelling = sym (take-append-drop 8 bytes) ∙ (λ j. number j ++ (sym rest ∙ text ∙ ap (λ (l : List Cell). flat_map cell_text l) all) j);
+      },
+      subst (λ (l : List Cell). AreKnown segments sets l) all known,
+    )

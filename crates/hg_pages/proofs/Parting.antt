@@ -1,9 +1,9 @@
 -- What a look-up, a set and a removal make of entries: by the parts before and behind a page.
-use Rattle.std.proofs.Common.{if◌then◌else◌, ◌≡◌, ◌≢◌, ◌<◌, ◌≤◌, ◌+◌, ◌==◌, ◌||◌, ℕ, zero, suc, Bool, true, false, List, [], ◌∷◌, ◌++◌, length, take, drop, set, get_or, Option, Some, None, refl, sym, ◌∙◌, ap, subst, arith, rules, add-one, drop-cons, take-append-drop}
+use Rattle.std.proofs.Common.{if◌then◌else◌, ◌≡◌, ◌≢◌, ◌<◌, ◌≤◌, ◌+◌, ◌==◌, ◌||◌, ℕ, zero, suc, Bool, true, false, List, [], ◌∷◌, ◌++◌, length, take, drop, set, get_or, Option, Some, None, refl, sym, ◌∙◌, ap, subst, arith, rules, add-one, drop-cons, length-append, take-append-drop, is_some}
 use Rattle.std.specs.List.{AllByRecursion, insert, remove}
 use Rattle.std.proofs.lemmas.List.{get_or_past, get_or-set_other, get_or-set_same, set_split}
 use Rattle.hg_pages.specs.Marks.{AreMarks, BelongsAt, Parts, Puts, StandsAt, cleared, entry_of, marked}
-use Rattle.hg_pages.specs.Tables.{AreEntries, ArePagesRising, AreSlotsDistinct, is_named, slot_in}
+use Rattle.hg_pages.specs.Tables.{AreEntries, AreSlotsDistinct, is_named, slot_in}
 use Rattle.hg_pages.proofs.Rising.{distinct_with, distinct_without, named_by, named_with, none_around, page_of, rising_with, rising_without, slot_with}
 
 pub parts_standing : (page slot place : ℕ) (es : List (ℕ × ℕ)) (d : ℕ × ℕ) → StandsAt page es place → (get_or es place d).1 ≡ slot → Parts page (Some slot) es
@@ -179,3 +179,14 @@ marks_put page slot former old new marks puts lt entries are =
     let parts = puts.parts in
     subst (λ (l : List (ℕ × ℕ)). AreMarks (marked former slot marks) l) (sym puts.whole)
     (λ other. set_one page slot other (slot == other) parts.before parts.behind (cleared former marks) refl (omega (arith, lt, cleared_length former marks)) (marks_rest page former old marks parts entries are))
+
+-- how many entries there are
+size_put : (page slot : ℕ) (former : Option ℕ) (before behind : List (ℕ × ℕ)) → length (before ++ ((page, slot) ∷ behind)) ≡ length (before ++ (entry_of page former ++ behind)) + (if is_some former then 0 else 1)
+size_put page slot None before behind = omega (arith, length-append before ((page, slot) ∷ behind), length-append before behind)
+size_put page slot (Some was) before behind = omega (arith, length-append before ((page, slot) ∷ behind), length-append before ((page, was) ∷ behind))
+
+pub length_put : (page slot : ℕ) (former : Option ℕ) (old new : List (ℕ × ℕ)) → Puts page former (Some slot) old new → length new ≡ length old + (if is_some (slot_in old page) then 0 else 1)
+length_put page slot former old new puts =
+    let parts = puts.parts in
+    ap length puts.whole ∙ size_put page slot former parts.before parts.behind
+    ∙ (λ i. length (sym parts.whole i) + (if is_some (sym (looked page former old parts) i) then 0 else 1))

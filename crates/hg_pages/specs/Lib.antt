@@ -1,5 +1,6 @@
 pub mod Encoded
 pub mod Fault
+pub mod Files
 pub mod Slots
 pub mod Reading
 pub mod Tables

@@ -1,5 +1,5 @@
 -- Tables of pages, each with the slot that it lies in.
-use Rattle.std.specs.Prelude.{◌≡◌, ◌<◌, ◌==◌, ◌||◌, ℕ, Bool, false, List, [], ◌∷◌, Option, Some, None, slice_get, if◌then◌else◌}
+use Rattle.std.specs.Prelude.{◌≡◌, ◌<◌, ◌≤◌, ◌==◌, ◌||◌, ℕ, Bool, false, List, [], ◌∷◌, Option, Some, None, slice_get, if◌then◌else◌}
 use Rattle.std.specs.List.{AllByRecursion}
 
 -- The entries of a table, a page and its slot each; how many entries its memory is for; and the slots below which it has memory to
@@ -41,3 +41,7 @@ pub record AreEntries (entries : List (ℕ × ℕ)) : Type 0 where
 -- one of the tables names the slot
 abbrev pub SomeNames : List Shown → ℕ → Type 0
 SomeNames tables slot = (i : ℕ) × (table : Shown) × (slice_get tables i ≡ Some table) × IsNamed table.entries slot
+
+-- each slot from the one on, up to the other, is named
+abbrev pub EachNamed : (ℕ → Type 0) → ℕ → ℕ → Type 0
+EachNamed named from to = (slot : ℕ) → from ≤ slot → slot < to → named slot

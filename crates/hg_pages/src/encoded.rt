@@ -11,10 +11,16 @@ use std::marker::Model;
 pub const SLOT_LEN: usize = 3080;
 
 /// The number of a page, and the 3,080 bytes of its slot. Contracts see both.
-#[derive(Drop)]
 pub struct EncodedPage {
     page: u64,
     bytes: Vec<u8>,
+}
+
+impl Drop for EncodedPage {
+    fn drop(self) {
+        let EncodedPage { page: _, bytes } = self;
+        drop(bytes);
+    }
 }
 
 impl Model for EncodedPage {

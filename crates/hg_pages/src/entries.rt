@@ -1,5 +1,5 @@
 //! Entries by rising page, found by halving.
-ghost use Rattle.std.specs.Prelude.{◌≡◌, ◌<◌, ◌≤◌, Some, None, length, take, drop, vec_capacity, IsOk, OnErr, IfOk, MatchResult};
+ghost use Rattle.std.specs.Prelude.{◌≡◌, ◌<◌, ◌≤◌, Some, None, length, take, drop, vec_capacity, IsOk, OnErr, IfOk, MatchResult, IsTrue, is_some};
 ghost use Rattle.std.specs.List.{AllByRecursion};
 ghost use Rattle.hg_pages.specs.Marks.{BelongsAt, Puts, StandsAt};
 ghost use Rattle.hg_pages.specs.Tables.{ArePagesRising, slot_in};
@@ -49,7 +49,8 @@ pub(crate) fn put(
     requires { ArePagesRising entries.old.items }
     ensures ok { IfOk result (λ former. Puts page former (Some slot) entries.old.items entries.new.items) }
     ensures err { OnErr result (entries.new.items ≡ entries.old.items) }
-    ensures succeeds { length entries.old.items < vec_capacity entries.old → IsOk result }
+    ensures adds { length entries.old.items < vec_capacity entries.old → IsOk result }
+    ensures replaces { IsTrue (is_some (slot_in entries.old.items page)) → IsOk result }
     ensures capacity { vec_capacity entries.old ≤ vec_capacity entries.new }
 {
     match place_of(entries, page) {

@@ -6,9 +6,12 @@ mod decoded;
 mod encoded;
 mod entries;
 mod fault;
+pub mod laws;
+mod slot_file;
 mod table;
 
 pub use decoded::{MOST_PAGES, decode};
 pub use encoded::{EncodedPage, SLOT_LEN, encode};
 pub use fault::SlotFault;
+pub use slot_file::{MOST_SLOTS, SlotFile};
 pub use table::Table;

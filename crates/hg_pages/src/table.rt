@@ -12,11 +12,18 @@ use std::marker::Model;
 ///
 /// Contracts see its entries by rising page, for how many of them it has memory, and up to which slot it has memory to say that
 /// slots are named: an entry takes 16 bytes, and each slot up to the greatest one byte.
-#[derive(Drop)]
 pub struct Table {
     entries: Vec<(u64, u32)>,
     // Whether each slot is named.
     named: Vec<bool>,
+}
+
+impl Drop for Table {
+    fn drop(self) {
+        let Table { entries, named } = self;
+        drop(entries);
+        drop(named);
+    }
 }
 
 impl Model for Table {
@@ -24,8 +31,8 @@ impl Model for Table {
     ghost use Rattle.std.specs.Prelude.{length};
     ghost use Rattle.hg_pages.specs.Marks.{AreMarks};
     ghost use Rattle.std.specs.Option.{ForSome};
-ghost use Rattle.hg_pages.specs.Marks.{cleared, marked};
-ghost use Rattle.hg_pages.specs.Tables.{AreEntries, Shown};
+    ghost use Rattle.hg_pages.specs.Marks.{cleared, marked};
+    ghost use Rattle.hg_pages.specs.Tables.{AreEntries, Shown};
 
     ghost Value = { Shown };
 
@@ -86,14 +93,16 @@ impl Table {
         reach(&mut self.named, slots as usize)
     }
 
-    /// Gives a page a slot in which no other page lies, in place of its former one. It takes no memory where there is room.
+    /// Gives a page a slot in which no other page lies, in place of its former one. It takes no memory where there is room for the
+    /// slot, and the page has one already or there is room for its entry.
     pub fn set(&mut self, page: u64, slot: u32) -> Result<(), AllocError>
         requires free { (other : ℕ) → slot_in self.old.entries other ≡ Some slot → other ≡ page }
         ensures ok { OnOk result ((other : ℕ) → slot_in self.new.entries other ≡ (if page == other then Some slot else slot_in self.old.entries other)) }
         ensures err { OnErr result (self.new.entries ≡ self.old.entries) }
-        ensures succeeds { length self.old.entries < self.old.capacity → slot < self.old.slots → IsOk result }
+        ensures adds { length self.old.entries < self.old.capacity → slot < self.old.slots → IsOk result }
+        ensures replaces { IsTrue (is_some (slot_in self.old.entries page)) → slot < self.old.slots → IsOk result }
         ensures no_less { (self.old.capacity ≤ self.new.capacity) × (self.old.slots ≤ self.new.slots) }
-        ensures length { OnOk result (length self.new.entries ≤ length self.old.entries + 1) }
+        ensures length { OnOk result (length self.new.entries ≡ length self.old.entries + (if is_some (slot_in self.old.entries page) then 0 else 1)) }
     {
         let index = slot as usize;
         reach(&mut self.named, index + 1)?;

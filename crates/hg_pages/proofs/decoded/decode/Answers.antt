@@ -1,9 +1,9 @@
-use Rattle.std.proofs.Common.{◌≡◌, ◌<◌, ◌+◌, ◌∙◌, ℕ, List, length, take, drop, set, get_or, ap, sym, subst, arith}
+use Rattle.std.proofs.Common.{◌≡◌, ◌<◌, ◌+◌, ◌∙◌, List, length, take, set, get_or, ap, sym, subst, arith}
 use Rattle.std.specs.List.{AllByRecursion, flat_map}
 use Rattle.hg_cells.specs.declared.cell.Cell.{Cell}
 use Rattle.hg_cells.specs.declared.cell.Cell.TheVariants.{New}
 use Rattle.hg_pages.specs.Slots.{AreKnown, CellFits, IsKnown, cell_text}
-use Rattle.hg_pages.proofs.Decoding.{cell_bytes_are, decoded, each_at, each_set, spelled_more}
+use Rattle.hg_pages.proofs.Decoding.{cell_bytes_are, each_at, each_set, spelled_more}
 use Rattle.hg_pages.proofs.decoded.decode.Goals as goal
 
 pub returns-in-None-clause-none : goal.returns-in-None-clause-none

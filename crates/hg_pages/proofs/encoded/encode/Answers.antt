@@ -1,7 +1,5 @@
-use Rattle.std.proofs.Common.{◌≡◌, ◌<◌, ◌^◌, ◌+◌, ◌∙◌, ◌++◌, ℕ, List, length, take, get_or, ap, sym, arith}
-use Rattle.hg_cells.specs.declared.cell.Cell.{Cell}
-use Rattle.hg_cells.specs.declared.cell.Cell.TheVariants.{New}
-use Rattle.hg_pages.specs.Slots.{CellFits, slot_text, cell_text}
+use Rattle.std.proofs.Common.{◌<◌, ◌∙◌, ◌++◌, ℕ, List, length, take, ap, arith}
+use Rattle.hg_pages.specs.Slots.{slot_text}
 use Rattle.hg_pages.proofs.Encoding.{fit_more, fit_whole, got, length-slot_text, slot_more, whole}
 use Rattle.hg_pages.proofs.encoded.encode.Goals as goal
 

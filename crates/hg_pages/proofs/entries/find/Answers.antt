@@ -1,4 +1,4 @@
-use Rattle.std.proofs.Common.{◌≡◌, ℕ, Some, None, refl, sym, get_or}
+use Rattle.std.proofs.Common.{Some, None, refl, sym, get_or}
 use Rattle.hg_pages.proofs.Parting.{looked, parts_missing, parts_standing}
 use Rattle.hg_pages.proofs.entries.find.Goals as goal
 

@@ -1,7 +1,6 @@
-use Rattle.std.proofs.Common.{◌≡◌, ◌≢◌, ◌<◌, ◌≤◌, ◌+◌, ℕ, suc, List, ◌∷◌, length, take, drop, get_or, ap, sym, ◌∙◌, subst, add-one, drop-cons, arith, rules}
+use Rattle.std.proofs.Common.{◌≡◌, ◌<◌, ◌+◌, ℕ, suc, List, ◌∷◌, length, drop, get_or, ap, sym, ◌∙◌, subst, add-one, drop-cons, arith}
 use Rattle.std.specs.List.{AllByRecursion}
 use Rattle.std.proofs.lemmas.List.{get_or_default, get_or-drop, length-drop}
-use Rattle.hg_pages.specs.Marks.{BelongsAt, StandsAt}
 use Rattle.hg_pages.specs.Tables.{ArePagesRising}
 use Rattle.hg_pages.proofs.Rising.{above_next, each_weaker, rising_behind}
 use Rattle.hg_pages.proofs.entries.place_of.Goals.{else-place-entries-via-then-place-entries+else-entries-place, else-place-entries-via-else-place-entries}
@@ -30,8 +29,8 @@ returns-else-place-entries c =
       above = above_next c.args.page (drop place entries) (rising_behind place entries c.requires) c.count_below-place.ensures.behind (λ d lt.
           let inside : place < length entries = omega (arith, lt, length-drop place entries) in
           elim c.else-place-entries.branch [
-            else-place-entries-via-then-place-entries+else-entries-place w ↦ (λ is. w.if-entries-place.false (ap (λ (e : ℕ × ℕ). e.0) (get_or_default entries place (0, 0) d inside) ∙ there d ∙ is))
-          | else-place-entries-via-else-place-entries w ↦ (λ is. absurd (omega (arith, inside, w.if-place-entries.false)))
+            | else-place-entries-via-then-place-entries+else-entries-place w ↦ (λ is. w.if-entries-place.false (ap (λ (e : ℕ × ℕ). e.0) (get_or_default entries place (0, 0) d inside) ∙ there d ∙ is))
+            | else-place-entries-via-else-place-entries w ↦ (λ is. absurd (omega (arith, inside, w.if-place-entries.false)))
           ]);
     }
   where

@@ -1,4 +1,4 @@
-use Rattle.std.proofs.Common.{◌≡◌, ℕ, List, Some, None, ap, sym, ◌∙◌, subst, get_or}
+use Rattle.std.proofs.Common.{ℕ, List, Some, None, ap, sym, subst}
 use Rattle.hg_pages.specs.Marks.{BelongsAt, Puts, StandsAt}
 use Rattle.hg_pages.proofs.Parting.{taken_missing, taken_standing}
 use Rattle.hg_pages.proofs.entries.take_out.Goals as goal

@@ -1,5 +1,5 @@
-use Rattle.std.proofs.Common.{if◌then◌else◌, ◌==◌, ◌≡◌, ◌<◌, ℕ, List, Bool, Option, Some, None, length, ap, sym, ◌∙◌, subst}
-use Rattle.hg_pages.specs.Marks.{AreMarks, Parts, cleared}
+use Rattle.std.proofs.Common.{if◌then◌else◌, ◌==◌, ◌≡◌, ℕ, List, Bool, Option, None, ap, sym, ◌∙◌, subst}
+use Rattle.hg_pages.specs.Marks.{AreMarks, Parts}
 use Rattle.hg_pages.specs.Tables.{Shown, slot_in}
 use Rattle.hg_pages.proofs.Parting.{entries_taken, former_within, look_put, looked, marks_taken}
 use Rattle.hg_pages.proofs.table.Table.remove.Goals as goal
@@ -12,10 +12,11 @@ clear-requires c slot is =
 pub invariant_of-self : goal.invariant_of-self
 invariant_of-self c =
     let old = c.self.inside.entries.items in
-    let new = c.take_out-former.new.entries.items in
-    (entries_taken c.args.page c.take_out-former.result old new c.take_out-former.ensures.taken c.self.invariant.0,
-    subst (λ (marks : List Bool). AreMarks marks new) (sym c.clear.ensures.marks)
-    (marks_taken c.args.page c.take_out-former.result old new c.self.inside.named.items c.take_out-former.ensures.taken c.self.invariant.0 c.self.invariant.1))
+    let new = c.take_out-former.new.entries.items in (
+      entries_taken c.args.page c.take_out-former.result old new c.take_out-former.ensures.taken c.self.invariant.0,
+      subst (λ (marks : List Bool). AreMarks marks new) (sym c.clear.ensures.marks)
+          (marks_taken c.args.page c.take_out-former.result old new c.self.inside.named.items c.take_out-former.ensures.taken c.self.invariant.0 c.self.invariant.1),
+    )
 
 pub returns-clause-answer : goal.returns-clause-answer
 returns-clause-answer c =
