@@ -1,6 +1,6 @@
 //! A file of slots, each of which has one page.
-ghost use Rattle.std.specs.Prelude.{◌≡◌, ◌≢◌, ◌+◌, ◌*◌, ◌<◌, ◌≤◌, ◌↔◌, ◌^◌, ℕ, List, length, false, IsTrue, OnOk, OnErr, IsErrOf, Err, IfOk, IfErr, MatchOption, map};
-ghost use Rattle.hg_disk.specs.State.{IsImage, settled};
+ghost use Rattle.std.specs.Prelude.{◌≡◌, ◌≢◌, ◌+◌, ◌*◌, ◌<◌, ◌≤◌, ◌↔◌, ◌^◌, ℕ, List, ◌∷◌, length, false, IsTrue, OnOk, OnErr, IsErrOf, Err, IfOk, IfErr, MatchOption, map};
+ghost use Rattle.hg_disk.specs.State.{IsImage, after_sync, counted};
 ghost use Rattle.hg_disk.specs.Moments.{Leaves, LeavesOnly};
 ghost use Rattle.hg_disk.specs.Calls.{CallsAtMost};
 ghost use Rattle.hg_cells.specs.declared.cell.Cell.{Cell as CellOf};
@@ -14,7 +14,7 @@ use crate::encoded::{EncodedPage, SLOT_LEN};
 use crate::fault::SlotFault;
 use crate::table::Table;
 use hg_cells::Page;
-use hg_disk::Disk;
+use hg_disk::{Disk, DiskFault};
 use hg_sets::SetTable;
 use std::snapshot::Snapshot;
 
@@ -31,6 +31,16 @@ fn is_named(tables: &[&Table], slot: u32) -> bool
         }
     }
     false
+}
+
+// A sync, which adds no image.
+fn sync<D: Disk>(disk: &mut D) -> Result<(), DiskFault>
+    ensures ok { OnOk result (D.state disk.new ≡ after_sync (D.state disk.old)) }
+    ensures any_moment { LeavesOnly ⟦<D as Disk>⟧ disk.old disk.new (IsImage (D.state disk.old)) }
+    ensures clock { D.past disk.new ≡ D.state disk.old ∷ D.past disk.old }
+    ensures failures { D.failures disk.new ≡ counted result (D.failures disk.old) }
+{
+    disk.sync()
 }
 
 /// A file of slots of 3,080 bytes. Slot i stands at byte 3,080 i.
@@ -167,7 +177,7 @@ impl<D: Disk> SlotFile<D> {
             return Err(SlotFault::Broken);
         }
         self.before = Snapshot::of(&self.disk);
-        let synced = self.disk.sync();
+        let synced = sync(&mut self.disk);
         self.is_broken = synced.is_err();
         Ok(synced?)
     }
