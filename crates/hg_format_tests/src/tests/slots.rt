@@ -172,6 +172,28 @@ fn a_stop_leaves_the_other_slots(rt: HostRuntime) -> Result<(), Fail> {
     Ok(())
 }
 
+/// A write of page 5 that fails, behind page 4 and over its place: the disk may keep any part of it.
+#[test]
+fn a_write_that_fails_leaves_the_other_slots(rt: HostRuntime) -> Result<(), Fail> {
+    let first = encode(rt.alloc(), 4, &page())?;
+    let other = encode(rt.alloc(), 5, &page())?;
+    let mut file = SlotFile::attach(MemDisk::new(rt.alloc()));
+    answers(&rt, file.write(1, &first), Ok(()));
+    answers(&rt, file.seal(), Ok(()));
+    for slot in [2, 0] {
+        let mut disk = file.into_disks();
+        disk.fail_next();
+        file = SlotFile::attach(disk);
+        answers(&rt, file.write(slot, &other), Err(SlotFault::DeviceFault));
+        answers(&rt, file.seal(), Err(SlotFault::Broken));
+    }
+    let disk = file.into_disks();
+    for calls in 2..5 {
+        each_image_has(&rt, &disk, calls, SLOT_LEN, first.bytes())?;
+    }
+    Ok(())
+}
+
 /// What a read was refused for.
 fn refusal(read: Result<Page, SlotFault>) -> Option<SlotFault> {
     match read {
