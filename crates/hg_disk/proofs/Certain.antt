@@ -2,12 +2,12 @@
 use Rattle.std.proofs.Common.{◌≡◌, ◌⊎◌, inl, inr, ⊎_elim, ◌<◌, ◌≤◌, ◌+◌, ℕ, Bool, true, false, List, [], ◌∷◌, length, take, get_or, refl, sym, ◌∙◌, ap, subst, arith}
 use Rattle.std.proofs.lemmas.Bool.{false≢true}
 use Rattle.std.proofs.lemmas.List.{get_or-take, length-take-le, take_all}
-use Rattle.hg_disk.specs.State.{Change, DiskState, IsImage, is_written, least, overwritten}
+use Rattle.hg_disk.specs.State.{Change, DiskState, IsImage, after_write, is_written, least, overwritten}
 use Rattle.hg_disk.specs.State.Change.{CutTo, Written}
 use Rattle.hg_disk.specs.Kept.{length-overwritten, overwritten_before, overwritten_behind}
 use Rattle.hg_disk.specs.Laws.{Holds, Keeps}
 use Rattle.hg_disk.specs.Moments.{Leaves}
-use Rattle.hg_disk.proofs.Keeping.{held_byte, held_end, holds_written}
+use Rattle.hg_disk.proofs.Keeping.{held_byte, held_end, holds_written, keeps_image, keeps_write_before, keeps_write_behind}
 
 least_below : (since : List Change) (n : ℕ) → least since n ≤ n
 least_below [] n = omega arith
@@ -69,3 +69,17 @@ module _ (s : DiskState) (at : ℕ) (bytes : List ℕ) (each : Leaves (λ image.
         untouched = λ i lt. not_written i lt (is_written s.since (at + i)) refl;
         same = λ i lt. held_byte s.synced at bytes i (each s.synced (synced_left s)) lt;
       }
+
+-- what each image has, each image of a write elsewhere has too
+pub left_behind : (at : ℕ) (written : List ℕ) (s : DiskState) (place : ℕ) (bytes : List ℕ) → IsImage s s.contents → place + length bytes ≤ at → Leaves (λ image. Holds image place bytes) s
+    → Leaves (λ image. Holds image place bytes) (after_write at written s)
+left_behind at written s place bytes now le each image is = keeps_image (after_write at written s) place bytes image (keeps_write_behind at written s place bytes le (kept_by_images s place bytes each now)) is
+
+pub left_before : (at : ℕ) (written : List ℕ) (s : DiskState) (place : ℕ) (bytes : List ℕ) → IsImage s s.contents → at + length written ≤ place → Leaves (λ image. Holds image place bytes) s
+    → Leaves (λ image. Holds image place bytes) (after_write at written s)
+left_before at written s place bytes now le each image is = keeps_image (after_write at written s) place bytes image (keeps_write_before at written s place bytes le (kept_by_images s place bytes each now)) is
+
+-- no image of a write is shorter than each image was
+pub left_long : (at : ℕ) (written : List ℕ) (s : DiskState) (n : ℕ) → Leaves (λ image. n ≤ length image) s → Leaves (λ image. n ≤ length image) (after_write at written s)
+left_long at written s n each image is =
+    omega (arith, each (take (least s.since (length s.synced)) s.synced) (front_left s), length-take-le (least s.since (length s.synced)) s.synced (least_below s.since (length s.synced)), is.long)

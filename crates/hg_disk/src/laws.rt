@@ -38,6 +38,16 @@ pub fn kept_by_images()
     ensures { (s : DiskState) (at : ℕ) (bytes : List ℕ) → IsImage s s.contents → Leaves (λ image. Holds image at bytes) s → Keeps s at bytes }
 {}
 
+/// What each image has at a place, each image of a write elsewhere has there, also of one that leaves a gap; and none gets
+/// shorter than each was.
+pub fn images_keep_places()
+    ensures write_behind { (at : ℕ) (written : List ℕ) (s : DiskState) (place : ℕ) (bytes : List ℕ) → IsImage s s.contents → place + length bytes ≤ at
+        → Leaves (λ image. Holds image place bytes) s → Leaves (λ image. Holds image place bytes) (after_write at written s) }
+    ensures write_before { (at : ℕ) (written : List ℕ) (s : DiskState) (place : ℕ) (bytes : List ℕ) → IsImage s s.contents → at + length written ≤ place
+        → Leaves (λ image. Holds image place bytes) s → Leaves (λ image. Holds image place bytes) (after_write at written s) }
+    ensures long { (at : ℕ) (written : List ℕ) (s : DiskState) (n : ℕ) → Leaves (λ image. n ≤ length image) s → Leaves (λ image. n ≤ length image) (after_write at written s) }
+{}
+
 /// What stands at a place is read there, and stays through writes and cuts elsewhere.
 pub fn places_read()
     ensures read { (file : List ℕ) (at : ℕ) (bytes : List ℕ) → Holds file at bytes → take (length bytes) (drop at file) ≡ bytes }

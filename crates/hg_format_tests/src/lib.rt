@@ -1,5 +1,5 @@
 //! Tests of what is read and written, over public calls: lines of a trace, lines that are printed, records of the journal,
-//! disks. They stand here so that no crate is proved twice, once with its tests.
+//! slots of pages, disks. They stand here so that no crate is proved twice, once with its tests.
 #![tactic(auto)]
 
 #[cfg(test)]

@@ -55,10 +55,14 @@ impl<D: Disk> Gated<D> {
 
     /// Closes the gate. An empty file becomes one closed gate; what stands behind the gate stays. It makes two device calls
     /// at most; after an `Err` each later call but `into_disks` answers `Broken`.
+    ///
+    /// The gate is written whatever it was, and a crash may leave any byte of a write. So a crash in the call may leave
+    /// a gate that was closed open: who wants it to stay closed at each moment makes no call.
     pub fn close(&mut self) -> Result<(), GateFault>
         ensures closed { (file : List ℕ) → Rests ⟦<D as Disk>⟧ self.old file → OnOk result (Rests ⟦<D as Disk>⟧ self.new (closed_gate ∷ drop 1 file)) }
 
-        // A crash at any moment of the call leaves what stands behind the gate.
+        // A crash at any moment of the call leaves what stands behind the gate. The gate itself may be any byte, open too,
+        // whatever it was.
         ensures any_moment { (gate : ℕ) (rest : List ℕ) → Rests ⟦<D as Disk>⟧ self.old (gate ∷ rest)
             → LeavesOnly ⟦<D as Disk>⟧ (disk_of self.old) (disk_of self.new) (IsBehindGate rest) }
 

@@ -1,0 +1,7 @@
+pub mod Encoded
+pub mod Fault
+pub mod Files
+pub mod Slots
+pub mod Reading
+pub mod Tables
+pub mod Marks

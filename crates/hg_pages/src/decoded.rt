@@ -1,0 +1,65 @@
+//! The bytes of a slot as a page.
+ghost use Rattle.std.specs.Prelude.{◌≡◌, ◌<◌, ◌≤◌, List, length, take, IfSome, IfNone};
+ghost use Rattle.std.specs.Int.{w64, to_be_bytes};
+ghost use Rattle.hg_cells.specs.declared.cell.Cell.{Cell as CellOf};
+ghost use Rattle.hg_pages.specs.Reading.{cell_bytes};
+ghost use Rattle.hg_pages.specs.Slots.{AreKnown, CellFits, IsKnown, IsSlot, cell_text};
+
+use crate::cell::{CELL_LEN, cell_of, is_known};
+use crate::encoded::SLOT_LEN;
+use hg_cells::{Cell, PAGE_WORDS, Page};
+use hg_sets::SetTable;
+
+/// How many page numbers there are: an address has 64 bits, and a page 1,024 bytes.
+pub const MOST_PAGES: u64 = 1 << 54;
+
+// Where the cells begin, behind the number of the page.
+const CELLS_AT: usize = 8;
+
+// The number of the page, as the bytes have it.
+fn page_in(bytes: &[u8]) -> u64
+    requires { 8 ≤ length bytes.now }
+    ensures { to_be_bytes w64 result ≡ take 8 bytes.now }
+{
+    let front = &bytes[0..CELLS_AT];
+    u64::from_be_bytes([
+        front[0], front[1], front[2], front[3], front[4], front[5], front[6], front[7],
+    ])
+}
+
+/// The cells of a page from the bytes of its slot, or none where these bytes are not its slot: another page's number, a cell
+/// that is spelled otherwise, a segment that is not below the number of segments, a set that the table does not have, or a
+/// set of threads with fewer than two members or with one above 1023. Takes no memory.
+pub fn decode(bytes: &[u8], page: u64, segments: u32, sets: &SetTable) -> Option<Page>
+    requires { length bytes.now ≡ SLOT_LEN }
+    ensures some { IfSome result (λ cells. IsSlot page cells bytes.now × AreKnown segments sets.now.sets cells) }
+    ensures none { IfNone result ((cells : List CellOf) → IsSlot page cells bytes.now → ¬ AreKnown segments sets.now.sets cells) }
+{
+    if page >= MOST_PAGES || page_in(bytes) != page {
+        return None;
+    }
+    let mut cells = Page::new();
+    for word in 0..PAGE_WORDS {
+        match known_cell(bytes, word, segments, sets) {
+            Some(cell) => cells.set(word, cell),
+            None => return None,
+        }
+    }
+    Some(cells)
+}
+
+// The cell of a word, if it is spelled as it has to be, and what it names is there.
+fn known_cell(bytes: &[u8], word: usize, segments: u32, sets: &SetTable) -> Option<Cell>
+    requires word { word < 256 }
+    requires length { length bytes.now ≡ SLOT_LEN }
+    ensures some { IfSome result (λ cell. CellFits cell × IsKnown segments sets.now.sets cell × (cell_bytes bytes.now word ≡ cell_text cell)) }
+    ensures none { IfNone result ((cell : CellOf) → CellFits cell → cell_bytes bytes.now word ≡ cell_text cell → ¬ IsKnown segments sets.now.sets cell) }
+{
+    let at = CELLS_AT + CELL_LEN * word;
+    let cell = cell_of(&bytes[at..at + CELL_LEN])?;
+    if is_known(cell, segments, sets) {
+        Some(cell)
+    } else {
+        None
+    }
+}

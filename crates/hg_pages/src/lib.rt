@@ -1,0 +1,17 @@
+//! Pages as bytes, the tables that say where they lie, and the file of slots in which they lie.
+#![tactic(auto)]
+
+mod cell;
+mod decoded;
+mod encoded;
+mod entries;
+mod fault;
+pub mod laws;
+mod slot_file;
+mod table;
+
+pub use decoded::{MOST_PAGES, decode};
+pub use encoded::{EncodedPage, SLOT_LEN, encode};
+pub use fault::SlotFault;
+pub use slot_file::{MOST_SLOTS, SlotFile};
+pub use table::Table;

@@ -1,0 +1,224 @@
+//! A file of slots, each of which has one page.
+ghost use Rattle.std.specs.Prelude.{◌≡◌, ◌≢◌, ◌+◌, ◌*◌, ◌<◌, ◌≤◌, ◌↔◌, ◌^◌, ℕ, List, ◌∷◌, length, false, IsTrue, OnOk, OnErr, IsErrOf, Err, IfOk, IfErr, MatchOption, map};
+ghost use Rattle.hg_disk.specs.State.{IsImage, after_sync, counted};
+ghost use Rattle.hg_disk.specs.Moments.{Leaves, LeavesOnly};
+ghost use Rattle.hg_disk.specs.Calls.{CallsAtMost};
+ghost use Rattle.hg_cells.specs.declared.cell.Cell.{Cell as CellOf};
+ghost use Rattle.hg_pages.specs.Slots.{AreKnown, HasBytes, HasPage};
+ghost use Rattle.hg_pages.specs.Tables.{EachNamed, SomeNames};
+ghost use Rattle.hg_pages.specs.Fault.{failures_after, IsBrokenOrDevice};
+ghost use Rattle.hg_pages.specs.declared.fault.SlotFault.TheVariants.{Damaged};
+
+use crate::decoded::decode;
+use crate::encoded::{EncodedPage, SLOT_LEN};
+use crate::fault::SlotFault;
+use crate::table::Table;
+use hg_cells::Page;
+use hg_disk::{Disk, DiskFault};
+use hg_sets::SetTable;
+use std::snapshot::Snapshot;
+
+/// The most slots that may be named.
+pub const MOST_SLOTS: u32 = 1_048_576;
+
+// Whether one of the tables names the slot.
+fn is_named(tables: &[&Table], slot: u32) -> bool
+    ensures { IsTrue result ↔ SomeNames (map (λ t. t.now) tables.now) slot }
+{
+    for table in tables {
+        if table.names(slot) {
+            return true;
+        }
+    }
+    false
+}
+
+// A sync, which adds no image.
+fn sync<D: Disk>(disk: &mut D) -> Result<(), DiskFault>
+    ensures ok { OnOk result (D.state disk.new ≡ after_sync (D.state disk.old)) }
+    ensures any_moment { LeavesOnly ⟦<D as Disk>⟧ disk.old disk.new (IsImage (D.state disk.old)) }
+    ensures clock { D.past disk.new ≡ D.state disk.old ∷ D.past disk.old }
+    ensures failures { D.failures disk.new ≡ counted result (D.failures disk.old) }
+{
+    disk.sync()
+}
+
+/// A file of slots of 3,080 bytes. Slot i stands at byte 3,080 i.
+pub struct SlotFile<D: Disk> {
+    disk: D,
+    is_broken: bool,
+    // The disk before the last call that was to change it.
+    before: Snapshot<D>,
+}
+
+impl<D: Disk + Drop> Drop for SlotFile<D> {
+    fn drop(self) {
+        let SlotFile {
+            disk,
+            is_broken: _,
+            before: _,
+        } = self;
+        drop(disk);
+    }
+}
+
+impl<D: Disk> SlotFile<D> {
+    ghost use Rattle.hg_pages.specs.Files.{disk_of, is_broken, known};
+
+    /// The file on a disk, whatever its bytes are. It makes no device call.
+    pub fn attach(disk: D) -> SlotFile<D>
+        ensures disk { disk_of result ≡ disk }
+        ensures works { is_broken result ≡ false }
+    {
+        let before = Snapshot::of(&disk);
+        SlotFile {
+            disk,
+            is_broken: false,
+            before,
+        }
+    }
+
+    /// The disk.
+    pub fn into_disks(self) -> D
+        ensures { result ≡ disk_of self }
+    {
+        let SlotFile {
+            disk,
+            is_broken: _,
+            before: _,
+        } = self;
+        disk
+    }
+
+    /// Whether the slot lies within the file.
+    pub fn has_slot(&self, slot: u32) -> bool
+        ensures { IsTrue result ↔ (3080 * slot + 3080 ≤ length (D.state (disk_of self.now)).contents) }
+    {
+        let end = (slot as u64 + 1) * SLOT_LEN as u64;
+        end <= self.disk.len()
+    }
+
+    /// The least slot that no handed table names, or none where each of the 1,048,576 is named. It makes no device call.
+    pub fn free_slot(&self, tables: &[&Table]) -> Option<u32>
+        ensures { let named = SomeNames (map (λ t. t.now) tables.now) in
+            MatchOption result (EachNamed named 0 1048576) (λ free. (free < 1048576) × (¬ named free) × EachNamed named 0 free) }
+    {
+        self.free_slot_from(0, tables)
+    }
+
+    /// The least slot from this one on that no handed table names. Whoever picks several goes on behind the last one: a search
+    /// looks at no slot twice then, however many pages there are. It makes no device call.
+    pub fn free_slot_from(&self, from: u32, tables: &[&Table]) -> Option<u32>
+        ensures { let named = SomeNames (map (λ t. t.now) tables.now) in
+            MatchOption result (EachNamed named from 1048576) (λ free. (from ≤ free) × (free < 1048576) × (¬ named free) × EachNamed named from free) }
+    {
+        for slot in from..MOST_SLOTS {
+            if !is_named(tables, slot) {
+                return Some(slot);
+            }
+        }
+        None
+    }
+
+    /// Puts a page into a slot, which a sync makes durable. The file may grow, by slots in between too. It makes one device
+    /// call. After an `Err` each later call but `into_disks` answers `Broken`.
+    ///
+    /// Whatever a crash at any moment leaves in another slot, it leaves there still.
+    pub fn write(&mut self, slot: u32, page: &EncodedPage) -> Result<(), SlotFault>
+        ensures written { OnOk result (HasBytes slot page.now.bytes (known ⟦<D as Disk>⟧ self.new)) }
+        ensures others { (other : ℕ) (bytes : List ℕ) → other ≢ slot → HasBytes other bytes (known ⟦<D as Disk>⟧ self.old) → OnOk result (HasBytes other bytes (known ⟦<D as Disk>⟧ self.new)) }
+
+        // What a read gives after a failure is left open; what is known is what it gave before.
+        ensures lost { OnErr result (known ⟦<D as Disk>⟧ self.new ≡ known ⟦<D as Disk>⟧ self.old) }
+
+        // What each image has in another slot, it has at each moment of the call.
+        ensures any_moment { (other : ℕ) (bytes : List ℕ) → other ≢ slot → Leaves (HasBytes other bytes) (D.state (disk_of self.old))
+            → LeavesOnly ⟦<D as Disk>⟧ (disk_of self.old) (disk_of self.new) (HasBytes other bytes) }
+
+        // No image gets shorter than each was.
+        ensures long { (n : ℕ) → Leaves (λ image. n ≤ length image) (D.state (disk_of self.old)) → LeavesOnly ⟦<D as Disk>⟧ (disk_of self.old) (disk_of self.new) (λ image. n ≤ length image) }
+
+        ensures fault { IfErr result IsBrokenOrDevice }
+        ensures calls { CallsAtMost ⟦<D as Disk>⟧ 1 (disk_of self.old) (disk_of self.new) }
+        ensures device { D.failures (disk_of self.new) ≡ failures_after result (D.failures (disk_of self.old)) }
+        ensures broken { IsErrOf result SlotFault.Broken → IsTrue (is_broken self.old) }
+        ensures works { OnOk result (is_broken self.new ≡ false) }
+        ensures breaks { OnErr result (IsTrue (is_broken self.new)) }
+        ensures refuses { IsTrue (is_broken self.old) → result ≡ Err SlotFault.Broken }
+        ensures same { IsTrue (is_broken self.old) → self.new ≡ self.old }
+    {
+        if self.is_broken {
+            return Err(SlotFault::Broken);
+        }
+        self.before = Snapshot::of(&self.disk);
+        let written = self
+            .disk
+            .write_at(slot as u64 * SLOT_LEN as u64, page.bytes());
+        self.is_broken = written.is_err();
+        Ok(written?)
+    }
+
+    /// Makes what stands in the slots durable. It makes one device call. After an `Err` each later call but `into_disks`
+    /// answers `Broken`.
+    pub fn seal(&mut self) -> Result<(), SlotFault>
+        ensures known { known ⟦<D as Disk>⟧ self.new ≡ known ⟦<D as Disk>⟧ self.old }
+        ensures durable { OnOk result (Leaves (λ image. image ≡ known ⟦<D as Disk>⟧ self.old) (D.state (disk_of self.new))) }
+        ensures any_moment { LeavesOnly ⟦<D as Disk>⟧ (disk_of self.old) (disk_of self.new) (IsImage (D.state (disk_of self.old))) }
+        ensures fault { IfErr result IsBrokenOrDevice }
+        ensures calls { CallsAtMost ⟦<D as Disk>⟧ 1 (disk_of self.old) (disk_of self.new) }
+        ensures device { D.failures (disk_of self.new) ≡ failures_after result (D.failures (disk_of self.old)) }
+        ensures broken { IsErrOf result SlotFault.Broken → IsTrue (is_broken self.old) }
+        ensures works { OnOk result (is_broken self.new ≡ false) }
+        ensures breaks { OnErr result (IsTrue (is_broken self.new)) }
+        ensures refuses { IsTrue (is_broken self.old) → result ≡ Err SlotFault.Broken }
+        ensures same { IsTrue (is_broken self.old) → self.new ≡ self.old }
+    {
+        if self.is_broken {
+            return Err(SlotFault::Broken);
+        }
+        self.before = Snapshot::of(&self.disk);
+        let synced = sync(&mut self.disk);
+        self.is_broken = synced.is_err();
+        Ok(synced?)
+    }
+
+    /// The cells of a page from its slot, checked against the number of segments and the table of sets. `Damaged` where the slot
+    /// is not that of this page, as `decode` says, or does not lie within the file. The file stays as it is, and after an `Err`
+    /// it can be tried again. It makes one device call at most, and takes no memory.
+    pub fn read(
+        &mut self,
+        slot: u32,
+        page: u64,
+        segments: u32,
+        sets: &SetTable,
+    ) -> Result<Page, SlotFault>
+        ensures read { IsTrue D.is_honest → IfOk result (λ cells. HasPage segments sets.now.sets slot page cells (known ⟦<D as Disk>⟧ self.old)) }
+        ensures damaged { IsTrue D.is_honest → IsErrOf result SlotFault.Damaged → (cells : List CellOf) → ¬ HasPage segments sets.now.sets slot page cells (known ⟦<D as Disk>⟧ self.old) }
+
+        // Also of a disk that lies: what is named is there.
+        ensures named { IfOk result (AreKnown segments sets.now.sets) }
+        ensures known { known ⟦<D as Disk>⟧ self.new ≡ known ⟦<D as Disk>⟧ self.old }
+        ensures state { D.state (disk_of self.new) ≡ D.state (disk_of self.old) }
+        ensures any_moment { LeavesOnly ⟦<D as Disk>⟧ (disk_of self.old) (disk_of self.new) (IsImage (D.state (disk_of self.old))) }
+        ensures calls { CallsAtMost ⟦<D as Disk>⟧ 1 (disk_of self.old) (disk_of self.new) }
+        ensures device { D.failures (disk_of self.new) ≡ failures_after result (D.failures (disk_of self.old)) }
+        ensures works { is_broken self.new ≡ is_broken self.old }
+        ensures broken { IsErrOf result SlotFault.Broken → IsTrue (is_broken self.old) }
+        ensures refuses { IsTrue (is_broken self.old) → result ≡ Err SlotFault.Broken }
+        ensures same { IsTrue (is_broken self.old) → self.new ≡ self.old }
+    {
+        if self.is_broken {
+            return Err(SlotFault::Broken);
+        }
+        if !self.has_slot(slot) {
+            return Err(SlotFault::Damaged);
+        }
+        let mut bytes = [0; SLOT_LEN];
+        self.disk
+            .read_at(slot as u64 * SLOT_LEN as u64, &mut bytes)?;
+        match decode(&bytes, page, segments, sets) {
+            Some(cells) => Ok(cells),
+            None => Err(SlotFault::Damaged),
+        }
+    }
+}

@@ -1,0 +1,171 @@
+//! Which slot each page lies in.
+ghost use Rattle.std.specs.Prelude.{◌≡◌, ◌+◌, ◌≤◌, ◌<◌, ◌↔◌, ◌==◌, ℕ, [], Some, None, length, is_some, slice_index_or, false, IsTrue, IsOk, OnOk, OnErr, IfOk, if◌then◌else◌};
+ghost use Rattle.std.specs.Option.{ForSome};
+ghost use Rattle.hg_pages.specs.Marks.{cleared, marked};
+ghost use Rattle.hg_pages.specs.Tables.{AreEntries, IsNamed, slot_in};
+
+use crate::entries::{find, put, take_out};
+use std::alloc::{AllocError, Global};
+use std::marker::Model;
+
+/// A table of pages, each with the slot that it lies in. No slot has two pages.
+///
+/// Contracts see its entries by rising page, for how many of them it has memory, and up to which slot it has memory to say that
+/// slots are named: an entry takes 16 bytes, and each slot up to the greatest one byte.
+pub struct Table {
+    entries: Vec<(u64, u32)>,
+    // Whether each slot is named.
+    named: Vec<bool>,
+}
+
+impl Drop for Table {
+    fn drop(self) {
+        let Table { entries, named } = self;
+        drop(entries);
+        drop(named);
+    }
+}
+
+impl Model for Table {
+    ghost use Rattle.std.specs.Vec.{vec_capacity};
+    ghost use Rattle.std.specs.Prelude.{length};
+    ghost use Rattle.hg_pages.specs.Marks.{AreMarks};
+    ghost use Rattle.std.specs.Option.{ForSome};
+    ghost use Rattle.hg_pages.specs.Marks.{cleared, marked};
+    ghost use Rattle.hg_pages.specs.Tables.{AreEntries, Shown};
+
+    ghost Value = { Shown };
+
+    ghost view = { λ t. record { entries = t.entries.items; capacity = vec_capacity t.entries; slots = length t.named.items } };
+
+    ghost invariant = { λ t. AreEntries t.entries.items × AreMarks t.named.items t.entries.items };
+}
+
+impl Table {
+    /// A table of no pages. It takes no memory.
+    pub fn new(alloc: Global) -> Self
+        ensures { result.entries ≡ [] }
+    {
+        Table {
+            entries: Vec::new(alloc),
+            named: Vec::new(alloc),
+        }
+    }
+
+    /// How many pages it has.
+    pub fn len(&self) -> usize
+        ensures { result ≡ length self.now.entries }
+    {
+        self.entries.len()
+    }
+
+    /// Its pages, which rise, each with its slot.
+    pub fn entries(&self) -> &[(u64, u32)]
+        ensures value { result.now ≡ self.now.entries }
+        ensures entries { AreEntries self.now.entries }
+    {
+        &self.entries
+    }
+
+    /// The slot of a page.
+    pub fn get(&self, page: u64) -> Option<u32>
+        ensures { result ≡ slot_in self.now.entries page }
+    {
+        find(&self.entries, page)
+    }
+
+    /// Whether a page lies in the slot.
+    pub fn names(&self, slot: u32) -> bool
+        ensures { IsTrue result ↔ IsNamed self.now.entries slot }
+    {
+        let slot = slot as usize;
+        slot < self.named.len() && self.named[slot]
+    }
+
+    /// Makes room for so many entries more, and for slots below this number. An `Err` leaves the entries as they are.
+    pub fn reserve(&mut self, more: usize, slots: u32) -> Result<(), AllocError>
+        ensures entries { self.new.entries ≡ self.old.entries }
+        ensures capacity { OnOk result (length self.old.entries + more ≤ self.new.capacity) }
+        ensures slots { OnOk result (slots ≤ self.new.slots) }
+        ensures no_less { (self.old.capacity ≤ self.new.capacity) × (self.old.slots ≤ self.new.slots) }
+    {
+        self.entries.reserve(more)?;
+        reach(&mut self.named, slots as usize)
+    }
+
+    /// Gives a page a slot in which no other page lies, in place of its former one. It takes no memory where there is room for the
+    /// slot, and the page has one already or there is room for its entry.
+    pub fn set(&mut self, page: u64, slot: u32) -> Result<(), AllocError>
+        requires free { (other : ℕ) → slot_in self.old.entries other ≡ Some slot → other ≡ page }
+        ensures ok { OnOk result ((other : ℕ) → slot_in self.new.entries other ≡ (if page == other then Some slot else slot_in self.old.entries other)) }
+        ensures err { OnErr result (self.new.entries ≡ self.old.entries) }
+        ensures adds { length self.old.entries < self.old.capacity → slot < self.old.slots → IsOk result }
+        ensures replaces { IsTrue (is_some (slot_in self.old.entries page)) → slot < self.old.slots → IsOk result }
+        ensures no_less { (self.old.capacity ≤ self.new.capacity) × (self.old.slots ≤ self.new.slots) }
+        ensures length { OnOk result (length self.new.entries ≡ length self.old.entries + (if is_some (slot_in self.old.entries page) then 0 else 1)) }
+    {
+        let index = slot as usize;
+        reach(&mut self.named, index + 1)?;
+        let former = put(&mut self.entries, page, slot)?;
+        mark(&mut self.named, former, index);
+        Ok(())
+    }
+
+    /// Takes a page out, and answers the slot that it had. It takes no memory, and leaves the room for its entry.
+    pub fn remove(&mut self, page: u64) -> Option<u32>
+        ensures answer { result ≡ slot_in self.old.entries page }
+        ensures removed { (other : ℕ) → slot_in self.new.entries other ≡ (if page == other then None else slot_in self.old.entries other) }
+        ensures room { (self.new.capacity ≡ self.old.capacity) × (self.new.slots ≡ self.old.slots) }
+        ensures length { length self.new.entries + (if is_some result then 1 else 0) ≡ length self.old.entries }
+    {
+        let former = take_out(&mut self.entries, page);
+        clear(&mut self.named, former);
+        former
+    }
+
+    /// A table with the same entries. The only error is want of memory.
+    pub fn copy(&self, alloc: Global) -> Result<Table, AllocError>
+        ensures { IfOk result (λ table. table.entries ≡ self.now.entries) }
+    {
+        let mut entries = Vec::with_capacity(alloc, self.entries.len())?;
+        entries.extend_from_slice(&self.entries)?;
+        let mut named = Vec::with_capacity(alloc, self.named.len())?;
+        named.extend_from_slice(&self.named)?;
+        Ok(Table { entries, named })
+    }
+}
+
+// Makes marks for so many slots, if there are fewer.
+fn reach(named: &mut Vec<bool>, slots: usize) -> Result<(), AllocError>
+    ensures reached { OnOk result (slots ≤ length named.new.items) }
+    ensures same { (slot : ℕ) → slice_index_or named.new.items slot false ≡ slice_index_or named.old.items slot false }
+    ensures no_less { length named.old.items ≤ length named.new.items }
+    ensures succeeds { slots ≤ length named.old.items → IsOk result }
+{
+    if slots > named.len() {
+        named.resize(slots, false)?;
+    }
+    Ok(())
+}
+
+// Marks a slot as named, and the former one as not named.
+fn mark(named: &mut Vec<bool>, former: Option<u32>, slot: usize)
+    requires slot { slot < length named.old.items }
+    requires former { ForSome former (λ s. s < length named.old.items) }
+    ensures marks { named.new.items ≡ marked former slot named.old.items }
+    ensures length { length named.new.items ≡ length named.old.items }
+{
+    clear(named, former);
+    named[slot] = true;
+}
+
+// Marks a slot as not named.
+fn clear(named: &mut Vec<bool>, former: Option<u32>)
+    requires { ForSome former (λ s. s < length named.old.items) }
+    ensures marks { named.new.items ≡ cleared former named.old.items }
+    ensures length { length named.new.items ≡ length named.old.items }
+{
+    if let Some(former) = former {
+        named[former as usize] = false;
+    }
+}
