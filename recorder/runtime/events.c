@@ -1,0 +1,182 @@
+/* Puts events into the ring, in an order that could have happened. */
+#include <errno.h>
+#include <poll.h>
+#include <sys/syscall.h>
+#include <time.h>
+#include <unistd.h>
+
+#include "recorder.h"
+
+__thread struct self self __attribute__((tls_model("initial-exec"))) = {.number = -1};
+struct ring *ring;
+
+void count(enum count what)
+{
+    if (is_recording()) {
+        atomic_fetch_add_explicit(&ring->counts[what], 1, memory_order_relaxed);
+    }
+}
+
+/* A jump out of a signal's handler may have left an event half made. The slot is given up, so that nobody waits for it. */
+void drop_pending(void)
+{
+    if (self.line) {
+        unlock_line(self.line);
+        self.line = NULL;
+    }
+    if (self.pending) {
+        struct event *slot = &ring->events[(self.pending - 1) % RING_EVENTS];
+        slot->kind = KIND_NOTHING;
+        atomic_store_explicit(&slot->published, self.pending, memory_order_release);
+        self.pending = 0;
+    }
+    self.inside = 0;
+}
+
+static bool is_on_own_stack(uintptr_t address)
+{
+    return address >= self.stack_low && address < self.stack_high;
+}
+
+/* Recording is under way in this thread: by a frame below which a signal's handler runs now, or by one that a jump has left.
+ * On the thread's own stack the latter is seen by its place: a frame that still is lies above those that it has called. */
+static bool was_left_by_a_jump(uintptr_t frame)
+{
+    return is_on_own_stack(self.inside) && is_on_own_stack(frame) && frame > self.inside;
+}
+
+/* A thread that was begun by other means than pthread_create has no number. It is counted once. */
+static bool has_number(void)
+{
+    if (self.number == -1) {
+        self.number = -2;
+        count(COUNT_UNKNOWN_THREADS);
+    }
+    return self.number >= 0;
+}
+
+bool begin_event_at(uintptr_t frame)
+{
+    if (!is_recording() || !has_number()) {
+        return false;
+    }
+    if (self.inside) {
+        if (!was_left_by_a_jump(frame)) {
+            return false;
+        }
+        drop_pending();
+    }
+    self.inside = frame;
+    atomic_signal_fence(memory_order_seq_cst);
+    return true;
+}
+
+void end_event(void)
+{
+    atomic_signal_fence(memory_order_seq_cst);
+    self.inside = 0;
+}
+
+/* Sleeps a little. This is a bare call of the system: it is no point where the thread can be cancelled. */
+void nap(void)
+{
+    int error = errno;
+    struct timespec time = {.tv_nsec = 50 * 1000};
+    syscall(SYS_nanosleep, &time, NULL);
+    errno = error;
+}
+
+/* A reader that was killed takes nothing any more, and nobody is to wait for it. */
+static bool reader_has_died(void)
+{
+    int error = errno;
+    int process = (int)syscall(SYS_pidfd_open, atomic_load(&ring->reader), 0);
+    bool has_died = process < 0 && errno == ESRCH;
+    if (process >= 0) {
+        struct pollfd ended = {.fd = process, .events = POLLIN};
+        struct timespec none = {0};
+        has_died = syscall(SYS_ppoll, &ended, 1, &none, NULL, 0) == 1;
+        syscall(SYS_close, process);
+    }
+    errno = error;
+    return has_died;
+}
+
+static bool has_room_for(uint64_t ticket)
+{
+    return ticket - atomic_load_explicit(&ring->taken, memory_order_acquire) < RING_EVENTS;
+}
+
+bool has_room(void)
+{
+    return has_room_for(atomic_load_explicit(&ring->next_ticket, memory_order_relaxed));
+}
+
+/* False where the reader takes no more events. */
+static bool wait_for_room(uint64_t ticket)
+{
+    for (unsigned naps = 0; !has_room_for(ticket); naps++) {
+        if (atomic_load(&ring->closed) || (naps % 1024 == 1023 && reader_has_died())) {
+            stop_recording();
+            return false;
+        }
+        nap();
+    }
+    return true;
+}
+
+static uint64_t publish_event(enum kind kind, int thread, uint64_t value, uint32_t length, int order, uintptr_t code)
+{
+    uint64_t ticket = atomic_fetch_add_explicit(&ring->next_ticket, 1, memory_order_acq_rel);
+    self.pending = ticket + 1;
+    atomic_signal_fence(memory_order_seq_cst);
+    if (!wait_for_room(ticket)) {
+        self.pending = 0;
+        return ticket;
+    }
+    struct event *slot = &ring->events[ticket % RING_EVENTS];
+    slot->value = value;
+    slot->code = code;
+    slot->length = length;
+    slot->thread = (uint16_t)thread;
+    slot->kind = (uint8_t)kind;
+    slot->order = (uint8_t)order;
+    atomic_store_explicit(&slot->published, ticket + 1, memory_order_release);
+    self.pending = 0;
+    return ticket;
+}
+
+uint64_t publish(enum kind kind, int thread, uint64_t value, uint64_t length, uintptr_t code)
+{
+    return publish_event(kind, thread, value, (uint32_t)length, 0, code);
+}
+
+/* What the language of traces has no word for. An acquiring or releasing access moves the epoch on, since a later version of
+ * the language may order threads by it. */
+void publish_atomic(enum kind kind, uintptr_t address, uint64_t length, uint64_t value, int order, uintptr_t code)
+{
+    /* A loop that waits for an atomic loads the same value again and again: once is enough. */
+    bool is_load = kind == KIND_ATOMIC_LOAD;
+    if (is_load && self.latest_load == address && self.latest_value == value) {
+        return;
+    }
+    publish_event(kind, self.number, address, (uint32_t)length, order, code);
+    if (order != memory_order_relaxed) {
+        next_epoch(self.number);
+    }
+    self.latest_load = is_load ? address : 0;
+    self.latest_value = value;
+}
+
+/* A block is one event of the ring, as long as its length can be written there. */
+void publish_block(enum kind kind, int thread, uintptr_t address, size_t length, uintptr_t code)
+{
+    enum { LONGEST = 1 << 30 };
+    while (length) {
+        size_t part = length < LONGEST ? length : LONGEST;
+        publish(kind, thread, address, part, code);
+        forget(address, part);
+        address += part;
+        length -= part;
+    }
+}
