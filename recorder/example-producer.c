@@ -29,12 +29,12 @@ int main(int argc, char **argv)
         perror(argv[1]);
         return EXIT_FAILURE;
     }
+
     for (unsigned clerk = 1; clerk <= CLERKS; clerk++)
         hgd_fork(OWNER, clerk);
     for (unsigned customer = 0; customer < 4; customer++)
         serve(1 + customer % CLERKS);
     for (unsigned clerk = 1; clerk <= CLERKS; clerk++)
         hgd_join(OWNER, clerk);
-    hgd_read(OWNER, (uintptr_t)&till, sizeof till);
     return hgd_trace_close() ? EXIT_FAILURE : EXIT_SUCCESS;
 }

@@ -16,6 +16,7 @@
 #include <stdlib.h>
 #include <string.h>
 #include <sys/mman.h>
+#include <sys/resource.h>
 #include <sys/stat.h>
 #include <sys/syscall.h>
 #include <sys/wait.h>
@@ -48,6 +49,7 @@ static const char HELP[] =
     "      --hgd PATH        the `hgd` of these (default: $HGD, or `hgd` of the path)\n"
     "  -p, --pcs FILE        also writes the code address of each event to FILE, for the script `where`\n"
     "  -n, --no-filter       also writes accesses that cannot change anything\n"
+    "      --unfiltered FILE writes the trace with them to FILE too, of the same run\n"
     "      --no-comments     writes no comments of semaphores, barriers, condition variables and atomics\n"
     "  -l, --limit N         the trace ends after N events\n"
     "  -q, --quiet           tells only what went wrong\n"
@@ -62,6 +64,7 @@ struct options {
     const char *hgd;
     const char *directory, *source;
     const char *pcs;
+    const char *unfiltered;
     bool check, filter, comments, quiet;
     uint64_t limit;
     char **program;
@@ -78,7 +81,7 @@ struct sink {
     char buffer[BUFFER + LONGEST_LINE];
 };
 
-static struct sink trace = {.file = -1}, codes = {.file = -1};
+static struct sink trace = {.file = -1}, codes = {.file = -1}, all_events = {.file = -1};
 static struct ring *ring;
 static pid_t program = -1, detector = -1;
 static int program_status = -1, detector_status;
@@ -231,8 +234,11 @@ static void put_code(uint64_t code)
 
 /* ---- lines ---- */
 
-static void event_is_put(uint64_t code)
+static void event_is_put(const struct sink *sink, uint64_t code)
 {
+    if (sink != &trace) {
+        return;
+    }
     events++;
     if (codes.file >= 0) {
         put_code(code);
@@ -244,40 +250,40 @@ static bool is_at_limit(void)
     return limit && events >= limit;
 }
 
-static char *put_thread(const char *verb, unsigned thread)
+static char *put_thread(struct sink *sink, const char *verb, unsigned thread)
 {
-    return put_decimal(put_word(begin_line(&trace), verb), thread);
+    return put_decimal(put_word(begin_line(sink), verb), thread);
 }
 
 /* `fork 0 1` and its like. */
-static void put_pair(const char *verb, const struct event *event)
+static void put_pair(struct sink *sink, const char *verb, const struct event *event)
 {
-    char *at = put_thread(verb, event->thread);
+    char *at = put_thread(sink, verb, event->thread);
     *at++ = ' ';
-    end_line(&trace, put_decimal(at, event->value));
+    end_line(sink, put_decimal(at, event->value));
 }
 
 /* `write 0 0x1000 4` and its like, in parts of at most 1,024 bytes. */
-static void put_range(const char *verb, const struct event *event)
+static void put_range(struct sink *sink, const char *verb, const struct event *event)
 {
     uint64_t address = event->value, rest = event->length;
     while (rest && !is_at_limit()) {
         uint64_t part = rest < LONGEST_BLOCK ? rest : LONGEST_BLOCK;
-        char *at = put_thread(verb, event->thread);
+        char *at = put_thread(sink, verb, event->thread);
         *at++ = ' ';
         at = put_hexadecimal(at, address);
         *at++ = ' ';
-        end_line(&trace, put_decimal(at, part));
-        event_is_put(event->code);
+        end_line(sink, put_decimal(at, part));
+        event_is_put(sink, event->code);
         address += part;
         rest -= part;
     }
 }
 
-static void put_atomic(const char *verb, const struct event *event)
+static void put_atomic(struct sink *sink, const char *verb, const struct event *event)
 {
     static const char *const orders[] = {"relaxed", "consume", "acquire", "release", "acq_rel", "seq_cst"};
-    char *at = put_thread(verb, event->thread);
+    char *at = put_thread(sink, verb, event->thread);
     if (event->kind != KIND_FENCE) {
         *at++ = ' ';
         at = put_hexadecimal(at, event->value);
@@ -285,8 +291,8 @@ static void put_atomic(const char *verb, const struct event *event)
         at = put_decimal(at, event->length);
     }
     *at++ = ' ';
-    end_line(&trace, put_word(at, orders[event->order < 6 ? event->order : 5]));
-    lines_of_comments++;
+    end_line(sink, put_word(at, orders[event->order < 6 ? event->order : 5]));
+    lines_of_comments += sink == &trace;
 }
 
 static void put_comment(const char *text)
@@ -316,44 +322,58 @@ static void note_numbers(const struct event *event)
     }
 }
 
-static bool put_event(const struct event *event)
+/* An event as a line, or several, of one of the traces. */
+static void put_lines(struct sink *sink, enum kind kind, const struct event *event)
 {
     static const char *const verbs[] = {
-        [KIND_FORK] = "fork ",     [KIND_JOIN] = "join ",     [KIND_LOCK] = "lock ",          [KIND_READ_LOCK] = "rdlock ",
-        [KIND_UNLOCK] = "unlock ", [KIND_READ] = "read ",     [KIND_WRITE] = "write ",        [KIND_ALLOC] = "alloc ",
-        [KIND_FREE] = "free ",     [KIND_SEND] = "#send ",    [KIND_RECEIVE] = "#recv ",      [KIND_ATOMIC_LOAD] = "#load ",
+        [KIND_FORK] = "fork ",     [KIND_JOIN] = "join ",  [KIND_LOCK] = "lock ",     [KIND_READ_LOCK] = "rdlock ",
+        [KIND_UNLOCK] = "unlock ", [KIND_READ] = "read ",  [KIND_WRITE] = "write ",   [KIND_ALLOC] = "alloc ",
+        [KIND_FREE] = "free ",     [KIND_SEND] = "#send ", [KIND_RECEIVE] = "#recv ", [KIND_ATOMIC_LOAD] = "#load ",
         [KIND_FENCE] = "#fence ",  [KIND_ATOMIC_STORE] = "#store ",
     };
-    switch ((enum kind)event->kind) {
+    switch (kind) {
     case KIND_NOTHING:
-        return true;
     case KIND_STOP:
-        return put_stop(event);
+        break;
     case KIND_FORK:
     case KIND_JOIN:
     case KIND_LOCK:
     case KIND_READ_LOCK:
     case KIND_UNLOCK:
-        put_pair(verbs[event->kind], event);
-        note_numbers(event);
-        event_is_put(event->code);
-        return true;
+        put_pair(sink, verbs[kind], event);
+        event_is_put(sink, event->code);
+        break;
     case KIND_READ:
     case KIND_WRITE:
     case KIND_ALLOC:
     case KIND_FREE:
-        put_range(verbs[event->kind], event);
-        return true;
+        put_range(sink, verbs[kind], event);
+        break;
     case KIND_SEND:
     case KIND_RECEIVE:
-        put_pair(verbs[event->kind], event);
-        lines_of_comments++;
-        return true;
+        put_pair(sink, verbs[kind], event);
+        lines_of_comments += sink == &trace;
+        break;
     case KIND_ATOMIC_LOAD:
     case KIND_ATOMIC_STORE:
     case KIND_FENCE:
-        put_atomic(verbs[event->kind], event);
-        return true;
+        put_atomic(sink, verbs[kind], event);
+        break;
+    }
+}
+
+/* False where the trace ends with this event. */
+static bool put_event(const struct event *event)
+{
+    if (event->kind == KIND_STOP) {
+        return put_stop(event);
+    }
+    if (all_events.file >= 0) {
+        put_lines(&all_events, event->kind & ~LEFT_OUT, event);
+    }
+    if (!(event->kind & LEFT_OUT)) {
+        note_numbers(event);
+        put_lines(&trace, event->kind, event);
     }
     return true;
 }
@@ -482,18 +502,32 @@ static void forward(int signal)
 
 /* ---- beginning ---- */
 
-static void make_ring(const struct options *options)
+/* A file in memory. A limit for the sizes of files is none for it, where that can be helped. */
+static int make_shared_file(size_t length)
 {
+    struct rlimit kept, wide;
     int file = memfd_create("hgd-record", MFD_CLOEXEC);
-    if (file < 0 || ftruncate(file, sizeof *ring)) {
+    getrlimit(RLIMIT_FSIZE, &kept);
+    wide = kept;
+    wide.rlim_cur = wide.rlim_max;
+    setrlimit(RLIMIT_FSIZE, &wide);
+    int failed = file < 0 || ftruncate(file, (off_t)length);
+    setrlimit(RLIMIT_FSIZE, &kept);
+    if (failed) {
         fail(STATUS_FAILED, "no memory for the events: %s", strerror(errno));
     }
+    return file;
+}
+
+static void make_ring(const struct options *options)
+{
+    int file = make_shared_file(sizeof *ring);
     ring = mmap(NULL, sizeof *ring, PROT_READ | PROT_WRITE, MAP_SHARED, file, 0);
     if (ring == MAP_FAILED) {
         fail(STATUS_FAILED, "no memory for the events: %s", strerror(errno));
     }
     ring->magic = RING_MAGIC;
-    ring->filter = options->filter;
+    ring->filter = options->unfiltered ? FILTER_MARKS : options->filter ? FILTER_LEAVES_OUT : FILTER_NOTHING;
     ring->comments = options->comments;
     atomic_store(&ring->reader, (int32_t)getpid());
     char name[64];
@@ -529,7 +563,7 @@ static void open_sink(struct sink *sink, const char *name)
 
 static void reset_signals(void)
 {
-    static const int signals[] = {SIGPIPE, SIGINT, SIGQUIT, SIGTERM, SIGHUP};
+    static const int signals[] = {SIGPIPE, SIGXFSZ, SIGINT, SIGQUIT, SIGTERM, SIGHUP};
     for (size_t i = 0; i < sizeof signals / sizeof *signals; i++) {
         signal(signals[i], SIG_DFL);
     }
@@ -539,6 +573,7 @@ static void reset_signals(void)
 static void set_signals(void)
 {
     signal(SIGPIPE, SIG_IGN);
+    signal(SIGXFSZ, SIG_IGN);
     signal(SIGINT, SIG_IGN);
     signal(SIGQUIT, SIG_IGN);
     struct sigaction action = {.sa_handler = forward, .sa_flags = SA_RESTART};
@@ -614,6 +649,9 @@ static void open_outputs(const struct options *options, bool is_output_closed)
     if (options->pcs) {
         open_sink(&codes, options->pcs);
     }
+    if (options->unfiltered) {
+        open_sink(&all_events, options->unfiltered);
+    }
 }
 
 /* ---- what is told at the end ---- */
@@ -660,6 +698,9 @@ static void finish_sinks(void)
     if (codes.file >= 0) {
         flush_sink(&codes);
     }
+    if (all_events.file >= 0) {
+        flush_sink(&all_events);
+    }
     if (trace.file > STDERR_FILENO && close(trace.file)) {
         tell("%s: %s", trace.name, strerror(errno));
         trace.failed = true;
@@ -698,7 +739,7 @@ static uint64_t read_limit(const char *text)
     return number;
 }
 
-enum { OPTION_CHECK = 256, OPTION_FEED, OPTION_HGD, OPTION_NO_COMMENTS };
+enum { OPTION_CHECK = 256, OPTION_FEED, OPTION_HGD, OPTION_NO_COMMENTS, OPTION_UNFILTERED };
 
 static void take_option(struct options *options, int option, int number, char **words)
 {
@@ -737,6 +778,9 @@ static void take_option(struct options *options, int option, int number, char **
     case OPTION_NO_COMMENTS:
         options->comments = false;
         break;
+    case OPTION_UNFILTERED:
+        options->unfiltered = optarg;
+        break;
     default:
         fail(STATUS_FAILED, "hgd-record --help tells the options");
     }
@@ -757,6 +801,7 @@ static struct options read_options(int number, char **words)
         {"feed", required_argument, NULL, OPTION_FEED}, {"hgd", required_argument, NULL, OPTION_HGD},
         {"pcs", required_argument, NULL, 'p'},          {"no-filter", no_argument, NULL, 'n'},
         {"limit", required_argument, NULL, 'l'},        {"no-comments", no_argument, NULL, OPTION_NO_COMMENTS},
+        {"unfiltered", required_argument, NULL, OPTION_UNFILTERED},
         {"quiet", no_argument, NULL, 'q'},              {"help", no_argument, NULL, 'h'},
         {NULL, 0, NULL, 0},
     };

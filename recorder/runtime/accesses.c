@@ -135,21 +135,33 @@ static void access_in_line(bool is_write, uintptr_t address, size_t length, uint
     uint64_t wanted = is_write ? words << 16 : words;
     uintptr_t key = address / LINE_BYTES * LINE_BYTES;
     struct line *line = line_of(address);
-    if (is_known(line, key, stamp, wanted)) {
+    bool marks = ring->filter == FILTER_MARKS;
+    if (!marks && is_known(line, key, stamp, wanted)) {
         ring->left_out[self.number].value++;
         return;
     }
     lock_line(line);
-    publish(kind, self.number, address, length, code);
+    bool is_left_out = marks && is_known(line, key, stamp, wanted);
+    publish(is_left_out ? kind | LEFT_OUT : kind, self.number, address, length, code);
     remember(line, key, stamp, is_write ? words << 16 | words : words);
     unlock_line(line);
 }
 
 /* While there has been one thread alone, all that it touched stands before whatever any thread will do: such a word behaves as
  * one that was never touched. */
-bool is_before_all_threads(void)
+static bool is_before_all_threads(void)
 {
     return lines && !atomic_load_explicit(&has_forked, memory_order_relaxed);
+}
+
+/* Memory that is new from here on, or nobody's any more, while an event has begun. */
+void record_own_block(enum kind kind, uintptr_t address, size_t length, uintptr_t code)
+{
+    if (!is_before_all_threads()) {
+        publish_block(kind, self.number, address, length, code);
+    } else if (ring->filter == FILTER_MARKS) {
+        publish_block(kind | LEFT_OUT, self.number, address, length, code);
+    }
 }
 
 void record_block(enum kind kind, uintptr_t address, size_t length, uintptr_t code)
@@ -157,9 +169,7 @@ void record_block(enum kind kind, uintptr_t address, size_t length, uintptr_t co
     if (!begin_event()) {
         return;
     }
-    if (!is_before_all_threads()) {
-        publish_block(kind, self.number, address, length, code);
-    }
+    record_own_block(kind, address, length, code);
     end_event();
 }
 
@@ -168,6 +178,17 @@ static void note_stack(uintptr_t address)
     if (address >= self.stack_low && address < self.stack_touched) {
         self.stack_touched = address;
         atomic_store_explicit(&threads[self.number].stack_touched, address, memory_order_relaxed);
+    }
+}
+
+static void access_before_all_threads(enum kind kind, uintptr_t address, size_t length, uintptr_t code)
+{
+    ring->left_out[self.number].value++;
+    while (length && ring->filter == FILTER_MARKS) {
+        size_t part = length < LONGEST_ACCESS ? length : LONGEST_ACCESS;
+        publish(kind | LEFT_OUT, self.number, address, part, code);
+        address += part;
+        length -= part;
     }
 }
 
@@ -181,7 +202,7 @@ void record_access(bool is_write, uintptr_t address, size_t length, uintptr_t co
     }
     note_stack(address);
     if (is_before_all_threads()) {
-        ring->left_out[self.number].value++;
+        access_before_all_threads(is_write ? KIND_WRITE : KIND_READ, address, length, code);
         length = 0;
     }
     while (length) {

@@ -96,9 +96,7 @@ CALLED_BY_COMPILER void __tsan_func_exit(void)
         return;
     }
     uintptr_t touched = self.stack_touched - self.stack_touched % WORD;
-    if (!is_before_all_threads()) {
-        publish_block(KIND_FREE, self.number, touched, frame - touched, CALLER);
-    }
+    record_own_block(KIND_FREE, touched, frame - touched, CALLER);
     self.stack_touched = frame;
     end_event();
 }

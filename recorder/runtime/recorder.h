@@ -17,6 +17,8 @@
 #define CALLER ((uintptr_t)__builtin_return_address(0))
 #define LIKELY(truth) __builtin_expect(!!(truth), 1)
 
+#define NO_TICKET_YET UINT64_MAX
+
 enum { MOST_HOLDS = 64, LONGEST_ACCESS = 64, WORD = 4 };
 
 /* A lock that a thread holds, as the trace has it. Another thread may end the hold: it then sets `lock` to null. */
@@ -29,7 +31,7 @@ struct hold {
 
 /* A thread of the program, under its number in the trace. */
 struct thread {
-    _Atomic(pthread_t) handle;
+    _Alignas(CACHE_LINE) _Atomic(pthread_t) handle;
     /* whether `handle` names this thread: it doesn't once the thread was joined, or has ended detached */
     _Atomic bool has_handle;
     _Atomic bool is_detached;
@@ -38,6 +40,8 @@ struct thread {
     _Atomic uintptr_t stack_low, stack_high;
     /* the lowest address of its stack that the thread touched */
     _Atomic uintptr_t stack_touched;
+    /* the ticket and 1 of an event that is not published yet, NO_TICKET_YET while it takes one, or 0 */
+    _Atomic uint64_t pending;
     struct hold holds[MOST_HOLDS];
     _Atomic int holds_used;
 };
@@ -47,8 +51,6 @@ struct self {
     int number;
     /* the frame that is recording now, or 0 */
     uintptr_t inside;
-    /* the ticket and 1 of an event that is not published yet, or 0 */
-    uint64_t pending;
     /* the filter's line that this thread has locked, or null */
     struct line *line;
     uintptr_t stack_low, stack_high, stack_touched;
@@ -77,11 +79,11 @@ void stop_recording(void);
 /* True where the calling thread's events are recorded; then `end_event` follows. */
 bool begin_event_at(uintptr_t frame);
 void end_event(void);
-uint64_t publish(enum kind kind, int thread, uint64_t value, uint64_t length, uintptr_t code);
+void publish(unsigned kind, int thread, uint64_t value, uint64_t length, uintptr_t code);
 void publish_atomic(enum kind kind, uintptr_t address, uint64_t length, uint64_t value, int order, uintptr_t code);
 /* Whether the ring has room now. */
 bool has_room(void);
-void publish_block(enum kind kind, int thread, uintptr_t address, size_t length, uintptr_t code);
+void publish_block(unsigned kind, int thread, uintptr_t address, size_t length, uintptr_t code);
 void count(enum count what);
 void drop_pending(void);
 void nap(void);
@@ -99,7 +101,7 @@ static inline void next_epoch(int thread)
 
 /* ---- accesses.c ---- */
 void make_filter(void);
-bool is_before_all_threads(void);
+void record_own_block(enum kind kind, uintptr_t address, size_t length, uintptr_t code);
 void record_block(enum kind kind, uintptr_t address, size_t length, uintptr_t code);
 void record_access(bool is_write, uintptr_t address, size_t length, uintptr_t code);
 void forget(uintptr_t address, size_t length);

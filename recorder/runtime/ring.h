@@ -43,6 +43,11 @@ enum kind {
     KIND_STOP,
 };
 
+/* Set in the kind of an event that the filter leaves out, where all events were asked for. */
+enum { LEFT_OUT = 0x80 };
+
+enum filter { FILTER_NOTHING, FILTER_LEAVES_OUT, FILTER_MARKS };
+
 enum stop_reason { STOP_THREADS, STOP_LOCKS };
 
 struct event {
@@ -85,6 +90,7 @@ struct lone_counter {
 struct ring {
     uint32_t magic;
     /* what was asked for on the command line of hgd-record */
+    /* an `enum filter` */
     uint8_t filter;
     uint8_t comments;
     /* the process that records; 0 until one has begun */

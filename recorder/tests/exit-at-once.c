@@ -1,0 +1,32 @@
+/* The same for a program that ends by itself, while another thread works on.
+   expect threads 3, locks 1, races counter, status 7 */
+#include <signal.h>
+
+#include "threads.h"
+
+int counter, protected;
+static pthread_mutex_t lock = PTHREAD_MUTEX_INITIALIZER;
+
+static void *work_on(void *ignored)
+{
+    counter++;
+    for (;;) {
+        pthread_mutex_lock(&lock);
+        protected++;
+        pthread_mutex_unlock(&lock);
+    }
+    return ignored;
+}
+
+int main(void)
+{
+    pthread_t threads[2];
+    for (int i = 0; i < 2; i++) {
+        pthread_create(&threads[i], NULL, work_on, NULL);
+    }
+    for (int i = 0; i < 20; i++) {
+        sleep_a_little();
+    }
+    _exit(7);
+    return 0;
+}
