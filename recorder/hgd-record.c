@@ -33,7 +33,6 @@ enum {
     LONGEST_LINE = 128,
     LONGEST_BLOCK = 1024,
     BUFFER = 1 << 16,
-    MOST_MAPS = 1 << 20,
 };
 
 /* How long the next event may be missing while the ring is full: its thread was then stopped in the midst for good. */
@@ -191,45 +190,22 @@ static void end_line(struct sink *sink, char *at)
 
 /* ---- addresses of code ---- */
 
-/* Where the program's code lies. The file for `where` has it beside the addresses: a line `map LOW HIGH OFFSET FILE` for each part. */
-static void put_maps(void)
-{
-    static char known[MOST_MAPS];
-    static size_t used;
-    char path[64], line[8192];
-    snprintf(path, sizeof path, "/proc/%d/maps", (int)atomic_load(&ring->owner));
-    FILE *maps = fopen(path, "r");
-    while (maps && fgets(line, sizeof line, maps)) {
-        uint64_t low, high, offset;
-        char rights[5], file[4096] = "";
-        int fields = sscanf(line, "%" SCNx64 "-%" SCNx64 " %4s %" SCNx64 " %*s %*s %4095[^\n]", &low, &high, rights, &offset, file);
-        size_t length = fields == 5 && file[0] == '/' ? strlen(line) : 0;
-        if (!length || used + length >= sizeof known || memmem(known, used, line, length)) {
-            continue;
-        }
-        memcpy(known + used, line, length);
-        used += length;
-        char *at = begin_line(&codes);
-        flush_sink(&codes);
-        at = codes.buffer;
-        at += snprintf(at, BUFFER, "map %#" PRIx64 " %#" PRIx64 " %#" PRIx64 " %s", low, high, offset, file);
-        end_line(&codes, at);
-    }
-    if (maps) {
-        fclose(maps);
-    }
-}
-
-/* One line for each event. A code that lies in no part seen so far is of a library that was loaded since. */
+/* One line for each event. */
 static void put_code(uint64_t code)
 {
-    static uint64_t seen_low, seen_high;
-    if (code && (code < seen_low || code >= seen_high)) {
-        put_maps();
-        seen_low = code & ~(uint64_t)0xFFFFF;
-        seen_high = seen_low + 0x100000;
-    }
     end_line(&codes, put_hexadecimal(begin_line(&codes), code));
+}
+
+/* Where the files lie of which the code is: `where` needs it. */
+static void put_maps(void)
+{
+    flush_sink(&codes);
+    uint32_t used = atomic_load(&ring->maps_used);
+    for (uint32_t at = 0; at < used; at += BUFFER) {
+        codes.used = used - at < BUFFER ? used - at : BUFFER;
+        memcpy(codes.buffer, ring->maps + at, codes.used);
+        flush_sink(&codes);
+    }
 }
 
 /* ---- lines ---- */
@@ -529,6 +505,7 @@ static void make_ring(const struct options *options)
     ring->magic = RING_MAGIC;
     ring->filter = options->unfiltered ? FILTER_MARKS : options->filter ? FILTER_LEAVES_OUT : FILTER_NOTHING;
     ring->comments = options->comments;
+    ring->wants_codes = options->pcs != NULL;
     atomic_store(&ring->reader, (int32_t)getpid());
     char name[64];
     snprintf(name, sizeof name, "/proc/%d/fd/%d", (int)getpid(), file);
@@ -696,7 +673,7 @@ static void finish_sinks(void)
 {
     flush_sink(&trace);
     if (codes.file >= 0) {
-        flush_sink(&codes);
+        put_maps();
     }
     if (all_events.file >= 0) {
         flush_sink(&all_events);

@@ -15,20 +15,30 @@ enum {
     LINES = 1 << 20,
     LINE_BYTES = 64,
     EPOCH_BITS = 22,
-    LOCKED = 1,
     SPINS_BEFORE_NAP = 256,
-    /* some three seconds: whoever holds a line so long has left it */
-    MOST_NAPS = 50000,
+    /* a second or more: whoever holds a line so long has left it */
+    MOST_NAPS = 10000,
+    ADDRESS_BITS = 48,
 };
 
 struct line {
-    /* the address of the line, and whether a thread has it locked */
+    /* the address of the line, and above it the number and 1 of the thread that has it locked, or 0 */
     _Atomic uintptr_t key;
     /* who knows it: 10 bits of thread and 22 of epoch; then a bit for each word written and one for each word touched */
     _Atomic uint64_t known;
 };
 
 static struct line *lines;
+
+static uintptr_t address_of(const struct line *line, memory_order order)
+{
+    return atomic_load_explicit(&line->key, order) & (((uintptr_t)1 << ADDRESS_BITS) - 1);
+}
+
+static uintptr_t own_lock(void)
+{
+    return (uintptr_t)(self.number + 1) << ADDRESS_BITS;
+}
 
 void make_filter(void)
 {
@@ -76,46 +86,52 @@ static uint64_t words_of(uintptr_t address, size_t length)
 static bool is_known(struct line *line, uintptr_t key, uint64_t stamp, uint64_t wanted)
 {
     /* In this order: whoever takes the line for another address first drops what was known, and then changes the key. */
-    if ((atomic_load_explicit(&line->key, memory_order_acquire) & ~(uintptr_t)LOCKED) != key) {
+    if (address_of(line, memory_order_acquire) != key) {
         return false;
     }
     uint64_t known = atomic_load_explicit(&line->known, memory_order_relaxed);
     return known >> 32 == stamp >> 32 && (known & wanted) == wanted;
 }
 
+static bool try_line(struct line *line)
+{
+    uintptr_t address = address_of(line, memory_order_relaxed);
+    return atomic_compare_exchange_strong_explicit(&line->key, &address, address | own_lock(), memory_order_acquire,
+                                                   memory_order_relaxed);
+}
+
 static void lock_line(struct line *line)
 {
     unsigned spins = 0, naps = 0;
-    uintptr_t key = atomic_load_explicit(&line->key, memory_order_relaxed);
-    while ((key & LOCKED) || !atomic_compare_exchange_weak_explicit(&line->key, &key, key | LOCKED, memory_order_acquire,
-                                                                   memory_order_relaxed)) {
+    /* Told before: should a jump leave it locked, this thread will know. */
+    self.line = line;
+    atomic_signal_fence(memory_order_seq_cst);
+    while (!try_line(line) && naps < MOST_NAPS) {
         if (++spins % SPINS_BEFORE_NAP == 0) {
             nap();
             naps = has_room() ? naps + 1 : 0;
-            if (naps == MOST_NAPS) {
-                break;
-            }
         }
-        key = atomic_load_explicit(&line->key, memory_order_relaxed);
     }
-    self.line = line;
+    if (naps == MOST_NAPS) {
+        atomic_store(&line->key, address_of(line, memory_order_relaxed) | own_lock());
+    }
 }
 
+/* If this thread has it locked. */
 void unlock_line(struct line *line)
 {
-    uintptr_t key = atomic_load_explicit(&line->key, memory_order_relaxed);
-    atomic_store_explicit(&line->key, key & ~(uintptr_t)LOCKED, memory_order_release);
+    uintptr_t address = address_of(line, memory_order_relaxed), key = address | own_lock();
+    atomic_compare_exchange_strong_explicit(&line->key, &key, address, memory_order_release, memory_order_relaxed);
     self.line = NULL;
 }
 
 static void remember(struct line *line, uintptr_t key, uint64_t stamp, uint64_t words)
 {
     uint64_t known = atomic_load_explicit(&line->known, memory_order_relaxed);
-    bool is_ours = (atomic_load_explicit(&line->key, memory_order_relaxed) & ~(uintptr_t)LOCKED) == key &&
-                   known >> 32 == stamp >> 32;
+    bool is_ours = address_of(line, memory_order_relaxed) == key && known >> 32 == stamp >> 32;
     if (!is_ours) {
         atomic_store_explicit(&line->known, 0, memory_order_relaxed);
-        atomic_store_explicit(&line->key, key | LOCKED, memory_order_release);
+        atomic_store_explicit(&line->key, key | own_lock(), memory_order_release);
         known = stamp;
     }
     atomic_store_explicit(&line->known, known | words, memory_order_relaxed);
@@ -195,7 +211,7 @@ static void access_before_all_threads(enum kind kind, uintptr_t address, size_t 
 void record_access(bool is_write, uintptr_t address, size_t length, uintptr_t code)
 {
     if (!begin_event()) {
-        if (self.inside && is_recording()) {
+        if (self.inside && !self.is_own_call && is_recording()) {
             count(COUNT_IN_HANDLERS);
         }
         return;
@@ -224,9 +240,9 @@ void forget(uintptr_t address, size_t length)
     uintptr_t last = address + length - 1;
     for (uintptr_t key = address / LINE_BYTES * LINE_BYTES; key <= last; key += LINE_BYTES) {
         struct line *line = line_of(key);
-        if ((atomic_load_explicit(&line->key, memory_order_relaxed) & ~(uintptr_t)LOCKED) == key) {
+        if (address_of(line, memory_order_relaxed) == key) {
             lock_line(line);
-            if ((atomic_load_explicit(&line->key, memory_order_relaxed) & ~(uintptr_t)LOCKED) == key) {
+            if (address_of(line, memory_order_relaxed) == key) {
                 atomic_store_explicit(&line->known, 0, memory_order_relaxed);
             }
             unlock_line(line);

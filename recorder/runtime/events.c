@@ -184,6 +184,9 @@ void end_event(void)
 
 static void publish_event(unsigned kind, int thread, uint64_t value, uint32_t length, int order, uintptr_t code)
 {
+    if (ring->wants_codes && code && (code < self.code_low || code >= self.code_high)) {
+        note_code(code);
+    }
     set_pending(NO_TICKET_YET);
     uint64_t ticket = atomic_fetch_add_explicit(&ring->next_ticket, 1, memory_order_acq_rel);
     set_pending(ticket + 1);

@@ -51,10 +51,14 @@ struct self {
     int number;
     /* the frame that is recording now, or 0 */
     uintptr_t inside;
+    /* whether it is the runtime itself that calls the C library now, and no handler of a signal */
+    bool is_own_call;
     /* the filter's line that this thread has locked, or null */
     struct line *line;
     uintptr_t stack_low, stack_high, stack_touched;
     uint64_t cycle;
+    /* the segment of the program's code in which the latest event lay */
+    uintptr_t code_low, code_high;
     /* the latest atomic load, so that a loop which waits is written once */
     uintptr_t latest_load;
     uint64_t latest_value;
@@ -121,6 +125,9 @@ void let_all_go(int thread);
 /* How often the thread has taken the lock, and lets it go wholly. */
 uint32_t let_go_wholly(const void *address, uintptr_t code);
 void take_again(const void *address, uint32_t depth, uintptr_t code);
+
+/* ---- code.c ---- */
+void note_code(uintptr_t code);
 
 /* ---- messages.c ---- */
 void make_channels(void);

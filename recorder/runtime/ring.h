@@ -93,6 +93,7 @@ struct ring {
     /* an `enum filter` */
     uint8_t filter;
     uint8_t comments;
+    uint8_t wants_codes;
     /* the process that records; 0 until one has begun */
     _Atomic int32_t owner;
     _Atomic int32_t reader;
@@ -101,6 +102,9 @@ struct ring {
     _Atomic uint64_t counts[COUNTS];
     /* accesses that were left out because they change nothing, by thread */
     struct lone_counter left_out[MOST_THREADS];
+    /* lines `map LOW HIGH OFFSET FILE` of the files whose code had events */
+    _Atomic uint32_t maps_used;
+    char maps[1 << 18];
     _Alignas(CACHE_LINE) _Atomic uint64_t next_ticket;
     _Alignas(CACHE_LINE) _Atomic uint64_t taken;
     _Alignas(CACHE_LINE) struct event events[RING_EVENTS];

@@ -158,7 +158,9 @@ REPLACES int pthread_create(pthread_t *handle, const pthread_attr_t *attributes,
     *start = (struct start){.function = function, .argument = argument, .number = number};
     /* The C library's own memory for the thread is none of the program's. */
     self.inside = (uintptr_t)__builtin_frame_address(0);
+    self.is_own_call = true;
     int error = real(handle, attributes, run_thread, start);
+    self.is_own_call = false;
     self.inside = 0;
     if (error) {
         /* It was forked in the trace, so it is joined there: it did nothing. */

@@ -25,6 +25,7 @@ static void handle(int number)
 static void *work(void *given)
 {
     int *own = &values[(intptr_t)given * 300];
+    pthread_kill(pthread_self(), SIGUSR1);
     while (!is_over) {
         may_jump = 0;
         pthread_mutex_lock(&lock);
