@@ -9,6 +9,10 @@ static _Atomic int is_ready;
 
 static void *take(void *ignored)
 {
+    if (atomic_load_explicit(&is_ready, memory_order_acquire)) {
+        abort();
+    }
+    give_turn(0);
     while (!atomic_load_explicit(&is_ready, memory_order_acquire)) {
     }
     value++;
@@ -18,11 +22,10 @@ static void *take(void *ignored)
 int main(void)
 {
     pthread_t taker;
+    make_turns();
     pthread_create(&taker, NULL, take, NULL);
     value = 1;
-    for (int i = 0; i < 30; i++) {
-        sleep_a_little();
-    }
+    wait_for_turn(0);
     atomic_store_explicit(&is_ready, 1, memory_order_release);
     pthread_join(taker, NULL);
     return 0;

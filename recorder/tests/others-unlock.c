@@ -9,24 +9,23 @@ static void *work(void *number)
 {
     if (!number) {
         pthread_mutex_lock(&lock);
-        for (int i = 0; i < 30; i++) {
-            sleep_a_little();
-        }
+        give_turn(1);
+        wait_for_turn(0);
         late++;
     } else {
-        for (int i = 0; i < 10; i++) {
-            sleep_a_little();
-        }
+        wait_for_turn(1);
         pthread_mutex_unlock(&lock);
         pthread_mutex_lock(&lock);
         late++;
         pthread_mutex_unlock(&lock);
+        give_turn(0);
     }
     return NULL;
 }
 
 int main(void)
 {
+    make_turns();
     run_threads(2, work);
     return 0;
 }

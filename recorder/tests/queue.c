@@ -3,13 +3,14 @@
    expect threads 2, locks 1, races job, comments send recv */
 #include "threads.h"
 
-int job, queued;
+int job, queued, waiting;
 static pthread_mutex_t lock = PTHREAD_MUTEX_INITIALIZER;
 static pthread_cond_t is_queued = PTHREAD_COND_INITIALIZER;
 
 static void *consume(void *ignored)
 {
     pthread_mutex_lock(&lock);
+    waiting = 1;
     while (!queued) {
         pthread_cond_wait(&is_queued, &lock);
     }
@@ -22,12 +23,13 @@ int main(void)
 {
     pthread_t consumer;
     pthread_create(&consumer, NULL, consume, NULL);
-    sleep_a_little();
     job = 7;
-    for (int i = 0; i < 50; i++) {
-        sleep_a_little();
-    }
     pthread_mutex_lock(&lock);
+    while (!waiting) {
+        pthread_mutex_unlock(&lock);
+        sleep_a_little();
+        pthread_mutex_lock(&lock);
+    }
     queued = 1;
     pthread_cond_signal(&is_queued);
     pthread_mutex_unlock(&lock);

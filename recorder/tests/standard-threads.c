@@ -4,7 +4,7 @@
 
 #include "threads.h"
 
-int protected, unprotected, is_ready;
+int protected, unprotected, is_ready, waiting;
 static mtx_t lock;
 static cnd_t ready;
 
@@ -13,6 +13,7 @@ static int work(void *ignored)
     (void)ignored;
     unprotected++;
     mtx_lock(&lock);
+    waiting++;
     while (!is_ready) {
         cnd_wait(&ready, &lock);
     }
@@ -29,10 +30,12 @@ int main(void)
     for (int i = 0; i < 2; i++) {
         thrd_create(&threads[i], work, NULL);
     }
-    for (int i = 0; i < 30; i++) {
-        sleep_a_little();
-    }
     mtx_lock(&lock);
+    while (waiting < 2) {
+        mtx_unlock(&lock);
+        sleep_a_little();
+        mtx_lock(&lock);
+    }
     is_ready = 1;
     cnd_broadcast(&ready);
     mtx_unlock(&lock);

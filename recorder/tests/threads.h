@@ -1,4 +1,4 @@
-/* What most of these programs need: some threads that run one function, and a short sleep. */
+/* What most of these programs need: some threads that run one function, a short sleep, and turns. */
 #ifndef TEST_THREADS_H
 #define TEST_THREADS_H
 
@@ -10,7 +10,7 @@
 #include <time.h>
 #include <unistd.h>
 
-static inline void run_threads(int number, void *(*function)(void *))
+__attribute__((unused)) static void run_threads(int number, void *(*function)(void *))
 {
     pthread_t threads[64];
     for (int i = 0; i < number; i++) {
@@ -28,6 +28,31 @@ static inline void sleep_a_little(void)
 {
     struct timespec time = {.tv_nsec = 2000000};
     nanosleep(&time, NULL);
+}
+
+/* Threads give one another turns through pipes: that orders them in time, and is no event of the trace. */
+__attribute__((unused)) static int turns[2][2];
+
+static inline void make_turns(void)
+{
+    if (pipe(turns[0]) || pipe(turns[1])) {
+        abort();
+    }
+}
+
+static inline void give_turn(int to)
+{
+    if (write(turns[to][1], "", 1) != 1) {
+        abort();
+    }
+}
+
+static inline void wait_for_turn(int of)
+{
+    char byte;
+    if (read(turns[of][0], &byte, 1) != 1) {
+        abort();
+    }
 }
 
 #endif

@@ -5,19 +5,28 @@
 int value;
 static pthread_mutex_t locks[2] = {PTHREAD_MUTEX_INITIALIZER, PTHREAD_MUTEX_INITIALIZER};
 
-static void *change(void *number)
+static void change(int number)
 {
-    for (int i = 0; i < 10; i++) {
-        pthread_mutex_lock(&locks[(intptr_t)number]);
-        value++;
-        pthread_mutex_unlock(&locks[(intptr_t)number]);
-        sleep_a_little();
+    pthread_mutex_lock(&locks[number]);
+    value++;
+    pthread_mutex_unlock(&locks[number]);
+}
+
+static void *take_turns(void *given)
+{
+    int number = (int)(intptr_t)given;
+    for (int i = 0; i < 3; i++) {
+        wait_for_turn(number);
+        change(number);
+        give_turn(1 - number);
     }
     return NULL;
 }
 
 int main(void)
 {
-    run_threads(2, change);
+    make_turns();
+    give_turn(0);
+    run_threads(2, take_turns);
     return 0;
 }
