@@ -35,8 +35,9 @@ enum {
     BUFFER = 1 << 16,
 };
 
-/* How long the next event may be missing while the ring is full: its thread was then stopped in the midst for good. */
-static const double SECONDS_FOR_ONE_EVENT = 10;
+/* How often the next event may be missing, with a nap in between, while the ring is full: some ten seconds, in which this program was run.
+ * The event's thread was then stopped in the midst for good. */
+static const unsigned MOST_LOOKS_FOR_ONE_EVENT = 60000;
 
 static const char HELP[] =
     "Usage: hgd-record [OPTIONS] PROGRAM [ARGUMENT]..\n"
@@ -356,13 +357,6 @@ static bool put_event(const struct event *event)
 
 /* ---- the program and its end ---- */
 
-static double now(void)
-{
-    struct timespec time;
-    clock_gettime(CLOCK_MONOTONIC, &time);
-    return (double)time.tv_sec + (double)time.tv_nsec / 1e9;
-}
-
 static void look_for_end_of_program(void)
 {
     int status;
@@ -413,18 +407,13 @@ static bool take_events(void)
 /* Whether the next event has been missing for long while all others wait for it. */
 static bool is_stuck(void)
 {
-    static uint64_t place = UINT64_MAX;
-    static double since;
+    static uint64_t place;
+    static unsigned looks;
     uint64_t taken = atomic_load(&ring->taken);
-    if (atomic_load(&ring->next_ticket) - taken < RING_EVENTS) {
-        place = UINT64_MAX;
-        return false;
-    }
-    if (taken != place) {
-        place = taken;
-        since = now();
-    }
-    return now() - since > SECONDS_FOR_ONE_EVENT;
+    bool is_full = atomic_load(&ring->next_ticket) - taken >= RING_EVENTS;
+    looks = is_full && taken == place ? looks + 1 : 0;
+    place = taken;
+    return looks > MOST_LOOKS_FOR_ONE_EVENT;
 }
 
 /* Until the program has ended and all that it published is written. */
