@@ -76,6 +76,11 @@ static void set_pending(uint64_t pending)
     atomic_signal_fence(memory_order_seq_cst);
 }
 
+static bool is_published(uint64_t ticket)
+{
+    return ticket < atomic_load(&ring->taken) || atomic_load(&ring->events[ticket % RING_EVENTS].published) == ticket + 1;
+}
+
 static bool is_pending_elsewhere(uint64_t ticket)
 {
     int used = atomic_load(&threads_used);
@@ -92,7 +97,7 @@ static bool find_orphan(uint64_t *ticket)
 {
     uint64_t next = atomic_load(&ring->next_ticket);
     for (*ticket = atomic_load(&ring->taken); *ticket < next; ++*ticket) {
-        if (atomic_load(&ring->events[*ticket % RING_EVENTS].published) != *ticket + 1 && !is_pending_elsewhere(*ticket)) {
+        if (!is_published(*ticket) && !is_pending_elsewhere(*ticket)) {
             return true;
         }
     }
@@ -128,7 +133,7 @@ void drop_pending(void)
     if (pending == NO_TICKET_YET) {
         pending = find_lost_ticket();
     }
-    if (pending && wait_for_room(pending - 1)) {
+    if (pending && !is_published(pending - 1) && wait_for_room(pending - 1)) {
         struct event *slot = &ring->events[(pending - 1) % RING_EVENTS];
         slot->kind = KIND_NOTHING;
         atomic_store_explicit(&slot->published, pending, memory_order_release);
@@ -142,9 +147,8 @@ static bool is_on_own_stack(uintptr_t address)
     return address >= self.stack_low && address < self.stack_high;
 }
 
-/* Recording is under way in this thread: by a frame below which a signal's handler runs now, or by one that a jump has left.
- * On the thread's own stack the latter is seen by its place: a frame that still is lies
- * above those that it has called. */
+/* Recording is under way in this thread: by a frame below which a signal's handler runs now, or by one that a jump has left. On the
+ * thread's own stack the latter is seen by its place: a frame that still is lies above those that it has called. */
 static bool was_left_by_a_jump(uintptr_t frame)
 {
     return is_on_own_stack(self.inside) && is_on_own_stack(frame) && frame >= self.inside;

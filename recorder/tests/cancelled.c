@@ -34,9 +34,7 @@ int main(void)
     for (int i = 0; i < 2; i++) {
         pthread_create(&threads[i], NULL, wait_for_it, (void *)(intptr_t)i);
     }
-    for (int i = 0; i < 10; i++) {
-        sleep_a_little();
-    }
+    sleep_a_little();
     for (int i = 0; i < 2; i++) {
         pthread_cancel(threads[i]);
         pthread_join(threads[i], NULL);

@@ -10,6 +10,7 @@ static pthread_mutex_t lock = PTHREAD_MUTEX_INITIALIZER;
 static void *work_on(void *ignored)
 {
     counter++;
+    give_turn(0);
     for (;;) {
         pthread_mutex_lock(&lock);
         protected++;
@@ -21,11 +22,12 @@ static void *work_on(void *ignored)
 int main(void)
 {
     pthread_t threads[2];
+    make_turns();
     for (int i = 0; i < 2; i++) {
         pthread_create(&threads[i], NULL, work_on, NULL);
     }
-    for (int i = 0; i < 20; i++) {
-        sleep_a_little();
+    for (int i = 0; i < 2; i++) {
+        wait_for_turn(0);
     }
     _exit(7);
     return 0;

@@ -8,16 +8,16 @@ static void *count(void *number)
 {
     counter++;
     if (number) {
-        for (int i = 0; i < 20; i++) {
-            sleep_a_little();
-        }
+        wait_for_turn(1);
         exit(4);
     }
+    give_turn(1);
     return NULL;
 }
 
 int main(void)
 {
+    make_turns();
     for (int i = 0; i < 2; i++) {
         pthread_t thread;
         pthread_create(&thread, NULL, count, (void *)(intptr_t)i);
