@@ -1,4 +1,4 @@
-/* The same for a program that ends by itself, while another thread works on.
+/* A program that ends in the midst, while its threads work on, has all in its trace up to what they were at.
    expect threads 3, locks 1, races counter, status 7 */
 #include <signal.h>
 
@@ -11,6 +11,7 @@ static void *work_on(void *ignored)
 {
     counter++;
     give_turn(0);
+    wait_for_turn(1);
     for (;;) {
         pthread_mutex_lock(&lock);
         protected++;
@@ -26,9 +27,15 @@ int main(void)
     for (int i = 0; i < 2; i++) {
         pthread_create(&threads[i], NULL, work_on, NULL);
     }
+    pthread_mutex_lock(&lock);
+    pthread_mutex_unlock(&lock);
     for (int i = 0; i < 2; i++) {
         wait_for_turn(0);
     }
+    for (int i = 0; i < 2; i++) {
+        give_turn(1);
+    }
+    sleep_a_little();
     _exit(7);
     return 0;
 }
