@@ -6,6 +6,7 @@
 # make test     the gate: proves all crates from nothing, and tries what no proof says
 # make mutants  tries each wrong program that the gate leaves out (tools/mutants)
 # make install  copies the program to PREFIX/bin (PREFIX is /usr/local, DESTDIR goes before it)
+# make recorder builds what records traces of pthread programs, at build/recorder (not proved; needs a C compiler)
 # make bench    speed and memory beside the yardstick (needs rustc)
 # make picture  draws docs/graph-example.svg anew (needs Graphviz)
 
@@ -14,7 +15,7 @@ PREFIX ?= /usr/local
 # What the program is made of; what `rt` made is no source.
 SOURCES := crates.txt $(shell find crates -type d \( -name out -o -name must-fail -o -name mutants \) -prune -o -type f -print)
 
-.PHONY: try run build quick scenarios test mutants install bench picture clean
+.PHONY: try run build quick scenarios test mutants install recorder bench picture clean
 
 try:
 	@echo 'hgd check < examples/unordered-writes.trace, built without its proof:'
@@ -46,6 +47,9 @@ mutants:
 
 install: build/hgd
 	install -D -m 755 build/hgd $(DESTDIR)$(PREFIX)/bin/hgd
+
+recorder:
+	$(MAKE) -C recorder
 
 bench: build/hgd
 	bench/compare

@@ -1,0 +1,814 @@
+/* hgd-record: runs a program that was built with hgd-cc, and writes its trace.
+ *
+ * It takes the program's events from the ring (runtime/ring.h) and makes lines of them: to a file, to standard output, or to a `hgd`
+ * that it starts. The program does nothing with the trace itself, so a full disk or a reader that has gone ends the trace and not
+ * the program.
+ */
+#include <errno.h>
+#include <fcntl.h>
+#include <getopt.h>
+#include <inttypes.h>
+#include <poll.h>
+#include <signal.h>
+#include <stdarg.h>
+#include <stdbool.h>
+#include <stdio.h>
+#include <stdlib.h>
+#include <string.h>
+#include <sys/mman.h>
+#include <sys/resource.h>
+#include <sys/stat.h>
+#include <sys/syscall.h>
+#include <sys/wait.h>
+#include <time.h>
+#include <unistd.h>
+
+#include "runtime/ring.h"
+
+enum {
+    STATUS_FAILED = 125,
+    STATUS_NOT_RUN = 126,
+    STATUS_NOT_FOUND = 127,
+    STATUS_SIGNAL = 128,
+    LONGEST_LINE = 128,
+    LONGEST_BLOCK = 1024,
+    BUFFER = 1 << 16,
+};
+
+/* How often the next event may be missing, with a nap in between, while the ring is full: some ten seconds, in which this program was run.
+ * The event's thread was then stopped in the midst for good. */
+static const unsigned MOST_LOOKS_FOR_ONE_EVENT = 60000;
+
+static const char HELP[] =
+    "Usage: hgd-record [OPTIONS] PROGRAM [ARGUMENT]..\n"
+    "Runs a program that was built with hgd-cc or hgd-c++, and writes a trace of its events for `hgd`.\n"
+    "\n"
+    "  -o, --output FILE     the trace goes to FILE, `-` for standard output (default: PROGRAM's name with .trace)\n"
+    "      --check           the trace goes to `hgd check`, whose lines are printed\n"
+    "      --feed DIR SOURCE the trace goes to `hgd feed DIR SOURCE`\n"
+    "      --hgd PATH        the `hgd` of these (default: $HGD, or `hgd` of the path)\n"
+    "  -p, --pcs FILE        also writes the code address of each event to FILE, for the script `where`\n"
+    "  -n, --no-filter       also writes accesses that cannot change anything\n"
+    "      --unfiltered FILE writes the trace with them to FILE too, of the same run\n"
+    "      --no-comments     writes no comments of semaphores, barriers, condition variables and atomics\n"
+    "  -l, --limit N         the trace ends after N events\n"
+    "  -q, --quiet           tells only what went wrong\n"
+    "  -h, --help            prints this\n"
+    "\n"
+    "Where standard output has the trace or the lines of `hgd`, the program's own goes to standard error.\n"
+    "The status is the program's, or 128 and the signal that ended it; where that is 0, that of `hgd`; 125 where the\n"
+    "trace could not be written, 126 or 127 where the program could not be started.\n";
+
+struct options {
+    const char *output;
+    const char *hgd;
+    const char *directory, *source;
+    const char *pcs;
+    const char *unfiltered;
+    bool check, filter, comments, quiet;
+    uint64_t limit;
+    char **program;
+};
+
+/* A file that takes whole lines only, as far as the file can be cut. */
+struct sink {
+    int file;
+    const char *name;
+    size_t used;
+    /* how many bytes the file has taken */
+    uint64_t written;
+    bool failed;
+    char buffer[BUFFER + LONGEST_LINE];
+};
+
+static struct sink trace = {.file = -1}, codes = {.file = -1}, all_events = {.file = -1};
+static struct ring *ring;
+static pid_t program = -1, detector = -1;
+static int program_status = -1, detector_status;
+static int recorded = -1;
+static uint64_t events, lines_of_comments, limit;
+static int most_thread, locks_seen = -1;
+static bool is_quiet;
+
+__attribute__((format(printf, 1, 2))) static void tell(const char *format, ...)
+{
+    va_list arguments;
+    va_start(arguments, format);
+    fputs("hgd-record: ", stderr);
+    vfprintf(stderr, format, arguments);
+    fputc('\n', stderr);
+    va_end(arguments);
+}
+
+__attribute__((noreturn, format(printf, 2, 3))) static void fail(int status, const char *format, ...)
+{
+    va_list arguments;
+    va_start(arguments, format);
+    fputs("hgd-record: ", stderr);
+    vfprintf(stderr, format, arguments);
+    fputc('\n', stderr);
+    va_end(arguments);
+    exit(status);
+}
+
+/* ---- what is written ---- */
+
+/* Drops what follows the last whole line (or number of 8 bytes). A pipe cannot be cut, and has nobody who reads on. */
+static void cut_to_whole(struct sink *sink, const char *bytes, size_t taken)
+{
+    while (taken && bytes[taken - 1] != '\n') {
+        taken--;
+    }
+    if (lseek(sink->file, 0, SEEK_CUR) >= 0 && ftruncate(sink->file, (off_t)(sink->written + taken)) == 0) {
+        lseek(sink->file, (off_t)(sink->written + taken), SEEK_SET);
+    }
+}
+
+static void flush_sink(struct sink *sink)
+{
+    size_t taken = 0;
+    while (taken < sink->used && !sink->failed) {
+        ssize_t answer = write(sink->file, sink->buffer + taken, sink->used - taken);
+        if (answer > 0) {
+            taken += (size_t)answer;
+        } else if (answer == 0 || errno != EINTR) {
+            sink->failed = true;
+            tell("%s: %s; the trace ends there", sink->name, answer == 0 ? "nothing is taken" : strerror(errno));
+            cut_to_whole(sink, sink->buffer, taken);
+        }
+    }
+    sink->written += taken;
+    sink->used = 0;
+}
+
+static char *put_word(char *at, const char *word)
+{
+    while (*word) {
+        *at++ = *word++;
+    }
+    return at;
+}
+
+static char *put_decimal(char *at, uint64_t number)
+{
+    char digits[20];
+    int used = 0;
+    do {
+        digits[used++] = (char)('0' + number % 10);
+        number /= 10;
+    } while (number);
+    while (used) {
+        *at++ = digits[--used];
+    }
+    return at;
+}
+
+static char *put_hexadecimal(char *at, uint64_t number)
+{
+    int shift = number ? (63 - __builtin_clzll(number)) / 4 * 4 : 0;
+    *at++ = '0';
+    *at++ = 'x';
+    for (; shift >= 0; shift -= 4) {
+        *at++ = "0123456789abcdef"[number >> shift & 15];
+    }
+    return at;
+}
+
+/* Room for one line more. */
+static char *begin_line(struct sink *sink)
+{
+    if (sink->used >= BUFFER) {
+        flush_sink(sink);
+    }
+    return sink->buffer + sink->used;
+}
+
+static void end_line(struct sink *sink, char *at)
+{
+    *at++ = '\n';
+    sink->used = (size_t)(at - sink->buffer);
+}
+
+/* ---- addresses of code ---- */
+
+/* One line for each event. */
+static void put_code(uint64_t code)
+{
+    end_line(&codes, put_hexadecimal(begin_line(&codes), code));
+}
+
+/* Where the files lie of which the code is: `where` needs it. */
+static void put_maps(void)
+{
+    flush_sink(&codes);
+    uint32_t used = atomic_load(&ring->maps_used);
+    for (uint32_t at = 0; at < used; at += BUFFER) {
+        codes.used = used - at < BUFFER ? used - at : BUFFER;
+        memcpy(codes.buffer, ring->maps + at, codes.used);
+        flush_sink(&codes);
+    }
+}
+
+/* ---- lines ---- */
+
+static void event_is_put(const struct sink *sink, uint64_t code)
+{
+    if (sink != &trace) {
+        return;
+    }
+    events++;
+    if (codes.file >= 0) {
+        put_code(code);
+    }
+}
+
+static bool is_at_limit(void)
+{
+    return limit && events >= limit;
+}
+
+static char *put_thread(struct sink *sink, const char *verb, unsigned thread)
+{
+    return put_decimal(put_word(begin_line(sink), verb), thread);
+}
+
+/* `fork 0 1` and its like. */
+static void put_pair(struct sink *sink, const char *verb, const struct event *event)
+{
+    char *at = put_thread(sink, verb, event->thread);
+    *at++ = ' ';
+    end_line(sink, put_decimal(at, event->value));
+}
+
+/* `write 0 0x1000 4` and its like, in parts of at most 1,024 bytes. */
+static void put_range(struct sink *sink, const char *verb, const struct event *event)
+{
+    uint64_t address = event->value, rest = event->length;
+    while (rest && !is_at_limit()) {
+        uint64_t part = rest < LONGEST_BLOCK ? rest : LONGEST_BLOCK;
+        char *at = put_thread(sink, verb, event->thread);
+        *at++ = ' ';
+        at = put_hexadecimal(at, address);
+        *at++ = ' ';
+        end_line(sink, put_decimal(at, part));
+        event_is_put(sink, event->code);
+        address += part;
+        rest -= part;
+    }
+}
+
+static void put_atomic(struct sink *sink, const char *verb, const struct event *event)
+{
+    static const char *const orders[] = {"relaxed", "consume", "acquire", "release", "acq_rel", "seq_cst"};
+    char *at = put_thread(sink, verb, event->thread);
+    if (event->kind != KIND_FENCE) {
+        *at++ = ' ';
+        at = put_hexadecimal(at, event->value);
+        *at++ = ' ';
+        at = put_decimal(at, event->length);
+    }
+    *at++ = ' ';
+    end_line(sink, put_word(at, orders[event->order < 6 ? event->order : 5]));
+    lines_of_comments += sink == &trace;
+}
+
+static void put_comment(const char *text)
+{
+    end_line(&trace, put_word(begin_line(&trace), text));
+    lines_of_comments++;
+}
+
+/* False where the trace ends with this event. */
+static bool put_stop(const struct event *event)
+{
+    bool is_threads = event->value == STOP_THREADS;
+    put_comment(is_threads ? "# the trace ends here: the program begins a thread above 1023"
+                           : "# the trace ends here: the program takes a lock above 65535");
+    tell("the trace ends after %" PRIu64 " events: the program %s", events,
+         is_threads ? "begins more than 1,024 threads" : "takes more than 65,536 locks");
+    return false;
+}
+
+static void note_numbers(const struct event *event)
+{
+    if (event->kind == KIND_FORK && (int)event->value > most_thread) {
+        most_thread = (int)event->value;
+    }
+    if ((event->kind == KIND_LOCK || event->kind == KIND_READ_LOCK) && (int)event->value > locks_seen) {
+        locks_seen = (int)event->value;
+    }
+}
+
+/* An event as a line, or several, of one of the traces. */
+static void put_lines(struct sink *sink, enum kind kind, const struct event *event)
+{
+    static const char *const verbs[] = {
+        [KIND_FORK] = "fork ",     [KIND_JOIN] = "join ",  [KIND_LOCK] = "lock ",     [KIND_READ_LOCK] = "rdlock ",
+        [KIND_UNLOCK] = "unlock ", [KIND_READ] = "read ",  [KIND_WRITE] = "write ",   [KIND_ALLOC] = "alloc ",
+        [KIND_FREE] = "free ",     [KIND_SEND] = "#send ", [KIND_RECEIVE] = "#recv ", [KIND_ATOMIC_LOAD] = "#load ",
+        [KIND_FENCE] = "#fence ",  [KIND_ATOMIC_STORE] = "#store ",
+    };
+    switch (kind) {
+    case KIND_NOTHING:
+    case KIND_STOP:
+        break;
+    case KIND_FORK:
+    case KIND_JOIN:
+    case KIND_LOCK:
+    case KIND_READ_LOCK:
+    case KIND_UNLOCK:
+        put_pair(sink, verbs[kind], event);
+        event_is_put(sink, event->code);
+        break;
+    case KIND_READ:
+    case KIND_WRITE:
+    case KIND_ALLOC:
+    case KIND_FREE:
+        put_range(sink, verbs[kind], event);
+        break;
+    case KIND_SEND:
+    case KIND_RECEIVE:
+        put_pair(sink, verbs[kind], event);
+        lines_of_comments += sink == &trace;
+        break;
+    case KIND_ATOMIC_LOAD:
+    case KIND_ATOMIC_STORE:
+    case KIND_FENCE:
+        put_atomic(sink, verbs[kind], event);
+        break;
+    }
+}
+
+/* False where the trace ends with this event. */
+static bool put_event(const struct event *event)
+{
+    if (event->kind == KIND_STOP) {
+        return put_stop(event);
+    }
+    if (all_events.file >= 0) {
+        put_lines(&all_events, event->kind & ~LEFT_OUT, event);
+    }
+    if (!(event->kind & LEFT_OUT)) {
+        note_numbers(event);
+        put_lines(&trace, event->kind, event);
+    }
+    return true;
+}
+
+/* ---- the program and its end ---- */
+
+static void look_for_end_of_program(void)
+{
+    int status;
+    if (program > 0 && program_status < 0 && waitpid(program, &status, WNOHANG) == program) {
+        program_status = WIFSIGNALED(status) ? STATUS_SIGNAL + WTERMSIG(status) : WEXITSTATUS(status);
+    }
+}
+
+/* The process that is recorded may be one that the program has begun, as a script does, and may outlive it. */
+static bool has_ended(void)
+{
+    look_for_end_of_program();
+    int owner = atomic_load(&ring->owner);
+    if (!owner) {
+        return program_status >= 0;
+    }
+    if (owner == program) {
+        return program_status >= 0;
+    }
+    if (recorded < 0) {
+        recorded = (int)syscall(SYS_pidfd_open, owner, 0);
+    }
+    struct pollfd ended = {.fd = recorded, .events = POLLIN};
+    bool owner_has_ended = recorded < 0 || poll(&ended, 1, 0) == 1;
+    return owner_has_ended && program_status >= 0;
+}
+
+/* Takes what is published in the ring. False where the trace ends there. */
+static bool take_events(void)
+{
+    uint64_t taken = atomic_load_explicit(&ring->taken, memory_order_relaxed);
+    for (;; taken++) {
+        struct event *event = &ring->events[taken % RING_EVENTS];
+        if (atomic_load_explicit(&event->published, memory_order_acquire) != taken + 1) {
+            break;
+        }
+        if (!put_event(event) || trace.failed || is_at_limit()) {
+            return false;
+        }
+        if (taken % 1024 == 0) {
+            atomic_store_explicit(&ring->taken, taken, memory_order_release);
+        }
+    }
+    atomic_store_explicit(&ring->taken, taken, memory_order_release);
+    return true;
+}
+
+/* Whether the next event has been missing for long while all others wait for it. */
+static bool is_stuck(void)
+{
+    static uint64_t place;
+    static unsigned looks;
+    uint64_t taken = atomic_load(&ring->taken);
+    bool is_full = atomic_load(&ring->next_ticket) - taken >= RING_EVENTS;
+    looks = is_full && taken == place ? looks + 1 : 0;
+    place = taken;
+    return looks > MOST_LOOKS_FOR_ONE_EVENT;
+}
+
+/* Until the program has ended and all that it published is written. */
+static void follow_program(void)
+{
+    struct timespec little = {.tv_nsec = 100 * 1000};
+    unsigned idle = 0;
+    for (;;) {
+        uint64_t before = atomic_load(&ring->taken);
+        /* In this order: what it published before it ended is taken after. */
+        bool is_last = has_ended();
+        if (!take_events()) {
+            return;
+        }
+        bool is_idle = atomic_load(&ring->taken) == before;
+        if (is_last && is_idle) {
+            return;
+        }
+        if (is_idle && is_stuck()) {
+            tell("the trace ends after %" PRIu64 " events: a thread was stopped in the midst of one", events);
+            return;
+        }
+        if (is_idle) {
+            if (++idle == 64) {
+                /* Who reads along sees what has happened. */
+                flush_sink(&trace);
+            }
+            nanosleep(&little, NULL);
+        } else {
+            idle = 0;
+        }
+    }
+}
+
+static void wait_for_program(void)
+{
+    struct timespec little = {.tv_nsec = 1000 * 1000};
+    while (!has_ended()) {
+        nanosleep(&little, NULL);
+    }
+}
+
+static void forward(int signal)
+{
+    int kept = errno;
+    if (program > 0) {
+        kill(program, signal);
+    }
+    errno = kept;
+}
+
+/* ---- beginning ---- */
+
+/* A file in memory. A limit for the sizes of files is none for it, where that can be helped. */
+static int make_shared_file(size_t length)
+{
+    struct rlimit kept, wide;
+    int file = memfd_create("hgd-record", MFD_CLOEXEC);
+    getrlimit(RLIMIT_FSIZE, &kept);
+    wide = kept;
+    wide.rlim_cur = wide.rlim_max;
+    setrlimit(RLIMIT_FSIZE, &wide);
+    int failed = file < 0 || ftruncate(file, (off_t)length);
+    setrlimit(RLIMIT_FSIZE, &kept);
+    if (failed) {
+        fail(STATUS_FAILED, "no memory for the events: %s", strerror(errno));
+    }
+    return file;
+}
+
+static void make_ring(const struct options *options)
+{
+    int file = make_shared_file(sizeof *ring);
+    ring = mmap(NULL, sizeof *ring, PROT_READ | PROT_WRITE, MAP_SHARED, file, 0);
+    if (ring == MAP_FAILED) {
+        fail(STATUS_FAILED, "no memory for the events: %s", strerror(errno));
+    }
+    ring->magic = RING_MAGIC;
+    ring->filter = options->unfiltered ? FILTER_MARKS : options->filter ? FILTER_LEAVES_OUT : FILTER_NOTHING;
+    ring->comments = options->comments;
+    ring->wants_codes = options->pcs != NULL;
+    atomic_store(&ring->reader, (int32_t)getpid());
+    char name[64];
+    snprintf(name, sizeof name, "/proc/%d/fd/%d", (int)getpid(), file);
+    setenv(RING_VARIABLE, name, 1);
+}
+
+/* Descriptors 0 to 2 are never given to a file of this program's: what the recorded program prints would go there. */
+static void fill_standard_streams(void)
+{
+    int file = open("/dev/null", O_RDWR);
+    while (file >= 0 && file <= STDERR_FILENO) {
+        file = open("/dev/null", O_RDWR);
+    }
+    if (file > STDERR_FILENO) {
+        close(file);
+    }
+}
+
+static bool is_closed(int file)
+{
+    return fcntl(file, F_GETFD) < 0 && errno == EBADF;
+}
+
+static void open_sink(struct sink *sink, const char *name)
+{
+    sink->name = name;
+    sink->file = open(name, O_WRONLY | O_CREAT | O_TRUNC | O_CLOEXEC, 0666);
+    if (sink->file < 0) {
+        fail(STATUS_FAILED, "%s: %s", name, strerror(errno));
+    }
+}
+
+static void reset_signals(void)
+{
+    static const int signals[] = {SIGPIPE, SIGXFSZ, SIGINT, SIGQUIT, SIGTERM, SIGHUP};
+    for (size_t i = 0; i < sizeof signals / sizeof *signals; i++) {
+        signal(signals[i], SIG_DFL);
+    }
+}
+
+/* The signals of a terminal go to the program too: it decides what becomes of it, and the trace is written to its end. */
+static void set_signals(void)
+{
+    signal(SIGPIPE, SIG_IGN);
+    signal(SIGXFSZ, SIG_IGN);
+    signal(SIGINT, SIG_IGN);
+    signal(SIGQUIT, SIG_IGN);
+    struct sigaction action = {.sa_handler = forward, .sa_flags = SA_RESTART};
+    sigaction(SIGTERM, &action, NULL);
+    sigaction(SIGHUP, &action, NULL);
+}
+
+static void run(const char *what, char *const *words)
+{
+    execvp(what, words);
+    int status = errno == ENOENT ? STATUS_NOT_FOUND : STATUS_NOT_RUN;
+    tell("%s: %s", what, strerror(errno));
+    _exit(status);
+}
+
+static void start_detector(const struct options *options)
+{
+    int ends[2];
+    if (pipe2(ends, O_CLOEXEC)) {
+        fail(STATUS_FAILED, "no pipe: %s", strerror(errno));
+    }
+    detector = fork();
+    if (detector < 0) {
+        fail(STATUS_FAILED, "no process for hgd: %s", strerror(errno));
+    }
+    if (detector == 0) {
+        unsetenv(RING_VARIABLE);
+        dup2(ends[0], STDIN_FILENO);
+        char *check[] = {(char *)options->hgd, "check", NULL};
+        char *feed[] = {(char *)options->hgd, "feed", (char *)options->directory, (char *)options->source, NULL};
+        reset_signals();
+        /* A signal from the terminal is for the program: hgd reads to the end of the trace. */
+        signal(SIGINT, SIG_IGN);
+        signal(SIGQUIT, SIG_IGN);
+        run(options->hgd, options->check ? check : feed);
+    }
+    close(ends[0]);
+    trace.file = ends[1];
+    trace.name = "hgd";
+}
+
+static void start_program(const struct options *options, const bool *closed, bool output_is_taken)
+{
+    program = fork();
+    if (program < 0) {
+        fail(STATUS_FAILED, "no process for the program: %s", strerror(errno));
+    }
+    if (program == 0) {
+        reset_signals();
+        if (output_is_taken) {
+            dup2(STDERR_FILENO, STDOUT_FILENO);
+        }
+        for (int file = 0; file <= STDERR_FILENO; file++) {
+            if (closed[file]) {
+                close(file);
+            }
+        }
+        run(options->program[0], options->program);
+    }
+}
+
+static void open_outputs(const struct options *options, bool is_output_closed)
+{
+    if (options->check || options->directory) {
+        start_detector(options);
+    } else if (strcmp(options->output, "-") == 0) {
+        trace.name = "standard output";
+        trace.file = is_output_closed ? -1 : STDOUT_FILENO;
+        trace.failed = is_output_closed;
+    } else {
+        open_sink(&trace, options->output);
+    }
+    if (options->pcs) {
+        open_sink(&codes, options->pcs);
+    }
+    if (options->unfiltered) {
+        open_sink(&all_events, options->unfiltered);
+    }
+}
+
+/* ---- what is told at the end ---- */
+
+static void tell_counts(void)
+{
+    static const char *const told[COUNTS] = {
+        [COUNT_SEMAPHORES] = "semaphore posts: the trace has them as comments",
+        [COUNT_BARRIERS] = "arrivals at barriers: the trace has them as comments",
+        [COUNT_CONDITIONS] = "signals of condition variables: the trace has those that met a waiting thread as comments",
+        [COUNT_ATOMICS] = "atomic accesses: the trace has them as comments",
+        [COUNT_IN_HANDLERS] = "accesses of signal handlers that interrupted the recorder are not in the trace",
+        [COUNT_OTHERS_UNLOCKS] = "locks were let go by a thread that did not hold them: the trace has the holder let them go",
+        [COUNT_HOLDS_OVER_64] = "holds are not in the trace: the thread held 64 locks already",
+        [COUNT_STALE_HOLDS] = "locks were made anew while they were held: they have new numbers",
+        [COUNT_UNKNOWN_THREADS] = "threads are not in the trace: they were not begun by pthread_create",
+        [COUNT_LARGE_UNMAPS] = "areas above 16 MiB were unmapped: the trace does not free them",
+        [COUNT_FORKED_PROCESSES] = "processes were forked: what they did is not in the trace",
+        [COUNT_OTHER_PROGRAMS] = "other programs built with hgd-cc were started: they were not recorded",
+        [COUNT_LOST_MESSAGES] = "messages are not among the comments: there was no room for them",
+    };
+    for (int i = 0; i < COUNTS; i++) {
+        uint64_t counted = atomic_load(&ring->counts[i]);
+        if (counted) {
+            tell("%" PRIu64 " %s", counted, told[i]);
+        }
+    }
+}
+
+static void tell_end(void)
+{
+    uint64_t left_out = 0;
+    for (int i = 0; i < MOST_THREADS; i++) {
+        left_out += ring->left_out[i].value;
+    }
+    tell("%" PRIu64 " events, %d threads, %d locks; %" PRIu64 " accesses left out, since they change nothing; %" PRIu64 " comments", events,
+         most_thread + 1, locks_seen + 1, left_out, lines_of_comments);
+    tell_counts();
+}
+
+static void finish_sinks(void)
+{
+    flush_sink(&trace);
+    if (codes.file >= 0) {
+        put_maps();
+    }
+    if (all_events.file >= 0) {
+        flush_sink(&all_events);
+    }
+    if (trace.file > STDERR_FILENO && close(trace.file)) {
+        tell("%s: %s", trace.name, strerror(errno));
+        trace.failed = true;
+    }
+}
+
+static void wait_for_detector(void)
+{
+    int status = 0;
+    while (detector > 0 && waitpid(detector, &status, 0) < 0 && errno == EINTR) {
+    }
+    detector_status = WIFSIGNALED(status) ? STATUS_SIGNAL + WTERMSIG(status) : WEXITSTATUS(status);
+}
+
+static int final_status(void)
+{
+    if (!atomic_load(&ring->owner) && program_status == 0) {
+        return STATUS_FAILED;
+    }
+    if (program_status == 0 && detector_status) {
+        return detector_status;
+    }
+    return program_status == 0 && (trace.failed || codes.failed) ? STATUS_FAILED : program_status;
+}
+
+/* ---- the command line ---- */
+
+static uint64_t read_limit(const char *text)
+{
+    char *end;
+    errno = 0;
+    uint64_t number = strtoull(text, &end, 10);
+    if (errno || *end || end == text || *text == '-' || number == 0) {
+        fail(STATUS_FAILED, "a limit is a number above 0, and not `%s`", text);
+    }
+    return number;
+}
+
+enum { OPTION_CHECK = 256, OPTION_FEED, OPTION_HGD, OPTION_NO_COMMENTS, OPTION_UNFILTERED };
+
+static void take_option(struct options *options, int option, int number, char **words)
+{
+    switch (option) {
+    case 'o':
+        options->output = optarg;
+        break;
+    case 'p':
+        options->pcs = optarg;
+        break;
+    case 'n':
+        options->filter = false;
+        break;
+    case 'l':
+        options->limit = read_limit(optarg);
+        break;
+    case 'q':
+        options->quiet = true;
+        break;
+    case 'h':
+        fputs(HELP, stdout);
+        exit(fflush(stdout) ? STATUS_FAILED : 0);
+    case OPTION_CHECK:
+        options->check = true;
+        break;
+    case OPTION_FEED:
+        options->directory = optarg;
+        if (optind >= number) {
+            fail(STATUS_FAILED, "--feed needs a DIR and a SOURCE");
+        }
+        options->source = words[optind++];
+        break;
+    case OPTION_HGD:
+        options->hgd = optarg;
+        break;
+    case OPTION_NO_COMMENTS:
+        options->comments = false;
+        break;
+    case OPTION_UNFILTERED:
+        options->unfiltered = optarg;
+        break;
+    default:
+        fail(STATUS_FAILED, "hgd-record --help tells the options");
+    }
+}
+
+static const char *default_output(const char *name)
+{
+    static char made[4096];
+    const char *last = strrchr(name, '/');
+    snprintf(made, sizeof made, "%s.trace", last ? last + 1 : name);
+    return made;
+}
+
+static struct options read_options(int number, char **words)
+{
+    static const struct option known[] = {
+        {"output", required_argument, NULL, 'o'},       {"check", no_argument, NULL, OPTION_CHECK},
+        {"feed", required_argument, NULL, OPTION_FEED}, {"hgd", required_argument, NULL, OPTION_HGD},
+        {"pcs", required_argument, NULL, 'p'},          {"no-filter", no_argument, NULL, 'n'},
+        {"limit", required_argument, NULL, 'l'},        {"no-comments", no_argument, NULL, OPTION_NO_COMMENTS},
+        {"unfiltered", required_argument, NULL, OPTION_UNFILTERED},
+        {"quiet", no_argument, NULL, 'q'},              {"help", no_argument, NULL, 'h'},
+        {NULL, 0, NULL, 0},
+    };
+    struct options options = {.filter = true, .comments = true, .hgd = getenv("HGD")};
+    int option;
+    while ((option = getopt_long(number, words, "+o:p:nl:qh", known, NULL)) != -1) {
+        take_option(&options, option, number, words);
+    }
+    if (optind >= number) {
+        fail(STATUS_FAILED, "no program is named; hgd-record --help tells more");
+    }
+    if (options.check + (options.directory != NULL) + (options.output != NULL) > 1) {
+        fail(STATUS_FAILED, "one of --output, --check and --feed");
+    }
+    options.program = words + optind;
+    options.hgd = options.hgd && *options.hgd ? options.hgd : "hgd";
+    options.output = options.output ? options.output : default_output(options.program[0]);
+    return options;
+}
+
+int main(int number, char **words)
+{
+    bool closed[] = {is_closed(STDIN_FILENO), is_closed(STDOUT_FILENO), is_closed(STDERR_FILENO)};
+    fill_standard_streams();
+    struct options options = read_options(number, words);
+    limit = options.limit;
+    is_quiet = options.quiet;
+    bool output_is_taken = options.check || options.directory || strcmp(options.output, "-") == 0;
+    set_signals();
+    make_ring(&options);
+    open_outputs(&options, closed[STDOUT_FILENO]);
+    start_program(&options, closed, output_is_taken);
+    follow_program();
+    atomic_store(&ring->closed, 1);
+    finish_sinks();
+    wait_for_program();
+    wait_for_detector();
+    if (!atomic_load(&ring->owner)) {
+        tell("%s: nothing was recorded: no program that was built with hgd-cc has run", options.program[0]);
+    } else if (!is_quiet) {
+        tell_end();
+    }
+    return final_status();
+}

@@ -1,0 +1,106 @@
+/* Memory that is allocated and freed. The C library's own functions do it: they have names that nobody replaces, so that the loader
+ * may call these while it looks up a function, and nothing goes round in a circle. */
+#include <errno.h>
+#include <malloc.h>
+#include <stdlib.h>
+#include <sys/mman.h>
+
+#include "recorder.h"
+
+extern void *__libc_malloc(size_t length);
+extern void *__libc_calloc(size_t count, size_t length);
+extern void *__libc_realloc(void *block, size_t length);
+extern void *__libc_memalign(size_t alignment, size_t length);
+extern void __libc_free(void *block);
+
+/* Larger areas were most likely touched in part only, and would be a line for each 1,024 bytes. */
+static const size_t LARGEST_UNMAP = 16 << 20;
+
+static void *made(void *block, uintptr_t code)
+{
+    if (block && is_recording()) {
+        int kept = errno;
+        record_block(KIND_ALLOC, (uintptr_t)block, malloc_usable_size(block), code);
+        errno = kept;
+    }
+    return block;
+}
+
+/* Before the block is freed: another thread may be given it at once. */
+static void unmade(void *block, uintptr_t code)
+{
+    if (block && is_recording()) {
+        int kept = errno;
+        record_block(KIND_FREE, (uintptr_t)block, malloc_usable_size(block), code);
+        errno = kept;
+    }
+}
+
+REPLACES void *malloc(size_t length)
+{
+    return made(__libc_malloc(length), CALLER);
+}
+
+REPLACES void *calloc(size_t number, size_t length)
+{
+    return made(__libc_calloc(number, length), CALLER);
+}
+
+REPLACES void free(void *block)
+{
+    unmade(block, CALLER);
+    __libc_free(block);
+}
+
+REPLACES void *realloc(void *block, size_t length)
+{
+    unmade(block, CALLER);
+    return made(__libc_realloc(block, length), CALLER);
+}
+
+REPLACES void *reallocarray(void *block, size_t number, size_t length)
+{
+    size_t bytes;
+    if (__builtin_mul_overflow(number, length, &bytes)) {
+        errno = ENOMEM;
+        return NULL;
+    }
+    unmade(block, CALLER);
+    return made(__libc_realloc(block, bytes), CALLER);
+}
+
+REPLACES void *memalign(size_t alignment, size_t length)
+{
+    return made(__libc_memalign(alignment, length), CALLER);
+}
+
+REPLACES void *aligned_alloc(size_t alignment, size_t length)
+{
+    return made(__libc_memalign(alignment, length), CALLER);
+}
+
+REPLACES int posix_memalign(void **block, size_t alignment, size_t length)
+{
+    if (alignment % sizeof(void *) || !alignment || (alignment & (alignment - 1))) {
+        return EINVAL;
+    }
+    int kept = errno;
+    void *got = __libc_memalign(alignment, length);
+    errno = kept;
+    if (!got) {
+        return ENOMEM;
+    }
+    *block = made(got, CALLER);
+    record_access(true, (uintptr_t)block, sizeof *block, CALLER);
+    return 0;
+}
+
+REPLACES int munmap(void *area, size_t length)
+{
+    if (length <= LARGEST_UNMAP) {
+        record_block(KIND_FREE, (uintptr_t)area, length, CALLER);
+    } else {
+        count(COUNT_LARGE_UNMAPS);
+    }
+    return REAL(munmap)(area, length);
+}

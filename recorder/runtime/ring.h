@@ -1,0 +1,113 @@
+/* What a recorded program and hgd-record share: a ring of events in memory that both have mapped.
+ *
+ * Threads of the program take a ticket each for their next event, which is its place in the trace. They fill the slot
+ * of the ticket, and then publish it by its number. hgd-record takes the slots in order and makes lines of them. So no
+ * thread waits for another, nothing is formatted in the program, and a program that is killed loses no event that it
+ * had published.
+ */
+#ifndef HGD_RING_H
+#define HGD_RING_H
+
+#include <stdatomic.h>
+#include <stdint.h>
+
+/* The variable of the environment that names the ring's file. */
+#define RING_VARIABLE "HGD_RECORDER"
+
+enum {
+    RING_EVENTS = 1 << 16,
+    RING_MAGIC = 0x68676431,
+    MOST_THREADS = 1024,
+    MOST_LOCKS = 65536,
+    CACHE_LINE = 64,
+};
+
+enum kind {
+    KIND_NOTHING,
+    KIND_FORK,
+    KIND_JOIN,
+    KIND_LOCK,
+    KIND_READ_LOCK,
+    KIND_UNLOCK,
+    KIND_READ,
+    KIND_WRITE,
+    KIND_ALLOC,
+    KIND_FREE,
+    /* what the language of traces does not have yet, written as comments */
+    KIND_SEND,
+    KIND_RECEIVE,
+    KIND_ATOMIC_LOAD,
+    KIND_ATOMIC_STORE,
+    KIND_FENCE,
+    /* the trace ends here; `value` says why */
+    KIND_STOP,
+};
+
+/* Set in the kind of an event that the filter leaves out, where all events were asked for. */
+enum { LEFT_OUT = 0x80 };
+
+enum filter { FILTER_NOTHING, FILTER_LEAVES_OUT, FILTER_MARKS };
+
+enum stop_reason { STOP_THREADS, STOP_LOCKS };
+
+struct event {
+    /* the ticket and 1, once the other fields are filled */
+    _Atomic uint64_t published;
+    /* an address, a child, a lock, a message or a reason */
+    uint64_t value;
+    /* the address of the code */
+    uint64_t code;
+    uint32_t length;
+    uint16_t thread;
+    uint8_t kind;
+    /* the memory order of an atomic access */
+    uint8_t order;
+};
+
+/* What is counted and told at the end. */
+enum count {
+    COUNT_SEMAPHORES,
+    COUNT_BARRIERS,
+    COUNT_CONDITIONS,
+    COUNT_ATOMICS,
+    COUNT_IN_HANDLERS,
+    COUNT_OTHERS_UNLOCKS,
+    COUNT_HOLDS_OVER_64,
+    COUNT_STALE_HOLDS,
+    COUNT_UNKNOWN_THREADS,
+    COUNT_LARGE_UNMAPS,
+    COUNT_FORKED_PROCESSES,
+    COUNT_OTHER_PROGRAMS,
+    COUNT_LOST_MESSAGES,
+    COUNTS,
+};
+
+/* A counter alone in its cache line, so that threads don't wait for one another's. */
+struct lone_counter {
+    _Alignas(CACHE_LINE) uint64_t value;
+};
+
+struct ring {
+    uint32_t magic;
+    /* what was asked for on the command line of hgd-record */
+    /* an `enum filter` */
+    uint8_t filter;
+    uint8_t comments;
+    uint8_t wants_codes;
+    /* the process that records; 0 until one has begun */
+    _Atomic int32_t owner;
+    _Atomic int32_t reader;
+    /* set by the reader when it takes no more events */
+    _Atomic uint32_t closed;
+    _Atomic uint64_t counts[COUNTS];
+    /* accesses that were left out because they change nothing, by thread */
+    struct lone_counter left_out[MOST_THREADS];
+    /* lines `map LOW HIGH OFFSET FILE` of the files whose code had events */
+    _Atomic uint32_t maps_used;
+    char maps[1 << 18];
+    _Alignas(CACHE_LINE) _Atomic uint64_t next_ticket;
+    _Alignas(CACHE_LINE) _Atomic uint64_t taken;
+    _Alignas(CACHE_LINE) struct event events[RING_EVENTS];
+};
+
+#endif
