@@ -4,3 +4,5 @@
 pub mod desk;
 pub mod locked;
 pub mod share;
+pub mod shared;
+pub mod tasks;

@@ -1,0 +1,140 @@
+//! The lock, and how a shared store is opened and taken in.
+
+ghost use Rattle.std.specs.Prelude.{◌≡◌, ◌+◌, ◌≤◌, ◌⊎◌, ◌≢◌, map, sum, vec_len, All, IfOk, IfErr, IsTrue};
+ghost use Rattle.hg_model.specs.Contents.{Content};
+ghost use Rattle.hg_detect.specs.Memory.{content_of};
+ghost use Rattle.hg_store.specs.Images.{HasContent, Image, IsLeft};
+ghost use Rattle.hg_model.specs.ThreadSets.{HasThreadSets};
+ghost use Rattle.hg_store.specs.Store.{Backs};
+ghost use Rattle.hg_desk.specs.Told.{nothing_told};
+
+use crate::locked::Core;
+use crate::share::{Column, Share};
+use crate::tasks::Task;
+use hg_disk::Disk;
+use hg_store::store::Store;
+use std::alloc::Global;
+use std::sync::ledger::Blank;
+use std::sync::{Mutex, Wait};
+
+/// A store that threads share.
+#[derive(Drop)]
+pub struct Shared<D: Disk, A: Column, B: Column> {
+    core: Mutex<Core<D, A, B>>,
+}
+
+/// What the shares were told, and what the books have.
+#[derive(Clone, Copy, Debug, PartialEq, Eq, Drop)]
+pub struct Tally {
+    pub accepted_told: u128,
+    pub accepted_book: u128,
+    pub durable_told: u128,
+    pub durable_book: u128,
+}
+
+impl<D: Disk, A: Column, B: Column> Shared<D, A, B> {
+    /// Takes the lock, and runs the task once.
+    pub fn hold<T: Task<D, A, B>>(&self, rt: &impl Wait, share: &mut Share<A, B>, task: T) -> T::Out
+        ensures { T.promise task share.old share.new result }
+    {
+        let mut core = self.core.lock(rt);
+        task.run(&mut *core, share)
+    }
+
+    /// Opens the lock over a store, with a share for each part of the two blanks. Where memory is refused, all is handed back.
+    pub fn new(
+        alloc: Global,
+        store: Store<D>,
+        accepted: Blank,
+        durable: Blank,
+        shares: usize,
+    ) -> Result<(Self, Vec<Share<A, B>>), (Store<D>, Blank, Blank)>
+        requires accepted { (accepted.name ≡ A.name) × (accepted.parts ≡ A.parts) × (accepted.parts ≡ shares) }
+        requires durable { (durable.name ≡ B.name) × (durable.parts ≡ B.parts) × (durable.parts ≡ shares) }
+        requires opening { ((content_of store.detector).events ≡ A.opening) × (store.durable ≡ B.opening) }
+        requires backs { IsTrue D.is_honest → (d : Content) × Backs ⟦<D as Disk>⟧ store d }
+        requires small { HasThreadSets (content_of store.detector) }
+        ensures shares { IfOk result (λ r. (vec_len r.1 ≡ shares) × All (λ s. s ≡ nothing_told) r.1.items) }
+        ensures err { IfErr result (λ e. (e.0 ≡ store) × (e.1 ≡ accepted) × (e.2 ≡ durable)) }
+    {
+        let (core, all) = Core::open(alloc, store, accepted, durable, shares)?;
+        Ok((
+            Shared {
+                core: Mutex::new(core),
+            },
+            all,
+        ))
+    }
+}
+
+/// What the shares were told, in all.
+fn told<A: Column, B: Column>(shares: &[Share<A, B>]) -> (u128, u128)
+    ensures accepted { result.0 ≡ sum (map (λ s. s.accepted) shares.now) }
+    ensures durable { result.1 ≡ sum (map (λ s. s.durable) shares.now) }
+{
+    let mut accepted: u128 = 0;
+    let mut durable: u128 = 0;
+    for share in shares {
+        accepted += u128::from(share.accepted());
+        durable += u128::from(share.durable());
+    }
+    (accepted, durable)
+}
+
+impl<D: Disk, A: Column, B: Column> Core<D, A, B> {
+    /// What the shares were told, and what the books have.
+    fn tally(&self, shares: &[Share<A, B>]) -> Tally
+        ensures accepted_told { result.accepted_told ≡ sum (map (λ s. s.accepted) shares.now) }
+        ensures durable_told { result.durable_told ≡ sum (map (λ s. s.durable) shares.now) }
+        ensures accepted_book { (content_of self.now.detector).events ≡ A.opening + result.accepted_book }
+        ensures durable_book { self.now.durable ≡ B.opening + result.durable_book }
+    {
+        let (accepted_told, durable_told) = told(shares);
+        Tally {
+            accepted_told,
+            accepted_book: u128::from(self.accepted_count),
+            durable_told,
+            durable_book: u128::from(self.durable_count),
+        }
+    }
+
+    fn into_store(self) -> Store<D>
+        ensures store { result ≡ self }
+        ensures backs { IsTrue D.is_honest → (d : Content) × Backs ⟦<D as Disk>⟧ result d }
+    {
+        let Core {
+            store,
+            accepted: _,
+            durable: _,
+            accepted_count: _,
+            durable_count: _,
+        } = self;
+        store
+    }
+}
+
+/// Takes the workers in. An `Err` comes only where what they were told and the books differ, and hands all back.
+pub fn gather<D: Disk, A: Column, B: Column>(
+    shares: Vec<Share<A, B>>,
+    shared: Shared<D, A, B>,
+) -> Result<Store<D>, (Vec<Share<A, B>>, Shared<D, A, B>, Tally)>
+    ensures events { IfOk result (λ store. (content_of store.detector).events ≡ A.opening + sum (map (λ s. s.accepted) shares.items)) }
+    ensures durable { IfOk result (λ store. store.durable ≡ B.opening + sum (map (λ s. s.durable) shares.items)) }
+    ensures backs { IfOk result (λ store. IsTrue D.is_honest → (d : Content) × Backs ⟦<D as Disk>⟧ store d) }
+    ensures images { IfOk result (λ store. IsTrue D.is_honest → (image : Image) → IsLeft ⟦<D as Disk>⟧ store.devices image
+        → (k : Content) × HasContent image k × (B.opening + sum (map (λ s. s.durable) shares.items) ≤ k.events)) }
+    ensures err { IfErr result (λ e. (e.0.items ≡ shares.items)
+        × (e.2.accepted_told ≡ sum (map (λ s. s.accepted) shares.items)) × (e.2.durable_told ≡ sum (map (λ s. s.durable) shares.items))
+        × ((e.2.accepted_told ≢ e.2.accepted_book) ⊎ (e.2.durable_told ≢ e.2.durable_book))) }
+{
+    let Shared { core } = shared;
+    let core = core.into_inner();
+    let tally = core.tally(shares.as_slice());
+    if tally.accepted_told != tally.accepted_book || tally.durable_told != tally.durable_book {
+        let shared = Shared {
+            core: Mutex::new(core),
+        };
+        return Err((shares, shared, tally));
+    }
+    Ok(core.into_store())
+}

@@ -1,0 +1,73 @@
+//! What is run under the lock.
+
+ghost use Rattle.std.specs.Prelude.{◌≡◌, ◌+◌, ◌≤◌};
+ghost use Rattle.hg_frames.specs.Spelling.{FitsFrames};
+ghost use Rattle.hg_desk.specs.Conversation.{Answers, accepted_by};
+ghost use Rattle.hg_desk.specs.Told.{Told, StepKept, StepTold};
+
+use crate::desk::Desk;
+use crate::locked::Core;
+use crate::share::{Column, Share};
+use hg_disk::Disk;
+use hg_frames::frame::Frame;
+use hg_frames::reply::Reply;
+use hg_store::steps::{Step, StepResult};
+use std::alloc::Global;
+
+/// What may be run under the lock.
+pub trait Task<D: Disk, A: Column, B: Column> {
+    /// What it answers.
+    type Out;
+
+    /// What the task promises of itself, the share before and after, and its answer.
+    ghost promise: { Self → Told → Told → Self.Out → Type 0 };
+
+    /// Runs once, on the value behind the lock.
+    fn run(self, core: &mut Core<D, A, B>, share: &mut Share<A, B>) -> Self::Out
+        ensures { promise self share.old share.new result };
+}
+
+/// One step.
+#[derive(Drop)]
+pub struct StepTask(pub Step);
+
+impl<D: Disk, A: Column, B: Column> Task<D, A, B> for StepTask {
+    type Out = StepResult;
+
+    ghost promise = { λ t old new res. StepTold old new res };
+
+    fn run(self, core: &mut Core<D, A, B>, share: &mut Share<A, B>) -> StepResult
+        ensures promise { StepTold share.old share.new result }
+        ensures step { StepKept ⟦<D as Disk>⟧ core.old core.new share.old share.new self.0 result }
+    {
+        core.step(share, &self.0)
+    }
+}
+
+/// One frame of a conversation.
+#[derive(Drop)]
+pub struct AskTask {
+    pub alloc: Global,
+    pub desk: Desk,
+    pub frame: Frame,
+}
+
+impl<D: Disk, A: Column, B: Column> Task<D, A, B> for AskTask {
+    type Out = (Desk, Reply);
+
+    ghost promise = { λ t old new res. (new.accepted ≡ old.accepted + accepted_by res.1) × (old.durable ≤ new.durable) × FitsFrames res.1 };
+
+    fn run(self, core: &mut Core<D, A, B>, share: &mut Share<A, B>) -> (Desk, Reply)
+        ensures promise { (share.new.accepted ≡ share.old.accepted + accepted_by result.1) × (share.old.durable ≤ share.new.durable) × FitsFrames result.1 }
+        ensures answer { Answers ⟦<D as Disk>⟧ self.desk core.old core.new share.old share.new self.frame result.0 result.1 }
+        ensures fits { FitsFrames result.1 }
+    {
+        let AskTask {
+            alloc,
+            mut desk,
+            frame,
+        } = self;
+        let reply = desk.answer(alloc, core, share, &frame);
+        (desk, reply)
+    }
+}
