@@ -16,7 +16,7 @@ use hg_disk::{Disk, MemDisk};
 use hg_frames::feed::{Fed, Feed, FeedRefusal};
 use hg_frames::frame::Frame;
 use hg_frames::put::put_reply;
-use hg_frames::reply::Reply;
+use hg_frames::reply::{Reply, ReplyFeed};
 use hg_store::devices::{Caps, Devices};
 use hg_store::store::Store;
 use std::alloc::Global;
@@ -29,7 +29,7 @@ pub struct World<A: Column, B: Column> {
     pub share: Share<A, B>,
     pub desk: Desk,
     pub frames: Feed<Frame>,
-    pub replies: Feed<Reply>,
+    pub replies: ReplyFeed,
     pub answered: Vec<u8>,
 }
 

@@ -5,6 +5,7 @@ ghost use Rattle.std.specs.List.{list_all};
 ghost use Rattle.hg_frames.specs.declared.reply.Reply.{Reply as ReplyOf};
 ghost use Rattle.hg_frames.specs.Replies.{IsLine, NumberIs, ReplyIs, ShortIs, is_line_byte, refused_text};
 
+use crate::feed::Feed;
 use crate::frame::number_of;
 use crate::lines::ReportLines;
 use crate::message::Message;
@@ -85,6 +86,9 @@ pub enum Reply {
     /// To a Bye. It has no bytes.
     Nothing,
 }
+
+/// Reads the replies of a stream.
+pub type ReplyFeed = Feed<Reply>;
 
 /// The number that the bytes are.
 fn read_number(bytes: &[u8]) -> Option<u64>
