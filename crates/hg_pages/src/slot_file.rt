@@ -1,5 +1,5 @@
 //! A file of slots, each of which has one page.
-ghost use Rattle.std.specs.Prelude.{◌≡◌, ◌≢◌, ◌+◌, ◌*◌, ◌<◌, ◌≤◌, ◌↔◌, ◌^◌, ℕ, List, ◌∷◌, length, false, IsTrue, OnOk, OnErr, IsErrOf, Err, IfOk, IfErr, MatchOption, map};
+ghost use Rattle.std.specs.Prelude.{◌≡◌, ◌≢◌, ◌+◌, ◌*◌, ◌<◌, ◌≤◌, ◌↔◌, ◌^◌, ℕ, List, ◌∷◌, length, max, false, IsTrue, OnOk, OnErr, IsErrOf, Err, IfOk, IfErr, MatchOption, map};
 ghost use Rattle.hg_disk.specs.State.{IsImage, after_sync, counted};
 ghost use Rattle.hg_disk.specs.Moments.{Leaves, LeavesOnly};
 ghost use Rattle.hg_disk.specs.Calls.{CallsAtMost};
@@ -127,6 +127,9 @@ impl<D: Disk> SlotFile<D> {
     pub fn write(&mut self, slot: u32, page: &EncodedPage) -> Result<(), SlotFault>
         ensures written { OnOk result (HasBytes slot page.now.bytes (known ⟦<D as Disk>⟧ self.new)) }
         ensures others { (other : ℕ) (bytes : List ℕ) → other ≢ slot → HasBytes other bytes (known ⟦<D as Disk>⟧ self.old) → OnOk result (HasBytes other bytes (known ⟦<D as Disk>⟧ self.new)) }
+
+        // The file ends where it ended, or where the slot does.
+        ensures length { OnOk result (length (known ⟦<D as Disk>⟧ self.new) ≡ max (length (known ⟦<D as Disk>⟧ self.old)) (3080 * slot + 3080)) }
 
         // What a read gives after a failure is left open; what is known is what it gave before.
         ensures lost { OnErr result (known ⟦<D as Disk>⟧ self.new ≡ known ⟦<D as Disk>⟧ self.old) }
