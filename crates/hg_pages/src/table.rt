@@ -66,9 +66,10 @@ impl Table {
         Ok(Table { entries, named })
     }
 
-    /// Its entries.
+    /// Its pages, which rise, each with its slot. It takes no memory.
     pub fn into_entries(self) -> Vec<(u64, u32)>
-        ensures { result.items ≡ self.entries }
+        ensures value { result.items ≡ self.entries }
+        ensures entries { AreEntries self.entries }
     {
         let Table { entries, named } = self;
         drop(named);

@@ -239,6 +239,8 @@ fn a_table_names_slots(rt: HostRuntime) -> Result<(), Fail> {
     let mut copy = table.copy(rt.alloc())?;
     assert!(rt; copy.remove(1 << 53) == Some(1) && copy.remove(7) == None);
     assert!(rt; copy.names(0) && !copy.names(1) && !copy.names(2) && copy.names(5));
+    let again = Table::from_entries(rt.alloc(), copy.copy(rt.alloc())?.into_entries())?;
+    assert!(rt; again.get(9) == Some(5) && again.names(0) && !again.names(1));
     let file = SlotFile::attach(MemDisk::new(rt.alloc()));
     assert!(rt; file.free_slot(&[]) == Some(0));
     assert!(rt; file.free_slot(&[&copy]) == Some(1));
