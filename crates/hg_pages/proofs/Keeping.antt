@@ -1,6 +1,6 @@
 -- What each image of a file of slots has in a slot, and what a write elsewhere leaves of it.
-use Rattle.std.proofs.Common.{if◌then◌else◌, ◌≡◌, ◌≢◌, ◌⊎◌, ⊎_elim, ◌≤◌, ◌+◌, ◌*◌, ℕ, Bool, true, false, Result, Ok, OnOk, OnErr, List, ◌∷◌, ◌++◌, length, take, sym, ◌∙◌, ap, subst, arith, length-drop, take-append-drop, drop}
-use Rattle.std.proofs.lemmas.List.{length-take-le}
+use Rattle.std.proofs.Common.{if◌then◌else◌, ◌≡◌, ◌≢◌, ◌⊎◌, ⊎_elim, ◌≤◌, ◌+◌, ◌*◌, ℕ, max, Bool, true, false, Result, Ok, OnOk, OnErr, List, ◌∷◌, ◌++◌, length, take, refl, sym, ◌∙◌, ap, subst, arith, length-drop, take-append-drop, drop}
+use Rattle.std.proofs.lemmas.List.{length-take-le, places}
 use Rattle.hg_disk.specs.declared.disk.Disk as disk
 use Rattle.hg_disk.specs.State.{DiskState, IsImage, SameImages, overwritten, after_write}
 use Rattle.hg_disk.specs.Laws.{Holds}
@@ -42,6 +42,14 @@ module _ {D : Type 0} (g : disk.Ghosts D) (has_its_bytes : (d : D) → IsImage (
       let other_size = (leaves (g.state old).contents (has_its_bytes old)).0 in
       weaker g old new (IsImage (after_write at written (g.state old))) (HasBytes other bytes) (write_leaves g old new at written result ok err clock)
       (λ image left. (other_size, left_elsewhere (g.state old) slot other at written bytes (has_its_bytes old) here size other_size apart (λ image is. (leaves image is).1) image left))
+
+-- how long the file is then
+pub length_written : (file : List ℕ) (slot at : ℕ) (written : List ℕ) → at ≡ 3080 * slot → length written ≡ 3080 → length (overwritten file at written) ≡ max (length file) (3080 * slot + 3080)
+length_written file slot at written here size = grind (arith, places)
+
+pub known_now : (broken : Bool) (before now : List ℕ) → broken ≡ false → (if broken then before else now) ≡ now
+known_now true before now works = absurd (cc works)
+known_now false before now works = refl
 
 -- what a read of a slot gives
 pub read_slot : (file : List ℕ) (slot at : ℕ) (bytes : List ℕ) → at ≡ 3080 * slot → 3080 * slot + 3080 ≤ length file → bytes ≡ take 3080 (drop at file) → HasBytes slot bytes file

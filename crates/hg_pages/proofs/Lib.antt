@@ -6,3 +6,4 @@ pub mod Parting
 pub mod Keeping
 pub mod OneReading
 pub mod Searching
+pub mod Places

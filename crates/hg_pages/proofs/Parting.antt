@@ -2,8 +2,8 @@
 use Rattle.std.proofs.Common.{if◌then◌else◌, ◌≡◌, ◌≢◌, ◌<◌, ◌≤◌, ◌+◌, ◌==◌, ◌||◌, ℕ, zero, suc, Bool, true, false, List, [], ◌∷◌, ◌++◌, length, take, drop, set, get_or, Option, Some, None, refl, sym, ◌∙◌, ap, subst, arith, rules, add-one, drop-cons, length-append, take-append-drop, is_some}
 use Rattle.std.specs.List.{AllByRecursion, insert, remove}
 use Rattle.std.proofs.lemmas.List.{get_or_past, get_or-set_other, get_or-set_same, set_split}
-use Rattle.hg_pages.specs.Marks.{AreMarks, BelongsAt, Parts, Puts, StandsAt, cleared, entry_of, marked}
-use Rattle.hg_pages.specs.Tables.{AreEntries, AreSlotsDistinct, is_named, slot_in}
+use Rattle.hg_pages.specs.Marks.{AreMarks, AreSlotsDistinct, BelongsAt, IsInOrder, Parts, Puts, StandsAt, cleared, entry_of, is_named, marked}
+use Rattle.hg_pages.specs.Tables.{slot_in}
 use Rattle.hg_pages.proofs.Rising.{distinct_with, distinct_without, named_by, named_with, none_around, page_of, rising_with, rising_without, slot_with}
 
 pub parts_standing : (page slot place : ℕ) (es : List (ℕ × ℕ)) (d : ℕ × ℕ) → StandsAt page es place → (get_or es place d).1 ≡ slot → Parts page (Some slot) es
@@ -84,16 +84,16 @@ look_put page former slot old new puts other =
     (ap (λ (l : List (ℕ × ℕ)). slot_in l other) parts.whole ∙ look_entry page former parts.before parts.behind other parts.below parts.above)
 
 -- what is left without the page
-without : (page : ℕ) (former : Option ℕ) (before behind : List (ℕ × ℕ)) → AreEntries (before ++ (entry_of page former ++ behind)) → AreEntries (before ++ behind)
+without : (page : ℕ) (former : Option ℕ) (before behind : List (ℕ × ℕ)) → IsInOrder (before ++ (entry_of page former ++ behind)) → IsInOrder (before ++ behind)
 without page None before behind are = are
 without page (Some slot) before behind are =
     record { rising = rising_without before (page, slot) behind are.rising; distinct = (distinct_without (page, slot) before behind are.distinct).0 }
 
-pub rest_of : (page : ℕ) (former : Option ℕ) (es : List (ℕ × ℕ)) (parts : Parts page former es) → AreEntries es → AreEntries (parts.before ++ parts.behind)
-rest_of page former es parts are = without page former parts.before parts.behind (subst (λ (l : List (ℕ × ℕ)). AreEntries l) parts.whole are)
+pub rest_of : (page : ℕ) (former : Option ℕ) (es : List (ℕ × ℕ)) (parts : Parts page former es) → IsInOrder es → IsInOrder (parts.before ++ parts.behind)
+rest_of page former es parts are = without page former parts.before parts.behind (subst (λ (l : List (ℕ × ℕ)). IsInOrder l) parts.whole are)
 
 -- a slot in which no other page lies
-not_true : (b : Bool) → (b ≡ true → ⊥) → b ≡ false
+pub not_true : (b : Bool) → (b ≡ true → ⊥) → b ≡ false
 not_true true h = absurd (h refl)
 not_true false h = refl
 
@@ -103,7 +103,7 @@ other_page page p slot former es parts free found true test = sym (equal page p 
 other_page page p slot former es parts free found false test =
     free p (ap (λ (l : List (ℕ × ℕ)). slot_in l p) parts.whole ∙ look_entry page former parts.before parts.behind p parts.below parts.above ∙ if_elsewhere (page == p) former (slot_in (parts.before ++ parts.behind) p) test ∙ found)
 
-pub slot_free : (page slot : ℕ) (former : Option ℕ) (es : List (ℕ × ℕ)) (parts : Parts page former es) → AreEntries es → ((other : ℕ) → slot_in es other ≡ Some slot → other ≡ page)
+pub slot_free : (page slot : ℕ) (former : Option ℕ) (es : List (ℕ × ℕ)) (parts : Parts page former es) → IsInOrder es → ((other : ℕ) → slot_in es other ≡ Some slot → other ≡ page)
     → is_named (parts.before ++ parts.behind) slot ≡ false
 slot_free page slot former es parts are free =
     let rest = parts.before ++ parts.behind in
@@ -112,17 +112,17 @@ slot_free page slot former es parts are free =
     let same : found.0 ≡ page = other_page page found.0 slot former es parts free found.1 (page == found.0) refl in
     absurd (cc (sym found.1 ∙ ap (λ (n : ℕ). slot_in rest n) same ∙ none_around page parts.before parts.behind parts.below parts.above)))
 
-pub entries_put : (page slot : ℕ) (former : Option ℕ) (old new : List (ℕ × ℕ)) → Puts page former (Some slot) old new → AreEntries old → ((other : ℕ) → slot_in old other ≡ Some slot → other ≡ page) → AreEntries new
+pub entries_put : (page slot : ℕ) (former : Option ℕ) (old new : List (ℕ × ℕ)) → Puts page former (Some slot) old new → IsInOrder old → ((other : ℕ) → slot_in old other ≡ Some slot → other ≡ page) → IsInOrder new
 entries_put page slot former old new puts are free =
     let parts = puts.parts in
     let rest = rest_of page former old parts are in
-    subst (λ (l : List (ℕ × ℕ)). AreEntries l) (sym puts.whole) (record {
+    subst (λ (l : List (ℕ × ℕ)). IsInOrder l) (sym puts.whole) (record {
       rising = rising_with parts.before (page, slot) parts.behind rest.rising parts.below parts.above;
       distinct = distinct_with (page, slot) parts.before parts.behind rest.distinct (slot_free page slot former old parts are free);
     })
 
-pub entries_taken : (page : ℕ) (former : Option ℕ) (old new : List (ℕ × ℕ)) → Puts page former None old new → AreEntries old → AreEntries new
-entries_taken page former old new puts are = subst (λ (l : List (ℕ × ℕ)). AreEntries l) (sym puts.whole) (rest_of page former old puts.parts are)
+pub entries_taken : (page : ℕ) (former : Option ℕ) (old new : List (ℕ × ℕ)) → Puts page former None old new → IsInOrder old → IsInOrder new
+entries_taken page former old new puts are = subst (λ (l : List (ℕ × ℕ)). IsInOrder l) (sym puts.whole) (rest_of page former old puts.parts are)
 
 -- marks
 past : (marks : List Bool) (slot : ℕ) → length marks ≤ slot → get_or marks slot false ≡ false
@@ -149,19 +149,19 @@ clear_one page slot other false before behind marks test distinct are =
     get_or-set_other marks slot other false false (λ (same : other ≡ slot). absurd (cc (sym test ∙ ap (λ (n : ℕ). slot == n) same ∙ same_test slot)))
     ∙ are other ∙ named_with (page, slot) before behind other ∙ ap (λ (b : Bool). b || is_named (before ++ behind) other) test
 
-clear_marks : (page : ℕ) (former : Option ℕ) (before behind : List (ℕ × ℕ)) (marks : List Bool) → AreEntries (before ++ (entry_of page former ++ behind)) → AreMarks marks (before ++ (entry_of page former ++ behind))
+clear_marks : (page : ℕ) (former : Option ℕ) (before behind : List (ℕ × ℕ)) (marks : List Bool) → IsInOrder (before ++ (entry_of page former ++ behind)) → AreMarks marks (before ++ (entry_of page former ++ behind))
     → AreMarks (cleared former marks) (before ++ behind)
 clear_marks page None before behind marks entries are = are
 clear_marks page (Some slot) before behind marks entries are = λ other. clear_one page slot other (slot == other) before behind marks refl entries.distinct are
 
-pub marks_rest : (page : ℕ) (former : Option ℕ) (es : List (ℕ × ℕ)) (marks : List Bool) (parts : Parts page former es) → AreEntries es → AreMarks marks es → AreMarks (cleared former marks) (parts.before ++ parts.behind)
+pub marks_rest : (page : ℕ) (former : Option ℕ) (es : List (ℕ × ℕ)) (marks : List Bool) (parts : Parts page former es) → IsInOrder es → AreMarks marks es → AreMarks (cleared former marks) (parts.before ++ parts.behind)
 marks_rest page former es marks parts entries are =
-    clear_marks page former parts.before parts.behind marks (subst (λ (l : List (ℕ × ℕ)). AreEntries l) parts.whole entries) (subst (λ (l : List (ℕ × ℕ)). AreMarks marks l) parts.whole are)
+    clear_marks page former parts.before parts.behind marks (subst (λ (l : List (ℕ × ℕ)). IsInOrder l) parts.whole entries) (subst (λ (l : List (ℕ × ℕ)). AreMarks marks l) parts.whole are)
 
-pub marks_taken : (page : ℕ) (former : Option ℕ) (old new : List (ℕ × ℕ)) (marks : List Bool) → Puts page former None old new → AreEntries old → AreMarks marks old → AreMarks (cleared former marks) new
+pub marks_taken : (page : ℕ) (former : Option ℕ) (old new : List (ℕ × ℕ)) (marks : List Bool) → Puts page former None old new → IsInOrder old → AreMarks marks old → AreMarks (cleared former marks) new
 marks_taken page former old new marks puts entries are = subst (λ (l : List (ℕ × ℕ)). AreMarks (cleared former marks) l) (sym puts.whole) (marks_rest page former old marks puts.parts entries are)
 
-set_one : (page slot other : ℕ) (here : Bool) (before behind : List (ℕ × ℕ)) (marks : List Bool) → (slot == other) ≡ here → slot < length marks → AreMarks marks (before ++ behind)
+pub set_one : (page slot other : ℕ) (here : Bool) (before behind : List (ℕ × ℕ)) (marks : List Bool) → (slot == other) ≡ here → slot < length marks → AreMarks marks (before ++ behind)
     → get_or (set marks slot true) other false ≡ is_named (before ++ ((page, slot) ∷ behind)) other
 set_one page slot other true before behind marks test lt are =
     let same : slot ≡ other = equal slot other test in
@@ -174,7 +174,7 @@ cleared_length : (former : Option ℕ) (marks : List Bool) → length (cleared f
 cleared_length None marks = refl
 cleared_length (Some slot) marks = grind (arith, rules)
 
-pub marks_put : (page slot : ℕ) (former : Option ℕ) (old new : List (ℕ × ℕ)) (marks : List Bool) → Puts page former (Some slot) old new → slot < length marks → AreEntries old → AreMarks marks old → AreMarks (marked former slot marks) new
+pub marks_put : (page slot : ℕ) (former : Option ℕ) (old new : List (ℕ × ℕ)) (marks : List Bool) → Puts page former (Some slot) old new → slot < length marks → IsInOrder old → AreMarks marks old → AreMarks (marked former slot marks) new
 marks_put page slot former old new marks puts lt entries are =
     let parts = puts.parts in
     subst (λ (l : List (ℕ × ℕ)). AreMarks (marked former slot marks) l) (sym puts.whole)

@@ -1,7 +1,8 @@
 -- Entries by rising page: what a look-up finds before and behind a page.
 use Rattle.std.proofs.Common.{if◌then◌else◌, ◌≡◌, ◌≢◌, ◌<◌, ◌≤◌, ◌==◌, ◌||◌, ℕ, zero, suc, Bool, true, false, List, [], ◌∷◌, ◌++◌, length, take, drop, get_or, Option, Some, None, refl, sym, ◌∙◌, ap, arith, rules}
 use Rattle.std.specs.List.{AllByRecursion}
-use Rattle.hg_pages.specs.Tables.{ArePagesRising, AreSlotsDistinct, is_named, slot_in}
+use Rattle.hg_pages.specs.Tables.{slot_in}
+use Rattle.hg_pages.specs.Marks.{ArePagesRising, AreSlotsDistinct, is_named}
 
 -- what holds of each holds of each, where it implies it
 pub each_weaker : (P Q : (ℕ × ℕ) → Type 0) → ((e : ℕ × ℕ) → P e → Q e) → (es : List (ℕ × ℕ)) → AllByRecursion P es → AllByRecursion Q es
@@ -30,20 +31,20 @@ rising_behind zero es rising = rising
 rising_behind (suc n) [] rising = tt
 rising_behind (suc n) (e ∷ es) rising = rising_behind n es rising.1
 
-not_equal : (a b : ℕ) → a ≢ b → (a == b) ≡ false
+pub not_equal : (a b : ℕ) → a ≢ b → (a == b) ≡ false
 not_equal a b apart = grind rules
 
-above_apart : (a b : ℕ) → a < b → (b == a) ≡ false
+pub above_apart : (a b : ℕ) → a < b → (b == a) ≡ false
 above_apart a b lt = not_equal b a (λ (same : b ≡ a). absurd (omega (arith, lt, same)))
 
-below_apart : (a b : ℕ) → a < b → (a == b) ≡ false
+pub below_apart : (a b : ℕ) → a < b → (a == b) ≡ false
 below_apart a b lt = not_equal a b (λ (same : a ≡ b). absurd (omega (arith, lt, same)))
 
-if_false : {A : Type 0} (b : Bool) (x y : A) → b ≡ false → (if b then x else y) ≡ y
+pub if_false : {A : Type 0} (b : Bool) (x y : A) → b ≡ false → (if b then x else y) ≡ y
 if_false true x y is = absurd (cc is)
 if_false false x y is = refl
 
-if_true : {A : Type 0} (b : Bool) (x y : A) → b ≡ true → (if b then x else y) ≡ x
+pub if_true : {A : Type 0} (b : Bool) (x y : A) → b ≡ true → (if b then x else y) ≡ x
 if_true true x y is = refl
 if_true false x y is = absurd (cc is)
 
@@ -66,7 +67,7 @@ swapped true false x y z apart = refl
 swapped false true x y z apart = refl
 swapped false false x y z apart = refl
 
-equal : (a b : ℕ) → (a == b) ≡ true → a ≡ b
+pub equal : (a b : ℕ) → (a == b) ≡ true → a ≡ b
 equal a b is = grind rules
 
 -- with a page in the middle
@@ -148,7 +149,7 @@ each_front P xs zero each le = tt
 each_front P [] (suc i) each le = absurd (omega (arith, le))
 each_front P (x ∷ xs) (suc i) each le = (each 0 x (omega arith), each_front P xs i (λ k d lt. each (suc k) d (omega (arith, lt))) (omega (arith, le)))
 
-each_of : (P : (ℕ × ℕ) → Type 0) (xs : List (ℕ × ℕ)) → ((k : ℕ) (d : ℕ × ℕ) → k < length xs → P (get_or xs k d)) → AllByRecursion P xs
+pub each_of : (P : (ℕ × ℕ) → Type 0) (xs : List (ℕ × ℕ)) → ((k : ℕ) (d : ℕ × ℕ) → k < length xs → P (get_or xs k d)) → AllByRecursion P xs
 each_of P [] each = tt
 each_of P (x ∷ xs) each = (each 0 x (omega arith), each_of P xs (λ k d lt. each (suc k) d (omega (arith, lt))))
 
@@ -157,7 +158,7 @@ each_behind P xs zero each = each_of P xs (λ k d lt. each k d (omega arith) lt)
 each_behind P [] (suc i) each = tt
 each_behind P (x ∷ xs) (suc i) each = each_behind P xs i (λ k d le lt. each (suc k) d (omega (arith, le)) (omega (arith, lt)))
 
-each_at : (P : (ℕ × ℕ) → Type 0) (xs : List (ℕ × ℕ)) (k : ℕ) (d : ℕ × ℕ) → k < length xs → AllByRecursion P xs → P (get_or xs k d)
+pub each_at : (P : (ℕ × ℕ) → Type 0) (xs : List (ℕ × ℕ)) (k : ℕ) (d : ℕ × ℕ) → k < length xs → AllByRecursion P xs → P (get_or xs k d)
 each_at P [] k d lt each = absurd (omega (arith, lt))
 each_at P (x ∷ xs) zero d lt each = each.0
 each_at P (x ∷ xs) (suc k) d lt each = each_at P xs k d (omega (arith, lt)) each.1

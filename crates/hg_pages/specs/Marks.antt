@@ -1,7 +1,26 @@
 -- How a table finds a page, and a slot that is named. No promise to a caller rests on this.
-use Rattle.std.specs.Prelude.{◌≡◌, ◌<◌, ◌≤◌, ◌+◌, ℕ, Bool, true, false, List, [], ◌∷◌, ◌++◌, Option, Some, None, length, take, drop, slice_index_or, slice_set}
+use Rattle.std.specs.Prelude.{◌≡◌, ◌<◌, ◌≤◌, ◌+◌, ◌==◌, ◌||◌, ℕ, Bool, true, false, List, [], ◌∷◌, ◌++◌, Option, Some, None, length, take, drop, slice_index_or, slice_set}
 use Rattle.std.specs.List.{AllByRecursion}
-use Rattle.hg_pages.specs.Tables.{is_named}
+
+-- whether some page lies in the slot
+abbrev pub is_named : List (ℕ × ℕ) → ℕ → Bool
+is_named [] slot = false
+is_named (e ∷ entries) slot = e.1 == slot || is_named entries slot
+
+-- pages rise
+abbrev pub ArePagesRising : List (ℕ × ℕ) → Type 0
+ArePagesRising [] = Unit {0}
+ArePagesRising (e ∷ entries) = AllByRecursion (λ later. e.0 < later.0) entries × ArePagesRising entries
+
+-- no slot has two pages
+abbrev pub AreSlotsDistinct : List (ℕ × ℕ) → Type 0
+AreSlotsDistinct [] = Unit {0}
+AreSlotsDistinct (e ∷ entries) = (is_named entries e.1 ≡ false) × AreSlotsDistinct entries
+
+-- the entries of a table, by recursion
+pub record IsInOrder (entries : List (ℕ × ℕ)) : Type 0 where
+  pub rising : ArePagesRising entries
+  pub distinct : AreSlotsDistinct entries
 
 -- the marks of the slots say which are named
 abbrev pub AreMarks : List Bool → List (ℕ × ℕ) → Type 0

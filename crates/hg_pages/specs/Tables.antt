@@ -1,6 +1,6 @@
 -- Tables of pages, each with the slot that it lies in.
-use Rattle.std.specs.Prelude.{◌≡◌, ◌<◌, ◌≤◌, ◌==◌, ◌||◌, ℕ, Bool, false, List, [], ◌∷◌, Option, Some, None, slice_get, if◌then◌else◌}
-use Rattle.std.specs.List.{AllByRecursion}
+use Rattle.std.specs.Prelude.{◌≡◌, ◌≢◌, ◌<◌, ◌≤◌, ◌==◌, ℕ, List, [], ◌∷◌, Option, Some, None, slice_get, map, AllPairs, if◌then◌else◌}
+use Rattle.std.specs.List.Sorted.{IsStrictlyIncreasing}
 
 -- The entries of a table, a page and its slot each; how many entries its memory is for; and the slots below which it has memory to
 -- say that they are named.
@@ -18,25 +18,10 @@ slot_in (e ∷ entries) page = if e.0 == page then Some e.1 else slot_in entries
 abbrev pub IsNamed : List (ℕ × ℕ) → ℕ → Type 0
 IsNamed entries slot = (page : ℕ) × (slot_in entries page ≡ Some slot)
 
--- the same as a test
-abbrev pub is_named : List (ℕ × ℕ) → ℕ → Bool
-is_named [] slot = false
-is_named (e ∷ entries) slot = e.1 == slot || is_named entries slot
-
--- pages rise
-abbrev pub ArePagesRising : List (ℕ × ℕ) → Type 0
-ArePagesRising [] = Unit {0}
-ArePagesRising (e ∷ entries) = AllByRecursion (λ later. e.0 < later.0) entries × ArePagesRising entries
-
--- no slot has two pages
-abbrev pub AreSlotsDistinct : List (ℕ × ℕ) → Type 0
-AreSlotsDistinct [] = Unit {0}
-AreSlotsDistinct (e ∷ entries) = (is_named entries e.1 ≡ false) × AreSlotsDistinct entries
-
--- What holds of the entries of each table.
+-- What holds of the entries of each table: pages rise, and no slot has two pages.
 pub record AreEntries (entries : List (ℕ × ℕ)) : Type 0 where
-  pub rising : ArePagesRising entries
-  pub distinct : AreSlotsDistinct entries
+  pub rising : IsStrictlyIncreasing (map (λ e. e.0) entries)
+  pub distinct : AllPairs ◌≢◌ (map (λ e. e.1) entries)
 
 -- one of the tables names the slot
 abbrev pub SomeNames : List Shown → ℕ → Type 0

@@ -16,8 +16,8 @@ pub const MOST_PAGES: u64 = 1 << 54;
 // Where the cells begin, behind the number of the page.
 const CELLS_AT: usize = 8;
 
-// The number of the page, as the bytes have it.
-fn page_in(bytes: &[u8]) -> u64
+/// The number of the page, as the bytes have it.
+pub(crate) fn page_in(bytes: &[u8]) -> u64
     requires { 8 ≤ length bytes.now }
     ensures { to_be_bytes w64 result ≡ take 8 bytes.now }
 {

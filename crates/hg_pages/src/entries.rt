@@ -1,8 +1,8 @@
 //! Entries by rising page, found by halving.
 ghost use Rattle.std.specs.Prelude.{◌≡◌, ◌<◌, ◌≤◌, Some, None, length, take, drop, vec_capacity, IsOk, OnErr, IfOk, MatchResult, IsTrue, is_some};
 ghost use Rattle.std.specs.List.{AllByRecursion};
-ghost use Rattle.hg_pages.specs.Marks.{BelongsAt, Puts, StandsAt};
-ghost use Rattle.hg_pages.specs.Tables.{ArePagesRising, slot_in};
+ghost use Rattle.hg_pages.specs.Marks.{ArePagesRising, BelongsAt, Puts, StandsAt};
+ghost use Rattle.hg_pages.specs.Tables.{slot_in};
 
 use std::alloc::AllocError;
 

@@ -1,5 +1,6 @@
 //! A file of slots, each of which has one page.
-ghost use Rattle.std.specs.Prelude.{◌≡◌, ◌≢◌, ◌+◌, ◌*◌, ◌<◌, ◌≤◌, ◌↔◌, ◌^◌, ℕ, List, ◌∷◌, length, false, IsTrue, OnOk, OnErr, IsErrOf, Err, IfOk, IfErr, MatchOption, map};
+ghost use Rattle.std.specs.Prelude.{◌≡◌, ◌≢◌, ◌+◌, ◌*◌, ◌<◌, ◌≤◌, ◌↔◌, ◌^◌, ℕ, List, ◌∷◌, length, max, take, false, IsTrue, OnOk, OnErr, IsErrOf, Err, IfOk, IfErr, MatchOption, map};
+ghost use Rattle.std.specs.Int.{w64, to_be_bytes};
 ghost use Rattle.hg_disk.specs.State.{IsImage, after_sync, counted};
 ghost use Rattle.hg_disk.specs.Moments.{Leaves, LeavesOnly};
 ghost use Rattle.hg_disk.specs.Calls.{CallsAtMost};
@@ -9,13 +10,14 @@ ghost use Rattle.hg_pages.specs.Tables.{EachNamed, SomeNames};
 ghost use Rattle.hg_pages.specs.Fault.{failures_after, IsBrokenOrDevice};
 ghost use Rattle.hg_pages.specs.declared.fault.SlotFault.TheVariants.{Damaged};
 
-use crate::decoded::decode;
+use crate::decoded::{decode, page_in};
 use crate::encoded::{EncodedPage, SLOT_LEN};
 use crate::fault::SlotFault;
 use crate::table::Table;
 use hg_cells::Page;
 use hg_disk::{Disk, DiskFault};
 use hg_sets::SetTable;
+use std::alloc::Global;
 use std::snapshot::Snapshot;
 
 /// The most slots that may be named.
@@ -128,6 +130,9 @@ impl<D: Disk> SlotFile<D> {
         ensures written { OnOk result (HasBytes slot page.now.bytes (known ⟦<D as Disk>⟧ self.new)) }
         ensures others { (other : ℕ) (bytes : List ℕ) → other ≢ slot → HasBytes other bytes (known ⟦<D as Disk>⟧ self.old) → OnOk result (HasBytes other bytes (known ⟦<D as Disk>⟧ self.new)) }
 
+        // The file ends where it ended, or where the slot does.
+        ensures length { OnOk result (length (known ⟦<D as Disk>⟧ self.new) ≡ max (length (known ⟦<D as Disk>⟧ self.old)) (3080 * slot + 3080)) }
+
         // What a read gives after a failure is left open; what is known is what it gave before.
         ensures lost { OnErr result (known ⟦<D as Disk>⟧ self.new ≡ known ⟦<D as Disk>⟧ self.old) }
 
@@ -182,10 +187,36 @@ impl<D: Disk> SlotFile<D> {
         Ok(synced?)
     }
 
+    /// What stands in a slot, under the page's number that it begins with. Whether it is a page's slot is not looked at. `Damaged`
+    /// where the slot does not lie within the file. The file stays as it is, and after an `Err` it can be tried again. It makes
+    /// one device call at most, and takes 3,080 bytes of memory.
+    pub fn read(&mut self, alloc: Global, slot: u32) -> Result<EncodedPage, SlotFault>
+        ensures read { IsTrue D.is_honest → IfOk result (λ found. HasBytes slot found.bytes (known ⟦<D as Disk>⟧ self.old)) }
+        ensures number { IfOk result (λ found. to_be_bytes w64 found.page ≡ take 8 found.bytes) }
+        ensures damaged { IsErrOf result SlotFault.Damaged → (bytes : List ℕ) → ¬ HasBytes slot bytes (known ⟦<D as Disk>⟧ self.old) }
+        ensures known { known ⟦<D as Disk>⟧ self.new ≡ known ⟦<D as Disk>⟧ self.old }
+        ensures state { D.state (disk_of self.new) ≡ D.state (disk_of self.old) }
+        ensures any_moment { LeavesOnly ⟦<D as Disk>⟧ (disk_of self.old) (disk_of self.new) (IsImage (D.state (disk_of self.old))) }
+        ensures calls { CallsAtMost ⟦<D as Disk>⟧ 1 (disk_of self.old) (disk_of self.new) }
+        ensures device { D.failures (disk_of self.new) ≡ failures_after result (D.failures (disk_of self.old)) }
+        ensures works { is_broken self.new ≡ is_broken self.old }
+        ensures broken { IsErrOf result SlotFault.Broken → IsTrue (is_broken self.old) }
+        ensures refuses { IsTrue (is_broken self.old) → result ≡ Err SlotFault.Broken }
+        ensures same { IsTrue (is_broken self.old) → self.new ≡ self.old }
+    {
+        if self.is_broken {
+            return Err(SlotFault::Broken);
+        }
+        let mut bytes = Vec::from_elem(alloc, 0, SLOT_LEN)?;
+        self.fill(slot, &mut bytes)?;
+        let page = page_in(&bytes);
+        Ok(EncodedPage::of(page, bytes))
+    }
+
     /// The cells of a page from its slot, checked against the number of segments and the table of sets. `Damaged` where the slot
     /// is not that of this page, as `decode` says, or does not lie within the file. The file stays as it is, and after an `Err`
     /// it can be tried again. It makes one device call at most, and takes no memory.
-    pub fn read(
+    pub fn read_page(
         &mut self,
         slot: u32,
         page: u64,
@@ -197,6 +228,32 @@ impl<D: Disk> SlotFile<D> {
 
         // Also of a disk that lies: what is named is there.
         ensures named { IfOk result (AreKnown segments sets.now.sets) }
+        ensures memory { ¬ IsErrOf result SlotFault.OutOfMemory }
+        ensures known { known ⟦<D as Disk>⟧ self.new ≡ known ⟦<D as Disk>⟧ self.old }
+        ensures state { D.state (disk_of self.new) ≡ D.state (disk_of self.old) }
+        ensures any_moment { LeavesOnly ⟦<D as Disk>⟧ (disk_of self.old) (disk_of self.new) (IsImage (D.state (disk_of self.old))) }
+        ensures calls { CallsAtMost ⟦<D as Disk>⟧ 1 (disk_of self.old) (disk_of self.new) }
+        ensures device { D.failures (disk_of self.new) ≡ failures_after result (D.failures (disk_of self.old)) }
+        ensures works { is_broken self.new ≡ is_broken self.old }
+        ensures broken { IsErrOf result SlotFault.Broken → IsTrue (is_broken self.old) }
+        ensures refuses { IsTrue (is_broken self.old) → result ≡ Err SlotFault.Broken }
+        ensures same { IsTrue (is_broken self.old) → self.new ≡ self.old }
+    {
+        let mut bytes = [0; SLOT_LEN];
+        self.fill(slot, &mut bytes)?;
+        match decode(&bytes, page, segments, sets) {
+            Some(cells) => Ok(cells),
+            None => Err(SlotFault::Damaged),
+        }
+    }
+
+    // Fills a buffer with the bytes of a slot.
+    fn fill(&mut self, slot: u32, bytes: &mut [u8]) -> Result<(), SlotFault>
+        requires { length bytes.old ≡ SLOT_LEN }
+        ensures read { IsTrue D.is_honest → OnOk result (HasBytes slot bytes.new (known ⟦<D as Disk>⟧ self.old)) }
+        ensures damaged { IsErrOf result SlotFault.Damaged → (found : List ℕ) → ¬ HasBytes slot found (known ⟦<D as Disk>⟧ self.old) }
+        ensures length { length bytes.new ≡ SLOT_LEN }
+        ensures memory { ¬ IsErrOf result SlotFault.OutOfMemory }
         ensures known { known ⟦<D as Disk>⟧ self.new ≡ known ⟦<D as Disk>⟧ self.old }
         ensures state { D.state (disk_of self.new) ≡ D.state (disk_of self.old) }
         ensures any_moment { LeavesOnly ⟦<D as Disk>⟧ (disk_of self.old) (disk_of self.new) (IsImage (D.state (disk_of self.old))) }
@@ -213,12 +270,7 @@ impl<D: Disk> SlotFile<D> {
         if !self.has_slot(slot) {
             return Err(SlotFault::Damaged);
         }
-        let mut bytes = [0; SLOT_LEN];
-        self.disk
-            .read_at(slot as u64 * SLOT_LEN as u64, &mut bytes)?;
-        match decode(&bytes, page, segments, sets) {
-            Some(cells) => Ok(cells),
-            None => Err(SlotFault::Damaged),
-        }
+        self.disk.read_at(slot as u64 * SLOT_LEN as u64, bytes)?;
+        Ok(())
     }
 }

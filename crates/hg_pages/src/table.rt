@@ -29,16 +29,15 @@ impl Drop for Table {
 impl Model for Table {
     ghost use Rattle.std.specs.Vec.{vec_capacity};
     ghost use Rattle.std.specs.Prelude.{length};
-    ghost use Rattle.hg_pages.specs.Marks.{AreMarks};
+    ghost use Rattle.hg_pages.specs.Marks.{AreMarks, IsInOrder};
+    ghost use Rattle.hg_pages.specs.Tables.{Shown};
     ghost use Rattle.std.specs.Option.{ForSome};
-    ghost use Rattle.hg_pages.specs.Marks.{cleared, marked};
-    ghost use Rattle.hg_pages.specs.Tables.{AreEntries, Shown};
 
     ghost Value = { Shown };
 
     ghost view = { λ t. record { entries = t.entries.items; capacity = vec_capacity t.entries; slots = length t.named.items } };
 
-    ghost invariant = { λ t. AreEntries t.entries.items × AreMarks t.named.items t.entries.items };
+    ghost invariant = { λ t. IsInOrder t.entries.items × AreMarks t.named.items t.entries.items };
 }
 
 impl Table {
@@ -50,6 +49,31 @@ impl Table {
             entries: Vec::new(alloc),
             named: Vec::new(alloc),
         }
+    }
+
+    /// A table of these entries, which are in order. The only error is want of memory, of which it takes a byte for each slot up to
+    /// the greatest.
+    pub fn from_entries(alloc: Global, entries: Vec<(u64, u32)>) -> Result<Self, AllocError>
+        requires { AreEntries entries.items }
+        ensures { IfOk result (λ table. table.entries ≡ entries.items) }
+    {
+        let mut named = Vec::new(alloc);
+        for entry in &entries {
+            let slot = entry.1 as usize;
+            reach(&mut named, slot + 1)?;
+            named[slot] = true;
+        }
+        Ok(Table { entries, named })
+    }
+
+    /// Its pages, which rise, each with its slot. It takes no memory.
+    pub fn into_entries(self) -> Vec<(u64, u32)>
+        ensures value { result.items ≡ self.entries }
+        ensures entries { AreEntries self.entries }
+    {
+        let Table { entries, named } = self;
+        drop(named);
+        entries
     }
 
     /// How many pages it has.

@@ -202,20 +202,31 @@ fn refusal(read: Result<Page, SlotFault>) -> Option<SlotFault> {
     }
 }
 
+/// Whether a slot was read.
+fn has_slot(rt: &impl Abort, read: Result<EncodedPage, SlotFault>, expected: &EncodedPage) {
+    match read {
+        Ok(found) => {
+            assert!(rt; found.page() == expected.page() && found.bytes() == expected.bytes())
+        }
+        Err(fault) => assert!(rt; false, "{fault:?}"),
+    }
+}
+
 #[test]
 fn reads_what_was_written_until_a_call_fails(rt: HostRuntime) -> Result<(), Fail> {
     let sets = sets(rt.alloc())?;
     let encoded = EncodedPage::of(4, slot(rt.alloc())?);
-    let mut file = SlotFile::attach(FuseDisk::stop(MemDisk::new(rt.alloc()), 4));
+    let mut file = SlotFile::attach(FuseDisk::stop(MemDisk::new(rt.alloc()), 5));
     answers(&rt, file.write(1, &encoded), Ok(()));
-    assert!(rt; refusal(file.read(1, 4, 3, &sets)) == None);
-    assert!(rt; refusal(file.read(2, 4, 3, &sets)) == Some(SlotFault::Damaged));
-    assert!(rt; refusal(file.read(1, 5, 3, &sets)) == Some(SlotFault::Damaged));
-    assert!(rt; refusal(file.read(1, 4, 3, &sets)) == Some(SlotFault::DeviceFault));
+    assert!(rt; refusal(file.read_page(1, 4, 3, &sets)) == None);
+    has_slot(&rt, file.read(rt.alloc(), 1), &encoded);
+    assert!(rt; refusal(file.read_page(2, 4, 3, &sets)) == Some(SlotFault::Damaged));
+    assert!(rt; refusal(file.read_page(1, 5, 3, &sets)) == Some(SlotFault::Damaged));
+    assert!(rt; refusal(file.read_page(1, 4, 3, &sets)) == Some(SlotFault::DeviceFault));
     answers(&rt, file.seal(), Err(SlotFault::DeviceFault));
     answers(&rt, file.write(0, &encoded), Err(SlotFault::Broken));
     answers(&rt, file.seal(), Err(SlotFault::Broken));
-    assert!(rt; refusal(file.read(1, 4, 3, &sets)) == Some(SlotFault::Broken));
+    assert!(rt; refusal(file.read_page(1, 4, 3, &sets)) == Some(SlotFault::Broken));
     assert!(rt; file.into_disks().into_inner().bytes().len() == 2 * SLOT_LEN);
     Ok(())
 }
@@ -239,6 +250,8 @@ fn a_table_names_slots(rt: HostRuntime) -> Result<(), Fail> {
     let mut copy = table.copy(rt.alloc())?;
     assert!(rt; copy.remove(1 << 53) == Some(1) && copy.remove(7) == None);
     assert!(rt; copy.names(0) && !copy.names(1) && !copy.names(2) && copy.names(5));
+    let again = Table::from_entries(rt.alloc(), copy.copy(rt.alloc())?.into_entries())?;
+    assert!(rt; again.get(9) == Some(5) && again.names(0) && !again.names(1));
     let file = SlotFile::attach(MemDisk::new(rt.alloc()));
     assert!(rt; file.free_slot(&[]) == Some(0));
     assert!(rt; file.free_slot(&[&copy]) == Some(1));

@@ -1,7 +1,7 @@
 use Rattle.std.proofs.Common.{◌≡◌, ◌<◌, ◌+◌, ℕ, suc, List, ◌∷◌, length, drop, get_or, ap, sym, ◌∙◌, subst, add-one, drop-cons, arith}
 use Rattle.std.specs.List.{AllByRecursion}
 use Rattle.std.proofs.lemmas.List.{get_or_default, get_or-drop, length-drop}
-use Rattle.hg_pages.specs.Tables.{ArePagesRising}
+use Rattle.hg_pages.specs.Marks.{ArePagesRising}
 use Rattle.hg_pages.proofs.Rising.{above_next, each_weaker, rising_behind}
 use Rattle.hg_pages.proofs.entries.place_of.Goals.{else-place-entries-via-then-place-entries+else-entries-place, else-place-entries-via-else-place-entries}
 use Rattle.hg_pages.proofs.entries.place_of.Goals as goal

@@ -1,0 +1,18 @@
+use Rattle.std.proofs.Common.{◌*◌, ℕ, take, drop, ap, ◌∙◌, arith}
+use Rattle.hg_disk.proofs.Moments.{read_leaves}
+use Rattle.hg_pages.specs.Slots.{HasBytes}
+use Rattle.hg_pages.proofs.Keeping.{as_known, read_slot}
+use Rattle.hg_pages.proofs.slot_file.SlotFile.fill.Goals as goal
+
+pub returns-in_err-read_at-clause-any_moment : goal.returns-in_err-read_at-clause-any_moment
+returns-in_err-read_at-clause-any_moment g c = read_leaves g.D.Disk c.args.self.now.disk c.read_at.new.self c.read_at.ensures.state c.read_at.ensures.clock
+
+pub returns-clause-any_moment : goal.returns-clause-any_moment
+returns-clause-any_moment g c = read_leaves g.D.Disk c.args.self.now.disk c.read_at.new.self c.read_at.ensures.state c.read_at.ensures.clock
+
+pub returns-clause-read : goal.returns-clause-read
+returns-clause-read g c honest =
+    let file = (g.D.Disk.state c.args.self.now.disk).contents in
+    as_known (HasBytes c.args.slot c.read_at.new.buf) c.args.self.now.is_broken (g.D.Disk.state c.args.self.now.before.value).contents file c.if-self.false
+    (read_slot file c.args.slot (c.args.slot * 3080) c.read_at.new.buf (omega arith) (omega (arith, c.has_slot.ensures.0 c.if-not-has_slot.false))
+    (c.in_ok-read_at.ensures.bytes honest ∙ ap (λ (n : ℕ). take n (drop (c.args.slot * 3080) file)) c.requires))
