@@ -213,5 +213,12 @@ pub fn run_store(alloc: Global, part: &str, out: &mut Text) {
         out.put(b"no memory\n");
         return;
     };
-    run_over::<Brand, Brand>(alloc, store, Blank::new(1), Blank::new(1), part.as_bytes(), out);
+    run_over::<Brand, Brand>(
+        alloc,
+        store,
+        Blank::new(1),
+        Blank::new(1),
+        part.as_bytes(),
+        out,
+    );
 }
