@@ -1,0 +1,4 @@
+pub mod Parts
+pub mod Grammar
+pub mod Lawful
+pub mod Reading
