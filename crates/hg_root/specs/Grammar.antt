@@ -1,6 +1,6 @@
 -- The bytes of a root's body. All numbers are written high byte first.
-use Rattle.std.specs.Prelude.{ℕ, List, [], ◌∷◌, ◌++◌, length, if◌then◌else◌}
-use Rattle.std.specs.List.{flat_map}
+use Rattle.std.specs.Prelude.{ℕ, ◌<◌, ◌^◌, List, [], ◌∷◌, ◌++◌, length, if◌then◌else◌}
+use Rattle.std.specs.List.{AllByRecursion, flat_map}
 use Rattle.std.specs.Int.{w16, w32, w64, to_be_bytes}
 use Rattle.hg_model.specs.Segments.{present}
 use Rattle.hg_model.specs.declared.held.HeldLock.{HeldLock}
@@ -70,3 +70,46 @@ head_text p =
 -- The body.
 abbrev pub root_text : Parts → List ℕ
 root_text p = head_text p ++ pages_text p.pages
+
+-- ---- what has a spelling: each number is within its width, and each count within that of its field
+
+abbrev pub SegmentFits : Segment → Type 0
+SegmentFits s = (s.thread < 2 ^ 16) × ((length s.before < 2 ^ 8) × AllByRecursion (λ k. k < 2 ^ 32) s.before)
+
+abbrev pub LockFits : HeldLock → Type 0
+LockFits h = h.lock < 2 ^ 16
+
+abbrev pub ThreadFits : ThreadState → Type 0
+ThreadFits t = (t.number < 2 ^ 16) × ((length t.held < 2 ^ 8) × AllByRecursion LockFits t.held)
+
+abbrev pub SetFits : List ℕ → Type 0
+SetFits members = (length members < 2 ^ 16) × AllByRecursion (λ m. m < 2 ^ 16) members
+
+abbrev pub ReportFits : KeptReport → Type 0
+ReportFits r = (r.event < 2 ^ 64) × ((r.word < 2 ^ 64) × ((r.thread < 2 ^ 16) × (r.threads < 2 ^ 32)))
+
+abbrev pub SourceFits : SourceCount → Type 0
+SourceFits s = (s.source < 2 ^ 16) × (s.last < 2 ^ 64)
+
+abbrev pub PageFits : PageSlot → Type 0
+PageFits p = (p.page < 2 ^ 64) × (p.slot < 2 ^ 32)
+
+-- Each part has a spelling.
+pub record HeadFits (p : Parts) : Type 0 where
+  pub number : p.number < 2 ^ 64
+  pub events : p.events < 2 ^ 64
+  pub segment_count : length p.segments < 2 ^ 32
+  pub segments : AllByRecursion SegmentFits p.segments
+  pub thread_count : length p.threads < 2 ^ 16
+  pub threads : AllByRecursion ThreadFits p.threads
+  pub set_count : length p.sets < 2 ^ 32
+  pub sets : AllByRecursion SetFits p.sets
+  pub total : p.total < 2 ^ 64
+  pub report_count : length p.reports < 2 ^ 32
+  pub reports : AllByRecursion ReportFits p.reports
+  pub source_count : length p.sources < 2 ^ 16
+  pub sources : AllByRecursion SourceFits p.sources
+
+pub record PagesFit (pages : List PageSlot) : Type 0 where
+  pub count : length pages < 2 ^ 32
+  pub each : AllByRecursion PageFits pages

@@ -13,6 +13,7 @@ use Rattle.hg_graph.specs.Restoring.{AreSegments}
 use Rattle.hg_sets.specs.Interning.{AreSets, set_at}
 use Rattle.hg_root.specs.declared.parts.PageSlot.{PageSlot}
 use Rattle.hg_root.specs.declared.parts.SourceCount.{SourceCount}
+use Rattle.hg_root.specs.Grammar.{HeadFits, PagesFit, root_text}
 use Rattle.hg_root.specs.Parts.{Parts}
 
 -- the numbers of the threads that a segment names, rising
@@ -46,12 +47,14 @@ pub record AreSources (events : ℕ) (sources : List SourceCount) : Type 0 where
 
 -- the pages rise, and no two have one slot
 pub record ArePages (pages : List PageSlot) : Type 0 where
+  pub fits : PagesFit pages
   pub rising : IsStrictlyIncreasing (map (λ p. p.page) pages)
   pub each : All (λ p. (p.page < 2 ^ 54) × (p.slot < 1048576)) pages
   pub distinct : AllPairs ◌≢◌ (map (λ p. p.slot) pages)
 
 -- the rules of the parts before the page table
 pub record IsLawfulHead (p : Parts) : Type 0 where
+  pub fits : HeadFits p
   pub number : (1 ≤ p.number) × (p.number ≤ 2 ^ 58)
   pub events : p.events ≤ 2 ^ 58
   pub segment_count : (1 ≤ length p.segments) × (length p.segments ≤ 1048576)
@@ -70,3 +73,8 @@ pub record IsLawfulHead (p : Parts) : Type 0 where
 pub record IsLawful (p : Parts) : Type 0 where
   pub head : IsLawfulHead p
   pub pages : ArePages p.pages
+
+-- The body spells these parts, which obey the rules.
+pub record IsRoot (body : List ℕ) (p : Parts) : Type 0 where
+  pub text : body ≡ root_text p
+  pub lawful : IsLawful p

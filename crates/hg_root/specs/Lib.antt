@@ -1,3 +1,4 @@
+pub mod Fault
 pub mod Parts
 pub mod Grammar
 pub mod Lawful
