@@ -259,11 +259,16 @@ impl Piece for KeptReport {
     }
 
     fn put(&self, out: &mut Vec<u8>) -> Result<(), AllocError> {
-        out.extend_from_slice(&self.event.to_be_bytes())?;
-        out.extend_from_slice(&self.word.to_be_bytes())?;
-        out.extend_from_slice(&self.thread.to_be_bytes())?;
-        out.push(if self.write { 7 } else { 6 })?;
-        out.extend_from_slice(&self.threads.to_be_bytes())
+        let event = self.event.to_be_bytes();
+        let word = self.word.to_be_bytes();
+        let thread = self.thread.to_be_bytes();
+        let kind = if self.write { 7 } else { 6 };
+        let threads = self.threads.to_be_bytes();
+        out.extend_from_slice(&[
+            event[0], event[1], event[2], event[3], event[4], event[5], event[6], event[7], word[0],
+            word[1], word[2], word[3], word[4], word[5], word[6], word[7], thread[0], thread[1],
+            kind, threads[0], threads[1], threads[2], threads[3],
+        ])
     }
 }
 
