@@ -1,1 +1,5 @@
 pub mod Times
+pub mod Rising
+pub mod ThreadReading
+pub mod Formats
+pub mod LastSegments

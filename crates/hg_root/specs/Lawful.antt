@@ -40,14 +40,13 @@ abbrev pub AreInOrder : List KeptReport → Type 0
 AreInOrder reports = (k : ℕ) (a b : KeptReport) → slice_get reports k ≡ Some a → slice_get reports (k + 1) ≡ Some b → IsBefore a b
 
 -- the sources rise, each sent something, and together they sent all events
-pub record AreSources (events : ℕ) (sources : List SourceCount) : Type 0 where
+pub record HaveSent (events : ℕ) (sources : List SourceCount) : Type 0 where
   pub rising : IsStrictlyIncreasing (map (λ s. s.source) sources)
   pub each : All (λ s. (s.source ≤ 1023) × (1 ≤ s.last)) sources
   pub sum : sum (map (λ s. s.last) sources) ≡ events
 
 -- the pages rise, and no two have one slot
-pub record ArePages (pages : List PageSlot) : Type 0 where
-  pub fits : PagesFit pages
+pub record HaveSlots (pages : List PageSlot) : Type 0 where
   pub rising : IsStrictlyIncreasing (map (λ p. p.page) pages)
   pub each : All (λ p. (p.page < 2 ^ 54) × (p.slot < 1048576)) pages
   pub distinct : AllPairs ◌≢◌ (map (λ p. p.slot) pages)
@@ -67,12 +66,13 @@ pub record IsLawfulHead (p : Parts) : Type 0 where
   pub kept : length p.reports ≡ min p.total 65536
   pub reports : All (IsReport p.events p.sets) p.reports
   pub order : AreInOrder p.reports
-  pub sources : AreSources p.events p.sources
+  pub sources : HaveSent p.events p.sources
 
 -- The parts obey the rules.
 pub record IsLawful (p : Parts) : Type 0 where
   pub head : IsLawfulHead p
-  pub pages : ArePages p.pages
+  pub pages_fit : PagesFit p.pages
+  pub pages : HaveSlots p.pages
 
 -- The body spells these parts, which obey the rules.
 pub record IsRoot (body : List ℕ) (p : Parts) : Type 0 where

@@ -2,4 +2,5 @@ pub mod Fault
 pub mod Parts
 pub mod Grammar
 pub mod Lawful
+pub mod Last
 pub mod Reading

@@ -1,7 +1,7 @@
 -- Reading a body from the front, piece after piece. (No promise to a reader rests on this file.)
-use Rattle.std.specs.Prelude.{◌≡◌, ◌⊎◌, ℕ, zero, suc, Bool, true, ◌&&◌, ◌||◌, ◌==◌, nat_lt, nat_le, List, [], ◌∷◌, length, map, take, drop, Option, Some, None, Result, Ok, Err, if◌then◌else◌}
+use Rattle.std.specs.Prelude.{◌≡◌, ◌⊎◌, ℕ, zero, suc, Bool, true, false, ◌&&◌, ◌||◌, ◌==◌, nat_lt, nat_le, List, [], ◌∷◌, length, map, take, drop, Option, Some, None, Result, Ok, Err, if◌then◌else◌}
 use Rattle.std.specs.Int.{Width, w16, w32, w64, byte_len, from_be_bytes}
-use Rattle.hg_model.specs.Segments.{present}
+use Rattle.hg_graph.specs.Restoring.{former}
 use Rattle.hg_model.specs.declared.held.HeldLock.{HeldLock}
 use Rattle.hg_model.specs.declared.segment.Segment.{Segment}
 use Rattle.hg_model.specs.declared.thread.ThreadState.{ThreadState}
@@ -73,9 +73,14 @@ rises (x ∷ y ∷ xs) = nat_lt x y && rises (y ∷ xs)
 abbrev pub are_held : List HeldLock → Bool
 are_held held = nat_le (length held) 64 && rises (map (λ h. h.lock) held)
 
--- a thread of the profile, and its last segment
+-- the number is there, and is this one
+abbrev pub is_some_of : Option ℕ → ℕ → Bool
+is_some_of None last = false
+is_some_of (Some n) last = n == last
+
+-- a thread that a segment names, and its last segment
 abbrev pub is_last : List Segment → ℕ → ℕ → Bool
-is_last segments t last = nat_lt t 1024 && (last == present segments t)
+is_last segments t last = nat_lt t 1024 && is_some_of (former segments t) last
 
 abbrev pub RawThread : Type 0
 RawThread = ℕ × (Bool × (ℕ × List HeldLock))

@@ -2,8 +2,11 @@
 #![tactic(auto)]
 
 mod fault;
+mod lasts;
 mod parts;
 mod piece;
+mod rules;
+mod threads;
 
 pub use fault::RootFault;
 pub use parts::{PageSlot, SourceCount};
