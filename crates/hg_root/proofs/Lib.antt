@@ -3,3 +3,4 @@ pub mod Rising
 pub mod ThreadReading
 pub mod Formats
 pub mod LastSegments
+pub mod Each

@@ -4,3 +4,4 @@ pub mod Grammar
 pub mod Lawful
 pub mod Last
 pub mod Reading
+pub mod Body

@@ -112,6 +112,10 @@ source_at = made (λ p. record { source = p.0; last = p.1 }) (both (number_at w1
 abbrev pub page_at : Reader PageSlot
 page_at = made (λ p. record { page = p.0; slot = p.1 }) (both (number_at w64) (number_at w32))
 
+-- all of the bytes
+abbrev pub ended : {X : Type 0} → Reader X → List ℕ → Option X
+ended read bytes = read bytes >>= λ x. if length x.1 == 0 then Some x.0 else None
+
 -- What a function returned, seen by view, is what reading gives, unless memory ran out.
 abbrev pub Fails : {Y : Type 0} → RootFault → Option Y → Type 0
 Fails OutOfMemory read = Unit {0}

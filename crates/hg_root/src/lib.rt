@@ -1,6 +1,7 @@
 //! Roots: what a checkpoint has but its words, in two files that take turns.
 #![tactic(auto)]
 
+mod body;
 mod fault;
 mod lasts;
 mod parts;
