@@ -4,3 +4,4 @@ pub mod ThreadReading
 pub mod Formats
 pub mod LastSegments
 pub mod Each
+pub mod Naming

@@ -16,9 +16,13 @@ use Rattle.hg_root.specs.declared.parts.SourceCount.{SourceCount}
 use Rattle.hg_root.specs.Grammar.{HeadFits, PagesFit, root_text}
 use Rattle.hg_root.specs.Parts.{Parts}
 
+-- the numbers below n of the threads that a segment names, rising
+abbrev pub named_below : List Segment → ℕ → List ℕ
+named_below segments n = filter (names segments) (range_with_len 0 n)
+
 -- the numbers of the threads that a segment names, rising
-abbrev pub named_threads : List Segment → List ℕ
-named_threads segments = filter (names segments) (range_with_len 0 1024)
+unfoldable pub named_threads : List Segment → List ℕ
+named_threads segments = named_below segments 1024
 
 -- the locks rise, and there are at most 64
 abbrev pub AreHeld : List HeldLock → Type 0

@@ -5,3 +5,5 @@ pub mod Lawful
 pub mod Last
 pub mod Reading
 pub mod Body
+pub mod Checking
+pub mod Roots

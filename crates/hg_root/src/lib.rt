@@ -6,6 +6,7 @@ mod fault;
 mod lasts;
 mod parts;
 mod piece;
+mod root;
 mod rules;
 mod threads;
 
