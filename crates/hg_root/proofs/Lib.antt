@@ -5,3 +5,5 @@ pub mod Formats
 pub mod LastSegments
 pub mod Each
 pub mod Naming
+pub mod BodyFormats
+pub mod Bodies

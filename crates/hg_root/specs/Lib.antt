@@ -7,3 +7,4 @@ pub mod Reading
 pub mod Body
 pub mod Checking
 pub mod Roots
+pub mod Laws

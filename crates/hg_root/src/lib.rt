@@ -4,6 +4,7 @@
 mod body;
 mod fault;
 mod lasts;
+pub mod laws;
 mod parts;
 mod piece;
 mod root;
@@ -12,3 +13,4 @@ mod threads;
 
 pub use fault::RootFault;
 pub use parts::{PageSlot, SourceCount};
+pub use root::Root;

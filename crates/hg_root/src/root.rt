@@ -8,7 +8,8 @@ ghost use Rattle.hg_root.specs.Checking.{AreCounts, HaveLast, IsChecked, made_pa
 ghost use Rattle.hg_root.specs.Roots.{IsWhole, parts_of};
 ghost use Rattle.hg_root.specs.Fault.{IsDamagedOrMemory};
 ghost use Rattle.hg_root.specs.Last.{IsLastTable};
-ghost use Rattle.hg_root.specs.Lawful.{HaveSent, named_threads};
+ghost use Rattle.hg_root.specs.Lawful.{HaveSent, IsRoot, named_threads};
+ghost use Rattle.hg_root.specs.Parts.{Parts};
 
 use crate::body::{Back, Front, back_of, front_of, middle_of};
 use crate::fault::RootFault;
@@ -205,4 +206,22 @@ fn checked(
         sources,
         pages,
     })
+}
+
+impl Root {
+    /// The root whose body these bytes are. `Damaged` exactly where they are no root's body, `OutOfMemory` where memory is refused.
+    ///
+    /// Memory grows by what was read, whatever a count says: the parts themselves, sets and threads twice for a while, and tables of the profile, of 2 MiB.
+    pub fn decode(alloc: Global, body: &[u8]) -> Result<Root, RootFault>
+        ensures found { IfOk result (λ r. IsRoot body.now (parts_of r)) }
+        ensures known { IfOk result IsWhole }
+        ensures damaged { IsErrOf result RootFault.Damaged → (p : Parts) → ¬ IsRoot body.now p }
+        ensures fault { IfErr result IsDamagedOrMemory }
+    {
+        let (front, rest) = front_of(alloc, body)?;
+        let lasts = lasts_of(alloc, &front.1.1)?;
+        let (threads, rest) = middle_of(alloc, &lasts, rest)?;
+        let back = back_of(alloc, rest)?;
+        checked(alloc, front, &lasts, &threads, back)
+    }
 }

@@ -1,4 +1,4 @@
-use Rattle.std.proofs.Common.{◌≡◌, ◌∙◌, ◌+◌, ◌-◌, ◌<◌, List, ℕ, length, set, get_or, drop, sym, ap, subst, arith, length-set}
+use Rattle.std.proofs.Common.{◌≡◌, ◌∙◌, ◌+◌, ◌-◌, ◌<◌, List, ℕ, length, set, get_or, drop, sym, ap, subst, arith, length-set, replicate, rules}
 use Rattle.std.proofs.lemmas.List.{length-replicate}
 use Rattle.hg_root.specs.Checking.{HaveLast, last_number}
 use Rattle.hg_root.specs.declared.parts.SourceCount.{SourceCount}
@@ -9,10 +9,12 @@ abbrev none : SourceCount
 none = record { source = 0; last = 0 }
 
 pub loop-left-init : goal.loop-left-init
-loop-left-init c = record {
-  len = ap (λ (xs : List ℕ). length xs) c.in_ok-last.ensures.items ∙ length-replicate 1024 0;
+loop-left-init c =
+    let items : c.in_ok-last.last.items ≡ replicate 1024 0 = search rules in
+    record {
+  len = ap (λ (xs : List ℕ). length xs) items ∙ length-replicate 1024 (let z : ℕ = 0 in z);
   within = omega arith;
-  each = λ source. ap (λ (xs : List ℕ). get_or xs source 0) c.in_ok-last.ensures.items ∙ zeros 1024 source ∙ sym (ap (λ (xs : List SourceCount). last_number xs source) (nothing_done c.args.sources.now));
+  each = λ source. ap (λ (xs : List ℕ). get_or xs source 0) items ∙ zeros 1024 source ∙ sym (ap (λ (xs : List SourceCount). last_number xs source) (nothing_done c.args.sources.now));
 }
 
 pub loop-left-preserved : goal.loop-left-preserved
