@@ -6,5 +6,6 @@ pub mod Last
 pub mod Reading
 pub mod Body
 pub mod Checking
+pub mod Heads
 pub mod Roots
 pub mod Laws

@@ -3,6 +3,7 @@
 
 mod body;
 mod fault;
+mod head;
 mod lasts;
 pub mod laws;
 mod parts;
@@ -12,5 +13,6 @@ mod rules;
 mod threads;
 
 pub use fault::RootFault;
+pub use head::RootHead;
 pub use parts::{PageSlot, SourceCount};
 pub use root::Root;
