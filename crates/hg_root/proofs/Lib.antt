@@ -7,3 +7,5 @@ pub mod Each
 pub mod Naming
 pub mod BodyFormats
 pub mod Bodies
+pub mod HeadChain
+pub mod Pairs

@@ -8,4 +8,6 @@ pub mod Body
 pub mod Checking
 pub mod Heads
 pub mod Roots
+pub mod Newest
+pub mod Pairs
 pub mod Laws

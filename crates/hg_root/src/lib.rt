@@ -6,6 +6,7 @@ mod fault;
 mod head;
 mod lasts;
 pub mod laws;
+mod pair;
 mod parts;
 mod piece;
 mod root;
@@ -14,5 +15,6 @@ mod threads;
 
 pub use fault::RootFault;
 pub use head::RootHead;
+pub use pair::RootPair;
 pub use parts::{PageSlot, SourceCount};
 pub use root::Root;
