@@ -1,7 +1,7 @@
 -- A whole body: what is read is a root, and a root is read.
-use Rattle.std.proofs.Common.{◌≡◌, ◌≢◌, ℕ, zero, suc, ◌+◌, ◌^◌, ◌<◌, ◌≤◌, Bool, true, false, cond, eqb, nat_lt, List, [], ◌∷◌, ◌++◌, length, map, filter, get_or, All, Option, Some, None, inl, inr, Result, Ok, Err, refl, sym, ap, subst, ◌∙◌, append_assoc, append-nil, arith}
-use Rattle.std.specs.Prelude.{IfErr, IfOk, IsErrOf}
-use Rattle.std.specs.Int.{w16, w32, w64, to_be_bytes}
+use Rattle.std.proofs.Common.{◌≡◌, ℕ, zero, suc, ◌+◌, ◌<◌, ◌≤◌, Bool, true, false, cond, eqb, List, [], ◌∷◌, ◌++◌, length, map, filter, Option, Some, None, inl, inr, Result, Ok, Err, refl, sym, ap, subst, ◌∙◌, append_assoc, append-nil, arith}
+use Rattle.std.specs.Prelude.{IfOk}
+use Rattle.std.specs.Int.{w64, to_be_bytes}
 use Rattle.std.specs.List.{AllByRecursion, range_with_len}
 use Rattle.std.proofs.lemmas.Bool.{eqb-true}
 use Rattle.std.proofs.lemmas.List.{nil_from_length}
@@ -10,21 +10,21 @@ use Rattle.hg_model.specs.Segments.{present}
 use Rattle.hg_model.specs.declared.segment.Segment.{Segment}
 use Rattle.hg_model.specs.declared.thread.ThreadState.{ThreadState}
 use Rattle.hg_graph.specs.Graph.{names}
-use Rattle.hg_graph.specs.Restoring.{AreSegments, former}
+use Rattle.hg_graph.specs.Restoring.{AreSegments}
 use Rattle.hg_model.proofs.Graph.{last_of_lt}
 use Rattle.hg_root.specs.Body.{BackParts, FrontParts, back_at, front_at, header_number, middle_at}
 use Rattle.hg_root.specs.Checking.{IsChecked, made_parts}
-use Rattle.hg_root.specs.Grammar.{ThreadFits, head_text, header, many_text, page_text, pages_text, report_text, root_text, segment_text, set_text, some_text, source_text, thread_text}
+use Rattle.hg_root.specs.Grammar.{ThreadFits, header, many_text, pages_text, report_text, root_text, segment_text, set_text, some_text, source_text, thread_text}
 use Rattle.hg_root.specs.Fault.{IsDamagedOrMemory}
-use Rattle.hg_root.specs.Lawful.{AreHeld, IsLawful, IsLawfulHead, IsRoot, named_below, named_threads}
+use Rattle.hg_root.specs.Lawful.{AreHeld, IsRoot, named_threads}
 use Rattle.hg_root.specs.Parts.{Parts}
 use Rattle.hg_root.specs.declared.fault.RootFault.{RootFault}
 use Rattle.hg_root.specs.declared.fault.RootFault.TheVariants as faults
 use Rattle.hg_root.specs.declared.root.Root.{Root}
 use Rattle.hg_root.specs.Reading.{◌>>=◌, Fails, ended}
 use Rattle.hg_root.specs.Roots.{parts_of}
-use Rattle.hg_root.proofs.BodyFormats.{BackFits, FrontFits, IsThread, back_format, back_text, front_format, front_text, middle_format}
-use Rattle.hg_root.proofs.Formats.{IsBytes, Takes, bind_some, some_is}
+use Rattle.hg_root.proofs.BodyFormats.{BackFits, IsThread, back_format, back_text, front_format, front_text, middle_format}
+use Rattle.hg_root.proofs.Formats.{IsBytes, bind_some, some_is}
 
 ended_some : {A : Type 0} (b : Bool) (x y : A) → cond b (Some x) None ≡ Some y → (b ≡ true) × (x ≡ y)
 ended_some true x y e = (refl, cc)
@@ -72,9 +72,10 @@ are_named segments = each_named (names segments) 1024 (range_with_len 0 1024) (r
 numbers_named : (segments : List Segment) (ts : List ThreadState) → AllByRecursion (λ t. (t < 1024) × (names segments t ≡ true)) (map (λ t. t.number) ts) → AllByRecursion ThreadFits ts → AllByRecursion (λ t. AreHeld t.held) ts → 0 < length segments → length segments ≤ 1048576
     → AllByRecursion (IsThread segments) ts
 numbers_named segments [] named fits held some few = tt
-numbers_named segments (t ∷ ts) named fits held some few =
-    (record { fits = fits.0; small = named.0.0; last = ap (λ b. cond b (Some (present segments t.number)) None) named.0.1; held = held.0; few = (let lt = last_of_lt t.number 0 0 (length segments) segments some (omega arith) in omega arith) },
-    numbers_named segments ts named.1 fits.1 held.1 some few)
+numbers_named segments (t ∷ ts) named fits held some few = (
+  record { fits = fits.0; small = named.0.0; last = ap (λ b. cond b (Some (present segments t.number)) None) named.0.1; held = held.0; few = (let lt = last_of_lt t.number 0 0 (length segments) segments some (omega arith) in omega arith) },
+  numbers_named segments ts named.1 fits.1 held.1 some few,
+)
 
 each_fits : (segments : List Segment) (ts : List ThreadState) → AllByRecursion (IsThread segments) ts → AllByRecursion ThreadFits ts
 each_fits segments [] is = tt
@@ -94,9 +95,11 @@ module _ (bytes : List ℕ) (p : Parts) (root : IsRoot bytes p) where
   middle_again =
       let fits = root.lawful.head.fits in
       let count = root.lawful.head.segment_count in
-      (middle_format p.segments).again p.threads (behind_threads p)
-      (fits.thread_count, numbers_named p.segments p.threads (subst (λ (ts : List ℕ). AllByRecursion (λ t. (t < 1024) × (names p.segments t ≡ true)) ts) (sym root.lawful.head.named) (are_named p.segments)) fits.threads
-      (recursion_from_All (λ t. AreHeld t.held) p.threads root.lawful.head.held) (omega (arith, count.0)) count.1)
+      (middle_format p.segments).again p.threads (behind_threads p) (
+        fits.thread_count,
+        numbers_named p.segments p.threads (subst (λ (ts : List ℕ). AllByRecursion (λ t. (t < 1024) × (names p.segments t ≡ true)) ts) (sym root.lawful.head.named) (are_named p.segments)) fits.threads
+            (recursion_from_All (λ t. AreHeld t.held) p.threads root.lawful.head.held) (omega (arith, count.0)) count.1,
+      )
 
   pub back_again : ended back_at (behind_threads p) ≡ Some (back_of p)
   back_again =
@@ -131,7 +134,7 @@ found bytes are f r1 threads r2 b e1 segments count e2 e3 checked =
     let rest : r2 ≡ back_text b ++ [] = three.0.parts ∙ ap (λ (x : BackParts). back_text x ++ last.0.1) done.1 ∙ ap (λ (x : List ℕ). back_text b ++ x) nothing in
     let p = made_parts f.0 f.1.0 f.1.1 threads b in
     let text : bytes ≡ root_text p =
-        one.0.parts ∙ ap (λ (x : List ℕ). front_text f ++ x) (two.0.parts ∙ ap (λ (x : List ℕ). some_text (thread_text f.1.1) threads ++ x) rest) ∙ sym (root_is p) in
+    one.0.parts ∙ ap (λ (x : List ℕ). front_text f ++ x) (two.0.parts ∙ ap (λ (x : List ℕ). some_text (thread_text f.1.1) threads ++ x) rest) ∙ sym (root_is p) in
     record {
       text = text;
       lawful = record {
@@ -176,7 +179,7 @@ one_reading bytes p q one other =
     let first = some_is (front_of p, behind_segments p) (front_of q, behind_segments q) (sym (front_again bytes p one) ∙ front_again bytes q other) in
     let segments : p.segments ≡ q.segments = ap (λ (x : FrontParts × List ℕ). x.0.1.1) first in
     let second = some_is (p.threads, behind_threads p) (q.threads, behind_threads q)
-        (sym (middle_again bytes p one) ∙ ap (λ (x : FrontParts × List ℕ). middle_at x.0.1.1 x.1) first ∙ middle_again bytes q other) in
+    (sym (middle_again bytes p one) ∙ ap (λ (x : FrontParts × List ℕ). middle_at x.0.1.1 x.1) first ∙ middle_again bytes q other) in
     let third = some_is (back_of p) (back_of q) (sym (back_again bytes p one) ∙ ap (λ (x : List ThreadState × List ℕ). ended back_at x.1) second ∙ back_again bytes q other) in
     λ i. made_parts (first i).0.0 (first i).0.1.0 (first i).0.1.1 (second i).0 (third i)
 

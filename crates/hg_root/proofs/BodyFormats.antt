@@ -1,21 +1,17 @@
 -- The parts of a body: what is read is spelled so, and what is spelled so is read.
-use Rattle.std.proofs.Common.{◌≡◌, ◌⊎◌, inl, inr, ℕ, suc, zero, ◌+◌, ◌^◌, ◌<◌, ◌≤◌, Bool, true, false, cond, eqb, ◌&&◌, ◌||◌, List, [], ◌∷◌, ◌++◌, length, map, All, Option, Some, None, refl, sym, ap, subst, ⊎_elim, ◌∙◌, append_assoc, arith}
+use Rattle.std.proofs.Common.{◌≡◌, ◌⊎◌, inl, inr, ℕ, ◌^◌, ◌<◌, Bool, true, false, cond, eqb, ◌||◌, List, [], ◌∷◌, ◌++◌, length, Some, None, refl, sym, ap, ⊎_elim, ◌∙◌, arith}
 use Rattle.std.specs.Int.{w16, w32, w64, to_be_bytes}
-use Rattle.std.specs.List.{flat_map, AllByRecursion}
-use Rattle.std.proofs.lemmas.Bool.{eqb-true, eq-eqb, and_parts, or_cases, false≢true, lt-ltb}
+use Rattle.std.specs.List.{AllByRecursion}
+use Rattle.std.proofs.lemmas.Bool.{eqb-true, eq-eqb, and_parts, or_cases, false≢true}
 use Rattle.hg_model.specs.Segments.{present}
-use Rattle.hg_model.specs.declared.held.HeldLock.{HeldLock}
 use Rattle.hg_model.specs.declared.segment.Segment.{Segment}
 use Rattle.hg_model.specs.declared.thread.ThreadState.{ThreadState}
-use Rattle.hg_cells.specs.declared.report.KeptReport.{KeptReport}
 use Rattle.hg_graph.specs.Graph.{names}
 use Rattle.hg_graph.specs.Restoring.{former}
-use Rattle.hg_root.specs.declared.parts.PageSlot.{PageSlot}
-use Rattle.hg_root.specs.declared.parts.SourceCount.{SourceCount}
-use Rattle.hg_root.specs.Body.{BackParts, FrontParts, back_at, front_at, header_at, header_number, middle_at}
+use Rattle.hg_root.specs.Body.{BackParts, FrontParts, back_at, front_at, header_number, middle_at}
 use Rattle.hg_root.specs.Grammar.{LockFits, PageFits, ReportFits, SegmentFits, SetFits, SourceFits, ThreadFits, few_text, lock_text, many_text, page_text, report_text, segment_text, set_text, some_text, source_text, thread_text}
 use Rattle.hg_root.specs.Lawful.{AreHeld}
-use Rattle.hg_root.specs.Reading.{Reader, RawThread, alive_at, are_held, byte_at, is_last, is_thread, kind_at, lock_at, members_at, mode_at, page_at, raw_thread_at, report_at, segment_at, source_at, thread_at}
+use Rattle.hg_root.specs.Reading.{RawThread, alive_at, are_held, is_last, is_thread, kind_at, lock_at, members_at, mode_at, page_at, raw_thread_at, report_at, segment_at, source_at, thread_at}
 use Rattle.hg_root.proofs.Formats.{IsFormat, as_format, both_format, format8, format16, format32, format64, listed_format, made_format, such_that_format}
 use Rattle.hg_root.proofs.ThreadReading.{held_is, is_held, is_its_last, last_is}
 
@@ -44,6 +40,7 @@ mode_format =
     back : (w : Bool) → eqb (cond w 1 2) 1 ≡ w
     back true = refl
     back false = refl
+
     fits : (w : Bool) → Unit {0} → (cond w 1 2 < 2 ^ 8) × ((eqb (cond w 1 2) 1 || eqb (cond w 1 2) 2) ≡ true)
     fits true f = (omega arith, refl)
     fits false f = (omega arith, refl)
@@ -56,6 +53,7 @@ kind_format =
     back : (w : Bool) → eqb (cond w 7 6) 7 ≡ w
     back true = refl
     back false = refl
+
     fits : (w : Bool) → Unit {0} → (cond w 7 6 < 2 ^ 8) × ((eqb (cond w 7 6) 6 || eqb (cond w 7 6) 7) ≡ true)
     fits true f = (omega arith, refl)
     fits false f = (omega arith, refl)
@@ -68,6 +66,7 @@ alive_format =
     back : (w : Bool) → eqb (cond w 1 0) 1 ≡ w
     back true = refl
     back false = refl
+
     fits : (w : Bool) → Unit {0} → (cond w 1 0 < 2 ^ 8) × ((eqb (cond w 1 0) 0 || eqb (cond w 1 0) 1) ≡ true)
     fits true f = (omega arith, refl)
     fits false f = (omega arith, refl)
@@ -122,11 +121,13 @@ thread_format segments =
     there a f =
         let parts = and_parts (is_last segments a.0 a.1.1.0) (are_held a.1.1.1) f.1 in
         ap (λ (l : ℕ). (a.0, (a.1.0, (l, a.1.1.1)))) (sym (former_present segments a.0 a.1.1.0 (is_its_last segments a.0 a.1.1.0 parts.0).1))
+
     to : (t : ThreadState) → ((t.number < 2 ^ 16) × (Unit {0} × ((present segments t.number < 2 ^ 32) × ((length t.held < 2 ^ 8) × AllByRecursion LockFits t.held)))) × (is_thread segments (raw_of segments t) ≡ true) → IsThread segments t
     to t f =
         let parts = and_parts (is_last segments t.number (present segments t.number)) (are_held t.held) f.1 in
         let last = is_its_last segments t.number (present segments t.number) parts.0 in
         record { fits = (f.0.0, f.0.1.1.1); small = last.0; last = last.1; held = is_held t.held parts.1; few = f.0.1.1.0 }
+
     from : (t : ThreadState) → IsThread segments t → ((t.number < 2 ^ 16) × (Unit {0} × ((present segments t.number < 2 ^ 32) × ((length t.held < 2 ^ 8) × AllByRecursion LockFits t.held)))) × (is_thread segments (raw_of segments t) ≡ true)
     from t is = ((is.fits.0, (tt, (is.few, is.fits.1))), rw (last_is segments t.number (present segments t.number) is.small is.last, held_is t.held is.held) refl)
 

@@ -50,8 +50,8 @@ contains_other xs y s other (k, lt, is) =
     elim (cases_lt k (length xs)) [
       | inl less ↦ (k, less, sym (get_or_append_left xs (y ∷ []) s k less) ∙ is)
       | inr more ↦
-        let here : length xs ≡ k = omega (arith, length-append xs (y ∷ []), lt) in
-        absurd (other (sym (get_or_push xs y s k here) ∙ is))
+          let here : length xs ≡ k = omega (arith, length-append xs (y ∷ []), lt) in
+          absurd (other (sym (get_or_push xs y s k here) ∙ is))
     ]
 
 -- the slots so far, and the table that has a mark at each
@@ -67,13 +67,15 @@ marked_push slots taken most y m small none = record {
       let there : Contains slots y = (k, lt, same_at slots k y d lt ∙ same) in
       false≢true (sym none ∙ (m.each y small).1 there));
   each = λ slot lt. elim (cases_eq y slot) [
-    | inl same ↦
-      (λ _. subst (Contains (slots ++ y ∷ [])) same (contains_new slots y),
-      λ _. ap (λ (n : ℕ). get_or (set taken y true) n false) (sym same) ∙ get_or-set_same taken y true false (omega (arith, m.len)))
+    | inl same ↦ (
+      λ _. subst (Contains (slots ++ y ∷ [])) same (contains_new slots y),
+      λ _. ap (λ (n : ℕ). get_or (set taken y true) n false) (sym same) ∙ get_or-set_same taken y true false (omega (arith, m.len)),
+    )
     | inr other ↦
-      let apart : get_or (set taken y true) slot false ≡ get_or taken slot false = get_or-set_other taken y slot true false (λ e. other (sym e)) in
-      (λ is. contains_old slots y slot ((m.each slot lt).0 (sym apart ∙ is)),
-      λ has. apart ∙ (m.each slot lt).1 (contains_other slots y slot other has))
+        let apart : get_or (set taken y true) slot false ≡ get_or taken slot false = get_or-set_other taken y slot true false (λ e. other (sym e)) in (
+          λ is. contains_old slots y slot ((m.each slot lt).0 (sym apart ∙ is)),
+          λ has. apart ∙ (m.each slot lt).1 (contains_other slots y slot other has),
+        )
   ];
 }
 
@@ -95,8 +97,8 @@ twice pages i d taken most lt small some m all =
     let before : has.0 < i = omega (arith, len, length-take i pages, has.1) in
     let within : has.0 < length pages = omega arith in
     let one : get_or (slots_of pages) has.0 y ≡ y =
-        get_or-map (λ p. p.slot) pages has.0 d y within ∙ ap (λ (p : PageSlot). p.slot) (sym (get_or-take i pages has.0 d before))
-        ∙ sym (get_or-map (λ p. p.slot) (take i pages) has.0 d y (omega (arith, length-take i pages))) ∙ has.2 in
+    get_or-map (λ p. p.slot) pages has.0 d y within ∙ ap (λ (p : PageSlot). p.slot) (sym (get_or-take i pages has.0 d before))
+    ∙ sym (get_or-map (λ p. p.slot) (take i pages) has.0 d y (omega (arith, length-take i pages))) ∙ has.2 in
     let other : get_or (slots_of pages) i y ≡ y = get_or-map (λ p. p.slot) pages i d y lt in
     all has.0 i y before (omega (arith, length-map pages (λ p. p.slot))) (one ∙ sym other)
 

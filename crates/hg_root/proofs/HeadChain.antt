@@ -1,5 +1,5 @@
 -- Pieces put one behind the other.
-use Rattle.std.proofs.Common.{◌≡◌, ℕ, List, [], ◌++◌, refl, ap, ◌∙◌, append_assoc}
+use Rattle.std.proofs.Common.{◌≡◌, ℕ, List, [], ◌++◌, ap, ◌∙◌, append_assoc}
 
 together : (h a b c t s o r u : List ℕ) → (((((((([] ++ h) ++ a) ++ b) ++ c) ++ t) ++ s) ++ o) ++ r) ++ u ≡ h ++ (a ++ (b ++ (c ++ (t ++ (s ++ (o ++ (r ++ u)))))))
 together h a b c t s o r u = simp append_assoc

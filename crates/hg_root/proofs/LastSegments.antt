@@ -1,12 +1,11 @@
 -- The last segments of threads, as a loop over the segments finds them.
-use Rattle.std.proofs.Common.{◌≡◌, ◌⊎◌, inl, inr, ℕ, ◌+◌, ◌<◌, ◌≤◌, Bool, true, false, cond, ◌&&◌, ◌||◌, eqb, nat_lt, List, [], ◌∷◌, ◌++◌, length, take, get_or, set, replicate, slice_get, Option, Some, None, refl, sym, ap, subst, ◌∙◌, arith, length-set, length-take, get_or-set_same, get_or-set_other}
+use Rattle.std.proofs.Common.{◌≡◌, inl, inr, ℕ, ◌+◌, ◌<◌, ◌≤◌, Bool, true, false, cond, ◌&&◌, ◌||◌, eqb, List, [], ◌∷◌, ◌++◌, length, take, get_or, set, slice_get, Option, Some, None, refl, sym, ap, subst, ◌∙◌, arith, length-set, length-take, get_or-set_same, get_or-set_other}
 use Rattle.std.specs.Prelude.{slice_index_or}
-use Rattle.std.specs.List.{list_any}
 use Rattle.std.proofs.lemmas.Bool.{and_parts, cases_lt, cases_eq, eq-eqb, ne_eqb, ltb-true}
 use Rattle.std.proofs.lemmas.Option.{get_or_from_slice_get, slice_get-get_or, slice_get_read, slice_get_within}
-use Rattle.std.proofs.lemmas.List.{take_more, take_all, length-replicate}
+use Rattle.std.proofs.lemmas.List.{take_more, take_all}
 use Rattle.std.proofs.lemmas.List.Folds.{list_any-append}
-use Rattle.hg_model.specs.Segments.{of_thread, present}
+use Rattle.hg_model.specs.Segments.{present}
 use Rattle.hg_model.specs.declared.segment.Segment.{Segment}
 use Rattle.hg_model.proofs.Owners.{present_push}
 use Rattle.hg_graph.specs.Graph.{names}
@@ -53,25 +52,25 @@ step segments k t lasts s d u within at mine small stands =
     let count : length (take k segments) ≡ k = omega (arith, length-take k segments) in
     let more : take (k + 1) segments ≡ take k segments ++ s ∷ [] = take_more segments k d within ∙ ap (λ (x : Segment). take k segments ++ x ∷ []) (sym at) in
     let each : (u' : ℕ) → u' < 1024 → slice_index_or (set lasts t (Some k)) u' None ≡ former (take (k + 1) segments) u' = λ u' lt.
-        let goal : former (take (k + 1) segments) u' ≡ cond (eqb s.thread u') (Some k) (former (take k segments) u') =
-            ap (λ (xs : List Segment). former xs u') more ∙ former_more (take k segments) s u' ∙ ap (λ (n : ℕ). cond (eqb s.thread u') (Some n) (former (take k segments) u')) count in
-        elim (cases_eq t u') [
-          | inl same ↦
-            ap (λ (n : ℕ). slice_index_or (set lasts t (Some k)) n None) (sym same) ∙ get_or-set_same lasts t (Some k) None (omega (arith, u.table.len))
-            ∙ sym (goal ∙ ap (λ b. cond b (Some k) (former (take k segments) u')) (eq-eqb s.thread u' (sym mine ∙ same)))
-          | inr other ↦
-            get_or-set_other lasts t u' (Some k) None (λ e. other (sym e)) ∙ u.table.each u' lt
-            ∙ sym (goal ∙ ap (λ b. cond b (Some k) (former (take k segments) u')) (ne_eqb s.thread u' (λ e. other (mine ∙ e))))
-        ] in
+    let goal : former (take (k + 1) segments) u' ≡ cond (eqb s.thread u') (Some k) (former (take k segments) u') =
+    ap (λ (xs : List Segment). former xs u') more ∙ former_more (take k segments) s u' ∙ ap (λ (n : ℕ). cond (eqb s.thread u') (Some n) (former (take k segments) u')) count in
+    elim (cases_eq t u') [
+      | inl same ↦
+          ap (λ (n : ℕ). slice_index_or (set lasts t (Some k)) n None) (sym same) ∙ get_or-set_same lasts t (Some k) None (omega (arith, u.table.len))
+          ∙ sym (goal ∙ ap (λ b. cond b (Some k) (former (take k segments) u')) (eq-eqb s.thread u' (sym mine ∙ same)))
+      | inr other ↦
+          get_or-set_other lasts t u' (Some k) None (λ e. other (sym e)) ∙ u.table.each u' lt
+          ∙ sym (goal ∙ ap (λ b. cond b (Some k) (former (take k segments) u')) (ne_eqb s.thread u' (λ e. other (mine ∙ e))))
+    ] in
     record {
       within = omega arith;
       table = record { len = length-set lasts t (Some k) ∙ u.table.len; each = each };
       lawful = λ j x lt is. elim (cases_lt j k) [
         | inl before ↦ u.lawful j x before is
         | inr last ↦
-          let here : j ≡ k = omega arith in
-          let same : x ≡ s = sym (get_or_from_slice_get segments j x d is) ∙ ap (λ (n : ℕ). get_or segments n d) here ∙ sym at in
-          subst (λ (n : ℕ). stands_behind (take n segments) x ≡ true) (sym here) (subst (λ (y : Segment). stands_behind (take k segments) y ≡ true) (sym same) stands)
+            let here : j ≡ k = omega arith in
+            let same : x ≡ s = sym (get_or_from_slice_get segments j x d is) ∙ ap (λ (n : ℕ). get_or segments n d) here ∙ sym at in
+            subst (λ (n : ℕ). stands_behind (take n segments) x ≡ true) (sym here) (subst (λ (y : Segment). stands_behind (take k segments) y ≡ true) (sym same) stands)
       ];
     }
 

@@ -1,11 +1,10 @@
 -- The threads that segments name, in order, and the last numbers of sources.
-use Rattle.std.proofs.Common.{◌≡◌, ◌⊎◌, inl, inr, ℕ, suc, zero, ◌+◌, ◌-◌, ◌<◌, ◌≤◌, Bool, true, false, cond, eqb, List, [], ◌∷◌, ◌++◌, length, map, filter, drop, get_or, set, All, Option, Some, None, refl, sym, ap, subst, ◌∙◌, arith, add-one, length-set, get_or-set_same, get_or-set_other, drop-cons, append-nil, replicate}
+use Rattle.std.proofs.Common.{◌≡◌, inl, inr, ℕ, suc, zero, ◌+◌, ◌<◌, Bool, true, false, cond, eqb, List, [], ◌∷◌, ◌++◌, length, filter, drop, get_or, set, Option, None, refl, sym, ap, ◌∙◌, arith, add-one, get_or-set_same, get_or-set_other, drop-cons, replicate}
 use Rattle.std.specs.Prelude.{slice_index_or, is_some}
 use Rattle.std.specs.List.{range_with_len}
 use Rattle.std.proofs.lemmas.Bool.{cases_eq, eq-eqb, ne_eqb}
 use Rattle.std.proofs.lemmas.List.{drop_all}
 use Rattle.std.proofs.lemmas.List.Elements.{filter-append}
-use Rattle.hg_model.specs.Segments.{present}
 use Rattle.hg_model.specs.declared.segment.Segment.{Segment}
 use Rattle.hg_graph.specs.Graph.{names}
 use Rattle.hg_graph.specs.Restoring.{former}
@@ -47,11 +46,11 @@ last_more sources i d last within small have source =
     let goal : last_number (drop i sources) source ≡ cond (eqb s.source source) s.last (last_number (drop (i + 1) sources) source) = ap (λ (xs : List SourceCount). last_number xs source) split in
     elim (cases_eq s.source source) [
       | inl same ↦
-        ap (λ (n : ℕ). get_or (set last s.source s.last) n 0) (sym same) ∙ get_or-set_same last s.source s.last 0 small
-        ∙ sym (goal ∙ ap (λ b. cond b s.last (last_number (drop (i + 1) sources) source)) (eq-eqb s.source source same))
+          ap (λ (n : ℕ). get_or (set last s.source s.last) n 0) (sym same) ∙ get_or-set_same last s.source s.last 0 small
+          ∙ sym (goal ∙ ap (λ b. cond b s.last (last_number (drop (i + 1) sources) source)) (eq-eqb s.source source same))
       | inr other ↦
-        get_or-set_other last s.source source s.last 0 (λ e. other (sym e)) ∙ have source
-        ∙ sym (goal ∙ ap (λ b. cond b s.last (last_number (drop (i + 1) sources) source)) (ne_eqb s.source source other))
+          get_or-set_other last s.source source s.last 0 (λ e. other (sym e)) ∙ have source
+          ∙ sym (goal ∙ ap (λ b. cond b s.last (last_number (drop (i + 1) sources) source)) (ne_eqb s.source source other))
     ]
 
 pub zeros : (n i : ℕ) → ◌≡◌ {A = ℕ} (get_or (replicate n 0) i 0) 0

@@ -1,16 +1,15 @@
 -- What a crash leaves of two root files in the steps of a root.
-use Rattle.std.proofs.Common.{◌≡◌, ◌≢◌, ◌⊎◌, inl, inr, ⊎_elim, ℕ, Bool, true, false, List, [], ◌∷◌, ◌++◌, drop, Option, Some, None, OnOk, Ok, Err, Result, refl, sym, ◌∙◌, ap, subst, arith, append_assoc, append-nil}
+use Rattle.std.proofs.Common.{◌≡◌, ◌≢◌, ◌⊎◌, inl, inr, ⊎_elim, ℕ, Bool, false, List, [], ◌∷◌, ◌++◌, Option, Some, None, OnOk, Ok, Err, Result, refl, sym, ◌∙◌, ap, subst, append_assoc, append-nil}
 use Rattle.std.proofs.lemmas.Bool.{cases_eq}
 use Rattle.std.proofs.lemmas.List.{append_cancel_right}
 use Rattle.hg_disk.specs.State.{DiskState, IsImage, settled}
 use Rattle.hg_disk.specs.Moments.{EachLeaves, HasGone, LeavesOnly, history}
 use Rattle.hg_disk.specs.declared.disk.Disk as disk
-use Rattle.hg_gate.specs.Batches.{IsClosed, open_gate, closed_gate}
-use Rattle.hg_gate.specs.Gated as gated
-use Rattle.hg_gate.specs.Gated.{IsBehindGate, IsClosedOrOpenWith, IsOpenWith, Rests, framed}
+use Rattle.hg_gate.specs.Batches.{IsClosed, open_gate}
+use Rattle.hg_gate.specs.Gated.{IsBehindGate, IsClosedOrOpenWith, Rests, framed}
 use Rattle.hg_root.specs.Lawful.{IsRoot}
 use Rattle.hg_root.specs.Newest.{IsBelow, IsFormer, IsNewest, IsRootFile}
-use Rattle.hg_root.specs.Pairs.{EachPair, IsAmong, IsEither, IsKnown, IsOpened, IsPrepared, MayLeave, Stands, newer, older}
+use Rattle.hg_root.specs.Pairs.{EachPair, IsAmong, IsEither, IsKnown, IsPrepared, MayLeave, Stands, newer, older}
 use Rattle.hg_root.specs.Parts.{Parts}
 use Rattle.hg_root.specs.declared.pair.RootPair.{RootPair}
 

@@ -1,5 +1,5 @@
 -- Numbers of the items of a list that rise, as a loop finds out.
-use Rattle.std.proofs.Common.{◌≡◌, ◌⊎◌, inl, inr, ℕ, ◌+◌, ◌-◌, ◌<◌, ◌≤◌, List, length, map, get_or, refl, sym, ap, subst, ◌∙◌, arith}
+use Rattle.std.proofs.Common.{◌≡◌, inl, inr, ℕ, ◌+◌, ◌-◌, ◌<◌, ◌≤◌, List, length, map, get_or, ap, ◌∙◌, arith}
 use Rattle.std.specs.Prelude.{slice_index}
 use Rattle.std.specs.List.Sorted.{IsStrictlyIncreasing}
 use Rattle.std.proofs.lemmas.Bool.{cases_lt}
@@ -15,11 +15,11 @@ module _ {X : Type 0} (f : X → ℕ) where
       elim (cases_lt (k + 1) i) [
         | inl before ↦ so_far k before
         | inr last ↦
-          let here : k + 1 ≡ i = omega arith in
-          let back : k ≡ i - 1 = omega arith in
-          let one : slice_index (map f xs) k ≡ f (get_or xs (i - 1) d) = ap (λ (n : ℕ). slice_index (map f xs) n) back ∙ get_or-map f xs (i - 1) d 0 (omega arith) in
-          let other : slice_index (map f xs) (k + 1) ≡ f (get_or xs i d) = ap (λ (n : ℕ). slice_index (map f xs) n) here ∙ get_or-map f xs i d 0 within in
-          omega (arith, one, other, less)
+            let here : k + 1 ≡ i = omega arith in
+            let back : k ≡ i - 1 = omega arith in
+            let one : slice_index (map f xs) k ≡ f (get_or xs (i - 1) d) = ap (λ (n : ℕ). slice_index (map f xs) n) back ∙ get_or-map f xs (i - 1) d 0 (omega arith) in
+            let other : slice_index (map f xs) (k + 1) ≡ f (get_or xs i d) = ap (λ (n : ℕ). slice_index (map f xs) n) here ∙ get_or-map f xs i d 0 within in
+            omega (arith, one, other, less)
       ]
 
   pub rises_not : (xs : List X) (i : ℕ) (d : X) → 1 ≤ i → i < length xs → f (get_or xs i d) ≤ f (get_or xs (i - 1) d) → IsStrictlyIncreasing (map f xs) → ⊥

@@ -1,5 +1,5 @@
 -- A thread that is read.
-use Rattle.std.proofs.Common.{◌≡◌, ℕ, suc, ◌+◌, ◌<◌, ◌≤◌, Bool, true, false, cond, ◌&&◌, List, [], ◌∷◌, length, map, get_or, Option, Some, None, refl, sym, ap, subst, ◌∙◌, arith, nat_lt, eqb}
+use Rattle.std.proofs.Common.{◌≡◌, ℕ, suc, ◌<◌, ◌≤◌, Bool, true, false, cond, ◌&&◌, List, [], ◌∷◌, length, map, get_or, Option, Some, None, refl, sym, ap, ◌∙◌, arith, nat_lt}
 use Rattle.std.specs.Int.{w16, w32}
 use Rattle.std.specs.Prelude.{slice_index_or}
 use Rattle.std.specs.List.Sorted.{IsStrictlyIncreasing}
@@ -11,7 +11,7 @@ use Rattle.hg_model.specs.declared.thread.ThreadState.{ThreadState}
 use Rattle.hg_graph.specs.Restoring.{former}
 use Rattle.hg_root.specs.Last.{IsLastTable}
 use Rattle.hg_root.specs.Lawful.{AreHeld}
-use Rattle.hg_root.specs.Reading.{◌>>=◌, RawThread, alive_at, are_held, byte_at, is_last, is_some_of, is_thread, lock_at, number_at, raw_thread_at, rises, thread_at, times}
+use Rattle.hg_root.specs.Reading.{RawThread, alive_at, are_held, byte_at, is_last, is_some_of, is_thread, lock_at, number_at, raw_thread_at, rises, thread_at, times}
 
 from_rises : (n : ℕ) (xs : List ℕ) → (0 < length xs → n ≤ get_or xs 0 0) → rises xs ≡ true → From n xs
 from_rises n [] h up = tt

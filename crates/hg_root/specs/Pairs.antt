@@ -1,5 +1,5 @@
 -- What a crash may leave of two root files, and how a pair of them stands in each step.
-use Rattle.std.specs.Prelude.{◌≡◌, ◌≢◌, ◌⊎◌, ◌<◌, ℕ, Bool, true, false, List, [], ◌∷◌, ◌++◌, Option, Some, None, if◌then◌else◌}
+use Rattle.std.specs.Prelude.{◌≡◌, ◌≢◌, ◌⊎◌, ℕ, Bool, true, false, List, [], ◌∷◌, Option, Some, None, if◌then◌else◌}
 use Rattle.hg_disk.specs.State.{DiskState, IsImage}
 use Rattle.hg_disk.specs.Moments.{HasGone}
 use Rattle.hg_disk.specs.declared.disk.Disk as disk

@@ -1,5 +1,5 @@
 -- Reading a body from the front, piece after piece. (No promise to a reader rests on this file.)
-use Rattle.std.specs.Prelude.{◌≡◌, ◌⊎◌, ℕ, zero, suc, Bool, true, false, ◌&&◌, ◌||◌, ◌==◌, nat_lt, nat_le, List, [], ◌∷◌, length, map, take, drop, Option, Some, None, Result, Ok, Err, if◌then◌else◌}
+use Rattle.std.specs.Prelude.{◌≡◌, ℕ, zero, suc, Bool, true, false, ◌&&◌, ◌||◌, ◌==◌, nat_lt, nat_le, List, [], ◌∷◌, length, map, take, drop, Option, Some, None, Result, Ok, Err, if◌then◌else◌}
 use Rattle.std.specs.Int.{Width, w16, w32, w64, byte_len, from_be_bytes}
 use Rattle.hg_graph.specs.Restoring.{former}
 use Rattle.hg_model.specs.declared.held.HeldLock.{HeldLock}
@@ -10,7 +10,6 @@ use Rattle.hg_root.specs.declared.fault.RootFault.{RootFault}
 use Rattle.hg_root.specs.declared.fault.RootFault.TheVariants.{Broken, Damaged, DeviceFault, OutOfMemory}
 use Rattle.hg_root.specs.declared.parts.PageSlot.{PageSlot}
 use Rattle.hg_root.specs.declared.parts.SourceCount.{SourceCount}
-use Rattle.hg_root.specs.Parts.{Parts}
 
 infixl 10 ◌>>=◌
 abbrev pub ◌>>=◌ : {A B : Type 0} → Option A → (A → Option B) → Option B

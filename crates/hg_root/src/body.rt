@@ -33,10 +33,7 @@ pub(crate) struct Back {
 }
 
 /// How many there are, in four bytes, and each.
-fn many_of<T: Piece + Drop>(
-    alloc: Global,
-    bytes: &[u8],
-) -> Result<(Vec<T>, &[u8]), RootFault>
+fn many_of<T: Piece + Drop>(alloc: Global, bytes: &[u8]) -> Result<(Vec<T>, &[u8]), RootFault>
     ensures { Gives (λ x. (x.0.items, x.1.now)) result (listed (number_at w32) T.reading bytes.now) }
 {
     let (count, rest) = u32_at(bytes)?;
@@ -44,10 +41,7 @@ fn many_of<T: Piece + Drop>(
 }
 
 /// How many there are, in two bytes, and each.
-fn some_of<T: Piece + Drop>(
-    alloc: Global,
-    bytes: &[u8],
-) -> Result<(Vec<T>, &[u8]), RootFault>
+fn some_of<T: Piece + Drop>(alloc: Global, bytes: &[u8]) -> Result<(Vec<T>, &[u8]), RootFault>
     ensures { Gives (λ x. (x.0.items, x.1.now)) result (listed (number_at w16) T.reading bytes.now) }
 {
     let (count, rest) = u16_at(bytes)?;

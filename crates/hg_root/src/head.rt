@@ -102,7 +102,14 @@ fn put_thread(graph: &Graph, thread: &ThreadState, out: &mut Vec<u8>) -> Result<
     let alive = if thread.alive { 1 } else { 0 };
     let held = thread.held.as_slice();
     out.extend_from_slice(&[
-        number[0], number[1], alive, last[0], last[1], last[2], last[3], held.len() as u8,
+        number[0],
+        number[1],
+        alive,
+        last[0],
+        last[1],
+        last[2],
+        last[3],
+        held.len() as u8,
     ])?;
     put_each(held, out)
 }

@@ -265,9 +265,9 @@ impl Piece for KeptReport {
         let kind = if self.write { 7 } else { 6 };
         let threads = self.threads.to_be_bytes();
         out.extend_from_slice(&[
-            event[0], event[1], event[2], event[3], event[4], event[5], event[6], event[7], word[0],
-            word[1], word[2], word[3], word[4], word[5], word[6], word[7], thread[0], thread[1],
-            kind, threads[0], threads[1], threads[2], threads[3],
+            event[0], event[1], event[2], event[3], event[4], event[5], event[6], event[7],
+            word[0], word[1], word[2], word[3], word[4], word[5], word[6], word[7], thread[0],
+            thread[1], kind, threads[0], threads[1], threads[2], threads[3],
         ])
     }
 }

@@ -10,9 +10,12 @@ pub not_new : (limit i : ℕ) (sets : List (List ℕ)) (x members : List ℕ) (t
 not_new limit i sets x members t within at same is refused are =
     let each : members ≡ get_or sets i x = same ∙ at in
     let rising : IsStrictlyIncreasing members = subst IsStrictlyIncreasing (sym each) (are.rising i x within) in
-    refused (rising, λ stands.
-        let stood = subst (λ (u : Table). Contains u.sets members) is stands in
-        let earlier : stood.0 < i = omega (arith, length-take i sets, stood.1) in
-        let one : get_or sets stood.0 members ≡ members = sym (get_or-take i sets stood.0 members earlier) ∙ stood.2 in
-        let other : get_or sets i members ≡ members = sym (subst (λ (y : List ℕ). y ≡ get_or sets i y) (sym same) at) in
-        are.distinct stood.0 i members earlier within (one ∙ sym other))
+    refused (
+      rising,
+      λ stands.
+          let stood = subst (λ (u : Table). Contains u.sets members) is stands in
+          let earlier : stood.0 < i = omega (arith, length-take i sets, stood.1) in
+          let one : get_or sets stood.0 members ≡ members = sym (get_or-take i sets stood.0 members earlier) ∙ stood.2 in
+          let other : get_or sets i members ≡ members = sym (subst (λ (y : List ℕ). y ≡ get_or sets i y) (sym same) at) in
+          are.distinct stood.0 i members earlier within (one ∙ sym other),
+    )

@@ -1,4 +1,4 @@
-use Rattle.std.proofs.Common.{◌≡◌, ◌∙◌, true, false, sym, arith}
+use Rattle.std.proofs.Common.{◌∙◌, sym, arith}
 use Rattle.std.proofs.lemmas.Bool.{false≢true}
 use Rattle.hg_root.proofs.LastSegments.{done_lawful, no_such_thread, refused, step, told}
 use Rattle.hg_root.proofs.lasts.lasts_of.Goals as goal

@@ -1,4 +1,4 @@
-use Rattle.std.proofs.Common.{◌≡◌, ◌∙◌, rules, subst}
+use Rattle.std.proofs.Common.{◌∙◌, rules, subst}
 use Rattle.hg_root.specs.Lawful.{AreInOrder}
 use Rattle.hg_root.proofs.root.checked.Goals as goal
 

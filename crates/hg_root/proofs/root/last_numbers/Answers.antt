@@ -12,10 +12,10 @@ pub loop-left-init : goal.loop-left-init
 loop-left-init c =
     let items : c.in_ok-last.last.items ≡ replicate 1024 0 = search rules in
     record {
-  len = ap (λ (xs : List ℕ). length xs) items ∙ length-replicate 1024 (let z : ℕ = 0 in z);
-  within = omega arith;
-  each = λ source. ap (λ (xs : List ℕ). get_or xs source 0) items ∙ zeros 1024 source ∙ sym (ap (λ (xs : List SourceCount). last_number xs source) (nothing_done c.args.sources.now));
-}
+      len = ap (λ (xs : List ℕ). length xs) items ∙ length-replicate 1024 (let z : ℕ = 0 in z);
+      within = omega arith;
+      each = λ source. ap (λ (xs : List ℕ). get_or xs source 0) items ∙ zeros 1024 source ∙ sym (ap (λ (xs : List SourceCount). last_number xs source) (nothing_done c.args.sources.now));
+    }
 
 pub loop-left-preserved : goal.loop-left-preserved
 loop-left-preserved c =

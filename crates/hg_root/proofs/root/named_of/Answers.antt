@@ -1,4 +1,4 @@
-use Rattle.std.proofs.Common.{◌≡◌, ◌∙◌, sym, arith}
+use Rattle.std.proofs.Common.{arith}
 use Rattle.hg_root.proofs.Naming.{all_named, one_more}
 use Rattle.hg_root.proofs.root.named_of.Goals as goal
 

@@ -1,4 +1,4 @@
-use Rattle.std.proofs.Common.{◌≡◌, ⊎_elim, ap, subst, refl, sym, ◌∙◌}
+use Rattle.std.proofs.Common.{⊎_elim, ap, subst, refl, sym, ◌∙◌}
 use Rattle.hg_model.specs.Parts.{Parts}
 use Rattle.hg_model.specs.Restoring.{AreThreads}
 use Rattle.hg_root.proofs.root.state_of.Goals as goal

@@ -1,4 +1,4 @@
-use Rattle.std.proofs.Common.{◌≤◌, ◌<◌, ◌^◌, refl, arith}
+use Rattle.std.proofs.Common.{◌≤◌, refl, arith}
 use Rattle.hg_root.specs.declared.parts.SourceCount.{SourceCount}
 use Rattle.hg_root.proofs.Each.{each_all, each_more}
 use Rattle.hg_root.proofs.rules.each_sent.Goals as goal

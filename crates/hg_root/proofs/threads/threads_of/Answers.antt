@@ -1,4 +1,3 @@
-use Rattle.std.proofs.Common.{◌≡◌, ◌++◌, ◌∷◌, []}
 use Rattle.std.proofs.lemmas.Result.{err_from_is_err_and}
 use Rattle.hg_root.specs.Reading.{thread_at, times}
 use Rattle.hg_root.proofs.Times.{goes_on, ends, is_done}

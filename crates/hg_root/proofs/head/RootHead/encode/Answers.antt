@@ -1,4 +1,4 @@
-use Rattle.std.proofs.Common.{◌≡◌, ◌∙◌, ◌++◌, ℕ, List, [], rules, ap}
+use Rattle.std.proofs.Common.{◌≡◌, ◌∙◌, ◌++◌, List, [], rules, ap}
 use Rattle.std.specs.Int.{w64, to_be_bytes}
 use Rattle.hg_model.specs.declared.segment.Segment.{Segment}
 use Rattle.hg_root.specs.Grammar.{header, many_text, report_text, segment_text, set_text, some_text, source_text, thread_text}

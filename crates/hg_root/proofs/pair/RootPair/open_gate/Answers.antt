@@ -1,4 +1,4 @@
-use Rattle.std.proofs.Common.{◌∷◌, [], List, ℕ, false, refl, sym, append-nil}
+use Rattle.std.proofs.Common.{◌∷◌, [], false, refl, sym, append-nil}
 use Rattle.hg_gate.specs.Batches.{open_gate}
 use Rattle.hg_gate.specs.Gated.{framed}
 use Rattle.hg_root.proofs.Pairs.{opening}

@@ -1,9 +1,5 @@
-use Rattle.std.proofs.Common.{◌≡◌, ◌∷◌, [], List, ℕ, Bool, Option, None, true, drop, refl, subst, arith, Ok, OnOk}
-use Rattle.hg_gate.specs.Batches.{closed_gate, IsClosed}
-use Rattle.hg_gate.specs.Gated.{Rests}
-use Rattle.hg_root.specs.Newest.{IsRootFile}
-use Rattle.hg_root.specs.Pairs.{IsKnown}
-use Rattle.hg_root.specs.Parts.{Parts}
+use Rattle.std.proofs.Common.{true, drop, refl, arith}
+use Rattle.hg_gate.specs.Batches.{closed_gate}
 use Rattle.hg_root.proofs.Pairs.{closing, no_call}
 use Rattle.hg_root.proofs.pair.RootPair.prepare.Goals as goal
 
@@ -17,13 +13,15 @@ pub returns-clause-any_moment : goal.returns-clause-any_moment
 returns-clause-any_moment g c root former stands = closing g.D.Disk c.args.self.now (record c.args.self.now { older = c.close.new.self; is_closed = true }) root former refl c.if-self.false stands c.close.ensures.any_moment
 
 pub returns-clause-prepared : goal.returns-clause-prepared
-returns-clause-prepared g c root former stands =
-    (drop 1 stands.older_file, record {
-      gate = closed_gate;
-      newer_file = stands.newer_file;
-      shut = omega arith;
-      older_rests = c.in_ok-close.ensures.closed stands.older_file stands.older_rests;
-      newer_rests = stands.newer_rests;
-      newer_has = stands.newer_has;
-      newer_known = stands.newer_known;
-    })
+returns-clause-prepared g c root former stands = (
+  drop 1 stands.older_file,
+  record {
+    gate = closed_gate;
+    newer_file = stands.newer_file;
+    shut = omega arith;
+    older_rests = c.in_ok-close.ensures.closed stands.older_file stands.older_rests;
+    newer_rests = stands.newer_rests;
+    newer_has = stands.newer_has;
+    newer_known = stands.newer_known;
+  },
+)

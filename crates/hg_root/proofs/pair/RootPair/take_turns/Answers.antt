@@ -1,4 +1,4 @@
-use Rattle.std.proofs.Common.{◌≡◌, ◌∙◌, Bool, Option, Some, false, subst, sym, refl}
+use Rattle.std.proofs.Common.{◌∙◌, Bool, Some, subst, sym, refl}
 use Rattle.hg_gate.specs.Gated.{Rests}
 use Rattle.hg_root.specs.Pairs.{IsKnown}
 use Rattle.hg_root.proofs.pair.RootPair.take_turns.Goals as goal
