@@ -1,5 +1,6 @@
 mod disk;
 mod lines;
 mod records;
+mod roots;
 mod streams;
 mod text;
