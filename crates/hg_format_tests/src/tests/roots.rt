@@ -1,4 +1,6 @@
 //! The worked root of docs/FORMATS.md, and each change of one of its bytes.
+ghost use Rattle.std.specs.Prelude.{◌<◌};
+
 use hg_root::{Root, RootFault};
 use std::alloc::{AllocError, Global};
 use std::process::Abort;
