@@ -19,7 +19,7 @@ use Rattle.hg_detect.specs.declared.plan.Planned.{Planned}
 use Rattle.hg_detect.specs.Making.{Asks, AsksBy, sets_in}
 use Rattle.hg_detect.specs.Planning.{Actor, ArePlanned, IsPlanned, touched_by, wanted}
 use Rattle.hg_detect.specs.Shown.{found, given, threads_number}
-use Rattle.hg_detect.specs.declared.kept.KeptReport.{KeptReport}
+use Rattle.hg_cells.specs.declared.report.KeptReport.{KeptReport}
 use Rattle.hg_detect.proofs.Plans.{kept_twice, owned_asked, owned_on, stands_on}
 use Rattle.hg_detect.proofs.Sequences.{asks_more, refused_more}
 use Rattle.hg_detect.proofs.Stepping.{given_outside}

@@ -1,14 +1,15 @@
 //! The parts of a detector, and what an accepted event does to them.
 
-ghost use Rattle.std.specs.Prelude.{◌≡◌, ◌⊎◌, ℕ, ◌+◌, ◌-◌, ◌/◌, ◌*◌, ◌≤◌, ◌<◌, ◌^◌, [], ◌∷◌, All, IfOk, get_or, length, vec_capacity, IfErr, OnOk, Ok, Err, None, if◌then◌else◌};
-ghost use Rattle.std.specs.List.{range_with_len};
+ghost use Rattle.std.specs.Prelude.{◌≡◌, ◌⊎◌, ℕ, ◌+◌, ◌-◌, ◌/◌, ◌*◌, ◌≤◌, ◌<◌, ◌^◌, [], ◌∷◌, All, IfOk, get_or, length, vec_capacity, IfErr, OnOk, Ok, Err, None, if◌then◌else◌, ◌==◌};
+ghost use Rattle.std.specs.List.{list_any, range_with_len};
+ghost use Rattle.hg_graph.specs.Graph.{names};
 ghost use Rattle.hg_model.specs.Segments.{of_thread};
 ghost use Rattle.hg_model.specs.Parts.{HasParts};
 ghost use Rattle.hg_model.specs.Change.{empty_content};
 ghost use Rattle.hg_sets.specs.Interning.{AreSets, KeepsNumbers};
 ghost use Rattle.hg_cells.specs.declared.cell.Cell.TheVariants.{New};
 ghost use Rattle.hg_cells.specs.Cells.{IsWithin, meaning};
-ghost use Rattle.hg_detect.specs.declared.kept.KeptReport.{KeptReport as KeptReportOf};
+ghost use Rattle.hg_cells.specs.declared.report.KeptReport.{KeptReport as KeptReportOf};
 ghost use Rattle.hg_detect.specs.Words.{KeepsLaw, SameCells};
 ghost use Rattle.hg_detect.specs.Making.{Asks, AsksBy, sets_in};
 ghost use Rattle.hg_detect.specs.Planning.{ArePlanned, IsPlanned, touched_by, wanted};
@@ -16,11 +17,11 @@ ghost use Rattle.hg_detect.specs.Shown.{HasRoom, content, report_of};
 ghost use Rattle.hg_model.specs.Verdicts as rules;
 ghost use Rattle.hg_detect.specs.Engine.{Answers, AtPresent, IsOnLock, IsSound, actor_of, set_refusal, shown_of};
 
-use crate::kept::{KeptReport, add_reports, reserve_reports};
+use crate::kept::{add_reports, reserve_reports};
 use crate::plan::{Acting, Planned, plan_alike, plan_word, plan_words};
 use crate::setting::set_words;
 use crate::words::Words;
-use hg_cells::{Cell, are_same};
+use hg_cells::{Cell, KeptReport, are_same};
 use hg_graph::Graph;
 use hg_model::event::{Access, Block, Event, Named};
 use hg_model::report::Report;
@@ -87,6 +88,40 @@ impl<W: Words> Engine<W> {
                 plan,
                 kept: Vec::new(alloc),
                 total: 0,
+            }),
+            Err(_) => Err(words),
+        }
+    }
+
+    /// The engine with these parts, over a map of words.
+    pub(crate) fn restore(
+        alloc: Global,
+        state: TraceState,
+        graph: Graph,
+        sets: SetTable,
+        kept: Vec<KeptReport>,
+        total: u64,
+        words: W,
+    ) -> Result<Self, W>
+        requires segments { state.segments ≡ length graph }
+        requires threads { (t : ℕ) → list_any (λ x. x.number == t) state.threads ≡ names graph t }
+        requires reports { All (λ r. r.threads < length sets.sets) kept.items }
+        requires few { length kept.items ≤ 65536 }
+        requires total { total ≤ 17 * state.events }
+        ensures shown { IfOk result (λ e. shown_of e ≡ record { parts = state; segments = graph; sets = sets; words = words; kept = kept.items; total = total }) }
+        ensures sound { IfOk result IsSound }
+        ensures handed_back { IfErr result (λ w. w ≡ words) }
+    {
+        let _count = sets.len();
+        match Vec::with_capacity(alloc, MOST_WORDS) {
+            Ok(plan) => Ok(Engine {
+                state,
+                graph,
+                sets,
+                words,
+                plan,
+                kept,
+                total,
             }),
             Err(_) => Err(words),
         }

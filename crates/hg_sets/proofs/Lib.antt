@@ -1,3 +1,4 @@
 pub mod Rising
 pub mod Found
 pub mod Remembering
+pub mod Restored

@@ -45,6 +45,13 @@ impl Interner {
         self.lists.len()
     }
 
+    /// The same lists, with room for so many.
+    pub(crate) fn set_limit(&mut self, limit: u32)
+        ensures { self.new ≡ record self.old { limit = limit } }
+    {
+        self.limit = limit;
+    }
+
     #[inline]
     pub(crate) fn members(&self, id: u32) -> &[u16]
         requires { id < length self.now.lists }

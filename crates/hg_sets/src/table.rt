@@ -19,7 +19,7 @@ pub const MOST_SETS: u32 = 262_144;
 
 /// Interned sets of numbers. Each set stands once, under a number below `len`, which it keeps; number 0 is the empty set.
 pub struct SetTable {
-    interner: Interner,
+    pub(crate) interner: Interner,
     joins: Vec<Option<KnownJoin>>,
     meets: Vec<Option<KnownMeet>>,
 }

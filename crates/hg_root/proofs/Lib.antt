@@ -1,0 +1,11 @@
+pub mod Times
+pub mod Rising
+pub mod ThreadReading
+pub mod Formats
+pub mod LastSegments
+pub mod Each
+pub mod Naming
+pub mod BodyFormats
+pub mod Bodies
+pub mod HeadChain
+pub mod Pairs

@@ -1,0 +1,13 @@
+use Rattle.std.proofs.Common.{arith}
+use Rattle.hg_root.specs.declared.parts.PageSlot.{PageSlot}
+use Rattle.hg_root.proofs.Rising.{rises_not, rises_on}
+use Rattle.hg_root.proofs.rules.pages_rise.Goals as goal
+
+abbrev none : PageSlot
+none = record { page = 0; slot = 0 }
+
+pub returns-then-pages-i : goal.returns-then-pages-i
+returns-then-pages-i c = (λ yes. absurd cc, λ rises. absurd (rises_not (λ x. x.page) c.args.pages.now c.loop-i.i none (omega arith) c.loop-i-test.true c.if-pages-i.true rises))
+
+pub loop-i-preserved : goal.loop-i-preserved
+loop-i-preserved c = rises_on (λ x. x.page) c.args.pages.now c.loop-i.i none (omega arith) c.loop-i-test.true c.if-pages-i.false c.loop-i.invariant

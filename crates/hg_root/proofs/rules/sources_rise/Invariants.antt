@@ -1,0 +1,5 @@
+use Rattle.hg_root.proofs.Rising.{RisesTo}
+use Rattle.hg_root.proofs.rules.sources_rise.Given as goal
+
+abbrev pub invariant-loop-i : goal.invariant-loop-i
+invariant-loop-i l = RisesTo (λ s. s.source) l.sources l.i

@@ -1,0 +1,39 @@
+-- Reading a whole body. (No promise to a reader rests on this file.)
+use Rattle.std.specs.Prelude.{ℕ, List, ◌==◌}
+use Rattle.std.specs.Int.{w16, w32, w64}
+use Rattle.hg_model.specs.declared.segment.Segment.{Segment}
+use Rattle.hg_model.specs.declared.thread.ThreadState.{ThreadState}
+use Rattle.hg_cells.specs.declared.report.KeptReport.{KeptReport}
+use Rattle.hg_root.specs.declared.body.Back.{Back}
+use Rattle.hg_root.specs.declared.parts.PageSlot.{PageSlot}
+use Rattle.hg_root.specs.declared.parts.SourceCount.{SourceCount}
+use Rattle.hg_root.specs.Reading.{Reader, both, listed, made, members_at, number_at, page_at, report_at, segment_at, source_at, such_that, thread_at}
+
+-- "HGROOT1" and a line feed, as a number
+abbrev pub header_number : ℕ
+header_number = 5208221994664079626
+
+abbrev pub header_at : Reader ℕ
+header_at = such_that (λ n. n == header_number) (number_at w64)
+
+-- the number of the checkpoint, that of events, and the segments
+abbrev pub FrontParts : Type 0
+FrontParts = ℕ × (ℕ × List Segment)
+
+abbrev pub front_at : Reader FrontParts
+front_at = made (λ p. p.1) (both header_at (both (number_at w64) (both (number_at w64) (listed (number_at w32) segment_at))))
+
+-- the threads
+abbrev pub middle_at : List Segment → Reader (List ThreadState)
+middle_at segments = listed (number_at w16) (thread_at segments)
+
+-- what stands behind the threads
+abbrev pub BackParts : Type 0
+BackParts = List (List ℕ) × (ℕ × (List KeptReport × (List SourceCount × List PageSlot)))
+
+abbrev pub back_at : Reader BackParts
+back_at = both (listed (number_at w32) members_at) (both (number_at w64) (both (listed (number_at w32) report_at) (both (listed (number_at w16) source_at) (listed (number_at w32) page_at))))
+
+-- what was read, without where it lies in memory
+abbrev pub seen : Back → BackParts
+seen b = (b.sets.items, (b.total, (b.reports.items, (b.sources.items, b.pages.items))))

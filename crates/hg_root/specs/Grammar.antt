@@ -1,0 +1,115 @@
+-- The bytes of a root's body. All numbers are written high byte first.
+use Rattle.std.specs.Prelude.{ℕ, ◌<◌, ◌^◌, List, [], ◌∷◌, ◌++◌, length, if◌then◌else◌}
+use Rattle.std.specs.List.{AllByRecursion, flat_map}
+use Rattle.std.specs.Int.{w16, w32, w64, to_be_bytes}
+use Rattle.hg_model.specs.Segments.{present}
+use Rattle.hg_model.specs.declared.held.HeldLock.{HeldLock}
+use Rattle.hg_model.specs.declared.segment.Segment.{Segment}
+use Rattle.hg_model.specs.declared.thread.ThreadState.{ThreadState}
+use Rattle.hg_cells.specs.declared.report.KeptReport.{KeptReport}
+use Rattle.hg_root.specs.declared.parts.PageSlot.{PageSlot}
+use Rattle.hg_root.specs.declared.parts.SourceCount.{SourceCount}
+use Rattle.hg_root.specs.Parts.{Parts}
+
+-- "HGROOT1" and a line feed
+abbrev pub header : List ℕ
+header = 72 ∷ 71 ∷ 82 ∷ 79 ∷ 79 ∷ 84 ∷ 49 ∷ 10 ∷ []
+
+-- how many there are, in four bytes, and each
+abbrev pub many_text : {X : Type 0} → (X → List ℕ) → List X → List ℕ
+many_text text items = to_be_bytes w32 (length items) ++ flat_map text items
+
+-- the same with two bytes for the count
+abbrev pub some_text : {X : Type 0} → (X → List ℕ) → List X → List ℕ
+some_text text items = to_be_bytes w16 (length items) ++ flat_map text items
+
+-- the same with one byte for the count
+abbrev pub few_text : {X : Type 0} → (X → List ℕ) → List X → List ℕ
+few_text text items = length items ∷ flat_map text items
+
+-- the thread, and the segments right before this one
+abbrev pub segment_text : Segment → List ℕ
+segment_text s = to_be_bytes w16 s.thread ++ few_text (to_be_bytes w32) s.before
+
+-- the lock, and 1 where it is held for writing, 2 where for reading
+abbrev pub lock_text : HeldLock → List ℕ
+lock_text h = to_be_bytes w16 h.lock ++ (if h.write then 1 else 2) ∷ []
+
+-- the thread, whether it lives, its last segment, and the locks that it holds
+abbrev pub thread_text : List Segment → ThreadState → List ℕ
+thread_text segments t = to_be_bytes w16 t.number ++ (if t.alive then 1 else 0) ∷ (to_be_bytes w32 (present segments t.number) ++ few_text lock_text t.held)
+
+-- the members
+abbrev pub set_text : List ℕ → List ℕ
+set_text members = some_text (to_be_bytes w16) members
+
+-- the event, the word, the thread, 7 for a write and 6 for a read, and the number of the thread set
+abbrev pub report_text : KeptReport → List ℕ
+report_text r = to_be_bytes w64 r.event ++ (to_be_bytes w64 r.word ++ (to_be_bytes w16 r.thread ++ (if r.write then 7 else 6) ∷ to_be_bytes w32 r.threads))
+
+abbrev pub source_text : SourceCount → List ℕ
+source_text s = to_be_bytes w16 s.source ++ to_be_bytes w64 s.last
+
+abbrev pub page_text : PageSlot → List ℕ
+page_text p = to_be_bytes w64 p.page ++ to_be_bytes w32 p.slot
+
+-- the page table
+abbrev pub pages_text : List PageSlot → List ℕ
+pages_text pages = many_text page_text pages
+
+-- the body up to the page table, part after part
+abbrev pub head_text : Parts → List ℕ
+head_text p =
+    header ++ (to_be_bytes w64 p.number ++ (to_be_bytes w64 p.events
+    ++ (many_text segment_text p.segments
+    ++ (some_text (thread_text p.segments) p.threads
+    ++ (many_text set_text p.sets
+    ++ (to_be_bytes w64 p.total ++ (many_text report_text p.reports
+    ++ some_text source_text p.sources)))))))
+
+-- The body.
+abbrev pub root_text : Parts → List ℕ
+root_text p = head_text p ++ pages_text p.pages
+
+-- ---- what has a spelling: each number is within its width, and each count within that of its field
+
+abbrev pub SegmentFits : Segment → Type 0
+SegmentFits s = (s.thread < 2 ^ 16) × ((length s.before < 2 ^ 8) × AllByRecursion (λ k. k < 2 ^ 32) s.before)
+
+abbrev pub LockFits : HeldLock → Type 0
+LockFits h = h.lock < 2 ^ 16
+
+abbrev pub ThreadFits : ThreadState → Type 0
+ThreadFits t = (t.number < 2 ^ 16) × ((length t.held < 2 ^ 8) × AllByRecursion LockFits t.held)
+
+abbrev pub SetFits : List ℕ → Type 0
+SetFits members = (length members < 2 ^ 16) × AllByRecursion (λ m. m < 2 ^ 16) members
+
+abbrev pub ReportFits : KeptReport → Type 0
+ReportFits r = (r.event < 2 ^ 64) × ((r.word < 2 ^ 64) × ((r.thread < 2 ^ 16) × (r.threads < 2 ^ 32)))
+
+abbrev pub SourceFits : SourceCount → Type 0
+SourceFits s = (s.source < 2 ^ 16) × (s.last < 2 ^ 64)
+
+abbrev pub PageFits : PageSlot → Type 0
+PageFits p = (p.page < 2 ^ 64) × (p.slot < 2 ^ 32)
+
+-- Each part has a spelling.
+pub record HeadFits (p : Parts) : Type 0 where
+  pub number : p.number < 2 ^ 64
+  pub events : p.events < 2 ^ 64
+  pub segment_count : length p.segments < 2 ^ 32
+  pub segments : AllByRecursion SegmentFits p.segments
+  pub thread_count : length p.threads < 2 ^ 16
+  pub threads : AllByRecursion ThreadFits p.threads
+  pub set_count : length p.sets < 2 ^ 32
+  pub sets : AllByRecursion SetFits p.sets
+  pub total : p.total < 2 ^ 64
+  pub report_count : length p.reports < 2 ^ 32
+  pub reports : AllByRecursion ReportFits p.reports
+  pub source_count : length p.sources < 2 ^ 16
+  pub sources : AllByRecursion SourceFits p.sources
+
+pub record PagesFit (pages : List PageSlot) : Type 0 where
+  pub count : length pages < 2 ^ 32
+  pub each : AllByRecursion PageFits pages

@@ -1,0 +1,13 @@
+pub mod Fault
+pub mod Parts
+pub mod Grammar
+pub mod Lawful
+pub mod Last
+pub mod Reading
+pub mod Body
+pub mod Checking
+pub mod Heads
+pub mod Roots
+pub mod Newest
+pub mod Pairs
+pub mod Laws

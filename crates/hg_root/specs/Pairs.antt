@@ -1,0 +1,89 @@
+-- What a crash may leave of two root files, and how a pair of them stands in each step.
+use Rattle.std.specs.Prelude.{◌≡◌, ◌≢◌, ◌⊎◌, ℕ, Bool, true, false, List, [], ◌∷◌, Option, Some, None, if◌then◌else◌}
+use Rattle.hg_disk.specs.State.{DiskState, IsImage}
+use Rattle.hg_disk.specs.Moments.{HasGone}
+use Rattle.hg_disk.specs.declared.disk.Disk as disk
+use Rattle.hg_gate.specs.Batches.{open_gate}
+use Rattle.hg_gate.specs.Gated as gated
+use Rattle.hg_gate.specs.Gated.{Rests, framed}
+use Rattle.hg_root.specs.Newest.{IsBelow, IsNewest, IsRootFile}
+use Rattle.hg_root.specs.Parts.{Parts}
+use Rattle.hg_root.specs.declared.pair.RootPair.{RootPair}
+
+-- one of these states leaves the bytes
+abbrev pub IsAmong : List DiskState → List ℕ → Type 0
+IsAmong [] bytes = ⊥
+IsAmong (s ∷ earlier) bytes = IsImage s bytes ⊎ IsAmong earlier bytes
+
+-- whether the file is known to be closed
+abbrev pub IsKnown : Bool → Option Parts → Type 0
+IsKnown true root = root ≡ None
+IsKnown false root = (parts : Parts) × (root ≡ Some parts)
+
+-- the file that is written next, and the other
+abbrev pub older : {D : Type 0} → RootPair D → D
+older p = gated.disk_of p.older
+
+abbrev pub newer : {D : Type 0} → RootPair D → D
+newer p = gated.disk_of p.newer
+
+-- the first file and the second one, whichever is written next
+abbrev pub first_of : {D : Type 0} → RootPair D → D
+first_of p = if p.is_turned then newer p else older p
+
+abbrev pub second_of : {D : Type 0} → RootPair D → D
+second_of p = if p.is_turned then older p else newer p
+
+module _ {D : Type 0} (g : disk.Ghosts D) where
+  -- At some moment from `old` to `new`, both included, a crash may leave these bytes of a disk.
+  pub record MayLeave (old new : D) (bytes : List ℕ) : Type 0 where
+    pub later : List DiskState
+    pub has_gone : HasGone g old new later
+    pub among : IsImage (g.state old) bytes ⊎ IsAmong later bytes
+
+  abbrev pub GoesOn : D → D → Type 0
+  GoesOn old new = (later : List DiskState) × HasGone g old new later
+
+  -- Each image of the two files from one moment to another, each file by itself, has P.
+  pub record EachPair (old new : RootPair D) (P : List ℕ → List ℕ → Type 0) : Type 0 where
+    pub older_goes : GoesOn (older old) (older new)
+    pub newer_goes : GoesOn (newer old) (newer new)
+    pub each : (one other : List ℕ) → MayLeave (older old) (older new) one → MayLeave (newer old) (newer new) other → P one other
+
+  -- The pair works, both files are durable, and this is the newest open root, or none; the file that is written next has the former one, or is closed.
+  pub record Stands (p : RootPair D) (root former : Option Parts) : Type 0 where
+    pub older_file : List ℕ
+    pub newer_file : List ℕ
+    pub older_rests : Rests g p.older older_file
+    pub newer_rests : Rests g p.newer newer_file
+    pub below : IsBelow former root
+    pub older_has : IsRootFile older_file former
+    pub newer_has : IsRootFile newer_file root
+    pub known : IsKnown p.is_closed former
+    pub newer_known : IsKnown p.is_other_closed root
+
+  -- The same, and the file that is written next is closed, with these bytes behind its gate.
+  pub record IsPrepared (p : RootPair D) (root : Option Parts) (rest : List ℕ) : Type 0 where
+    pub gate : ℕ
+    pub newer_file : List ℕ
+    pub shut : gate ≢ open_gate
+    pub older_rests : Rests g p.older (gate ∷ rest)
+    pub newer_rests : Rests g p.newer newer_file
+    pub newer_has : IsRootFile newer_file root
+    pub newer_known : IsKnown p.is_other_closed root
+
+  -- The file that was written has the newest root; the other has the former one, if there was one.
+  pub record IsOpened (p : RootPair D) (root : Option Parts) (next : Parts) : Type 0 where
+    pub older_file : List ℕ
+    pub newer_file : List ℕ
+    pub older_rests : Rests g p.older older_file
+    pub newer_rests : Rests g p.newer newer_file
+    pub older_has : IsRootFile older_file (Some next)
+    pub newer_has : IsRootFile newer_file root
+    pub opened : p.is_closed ≡ false
+    pub below : IsBelow root (Some next)
+    pub newer_known : IsKnown p.is_other_closed root
+
+-- the newest open root is the one or the other
+abbrev pub IsEither : Option Parts → Option Parts → List ℕ → List ℕ → Type 0
+IsEither root next one other = IsNewest root None one other ⊎ IsNewest next root one other

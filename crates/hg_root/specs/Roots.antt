@@ -1,0 +1,28 @@
+-- What a root that was read stands for.
+use Rattle.std.specs.Prelude.{◌≡◌, length}
+use Rattle.hg_sets.specs.Interning.{AreSets}
+use Rattle.hg_root.specs.declared.root.Root.{Root}
+use Rattle.hg_root.specs.Checking.{HaveLast}
+use Rattle.hg_root.specs.Parts.{Parts}
+
+-- its parts
+abbrev pub parts_of : Root → Parts
+parts_of r =
+    record {
+      number = r.number;
+      events = r.state.events;
+      segments = r.segments.items;
+      threads = r.state.threads;
+      sets = r.sets.sets;
+      total = r.total;
+      reports = r.reports.items;
+      sources = r.sources.items;
+      pages = r.pages.items;
+    }
+
+-- The trace state has the count of the segments and the last numbers of the sources, and the table of sets is one.
+pub record IsWhole (r : Root) : Type 0 where
+  pub segments : r.state.segments ≡ length r.segments.items
+  pub last : HaveLast r.sources.items r.state.last
+  pub limit : r.sets.limit ≡ 262144
+  pub sets : AreSets r.sets

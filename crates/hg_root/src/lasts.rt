@@ -1,0 +1,78 @@
+//! The segments of a body: whether each may stand behind those before it, and which is the last of each thread.
+ghost use Rattle.std.specs.Prelude.{◌≡◌, ◌<◌, ◌≤◌, ◌==◌, ◌&&◌, ℕ, List, Option, length, IfErr, IfOk, IsErrOf};
+ghost use Rattle.std.specs.List.{list_any};
+ghost use Rattle.hg_graph.specs.Restoring.{AreSegments, are_predecessors, has_former, has_thread};
+ghost use Rattle.hg_root.specs.Fault.{IsDamagedOrMemory};
+ghost use Rattle.hg_root.specs.Last.{IsLastTable};
+
+use crate::fault::RootFault;
+use hg_model::limits::{MOST_SEGMENTS, THREAD_NUMBERS};
+use hg_model::segment::Segment;
+use std::alloc::Global;
+
+/// Whether these are the predecessors of a segment.
+fn are_predecessors(place: u32, before: &[u32]) -> bool
+    ensures { result ≡ are_predecessors place before.now }
+{
+    match before {
+        [] => place == 0,
+        [one] => *one < place,
+        [one, other] => *one < *other && *other < place,
+        _ => false,
+    }
+}
+
+/// Whether the former segment of the thread is among the predecessors, where there is one.
+fn has_former(former: Option<u32>, before: &[u32]) -> bool
+    ensures { result ≡ has_former former before.now }
+{
+    match former {
+        None => true,
+        Some(former) => is_among(former, before),
+    }
+}
+
+/// Whether the number is among these.
+fn is_among(number: u32, numbers: &[u32]) -> bool
+    ensures { result ≡ list_any (λ x. x == number) numbers.now }
+{
+    numbers.iter().any(|x| *x == number)
+}
+
+/// Whether a segment may stand at this place, where its thread has that former one.
+fn fits(place: u32, segment: &Segment, former: Option<u32>) -> bool
+    ensures { result ≡ (has_thread place segment.now.thread && (are_predecessors place segment.now.before && has_former former segment.now.before)) }
+{
+    let most = if place == 0 { 1 } else { THREAD_NUMBERS };
+    let before = segment.before.as_slice();
+    usize::from(segment.thread) < most
+        && are_predecessors(place, before)
+        && has_former(former, before)
+}
+
+/// The last segment of each of the 1,024 threads, where there is one. Damaged where there are no segments or more than 1,048,576, or where
+/// one of them may not stand behind those before it.
+pub(crate) fn lasts_of(alloc: Global, segments: &[Segment]) -> Result<Vec<Option<u32>>, RootFault>
+    ensures table { IfOk result (λ lasts. IsLastTable segments.now lasts.items) }
+    ensures lawful { IfOk result (λ lasts. AreSegments segments.now) }
+    ensures count { IfOk result (λ lasts. (1 ≤ length segments.now) × (length segments.now ≤ 1048576)) }
+    ensures damaged { IsErrOf result RootFault.Damaged → 1 ≤ length segments.now → length segments.now ≤ 1048576 → ¬ AreSegments segments.now }
+    ensures fault { IfErr result IsDamagedOrMemory }
+{
+    if segments.len() == 0 || segments.len() > MOST_SEGMENTS as usize {
+        return Err(RootFault::Damaged);
+    }
+    let mut lasts = vec![in alloc; None; THREAD_NUMBERS]?;
+    for k in 0..segments.len() {
+        let segment = &segments[k];
+        let thread = usize::from(segment.thread);
+        if thread >= THREAD_NUMBERS {
+            return Err(RootFault::Damaged);
+        }
+        if !fits(k as u32, segment, lasts[thread]) {
+            return Err(RootFault::Damaged);
+        }
+        lasts[thread] = Some(k as u32);
+    }
+    Ok(lasts)
+}

@@ -1,0 +1,20 @@
+//! Roots: what a checkpoint has but its words, in two files that take turns.
+#![tactic(auto)]
+
+mod body;
+mod fault;
+mod head;
+mod lasts;
+pub mod laws;
+mod pair;
+mod parts;
+mod piece;
+mod root;
+mod rules;
+mod threads;
+
+pub use fault::RootFault;
+pub use head::RootHead;
+pub use pair::RootPair;
+pub use parts::{PageSlot, SourceCount};
+pub use root::Root;

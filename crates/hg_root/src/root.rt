@@ -1,0 +1,227 @@
+//! A root, as its body spells it.
+ghost use Rattle.std.specs.Prelude.{◌≡◌, ◌↔◌, ◌≤◌, ◌^◌, ◌++◌, ◌∷◌, [], List, All, OnOk, if◌then◌else◌, IsTrue, IsErrOf, length, map, IfErr, IfOk};
+ghost use Rattle.hg_model.specs.Restoring.{AreThreads};
+ghost use Rattle.hg_model.specs.declared.segment.Segment.{Segment as SegmentOf};
+ghost use Rattle.hg_sets.specs.Interning.{AreSets};
+ghost use Rattle.hg_root.specs.Body.{seen};
+ghost use Rattle.hg_root.specs.Checking.{AreCounts, HaveLast, IsChecked, made_parts};
+ghost use Rattle.hg_root.specs.Roots.{IsWhole, parts_of};
+ghost use Rattle.hg_root.specs.Fault.{IsDamagedOrMemory};
+ghost use Rattle.hg_root.specs.Last.{IsLastTable};
+ghost use Rattle.hg_root.specs.Lawful.{HaveSent, IsRoot, named_threads};
+ghost use Rattle.hg_root.specs.Parts.{Parts};
+
+use crate::body::{Back, Front, back_of, front_of, middle_of};
+use crate::fault::RootFault;
+use crate::lasts::lasts_of;
+use crate::parts::{PageSlot, SourceCount};
+use crate::rules::{are_in_order, are_pages, are_reports, are_sources};
+use hg_cells::KeptReport;
+use hg_model::limits::{MOST_EVENTS, SOURCE_NUMBERS, THREAD_NUMBERS};
+use hg_model::segment::Segment;
+use hg_model::sets::NumberSet;
+use hg_model::state::TraceState;
+use hg_model::thread::ThreadState;
+use hg_model::verdict::Refusal;
+use hg_sets::{MOST_SETS, SetTable};
+use std::alloc::{AllocError, Global};
+
+/// How many reports are kept at most.
+const MOST_REPORTS: u64 = 65_536;
+
+/// What a root has: everything of a content but the words, and where the pages stand.
+#[derive(Drop)]
+pub struct Root {
+    /// The number of the checkpoint, 1 to 2^58.
+    pub number: u64,
+    /// The counts of events and segments, the threads with their locks, and the last number of each source.
+    pub state: TraceState,
+    /// The segments.
+    pub segments: Vec<Segment>,
+    /// The sets under their numbers, with room for 262,144.
+    pub sets: SetTable,
+    /// How many reports there were.
+    pub total: u64,
+    /// The first 65,536 of them.
+    pub reports: Vec<KeptReport>,
+    /// The sources that sent something, rising.
+    pub sources: Vec<SourceCount>,
+    /// The pages that have a slot, rising.
+    pub pages: Vec<PageSlot>,
+}
+
+/// The numbers of these threads.
+fn numbers_of(alloc: Global, threads: &[ThreadState]) -> Result<Vec<u16>, AllocError>
+    ensures { IfOk result (λ numbers. numbers.items ≡ map (λ t. t.number) threads.now) }
+{
+    let mut numbers = Vec::with_capacity(alloc, threads.len())?;
+    for i in 0..threads.len() {
+        numbers.push(threads[i].number)?;
+    }
+    Ok(numbers)
+}
+
+/// Puts a number at the end where it is wanted.
+fn push_if(number: u16, is_wanted: bool, numbers: &mut Vec<u16>) -> Result<(), AllocError>
+    ensures { OnOk result (numbers.new.items ≡ numbers.old.items ++ (if is_wanted then number ∷ [] else [])) }
+{
+    if is_wanted {
+        numbers.push(number)?;
+    }
+    Ok(())
+}
+
+/// The threads that have a last segment.
+fn named_of(alloc: Global, lasts: &[Option<u32>]) -> Result<Vec<u16>, AllocError>
+    requires { length lasts.now ≡ 1024 }
+    ensures { (segments : List SegmentOf) → IsLastTable segments lasts.now → IfOk result (λ named. named.items ≡ named_threads segments) }
+{
+    let mut named = Vec::new(alloc);
+    for t in 0..THREAD_NUMBERS {
+        push_if(t as u16, lasts[t].is_some(), &mut named)?;
+    }
+    Ok(named)
+}
+
+/// Whether these are the numbers of the threads.
+fn are_numbers(alloc: Global, threads: &[ThreadState], named: &[u16]) -> Result<bool, AllocError>
+    ensures { IfOk result (λ are. IsTrue are ↔ (map (λ t. t.number) threads.now ≡ named.now)) }
+{
+    let numbers = numbers_of(alloc, threads)?;
+    Ok(numbers.as_slice() == named)
+}
+
+/// The last number of each source, by the source's number.
+fn last_numbers(alloc: Global, sources: &[SourceCount]) -> Result<Vec<u64>, AllocError>
+    requires { All (λ s. s.source ≤ 1023) sources.now }
+    ensures len { IfOk result (λ last. length last.items ≡ 1024) }
+    ensures each { IfOk result (λ last. HaveLast sources.now last.items) }
+{
+    let mut last = vec![in alloc; 0; SOURCE_NUMBERS]?;
+    let mut left = sources.len();
+    while left > 0 {
+        left -= 1;
+        last[usize::from(sources[left].source)] = sources[left].last;
+    }
+    Ok(last)
+}
+
+/// Whether the counts are in range, and there are as many reports as they say.
+fn are_counts(number: u64, events: u64, total: u64, kept: usize) -> bool
+    ensures { IsTrue result ↔ AreCounts number events total kept }
+{
+    if number == 0 || number > MOST_EVENTS || events > MOST_EVENTS || total > 17 * events {
+        return false;
+    }
+    kept as u64 == total.min(MOST_REPORTS)
+}
+
+/// The table of these sets, with room for 262,144.
+fn sets_of(alloc: Global, sets: &[NumberSet]) -> Result<SetTable, RootFault>
+    ensures table { IfOk result (λ table. table ≡ record { limit = 262144; sets = sets.now }) }
+    ensures sets { IfOk result AreSets }
+    ensures damaged { IsErrOf result RootFault.Damaged → ¬ AreSets (record { limit = 262144; sets = sets.now }) }
+    ensures fault { IfErr result IsDamagedOrMemory }
+{
+    match SetTable::restore(alloc, MOST_SETS, sets)? {
+        Some(table) => Ok(table),
+        None => Err(RootFault::Damaged),
+    }
+}
+
+/// The trace state with these parts.
+fn state_of(
+    alloc: Global,
+    events: u64,
+    segments: u32,
+    threads: &[ThreadState],
+    sources: &[SourceCount],
+) -> Result<TraceState, RootFault>
+    requires few_events { events ≤ 2 ^ 58 }
+    requires few_segments { segments ≤ 1048576 }
+    requires sources { HaveSent events sources.now }
+    ensures events { IfOk result (λ state. state.events ≡ events) }
+    ensures segments { IfOk result (λ state. state.segments ≡ segments) }
+    ensures threads { IfOk result (λ state. state.threads ≡ threads.now) }
+    ensures last { IfOk result (λ state. HaveLast sources.now state.last) }
+    ensures lawful { IfOk result (λ state. AreThreads threads.now) }
+    ensures damaged { IsErrOf result RootFault.Damaged → ¬ AreThreads threads.now }
+    ensures fault { IfErr result IsDamagedOrMemory }
+{
+    let last = last_numbers(alloc, sources)?;
+    match TraceState::restore(alloc, events, segments, threads, last) {
+        Ok(state) => Ok(state),
+        Err(Refusal::Damaged) => Err(RootFault::Damaged),
+        Err(_) => Err(RootFault::OutOfMemory),
+    }
+}
+
+/// The root with these parts, where they obey the rules.
+fn checked(
+    alloc: Global,
+    front: Front,
+    lasts: &[Option<u32>],
+    threads: &[ThreadState],
+    back: Back,
+) -> Result<Root, RootFault>
+    requires lasts { length lasts.now ≡ 1024 }
+    requires table { IsLastTable front.1.1.items lasts.now }
+    requires few_segments { length front.1.1.items ≤ 1048576 }
+    ensures parts { IfOk result (λ r. parts_of r ≡ made_parts front.0 front.1.0 front.1.1.items threads.now (seen back)) }
+    ensures checked { IfOk result (λ r. IsChecked (made_parts front.0 front.1.0 front.1.1.items threads.now (seen back))) }
+    ensures known { IfOk result IsWhole }
+    ensures damaged { IsErrOf result RootFault.Damaged → ¬ IsChecked (made_parts front.0 front.1.0 front.1.1.items threads.now (seen back)) }
+    ensures fault { IfErr result IsDamagedOrMemory }
+{
+    let (number, (events, segments)) = front;
+    let Back {
+        sets,
+        total,
+        reports,
+        sources,
+        pages,
+    } = back;
+    if !are_counts(number, events, total, reports.len()) {
+        return Err(RootFault::Damaged);
+    }
+    if !are_sources(&sources, events) || !are_in_order(&reports) || !are_pages(alloc, &pages)? {
+        return Err(RootFault::Damaged);
+    }
+    let named = named_of(alloc, lasts)?;
+    if !are_numbers(alloc, threads, &named)? {
+        return Err(RootFault::Damaged);
+    }
+    let sets = sets_of(alloc, &sets)?;
+    if !are_reports(&reports, events, &sets) {
+        return Err(RootFault::Damaged);
+    }
+    let state = state_of(alloc, events, segments.len() as u32, threads, &sources)?;
+    Ok(Root {
+        number,
+        state,
+        segments,
+        sets,
+        total,
+        reports,
+        sources,
+        pages,
+    })
+}
+
+impl Root {
+    /// The root whose body these bytes are. `Damaged` exactly where they are no root's body, `OutOfMemory` where memory is refused.
+    ///
+    /// Memory grows by what was read, whatever a count says: the parts themselves, sets and threads twice for a while, and tables of the profile, of 2 MiB.
+    pub fn decode(alloc: Global, body: &[u8]) -> Result<Root, RootFault>
+        ensures found { IfOk result (λ r. IsRoot body.now (parts_of r)) }
+        ensures known { IfOk result IsWhole }
+        ensures damaged { IsErrOf result RootFault.Damaged → (p : Parts) → ¬ IsRoot body.now p }
+        ensures fault { IfErr result IsDamagedOrMemory }
+    {
+        let (front, rest) = front_of(alloc, body)?;
+        let lasts = lasts_of(alloc, &front.1.1)?;
+        let (threads, rest) = middle_of(alloc, &lasts, rest)?;
+        let back = back_of(alloc, rest)?;
+        checked(alloc, front, &lasts, &threads, back)
+    }
+}
