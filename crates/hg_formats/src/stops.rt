@@ -17,9 +17,7 @@ fn tear_of(word: &str) -> Option<Tear> {
     }
     match word.strip_prefix("front") {
         Some(count) => Some(Tear::Front(count.parse::<usize>().ok()?)),
-        None => Some(Tear::Fill(
-            word.strip_prefix("fill")?.parse::<u8>().ok()?,
-        )),
+        None => Some(Tear::Fill(word.strip_prefix("fill")?.parse::<u8>().ok()?)),
     }
 }
 

@@ -9,15 +9,14 @@ use hg_model::state::TraceState;
 use hg_model::verdict::{Refusal, Verdict};
 
 /// The last segment of a thread, where there is one.
-fn last_of(segments: &[Segment], thread: u16) -> Option<usize> {
-    let mut left = segments.len();
-    while left > 0 {
-        left -= 1;
-        if segments[left].thread == thread {
-            return Some(left);
+pub fn last_of(segments: &[Segment], thread: u16) -> Option<usize> {
+    let mut last = None;
+    for (place, segment) in segments.iter().enumerate() {
+        if segment.thread == thread {
+            last = Some(place);
         }
     }
-    None
+    last
 }
 
 /// Whether the thread is alive: the rules then refuse no access of its for want of a thread.
