@@ -1,0 +1,116 @@
+//! What a graph keeps beside its segments, made of segments that were there before it.
+
+ghost use Rattle.std.specs.Prelude.{◌≡◌, ◌<◌, ◌≤◌, ℕ, length, IfOk, slice_index_or};
+ghost use Rattle.hg_model.specs.Segments.{present as present_of, thread_at};
+ghost use Rattle.hg_graph.specs.Clocks.{AreClocks, IsClock};
+ghost use Rattle.hg_graph.specs.Kept.{IsUnmarked};
+ghost use Rattle.hg_graph.specs.Restoring.{AreSegments};
+
+use crate::THREADS;
+use crate::clock::Clock;
+use crate::sweep::mark;
+use hg_model::segment::Segment;
+use std::alloc::{AllocError, Global};
+
+/// The present segment of each thread, and 0 where it has none.
+pub(crate) fn present_segments(alloc: Global, segments: &[Segment]) -> Result<Vec<u32>, AllocError>
+    requires few { length segments.now ≤ 1048576 }
+    requires lawful { AreSegments segments.now }
+    ensures rows { IfOk result (λ table. length table.items ≡ 1024) }
+    ensures each { IfOk result (λ table. (t : ℕ) → t < 1024 → slice_index_or table.items t 0 ≡ present_of segments.now t) }
+{
+    let mut table = vec![in alloc; 0; THREADS]?;
+    for number in 0..segments.len() {
+        table[usize::from(segments[number].thread)] = number as u32;
+    }
+    Ok(table)
+}
+
+/// The clock of the present segment of each thread. The marks are clear before and after.
+pub(crate) fn clocks_of(
+    alloc: Global,
+    segments: &[Segment],
+    present: &[u32],
+    marks: &mut [bool],
+) -> Result<Vec<Clock>, AllocError>
+    requires some { 0 < length segments.now }
+    requires few { length segments.now ≤ 1048576 }
+    requires lawful { AreSegments segments.now }
+    requires rows { length present.now ≡ 1024 }
+    requires each { (t : ℕ) → t < 1024 → slice_index_or present.now t 0 ≡ present_of segments.now t }
+    requires marks { length marks.old ≡ length segments.now }
+    requires clear { IsUnmarked marks.old }
+    ensures clocks { IfOk result (λ clocks. AreClocks segments.now clocks.items) }
+    ensures clear { IsUnmarked marks.new }
+{
+    let threads = named_threads(segments);
+    let mut clocks = Vec::with_capacity(alloc, THREADS)?;
+    for t in 0..THREADS {
+        let clock = clock_of(alloc, segments, marks, present[t] as usize, threads)?;
+        clocks.push(clock)?;
+    }
+    Ok(clocks)
+}
+
+/// The least number that is above the thread of each segment.
+fn named_threads(segments: &[Segment]) -> usize
+    ensures above { (s : ℕ) → s < length segments.now → thread_at segments.now s < result }
+    ensures least { (n : ℕ) → ((s : ℕ) → s < length segments.now → thread_at segments.now s < n) → result ≤ n }
+{
+    let mut threads: usize = 0;
+    for number in 0..segments.len() {
+        threads = threads.max(usize::from(segments[number].thread) + 1);
+    }
+    threads
+}
+
+/// The clock of a segment, whose threads are below `threads`. The marks are clear before and after.
+fn clock_of(
+    alloc: Global,
+    segments: &[Segment],
+    marks: &mut [bool],
+    to: usize,
+    threads: usize,
+) -> Result<Clock, AllocError>
+    requires within { to < length segments.now }
+    requires few { length segments.now ≤ 1048576 }
+    requires lawful { AreSegments segments.now }
+    requires threads { (s : ℕ) → s < length segments.now → thread_at segments.now s < threads }
+    requires marks { length marks.old ≡ length segments.now }
+    requires clear { IsUnmarked marks.old }
+    ensures clock { IfOk result (λ clock. IsClock segments.now to clock) }
+    ensures clear { IsUnmarked marks.new }
+{
+    if to == 0 {
+        return Clock::first(alloc);
+    }
+    let mut clock = Clock::empty(alloc, threads)?;
+    note(segments, marks, to, &mut clock);
+    Ok(clock)
+}
+
+/// Walks backwards from a segment over all that reach it, and gives the empty clock their entries. The marks are clear
+/// before and after.
+fn note(segments: &[Segment], marks: &mut [bool], to: usize, clock: &mut Clock)
+    requires within { to < length segments.now }
+    requires few { length segments.now ≤ 1048576 }
+    requires lawful { AreSegments segments.now }
+    requires threads { (s : ℕ) → s < length segments.now → thread_at segments.now s < length clock.old }
+    requires empty { (u : ℕ) → slice_index_or clock.old u 0 ≡ 0 }
+    requires marks { length marks.old ≡ length segments.now }
+    requires clear { IsUnmarked marks.old }
+    ensures clock { IsClock segments.now to clock.new }
+    ensures clear { IsUnmarked marks.new }
+{
+    marks[to] = true;
+    let mut left = to + 1;
+    while left > 0 {
+        left -= 1;
+        if marks[left] {
+            marks[left] = false;
+            let segment = &segments[left];
+            clock.raise(usize::from(segment.thread), left as u32 + 1);
+            mark(marks, segment.before.as_slice(), 0);
+        }
+    }
+}
