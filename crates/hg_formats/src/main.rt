@@ -1,13 +1,16 @@
 //! Reads roots and page slots, and writes and stops their files, as standard input says, and prints what it found: a line for each line.
 #![tactic(auto)]
 
+mod again;
+mod disks;
 mod roots;
 mod slots;
 mod stops;
 mod text;
 mod threads;
 
-use crate::roots::{tell_file, tell_root};
+use crate::again::tell_again;
+use crate::roots::{tell_file, tell_newest, tell_root};
 use crate::slots::tell_slot;
 use crate::stops::{tell_pair, tell_slots, tell_stopped};
 use crate::text::{Text, front};
@@ -21,7 +24,9 @@ fn answer(alloc: Global, line: &str, out: &mut Text) {
     let (word, rest) = front(line);
     match word {
         "root" => tell_root(alloc, rest, out),
+        "again" => tell_again(alloc, rest, out),
         "file" => tell_file(alloc, rest, out),
+        "newest" => tell_newest(alloc, rest, out),
         "slot" => tell_slot(alloc, rest, out),
         "slots" => tell_slots(alloc, rest, out),
         "pair" => tell_pair(alloc, rest, out),

@@ -2,14 +2,14 @@
 
 ghost use Rattle.std.specs.Prelude.{◌<◌};
 
+use crate::disks::{disk_of, disks_of};
 use crate::text::{Text, bytes_of};
 use crate::threads::put_threads;
 use hg_cells::KeptReport;
-use hg_disk::MemDisk;
 use hg_gate::{GateFault, Gated};
 use hg_model::limits::GREATEST_NUMBER;
 use hg_model::segment::Segment;
-use hg_root::{PageSlot, Root, RootFault, SourceCount};
+use hg_root::{PageSlot, Root, RootFault, RootPair, SourceCount};
 use hg_sets::SetTable;
 use std::alloc::Global;
 
@@ -112,15 +112,6 @@ pub fn tell_root(alloc: Global, digits: &str, out: &mut Text) {
     }
 }
 
-/// A disk with the bytes that digits spell.
-pub fn disk_of(alloc: Global, digits: &str) -> Option<MemDisk> {
-    let bytes = bytes_of(alloc, digits)?;
-    if bytes.len() > 1 << 62 {
-        return None;
-    }
-    MemDisk::holding(alloc, bytes).ok()
-}
-
 /// Tells the root of a file with these bytes, or that it is closed.
 pub fn tell_file(alloc: Global, digits: &str, out: &mut Text) {
     let Some(disk) = disk_of(alloc, digits) else {
@@ -131,6 +122,20 @@ pub fn tell_file(alloc: Global, digits: &str, out: &mut Text) {
         Ok(Some(body)) => put_body(alloc, &body, out),
         Ok(None) => out.put(b"closed"),
         Err(GateFault::Damaged) => out.put(b"damaged"),
+        Err(_) => out.put(b"no memory"),
+    }
+}
+
+/// Tells the newest root of two files with these bytes.
+pub fn tell_newest(alloc: Global, digits: &str, out: &mut Text) {
+    let Some((one, other)) = disks_of(alloc, digits) else {
+        out.put(b"no bytes");
+        return;
+    };
+    match RootPair::attach(one, other).newest(alloc) {
+        Ok(Some(root)) => put_root(&root, out),
+        Ok(None) => out.put(b"closed"),
+        Err(RootFault::Damaged) => out.put(b"damaged"),
         Err(_) => out.put(b"no memory"),
     }
 }

@@ -2,6 +2,7 @@
 
 ghost use Rattle.std.specs.Prelude.{◌<◌};
 
+use crate::disks::disks_of;
 use crate::text::{Text, bytes_of, front};
 use hg_disk::{FuseDisk, MemDisk, Tear};
 use hg_pages::{EncodedPage, SLOT_LEN, SlotFault, SlotFile};
@@ -123,11 +124,12 @@ struct Stops {
 /// Two root files on disks in memory.
 struct Files {
     pair: RootPair<FuseDisk<MemDisk>>,
+    is_new: bool,
 }
 
 impl Drop for Files {
     fn drop(self) {
-        let Files { pair } = self;
+        let Files { pair, is_new: _ } = self;
         drop(pair);
     }
 }
@@ -146,13 +148,11 @@ impl Drop for Disks {
     }
 }
 
-/// A disk with a closed file, that stops at a call.
-fn closed_disk(alloc: Global, stop: u64) -> Option<FuseDisk<MemDisk>> {
+/// A disk that stops at a call.
+fn stopping(disk: MemDisk, stop: u64) -> Option<FuseDisk<MemDisk>> {
     if stop == 0 {
         return None;
     }
-    let bytes = Vec::from_slice(alloc, &[0x5A]).ok()?;
-    let disk = MemDisk::holding(alloc, bytes).ok()?;
     Some(FuseDisk::stop(disk, stop))
 }
 
@@ -165,12 +165,35 @@ fn put_root_answer(answer: Result<(), RootFault>, out: &mut Text) {
 }
 
 impl Files {
-    fn closed(alloc: Global, stops: Stops) -> Option<Files> {
-        let one = closed_disk(alloc, stops.one)?;
-        let other = closed_disk(alloc, stops.other)?;
-        Some(Files {
-            pair: RootPair::of_closed(one, other),
-        })
+    /// Two files with the bytes that digits spell, or of a new store.
+    fn of(alloc: Global, digits: &str, stops: Stops) -> Option<Files> {
+        let is_new = digits == "new";
+        let (one, other) = disks_of(alloc, if is_new { "5a,5a" } else { digits })?;
+        let one = stopping(one, stops.one)?;
+        let other = stopping(other, stops.other)?;
+        let pair = if is_new {
+            RootPair::of_closed(one, other)
+        } else {
+            RootPair::attach(one, other)
+        };
+        Some(Files { pair, is_new })
+    }
+
+    /// Looks for the newest root, unless the files are those of a new store. Tells whether roots can be replaced.
+    fn recover(&mut self, alloc: Global, out: &mut Text) -> bool {
+        if self.is_new {
+            return true;
+        }
+        match self.pair.newest(alloc) {
+            Ok(_) => {
+                out.put(b" ok");
+                true
+            }
+            Err(fault) => {
+                put_root_answer(Err(fault), out);
+                false
+            }
+        }
     }
 
     fn open_gate(&mut self) -> Result<(), RootFault> {
@@ -193,7 +216,7 @@ impl Files {
     }
 
     fn into_disks(self) -> Disks {
-        let Files { pair } = self;
+        let Files { pair, is_new: _ } = self;
         let (one, other) = pair.into_disks();
         Disks {
             one: one.into_inner(),
@@ -202,19 +225,34 @@ impl Files {
     }
 }
 
-/// The disks after the first steps of replacements by these bodies, three steps for each.
+/// What is replaced: the bytes of both files, and the bodies of the roots that come one after the other.
+struct Plan<'a> {
+    files: &'a str,
+    bodies: Vec<Vec<u8>>,
+}
+
+impl Drop for Plan<'_> {
+    fn drop(self) {
+        let Plan { files: _, bodies } = self;
+        drop(bodies);
+    }
+}
+
+/// The disks after the first steps of a plan, three steps for each body.
 fn disks_after(
     alloc: Global,
-    bodies: &[Vec<u8>],
+    plan: &Plan<'_>,
     steps: usize,
     stops: Stops,
     out: &mut Text,
 ) -> Option<Disks> {
-    let mut files = Files::closed(alloc, stops)?;
-    let mut left = steps;
-    for body in bodies.iter() {
-        files.replace(body.as_slice(), left, out);
-        left = left.saturating_sub(3);
+    let mut files = Files::of(alloc, plan.files, stops)?;
+    if files.recover(alloc, out) {
+        let mut left = steps;
+        for body in plan.bodies.iter() {
+            files.replace(body.as_slice(), left, out);
+            left = left.saturating_sub(3);
+        }
     }
     Some(files.into_disks())
 }
@@ -238,26 +276,27 @@ fn put_step(before: &Disks, disks: &Disks, tears: &[Tear], out: &mut Text) {
     }
 }
 
-/// The bodies that words spell.
-fn bodies_of(alloc: Global, words: &str) -> Option<Vec<Vec<u8>>> {
+/// The files and the bodies that words spell.
+fn plan_of<'a>(alloc: Global, words: &'a str) -> Option<Plan<'a>> {
+    let (files, rest) = front(words);
     let mut bodies = Vec::new(alloc);
-    for word in words.split(' ') {
+    for word in rest.split(' ') {
         bodies.push(bytes_of(alloc, word)?).ok()?;
     }
-    Some(bodies)
+    Some(Plan { files, bodies })
 }
 
-fn put_steps(alloc: Global, bodies: &[Vec<u8>], tears: &[Tear], out: &mut Text) -> Option<()> {
+fn put_steps(alloc: Global, plan: &Plan<'_>, tears: &[Tear], out: &mut Text) -> Option<()> {
     let stops = Stops {
         one: u64::MAX,
         other: u64::MAX,
     };
     let mut said = Text::new(alloc);
-    for step in 0..bodies.len() {
+    for step in 0..plan.bodies.len() {
         for part in 0..3 {
             let steps = step.checked_mul(3)?.checked_add(part)?;
-            let before = disks_after(alloc, bodies, steps, stops, &mut said)?;
-            let disks = disks_after(alloc, bodies, steps.checked_add(1)?, stops, &mut said)?;
+            let before = disks_after(alloc, plan, steps, stops, &mut said)?;
+            let disks = disks_after(alloc, plan, steps.checked_add(1)?, stops, &mut said)?;
             out.put_number(b" step ", steps as u64);
             put_step(&before, &disks, tears, out);
         }
@@ -272,11 +311,11 @@ pub fn tell_pair(alloc: Global, words: &str, out: &mut Text) {
     let Some(tears) = tears_of(alloc, tears) else {
         return;
     };
-    let Some(bodies) = bodies_of(alloc, rest) else {
+    let Some(plan) = plan_of(alloc, rest) else {
         return;
     };
-    if put_steps(alloc, &bodies, &tears, out).is_none() {
-        out.put(b" no memory");
+    if put_steps(alloc, &plan, &tears, out).is_none() {
+        out.put(b" not understood");
     }
 }
 
@@ -289,17 +328,12 @@ fn put_stopped(alloc: Global, words: &str, out: &mut Text) -> Option<()> {
         other: other.parse::<u64>().ok()?,
     };
     let tears = tears_of(alloc, tears)?;
-    let bodies = bodies_of(alloc, rest)?;
-    let disks = disks_after(alloc, &bodies, usize::MAX, stops, out)?;
-    out.put_number(b" calls ", disks.one.calls().len() as u64);
-    out.put_number(b" ", disks.other.calls().len() as u64);
-    put_both(
-        &disks,
-        disks.one.calls().len(),
-        disks.other.calls().len(),
-        &tears,
-        out,
-    );
+    let plan = plan_of(alloc, rest)?;
+    let disks = disks_after(alloc, &plan, usize::MAX, stops, out)?;
+    let (one, other) = (disks.one.calls().len(), disks.other.calls().len());
+    out.put_number(b" calls ", one as u64);
+    out.put_number(b" ", other as u64);
+    put_both(&disks, one, other, &tears, out);
     Some(())
 }
 
