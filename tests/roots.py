@@ -1,11 +1,10 @@
 #!/usr/bin/env python3
-"""A reader and a writer of root bodies, by docs/FORMATS.md alone.
+"""A reader and a writer of root bodies, root files and page slots, by docs/FORMATS.md alone. tests/formats compares hg_formats with it.
 
-roots.py            checks itself: the worked root in both directions, 1,000 random contents there and back, each change of a byte
+roots.py            checks itself: the worked root and slot in both directions, 1,000 random contents there and back, each change of a byte
 roots.py verdicts   prints, for each byte of the worked body and each other value, whether the change is a root's body
 """
 import random
-import struct
 import sys
 
 HEADER = b"HGROOT1\n"
@@ -16,13 +15,23 @@ WORKED = bytes.fromhex(
     "000000010000" "000000000000000000000000" "0001" "00030000000000000001" "00000000")
 
 
-class NoRoot(Exception):
+# Page 4, of a root with three segments and these sets.
+SLOT_BYTES = 3080
+WORKED_SLOT = bytes.fromhex(
+    "0000000000000004" "010000000000000200000000" "020000000000000100000002"
+    "030100000000000100000000" "030000000000000100000002") + bytes(3024)
+WORKED_SETS = [(), (0, 1), (5,)]
+
+NEW, EXCLUSIVE, SHARED_READ, SHARED_MODIFIED = range(4)
+
+
+class Damaged(Exception):
     pass
 
 
 def want(test):
     if not test:
-        raise NoRoot()
+        raise Damaged()
 
 
 class Reader:
@@ -95,70 +104,188 @@ def read_body(data):
     return root
 
 
-def write_body(root):
-    out = [HEADER, struct.pack(">QQI", root["number"], root["events"], len(root["segments"]))]
+def fields_of(root):
+    """The fields of a body in order: of each a name, how many bytes it has, and its number."""
     last = {}
+    out = [("header", 8, int.from_bytes(HEADER, "big")), ("number", 8, root["number"]), ("events", 8, root["events"])]
+    out.append(("segments", 4, len(root["segments"])))
     for n, (thread, before) in enumerate(root["segments"]):
-        out.append(struct.pack(">HB", thread, len(before)) + b"".join(struct.pack(">I", b) for b in before))
+        out += [(f"segment {n} thread", 2, thread), (f"segment {n} count", 1, len(before))]
+        out += [(f"segment {n} before {k}", 4, it) for k, it in enumerate(before)]
         last[thread] = n
-    out.append(struct.pack(">H", len(root["threads"])))
-    for thread, alive, held in root["threads"]:
-        out.append(struct.pack(">HBIB", thread, alive, last[thread], len(held)) + b"".join(struct.pack(">HB", *h) for h in held))
-    out.append(struct.pack(">I", len(root["sets"])))
-    for members in root["sets"]:
-        out.append(struct.pack(">H", len(members)) + b"".join(struct.pack(">H", m) for m in members))
-    out.append(struct.pack(">QI", root["total"], len(root["reports"])))
-    out += [struct.pack(">QQHBI", *report) for report in root["reports"]]
-    out.append(struct.pack(">H", len(root["sources"])) + b"".join(struct.pack(">HQ", *s) for s in root["sources"]))
-    out.append(struct.pack(">I", len(root["pages"])) + b"".join(struct.pack(">QI", *p) for p in root["pages"]))
-    return b"".join(out)
+    out.append(("threads", 2, len(root["threads"])))
+    for n, (thread, alive, held) in enumerate(root["threads"]):
+        out += [(f"thread {n} number", 2, thread), (f"thread {n} alive", 1, alive), (f"thread {n} last", 4, last.get(thread, 0))]
+        out.append((f"thread {n} count", 1, len(held)))
+        for k, (lock, mode) in enumerate(held):
+            out += [(f"thread {n} lock {k}", 2, lock), (f"thread {n} mode {k}", 1, mode)]
+    out.append(("sets", 4, len(root["sets"])))
+    for n, members in enumerate(root["sets"]):
+        out.append((f"set {n} count", 2, len(members)))
+        out += [(f"set {n} member {k}", 2, it) for k, it in enumerate(members)]
+    out += [("total", 8, root["total"]), ("kept", 4, len(root["reports"]))]
+    for n, (event, word, thread, kind, threads) in enumerate(root["reports"]):
+        out += [(f"report {n} event", 8, event), (f"report {n} word", 8, word), (f"report {n} thread", 2, thread)]
+        out += [(f"report {n} kind", 1, kind), (f"report {n} set", 4, threads)]
+    out.append(("sources", 2, len(root["sources"])))
+    for n, (source, number) in enumerate(root["sources"]):
+        out += [(f"source {n} number", 2, source), (f"source {n} last", 8, number)]
+    out.append(("pages", 4, len(root["pages"])))
+    for n, (page, slot) in enumerate(root["pages"]):
+        out += [(f"page {n} number", 8, page), (f"page {n} slot", 4, slot)]
+    return out
+
+
+def spelled(fields):
+    return b"".join(value.to_bytes(size, "big") for _, size, value in fields)
+
+
+def write_body(root):
+    return spelled(fields_of(root))
+
+
+def write_file(body):
+    return b"\xa5" + len(body).to_bytes(8, "big") + body
+
+
+def read_file(data):
+    """The body of a root file, or None where it is closed."""
+    want(data)
+    if data[0] != 0xA5:
+        return None
+    want(len(data) >= 9)
+    size = int.from_bytes(data[1:9], "big")
+    want(len(data) >= 9 + size)
+    return data[9:9 + size]
+
+
+def newest_of(one, other):
+    """The newest root of two files, or None where both are closed."""
+    bodies = [body for body in (read_file(one), read_file(other)) if body is not None]
+    roots = sorted((read_body(body) for body in bodies), key=lambda root: root["number"])
+    want(len({root["number"] for root in roots}) == len(roots))
+    return roots[-1] if roots else None
+
+
+def read_slot(data, page, segments, sets):
+    """The 256 cells of a page, each its state and two numbers."""
+    want(len(data) == SLOT_BYTES and page < 2**54 and int.from_bytes(data[:8], "big") == page)
+    cells = []
+    for at in range(8, SLOT_BYTES, 12):
+        state, reported = data[at], data[at + 1]
+        one, other = int.from_bytes(data[at + 4:at + 8], "big"), int.from_bytes(data[at + 8:at + 12], "big")
+        want(state <= SHARED_MODIFIED and data[at + 2:at + 4] == b"\0\0")
+        want(reported == (1 if state == SHARED_MODIFIED and other == 0 else 0))
+        want(state != NEW or one == 0 and other == 0)
+        want(state != EXCLUSIVE or one < segments and other == 0)
+        if state in (SHARED_READ, SHARED_MODIFIED):
+            want(one < len(sets) and other < len(sets))
+            want(len(sets[one]) >= 2 and all(member <= 1023 for member in sets[one]))
+        cells.append((state, one, other))
+    return cells
+
+
+def write_cell(cell):
+    state, one, other = cell
+    reported = 1 if state == SHARED_MODIFIED and other == 0 else 0
+    return bytes([state, reported, 0, 0]) + one.to_bytes(4, "big") + other.to_bytes(4, "big")
+
+
+def write_slot(page, cells):
+    return page.to_bytes(8, "big") + b"".join(write_cell(cell) for cell in cells)
 
 
 def is_root(data):
     try:
         read_body(data)
         return True
-    except NoRoot:
+    except Damaged:
         return False
 
 
-def random_root(dice):
+def random_segments(dice, most):
     segments, last = [(0, [])], {0: 0}
-    for n in range(1, dice.randint(1, 20)):
+    for n in range(1, dice.randint(1, most)):
         thread = dice.choice(list(last) + [dice.randint(0, 1023)])
         before = {last[thread]} if thread in last else {dice.randrange(n)}
         if dice.random() < 0.5:
             before.add(dice.randrange(n))
         segments.append((thread, sorted(before)))
         last[thread] = n
-    threads, taken = [], set()
-    for thread in sorted(last):
-        alive, held = dice.randint(0, 1), []
-        for lock in sorted(dice.sample(range(65536), dice.randint(0, 4))) if alive else []:
-            if lock not in taken:
-                taken.add(lock)
-                held.append((lock, dice.randint(1, 2)))
+    return segments
+
+
+def random_threads(dice, segments, most):
+    threads, modes = [], {}
+    for thread in sorted({thread for thread, _ in segments}):
+        alive, held = int(dice.random() < 0.7), []
+        locks = dice.sample(range(65536), dice.randint(0, most)) + dice.sample(sorted(modes), min(2, len(modes)))
+        for lock in sorted(set(locks))[:64] if alive else []:
+            mode = modes.setdefault(lock, dice.randint(1, 2))
+            if mode == 2 or all((lock, 1) not in other for _, _, other in threads):
+                held.append((lock, mode))
         threads.append((thread, alive, held))
-    sets = [()] + list({tuple(sorted(dice.sample(range(1024), dice.randint(1, 5)))) for _ in range(dice.randint(0, 9))})
-    sources = [(s, dice.randint(1, 50)) for s in sorted(dice.sample(range(1024), dice.randint(0, 4)))]
-    events = sum(n for _, n in sources)
-    places = set()
-    if events and len(sets) > 1:
-        places = {(dice.randint(1, events), 4 * dice.randrange(2**62)) for _ in range(dice.randint(0, min(9, 17 * events)))}
+    return threads
+
+
+def random_sets(dice, most):
+    sets = {tuple(sorted(dice.sample(range(1024), dice.randint(1, 5)))) for _ in range(dice.randint(0, most))}
+    sets |= {tuple(sorted(dice.sample(range(65536), dice.randint(1, 64)))) for _ in range(dice.randint(0, 3))}
+    return [()] + dice.sample(sorted(sets), len(sets))
+
+
+def random_reports(dice, events, sets, most):
+    named = [n for n, members in enumerate(sets) if members and members[-1] <= 1023]
+    if not events or not named:
+        return []
+    count = dice.randint(0, min(most, 17 * events))
+    some = [dice.randint(1, events) for _ in range(3)]
+    places = {(dice.choice(some), 4 * dice.randrange(2**62)) for _ in range(count)}
     reports = []
     for event, word in sorted(places):
-        number = dice.randrange(1, len(sets))
+        number = dice.choice(named)
         reports.append((event, word, dice.choice(sets[number]), dice.choice((6, 7)), number))
-    pages = sorted(dice.sample(range(2**54), dice.randint(0, 9)))
+    return reports
+
+
+def random_root(dice, most=20):
+    """A content whose lists have some `most` entries."""
+    segments, sets = random_segments(dice, most), random_sets(dice, most // 2)
+    greatest = dice.choice((1, 50, 2**40, 2**48))
+    sources = [(s, dice.randint(1, greatest)) for s in sorted(dice.sample(range(1024), dice.randint(0, min(most // 4, 1023))))]
+    events = sum(n for _, n in sources)
+    reports = random_reports(dice, events, sets, most)
+    pages = sorted(dice.sample(range(2**54), dice.randint(0, most // 2)))
     slots = dice.sample(range(1048576), len(pages))
-    return {"number": dice.randint(1, 2**58), "events": events, "segments": segments, "threads": threads, "sets": sets,
-            "total": len(reports), "reports": reports, "sources": sources, "pages": list(zip(pages, slots))}
+    return {"number": dice.choice((1, 2**58, dice.randint(1, 2**58))), "events": events, "segments": segments,
+            "threads": random_threads(dice, segments, dice.choice((0, 4, 4, 64))), "sets": sets, "total": len(reports),
+            "reports": reports, "sources": sources, "pages": list(zip(pages, slots))}
+
+
+def random_cell(dice, segments, sets):
+    shared = [n for n, members in enumerate(sets) if len(members) >= 2 and members[-1] <= 1023]
+    state = dice.choice((NEW, EXCLUSIVE, SHARED_READ, SHARED_MODIFIED) if shared else (NEW, EXCLUSIVE))
+    if state == NEW:
+        return NEW, 0, 0
+    if state == EXCLUSIVE:
+        return EXCLUSIVE, dice.choice((0, segments - 1, dice.randrange(segments))), 0
+    return state, dice.choice(shared), dice.choice((0, dice.randrange(len(sets))))
+
+
+def random_page(dice):
+    """A page, the number of segments, the sets, and the cells."""
+    page, segments, sets = dice.choice((0, 2**54 - 1, dice.randrange(2**54))), dice.choice((1, 1048576, dice.randint(1, 1048576))), random_sets(dice, 6)
+    cells, share = [], dice.choice((0, 0.02, 0.5, 1))
+    for _ in range(256):
+        cells.append(random_cell(dice, segments, sets) if dice.random() < share else (NEW, 0, 0))
+    return page, segments, sets, cells
 
 
 def main():
     body = WORKED[9:]
     assert len(WORKED) == 106 and int.from_bytes(WORKED[1:9], "big") == len(body) == 97
-    assert write_body(read_body(body)) == body
+    assert write_body(read_body(body)) == body and write_file(body) == WORKED and read_file(WORKED + b"?") == body
+    assert write_slot(4, read_slot(WORKED_SLOT, 4, 3, WORKED_SETS)) == WORKED_SLOT
     verdicts = []
     for at in range(len(body)):
         for value in range(256):
@@ -173,7 +300,9 @@ def main():
     for _ in range(1000):
         root = random_root(dice)
         assert read_body(write_body(root)) == root
-    print("worked root read and written, 1000 random contents there and back,",
+        page, segments, known, cells = random_page(dice)
+        assert read_slot(write_slot(page, cells), page, segments, known) == cells
+    print("worked root and slot read and written, 1000 random contents of each there and back,",
           sum(v for _, _, v in verdicts), "of", len(verdicts), "changed bytes are roots")
 
 

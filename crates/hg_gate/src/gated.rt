@@ -1,5 +1,5 @@
 //! A file whose first byte says whether the rest counts.
-ghost use Rattle.std.specs.Prelude.{◌≡◌, ◌≢◌, ◌+◌, ◌<◌, ◌≤◌, ◌↔◌, ◌++◌, ◌∷◌, [], ℕ, List, length, get_or, take, drop, false, IsTrue, OnOk, OnErr, IsErrOf, Err, IfOk, IfErr, MatchOption};
+ghost use Rattle.std.specs.Prelude.{◌≡◌, ◌≢◌, ◌+◌, ◌<◌, ◌≤◌, ◌^◌, ◌↔◌, ◌++◌, ◌∷◌, [], ℕ, List, length, get_or, take, drop, false, IsTrue, OnOk, OnErr, IsErrOf, Err, IfOk, IfErr, MatchOption};
 ghost use Rattle.hg_disk.specs.State.{IsImage, settled, counted};
 ghost use Rattle.hg_disk.specs.Calls.{CallsAtMost};
 ghost use Rattle.hg_disk.specs.Moments.{Leaves, LeavesOnly};
@@ -140,6 +140,9 @@ impl<D: Disk> Gated<D> {
             MatchOption found (IsClosed (D.state (disk_of self.old)).contents) (λ body. IsOpenWith body.items (D.state (disk_of self.old)).contents)) }
         ensures damaged { IsTrue D.is_honest → IsErrOf result GateFault.Damaged → (body : List ℕ) → ¬ IsClosedOrOpenWith body (D.state (disk_of self.old)).contents }
 
+        // So an open file has one body (the law `one_body`).
+        ensures fits { OnOk result (length (D.state (disk_of self.old)).contents ≤ 2 ^ 62) }
+
         // The file stays as it is.
         ensures rests { (file : List ℕ) → Rests ⟦<D as Disk>⟧ self.old file → Rests ⟦<D as Disk>⟧ self.new file }
         ensures state { D.state (disk_of self.new) ≡ D.state (disk_of self.old) }
@@ -179,6 +182,7 @@ fn replace_body<D: Disk>(disk: &mut D, body: &[u8]) -> Result<(), DiskFault>
 // Whether the first byte of a file is an open gate.
 fn is_open<D: Disk>(disk: &mut D) -> Result<bool, GateFault>
     ensures some { OnOk result (1 ≤ length (D.state disk.old).contents) }
+    ensures fits { OnOk result (length (D.state disk.old).contents ≤ 2 ^ 62) }
     ensures open { IsTrue D.is_honest → IfOk result (λ is_open. IsTrue is_open ↔ (get_or (D.state disk.old).contents 0 0 ≡ open_gate)) }
     ensures damaged { IsErrOf result GateFault.Damaged → (D.state disk.old).contents ≡ [] }
     ensures fault { IfErr result IsDamagedOrDevice }

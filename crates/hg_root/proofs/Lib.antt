@@ -9,3 +9,4 @@ pub mod BodyFormats
 pub mod Bodies
 pub mod HeadChain
 pub mod Pairs
+pub mod Choosing

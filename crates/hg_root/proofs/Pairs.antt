@@ -28,7 +28,7 @@ closed_or_open body rest image found = elim (cases_eq found.gate open_gate) [
   | inr shut ↦ inl (record { gate = found.gate; rest = (framed body ++ rest) ++ found.rest; spelling = found.spelling; closed = shut })
 ]
 
-is_former : (root : Option Parts) → IsFormer root root
+pub is_former : (root : Option Parts) → IsFormer root root
 is_former None = tt
 is_former (Some parts) = refl
 

@@ -10,4 +10,5 @@ pub mod Heads
 pub mod Roots
 pub mod Newest
 pub mod Pairs
+pub mod Finding
 pub mod Laws

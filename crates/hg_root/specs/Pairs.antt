@@ -1,5 +1,5 @@
 -- What a crash may leave of two root files, and how a pair of them stands in each step.
-use Rattle.std.specs.Prelude.{◌≡◌, ◌≢◌, ◌⊎◌, ℕ, Bool, true, false, List, [], ◌∷◌, Option, Some, None, if◌then◌else◌}
+use Rattle.std.specs.Prelude.{◌≡◌, ◌≢◌, ◌⊎◌, ◌+◌, ℕ, Bool, true, false, not, List, [], ◌∷◌, Option, Some, None, if◌then◌else◌}
 use Rattle.hg_disk.specs.State.{DiskState, IsImage}
 use Rattle.hg_disk.specs.Moments.{HasGone}
 use Rattle.hg_disk.specs.declared.disk.Disk as disk
@@ -27,6 +27,32 @@ older p = gated.disk_of p.older
 abbrev pub newer : {D : Type 0} → RootPair D → D
 newer p = gated.disk_of p.newer
 
+-- whether a write, a cut or a sync of the file that is written next failed, and whether one of the other
+abbrev pub is_broken : {D : Type 0} → RootPair D → Bool
+is_broken p = gated.is_broken p.older
+
+abbrev pub is_other_broken : {D : Type 0} → RootPair D → Bool
+is_other_broken p = gated.is_broken p.newer
+
+-- None failed.
+abbrev pub IsWorking : {D : Type 0} → RootPair D → Type 0
+IsWorking p = (is_broken p ≡ false) × (is_other_broken p ≡ false)
+
+-- whether the file that is written next is known to be closed, and whether the other is
+abbrev pub is_closed : {D : Type 0} → RootPair D → Bool
+is_closed p = p.is_closed
+
+abbrev pub is_other_closed : {D : Type 0} → RootPair D → Bool
+is_other_closed p = p.is_other_closed
+
+-- whether the second file is written next
+abbrev pub is_turned : {D : Type 0} → RootPair D → Bool
+is_turned p = p.is_turned
+
+-- the other file is written next
+abbrev pub turned : {D : Type 0} → RootPair D → RootPair D
+turned p = record { older = p.newer; newer = p.older; is_closed = p.is_other_closed; is_other_closed = p.is_closed; is_turned = not p.is_turned }
+
 -- the first file and the second one, whichever is written next
 abbrev pub first_of : {D : Type 0} → RootPair D → D
 first_of p = if p.is_turned then newer p else older p
@@ -35,6 +61,17 @@ abbrev pub second_of : {D : Type 0} → RootPair D → D
 second_of p = if p.is_turned then older p else newer p
 
 module _ {D : Type 0} (g : disk.Ghosts D) where
+  -- the bytes of the first file, and those of the second one
+  abbrev pub first_bytes : RootPair D → List ℕ
+  first_bytes p = (g.state (first_of p)).contents
+
+  abbrev pub second_bytes : RootPair D → List ℕ
+  second_bytes p = (g.state (second_of p)).contents
+
+  -- how many calls of the two disks have failed
+  abbrev pub failures : RootPair D → ℕ
+  failures p = g.failures (first_of p) + g.failures (second_of p)
+
   -- At some moment from `old` to `new`, both included, a crash may leave these bytes of a disk.
   pub record MayLeave (old new : D) (bytes : List ℕ) : Type 0 where
     pub later : List DiskState
@@ -70,6 +107,7 @@ module _ {D : Type 0} (g : disk.Ghosts D) where
     pub older_rests : Rests g p.older (gate ∷ rest)
     pub newer_rests : Rests g p.newer newer_file
     pub newer_has : IsRootFile newer_file root
+    pub known : p.is_closed ≡ true
     pub newer_known : IsKnown p.is_other_closed root
 
   -- The file that was written has the newest root; the other has the former one, if there was one.

@@ -3,6 +3,7 @@
 
 mod body;
 mod fault;
+mod found;
 mod head;
 mod lasts;
 pub mod laws;

@@ -1,15 +1,20 @@
 //! Two root files that take turns.
-ghost use Rattle.std.specs.Prelude.{◌≡◌, ℕ, List, Option, Some, None, OnOk};
+ghost use Rattle.std.specs.Prelude.{◌≡◌, ◌≤◌, ◌⊎◌, ℕ, List, Option, Some, None, Err, IsOk, OnOk, OnErr, IfOk, IfErr, IsTrue, IsErrOf, false};
+ghost use Rattle.hg_disk.specs.Calls.{CallsAtMost};
 ghost use Rattle.hg_disk.specs.State.{settled};
 ghost use Rattle.hg_gate.specs.Batches.{IsClosed};
-ghost use Rattle.hg_gate.specs.Gated.{framed};
+ghost use Rattle.hg_gate.specs.Gated.{Rests, framed};
+ghost use Rattle.hg_root.specs.Fault.{IsBrokenOrDevice, failures_after};
 ghost use Rattle.hg_root.specs.Lawful.{IsRoot};
-ghost use Rattle.hg_root.specs.Newest.{IsBelow, IsNewest};
+ghost use Rattle.hg_root.specs.Newest.{IsBelow, IsNewest, IsRootFile};
 ghost use Rattle.hg_root.specs.Parts.{Parts};
 
 use crate::fault::RootFault;
+use crate::found::{are_turns_due, number_of, root_of};
+use crate::root::Root;
 use hg_disk::Disk;
 use hg_gate::Gated;
+use std::alloc::Global;
 use std::mem::swap;
 
 /// Two root files. The next root is written to the one that does not have the newest open root.
@@ -26,7 +31,25 @@ pub struct RootPair<D: Disk> {
 }
 
 impl<D: Disk> RootPair<D> {
-    ghost use Rattle.hg_root.specs.Pairs.{EachPair, IsEither, IsOpened, IsPrepared, Stands, first_of, newer, older, second_of};
+    ghost use Rattle.hg_root.specs.Finding.{HasNoNewest, IsNewestOf, IsWholeIn, StandsWith, WasRead, number_in, root_in};
+    ghost use Rattle.hg_root.specs.Pairs.{EachPair, IsEither, IsOpened, IsPrepared, IsWorking, Stands, failures, first_of, is_broken, is_closed, is_other_broken, is_other_closed, is_turned, newer, older, second_of, turned};
+
+    /// The pair of two files, whatever their bytes are. It makes no device call. Which of them has the newest open root is told by
+    /// `newest`, which comes first.
+    pub fn attach(root0: D, root1: D) -> RootPair<D>
+        ensures first { first_of result ≡ root0 }
+        ensures second { second_of result ≡ root1 }
+        ensures works { IsWorking result }
+        ensures unknown { (is_closed result ≡ false) × (is_other_closed result ≡ false) }
+    {
+        RootPair {
+            older: Gated::attach(root0),
+            newer: Gated::attach(root1),
+            is_closed: false,
+            is_other_closed: false,
+            is_turned: false,
+        }
+    }
 
     /// The pair of two files that are closed, as a new store has them. It makes no device call.
     pub fn of_closed(root0: D, root1: D) -> RootPair<D>
@@ -62,11 +85,78 @@ impl<D: Disk> RootPair<D> {
         }
     }
 
+    /// The newest open root, or none where both files are closed. From then on the next root is written to the file that does not have
+    /// it, or to the first one where none is open. `Damaged` exactly where there is no newest root: a file is empty, or is open with a
+    /// length or a body outside the grammar, or both are open with one number. It makes three device calls of each disk at most. After an
+    /// `Err` the pair stands as before, and it can be tried again.
+    pub fn newest(&mut self, alloc: Global) -> Result<Option<Root>, RootFault>
+        ensures found { IsTrue D.is_honest → IfOk result (IsNewestOf ⟦<D as Disk>⟧ self.old) }
+        ensures whole { IfOk result IsWholeIn }
+        ensures stands { IsTrue D.is_honest → (one other : List ℕ) → D.state (first_of self.old) ≡ settled one → D.state (second_of self.old) ≡ settled other
+            → IfOk result (StandsWith ⟦<D as Disk>⟧ self.new) }
+        ensures none_open { IfOk result (λ found. root_in found ≡ None → older self.new ≡ first_of self.new) }
+        ensures damaged { IsTrue D.is_honest → IsErrOf result RootFault.Damaged → HasNoNewest ⟦<D as Disk>⟧ self.old }
+        ensures stays { (root former : Option Parts) → Stands ⟦<D as Disk>⟧ self.old root former → OnErr result (Stands ⟦<D as Disk>⟧ self.new root former) }
+
+        // Neither file is changed.
+        ensures first { WasRead ⟦<D as Disk>⟧ (first_of self.old) (first_of self.new) }
+        ensures second { WasRead ⟦<D as Disk>⟧ (second_of self.old) (second_of self.new) }
+
+        ensures device { failures ⟦<D as Disk>⟧ self.new ≡ failures_after result (failures ⟦<D as Disk>⟧ self.old) }
+        ensures broken { IsErrOf result RootFault.Broken → IsTrue (is_broken self.old) ⊎ IsTrue (is_other_broken self.old) }
+        ensures works { OnOk result (IsWorking self.old × IsWorking self.new) }
+    {
+        let older = root_of(alloc, &mut self.older)?;
+        let newer = root_of(alloc, &mut self.newer)?;
+        self.choose(older, newer)
+    }
+
+    // Notes what the two files have, and answers the newest root.
+    fn choose(
+        &mut self,
+        in_older: Option<Root>,
+        in_newer: Option<Root>,
+    ) -> Result<Option<Root>, RootFault>
+        ensures found { (one other : List ℕ) → IsRootFile one (root_in in_older) → IsRootFile other (root_in in_newer) → IfOk result (λ found. (former : Option Parts) × IsNewest (root_in found) former one other) }
+        ensures whole { IsWholeIn in_older → IsWholeIn in_newer → IfOk result IsWholeIn }
+        ensures stands { (one other : List ℕ) → Rests ⟦<D as Disk>⟧ self.old.older one → Rests ⟦<D as Disk>⟧ self.old.newer other → IsRootFile one (root_in in_older) → IsRootFile other (root_in in_newer)
+            → IfOk result (StandsWith ⟦<D as Disk>⟧ self.new) }
+        ensures none_open { IfOk result (λ found. root_in found ≡ None → older self.new ≡ first_of self.new) }
+        ensures damaged { IfErr result (λ fault. (fault ≡ RootFault.Damaged) × (1 ≤ number_in (root_in in_older)) × (number_in (root_in in_older) ≡ number_in (root_in in_newer))) }
+        ensures first { first_of self.new ≡ first_of self.old }
+        ensures second { second_of self.new ≡ second_of self.old }
+        ensures same { OnErr result (self.new ≡ self.old) }
+        ensures works { IsWorking self.old → IsWorking self.new }
+        ensures no_call { (n : ℕ) → failures_after result n ≡ n }
+    {
+        let are_due = are_turns_due(number_of(&in_older), number_of(&in_newer), self.is_turned)?;
+        self.is_closed = in_older.is_none();
+        self.is_other_closed = in_newer.is_none();
+        if are_due {
+            self.take_turns();
+            return Ok(in_older);
+        }
+        Ok(in_newer)
+    }
+
     /// Closes the older file, where it is open. It makes two device calls at most, and none where the file is closed already: a
     /// byte that a crash tears may be an open gate.
     pub fn prepare(&mut self) -> Result<(), RootFault>
         ensures prepared { (root former : Option Parts) → Stands ⟦<D as Disk>⟧ self.old root former → OnOk result ((rest : List ℕ) × IsPrepared ⟦<D as Disk>⟧ self.new root rest) }
         ensures any_moment { (root former : Option Parts) → Stands ⟦<D as Disk>⟧ self.old root former → EachPair ⟦<D as Disk>⟧ self.old self.new (IsNewest root former) }
+        ensures newer { newer self.new ≡ newer self.old }
+        ensures turn { is_turned self.new ≡ is_turned self.old }
+        ensures other { is_other_broken self.new ≡ is_other_broken self.old }
+        ensures fault { IfErr result IsBrokenOrDevice }
+        ensures calls { CallsAtMost ⟦<D as Disk>⟧ 2 (older self.old) (older self.new) }
+        ensures device { D.failures (older self.new) ≡ failures_after result (D.failures (older self.old)) }
+        ensures broken { IsErrOf result RootFault.Broken → IsTrue (is_broken self.old) }
+        ensures breaks { OnErr result (IsTrue (is_broken self.new)) }
+        ensures refuses { IsTrue (is_broken self.old) → is_closed self.old ≡ false → result ≡ Err RootFault.Broken }
+        ensures same { IsTrue (is_broken self.old) → self.new ≡ self.old }
+
+        // It does nothing where the file is known to be closed.
+        ensures closed { IsTrue (is_closed self.old) → IsOk result × (self.new ≡ self.old) }
     {
         if self.is_closed {
             return Ok(());
@@ -80,6 +170,16 @@ impl<D: Disk> RootPair<D> {
     pub fn write(&mut self, body: &[u8]) -> Result<(), RootFault>
         ensures written { (root : Option Parts) (rest : List ℕ) → IsPrepared ⟦<D as Disk>⟧ self.old root rest → OnOk result (IsPrepared ⟦<D as Disk>⟧ self.new root (framed body.now)) }
         ensures any_moment { (root : Option Parts) (rest : List ℕ) → IsPrepared ⟦<D as Disk>⟧ self.old root rest → EachPair ⟦<D as Disk>⟧ self.old self.new (IsNewest root None) }
+        ensures newer { newer self.new ≡ newer self.old }
+        ensures turn { is_turned self.new ≡ is_turned self.old }
+        ensures other { is_other_broken self.new ≡ is_other_broken self.old }
+        ensures fault { IfErr result IsBrokenOrDevice }
+        ensures calls { CallsAtMost ⟦<D as Disk>⟧ 4 (older self.old) (older self.new) }
+        ensures device { D.failures (older self.new) ≡ failures_after result (D.failures (older self.old)) }
+        ensures broken { IsErrOf result RootFault.Broken → IsTrue (is_broken self.old) }
+        ensures breaks { OnErr result (IsTrue (is_broken self.new)) }
+        ensures refuses { IsTrue (is_broken self.old) → result ≡ Err RootFault.Broken }
+        ensures same { IsTrue (is_broken self.old) → self.new ≡ self.old }
     {
         self.older.write_body(body)?;
         Ok(())
@@ -92,6 +192,16 @@ impl<D: Disk> RootPair<D> {
             → EachPair ⟦<D as Disk>⟧ self.old self.new (IsEither root (Some next)) }
         ensures opened { (root : Option Parts) (next : Parts) (body : List ℕ) → IsPrepared ⟦<D as Disk>⟧ self.old root (framed body) → IsRoot body next → IsBelow root (Some next)
             → OnOk result (IsOpened ⟦<D as Disk>⟧ self.new root next) }
+        ensures newer { newer self.new ≡ newer self.old }
+        ensures turn { is_turned self.new ≡ is_turned self.old }
+        ensures other { is_other_broken self.new ≡ is_other_broken self.old }
+        ensures fault { IfErr result IsBrokenOrDevice }
+        ensures calls { CallsAtMost ⟦<D as Disk>⟧ 2 (older self.old) (older self.new) }
+        ensures device { D.failures (older self.new) ≡ failures_after result (D.failures (older self.old)) }
+        ensures broken { IsErrOf result RootFault.Broken → IsTrue (is_broken self.old) }
+        ensures breaks { OnErr result (IsTrue (is_broken self.new)) }
+        ensures refuses { IsTrue (is_broken self.old) → result ≡ Err RootFault.Broken }
+        ensures same { IsTrue (is_broken self.old) → self.new ≡ self.old }
     {
         self.older.open_gate()?;
         self.is_closed = false;
@@ -101,6 +211,7 @@ impl<D: Disk> RootPair<D> {
     /// The two files take turns: the one that was opened has the newest root now, and the next root is written to the other. It
     /// makes no device call.
     pub fn take_turns(&mut self)
+        ensures turned { self.new ≡ turned self.old }
         ensures older { older self.new ≡ newer self.old }
         ensures newer { newer self.new ≡ older self.old }
         ensures first { first_of self.new ≡ first_of self.old }

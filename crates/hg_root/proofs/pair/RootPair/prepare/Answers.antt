@@ -22,6 +22,7 @@ returns-clause-prepared g c root former stands = (
     older_rests = c.in_ok-close.ensures.closed stands.older_file stands.older_rests;
     newer_rests = stands.newer_rests;
     newer_has = stands.newer_has;
+    known = refl;
     newer_known = stands.newer_known;
   },
 )

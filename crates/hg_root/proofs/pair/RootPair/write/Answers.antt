@@ -16,5 +16,6 @@ returns-clause-written g c root rest prepared = record {
   older_rests = c.in_ok-write_body.ensures.written prepared.gate rest prepared.older_rests;
   newer_rests = prepared.newer_rests;
   newer_has = prepared.newer_has;
+  known = prepared.known;
   newer_known = prepared.newer_known;
 }

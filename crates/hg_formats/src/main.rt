@@ -1,0 +1,59 @@
+//! Reads roots and page slots, and writes and stops their files, as standard input says, and prints what it found: a line for each line.
+#![tactic(auto)]
+
+mod again;
+mod disks;
+mod roots;
+mod slots;
+mod stops;
+mod text;
+mod threads;
+
+use crate::again::tell_again;
+use crate::roots::{tell_file, tell_newest, tell_root};
+use crate::slots::tell_slot;
+use crate::stops::{tell_pair, tell_slots, tell_stopped};
+use crate::text::{Text, front};
+use std::alloc::Global;
+use std::io;
+use std::io::Write;
+use std::process::ExitCode;
+
+/// Answers one line.
+fn answer(alloc: Global, line: &str, out: &mut Text) {
+    let (word, rest) = front(line);
+    match word {
+        "root" => tell_root(alloc, rest, out),
+        "again" => tell_again(alloc, rest, out),
+        "file" => tell_file(alloc, rest, out),
+        "newest" => tell_newest(alloc, rest, out),
+        "slot" => tell_slot(alloc, rest, out),
+        "slots" => tell_slots(alloc, rest, out),
+        "pair" => tell_pair(alloc, rest, out),
+        "stopped" => tell_stopped(alloc, rest, out),
+        _ => out.put(b"not understood"),
+    }
+    out.put(b"\n");
+}
+
+fn run_input(rt: &HostRuntime) -> io::Result<()> {
+    let alloc = rt.alloc();
+    let text = io::read_to_string(alloc, rt.stdin())?;
+    let mut out = Text::new(alloc);
+    for line in text.as_str().lines() {
+        answer(alloc, line, &mut out);
+    }
+    if !out.is_whole() {
+        return Err(io::ErrorKind::OutOfMemory.into());
+    }
+    let mut stdout = rt.stdout();
+    stdout.write_all(out.bytes())?;
+    stdout.flush()
+}
+
+fn main(rt: HostRuntime) -> ExitCode {
+    match run_input(&rt) {
+        Ok(()) => ExitCode::SUCCESS,
+        Err(_) => ExitCode::FAILURE,
+    }
+}

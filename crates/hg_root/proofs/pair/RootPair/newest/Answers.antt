@@ -1,0 +1,67 @@
+use Rattle.std.proofs.Common.{◌≡◌, ◌≤◌, ◌<◌, ◌^◌, Err, cond, false, length, sym, subst, arith}
+use Rattle.hg_gate.specs.Gated.{Rests}
+use Rattle.hg_root.specs.Finding.{number_in, root_in}
+use Rattle.hg_root.specs.Pairs.{Stands}
+use Rattle.hg_root.specs.declared.fault.RootFault.TheVariants.{Damaged}
+use Rattle.hg_root.proofs.Choosing.{durable_in, file_is, first_read, if_ok, no_newest, none_newest, not_so, of_first, on_err, second_read, swapped, to_first}
+use Rattle.hg_root.proofs.pair.RootPair.newest.Goals as goal
+
+pub returns-in_err-newer-clause-damaged : goal.returns-in_err-newer-clause-damaged
+returns-in_err-newer-clause-damaged g c honest is root former newest =
+    let one = (g.D.Disk.state c.args.self.now.older.disk).contents in
+    let other = (g.D.Disk.state c.args.self.now.newer.disk).contents in
+    let same : c.in_err-newer.field-0.0 ≡ Damaged = grind arith in
+    no_newest other one (c.in_err-newer.ensures.damaged honest (λ i. Err (same i))) root former (swapped root former one other (of_first g.D.Disk c.args.self.now root former newest))
+
+pub returns-in_err-newer-clause-first : goal.returns-in_err-newer-clause-first
+returns-in_err-newer-clause-first g c = first_read g.D.Disk c.args.self.now c.root_of.new.file.disk c.root_of-2.new.file.disk c.root_of.ensures.read c.root_of-2.ensures.read
+
+pub returns-in_err-newer-clause-second : goal.returns-in_err-newer-clause-second
+returns-in_err-newer-clause-second g c = second_read g.D.Disk c.args.self.now c.root_of.new.file.disk c.root_of-2.new.file.disk c.root_of.ensures.read c.root_of-2.ensures.read
+
+pub returns-clause-found : goal.returns-clause-found
+returns-clause-found g c honest =
+    let one = (g.D.Disk.state c.args.self.now.older.disk).contents in
+    let other = (g.D.Disk.state c.args.self.now.newer.disk).contents in
+    if_ok c.choose.result (λ found h. (h.0, to_first g.D.Disk c.args.self.now (root_in found) h.0 h.1)) (c.choose.ensures.found one other (c.in_ok-older.ensures.found honest) (c.in_ok-newer.ensures.found honest))
+
+pub returns-clause-stands : goal.returns-clause-stands
+returns-clause-stands g c honest one other first second =
+    let p = c.args.self.now in
+    let older_file = cond p.is_turned other one in
+    let newer_file = cond p.is_turned one other in
+    let durable = durable_in g.D.Disk p one other first second in
+    let works : p.older.is_broken ≡ false = not_so p.older.is_broken (λ t. let e = c.in_ok-older.ensures.refuses t in absurd cc) in
+    let other_works : p.newer.is_broken ≡ false = not_so p.newer.is_broken (λ t. let e = c.in_ok-newer.ensures.refuses t in absurd cc) in
+    let rests : Rests g.D.Disk p.older older_file = record { works = works; durable = durable.0 } in
+    let rests_other : Rests g.D.Disk p.newer newer_file = record { works = other_works; durable = durable.1 } in
+    c.choose.ensures.stands older_file newer_file (c.root_of.ensures.rests older_file rests) (c.root_of-2.ensures.rests newer_file rests_other)
+    (file_is g.D.Disk p.older.disk older_file (root_in c.in_ok-older.older) durable.0 (c.in_ok-older.ensures.found honest))
+    (file_is g.D.Disk p.newer.disk newer_file (root_in c.in_ok-newer.newer) durable.1 (c.in_ok-newer.ensures.found honest))
+
+pub returns-clause-damaged : goal.returns-clause-damaged
+returns-clause-damaged g c honest is root former newest =
+    let one = (g.D.Disk.state c.args.self.now.older.disk).contents in
+    let other = (g.D.Disk.state c.args.self.now.newer.disk).contents in
+    let x = root_in c.in_ok-older.older in
+    let y = root_in c.in_ok-newer.newer in
+    let level : (Damaged ≡ Damaged) × (1 ≤ number_in x) × (number_in x ≡ number_in y) = rw is at (c.choose.ensures.damaged) in
+    let small : length one < 2 ^ 64 = let fits = c.in_ok-older.ensures.fits in omega (arith, fits) in
+    let short : length other < 2 ^ 64 = let fits = c.in_ok-newer.ensures.fits in omega (arith, fits) in
+    none_newest x y one other small short (c.in_ok-older.ensures.found honest) (c.in_ok-newer.ensures.found honest) level.1 level.2 root former (of_first g.D.Disk c.args.self.now root former newest)
+
+pub returns-clause-stays : goal.returns-clause-stays
+returns-clause-stays g c root former stands =
+    let read = record c.args.self.now { older = c.root_of.new.file; newer = c.root_of-2.new.file } in
+    let still : Stands g.D.Disk read root former = record {
+      older_file = stands.older_file;
+      newer_file = stands.newer_file;
+      older_rests = c.root_of.ensures.rests stands.older_file stands.older_rests;
+      newer_rests = c.root_of-2.ensures.rests stands.newer_file stands.newer_rests;
+      below = stands.below;
+      older_has = stands.older_has;
+      newer_has = stands.newer_has;
+      known = stands.known;
+      newer_known = stands.newer_known;
+    } in
+    on_err c.choose.result (λ same. subst (λ p. Stands g.D.Disk p root former) (sym same) still) c.choose.ensures.same

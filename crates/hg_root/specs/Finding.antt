@@ -1,0 +1,50 @@
+-- What is found of two root files.
+use Rattle.std.specs.Prelude.{◌≡◌, ◌≤◌, ℕ, Bool, true, false, Option, Some, None, IfSome}
+use Rattle.hg_disk.specs.Calls.{CallsAtMost}
+use Rattle.hg_disk.specs.Moments.{LeavesOnly}
+use Rattle.hg_disk.specs.State.{IsImage}
+use Rattle.hg_disk.specs.declared.disk.Disk as disk
+use Rattle.hg_root.specs.Newest.{IsNewest}
+use Rattle.hg_root.specs.Pairs.{Stands, first_bytes, second_bytes}
+use Rattle.hg_root.specs.Parts.{Parts}
+use Rattle.hg_root.specs.Roots.{IsWhole, parts_of}
+use Rattle.hg_root.specs.declared.pair.RootPair.{RootPair}
+use Rattle.hg_root.specs.declared.root.Root.{Root}
+
+-- the parts of a root, if there is one
+abbrev pub root_in : Option Root → Option Parts
+root_in None = None
+root_in (Some root) = Some (parts_of root)
+
+-- If there is a root, it is whole.
+abbrev pub IsWholeIn : Option Root → Type 0
+IsWholeIn found = IfSome found IsWhole
+
+-- the number of a root, 0 where there is none
+abbrev pub number_in : Option Parts → ℕ
+number_in None = 0
+number_in (Some root) = root.number
+
+-- Two files are to take turns, or not. (No promise to a reader rests on this.)
+abbrev pub IsDue : ℕ → ℕ → Bool → Type 0
+IsDue older newer true = newer ≤ older
+IsDue older newer false = older ≤ newer
+
+module _ {D : Type 0} (g : disk.Ghosts D) where
+  -- The disk was read: it is what it was, at each moment too, and was called three times at most.
+  pub record WasRead (old new : D) : Type 0 where
+    pub state : g.state new ≡ g.state old
+    pub any_moment : LeavesOnly g old new (IsImage (g.state old))
+    pub calls : CallsAtMost g 3 old new
+
+  -- It is the newest open root of the two files, or none where both are closed.
+  abbrev pub IsNewestOf : RootPair D → Option Root → Type 0
+  IsNewestOf p found = (former : Option Parts) × IsNewest (root_in found) former (first_bytes g p) (second_bytes g p)
+
+  -- The files have no newest root, and it isn't that both are closed.
+  abbrev pub HasNoNewest : RootPair D → Type 0
+  HasNoNewest p = (root former : Option Parts) → ¬ IsNewest root former (first_bytes g p) (second_bytes g p)
+
+  -- The pair stands with it as the newest root.
+  abbrev pub StandsWith : RootPair D → Option Root → Type 0
+  StandsWith p found = (former : Option Parts) × Stands g p (root_in found) former

@@ -1,0 +1,64 @@
+//! What a root file has, and which of two has the newest root.
+ghost use Rattle.std.specs.Prelude.{◌≡◌, ◌≤◌, ◌^◌, List, ℕ, Option, length, IsTrue, OnOk, IfOk, IfErr, IsErrOf, Err};
+ghost use Rattle.hg_gate.specs.Gated.{Rests, disk_of, is_broken};
+ghost use Rattle.hg_root.specs.Fault.{failures_after};
+ghost use Rattle.hg_root.specs.Finding.{IsDue, IsWholeIn, WasRead, number_in, root_in};
+ghost use Rattle.hg_root.specs.Newest.{IsRootFile};
+ghost use Rattle.hg_root.specs.Parts.{Parts};
+
+use crate::fault::RootFault;
+use crate::root::Root;
+use hg_disk::Disk;
+use hg_gate::Gated;
+use std::alloc::Global;
+
+/// The root that a file has, or none where it is closed.
+pub(crate) fn root_of<D: Disk>(
+    alloc: Global,
+    file: &mut Gated<D>,
+) -> Result<Option<Root>, RootFault>
+    ensures found { IsTrue D.is_honest → IfOk result (λ found. IsRootFile (D.state (disk_of file.old)).contents (root_in found)) }
+    ensures whole { IfOk result IsWholeIn }
+    ensures damaged { IsTrue D.is_honest → IsErrOf result RootFault.Damaged → (root : Option Parts) → ¬ IsRootFile (D.state (disk_of file.old)).contents root }
+    ensures fits { OnOk result (length (D.state (disk_of file.old)).contents ≤ 2 ^ 62) }
+    ensures read { WasRead ⟦<D as Disk>⟧ (disk_of file.old) (disk_of file.new) }
+    ensures rests { (bytes : List ℕ) → Rests ⟦<D as Disk>⟧ file.old bytes → Rests ⟦<D as Disk>⟧ file.new bytes }
+    ensures device { D.failures (disk_of file.new) ≡ failures_after result (D.failures (disk_of file.old)) }
+    ensures works { is_broken file.new ≡ is_broken file.old }
+    ensures broken { IsErrOf result RootFault.Broken → IsTrue (is_broken file.old) }
+    ensures refuses { IsTrue (is_broken file.old) → result ≡ Err RootFault.Broken }
+    ensures same { IsTrue (is_broken file.old) → file.new ≡ file.old }
+{
+    match file.read(alloc)? {
+        Some(body) => Ok(Some(Root::decode(alloc, &body)?)),
+        None => Ok(None),
+    }
+}
+
+/// The number of a root, 0 where there is none.
+pub(crate) fn number_of(root: &Option<Root>) -> u64
+    ensures { result ≡ number_in (root_in root.now) }
+{
+    match root {
+        Some(root) => root.number,
+        None => 0,
+    }
+}
+
+/// Whether two files are to take turns, of which the one that is written next has the root of the first number and the other that of
+/// the second, 0 for none: the one with the greater number is the newest. Where none is open, the second file is not written next.
+/// `Damaged` where both are open with one number.
+pub(crate) fn are_turns_due(older: u64, newer: u64, is_turned: bool) -> Result<bool, RootFault>
+    ensures due { IfOk result (IsDue older newer) }
+    ensures apart { OnOk result (older ≡ newer → older ≡ 0) }
+    ensures first { IfOk result (λ are. older ≡ 0 → newer ≡ 0 → are ≡ is_turned) }
+    ensures damaged { IfErr result (λ fault. (fault ≡ RootFault.Damaged) × (1 ≤ older) × (older ≡ newer)) }
+{
+    if older != newer {
+        return Ok(older > newer);
+    }
+    if older > 0 {
+        return Err(RootFault::Damaged);
+    }
+    Ok(is_turned)
+}
