@@ -1,5 +1,5 @@
 //! Two root files that take turns.
-ghost use Rattle.std.specs.Prelude.{◌≡◌, ◌≤◌, ◌⊎◌, ℕ, List, Option, Some, None, Err, IsOk, OnOk, OnErr, IfOk, IfErr, IsTrue, IsErrOf, false};
+ghost use Rattle.std.specs.Prelude.{◌≡◌, ◌≤◌, ◌⊎◌, ℕ, List, Option, Some, None, Err, IsOk, is_ok, OnOk, OnErr, IfOk, IfErr, IsTrue, IsErrOf, false};
 ghost use Rattle.hg_disk.specs.Calls.{CallsAtMost};
 ghost use Rattle.hg_disk.specs.State.{settled};
 ghost use Rattle.hg_gate.specs.Batches.{IsClosed};
@@ -148,6 +148,7 @@ impl<D: Disk> RootPair<D> {
     pub fn prepare(&mut self) -> Result<(), RootFault>
         ensures prepared { (root former : Option Parts) → Stands ⟦<D as Disk>⟧ self.old root former → OnOk result ((rest : List ℕ) × IsPrepared ⟦<D as Disk>⟧ self.new root rest) }
         ensures any_moment { (root former : Option Parts) → Stands ⟦<D as Disk>⟧ self.old root former → EachPair ⟦<D as Disk>⟧ self.old self.new (IsNewest root former) }
+        ensures known { is_closed self.new ≡ is_ok result }
         ensures newer { newer self.new ≡ newer self.old }
         ensures turn { is_turned self.new ≡ is_turned self.old }
         ensures other { is_other_broken self.new ≡ is_other_broken self.old }
@@ -174,6 +175,7 @@ impl<D: Disk> RootPair<D> {
     pub fn write(&mut self, body: &[u8]) -> Result<(), RootFault>
         ensures written { (root : Option Parts) (rest : List ℕ) → IsPrepared ⟦<D as Disk>⟧ self.old root rest → OnOk result (IsPrepared ⟦<D as Disk>⟧ self.new root (framed body.now)) }
         ensures any_moment { (root : Option Parts) (rest : List ℕ) → IsPrepared ⟦<D as Disk>⟧ self.old root rest → EachPair ⟦<D as Disk>⟧ self.old self.new (IsNewest root None) }
+        ensures known { is_closed self.new ≡ is_closed self.old }
         ensures newer { newer self.new ≡ newer self.old }
         ensures turn { is_turned self.new ≡ is_turned self.old }
         ensures other { is_other_broken self.new ≡ is_other_broken self.old }
