@@ -41,7 +41,11 @@ module _ {D : Type 0} (g : disk.Ghosts D) where
   abbrev pub IsNewestOf : RootPair D → Option Root → Type 0
   IsNewestOf p found = (former : Option Parts) × IsNewest (root_in found) former (first_bytes g p) (second_bytes g p)
 
-  -- The files have no newest root, and it isn't that both are closed.
+  -- No other is.
+  abbrev pub IsOnlyOf : RootPair D → Option Root → Type 0
+  IsOnlyOf p found = (root former : Option Parts) → IsNewest root former (first_bytes g p) (second_bytes g p) → root ≡ root_in found
+
+  -- Neither a root is their newest, nor are both closed.
   abbrev pub HasNoNewest : RootPair D → Type 0
   HasNoNewest p = (root former : Option Parts) → ¬ IsNewest root former (first_bytes g p) (second_bytes g p)
 

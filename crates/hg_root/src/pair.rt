@@ -1,5 +1,5 @@
 //! Two root files that take turns.
-ghost use Rattle.std.specs.Prelude.{◌≡◌, ◌≤◌, ◌⊎◌, ℕ, List, Option, Some, None, Err, IsOk, OnOk, OnErr, IfOk, IfErr, IsTrue, IsErrOf, false};
+ghost use Rattle.std.specs.Prelude.{◌≡◌, ◌≤◌, ◌⊎◌, ℕ, List, Option, Some, None, Err, IsOk, is_ok, OnOk, OnErr, IfOk, IfErr, IsTrue, IsErrOf, false};
 ghost use Rattle.hg_disk.specs.Calls.{CallsAtMost};
 ghost use Rattle.hg_disk.specs.State.{settled};
 ghost use Rattle.hg_gate.specs.Batches.{IsClosed};
@@ -31,7 +31,7 @@ pub struct RootPair<D: Disk> {
 }
 
 impl<D: Disk> RootPair<D> {
-    ghost use Rattle.hg_root.specs.Finding.{HasNoNewest, IsNewestOf, IsWholeIn, StandsWith, WasRead, number_in, root_in};
+    ghost use Rattle.hg_root.specs.Finding.{HasNoNewest, IsNewestOf, IsOnlyOf, IsWholeIn, StandsWith, WasRead, number_in, root_in};
     ghost use Rattle.hg_root.specs.Pairs.{EachPair, IsEither, IsOpened, IsPrepared, IsWorking, Stands, failures, first_of, is_broken, is_closed, is_other_broken, is_other_closed, is_turned, newer, older, second_of, turned};
 
     /// The pair of two files, whatever their bytes are. It makes no device call. Which of them has the newest open root is told by
@@ -55,7 +55,9 @@ impl<D: Disk> RootPair<D> {
     pub fn of_closed(root0: D, root1: D) -> RootPair<D>
         ensures first { first_of result ≡ root0 }
         ensures second { second_of result ≡ root1 }
-        ensures stands { (one other : List ℕ) → D.state root0 ≡ settled one → D.state root1 ≡ settled other → IsClosed one → IsClosed other → Stands ⟦<D as Disk>⟧ result None None }
+        ensures works { IsWorking result }
+        ensures stands { (one other : List ℕ) → D.state root0 ≡ settled one → D.state root1 ≡ settled other → IsClosed one → IsClosed other
+            → Stands ⟦<D as Disk>⟧ result None None }
     {
         RootPair {
             older: Gated::attach(root0),
@@ -91,6 +93,7 @@ impl<D: Disk> RootPair<D> {
     /// `Err` the pair stands as before, and it can be tried again.
     pub fn newest(&mut self, alloc: Global) -> Result<Option<Root>, RootFault>
         ensures found { IsTrue D.is_honest → IfOk result (IsNewestOf ⟦<D as Disk>⟧ self.old) }
+        ensures only { IsTrue D.is_honest → IfOk result (IsOnlyOf ⟦<D as Disk>⟧ self.old) }
         ensures whole { IfOk result IsWholeIn }
         ensures stands { IsTrue D.is_honest → (one other : List ℕ) → D.state (first_of self.old) ≡ settled one → D.state (second_of self.old) ≡ settled other
             → IfOk result (StandsWith ⟦<D as Disk>⟧ self.new) }
@@ -117,10 +120,11 @@ impl<D: Disk> RootPair<D> {
         in_older: Option<Root>,
         in_newer: Option<Root>,
     ) -> Result<Option<Root>, RootFault>
-        ensures found { (one other : List ℕ) → IsRootFile one (root_in in_older) → IsRootFile other (root_in in_newer) → IfOk result (λ found. (former : Option Parts) × IsNewest (root_in found) former one other) }
+        ensures found { (one other : List ℕ) → IsRootFile one (root_in in_older) → IsRootFile other (root_in in_newer)
+            → IfOk result (λ found. (former : Option Parts) × IsNewest (root_in found) former one other) }
         ensures whole { IsWholeIn in_older → IsWholeIn in_newer → IfOk result IsWholeIn }
-        ensures stands { (one other : List ℕ) → Rests ⟦<D as Disk>⟧ self.old.older one → Rests ⟦<D as Disk>⟧ self.old.newer other → IsRootFile one (root_in in_older) → IsRootFile other (root_in in_newer)
-            → IfOk result (StandsWith ⟦<D as Disk>⟧ self.new) }
+        ensures stands { (one other : List ℕ) → Rests ⟦<D as Disk>⟧ self.old.older one → Rests ⟦<D as Disk>⟧ self.old.newer other
+            → IsRootFile one (root_in in_older) → IsRootFile other (root_in in_newer) → IfOk result (StandsWith ⟦<D as Disk>⟧ self.new) }
         ensures none_open { IfOk result (λ found. root_in found ≡ None → older self.new ≡ first_of self.new) }
         ensures damaged { IfErr result (λ fault. (fault ≡ RootFault.Damaged) × (1 ≤ number_in (root_in in_older)) × (number_in (root_in in_older) ≡ number_in (root_in in_newer))) }
         ensures first { first_of self.new ≡ first_of self.old }
@@ -144,6 +148,7 @@ impl<D: Disk> RootPair<D> {
     pub fn prepare(&mut self) -> Result<(), RootFault>
         ensures prepared { (root former : Option Parts) → Stands ⟦<D as Disk>⟧ self.old root former → OnOk result ((rest : List ℕ) × IsPrepared ⟦<D as Disk>⟧ self.new root rest) }
         ensures any_moment { (root former : Option Parts) → Stands ⟦<D as Disk>⟧ self.old root former → EachPair ⟦<D as Disk>⟧ self.old self.new (IsNewest root former) }
+        ensures known { is_closed self.new ≡ is_ok result }
         ensures newer { newer self.new ≡ newer self.old }
         ensures turn { is_turned self.new ≡ is_turned self.old }
         ensures other { is_other_broken self.new ≡ is_other_broken self.old }
@@ -170,6 +175,7 @@ impl<D: Disk> RootPair<D> {
     pub fn write(&mut self, body: &[u8]) -> Result<(), RootFault>
         ensures written { (root : Option Parts) (rest : List ℕ) → IsPrepared ⟦<D as Disk>⟧ self.old root rest → OnOk result (IsPrepared ⟦<D as Disk>⟧ self.new root (framed body.now)) }
         ensures any_moment { (root : Option Parts) (rest : List ℕ) → IsPrepared ⟦<D as Disk>⟧ self.old root rest → EachPair ⟦<D as Disk>⟧ self.old self.new (IsNewest root None) }
+        ensures known { is_closed self.new ≡ is_closed self.old }
         ensures newer { newer self.new ≡ newer self.old }
         ensures turn { is_turned self.new ≡ is_turned self.old }
         ensures other { is_other_broken self.new ≡ is_other_broken self.old }
