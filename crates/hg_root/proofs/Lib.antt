@@ -10,3 +10,4 @@ pub mod Bodies
 pub mod HeadChain
 pub mod Pairs
 pub mod Choosing
+pub mod Joining

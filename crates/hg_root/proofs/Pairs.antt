@@ -3,20 +3,16 @@ use Rattle.std.proofs.Common.{◌≡◌, ◌≢◌, ◌⊎◌, inl, inr, ⊎_eli
 use Rattle.std.proofs.lemmas.Bool.{cases_eq}
 use Rattle.std.proofs.lemmas.List.{append_cancel_right}
 use Rattle.hg_disk.specs.State.{DiskState, IsImage, settled}
-use Rattle.hg_disk.specs.Moments.{EachLeaves, HasGone, LeavesOnly, history}
+use Rattle.hg_disk.specs.Moments.{LeavesOnly, MayLeave, history}
 use Rattle.hg_disk.specs.declared.disk.Disk as disk
 use Rattle.hg_gate.specs.Batches.{IsClosed, open_gate}
 use Rattle.hg_gate.specs.Gated.{IsBehindGate, IsClosedOrOpenWith, Rests, framed}
 use Rattle.hg_root.specs.Lawful.{IsRoot}
 use Rattle.hg_root.specs.Newest.{IsBelow, IsFormer, IsNewest, IsRootFile}
-use Rattle.hg_root.specs.Pairs.{EachPair, IsAmong, IsEither, IsKnown, IsPrepared, MayLeave, Stands, newer, older}
+use Rattle.hg_root.specs.Pairs.{EachPair, IsEither, IsKnown, IsPrepared, Stands, newer, older}
+use Rattle.hg_disk.proofs.Moments.{may_leave, still}
 use Rattle.hg_root.specs.Parts.{Parts}
 use Rattle.hg_root.specs.declared.pair.RootPair.{RootPair}
-
-each_leaves : (P : List ℕ → Type 0) (states : List DiskState) (bytes : List ℕ) → EachLeaves P states → IsAmong states bytes → P bytes
-each_leaves P [] bytes each among = absurd among
-each_leaves P (s ∷ earlier) bytes each (inl is) = each.0 bytes is
-each_leaves P (s ∷ earlier) bytes each (inr among) = each_leaves P earlier bytes each.1 among
 
 -- a file that is behind an open gate stays open with its body, or is closed
 pub closed_or_open : (body rest image : List ℕ) → IsBehindGate (framed body ++ rest) image → IsClosedOrOpenWith body image
@@ -37,21 +33,6 @@ on_ok (Ok value) f is = f is
 on_ok (Err error) f is = is
 
 module _ {D : Type 0} (g : disk.Ghosts D) where
-  gone_once : (old new : D) (first second : List DiskState) → HasGone g old new first → HasGone g old new second → first ≡ second
-  gone_once old new first second a b = append_cancel_right first second (history g old) (sym a ∙ b)
-
-  may_leave : (old new : D) (P : List ℕ → Type 0) (bytes : List ℕ) → LeavesOnly g old new P → MayLeave g old new bytes → P bytes
-  may_leave old new P bytes only may = leaves may.among where
-    leaves : IsImage (g.state old) bytes ⊎ IsAmong may.later bytes → P bytes
-    leaves (inl is) = only.first bytes is
-    leaves (inr among) = each_leaves P only.later bytes only.each (subst (λ (states : List DiskState). IsAmong states bytes) (gone_once old new may.later only.later may.has_gone only.has_gone) among)
-
-  still : (d : D) (bytes : List ℕ) → MayLeave g d d bytes → IsImage (g.state d) bytes
-  still d bytes may = leaves may.among where
-    leaves : IsImage (g.state d) bytes ⊎ IsAmong may.later bytes → IsImage (g.state d) bytes
-    leaves (inl is) = is
-    leaves (inr among) = absurd (subst (λ (states : List DiskState). IsAmong states bytes) (gone_once d d may.later [] may.has_gone refl) among)
-
   -- a file at rest has one image
   rests_is : (d : D) (file bytes : List ℕ) → g.state d ≡ settled file → IsImage (g.state d) bytes → bytes ≡ file
   rests_is d file bytes rests is = (subst (λ (s : DiskState). IsImage s bytes) rests is).clean refl
@@ -63,8 +44,8 @@ module _ {D : Type 0} (g : disk.Ghosts D) where
     older_goes = (only.later, only.has_gone);
     newer_goes = ([], ap (history g) same);
     each = λ one other may_one may_other.
-        let is = rests_is (newer old) file other rests (still (newer old) other (subst (λ (d : D). MayLeave g (newer old) d other) same may_other)) in
-        subst (Q one) (sym is) (then one (may_leave (older old) (older new) P one only may_one));
+        let is = rests_is (newer old) file other rests (still g (newer old) other (subst (λ (d : D). MayLeave g (newer old) d other) same may_other)) in
+        subst (Q one) (sym is) (then one (may_leave g (older old) (older new) P one only may_one));
   }
 
   -- no call
@@ -73,8 +54,8 @@ module _ {D : Type 0} (g : disk.Ghosts D) where
     older_goes = ([], refl);
     newer_goes = ([], refl);
     each = λ one other may_one may_other.
-        let is_one = rests_is (older p) stands.older_file one stands.older_rests.durable (still (older p) one may_one) in
-        let is_other = rests_is (newer p) stands.newer_file other stands.newer_rests.durable (still (newer p) other may_other) in
+        let is_one = rests_is (older p) stands.older_file one stands.older_rests.durable (still g (older p) one may_one) in
+        let is_other = rests_is (newer p) stands.newer_file other stands.newer_rests.durable (still g (newer p) other may_other) in
         subst (λ (bytes : List ℕ). IsNewest root former bytes other) (sym is_one) (subst (IsNewest root former stands.older_file) (sym is_other)
         (record { lesser = former; among = is_former former; below = stands.below; either = inl (stands.older_has, stands.newer_has) }));
   }

@@ -11,4 +11,5 @@ pub mod Roots
 pub mod Newest
 pub mod Pairs
 pub mod Finding
+pub mod Checkpoints
 pub mod Laws

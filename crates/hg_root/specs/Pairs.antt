@@ -1,7 +1,6 @@
 -- What a crash may leave of two root files, and how a pair of them stands in each step.
 use Rattle.std.specs.Prelude.{◌≡◌, ◌≢◌, ◌⊎◌, ◌+◌, ℕ, Bool, true, false, not, List, [], ◌∷◌, Option, Some, None, if◌then◌else◌}
-use Rattle.hg_disk.specs.State.{DiskState, IsImage}
-use Rattle.hg_disk.specs.Moments.{HasGone}
+use Rattle.hg_disk.specs.Moments.{GoesOn, MayLeave}
 use Rattle.hg_disk.specs.declared.disk.Disk as disk
 use Rattle.hg_gate.specs.Batches.{open_gate}
 use Rattle.hg_gate.specs.Gated as gated
@@ -9,11 +8,6 @@ use Rattle.hg_gate.specs.Gated.{Rests, framed}
 use Rattle.hg_root.specs.Newest.{IsBelow, IsNewest, IsRootFile}
 use Rattle.hg_root.specs.Parts.{Parts}
 use Rattle.hg_root.specs.declared.pair.RootPair.{RootPair}
-
--- one of these states leaves the bytes
-abbrev pub IsAmong : List DiskState → List ℕ → Type 0
-IsAmong [] bytes = ⊥
-IsAmong (s ∷ earlier) bytes = IsImage s bytes ⊎ IsAmong earlier bytes
 
 -- whether the file is known to be closed
 abbrev pub IsKnown : Bool → Option Parts → Type 0
@@ -72,20 +66,11 @@ module _ {D : Type 0} (g : disk.Ghosts D) where
   abbrev pub failures : RootPair D → ℕ
   failures p = g.failures (first_of p) + g.failures (second_of p)
 
-  -- At some moment from `old` to `new`, both included, a crash may leave these bytes of a disk.
-  pub record MayLeave (old new : D) (bytes : List ℕ) : Type 0 where
-    pub later : List DiskState
-    pub has_gone : HasGone g old new later
-    pub among : IsImage (g.state old) bytes ⊎ IsAmong later bytes
-
-  abbrev pub GoesOn : D → D → Type 0
-  GoesOn old new = (later : List DiskState) × HasGone g old new later
-
   -- Each image of the two files from one moment to another, each file by itself, has P.
   pub record EachPair (old new : RootPair D) (P : List ℕ → List ℕ → Type 0) : Type 0 where
-    pub older_goes : GoesOn (older old) (older new)
-    pub newer_goes : GoesOn (newer old) (newer new)
-    pub each : (one other : List ℕ) → MayLeave (older old) (older new) one → MayLeave (newer old) (newer new) other → P one other
+    pub older_goes : GoesOn g (older old) (older new)
+    pub newer_goes : GoesOn g (newer old) (newer new)
+    pub each : (one other : List ℕ) → MayLeave g (older old) (older new) one → MayLeave g (newer old) (newer new) other → P one other
 
   -- The pair works, both files are durable, and this is the newest open root, or none; the file that is written next has the former one, or is closed.
   pub record Stands (p : RootPair D) (root former : Option Parts) : Type 0 where
