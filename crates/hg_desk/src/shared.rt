@@ -1,6 +1,6 @@
 //! The lock, and how a shared store is opened and taken in.
 
-ghost use Rattle.std.specs.Prelude.{◌≡◌, ◌+◌, ◌≤◌, ◌⊎◌, ◌≢◌, ⊥, length, map, sum, vec_len, All, IfOk, IfErr, IsTrue};
+ghost use Rattle.std.specs.Prelude.{◌≡◌, ◌+◌, ◌≤◌, ◌⊎◌, ◌≢◌, length, map, sum, vec_len, All, IfOk, IfErr, IsTrue};
 ghost use Rattle.hg_model.specs.Contents.{Content};
 ghost use Rattle.hg_detect.specs.Memory.{content_of};
 ghost use Rattle.hg_store.specs.Images.{HasContent, Image, IsLeft};
@@ -190,12 +190,13 @@ pub fn gather<D: Disk, A: Column, B: Column>(
         × (e.2.accepted_told ≡ sum (map (λ s. s.accepted) shares.items)) × (e.2.durable_told ≡ sum (map (λ s. s.durable) shares.items))
         × ((e.2.accepted_told ≢ e.2.accepted_book) ⊎ (e.2.durable_told ≢ e.2.durable_book))) }
 {
-    let mut shares = shares;
     let Shared { core } = shared;
-    let mut core = core.into_inner();
-    core.audit(shares.as_mut_slice());
+    let core = core.into_inner();
     let tally = core.tally(shares.as_slice());
     if tally.accepted_told != tally.accepted_book || tally.durable_told != tally.durable_book {
+        let mut core = core;
+        let mut shares = shares;
+        core.audit(shares.as_mut_slice());
         let shared = Shared {
             core: Mutex::new(core),
         };

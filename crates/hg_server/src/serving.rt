@@ -23,15 +23,14 @@ use hg_store::devices::Devices;
 use hg_store::store::Store;
 use hg_streams::output::Output;
 use std::alloc::{AllocError, Global};
-use std::io;
 use std::io::{ErrorKind, Write};
 use std::marker::Brand;
 use std::net::{TcpListener, TcpStream};
 use std::sync::Wait;
 use std::sync::ledger::Blank;
-use std::thread;
 use std::thread::Threads;
 use std::time::{Clock, Duration};
+use std::{io, thread};
 
 /// How a server runs.
 #[derive(Clone, Copy, Drop)]
@@ -79,24 +78,28 @@ fn accept<R: Clock>(rt: &R, listener: &TcpListener) -> Result<Option<TcpStream>,
     Err(Refusal::DeviceFault)
 }
 
-/// Takes connections from the listener, and hands each to the workers. A connection that fails counts as taken.
+/// Takes connections from the listener, and hands each to the workers. A connection that fails counts as taken. Tells whether all were
+/// taken.
 fn accept_all<R: Clock + Wait>(
     rt: &R,
     listener: &TcpListener,
     plan: Plan,
     to: Sender<TcpStream>,
-) -> Result<(), Refusal> {
+) -> bool {
     for _ in 0..plan.connections {
-        if let Some(stream) = accept(rt, listener)? {
+        let Ok(accepted) = accept(rt, listener) else {
+            return false;
+        };
+        if let Some(stream) = accepted {
             if prepare(&stream, plan).is_ok() {
                 let _ = to.send(rt, stream);
             }
         }
     }
-    Ok(())
+    true
 }
 
-/// Runs the workers until the connections are served: their shares, and whether the listener held.
+/// Runs the workers until the connections are served: their shares, and whether all connections were taken.
 fn run_workers<
     D: Disk + Send + Drop,
     A: Column + Send + Sync,
@@ -111,20 +114,33 @@ fn run_workers<
     listener: &TcpListener,
     plan: Plan,
     gate: &G,
-) -> (Result<Vec<Share<A, B>>, AllocError>, Result<(), Refusal>) {
+) -> (Result<Vec<Share<A, B>>, AllocError>, bool) {
     let Ok((to, from)) = crossbeam_channel::unbounded(alloc) else {
-        return (Err(AllocError), Ok(()));
+        return (Err(AllocError), false);
     };
     let queue = &from;
     thread::join(
         rt,
         move || {
-            thread::map_vec(rt, shares, &|share| {
-                worker(rt, alloc, shared, share, queue, gate)
-            })
+            thread::map_vec(
+                rt,
+                shares,
+                &|share| { worker(rt, alloc, shared, share, queue, gate) },
+            )
         },
         move || accept_all(rt, listener, plan, to),
     )
+}
+
+/// Makes all accepted events of a store durable.
+fn make_durable<D: Disk>(store: &mut Store<D>) -> Result<(), Refusal>
+    ensures works { OnOk result (store.new.is_broken ≡ false) }
+    ensures detector { store.new.detector ≡ store.old.detector }
+    ensures backs { OnOk result ((d : Content) → IsTrue D.is_honest → Backs ⟦<D as Disk>⟧ store.old d → Backs ⟦<D as Disk>⟧ store.new (content_of store.old.detector)) }
+    ensures cause { IfErr result IsServeFault }
+{
+    store.commit()?;
+    Ok(())
 }
 
 /// Opens the lock over a store, runs the workers until the connections are served, and takes them in. All accepted events are then
@@ -155,22 +171,24 @@ fn serve_by<
     requires small { HasThreadSets (content_of store.detector) }
     ensures events { IfOk result (λ s. A.opening ≤ (content_of s.detector).events) }
     ensures works { IfOk result (λ s. s.is_broken ≡ false) }
+    ensures cause { IfErr result IsServeFault }
     ensures backs { IfOk result (λ s. IsTrue D.is_honest → Backs ⟦<D as Disk>⟧ s (content_of s.detector)) }
 {
     let count = usize::from(plan.workers);
-    let Ok((shared, shares)) = Shared::<D, A, B>::new(alloc, store, accepted, durable, count)
-    else {
+    let Ok((shared, shares)) = Shared::<D, A, B>::new(alloc, store, accepted, durable, count) else {
         return Err(Refusal::OutOfMemory);
     };
-    let (back, listened) = run_workers(rt, alloc, &shared, shares, listener, plan, gate);
+    let (back, are_all_taken) = run_workers(rt, alloc, &shared, shares, listener, plan, gate);
     let Ok(shares) = back else {
         return Err(Refusal::OutOfMemory);
     };
     let Ok(mut store) = gather(shares, shared) else {
         return Err(Refusal::OutOfMemory);
     };
-    store.commit()?;
-    listened?;
+    make_durable(&mut store)?;
+    if !are_all_taken {
+        return Err(Refusal::DeviceFault);
+    }
     Ok(store)
 }
 
@@ -187,6 +205,7 @@ fn serve_over<D: Disk + Send + Drop, G: Gate + Sync, R: Threads + Wait + Clock +
     requires small { HasThreadSets (content_of store.detector) }
     ensures events { IfOk result (λ s. (content_of store.detector).events ≤ (content_of s.detector).events) }
     ensures works { IfOk result (λ s. s.is_broken ≡ false) }
+    ensures cause { IfErr result IsServeFault }
     ensures backs { IfOk result (λ s. IsTrue D.is_honest → Backs ⟦<D as Disk>⟧ s (content_of s.detector)) }
 {
     let parts = u64::from(plan.workers);
@@ -216,7 +235,8 @@ fn print_end<D: Disk, W: Write>(
 {
     print_number(b"served ", u64::from(plan.connections), held, output)?;
     hold_end_line(store, held)?;
-    print_now(held.as_slice(), output)
+    print_now(held.as_slice(), output)?;
+    Ok(())
 }
 
 /// Recovers the store, serves the connections, and prints what is due.

@@ -227,7 +227,15 @@ pub fn worker<D: Disk, A: Column, B: Column, S: Read + Write + Drop, G: Gate, R:
         let Ok(stream) = connections.recv(rt) else {
             break;
         };
-        let course = converse(rt, alloc, shared, &mut share, stream, piece.as_mut_slice(), gate);
+        let course = converse(
+            rt,
+            alloc,
+            shared,
+            &mut share,
+            stream,
+            piece.as_mut_slice(),
+            gate,
+        );
         if course == Course::Stop {
             break;
         }

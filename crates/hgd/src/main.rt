@@ -136,7 +136,9 @@ fn graph_in(rt: &HostRuntime, directory: &str) -> u8 {
 #[derive(Drop)]
 enum Outcome<'a> {
     /// It is done, with this status.
-    Done { status: u8 },
+    Done {
+        status: u8,
+    },
     /// A store is to be served. Threads can be made in `main` alone.
     Serve {
         directory: &'a str,
@@ -210,7 +212,9 @@ fn serve_on<
         workers: serving.workers,
         silence: silence_of(serving),
     };
-    let (status, _) = serve(rt, alloc, devices, &listener, plan, &OpenGate, output, faults);
+    let (status, _) = serve(
+        rt, alloc, devices, &listener, plan, &OpenGate, output, faults,
+    );
     status
 }
 
@@ -226,7 +230,14 @@ fn main(rt: HostRuntime) -> ExitCode {
                             Ok(devices) => {
                                 let mut output = Output::new(rt.stdout());
                                 let mut faults = Output::new(rt.stderr());
-                                serve_on(&rt, rt.alloc(), devices, serving, &mut output, &mut faults)
+                                serve_on(
+                                    &rt,
+                                    rt.alloc(),
+                                    devices,
+                                    serving,
+                                    &mut output,
+                                    &mut faults,
+                                )
                             }
                             Err(refusal) => fail(&rt, refusal),
                         }
