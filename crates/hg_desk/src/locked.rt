@@ -1,6 +1,6 @@
 //! The value behind the lock.
 
-ghost use Rattle.std.specs.Prelude.{◌≡◌, ◌+◌, ◌<◌, ◌^◌, Ok, Err, cond, vec_len, All, IfOk, IfErr, IsTrue};
+ghost use Rattle.std.specs.Prelude.{◌≡◌, ◌+◌, ◌<◌, ◌≤◌, ◌^◌, Ok, Err, cond, vec_len, All, IfOk, IfErr, IsTrue};
 ghost use Rattle.hg_model.specs.Contents.{Content};
 ghost use Rattle.hg_model.specs.declared.verdict.Refusal.TheVariants.{Broken};
 ghost use Rattle.hg_model.specs.ThreadSets.{HasThreadSets};
@@ -47,6 +47,13 @@ impl<D: Disk, A: Column, B: Column> Model for Core<D, A, B> {
     ghost view = { λ c. c.store };
 
     ghost invariant = { λ c. IsCore ⟦<D as Disk>⟧ A.opening B.opening c.store c.accepted.total c.durable.total c.accepted_count c.durable_count };
+}
+
+/// How many events were accepted and made durable since the opening.
+#[derive(Clone, Copy, Debug, PartialEq, Eq, Drop)]
+pub struct Counts {
+    pub accepted: u64,
+    pub durable: u64,
 }
 
 /// Counts an accepted event.
@@ -146,6 +153,22 @@ impl<D: Disk, A: Column, B: Column> Core<D, A, B> {
             StepResult::Committed(Err(_)) => {}
         }
         result
+    }
+
+    /// How many events were accepted and made durable since the opening, by whomever: at least as many as this share was told of.
+    pub fn counts(&mut self, share: &mut Share<A, B>) -> Counts
+        ensures events { (content_of self.old.detector).events ≡ A.opening + result.accepted }
+        ensures durable { self.old.durable ≡ B.opening + result.durable }
+        ensures told { (share.old.accepted ≤ result.accepted) × (share.old.durable ≤ result.durable) }
+        ensures same { self.new ≡ self.old }
+        ensures share { share.new ≡ share.old }
+    {
+        self.accepted.audit(&mut share.accepted_part);
+        self.durable.audit(&mut share.durable_part);
+        Counts {
+            accepted: self.accepted_count,
+            durable: self.durable_count,
+        }
     }
 
     /// The last accepted number of a source, 0 where it sent nothing.

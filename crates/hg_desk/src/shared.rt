@@ -1,6 +1,6 @@
 //! The lock, and how a shared store is opened and taken in.
 
-ghost use Rattle.std.specs.Prelude.{◌≡◌, ◌+◌, ◌≤◌, ◌⊎◌, ◌≢◌, map, sum, vec_len, All, IfOk, IfErr, IsTrue};
+ghost use Rattle.std.specs.Prelude.{◌≡◌, ◌+◌, ◌≤◌, ◌⊎◌, ◌≢◌, length, map, sum, vec_len, All, IfOk, IfErr, IsTrue};
 ghost use Rattle.hg_model.specs.Contents.{Content};
 ghost use Rattle.hg_detect.specs.Memory.{content_of};
 ghost use Rattle.hg_store.specs.Images.{HasContent, Image, IsLeft};
@@ -14,7 +14,7 @@ use crate::tasks::Task;
 use hg_disk::Disk;
 use hg_store::store::Store;
 use std::alloc::Global;
-use std::sync::ledger::Blank;
+use std::sync::ledger::{Blank, Book, Share as Part};
 use std::sync::{Mutex, Wait};
 
 /// A store that threads share.
@@ -98,6 +98,22 @@ impl<D: Disk, A: Column, B: Column> Core<D, A, B> {
         }
     }
 
+    /// Holds the books against the shares.
+    fn audit(&mut self, shares: &mut [Share<A, B>])
+        ensures accepted { 1 ≤ length shares.old → length shares.old ≡ A.parts → (content_of self.old.detector).events ≡ A.opening + sum (map (λ s. s.accepted) shares.old) }
+        ensures durable { 1 ≤ length shares.old → length shares.old ≡ B.parts → self.old.durable ≡ B.opening + sum (map (λ s. s.durable) shares.old) }
+        ensures same { self.new ≡ self.old }
+        ensures shares { shares.new ≡ shares.old }
+    {
+        let Some(first) = shares.first_mut() else {
+            return;
+        };
+        let mut seen_accepted = first.accepted_part.empty();
+        let mut seen_durable = first.durable_part.empty();
+        audit_accepted(&mut self.accepted, shares, &mut seen_accepted);
+        audit_durable(&mut self.durable, shares, &mut seen_durable);
+    }
+
     fn into_store(self) -> Store<D>
         ensures store { result ≡ self }
         ensures backs { IsTrue D.is_honest → (d : Content) × Backs ⟦<D as Disk>⟧ result d }
@@ -113,6 +129,51 @@ impl<D: Disk, A: Column, B: Column> Core<D, A, B> {
     }
 }
 
+/// Lends the parts of these shares to one, which then stands for all of them, and takes them back. No byte is changed: it is the
+/// books' own law that a share with all parts has the total.
+fn audit_accepted<A: Column, B: Column>(
+    book: &mut Book<A>,
+    shares: &mut [Share<A, B>],
+    seen: &mut Part<A>,
+)
+    requires backed { seen.old.parts ≡ 0 → seen.old.amount ≡ 0 }
+    ensures whole { seen.old.parts + length shares.old ≡ A.parts → seen.old.amount + sum (map (λ s. s.accepted) shares.old) ≡ book.old.total }
+    ensures book { book.new.total ≡ book.old.total }
+    ensures shares { shares.new ≡ shares.old }
+    ensures seen { (seen.new.parts ≡ seen.old.parts) × (seen.new.amount ≡ seen.old.amount) }
+{
+    let Some((first, rest)) = shares.split_first_mut() else {
+        book.audit(seen);
+        return;
+    };
+    let told = first.accepted;
+    first.accepted_part.give(seen, 1, told);
+    audit_accepted(book, rest, seen);
+    seen.give(&mut first.accepted_part, 1, told);
+}
+
+/// The same of the other column.
+fn audit_durable<A: Column, B: Column>(
+    book: &mut Book<B>,
+    shares: &mut [Share<A, B>],
+    seen: &mut Part<B>,
+)
+    requires backed { seen.old.parts ≡ 0 → seen.old.amount ≡ 0 }
+    ensures whole { seen.old.parts + length shares.old ≡ B.parts → seen.old.amount + sum (map (λ s. s.durable) shares.old) ≡ book.old.total }
+    ensures book { book.new.total ≡ book.old.total }
+    ensures shares { shares.new ≡ shares.old }
+    ensures seen { (seen.new.parts ≡ seen.old.parts) × (seen.new.amount ≡ seen.old.amount) }
+{
+    let Some((first, rest)) = shares.split_first_mut() else {
+        book.audit(seen);
+        return;
+    };
+    let told = first.durable;
+    first.durable_part.give(seen, 1, told);
+    audit_durable(book, rest, seen);
+    seen.give(&mut first.durable_part, 1, told);
+}
+
 /// Takes the workers in. An `Err` comes only where what they were told and the books differ, and hands all back.
 pub fn gather<D: Disk, A: Column, B: Column>(
     shares: Vec<Share<A, B>>,
@@ -123,6 +184,8 @@ pub fn gather<D: Disk, A: Column, B: Column>(
     ensures backs { IfOk result (λ store. IsTrue D.is_honest → (d : Content) × Backs ⟦<D as Disk>⟧ store d) }
     ensures images { IfOk result (λ store. IsTrue D.is_honest → (image : Image) → IsLeft ⟦<D as Disk>⟧ store.devices image
         → (k : Content) × HasContent image k × (B.opening + sum (map (λ s. s.durable) shares.items) ≤ k.events)) }
+    // Where all shares come back, they agree with the books.
+    ensures whole { 1 ≤ vec_len shares → vec_len shares ≡ A.parts → vec_len shares ≡ B.parts → IfErr result (λ e. ⊥) }
     ensures err { IfErr result (λ e. (e.0.items ≡ shares.items)
         × (e.2.accepted_told ≡ sum (map (λ s. s.accepted) shares.items)) × (e.2.durable_told ≡ sum (map (λ s. s.durable) shares.items))
         × ((e.2.accepted_told ≢ e.2.accepted_book) ⊎ (e.2.durable_told ≢ e.2.durable_book))) }
@@ -131,6 +194,9 @@ pub fn gather<D: Disk, A: Column, B: Column>(
     let core = core.into_inner();
     let tally = core.tally(shares.as_slice());
     if tally.accepted_told != tally.accepted_book || tally.durable_told != tally.durable_book {
+        let mut core = core;
+        let mut shares = shares;
+        core.audit(shares.as_mut_slice());
         let shared = Shared {
             core: Mutex::new(core),
         };

@@ -1,12 +1,13 @@
 //! What is run under the lock.
 
 ghost use Rattle.std.specs.Prelude.{◌≡◌, ◌+◌, ◌≤◌};
+ghost use Rattle.hg_detect.specs.Memory.{content_of};
 ghost use Rattle.hg_frames.specs.Spelling.{FitsFrames};
 ghost use Rattle.hg_desk.specs.Conversation.{Answers, accepted_by};
 ghost use Rattle.hg_desk.specs.Told.{Told, StepKept, StepTold};
 
 use crate::desk::Desk;
-use crate::locked::Core;
+use crate::locked::{Core, Counts};
 use crate::share::{Column, Share};
 use hg_disk::Disk;
 use hg_frames::frame::Frame;
@@ -69,5 +70,23 @@ impl<D: Disk, A: Column, B: Column> Task<D, A, B> for AskTask {
         } = self;
         let reply = desk.answer(alloc, core, share, &frame);
         (desk, reply)
+    }
+}
+
+/// Looks at the books.
+#[derive(Drop)]
+pub struct CountTask;
+
+impl<D: Disk, A: Column, B: Column> Task<D, A, B> for CountTask {
+    type Out = Counts;
+
+    ghost promise = { λ t old new res. (new ≡ old) × (old.accepted ≤ res.accepted) × (old.durable ≤ res.durable) };
+
+    fn run(self, core: &mut Core<D, A, B>, share: &mut Share<A, B>) -> Counts
+        ensures promise { (share.new ≡ share.old) × (share.old.accepted ≤ result.accepted) × (share.old.durable ≤ result.durable) }
+        ensures counts { ((content_of core.old.detector).events ≡ A.opening + result.accepted) × (core.old.durable ≡ B.opening + result.durable) }
+        ensures same { core.new ≡ core.old }
+    {
+        core.counts(share)
     }
 }

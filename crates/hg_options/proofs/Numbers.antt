@@ -7,9 +7,9 @@ use Rattle.clap.proofs.WalkLemmas.{one_text-rows}
 use Rattle.hg_options.specs.Tasks.{Spells}
 
 -- where a number was read, the text spells it
-pub spelled : (E : Type 0) (f : Found) (id : Text) (n : ℕ) → (one_text f id ≡ None → Some n ≡ None)
-    → ((t : Text) → one_text f id ≡ Some t → ParsesUnsigned {E = E} 16 10 t (Ok n)) → Spells id (rows_of f) n
-spelled E f id n none value = go (one_text f id) refl
+pub spelled : (E : Type 0) (bits : ℕ) (f : Found) (id : Text) (n : ℕ) → (one_text f id ≡ None → Some n ≡ None)
+    → ((t : Text) → one_text f id ≡ Some t → ParsesUnsigned {E = E} bits 10 t (Ok n)) → Spells id (rows_of f) n
+spelled E bits f id n none value = go (one_text f id) refl
   where
     go : (o : Option Text) → one_text f id ≡ o → Spells id (rows_of f) n
     go None e = absurd (cc (none e))
@@ -25,9 +25,9 @@ one_number id rows m n a b =
     a.3 ∙ ap (λ (t : Text). digits_value 10 (without_leading_plus t)) texts ∙ sym b.3
 
 -- where none was read, the text spells none that fits
-pub not_spelled : (E : Type 0) (f : Found) (id : Text) (m : ℕ)
-    → ((t : Text) → one_text f id ≡ Some t → (e : E) × ParsesUnsigned {E = E} 16 10 t (Err e))
-    → Spells id (rows_of f) m → m < 2 ^ 16 → ⊥
-not_spelled E f id m value s small =
+pub not_spelled : (E : Type 0) (bits : ℕ) (f : Found) (id : Text) (m : ℕ)
+    → ((t : Text) → one_text f id ≡ Some t → (e : E) × ParsesUnsigned {E = E} bits 10 t (Err e))
+    → Spells id (rows_of f) m → m < 2 ^ bits → ⊥
+not_spelled E bits f id m value s small =
     let given = value s.0 (one_text-rows f id ∙ s.1) in
     given.1 (s.2, rw (← s.3) small)

@@ -27,6 +27,48 @@ frames = record (new_rule (codes "frames")) {
   defaults = codes "64" ∷ [];
 }
 
+-- the port that a server listens on
+abbrev pub port : Rule
+port = record (new_rule (codes "PORT")) {
+  required = true;
+  parser = Some (parser.Signed (pos 1) (pos 65535));
+}
+
+-- how many connections a server takes
+abbrev pub connections : Rule
+connections = record (new_rule (codes "connections")) {
+  long = Some (codes "connections");
+  value_names = 1;
+  required = true;
+  parser = Some (parser.Signed (pos 1) (pos 65535));
+}
+
+-- how many conversations it holds at once
+abbrev pub workers : Rule
+workers = record (new_rule (codes "workers")) {
+  long = Some (codes "workers");
+  value_names = 1;
+  required = true;
+  parser = Some (parser.Signed (pos 1) (pos 64));
+}
+
+-- after how many committed events a checkpoint begins: 1 to 1,048,576, and 4,096 where nothing is said
+abbrev pub every : Rule
+every = record (new_rule (codes "every")) {
+  long = Some (codes "every");
+  value_names = 1;
+  parser = Some (parser.Signed (pos 1) (pos 1048576));
+  defaults = codes "4096" ∷ [];
+}
+
+-- how many seconds a client may be silent
+abbrev pub silence : Rule
+silence = record (new_rule (codes "silence")) {
+  long = Some (codes "silence");
+  value_names = 1;
+  parser = Some (parser.Signed (pos 1) (pos 65535));
+}
+
 abbrev pub check : Shape
 check = (new_app (codes "check")).top
 
@@ -42,6 +84,12 @@ reports = (with_rule (with_rule (new_app (codes "reports")) (directory true)) fr
 abbrev pub feed : Shape
 feed = (with_rule (with_rule (with_rule (new_app (codes "feed")) (directory true)) source) frames).top
 
+abbrev pub serve_arguments : App
+serve_arguments = with_rule (with_rule (with_rule (new_app (codes "serve")) (directory true)) port) connections
+
+abbrev pub serve : Shape
+serve = (with_rule (with_rule (with_rule (with_rule serve_arguments workers) frames) every) silence).top
+
 -- `hgd --version` tells the version, and one of the commands is wanted
 abbrev pub start : App
 start = let new = new_app (codes "hgd") in
@@ -49,5 +97,5 @@ start = let new = new_app (codes "hgd") in
 
 -- `hgd` and its commands
 abbrev pub hgd : App
-hgd = with_subcommand (with_subcommand (with_subcommand (with_subcommand (with_subcommand
-    start check) graph) create) feed) reports
+hgd = with_subcommand (with_subcommand (with_subcommand (with_subcommand (with_subcommand (with_subcommand
+    start check) graph) create) feed) reports) serve

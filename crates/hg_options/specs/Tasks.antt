@@ -5,6 +5,7 @@ use Rattle.clap.specs.Words.{Kinds, IsAmong, Row, Text, first_of, one_of}
 use Rattle.clap.specs.declared.error.kind.ErrorKind.{ErrorKind}
 use Rattle.clap.specs.declared.error.kind.ErrorKind.TheVariants as kind
 use Rattle.hg_options.specs.declared.task.Frames.{Frames}
+use Rattle.hg_options.specs.declared.task.Serving.{Serving}
 use Rattle.hg_options.specs.declared.task.Source.{Source}
 use Rattle.hg_options.specs.declared.task.StoreTask.{StoreTask}
 use Rattle.hg_options.specs.declared.task.StoreTask.TheVariants as store
@@ -29,6 +30,14 @@ AreFrames rows frames = IsNumber (codes "frames") 4 4096 64 rows frames.pages
 abbrev pub IsSource : List Row → Source → Type 0
 IsSource rows source = IsNumber (codes "SOURCE") 0 1023 0 rows source.number
 
+pub record AreServing (rows : List Row) (serving : Serving) : Type 0 where
+  pub port : IsNumber (codes "PORT") 1 65535 1 rows serving.port
+  pub connections : IsNumber (codes "connections") 1 65535 1 rows serving.connections
+  pub workers : IsNumber (codes "workers") 1 64 1 rows serving.workers
+  pub frames : AreFrames rows serving.frames
+  pub every : IsNumber (codes "every") 1 1048576 4096 rows serving.every
+  pub silence : IsNumber (codes "silence") 1 65535 0 rows serving.silence
+
 -- what the command `name` with these arguments asks for of a store
 abbrev pub IsStoreTask : Text → List Row → StoreTask → Type 0
 IsStoreTask name rows store.Create = name ≡ codes "create"
@@ -36,6 +45,7 @@ IsStoreTask name rows store.Graph = name ≡ codes "graph"
 IsStoreTask name rows (store.Reports frames) = (name ≡ codes "reports") × AreFrames rows frames
 IsStoreTask name rows (store.Feed source frames) =
     (name ≡ codes "feed") × IsSource rows source × AreFrames rows frames
+IsStoreTask name rows (store.Serve serving) = (name ≡ codes "serve") × AreServing rows serving
 
 -- what the command `name` with these arguments asks for
 abbrev pub IsTask : Text × List Row → Task → Type 0

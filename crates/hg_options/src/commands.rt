@@ -18,6 +18,21 @@ pub const SOURCE: &str = "SOURCE";
 /// The name of the option that is a number of pages in memory.
 pub const FRAMES: &str = "frames";
 
+/// The name of the argument that is a port.
+pub const PORT: &str = "PORT";
+
+/// The name of the option that is how many connections are taken.
+pub const CONNECTIONS: &str = "connections";
+
+/// The name of the option that is how many workers hold conversations.
+pub const WORKERS: &str = "workers";
+
+/// The name of the option that is after how many committed events a checkpoint begins.
+pub const EVERY: &str = "every";
+
+/// The name of the option that is how many seconds a client may be silent.
+pub const SILENCE: &str = "silence";
+
 /// The directory of a store.
 fn directory<'a>(alloc: Global, required: bool) -> Arg<'a>
     ensures rule { rule_of result ≡ spec.directory required }
@@ -51,6 +66,68 @@ fn frames<'a>(alloc: Global) -> Arg<'a>
         .value_parser(value_parser!(u16).range(4..=4096))
         .default_value("64")
         .help("How many pages of words may be in memory")
+}
+
+/// The port that a server listens on.
+fn port<'a>(alloc: Global) -> Arg<'a>
+    ensures rule { rule_of result ≡ spec.port }
+    ensures local { result.global ≡ false }
+{
+    Arg::new(alloc, PORT)
+        .required(true)
+        .value_parser(value_parser!(u16).range(1..=65535))
+        .help("The port of 127.0.0.1 to listen on")
+}
+
+/// How many connections a server takes.
+fn connections<'a>(alloc: Global) -> Arg<'a>
+    ensures rule { rule_of result ≡ spec.connections }
+    ensures local { result.global ≡ false }
+{
+    Arg::new(alloc, CONNECTIONS)
+        .long(CONNECTIONS)
+        .value_name("N")
+        .required(true)
+        .value_parser(value_parser!(u16).range(1..=65535))
+        .help("How many connections to take before the end")
+}
+
+/// How many workers a server has.
+fn workers<'a>(alloc: Global) -> Arg<'a>
+    ensures rule { rule_of result ≡ spec.workers }
+    ensures local { result.global ≡ false }
+{
+    Arg::new(alloc, WORKERS)
+        .long(WORKERS)
+        .value_name("W")
+        .required(true)
+        .value_parser(value_parser!(u16).range(1..=64))
+        .help("How many conversations are held at once")
+}
+
+/// After how many committed events a checkpoint begins.
+fn every<'a>(alloc: Global) -> Arg<'a>
+    ensures rule { rule_of result ≡ spec.every }
+    ensures local { result.global ≡ false }
+{
+    Arg::new(alloc, EVERY)
+        .long(EVERY)
+        .value_name("E")
+        .value_parser(value_parser!(u32).range(1..=1048576))
+        .default_value("4096")
+        .help("After how many committed events a checkpoint begins (without effect yet)")
+}
+
+/// How many seconds a client may be silent.
+fn silence<'a>(alloc: Global) -> Arg<'a>
+    ensures rule { rule_of result ≡ spec.silence }
+    ensures local { result.global ≡ false }
+{
+    Arg::new(alloc, SILENCE)
+        .long(SILENCE)
+        .value_name("SECONDS")
+        .value_parser(value_parser!(u16).range(1..=65535))
+        .help("How long a client may be silent before its connection ends [default: for ever]")
 }
 
 /// `check`.
@@ -105,6 +182,31 @@ fn feed<'a>(alloc: Global) -> Result<Command<'a>, AllocError>
     of_source.arg(frames(alloc))
 }
 
+/// `serve DIR PORT --connections N --workers W [--frames F] [--every E] [--silence SECONDS]`, without its options.
+fn serve_arguments<'a>(alloc: Global) -> Result<Command<'a>, AllocError>
+    ensures app { IfOk result (λ c. app_of c ≡ spec.serve_arguments) }
+    ensures local { IfOk result HasNoGlobals }
+{
+    let begun = Command::new(alloc, "serve").about(
+        "Takes events from clients that connect, and answers them",
+    );
+    let of_store = begun.arg(directory(alloc, true))?;
+    let at_port = of_store.arg(port(alloc))?;
+    at_port.arg(connections(alloc))
+}
+
+/// `serve`, with its options.
+fn serve<'a>(alloc: Global) -> Result<Command<'a>, AllocError>
+    ensures app { IfOk result (λ c. shape_of c ≡ spec.serve) }
+    ensures local { IfOk result HasNoGlobals }
+{
+    let begun = serve_arguments(alloc)?;
+    let with_workers = begun.arg(workers(alloc))?;
+    let with_frames = with_workers.arg(frames(alloc))?;
+    let with_every = with_frames.arg(every(alloc))?;
+    with_every.arg(silence(alloc))
+}
+
 /// The command line of `hgd`, without its commands.
 fn start<'a>(alloc: Global) -> Command<'a>
     ensures app { app_of result ≡ spec.start }
@@ -138,5 +240,6 @@ pub fn hgd<'a>(alloc: Global) -> Result<Command<'a>, AllocError>
     let graphing = with_command(checking, graph(alloc))?;
     let creating = with_command(graphing, create(alloc))?;
     let feeding = with_command(creating, feed(alloc))?;
-    with_command(feeding, reports(alloc))
+    let reporting = with_command(feeding, reports(alloc))?;
+    with_command(reporting, serve(alloc))
 }

@@ -26,6 +26,8 @@ pub enum StoreTask {
     Reports { frames: Frames },
     /// That it accepts the events of the trace on standard input, as those of a source.
     Feed { source: Source, frames: Frames },
+    /// That it accepts the events of clients that connect.
+    Serve { serving: Serving },
 }
 
 /// How many pages of words a store may have in memory: 4 to 4,096.
@@ -40,6 +42,24 @@ pub struct Frames {
 pub struct Source {
     pub number: u16,
     ghost fits: { number ≤ 1023 },
+}
+
+/// How a store is served.
+#[derive(Clone, Copy, Drop)]
+pub struct Serving {
+    /// The port, 1 to 65,535.
+    pub port: u16,
+    /// How many connections are taken, 1 to 65,535.
+    pub connections: u16,
+    /// How many conversations are held at once, 1 to 64.
+    pub workers: u16,
+    /// How many pages may be in memory.
+    pub frames: Frames,
+    /// After how many committed events a checkpoint begins, 1 to 1,048,576.
+    pub every: u32,
+    /// How many seconds a client may be silent, or 0 for ever.
+    pub silence: u16,
+    ghost fits: { (1 ≤ workers) × (workers ≤ 64) },
 }
 
 /// Why a command line asks for nothing that can be done.

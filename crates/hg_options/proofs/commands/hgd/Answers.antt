@@ -11,4 +11,5 @@ returns-clause-app c =
     let graphing_is = c.in_ok-graphing.ensures.app spec.graph c.graph.ensures.app ∙ ap (λ a. with_subcommand a spec.graph) checking_is in
     let creating_is = c.in_ok-creating.ensures.app spec.create c.create.ensures.app ∙ ap (λ a. with_subcommand a spec.create) graphing_is in
     let feeding_is = c.in_ok-feeding.ensures.app spec.feed c.feed.ensures.app ∙ ap (λ a. with_subcommand a spec.feed) creating_is in
-    IfOk-weaker c.with_command-4.result _ _ (λ new new_is. new_is ∙ ap (λ a. with_subcommand a spec.reports) feeding_is) (c.with_command-4.ensures.app spec.reports c.reports.ensures.app)
+    let reporting_is = c.in_ok-reporting.ensures.app spec.reports c.reports.ensures.app ∙ ap (λ a. with_subcommand a spec.reports) feeding_is in
+    IfOk-weaker c.with_command-5.result _ _ (λ new new_is. new_is ∙ ap (λ a. with_subcommand a spec.serve) reporting_is) (c.with_command-5.ensures.app spec.serve c.serve.ensures.app)

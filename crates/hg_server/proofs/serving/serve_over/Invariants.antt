@@ -1,0 +1,14 @@
+use Rattle.hg_detect.specs.Memory.{content_of}
+use Rattle.hg_server.proofs.serving.serve_over.Given as goal
+
+abbrev pub ghosts-serve_by-A-Ledger : goal.ghosts-serve_by-A-Ledger
+ghosts-serve_by-A-Ledger g a = record { name = a.accepted.name; parts = a.accepted.parts }
+
+abbrev pub ghosts-serve_by-A-Column : goal.ghosts-serve_by-A-Column
+ghosts-serve_by-A-Column g a = record { opening = (content_of a.store.detector).events }
+
+abbrev pub ghosts-serve_by-B-Ledger : goal.ghosts-serve_by-B-Ledger
+ghosts-serve_by-B-Ledger g a = record { name = a.durable.name; parts = a.durable.parts }
+
+abbrev pub ghosts-serve_by-B-Column : goal.ghosts-serve_by-B-Column
+ghosts-serve_by-B-Column g a = record { opening = a.store.durable }
