@@ -64,7 +64,7 @@ fn named_threads(segments: &[Segment]) -> usize
     threads
 }
 
-/// The clock of a segment, whose threads are below `threads`. The marks are clear before and after.
+/// The clock of segment `to`. Each segment's thread is below `threads`. The marks are clear before and after.
 fn clock_of(
     alloc: Global,
     segments: &[Segment],
