@@ -47,7 +47,7 @@ pub struct Plan {
     pub silence: Option<Duration>,
 }
 
-/// How long one write of replies may wait, in seconds. One that was taken in part is followed by another.
+/// How long one write of replies may wait with no byte taken, in seconds.
 const WRITE_SECONDS: u64 = 30;
 
 /// How long the server waits before it listens on, where the system had no room for a connection, in milliseconds.
