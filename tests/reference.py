@@ -1,7 +1,8 @@
 #!/usr/bin/env python3
-"""What `hgd check` and `hgd graph` print, from the definitions and with no thought of speed.
+"""What `hgd check`, `hgd graph` and `hgd explain` print, from the definitions and with no thought of speed.
 
     tests/reference.py check|graph < trace
+    tests/reference.py explain ADDRESS [--all] < trace
 
 A program keeps a cell for each word, and tables beside it. This one keeps every access of every word
 since the word was last new, and looks at the whole list once the trace has ended: where the word
@@ -79,6 +80,19 @@ class Access:
 
 
 @dataclass
+class Touch:
+    """An access or a block: where it stands, who made it, and the words that it overlaps."""
+
+    event: int
+    line: int
+    verb: str
+    thread: int
+    segment: int
+    counted: list
+    words: range
+
+
+@dataclass
 class Trace:
     """The accepted events, as far as later events and the reports look back on them."""
 
@@ -95,6 +109,8 @@ class Trace:
     # the accesses of each word since its last alloc or free, and the lists that such an event ended
     history: dict = field(default_factory=dict)
     ended: list = field(default_factory=list)
+    # each access and block, as it stood when it came
+    touches: list = field(default_factory=list)
 
     def is_alive(self, thread):
         return thread in self.forked and thread not in self.joined
@@ -157,6 +173,9 @@ class Trace:
             self.last_of.setdefault(thread, {})[second] = verb
         else:
             words = range(second // 4 * 4, second + length[0], 4)
+            modes = ("lock",) if verb == "write" else ("lock", "rdlock")
+            touch = Touch(self.events, line, verb, thread, self.segment_of[thread], sorted(self.held(thread, modes)), words)
+            self.touches.append(touch)
             if verb in ("alloc", "free"):
                 self.ended += [(word, self.history.pop(word)) for word in words if word in self.history]
             else:
@@ -230,6 +249,76 @@ def judged(trace):
     return reports, None
 
 
+# ------------------------------------------------------------------ the life of one word
+
+
+def state_of(history, from_which):
+    """Returns the kind of a word with this history, and its owner, or its threads and its candidate locks."""
+    if not history:
+        return ("new",)
+    k = sharing_point(history, from_which)
+    if k is None:
+        return "exclusive", history[-1].segment
+    threads = {it.thread for it in history[k - 1 :]}
+    candidates = frozenset.intersection(*(frozenset(it.counted) for it in history[k:]))
+    kind = "shared-modified" if any(it.writes for it in history[k:]) else "shared-read"
+    return kind, tuple(sorted(threads)), tuple(sorted(candidates))
+
+
+def members(numbers):
+    return ",".join(map(str, numbers)) or "-"
+
+
+def state_text(state):
+    if state[0] == "new":
+        return "new"
+    if state[0] == "exclusive":
+        return f"exclusive segment {state[1]}"
+    return f"{state[0]} threads {members(state[1])} candidates {members(state[2])}"
+
+
+def became(before, after, segment):
+    """Yields what became of a word."""
+    shared = ("shared-read", "shared-modified")
+    if after[0] == "new" and before[0] != "new":
+        yield "new again"
+    if before[0] == after[0] == "exclusive" and before != after:
+        yield f"owner changes along {before[1]} -> {after[1]}"
+    if before[0] == "exclusive" and after[0] in shared:
+        yield f"shared from here on: segment {before[1]} does not reach segment {segment}"
+    if after[0] in shared and not after[2] and not (before[0] in shared and not before[2]):
+        yield "no common lock is left"
+
+
+def life(trace, word, reports, last, every):
+    """Yields the lines of a word's life, over the events up to the last one."""
+    from_which = reaching(trace.segments)
+    kept = {(it.event, it.word): k for k, it in enumerate(reports[:MOST_KEPT], 1)}
+    history, state, hidden = [], ("new",), 0
+    for it in trace.touches:
+        if it.event > last or word not in it.words:
+            continue
+        if it.verb in ("alloc", "free"):
+            history = []
+        else:
+            history.append(Access(it.event, it.thread, it.segment, it.verb == "write", frozenset(it.counted)))
+        before, state = state, state_of(history, from_which)
+        if not every and before == state:
+            hidden += len(history) > 0
+            continue
+        if hidden:
+            yield f"{hidden} more accesses"
+            hidden = 0
+        notes = [*became(before, state, it.segment)]
+        if (it.event, word) in kept:
+            notes.append(f"race {kept[it.event, word]}")
+        locks = "" if it.verb in ("alloc", "free") else f" locks {members(it.counted)}"
+        who = f"event {it.event} line {it.line} {it.verb} thread {it.thread} segment {it.segment}{locks}"
+        yield f"{who} state {state_text(state)}{''.join(f' ; {note}' for note in notes)}"
+    if hidden:
+        yield f"{hidden} more accesses"
+
+
 # ------------------------------------------------------------------ what is printed
 
 
@@ -243,7 +332,7 @@ def segment_line(number, thread, before):
     return f"segment {number} thread {thread} after {','.join(map(str, before)) or '-'}"
 
 
-def run(command, text):
+def run(command, text, address=0, every=False):
     """Returns the lines that the command prints, and its status."""
     trace, end, status = Trace(), None, 0
     for number, line in lines(text):
@@ -258,19 +347,27 @@ def run(command, text):
     if full_at:
         end, status = f"refused line {trace.line_of[full_at]} code 19", 2
         segments = segments[: trace.segments_before[full_at]]
-    if command == "check":
+    end_line = f"end events {trace.events} races {len(reports)} segments {len(segments)}"
+    if command == "explain":
+        word = address // 4 * 4
+        out = [f"word 0x{word:016x}", *life(trace, word, reports, full_at - 1 if full_at else trace.events, every)]
+        end = end or end_line
+    elif command == "check":
         out = [report_line(k, it) for k, it in enumerate(reports[:MOST_KEPT], 1)]
-        end = end or f"end events {trace.events} races {len(reports)} segments {len(segments)}"
+        end = end or end_line
     else:
         out = [segment_line(k, *it) for k, it in enumerate(segments)]
     return out + ([end] if end else []), status
 
 
 def main():
-    if sys.argv[1:] not in (["check"], ["graph"]):
-        print("usage: reference.py check|graph < trace", file=sys.stderr)
+    command, *words = sys.argv[1:] or [""]
+    every = command == "explain" and "--all" in words
+    addresses = [word for word in words if word != "--all"] if command == "explain" else words
+    if command not in ("check", "graph", "explain") or len(addresses) != (command == "explain"):
+        print("usage: reference.py check|graph|explain ADDRESS [--all] < trace", file=sys.stderr)
         return 4
-    out, status = run(sys.argv[1], sys.stdin.buffer.read())
+    out, status = run(command, sys.stdin.buffer.read(), int(addresses[0], 0) if addresses else 0, every)
     sys.stdout.write("".join(f"{line}\n" for line in out))
     return status
 

@@ -37,6 +37,14 @@ impl Page {
         }
     }
 
+    /// A page with the same cells. It takes no memory.
+    pub fn copy(&self) -> Page
+        ensures cells { result ≡ self.now }
+        ensures words { length self.now ≡ PAGE_WORDS }
+    {
+        Page { cells: self.cells }
+    }
+
     /// The cell of a word, counted from the page's first.
     #[inline]
     pub fn get(&self, word: usize) -> Cell

@@ -55,7 +55,7 @@ checks_to_one input c d first second h k = leads_to_one (readings input) (first_
 met_some : (reads earlier : List ReadCall) → reads ≡ ReadCall.Gave [] ∷ earlier → 0 < ends_met reads
 met_some reads earlier is = subst (λ t. 0 < ends_met t) (sym is) (omega arith)
 
-settled : (reads : List ReadCall) (c d : Content) (end stop : Ending) (input : List ℕ) → EndsBy reads c end → MayBe reads input → ChecksTo input d stop → (c ≡ d) × (end ≡ stop)
+pub settled : (reads : List ReadCall) (c d : Content) (end stop : Ending) (input : List ℕ) → EndsBy reads c end → MayBe reads input → ChecksTo input d stop → (c ≡ d) × (end ≡ stop)
 settled reads c d end stop input ends m l =
     ⊎_elim
     (λ met. let none : m.more ≡ [] = m.over (met_some reads met.0 met.1) in

@@ -152,7 +152,7 @@ read_nothing first reads p d h = record {
   leads = h.leads;
 }
 
-still_underway : (piece : List ℕ) (later : List ReadCall) → 0 < length piece → ends_met later ≡ 0 → ends_met (ReadCall.Gave piece ∷ later) ≡ 0
+pub still_underway : (piece : List ℕ) (later : List ReadCall) → 0 < length piece → ends_met later ≡ 0 → ends_met (ReadCall.Gave piece ∷ later) ≡ 0
 still_underway [] later some h = absurd (omega arith)
 still_underway (b ∷ piece) later some h = h
 
@@ -216,7 +216,7 @@ leads_at_met first reads now p q d e c end h m l =
 
 -- ---- the reports so far begin those of whatever the whole input may be
 
-may_be_earlier : (call : ReadCall) (later : List ReadCall) (input : List ℕ) → ends_met later ≡ 0 → MayBe (call ∷ later) input → MayBe later input
+pub may_be_earlier : (call : ReadCall) (later : List ReadCall) (input : List ℕ) → ends_met later ≡ 0 → MayBe (call ∷ later) input → MayBe later input
 may_be_earlier (ReadCall.Gave piece) later input none m = record {
   more = piece ++ m.more;
   joined = m.joined ∙ append_assoc (given later) piece m.more;

@@ -3,7 +3,7 @@ mod FeedDone
 mod FeedPieces
 mod FeedSteps
 mod FeedUnderway
-mod Fronts
+pub mod Fronts
 mod FeedFronts
 mod Outcome
 mod Unique

@@ -6,7 +6,7 @@ use Rattle.hg_model.specs.Contents.{Content}
 use Rattle.hg_model.specs.Change.{followed}
 use Rattle.hg_disk.specs.declared.disk.Disk as disk
 use Rattle.hg_detect.specs.Memory.{content_of}
-use Rattle.hg_store.specs.Images.{EachImage, HasContent, Image, IsLeft, read_of}
+use Rattle.hg_store.specs.Images.{EachImage, HasContent, Image, IsLeft, IsOn, read_of}
 use Rattle.hg_store.specs.Shown.{Shown}
 use Rattle.hg_store.specs.Store.{Backs}
 use Rattle.hg_check.specs.declared.checker.Ending.{Ending}
@@ -23,16 +23,7 @@ IsOther text = (text ≡ []) ⊎ (((k : ℕ) × (text ≡ number_text (codes "re
 abbrev pub AcksAtMost : ℕ → List ℕ → Type 0
 AcksAtMost n text = ((m : ℕ) × (m ≤ n) × (text ≡ ack_text m)) ⊎ IsOther text
 
--- The image has the content after a front of the events that lead from the first content to the last.
-pub record IsOn (first last : Content) (image : Image) : Type 0 where
-  pub content : Content
-  pub has : HasContent image content
-  pub front : List Named
-  pub back : List Named
-  pub before : followed first front ≡ Some content
-  pub behind : followed content back ≡ Some last
-
--- the same, with so many of the events at least
+-- The image has the content after a front of the events that lead from the first content to the last, with so many of the events at least.
 abbrev pub HasAtLeast : Content → Content → ℕ → Image → Type 0
 HasAtLeast first last n image = (on : IsOn first last image) × (n ≤ on.content.events)
 

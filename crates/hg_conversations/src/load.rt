@@ -2,7 +2,7 @@
 
 use crate::text::Text;
 use crate::world::World;
-use hg_desk::share::Column;
+use hg_desk::share::{Column, Opening};
 use hg_frames::frame::Frame;
 use hg_frames::put::put_frame;
 use hg_model::event::{Access, Event};
@@ -28,7 +28,7 @@ struct Counts {
 }
 
 /// Hands over what was sent, and counts what is answered.
-fn hand_over<A: Column, B: Column>(
+fn hand_over<A: Opening, B: Column>(
     alloc: Global,
     world: &mut World<A, B>,
     sent: &mut Vec<u8>,
@@ -47,7 +47,7 @@ fn hand_over<A: Column, B: Column>(
 }
 
 /// Sends so many events of source 0, with an Ask behind each 256, and tells how many frames and bytes came back.
-pub fn load<A: Column, B: Column>(
+pub fn load<A: Opening, B: Column>(
     alloc: Global,
     world: &mut World<A, B>,
     digits: &str,

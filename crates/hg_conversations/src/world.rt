@@ -5,13 +5,14 @@ ghost use Rattle.hg_model.specs.Change.{empty_content};
 ghost use Rattle.hg_model.specs.Contents.{Content};
 ghost use Rattle.hg_model.specs.ThreadSets.{HasThreadSets};
 ghost use Rattle.hg_detect.specs.Memory.{content_of};
+ghost use Rattle.hg_desk.specs.Going.{seen};
 ghost use Rattle.hg_store.specs.Store.{Backs, IsFresh};
 
 use crate::load::load;
 use crate::text::{Text, bytes_of, front};
 use hg_desk::desk::Desk;
 use hg_desk::locked::Core;
-use hg_desk::share::{Column, Share};
+use hg_desk::share::{Column, Opening, Share};
 use hg_disk::{Disk, MemDisk};
 use hg_frames::feed::{Fed, Feed, FeedRefusal};
 use hg_frames::frame::Frame;
@@ -24,7 +25,7 @@ use std::marker::Brand;
 use std::sync::ledger::Blank;
 
 /// A store, what its one thread was told, and a conversation.
-pub struct World<A: Column, B: Column> {
+pub struct World<A: Opening, B: Column> {
     pub core: Core<MemDisk, A, B>,
     pub share: Share<A, B>,
     pub desk: Desk,
@@ -33,7 +34,7 @@ pub struct World<A: Column, B: Column> {
     pub answered: Vec<u8>,
 }
 
-impl<A: Column, B: Column> Drop for World<A, B> {
+impl<A: Opening, B: Column> Drop for World<A, B> {
     fn drop(self) {
         let World {
             core: _,
@@ -46,7 +47,7 @@ impl<A: Column, B: Column> Drop for World<A, B> {
     }
 }
 
-impl<A: Column, B: Column> World<A, B> {
+impl<A: Opening, B: Column> World<A, B> {
     /// Answers one frame. Where memory is refused for its bytes, they are left out.
     pub fn answer(&mut self, alloc: Global, frame: &Frame) {
         let reply = self
@@ -152,7 +153,7 @@ fn empty_store(alloc: Global) -> Option<Store<MemDisk>>
 }
 
 /// A conversation that has not begun, with this store and these books.
-fn world_over<A: Column, B: Column>(
+fn world_over<A: Opening, B: Column>(
     alloc: Global,
     core: Core<MemDisk, A, B>,
     share: Share<A, B>,
@@ -168,7 +169,7 @@ fn world_over<A: Column, B: Column>(
 }
 
 /// Runs the lines of one part.
-fn run_lines<A: Column, B: Column>(
+fn run_lines<A: Opening, B: Column>(
     alloc: Global,
     world: &mut World<A, B>,
     part: &str,
@@ -180,7 +181,7 @@ fn run_lines<A: Column, B: Column>(
 }
 
 /// Runs the lines of one part over a store, with books that are opened here.
-fn run_over<A: Column, B: Column>(
+fn run_over<A: Opening, B: Column>(
     alloc: Global,
     store: Store<MemDisk>,
     accepted: Blank,
@@ -191,6 +192,7 @@ fn run_over<A: Column, B: Column>(
     requires accepted { (accepted.name ≡ A.name) × (accepted.parts ≡ A.parts) × (accepted.parts ≡ 1) }
     requires durable { (durable.name ≡ B.name) × (durable.parts ≡ B.parts) × (durable.parts ≡ 1) }
     requires opening { ((content_of store.detector).events ≡ A.opening) × (store.durable ≡ B.opening) }
+    requires start { IfSome A.start (λ start. start ≡ seen ⟦<MemDisk as Disk>⟧ store) }
     requires backs { IsTrue ⟦<MemDisk as Disk>⟧.is_honest → (d : Content) × Backs ⟦<MemDisk as Disk>⟧ store d }
     requires small { HasThreadSets (content_of store.detector) }
 {

@@ -11,7 +11,7 @@ ghost use Rattle.hg_desk.specs.Conversation.{Answers, Converses, Greets, Talks, 
 ghost use Rattle.hg_desk.specs.Told.{Told, StepKept};
 
 use crate::locked::Core;
-use crate::share::{Column, Share};
+use crate::share::{Column, Opening, Share};
 use hg_detect::detector::Answer;
 use hg_disk::Disk;
 use hg_frames::frame::Frame;
@@ -85,7 +85,7 @@ impl Desk {
     }
 
     /// Answers a frame: one offer to the store for an Event, one commit for an Ask, and no other step.
-    pub fn answer<D: Disk, A: Column, B: Column>(
+    pub fn answer<D: Disk, A: Opening, B: Column>(
         &mut self,
         alloc: Global,
         core: &mut Core<D, A, B>,
@@ -105,7 +105,7 @@ impl Desk {
     }
 
     /// Answers frames in their order. Room for the replies is made first: where it is refused, nothing was changed.
-    pub fn answer_all<D: Disk, A: Column, B: Column>(
+    pub fn answer_all<D: Disk, A: Opening, B: Column>(
         &mut self,
         alloc: Global,
         core: &mut Core<D, A, B>,
@@ -126,7 +126,7 @@ impl Desk {
 }
 
 /// Before the Welcome.
-fn greet<D: Disk, A: Column, B: Column>(core: &Core<D, A, B>, frame: &Frame) -> (Stage, Reply)
+fn greet<D: Disk, A: Opening, B: Column>(core: &Core<D, A, B>, frame: &Frame) -> (Stage, Reply)
     ensures answer { (told : Told) → Greets core.now core.now told told frame.now result.0 result.1 }
     ensures fits { FitsFrames result.1 }
 {
@@ -140,7 +140,7 @@ fn greet<D: Disk, A: Column, B: Column>(core: &Core<D, A, B>, frame: &Frame) -> 
 }
 
 /// The answer to the first Hello.
-fn welcome<D: Disk, A: Column, B: Column>(core: &Core<D, A, B>, source: u16) -> (Stage, Reply)
+fn welcome<D: Disk, A: Opening, B: Column>(core: &Core<D, A, B>, source: u16) -> (Stage, Reply)
     ensures stage { result.0 ≡ stage_after_hello source core.now.is_broken }
     ensures reply { result.1 ≡ hello_reply source core.now.is_broken (content_of core.now.detector) }
     ensures fits { FitsFrames result.1 }
@@ -155,7 +155,7 @@ fn welcome<D: Disk, A: Column, B: Column>(core: &Core<D, A, B>, source: u16) -> 
 }
 
 /// Between the Welcome and the end.
-fn talk<D: Disk, A: Column, B: Column>(
+fn talk<D: Disk, A: Opening, B: Column>(
     alloc: Global,
     core: &mut Core<D, A, B>,
     share: &mut Share<A, B>,
@@ -185,7 +185,7 @@ fn talk<D: Disk, A: Column, B: Column>(
     }
 }
 
-fn offer<D: Disk, A: Column, B: Column>(
+fn offer<D: Disk, A: Opening, B: Column>(
     core: &mut Core<D, A, B>,
     share: &mut Share<A, B>,
     named: &Named,
@@ -203,7 +203,7 @@ fn offer<D: Disk, A: Column, B: Column>(
     }
 }
 
-fn commit<D: Disk, A: Column, B: Column>(
+fn commit<D: Disk, A: Opening, B: Column>(
     core: &mut Core<D, A, B>,
     share: &mut Share<A, B>,
     source: u16,

@@ -1,17 +1,18 @@
 //! The value behind the lock.
 
-ghost use Rattle.std.specs.Prelude.{◌≡◌, ◌+◌, ◌<◌, ◌≤◌, ◌^◌, Ok, Err, cond, vec_len, All, IfOk, IfErr, IsTrue};
+ghost use Rattle.std.specs.Prelude.{◌≡◌, ◌+◌, ◌<◌, ◌≤◌, ◌^◌, Ok, Err, cond, vec_len, All, IfOk, IfSome, IfErr, IsTrue};
 ghost use Rattle.hg_model.specs.Contents.{Content};
 ghost use Rattle.hg_model.specs.declared.verdict.Refusal.TheVariants.{Broken};
 ghost use Rattle.hg_model.specs.ThreadSets.{HasThreadSets};
 ghost use Rattle.hg_detect.specs.Memory.{content_of};
 ghost use Rattle.hg_frames.specs.Spelling.{FitsFrames};
 ghost use Rattle.hg_desk.specs.Conversation.{ReportsAnswer};
+ghost use Rattle.hg_desk.specs.Going.{seen};
 ghost use Rattle.hg_desk.specs.Told.{StepKept, nothing_told};
 ghost use Rattle.hg_store.specs.Store.{Backs};
 
 use crate::desk::refused;
-use crate::share::{Column, Share};
+use crate::share::{Column, Opening, Share};
 use hg_detect::detector::Answer;
 use hg_disk::Disk;
 use hg_frames::lines::{ReportLines, ReportList};
@@ -26,7 +27,7 @@ use std::sync::ledger::{Blank, Book};
 /// A store, and the books: how many events were accepted and made durable since the opening. The books have no bytes, so
 /// the counts stand beside them.
 #[derive(Drop)]
-pub struct Core<D: Disk, A: Column, B: Column> {
+pub struct Core<D: Disk, A: Opening, B: Column> {
     pub(crate) store: Store<D>,
     pub(crate) accepted: Book<A>,
     pub(crate) durable: Book<B>,
@@ -34,7 +35,7 @@ pub struct Core<D: Disk, A: Column, B: Column> {
     pub(crate) durable_count: u64,
 }
 
-impl<D: Disk, A: Column, B: Column> Model for Core<D, A, B> {
+impl<D: Disk, A: Opening, B: Column> Model for Core<D, A, B> {
     ghost use Rattle.hg_store.specs.Shown.{Shown};
     ghost use Rattle.hg_desk.specs.Told.{IsCore};
     ghost use Rattle.hg_detect.specs.contracts.paged.PagedWords as words;
@@ -46,7 +47,7 @@ impl<D: Disk, A: Column, B: Column> Model for Core<D, A, B> {
 
     ghost view = { λ c. c.store };
 
-    ghost invariant = { λ c. IsCore ⟦<D as Disk>⟧ A.opening B.opening c.store c.accepted.total c.durable.total c.accepted_count c.durable_count };
+    ghost invariant = { λ c. IsCore ⟦<D as Disk>⟧ A.start A.opening B.opening c.store c.accepted.total c.durable.total c.accepted_count c.durable_count };
 }
 
 /// How many events were accepted and made durable since the opening.
@@ -89,7 +90,7 @@ fn note_durable<A: Column, B: Column>(
     share.durable += more;
 }
 
-impl<D: Disk, A: Column, B: Column> Core<D, A, B> {
+impl<D: Disk, A: Opening, B: Column> Core<D, A, B> {
     /// Opens the books over a store, with a share for each part of the two blanks. Where memory is refused, all is handed back.
     pub fn open(
         alloc: Global,
@@ -101,6 +102,7 @@ impl<D: Disk, A: Column, B: Column> Core<D, A, B> {
         requires accepted { (accepted.name ≡ A.name) × (accepted.parts ≡ A.parts) × (accepted.parts ≡ shares) }
         requires durable { (durable.name ≡ B.name) × (durable.parts ≡ B.parts) × (durable.parts ≡ shares) }
         requires opening { ((content_of store.detector).events ≡ A.opening) × (store.durable ≡ B.opening) }
+        requires start { IfSome A.start (λ start. start ≡ seen ⟦<D as Disk>⟧ store) }
         requires backs { IsTrue D.is_honest → (d : Content) × Backs ⟦<D as Disk>⟧ store d }
         requires small { HasThreadSets (content_of store.detector) }
         ensures core { IfOk result (λ r. r.0 ≡ store) }

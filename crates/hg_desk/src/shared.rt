@@ -1,15 +1,16 @@
 //! The lock, and how a shared store is opened and taken in.
 
-ghost use Rattle.std.specs.Prelude.{◌≡◌, ◌+◌, ◌≤◌, ◌⊎◌, ◌≢◌, length, map, sum, vec_len, All, IfOk, IfErr, IsTrue};
+ghost use Rattle.std.specs.Prelude.{◌≡◌, ◌+◌, ◌≤◌, ◌⊎◌, ◌≢◌, length, map, sum, vec_len, All, IfOk, IfSome, IfErr, IsTrue};
 ghost use Rattle.hg_model.specs.Contents.{Content};
 ghost use Rattle.hg_detect.specs.Memory.{content_of};
 ghost use Rattle.hg_store.specs.Images.{HasContent, Image, IsLeft};
 ghost use Rattle.hg_model.specs.ThreadSets.{HasThreadSets};
 ghost use Rattle.hg_store.specs.Store.{Backs};
+ghost use Rattle.hg_desk.specs.Going.{WentOnSince, seen};
 ghost use Rattle.hg_desk.specs.Told.{nothing_told};
 
 use crate::locked::Core;
-use crate::share::{Column, Share};
+use crate::share::{Column, Opening, Share};
 use crate::tasks::Task;
 use hg_disk::Disk;
 use hg_store::store::Store;
@@ -19,7 +20,7 @@ use std::sync::{Mutex, Wait};
 
 /// A store that threads share.
 #[derive(Drop)]
-pub struct Shared<D: Disk, A: Column, B: Column> {
+pub struct Shared<D: Disk, A: Opening, B: Column> {
     core: Mutex<Core<D, A, B>>,
 }
 
@@ -32,7 +33,7 @@ pub struct Tally {
     pub durable_book: u128,
 }
 
-impl<D: Disk, A: Column, B: Column> Shared<D, A, B> {
+impl<D: Disk, A: Opening, B: Column> Shared<D, A, B> {
     /// Takes the lock, and runs the task once.
     pub fn hold<T: Task<D, A, B>>(&self, rt: &impl Wait, share: &mut Share<A, B>, task: T) -> T::Out
         ensures { T.promise task share.old share.new result }
@@ -52,6 +53,7 @@ impl<D: Disk, A: Column, B: Column> Shared<D, A, B> {
         requires accepted { (accepted.name ≡ A.name) × (accepted.parts ≡ A.parts) × (accepted.parts ≡ shares) }
         requires durable { (durable.name ≡ B.name) × (durable.parts ≡ B.parts) × (durable.parts ≡ shares) }
         requires opening { ((content_of store.detector).events ≡ A.opening) × (store.durable ≡ B.opening) }
+        requires start { IfSome A.start (λ start. start ≡ seen ⟦<D as Disk>⟧ store) }
         requires backs { IsTrue D.is_honest → (d : Content) × Backs ⟦<D as Disk>⟧ store d }
         requires small { HasThreadSets (content_of store.detector) }
         ensures shares { IfOk result (λ r. (vec_len r.1 ≡ shares) × All (λ s. s ≡ nothing_told) r.1.items) }
@@ -64,6 +66,14 @@ impl<D: Disk, A: Column, B: Column> Shared<D, A, B> {
             },
             all,
         ))
+    }
+
+    /// Takes the store back, where shares are lost that could be held against the books.
+    pub fn into_store(self) -> Store<D>
+        ensures backs { IsTrue D.is_honest → (d : Content) × Backs ⟦<D as Disk>⟧ result d }
+        ensures since { WentOnSince ⟦<D as Disk>⟧ A.start result }
+    {
+        self.core.into_inner().into_store()
     }
 }
 
@@ -81,7 +91,7 @@ fn told<A: Column, B: Column>(shares: &[Share<A, B>]) -> (u128, u128)
     (accepted, durable)
 }
 
-impl<D: Disk, A: Column, B: Column> Core<D, A, B> {
+impl<D: Disk, A: Opening, B: Column> Core<D, A, B> {
     /// What the shares were told, and what the books have.
     fn tally(&self, shares: &[Share<A, B>]) -> Tally
         ensures accepted_told { result.accepted_told ≡ sum (map (λ s. s.accepted) shares.now) }
@@ -117,6 +127,7 @@ impl<D: Disk, A: Column, B: Column> Core<D, A, B> {
     fn into_store(self) -> Store<D>
         ensures store { result ≡ self }
         ensures backs { IsTrue D.is_honest → (d : Content) × Backs ⟦<D as Disk>⟧ result d }
+        ensures since { WentOnSince ⟦<D as Disk>⟧ A.start result }
     {
         let Core {
             store,
@@ -175,13 +186,14 @@ fn audit_durable<A: Column, B: Column>(
 }
 
 /// Takes the workers in. An `Err` comes only where what they were told and the books differ, and hands all back.
-pub fn gather<D: Disk, A: Column, B: Column>(
+pub fn gather<D: Disk, A: Opening, B: Column>(
     shares: Vec<Share<A, B>>,
     shared: Shared<D, A, B>,
 ) -> Result<Store<D>, (Vec<Share<A, B>>, Shared<D, A, B>, Tally)>
     ensures events { IfOk result (λ store. (content_of store.detector).events ≡ A.opening + sum (map (λ s. s.accepted) shares.items)) }
     ensures durable { IfOk result (λ store. store.durable ≡ B.opening + sum (map (λ s. s.durable) shares.items)) }
     ensures backs { IfOk result (λ store. IsTrue D.is_honest → (d : Content) × Backs ⟦<D as Disk>⟧ store d) }
+    ensures since { IfOk result (λ store. WentOnSince ⟦<D as Disk>⟧ A.start store) }
     ensures images { IfOk result (λ store. IsTrue D.is_honest → (image : Image) → IsLeft ⟦<D as Disk>⟧ store.devices image
         → (k : Content) × HasContent image k × (B.opening + sum (map (λ s. s.durable) shares.items) ≤ k.events)) }
     // Where all shares come back, they agree with the books.

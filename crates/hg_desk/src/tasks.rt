@@ -8,7 +8,7 @@ ghost use Rattle.hg_desk.specs.Told.{Told, StepKept, StepTold};
 
 use crate::desk::Desk;
 use crate::locked::{Core, Counts};
-use crate::share::{Column, Share};
+use crate::share::{Column, Opening, Share};
 use hg_disk::Disk;
 use hg_frames::frame::Frame;
 use hg_frames::reply::Reply;
@@ -16,7 +16,7 @@ use hg_store::steps::{Step, StepResult};
 use std::alloc::Global;
 
 /// What may be run under the lock.
-pub trait Task<D: Disk, A: Column, B: Column> {
+pub trait Task<D: Disk, A: Opening, B: Column> {
     /// What it answers.
     type Out;
 
@@ -32,7 +32,7 @@ pub trait Task<D: Disk, A: Column, B: Column> {
 #[derive(Drop)]
 pub struct StepTask(pub Step);
 
-impl<D: Disk, A: Column, B: Column> Task<D, A, B> for StepTask {
+impl<D: Disk, A: Opening, B: Column> Task<D, A, B> for StepTask {
     type Out = StepResult;
 
     ghost promise = { λ t old new res. StepTold old new res };
@@ -53,7 +53,7 @@ pub struct AskTask {
     pub frame: Frame,
 }
 
-impl<D: Disk, A: Column, B: Column> Task<D, A, B> for AskTask {
+impl<D: Disk, A: Opening, B: Column> Task<D, A, B> for AskTask {
     type Out = (Desk, Reply);
 
     ghost promise = { λ t old new res. (new.accepted ≡ old.accepted + accepted_by res.1) × (old.durable ≤ new.durable) × FitsFrames res.1 };
@@ -77,7 +77,7 @@ impl<D: Disk, A: Column, B: Column> Task<D, A, B> for AskTask {
 #[derive(Drop)]
 pub struct CountTask;
 
-impl<D: Disk, A: Column, B: Column> Task<D, A, B> for CountTask {
+impl<D: Disk, A: Opening, B: Column> Task<D, A, B> for CountTask {
     type Out = Counts;
 
     ghost promise = { λ t old new res. (new ≡ old) × (old.accepted ≤ res.accepted) × (old.durable ≤ res.durable) };

@@ -10,7 +10,7 @@ ghost use Rattle.hg_sets.specs.Interning.{AreSets, KeepsNumbers};
 ghost use Rattle.hg_cells.specs.declared.cell.Cell.TheVariants.{New};
 ghost use Rattle.hg_cells.specs.Cells.{IsWithin, meaning};
 ghost use Rattle.hg_cells.specs.declared.report.KeptReport.{KeptReport as KeptReportOf};
-ghost use Rattle.hg_detect.specs.Words.{KeepsLaw, SameCells};
+ghost use Rattle.hg_detect.specs.Words.{KeepsLaw, SameCells, failed_after};
 ghost use Rattle.hg_detect.specs.Making.{Asks, AsksBy, sets_in};
 ghost use Rattle.hg_detect.specs.Planning.{ArePlanned, IsPlanned, touched_by, wanted};
 ghost use Rattle.hg_detect.specs.Shown.{HasRoom, content, report_of};
@@ -144,7 +144,7 @@ impl<W: Words> Engine<W> {
         ensures plan { 17 ≤ vec_capacity self.new.plan }
         ensures sets { AreSets self.new.sets }
         ensures numbers { KeepsNumbers self.old.sets self.new.sets }
-        ensures lawful { KeepsLaw (W.may_bring self.old.words) (W.may_bring self.new.words) }
+        ensures lawful { W.may_bring self.new.words (length self.old.graph) (length self.old.sets.sets) }
         ensures faithful { KeepsLaw (W.is_faithful self.old.words) (W.is_faithful self.new.words) }
         ensures cells { (n m : ℕ) → W.is_faithful self.old.words n m → SameCells (W.cell_of self.old.words) (W.cell_of self.new.words) }
         ensures kept { OnOk result ((w : ℕ) → first ≤ w → w < end → W.is_kept self.new.words w) }
@@ -154,6 +154,8 @@ impl<W: Words> Engine<W> {
         ensures asked { (n m : ℕ) → W.is_faithful self.old.words n m
             → AsksBy self.old.sets (wanted self.old.graph self.old.sets.sets (actor_of self.old access.now write) (W.cell_of self.old.words) (range_with_len first (end - first))) result self.new.sets }
         ensures refusal { IfErr result (λ r. (r ≡ Refusal.FullSets) ⊎ (r ≡ Refusal.OutOfMemory) ⊎ W.may_refuse r) }
+        ensures went { W.went self.old.words self.new.words }
+        ensures failures { W.failures self.new.words ≡ failed_after result (W.failures self.old.words) }
     {
         let len = u16::from(access.len);
         self.words
@@ -222,7 +224,9 @@ impl<W: Words> Engine<W> {
         requires cells { (w : ℕ) → first ≤ w → w < first + count → W.cell_of self.old.words w ≡ cell }
         requires within { IsWithin (length self.old.graph) (length self.old.sets.sets) cell }
         requires fillable { W.may_fill self.old.words first count }
-        ensures { Answers W.cell_of W.may_bring W.is_faithful W.may_refuse self.old named.now result self.new }
+        ensures answers { Answers W.cell_of W.may_bring W.is_faithful W.may_refuse self.old named.now result self.new }
+        ensures went { W.went self.old.words self.new.words }
+        ensures failures { W.failures self.new.words ≡ failed_after result (W.failures self.old.words) }
     {
         let planned = self.plan_for(access, write, cell)?;
         if !planned.reported {
@@ -257,7 +261,9 @@ impl<W: Words> Engine<W> {
         requires sound { IsSound self.old }
         requires accepted { rules.verdict (rules.standing self.old.state) named.now ≡ Verdict.Accept }
         requires lawful { AtPresent W.may_bring (shown_of self.old) }
-        ensures { Answers W.cell_of W.may_bring W.is_faithful W.may_refuse self.old named.now result self.new }
+        ensures answers { Answers W.cell_of W.may_bring W.is_faithful W.may_refuse self.old named.now result self.new }
+        ensures went { W.went self.old.words self.new.words }
+        ensures failures { W.failures self.new.words ≡ failed_after result (W.failures self.old.words) }
     {
         let first = access.at / 4;
         let last = (access.at + (u64::from(access.len) - 1)) / 4;
@@ -278,7 +284,9 @@ impl<W: Words> Engine<W> {
         requires sound { IsSound self.old }
         requires accepted { rules.verdict (rules.standing self.old.state) named ≡ Verdict.Accept }
         requires lawful { AtPresent W.may_bring (shown_of self.old) }
-        ensures { Answers W.cell_of W.may_bring W.is_faithful W.may_refuse self.old named result self.new }
+        ensures answers { Answers W.cell_of W.may_bring W.is_faithful W.may_refuse self.old named result self.new }
+        ensures went { W.went self.old.words self.new.words }
+        ensures failures { W.failures self.new.words ≡ failed_after result (W.failures self.old.words) }
     {
         let first = access.at / 4;
         let last = (access.at + (u64::from(access.len) - 1)) / 4;
@@ -303,7 +311,9 @@ impl<W: Words> Engine<W> {
         requires sound { IsSound self.old }
         requires accepted { rules.verdict (rules.standing self.old.state) named.now ≡ Verdict.Accept }
         requires lawful { AtPresent W.may_bring (shown_of self.old) }
-        ensures { Answers W.cell_of W.may_bring W.is_faithful W.may_refuse self.old named.now result self.new }
+        ensures answers { Answers W.cell_of W.may_bring W.is_faithful W.may_refuse self.old named.now result self.new }
+        ensures went { W.went self.old.words self.new.words }
+        ensures failures { W.failures self.new.words ≡ failed_after result (W.failures self.old.words) }
     {
         self.graph.fork(p, c).map_err(out_of_memory)?;
         self.state.follow(named);
@@ -316,7 +326,9 @@ impl<W: Words> Engine<W> {
         requires sound { IsSound self.old }
         requires accepted { rules.verdict (rules.standing self.old.state) named.now ≡ Verdict.Accept }
         requires lawful { AtPresent W.may_bring (shown_of self.old) }
-        ensures { Answers W.cell_of W.may_bring W.is_faithful W.may_refuse self.old named.now result self.new }
+        ensures answers { Answers W.cell_of W.may_bring W.is_faithful W.may_refuse self.old named.now result self.new }
+        ensures went { W.went self.old.words self.new.words }
+        ensures failures { W.failures self.new.words ≡ failed_after result (W.failures self.old.words) }
     {
         self.graph.join(p, c).map_err(out_of_memory)?;
         self.state.follow(named);
@@ -329,7 +341,9 @@ impl<W: Words> Engine<W> {
         requires sound { IsSound self.old }
         requires accepted { rules.verdict (rules.standing self.old.state) named.now ≡ Verdict.Accept }
         requires lawful { AtPresent W.may_bring (shown_of self.old) }
-        ensures { Answers W.cell_of W.may_bring W.is_faithful W.may_refuse self.old named.now (Ok tt) self.new }
+        ensures answers { Answers W.cell_of W.may_bring W.is_faithful W.may_refuse self.old named.now (Ok tt) self.new }
+        ensures went { W.went self.old.words self.new.words }
+        ensures failures { W.failures self.new.words ≡ W.failures self.old.words }
     {
         self.state.follow(named);
     }
@@ -340,7 +354,9 @@ impl<W: Words> Engine<W> {
         requires sound { IsSound self.old }
         requires accepted { rules.verdict (rules.standing self.old.state) named.now ≡ Verdict.Accept }
         requires lawful { AtPresent W.may_bring (shown_of self.old) }
-        ensures { Answers W.cell_of W.may_bring W.is_faithful W.may_refuse self.old named.now result self.new }
+        ensures answers { Answers W.cell_of W.may_bring W.is_faithful W.may_refuse self.old named.now result self.new }
+        ensures went { W.went self.old.words self.new.words }
+        ensures failures { W.failures self.new.words ≡ failed_after result (W.failures self.old.words) }
     {
         self.words
             .bring(block.at, block.len, self.state.segments(), &self.sets)?;
@@ -356,7 +372,9 @@ impl<W: Words> Engine<W> {
         requires sound { IsSound self.old }
         requires accepted { rules.verdict (rules.standing self.old.state) named.now ≡ Verdict.Accept }
         requires lawful { AtPresent W.may_bring (shown_of self.old) }
-        ensures { Answers W.cell_of W.may_bring W.is_faithful W.may_refuse self.old named.now result self.new }
+        ensures answers { Answers W.cell_of W.may_bring W.is_faithful W.may_refuse self.old named.now result self.new }
+        ensures went { W.went self.old.words self.new.words }
+        ensures failures { W.failures self.new.words ≡ failed_after result (W.failures self.old.words) }
     {
         match &named.event {
             Event::Read(access) => self.access(named, access, false),

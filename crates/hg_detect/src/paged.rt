@@ -170,6 +170,14 @@ impl Words for PagedWords {
 
     ghost faithful_within = { each_within };
 
+    ghost went = { λ _ _. Unit {0} };
+
+    ghost failures = { λ _. 0 };
+
+    ghost went_nowhere = { λ _. tt };
+
+    ghost went_on = { λ _ _ _ _ _. tt };
+
     ghost not_full = { never_full };
 
     fn bring(&mut self, at: u64, len: u16, segments: u32, sets: &SetTable) -> Result<(), Refusal> {

@@ -14,6 +14,8 @@ pub(crate) fn set_words<W: Words>(words: &mut W, first: u64, plan: &[Planned])
     ensures cells { (w : ℕ) → W.cell_of words.new w ≡ given (W.cell_of words.old) first plan.now w }
     ensures lawful { (segments sets : ℕ) → All (λ p. IsWithin segments sets p.cell) plan.now → W.may_bring words.old segments sets → W.may_bring words.new segments sets }
     ensures faithful { (segments sets : ℕ) → All (λ p. IsWithin segments sets p.cell) plan.now → W.is_faithful words.old segments sets → W.is_faithful words.new segments sets }
+    ensures went { W.went words.old words.new }
+    ensures failures { W.failures words.new ≡ W.failures words.old }
 {
     let mut word = first;
     for planned in plan {

@@ -3,7 +3,7 @@
 ghost use Rattle.std.specs.Prelude.{◌≡◌, ◌+◌, ◌^◌, ◌<◌, ◌≤◌, ◌==◌, ◌⊎◌, ℕ, length, OnOk, IfErr, IfSome, if◌then◌else◌};
 ghost use Rattle.hg_model.specs.History.{overlaps};
 ghost use Rattle.hg_cells.specs.Cells.{IsWithin};
-ghost use Rattle.hg_detect.specs.Words.{SameCells, ForOverlapped, KeepsLaw};
+ghost use Rattle.hg_detect.specs.Words.{SameCells, ForOverlapped, KeepsLaw, failed_after};
 ghost use Rattle.hg_model.specs.declared.verdict.Refusal.{Refusal as RefusalOf};
 ghost use Rattle.hg_model.specs.declared.verdict.Refusal.TheVariants.{FullSets};
 ghost use Rattle.hg_cells.specs.declared.cell.Cell.{Cell as CellOf};
@@ -40,6 +40,13 @@ pub trait Words {
     /// What `bring` and `keep` may answer in place of Ok.
     ghost may_refuse: { RefusalOf → Type 0 };
 
+    /// What a map of words keeps of other things while it is called, from one state of it to another: what a crash may leave of its
+    /// file, say. The detector passes it on.
+    ghost went: { Self → Self → Type 0 };
+
+    /// How many calls of the map's devices have failed.
+    ghost failures: { Self → ℕ };
+
     /// Makes the words readable that `len` bytes from `at` on overlap, and checks that their cells name only segments
     /// and sets that exist.
     fn bring(&mut self, at: u64, len: u16, segments: u32, sets: &SetTable) -> Result<(), Refusal>
@@ -50,9 +57,11 @@ pub trait Words {
         ensures cells { (n m : ℕ) → is_faithful self.old n m → SameCells (cell_of self.old) (cell_of self.new) }
         ensures brought { OnOk result (ForOverlapped at len (is_brought self.new)) }
         ensures named { OnOk result (ForOverlapped at len (λ w. IsWithin segments (length sets.now.sets) (cell_of self.new w))) }
-        ensures lawful { KeepsLaw (may_bring self.old) (may_bring self.new) }
+        ensures lawful { (n m : ℕ) → segments ≤ n → length sets.now.sets ≤ m → may_bring self.old n m → may_bring self.new n m }
         ensures faithful { KeepsLaw (is_faithful self.old) (is_faithful self.new) }
-        ensures refusal { IfErr result may_refuse };
+        ensures refusal { IfErr result may_refuse }
+        ensures went { went self.old self.new }
+        ensures failures { failures self.new ≡ failed_after result (failures self.old) };
 
     /// Makes the words settable that `len` bytes from `at` on overlap.
     fn keep(&mut self, at: u64, len: u16) -> Result<(), Refusal>
@@ -64,7 +73,9 @@ pub trait Words {
         ensures kept { OnOk result (ForOverlapped at len (is_kept self.new)) }
         ensures lawful { KeepsLaw (may_bring self.old) (may_bring self.new) }
         ensures faithful { KeepsLaw (is_faithful self.old) (is_faithful self.new) }
-        ensures refusal { IfErr result may_refuse };
+        ensures refusal { IfErr result may_refuse }
+        ensures went { went self.old self.new }
+        ensures failures { failures self.new ≡ failed_after result (failures self.old) };
 
     /// The cell of a word.
     fn get(&self, word: u64) -> Cell
@@ -83,7 +94,9 @@ pub trait Words {
         ensures inside { (w : ℕ) → first ≤ w → w < first + count → cell_of self.new w ≡ cell }
         ensures outside { (w : ℕ) → (w < first) ⊎ (first + count ≤ w) → cell_of self.new w ≡ cell_of self.old w }
         ensures lawful { (segments sets : ℕ) → IsWithin segments sets cell → may_bring self.old segments sets → may_bring self.new segments sets }
-        ensures faithful { (segments sets : ℕ) → IsWithin segments sets cell → is_faithful self.old segments sets → is_faithful self.new segments sets };
+        ensures faithful { (segments sets : ℕ) → IsWithin segments sets cell → is_faithful self.old segments sets → is_faithful self.new segments sets }
+        ensures went { went self.old self.new }
+        ensures failures { failures self.new ≡ failures self.old };
 
     /// Gives a word its cell.
     fn set(&mut self, word: u64, cell: Cell)
@@ -91,7 +104,9 @@ pub trait Words {
         ensures cells { (w : ℕ) → cell_of self.new w ≡ (if w == word then cell else cell_of self.old w) }
         ensures kept { (w : ℕ) → is_kept self.old w → is_kept self.new w }
         ensures lawful { (segments sets : ℕ) → IsWithin segments sets cell → may_bring self.old segments sets → may_bring self.new segments sets }
-        ensures faithful { (segments sets : ℕ) → IsWithin segments sets cell → is_faithful self.old segments sets → is_faithful self.new segments sets };
+        ensures faithful { (segments sets : ℕ) → IsWithin segments sets cell → is_faithful self.old segments sets → is_faithful self.new segments sets }
+        ensures went { went self.old self.new }
+        ensures failures { failures self.new ≡ failures self.old };
 
     /// Makes the words new that `len` bytes from `at` on overlap.
     fn reset(&mut self, at: u64, len: u16)
@@ -101,7 +116,9 @@ pub trait Words {
         requires within { at + len ≤ 2 ^ 64 }
         ensures cells { (w : ℕ) → cell_of self.new w ≡ (if overlaps at len w then New else cell_of self.old w) }
         ensures lawful { KeepsLaw (may_bring self.old) (may_bring self.new) }
-        ensures faithful { KeepsLaw (is_faithful self.old) (is_faithful self.new) };
+        ensures faithful { KeepsLaw (is_faithful self.old) (is_faithful self.new) }
+        ensures went { went self.old self.new }
+        ensures failures { failures self.new ≡ failures self.old };
 
     /// More segments and sets are no obstacle.
     ghost brings_more: { (words : Self) (segments sets more_segments more_sets : ℕ) → segments ≤ more_segments → sets ≤ more_sets
@@ -113,6 +130,12 @@ pub trait Words {
 
     /// Each cell of a faithful map names only segments and sets that exist.
     ghost faithful_within: { (words : Self) (segments sets : ℕ) → is_faithful words segments sets → (w : ℕ) → IsWithin segments sets (cell_of words w) };
+
+    /// A map that was not called has kept all.
+    ghost went_nowhere: { (words : Self) → went words words };
+
+    /// Calls one after another keep what each of them keeps.
+    ghost went_on: { (old mid new : Self) → went old mid → went mid new → went old new };
 
     /// Whether the table of sets is full is not asked of the map.
     ghost not_full: { may_refuse FullSets → ⊥ };

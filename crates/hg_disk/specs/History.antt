@@ -1,5 +1,5 @@
 -- The states that a disk goes through under its calls.
-use Rattle.std.specs.Prelude.{ℕ, ◌+◌, min, if◌then◌else◌, Bool, true, false, List, [], ◌∷◌, length}
+use Rattle.std.specs.Prelude.{◌≡◌, ◌==◌, ℕ, ◌+◌, min, if◌then◌else◌, Bool, true, false, List, [], ◌∷◌, length, Option, is_none}
 use Rattle.hg_disk.specs.State.{DiskState, settled, after_write, after_cut, after_sync}
 use Rattle.hg_disk.specs.State.Change.{Written, CutTo}
 use Rattle.hg_disk.specs.Event.{Event}
@@ -48,3 +48,7 @@ is_failure Refused = true
 abbrev pub failures_in : List Event → ℕ
 failures_in [] = 0
 failures_in (e ∷ earlier) = if is_failure e.told.answer then failures_in earlier + 1 else failures_in earlier
+
+-- there is an error exactly where a call has failed
+abbrev pub KeepsError : {E : Type 0} → Option E → List Event → Type 0
+KeepsError error events = is_none error ≡ (failures_in events == 0)

@@ -1,6 +1,7 @@
 //! A file of the operating system, or one that is missing.
-ghost use Rattle.std.specs.Prelude.{◌≡◌, ◌+◌, ◌-◌, ◌<◌, ◌≤◌, ◌^◌, false, [], length, replicate, IfOk};
-ghost use Rattle.hg_disk.specs.History.{replay};
+ghost use Rattle.std.specs.Prelude.{◌≡◌, ◌↔◌, ◌+◌, ◌-◌, ◌<◌, ◌≤◌, ◌^◌, ◌∷◌, false, [], length, replicate, IfOk, IsNone, OnOk, is_ok, if◌then◌else◌};
+ghost use Rattle.hg_disk.specs.Event.{answer_of, event};
+ghost use Rattle.hg_disk.specs.History.{KeepsError, replay};
 ghost use Rattle.hg_disk.specs.Kept.{has_contents};
 
 use crate::call::Call;
@@ -19,6 +20,8 @@ pub struct FileDisk {
     opened_len: u64,
     len: u64,
     history: Record,
+    error: Option<io::Error>,
+    ghost keeps: { KeepsError error history.events },
     ghost shows: { len ≡ length (replay (replicate opened_len 0) history.events).contents },
     ghost fits: { len ≤ 2 ^ 62 },
 }
@@ -30,6 +33,7 @@ impl Drop for FileDisk {
             opened_len: _,
             len: _,
             history,
+            error: _,
         } = self;
         drop(file);
         drop(history);
@@ -54,6 +58,7 @@ impl FileDisk {
             opened_len: len,
             len,
             history: Record::new(),
+            error: None,
         })
     }
 
@@ -69,8 +74,43 @@ impl FileDisk {
             opened_len: 0,
             len: 0,
             history: Record::new(),
+            error: None,
         }
     }
+
+    /// What the system said to the first call that failed, if one has.
+    pub fn error(&self) -> Option<io::Error>
+        ensures { IsNone result ↔ (file_failures self.now ≡ 0) }
+    {
+        self.error
+    }
+}
+
+/// Notes a call with its answer, and keeps its error, where it is the first one.
+fn note(
+    history: &mut Record,
+    error: &mut Option<io::Error>,
+    call: Call,
+    bytes: &[u8],
+    answer: io::Result<()>,
+) -> Result<(), DiskFault>
+    ensures same { is_ok result ≡ is_ok answer }
+    ensures noted { history.new.events ≡ event call (answer_of result) (if is_ok answer then bytes.now else []) ∷ history.old.events }
+    ensures error { KeepsError error.old history.old.events → KeepsError error.new history.new.events }
+{
+    if let Err(cause) = &answer {
+        if error.is_none() {
+            *error = Some(*cause);
+        }
+    }
+    history.note_answer(call, bytes, answer.is_ok())
+}
+
+/// What is answered of a file that is missing.
+fn not_found() -> io::Result<()>
+    ensures { is_ok result ≡ false }
+{
+    Err(io::ErrorKind::NotFound.into())
 }
 
 impl Disk for FileDisk {
@@ -91,11 +131,11 @@ impl Disk for FileDisk {
     }
 
     fn read_at(&mut self, at: u64, buf: &mut [u8]) -> Result<(), DiskFault> {
-        let is_done = match &self.file {
-            Some(file) => file.read_exact_at(buf, at).is_ok(),
-            None => false,
+        let answer = match &self.file {
+            Some(file) => file.read_exact_at(buf, at),
+            None => not_found(),
         };
-        self.history.note_answer(Call::Read, &[], is_done)
+        note(&mut self.history, &mut self.error, Call::Read, &[], answer)
     }
 
     fn write_at(&mut self, at: u64, bytes: &[u8]) -> Result<(), DiskFault> {
@@ -103,41 +143,47 @@ impl Disk for FileDisk {
             at,
             len: bytes.len(),
         };
-        let is_done = is_within(at, bytes.len()) && is_written(&self.file, self.len, at, bytes);
-        self.history.note_answer(call, bytes, is_done)?;
+        let answer = written(&self.file, self.len, at, bytes);
+        note(&mut self.history, &mut self.error, call, bytes, answer)?;
         self.len = self.len.max(at + bytes.len() as u64);
         Ok(())
     }
 
     fn cut(&mut self, to: u64) -> Result<(), DiskFault> {
-        let is_done = match &self.file {
-            Some(file) => file.set_len(to).is_ok(),
-            None => false,
+        let answer = match &self.file {
+            Some(file) => file.set_len(to),
+            None => not_found(),
         };
-        self.history.note_answer(Call::Cut { to }, &[], is_done)?;
+        let call = Call::Cut { to };
+        note(&mut self.history, &mut self.error, call, &[], answer)?;
         self.len = to;
         Ok(())
     }
 
     fn sync(&mut self) -> Result<(), DiskFault> {
-        let is_done = match &self.file {
-            Some(file) => file.sync_all().is_ok(),
-            None => true,
+        let answer = match &self.file {
+            Some(file) => file.sync_all(),
+            None => Ok(()),
         };
-        self.history.note_answer(Call::Sync, &[], is_done)
+        note(&mut self.history, &mut self.error, Call::Sync, &[], answer)
     }
 }
 
-// Whether the bytes were written.
-fn is_written(file: &Option<File>, len: u64, at: u64, bytes: &[u8]) -> bool {
+// Writes the bytes, where they lie within the greatest length.
+fn written(file: &Option<File>, len: u64, at: u64, bytes: &[u8]) -> io::Result<()>
+    ensures { OnOk result (at + length bytes.now ≤ 2 ^ 62) }
+{
+    if !is_within(at, bytes.len()) {
+        return Err(io::ErrorKind::FileTooLarge.into());
+    }
     match file {
-        Some(file) => written(file, len, at, bytes).is_ok(),
-        None => false,
+        Some(file) => write_there(file, len, at, bytes),
+        None => not_found(),
     }
 }
 
 // Writes the bytes. A write of no bytes would leave the gap before it out.
-fn written(file: &File, len: u64, at: u64, bytes: &[u8]) -> io::Result<()> {
+fn write_there(file: &File, len: u64, at: u64, bytes: &[u8]) -> io::Result<()> {
     if bytes.is_empty() && at > len {
         return file.set_len(at);
     }

@@ -1,7 +1,7 @@
 -- What `get_one` read of an argument, as what its text spells.
-use Rattle.std.proofs.Common.{◌≡◌, ◌≤◌, ◌<◌, ◌∙◌, ℕ, Ok, Err, Option, Some, None, List, refl, sym, ap, arith, ◌^◌}
+use Rattle.std.proofs.Common.{◌≡◌, ◌<◌, ◌∙◌, ℕ, Ok, Err, Option, Some, None, List, refl, sym, ap, ◌^◌}
 use Rattle.std.specs.Str.Parse.{ParsesUnsigned, digits_value, without_leading_plus}
-use Rattle.clap.specs.Words.{Row, Text, one_of, one_text, rows_of}
+use Rattle.clap.specs.Words.{Row, Text, one_text, rows_of}
 use Rattle.clap.specs.declared.parser.matches.Found.{Found}
 use Rattle.clap.proofs.WalkLemmas.{one_text-rows}
 use Rattle.hg_options.specs.Tasks.{Spells}

@@ -2,6 +2,7 @@
 -- the rules of options and arguments that its users know, is `subcommand_of` of the crate clap.
 use Rattle.std.specs.Prelude.{Bool, true, false, Some, [], ◌∷◌, codes, pos}
 use Rattle.clap.specs.Words.{App, Rule, Shape, new_app, new_rule, with_rule, with_subcommand}
+use Rattle.clap.specs.declared.builder.action.ArgAction.TheVariants.{SetTrue}
 use Rattle.clap.specs.declared.builder.value_parser.ValueParser.TheVariants as parser
 
 -- a store's directory: any text but the empty one
@@ -69,20 +70,43 @@ silence = record (new_rule (codes "silence")) {
   parser = Some (parser.Signed (pos 1) (pos 65535));
 }
 
+-- the address of a word, whose text is read as one of a trace
+abbrev pub address : Rule
+address = record (new_rule (codes "ADDRESS")) {
+  required = true;
+}
+
+-- that each line is printed
+abbrev pub all : Rule
+all = record (new_rule (codes "all")) {
+  long = Some (codes "all");
+  action = Some SetTrue;
+}
+
+-- that the last line is told in words
+abbrev pub verbose : Rule
+verbose = record (new_rule (codes "verbose")) {
+  long = Some (codes "verbose");
+  action = Some SetTrue;
+}
+
 abbrev pub check : Shape
-check = (new_app (codes "check")).top
+check = (with_rule (new_app (codes "check")) verbose).top
 
 abbrev pub graph : Shape
-graph = (with_rule (new_app (codes "graph")) (directory false)).top
+graph = (with_rule (with_rule (new_app (codes "graph")) (directory false)) verbose).top
+
+abbrev pub explain : Shape
+explain = (with_rule (with_rule (with_rule (new_app (codes "explain")) address) (directory false)) all).top
 
 abbrev pub create : Shape
 create = (with_rule (new_app (codes "create")) (directory true)).top
 
 abbrev pub reports : Shape
-reports = (with_rule (with_rule (new_app (codes "reports")) (directory true)) frames).top
+reports = (with_rule (with_rule (with_rule (new_app (codes "reports")) (directory true)) frames) verbose).top
 
 abbrev pub feed : Shape
-feed = (with_rule (with_rule (with_rule (new_app (codes "feed")) (directory true)) source) frames).top
+feed = (with_rule (with_rule (with_rule (with_rule (new_app (codes "feed")) (directory true)) source) frames) verbose).top
 
 abbrev pub serve_arguments : App
 serve_arguments = with_rule (with_rule (with_rule (new_app (codes "serve")) (directory true)) port) connections
@@ -97,5 +121,5 @@ start = let new = new_app (codes "hgd") in
 
 -- `hgd` and its commands
 abbrev pub hgd : App
-hgd = with_subcommand (with_subcommand (with_subcommand (with_subcommand (with_subcommand (with_subcommand
-    start check) graph) create) feed) reports) serve
+hgd = with_subcommand (with_subcommand (with_subcommand (with_subcommand (with_subcommand (with_subcommand (with_subcommand
+    start check) graph) explain) create) feed) reports) serve

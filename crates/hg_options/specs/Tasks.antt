@@ -1,9 +1,11 @@
 -- What a command line asks for, by the command that it names and the texts of that command's arguments.
-use Rattle.std.specs.Prelude.{◌≡◌, ◌⊎◌, ◌≤◌, ℕ, ⊤, List, [], Option, Some, None, IsSomeAnd, Result, MatchResult, codes}
+use Rattle.std.specs.Prelude.{◌≡◌, ◌⊎◌, ◌↔◌, ◌≤◌, ℕ, ⊤, Bool, true, List, [], Option, Some, None, IsSomeAnd, Result, MatchResult, codes}
 use Rattle.std.specs.Str.Parse.{IsNumeral, digits_value, without_leading_plus}
 use Rattle.clap.specs.Words.{Kinds, IsAmong, Row, Text, first_of, one_of}
 use Rattle.clap.specs.declared.error.kind.ErrorKind.{ErrorKind}
 use Rattle.clap.specs.declared.error.kind.ErrorKind.TheVariants as kind
+use Rattle.hg_wire.specs.Lines.{operand_of}
+use Rattle.hg_options.specs.declared.task.Explaining.{Explaining}
 use Rattle.hg_options.specs.declared.task.Frames.{Frames}
 use Rattle.hg_options.specs.declared.task.Serving.{Serving}
 use Rattle.hg_options.specs.declared.task.Source.{Source}
@@ -38,19 +40,36 @@ pub record AreServing (rows : List Row) (serving : Serving) : Type 0 where
   pub every : IsNumber (codes "every") 1 1048576 4096 rows serving.every
   pub silence : IsNumber (codes "silence") 1 65535 0 rows serving.silence
 
+-- the flag was given
+abbrev pub IsFlag : Text → List Row → Bool → Type 0
+IsFlag id rows flag = (flag ≡ true) ↔ (first_of id rows ≡ Some (codes "true"))
+
+-- the text of ADDRESS is a number of 64 bits, as in a trace
+abbrev pub IsAddress : List Row → ℕ → Type 0
+IsAddress rows address = (t : Text) × (first_of (codes "ADDRESS") rows ≡ Some t) × (operand_of 64 t ≡ Some address)
+
+-- it is none
+abbrev pub HasNoAddress : List Row → Type 0
+HasNoAddress rows = (t : Text) × (first_of (codes "ADDRESS") rows ≡ Some t) × (operand_of 64 t ≡ None)
+
+abbrev pub IsExplaining : List Row → Explaining → Type 0
+IsExplaining rows explaining = IsAddress rows explaining.address × IsFlag (codes "all") rows explaining.all
+
 -- what the command `name` with these arguments asks for of a store
 abbrev pub IsStoreTask : Text → List Row → StoreTask → Type 0
 IsStoreTask name rows store.Create = name ≡ codes "create"
-IsStoreTask name rows store.Graph = name ≡ codes "graph"
-IsStoreTask name rows (store.Reports frames) = (name ≡ codes "reports") × AreFrames rows frames
-IsStoreTask name rows (store.Feed source frames) =
-    (name ≡ codes "feed") × IsSource rows source × AreFrames rows frames
+IsStoreTask name rows (store.Graph verbose) = (name ≡ codes "graph") × IsFlag (codes "verbose") rows verbose
+IsStoreTask name rows (store.Explain explaining) = (name ≡ codes "explain") × IsExplaining rows explaining
+IsStoreTask name rows (store.Reports frames verbose) = (name ≡ codes "reports") × AreFrames rows frames × IsFlag (codes "verbose") rows verbose
+IsStoreTask name rows (store.Feed source frames verbose) =
+    (name ≡ codes "feed") × IsSource rows source × AreFrames rows frames × IsFlag (codes "verbose") rows verbose
 IsStoreTask name rows (store.Serve serving) = (name ≡ codes "serve") × AreServing rows serving
 
 -- what the command `name` with these arguments asks for
 abbrev pub IsTask : Text × List Row → Task → Type 0
-IsTask (name, rows) task.Check = name ≡ codes "check"
-IsTask (name, rows) task.Graph = (name ≡ codes "graph") × (first_of (codes "DIR") rows ≡ None)
+IsTask (name, rows) (task.Check verbose) = (name ≡ codes "check") × IsFlag (codes "verbose") rows verbose
+IsTask (name, rows) (task.Graph verbose) = (name ≡ codes "graph") × (first_of (codes "DIR") rows ≡ None) × IsFlag (codes "verbose") rows verbose
+IsTask (name, rows) (task.Explain explaining) = (name ≡ codes "explain") × (first_of (codes "DIR") rows ≡ None) × IsExplaining rows explaining
 IsTask (name, rows) (task.OnStore directory given) =
     (first_of (codes "DIR") rows ≡ Some directory.now) × IsStoreTask name rows given
 
@@ -62,15 +81,20 @@ AsksForText k = (k ≡ kind.DisplayHelp) ⊎ (k ≡ kind.DisplayVersion)
 abbrev pub SomeKind : (ErrorKind → Type 0) → Kinds → Type 0
 SomeKind P kinds = (k : ErrorKind) × IsAmong k kinds × P k
 
--- what is told of a command line whose first fault has one of these kinds
-abbrev pub IsMisread : Kinds → Misread → Type 0
-IsMisread kinds (misread.Help text) = SomeKind AsksForText kinds
-IsMisread kinds (misread.Bad text) = SomeKind (λ k. AsksForText k → ⊥) kinds
-IsMisread kinds misread.Incomplete = kinds ≡ []
-IsMisread kinds misread.OutOfMemory = ⊤
+-- what is told of a command line whose first fault has one of these kinds, or which has no fault but in an address
+abbrev pub IsMisread : Kinds → Option (Text × List Row) → Misread → Type 0
+IsMisread kinds command (misread.Help text) = SomeKind AsksForText kinds
+IsMisread kinds command (misread.Bad text) = SomeKind (λ k. AsksForText k → ⊥) kinds
+IsMisread kinds command misread.BadAddress = (kinds ≡ []) × IsSomeAnd command (λ given. (given.0 ≡ codes "explain") × HasNoAddress given.1)
+IsMisread kinds command misread.Incomplete = kinds ≡ []
+IsMisread kinds command misread.OutOfMemory = ⊤
 
 -- what is made of a command line: what its command asks for, exactly where it has no fault
 abbrev pub IsReading : Kinds → Option (Text × List Row) → Result Task Misread → Type 0
 IsReading kinds command r = MatchResult r
     (λ task. (kinds ≡ []) × IsSomeAnd command (λ given. IsTask given task))
-    (IsMisread kinds)
+    (IsMisread kinds command)
+
+-- why the arguments of a command ask for nothing
+abbrev pub IsUnasked : Text × List Row → Misread → Type 0
+IsUnasked (name, rows) r = (r ≡ misread.Incomplete) ⊎ ((r ≡ misread.BadAddress) × ((name ≡ codes "explain") × HasNoAddress rows))

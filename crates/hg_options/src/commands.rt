@@ -5,8 +5,9 @@ ghost use Rattle.clap.specs.Words.{Shape, app_of, rule_of, shape_of, with_subcom
 ghost use Rattle.hg_options.specs.CommandLine as spec;
 ghost use Rattle.hg_options.specs.Tools.{HasNoGlobals};
 
+use crate::help::LANGUAGE;
 use clap::builder::ValueParser;
-use clap::{Arg, Command, Error, value_parser};
+use clap::{Arg, ArgAction, Command, value_parser};
 use std::alloc::{AllocError, Global};
 
 /// The name of the argument that is a store's directory.
@@ -32,6 +33,15 @@ pub const EVERY: &str = "every";
 
 /// The name of the option that is how many seconds a client may be silent.
 pub const SILENCE: &str = "silence";
+
+/// The name of the argument that is the address of a word.
+pub const ADDRESS: &str = "ADDRESS";
+
+/// The name of the flag that asks for each line.
+pub const ALL: &str = "all";
+
+/// The name of the flag that asks for words.
+pub const VERBOSE: &str = "verbose";
 
 /// The directory of a store.
 fn directory<'a>(alloc: Global, required: bool) -> Arg<'a>
@@ -65,7 +75,7 @@ fn frames<'a>(alloc: Global) -> Arg<'a>
         .value_name("F")
         .value_parser(value_parser!(u16).range(4..=4096))
         .default_value("64")
-        .help("How many pages of words may be in memory")
+        .help("How many pages of words may be in memory (without effect yet)")
 }
 
 /// The port that a server listens on.
@@ -130,22 +140,72 @@ fn silence<'a>(alloc: Global) -> Arg<'a>
         .help("How long a client may be silent before its connection ends [default: for ever]")
 }
 
-/// `check`.
-fn check<'a>(alloc: Global) -> Command<'a>
-    ensures app { shape_of result ≡ spec.check }
-    ensures local { HasNoGlobals result }
+/// The address of a word.
+fn address<'a>(alloc: Global) -> Arg<'a>
+    ensures rule { rule_of result ≡ spec.address }
+    ensures local { result.global ≡ false }
 {
-    Command::new(alloc, "check").about("Reads a trace on standard input, and prints its data races")
+    Arg::new(alloc, ADDRESS).required(true).help(
+        "The address of the word, in decimal or in hexadecimal after 0x",
+    )
 }
 
-/// `graph [DIR]`.
+/// That each line is printed.
+fn all<'a>(alloc: Global) -> Arg<'a>
+    ensures rule { rule_of result ≡ spec.all }
+    ensures local { result.global ≡ false }
+{
+    Arg::new(alloc, ALL)
+        .long(ALL)
+        .action(ArgAction::SetTrue)
+        .help("Print each access, be it that it changes nothing")
+}
+
+/// That the last line is told in words.
+fn verbose<'a>(alloc: Global) -> Arg<'a>
+    ensures rule { rule_of result ≡ spec.verbose }
+    ensures local { result.global ≡ false }
+{
+    Arg::new(alloc, VERBOSE)
+        .long(VERBOSE)
+        .action(ArgAction::SetTrue)
+        .help("Say on standard error what a refused or bad line, or a fault, means")
+}
+
+/// `check [--verbose]`.
+fn check<'a>(alloc: Global) -> Result<Command<'a>, AllocError>
+    ensures app { IfOk result (λ c. shape_of c ≡ spec.check) }
+    ensures local { IfOk result HasNoGlobals }
+{
+    Command::new(alloc, "check")
+        .about("Reads a trace on standard input, and prints its data races")
+        .after_help(LANGUAGE)
+        .arg(verbose(alloc))
+}
+
+/// `graph [DIR] [--verbose]`.
 fn graph<'a>(alloc: Global) -> Result<Command<'a>, AllocError>
     ensures app { IfOk result (λ c. shape_of c ≡ spec.graph) }
     ensures local { IfOk result HasNoGlobals }
 {
     Command::new(alloc, "graph")
         .about("Prints the thread segments of a store, or of a trace on standard input")
-        .arg(directory(alloc, false))
+        .after_help(LANGUAGE)
+        .arg(directory(alloc, false))?
+        .arg(verbose(alloc))
+}
+
+/// `explain ADDRESS [DIR] [--all]`.
+fn explain<'a>(alloc: Global) -> Result<Command<'a>, AllocError>
+    ensures app { IfOk result (λ c. shape_of c ≡ spec.explain) }
+    ensures local { IfOk result HasNoGlobals }
+{
+    let begun = Command::new(alloc, "explain")
+        .about("Prints the life of a word of memory in a store, or in a trace on standard input")
+        .after_help(LANGUAGE);
+    let of_word = begun.arg(address(alloc))?;
+    let of_store = of_word.arg(directory(alloc, false))?;
+    of_store.arg(all(alloc))
 }
 
 /// `create DIR`.
@@ -155,31 +215,35 @@ fn create<'a>(alloc: Global) -> Result<Command<'a>, AllocError>
 {
     Command::new(alloc, "create")
         .about("Makes a store")
+        .after_help(LANGUAGE)
         .arg(directory(alloc, true))
 }
 
-/// `reports DIR [--frames F]`.
+/// `reports DIR [--frames F] [--verbose]`.
 fn reports<'a>(alloc: Global) -> Result<Command<'a>, AllocError>
     ensures app { IfOk result (λ c. shape_of c ≡ spec.reports) }
     ensures local { IfOk result HasNoGlobals }
 {
-    Command::new(alloc, "reports")
+    let begun = Command::new(alloc, "reports")
         .about("Prints the data races that a store holds")
-        .arg(directory(alloc, true))?
-        .arg(frames(alloc))
+        .after_help(LANGUAGE);
+    let of_store = begun.arg(directory(alloc, true))?;
+    let with_frames = of_store.arg(frames(alloc))?;
+    with_frames.arg(verbose(alloc))
 }
 
-/// `feed DIR SOURCE [--frames F]`.
+/// `feed DIR SOURCE [--frames F] [--verbose]`.
 fn feed<'a>(alloc: Global) -> Result<Command<'a>, AllocError>
     ensures app { IfOk result (λ c. shape_of c ≡ spec.feed) }
     ensures local { IfOk result HasNoGlobals }
 {
-    let begun = Command::new(alloc, "feed").about(
-        "Reads a trace on standard input, and has a store accept its events",
-    );
+    let begun = Command::new(alloc, "feed")
+        .about("Reads a trace on standard input, and has a store accept its events")
+        .after_help(LANGUAGE);
     let of_store = begun.arg(directory(alloc, true))?;
     let of_source = of_store.arg(source(alloc))?;
-    of_source.arg(frames(alloc))
+    let with_frames = of_source.arg(frames(alloc))?;
+    with_frames.arg(verbose(alloc))
 }
 
 /// `serve DIR PORT --connections N --workers W [--frames F] [--every E] [--silence SECONDS]`, without its options.
@@ -187,9 +251,9 @@ fn serve_arguments<'a>(alloc: Global) -> Result<Command<'a>, AllocError>
     ensures app { IfOk result (λ c. app_of c ≡ spec.serve_arguments) }
     ensures local { IfOk result HasNoGlobals }
 {
-    let begun = Command::new(alloc, "serve").about(
-        "Takes events from clients that connect, and answers them",
-    );
+    let begun = Command::new(alloc, "serve")
+        .about("Takes events from clients that connect, and answers them")
+        .after_help(LANGUAGE);
     let of_store = begun.arg(directory(alloc, true))?;
     let at_port = of_store.arg(port(alloc))?;
     at_port.arg(connections(alloc))
@@ -214,6 +278,7 @@ fn start<'a>(alloc: Global) -> Command<'a>
 {
     Command::new(alloc, "hgd")
         .about("Finds data races in traces of programs with threads")
+        .after_help(LANGUAGE)
         .version("0.1.0")
         .subcommand_required(true)
 }
@@ -236,9 +301,10 @@ pub fn hgd<'a>(alloc: Global) -> Result<Command<'a>, AllocError>
     ensures app { IfOk result (λ c. app_of c ≡ spec.hgd) }
     ensures local { IfOk result HasNoGlobals }
 {
-    let checking = start(alloc).subcommand(check(alloc))?;
+    let checking = with_command(start(alloc), check(alloc))?;
     let graphing = with_command(checking, graph(alloc))?;
-    let creating = with_command(graphing, create(alloc))?;
+    let explaining = with_command(graphing, explain(alloc))?;
+    let creating = with_command(explaining, create(alloc))?;
     let feeding = with_command(creating, feed(alloc))?;
     let reporting = with_command(feeding, reports(alloc))?;
     with_command(reporting, serve(alloc))

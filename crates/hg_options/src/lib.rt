@@ -2,6 +2,7 @@
 #![tactic(auto)]
 
 pub mod commands;
+mod help;
 pub mod matches;
 pub mod reading;
 pub mod task;

@@ -1,12 +1,15 @@
 //! From the matches of a command line to what it asks for.
 
-ghost use Rattle.std.specs.Prelude.{◌≡◌, ◌≤◌, ℕ, Some, IfSome, codes};
-ghost use Rattle.clap.specs.Words.{found_of, rows_of};
-ghost use Rattle.hg_options.specs.Tasks.{AreFrames, AreServing, IsNumber, IsSource, IsStoreTask, IsTask};
+ghost use Rattle.std.specs.Prelude.{◌≡◌, ◌≤◌, ℕ, Some, None, MatchResult, codes};
+ghost use Rattle.clap.specs.Words.{first_of, found_of, rows_of};
+ghost use Rattle.hg_options.specs.Tasks.{AreFrames, AreServing, IsExplaining, IsFlag, IsNumber, IsSource, IsStoreTask, IsTask, IsUnasked};
 
-use crate::commands::{CONNECTIONS, DIRECTORY, EVERY, FRAMES, PORT, SILENCE, SOURCE, WORKERS};
-use crate::task::{Frames, Serving, Source, StoreTask, Task};
+use crate::commands::{
+    ADDRESS, ALL, CONNECTIONS, DIRECTORY, EVERY, FRAMES, PORT, SILENCE, SOURCE, VERBOSE, WORKERS,
+};
+use crate::task::{Explaining, Frames, Misread, Serving, Source, StoreTask, Task};
 use clap::ArgMatches;
+use hg_wire::number::number_of_word;
 
 /// The number that an argument spells, or another where it spells none from `low` to `high`.
 fn number(given: &ArgMatches<'_>, id: &str, low: u16, high: u16, other: u16) -> u16
@@ -73,40 +76,88 @@ fn serving(given: &ArgMatches<'_>) -> Serving
     }
 }
 
+/// Whether a flag was given.
+fn is_set(given: &ArgMatches<'_>, id: &str) -> bool
+    ensures { IsFlag id.now (rows_of (found_of given.now)) result }
+{
+    match given.get_str(id) {
+        Some(text) => text == "true",
+        None => false,
+    }
+}
+
+/// The word whose life is printed.
+fn explaining(given: &ArgMatches<'_>) -> Result<Explaining, Misread>
+    ensures { MatchResult result (IsExplaining (rows_of (found_of given.now))) (IsUnasked (codes "explain", rows_of (found_of given.now))) }
+{
+    let Some(text) = given.get_str(ADDRESS) else {
+        return Err(Misread::Incomplete);
+    };
+    let Some(address) = number_of_word(text.as_bytes()) else {
+        return Err(Misread::BadAddress);
+    };
+    Ok(Explaining {
+        address,
+        all: is_set(given, ALL),
+    })
+}
+
 /// What a command asks for of a store, if it is one of those that may.
-fn store_task(name: &str, given: &ArgMatches<'_>) -> Option<StoreTask>
-    ensures { IfSome result (IsStoreTask name.now (rows_of (found_of given.now))) }
+fn store_task(name: &str, given: &ArgMatches<'_>) -> Result<StoreTask, Misread>
+    ensures { MatchResult result (IsStoreTask name.now (rows_of (found_of given.now))) (IsUnasked (name.now, rows_of (found_of given.now))) }
 {
     match name {
-        "create" => Some(StoreTask::Create),
-        "graph" => Some(StoreTask::Graph),
-        "reports" => Some(StoreTask::Reports {
-            frames: frames(given),
+        "create" => Ok(StoreTask::Create),
+        "graph" => Ok(StoreTask::Graph {
+            verbose: is_set(given, VERBOSE),
         }),
-        "feed" => Some(StoreTask::Feed {
+        "explain" => Ok(StoreTask::Explain {
+            explaining: explaining(given)?,
+        }),
+        "reports" => Ok(StoreTask::Reports {
+            frames: frames(given),
+            verbose: is_set(given, VERBOSE),
+        }),
+        "feed" => Ok(StoreTask::Feed {
             source: source(given),
             frames: frames(given),
+            verbose: is_set(given, VERBOSE),
         }),
-        "serve" => Some(StoreTask::Serve {
+        "serve" => Ok(StoreTask::Serve {
             serving: serving(given),
         }),
-        _ => None,
+        _ => Err(Misread::Incomplete),
+    }
+}
+
+/// What a command asks for without a store, if it is one of those that may.
+fn stream_task<'a>(name: &str, given: &ArgMatches<'_>) -> Result<Task<'a>, Misread>
+    requires { first_of (codes "DIR") (rows_of (found_of given.now)) ≡ None }
+    ensures { MatchResult result (IsTask (name.now, rows_of (found_of given.now))) (IsUnasked (name.now, rows_of (found_of given.now))) }
+{
+    match name {
+        "check" => Ok(Task::Check {
+            verbose: is_set(given, VERBOSE),
+        }),
+        "graph" => Ok(Task::Graph {
+            verbose: is_set(given, VERBOSE),
+        }),
+        "explain" => Ok(Task::Explain {
+            explaining: explaining(given)?,
+        }),
+        _ => Err(Misread::Incomplete),
     }
 }
 
 /// What a command asks for.
-pub fn task<'a>(name: &str, given: &ArgMatches<'a>) -> Option<Task<'a>>
-    ensures { IfSome result (IsTask (name.now, rows_of (found_of given.now))) }
+pub fn task<'a>(name: &str, given: &ArgMatches<'a>) -> Result<Task<'a>, Misread>
+    ensures { MatchResult result (IsTask (name.now, rows_of (found_of given.now))) (IsUnasked (name.now, rows_of (found_of given.now))) }
 {
     match given.get_str(DIRECTORY) {
         Some(directory) => {
             let task = store_task(name, given)?;
-            Some(Task::OnStore { directory, task })
+            Ok(Task::OnStore { directory, task })
         }
-        None => match name {
-            "check" => Some(Task::Check),
-            "graph" => Some(Task::Graph),
-            _ => None,
-        },
+        None => stream_task(name, given),
     }
 }

@@ -1,9 +1,9 @@
 //! From the words of a command line to what they ask for.
 
-ghost use Rattle.std.specs.Prelude.{◌≡◌, IfOk, IfSome, IsSomeAnd};
-ghost use Rattle.clap.specs.Words.{FailsBy, HasKind, HasMatchesOf, Kinds, fault_of, subcommand_of, subcommand_rows_of};
+ghost use Rattle.std.specs.Prelude.{◌≡◌, [], List, Option, IfOk};
+ghost use Rattle.clap.specs.Words.{FailsBy, HasKind, HasMatchesOf, Kinds, Row, Text, fault_of, subcommand_of, subcommand_rows_of};
 ghost use Rattle.hg_options.specs.CommandLine as spec;
-ghost use Rattle.hg_options.specs.Tasks.{IsMisread, IsReading, IsTask};
+ghost use Rattle.hg_options.specs.Tasks.{IsMisread, IsReading};
 ghost use Rattle.hg_options.specs.Tools.{texts};
 
 use crate::commands::hgd;
@@ -21,17 +21,19 @@ pub fn read<'a>(alloc: Global, words: &'a [String]) -> Result<Task<'a>, Misread>
     ensures { IsReading (fault_of spec.hgd (texts words.entry.now)) (subcommand_of spec.hgd (texts words.entry.now)) result }
 {
     match matches(alloc, words) {
-        Ok(matches) => asked_for(&matches).ok_or(Misread::Incomplete),
+        Ok(matches) => asked_for(&matches),
         Err(error) => Err(misread(alloc, &error)),
     }
 }
 
 /// What the matches of a command line ask for.
-fn asked_for<'a>(matches: &ArgMatches<'a>) -> Option<Task<'a>>
-    ensures { IfSome result (λ task. IsSomeAnd (subcommand_rows_of matches.now) (λ given. IsTask given task)) }
+fn asked_for<'a>(matches: &ArgMatches<'a>) -> Result<Task<'a>, Misread>
+    ensures { IsReading [] (subcommand_rows_of matches.now) result }
 {
-    let (name, given) = matches.subcommand()?;
-    task(name, given)
+    match matches.subcommand() {
+        Some((name, given)) => task(name, given),
+        None => Err(Misread::Incomplete),
+    }
 }
 
 /// The matches of the words.
@@ -44,7 +46,7 @@ fn matches<'a>(alloc: Global, words: &'a [String]) -> Result<ArgMatches<'a>, Err
 
 /// What is told of an error.
 fn misread(alloc: Global, error: &Error) -> Misread
-    ensures { (kinds : Kinds) → HasKind kinds error.now → IsMisread kinds result }
+    ensures { (kinds : Kinds) (command : Option (Text × List Row)) → HasKind kinds error.now → IsMisread kinds command result }
 {
     let kind = error.kind();
     if kind == ErrorKind::OutOfMemory {

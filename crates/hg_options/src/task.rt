@@ -7,10 +7,12 @@ use std::string::String;
 /// What a command line asks for.
 #[derive(Clone, Copy, Drop)]
 pub enum Task<'a> {
-    /// The races of the trace on standard input.
-    Check,
-    /// The segments of the trace on standard input.
-    Graph,
+    /// The races of the trace on standard input; and, where `verbose` is set, its last line in words.
+    Check { verbose: bool },
+    /// The segments of the trace on standard input, and the same.
+    Graph { verbose: bool },
+    /// The life of a word in the trace on standard input.
+    Explain { explaining: Explaining },
     /// What is asked for of the store in a directory.
     OnStore { directory: &'a str, task: StoreTask },
 }
@@ -21,13 +23,37 @@ pub enum StoreTask {
     /// A new store.
     Create,
     /// Its segments.
-    Graph,
+    Graph {
+        verbose: bool,
+    },
+    /// The life of a word.
+    Explain {
+        explaining: Explaining,
+    },
     /// Its races.
-    Reports { frames: Frames },
+    Reports {
+        frames: Frames,
+        verbose: bool,
+    },
     /// That it accepts the events of the trace on standard input, as those of a source.
-    Feed { source: Source, frames: Frames },
+    Feed {
+        source: Source,
+        frames: Frames,
+        verbose: bool,
+    },
     /// That it accepts the events of clients that connect.
-    Serve { serving: Serving },
+    Serve {
+        serving: Serving,
+    },
+}
+
+/// A word whose life is printed.
+#[derive(Clone, Copy, Drop)]
+pub struct Explaining {
+    /// An address in it.
+    pub address: u64,
+    /// Whether each access has a line, be it that it changes nothing.
+    pub all: bool,
 }
 
 /// How many pages of words a store may have in memory: 4 to 4,096.
@@ -69,6 +95,8 @@ pub enum Misread {
     Help(String),
     /// It is a bad one: the text for standard error.
     Bad(String),
+    /// What it names as an address is no number of 64 bits, as a trace writes them.
+    BadAddress,
     /// It has no fault, and yet its command lacks what it needs. No command line is known that ends here.
     Incomplete,
     /// A growth was refused.

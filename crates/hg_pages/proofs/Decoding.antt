@@ -2,14 +2,16 @@
 use Rattle.std.proofs.Common.{◌≡◌, ◌<◌, ◌+◌, ◌*◌, ◌^◌, ◌∙◌, ℕ, zero, suc, List, [], ◌∷◌, ◌++◌, length, take, drop, set, get_or, refl, sym, ap, subst, arith, length-drop, take-append-drop}
 use Rattle.std.specs.List.{flat_map, AllByRecursion}
 use Rattle.std.specs.Int.{w64, to_be_bytes, from_be_bytes}
-use Rattle.std.proofs.lemmas.List.{append-nil, take_at, drop_at, drop-drop, take_all, take_more_set}
+use Rattle.std.proofs.lemmas.List.{append-nil, take_more, take_at, drop_at, drop-drop, take_all, take_more_set}
 use Rattle.std.proofs.lemmas.Grind.{flat_map-append}
 use Rattle.std.proofs.Math.Seq.{take-add}
 use Rattle.std.proofs.lemmas.Nat.{from_be_bytes-to_be_bytes_4, from_be_bytes-to_be_bytes_8}
 use Rattle.hg_cells.specs.declared.cell.Cell.{Cell}
 use Rattle.hg_cells.specs.declared.cell.Cell.TheVariants.{New, Exclusive, SharedRead, SharedModified}
 use Rattle.hg_pages.specs.Reading.{cell_bytes, cell_in}
-use Rattle.hg_pages.specs.Slots.{AreKnown, CellFits, IsSlot, cell_text, slot_text}
+use Rattle.hg_disk.proofs.Keeping.{read_held}
+use Rattle.hg_pages.specs.Slots.{AreKnown, CellFits, HasSlot, IsSlot, cell_text, slot_text}
+use Rattle.hg_pages.specs.Stored.{cell_in_slot}
 use Rattle.hg_pages.proofs.Encoding.{each_more, length-cell_text, take_whole}
 
 -- what is spelled is read again
@@ -42,12 +44,16 @@ piece (c ∷ cells) (suc i) lt =
 number_first : (page : ℕ) → length (to_be_bytes w64 page) ≡ 8
 number_first page = refl
 
+-- the bytes of a word's cell in the text of a page
+pub text_at : (page : ℕ) (cells : List Cell) (bytes : List ℕ) (i : ℕ) → i < 256 → length cells ≡ 256 → bytes ≡ slot_text page cells → cell_bytes bytes i ≡ cell_text (get_or cells i New)
+text_at page cells bytes i lt words spelling =
+    ap (λ (l : List ℕ). take 12 (drop (8 + 12 * i) l)) spelling
+    ∙ ap (λ (l : List ℕ). take 12 l) (sym (drop-drop (12 * i) 8 (slot_text page cells)) ∙ ap (λ (l : List ℕ). drop (12 * i) l) (drop_at (to_be_bytes w64 page) (flat_map cell_text cells) 8 refl))
+    ∙ piece cells i (omega (arith, lt, words))
+
 -- the bytes of a word's cell in the slot of a page
 pub cell_bytes_are : (page : ℕ) (cells : List Cell) (bytes : List ℕ) (i : ℕ) → i < 256 → IsSlot page cells bytes → cell_bytes bytes i ≡ cell_text (get_or cells i New)
-cell_bytes_are page cells bytes i lt is =
-    ap (λ (l : List ℕ). take 12 (drop (8 + 12 * i) l)) is.spelling
-    ∙ ap (λ (l : List ℕ). take 12 l) (sym (drop-drop (12 * i) 8 (slot_text page cells)) ∙ ap (λ (l : List ℕ). drop (12 * i) l) (drop_at (to_be_bytes w64 page) (flat_map cell_text cells) 8 refl))
-    ∙ piece cells i (omega (arith, lt, is.page_is.words))
+cell_bytes_are page cells bytes i lt is = text_at page cells bytes i lt is.page_is.words is.spelling
 
 -- the number of its page
 pub number_bytes_are : (page : ℕ) (cells : List Cell) (bytes : List ℕ) → IsSlot page cells bytes → take 8 bytes ≡ to_be_bytes w64 page
@@ -82,3 +88,27 @@ decoded bytes page i segments sets cells below size end words number text fit kn
       },
       subst (λ (l : List Cell). AreKnown segments sets l) all known,
     )
+
+-- one cell more of those that were compared
+pub compared_more : (bytes : List ℕ) (cells : List Cell) (i : ℕ) → i < length cells → take (12 * i) (drop 8 bytes) ≡ flat_map cell_text (take i cells) → cell_bytes bytes i ≡ cell_text (get_or cells i New)
+    → take (12 * (i + 1)) (drop 8 bytes) ≡ flat_map cell_text (take (i + 1) cells)
+compared_more bytes cells i lt so_far is =
+    let next : 12 * (i + 1) ≡ 12 * i + 12 = omega arith in
+    let there : take 12 (drop (12 * i) (drop 8 bytes)) ≡ cell_text (get_or cells i New) = ap (λ (l : List ℕ). take 12 l) (drop-drop (12 * i) 8 bytes) ∙ is in
+    let more : flat_map cell_text (take (i + 1) cells) ≡ flat_map cell_text (take i cells) ++ cell_text (get_or cells i New) =
+    ap (λ (l : List Cell). flat_map cell_text l) (take_more cells i New lt) ∙ flat_map-append cell_text (take i cells) (get_or cells i New ∷ []) ∙ ap (λ (l : List ℕ). flat_map cell_text (take i cells) ++ l) (append-nil (cell_text (get_or cells i New))) in
+    ap (λ (n : ℕ). take n (drop 8 bytes)) next ∙ take-add (12 * i) 12 (drop 8 bytes) ∙ (λ j. so_far j ++ there j) ∙ sym more
+
+-- all cells were compared
+pub compared : (page i : ℕ) (bytes : List ℕ) (cells : List Cell) → length bytes ≡ 3080 → i ≡ 256 → length cells ≡ 256 → to_be_bytes w64 page ≡ take 8 bytes → take (12 * i) (drop 8 bytes) ≡ flat_map cell_text (take i cells)
+    → bytes ≡ slot_text page cells
+compared page i bytes cells size end words number text =
+    let all : take i cells ≡ cells = ap (λ (n : ℕ). take n cells) (end ∙ sym words) ∙ take_whole cells in
+    let rest : take (12 * i) (drop 8 bytes) ≡ drop 8 bytes = take_all (12 * i) (drop 8 bytes) (omega (arith, end, size, length-drop 8 bytes)) in
+    sym (take-append-drop 8 bytes) ∙ (λ j. sym number j ++ (sym rest ∙ text ∙ ap (λ (l : List Cell). flat_map cell_text l) all) j)
+
+-- a cell of a slot of a file
+pub stored : (slot page i : ℕ) (cells : List Cell) (file : List ℕ) → i < 256 → HasSlot slot page cells file → cell_in_slot file slot i ≡ get_or cells i New
+stored slot page i cells file lt has =
+    let there : take 3080 (drop (3080 * slot) file) ≡ slot_text page cells = sym (ap (λ (n : ℕ). take n (drop (3080 * slot) file)) has.bytes.0) ∙ read_held file (3080 * slot) (slot_text page cells) has.bytes.1 in
+    ap cell_in (text_at page cells (take 3080 (drop (3080 * slot) file)) i lt has.page_is.words there) ∙ cell_again (get_or cells i New) (each_at CellFits cells i (omega (arith, lt, has.page_is.words)) has.page_is.fit)

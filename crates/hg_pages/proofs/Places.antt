@@ -8,7 +8,7 @@ use Rattle.std.proofs.lemmas.Map.Keys.{below_from_sorted, sorted_from_strictly_i
 use Rattle.hg_pages.specs.Marks.{AreMarks, ArePagesRising, AreSlotsDistinct, IsInOrder, is_named}
 use Rattle.hg_pages.specs.Tables.{AreEntries, slot_in}
 use Rattle.hg_pages.proofs.Parting.{not_true, set_one}
-use Rattle.hg_pages.proofs.Rising.{below_apart, each_at, each_of, equal, if_false, if_true, none_above}
+use Rattle.hg_pages.proofs.Rising.{named_by, below_apart, each_at, each_of, equal, if_false, if_true, none_above}
 
 map_length : {X : Type 0} (f : (ℕ × ℕ) → X) (es : List (ℕ × ℕ)) → length (map f es) ≡ length es
 map_length f [] = refl
@@ -148,3 +148,18 @@ marks_more es i d marks lt within are =
     let e = get_or es i d in
     let before : AreMarks marks (take i es ++ []) = subst (λ (l : List (ℕ × ℕ)). AreMarks marks l) (sym (append-nil (take i es))) are in
     subst (λ (l : List (ℕ × ℕ)). AreMarks (set marks e.1 true) l) (sym (take_more es i d lt)) (λ other. set_one e.0 e.1 other (e.1 == other) (take i es) [] marks refl within before)
+
+-- no slot has two pages
+pub once : (es : List (ℕ × ℕ)) (page other slot : ℕ) → AreSlotsDistinct es → slot_in es page ≡ Some slot → slot_in es other ≡ Some slot → page ≡ other
+once [] page other slot distinct one two = absurd (cc one)
+once (e ∷ es) page other slot distinct one two = first (e.0 == page) (e.0 == other) refl refl one two (once es page other slot distinct.1)
+  where
+    again : (p : ℕ) → Some e.1 ≡ Some slot → slot_in es p ≡ Some slot → ⊥
+    again p here there = let same : e.1 ≡ slot = cc here in absurd (cc (sym distinct.0 ∙ ap (λ (s : ℕ). is_named es s) same ∙ named_by es p slot there))
+
+    first : (here also : Bool) → (e.0 == page) ≡ here → (e.0 == other) ≡ also → (if here then Some e.1 else slot_in es page) ≡ Some slot → (if also then Some e.1 else slot_in es other) ≡ Some slot
+        → (slot_in es page ≡ Some slot → slot_in es other ≡ Some slot → page ≡ other) → page ≡ other
+    first true true test tests is are rest = sym (equal e.0 page test) ∙ equal e.0 other tests
+    first true false test tests is are rest = absurd (again other is are)
+    first false true test tests is are rest = absurd (again page are is)
+    first false false test tests is are rest = rest is are

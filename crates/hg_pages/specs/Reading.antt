@@ -1,4 +1,4 @@
--- Bytes as a cell, without a look at whether they spell one. No promise to a caller rests on this.
+-- Bytes as a cell, without a look at whether they spell one.
 use Rattle.std.specs.Prelude.{ℕ, ◌+◌, ◌*◌, ◌==◌, List, take, drop, get_or, if◌then◌else◌}
 use Rattle.std.specs.Int.{w32, from_be_bytes}
 use Rattle.hg_cells.specs.declared.cell.Cell.{Cell}

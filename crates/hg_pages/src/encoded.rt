@@ -1,9 +1,12 @@
 //! A page as the bytes of its slot.
-ghost use Rattle.std.specs.Prelude.{◌≡◌, ◌<◌, ◌^◌, length, IfOk};
-ghost use Rattle.hg_pages.specs.Slots.{IsSlot, slot_text};
+ghost use Rattle.std.specs.Prelude.{◌≡◌, ◌<◌, ◌^◌, ◌↔◌, length, IfOk, IsTrue};
+ghost use Rattle.hg_pages.specs.Reading.{cell_bytes};
+ghost use Rattle.hg_pages.specs.Slots.{CellFits, IsSlot, cell_text, slot_text};
+ghost use Rattle.std.specs.List.{AllByRecursion};
 
-use crate::cell::bytes_of;
-use hg_cells::{PAGE_WORDS, Page};
+use crate::cell::{CELL_LEN, bytes_of};
+use crate::decoded::page_in;
+use hg_cells::{Cell, PAGE_WORDS, Page};
 use std::alloc::{AllocError, Global};
 use std::marker::Model;
 
@@ -58,6 +61,46 @@ impl EncodedPage {
     {
         &self.bytes
     }
+
+    /// Whether these are the bytes of the page with these cells. Takes no memory.
+    pub fn has(&self, cells: &Page) -> bool
+        ensures bytes { IsTrue result ↔ (self.now.bytes ≡ slot_text self.now.page cells.now) }
+        ensures slot { self.now.page < 2 ^ 54 → IsTrue result → IsSlot self.now.page cells.now self.now.bytes }
+    {
+        is_text(&self.bytes, self.page, cells)
+    }
+}
+
+// Whether the cell of a word is spelled so.
+fn has_cell(bytes: &[u8], word: usize, cell: Cell) -> bool
+    requires word { word < 256 }
+    requires length { length bytes.now ≡ SLOT_LEN }
+    ensures spelled { IsTrue result ↔ (cell_bytes bytes.now word ≡ cell_text cell) }
+    ensures fits { CellFits cell }
+{
+    let at = 8 + CELL_LEN * word;
+    let spelling = bytes_of(cell);
+    let part = &bytes[at..at + CELL_LEN];
+    part == spelling.as_slice()
+}
+
+// Whether these are the bytes of a page.
+fn is_text(bytes: &[u8], page: u64, cells: &Page) -> bool
+    requires { length bytes.now ≡ SLOT_LEN }
+    ensures spelled { IsTrue result ↔ (bytes.now ≡ slot_text page cells.now) }
+    ensures words { length cells.now ≡ 256 }
+    ensures fit { IsTrue result → AllByRecursion CellFits cells.now }
+{
+    let _lowest = cells.get(0);
+    if page_in(bytes) != page {
+        return false;
+    }
+    for word in 0..PAGE_WORDS {
+        if !has_cell(bytes, word, cells.get(word)) {
+            return false;
+        }
+    }
+    true
 }
 
 /// A page as the bytes of its slot. The only error is want of memory, of which it takes 3,080 bytes.

@@ -4,7 +4,7 @@ ghost use Rattle.std.specs.Prelude.{◌≤◌};
 
 use crossbeam_channel::Receiver;
 use hg_desk::desk::Desk;
-use hg_desk::share::{Column, Share};
+use hg_desk::share::{Column, Opening, Share};
 use hg_desk::shared::Shared;
 use hg_desk::tasks::AskTask;
 use hg_disk::Disk;
@@ -80,7 +80,7 @@ impl Talk {
 
     /// Answers a frame under one hold of the lock, and holds the reply back. Tells whether the conversation goes on: it ends at a
     /// Bye, and where no memory is left for the reply.
-    fn answer<D: Disk, A: Column, B: Column, R: Wait>(
+    fn answer<D: Disk, A: Opening, B: Column, R: Wait>(
         &mut self,
         rt: &R,
         alloc: Global,
@@ -116,7 +116,7 @@ impl Talk {
     }
 
     /// Answers frames, each under a hold of its own.
-    fn answer_all<D: Disk, A: Column, B: Column, S: Write, G: Gate, R: Wait>(
+    fn answer_all<D: Disk, A: Opening, B: Column, S: Write, G: Gate, R: Wait>(
         &mut self,
         rt: &R,
         alloc: Global,
@@ -142,7 +142,7 @@ impl Talk {
     }
 
     /// Takes a piece of what a client sent: answers its frames, and a fault behind them.
-    fn take<D: Disk, A: Column, B: Column, S: Write, G: Gate, R: Wait>(
+    fn take<D: Disk, A: Opening, B: Column, S: Write, G: Gate, R: Wait>(
         &mut self,
         rt: &R,
         alloc: Global,
@@ -173,7 +173,7 @@ impl Talk {
 }
 
 /// Holds one conversation to its end: until the client ends it, or breaks its rules, or the connection fails, or the gate says stop.
-fn converse<D: Disk, A: Column, B: Column, S: Read + Write + Drop, G: Gate, R: Wait>(
+fn converse<D: Disk, A: Opening, B: Column, S: Read + Write + Drop, G: Gate, R: Wait>(
     rt: &R,
     alloc: Global,
     shared: &Shared<D, A, B>,
@@ -207,7 +207,7 @@ fn converse<D: Disk, A: Column, B: Column, S: Read + Write + Drop, G: Gate, R: W
 /// Where memory is refused for a piece of 64 KiB no conversation is held.
 ///
 /// It waits for the lock, for connections, and in reads and writes.
-pub fn worker<D: Disk, A: Column, B: Column, S: Read + Write + Drop, G: Gate, R: Wait>(
+pub fn worker<D: Disk, A: Opening, B: Column, S: Read + Write + Drop, G: Gate, R: Wait>(
     rt: &R,
     alloc: Global,
     shared: &Shared<D, A, B>,

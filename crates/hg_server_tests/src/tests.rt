@@ -5,9 +5,10 @@ ghost use Rattle.hg_model.specs.Change.{empty_content};
 ghost use Rattle.hg_model.specs.Contents.{Content};
 ghost use Rattle.hg_model.specs.ThreadSets.{HasThreadSets};
 ghost use Rattle.hg_detect.specs.Memory.{content_of};
+ghost use Rattle.hg_desk.specs.Going.{seen};
 ghost use Rattle.hg_store.specs.Store.{Backs, IsFresh};
 
-use hg_desk::share::Column;
+use hg_desk::share::{Column, Opening};
 use hg_desk::shared::{Shared, gather};
 use hg_disk::{Disk, MemDisk};
 use hg_frames::frame::Frame;
@@ -116,7 +117,7 @@ fn count(alloc: Global, store: &mut Store<MemDisk>, late: u64, told: u64) -> Opt
 }
 
 /// Has two workers hold the two conversations over a store, and takes them in.
-fn run_both<A: Column + Send + Sync, B: Column + Send + Sync, R: Threads + Wait + Sync>(
+fn run_both<A: Opening + Send + Sync, B: Column + Send + Sync, R: Threads + Wait + Sync>(
     rt: &R,
     alloc: Global,
     store: Store<MemDisk>,
@@ -128,6 +129,7 @@ fn run_both<A: Column + Send + Sync, B: Column + Send + Sync, R: Threads + Wait 
     requires accepted { (accepted.name ≡ A.name) × (accepted.parts ≡ A.parts) × (accepted.parts ≡ 2) }
     requires durable { (durable.name ≡ B.name) × (durable.parts ≡ B.parts) × (durable.parts ≡ 2) }
     requires opening { ((content_of store.detector).events ≡ A.opening) × (store.durable ≡ B.opening) }
+    requires start { IfSome A.start (λ start. start ≡ seen ⟦<MemDisk as Disk>⟧ store) }
     requires backs { IsTrue ⟦<MemDisk as Disk>⟧.is_honest → (d : Content) × Backs ⟦<MemDisk as Disk>⟧ store d }
     requires small { HasThreadSets (content_of store.detector) }
 {

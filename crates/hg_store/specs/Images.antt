@@ -25,6 +25,15 @@ pub record HasContent (image : Image) (c : Content) : Type 0 where
   pub journal : IsJournal image.journal events
   pub gives : followed empty_content events ≡ Some c
 
+-- The image has the content after a front of the events that lead from the first content to the last.
+pub record IsOn (first last : Content) (image : Image) : Type 0 where
+  pub content : Content
+  pub has : HasContent image content
+  pub front : List Named
+  pub back : List Named
+  pub before : followed first front ≡ Some content
+  pub behind : followed content back ≡ Some last
+
 module _ {D : Type 0} (g : disk.Ghosts D) where
   -- what a crash may leave of the devices from one moment of each to another, each device by itself
   pub record MayLeaveAll (old new : Devices D) (image : Image) : Type 0 where

@@ -28,6 +28,23 @@ impl<R> Model for Input<R> {
     ghost view = { λ a. record { stream = a.stream; calls = a.calls } };
 }
 
+impl<R> Input<R> {
+    /// The reader itself, to look at.
+    pub fn stream(&self) -> &R
+        ensures { result.now ≡ self.now.stream }
+    {
+        &self.stream
+    }
+
+    /// The reader itself, back again.
+    pub fn into_stream(self) -> R
+        ensures { result ≡ self.stream }
+    {
+        let Input { stream, calls: _ } = self;
+        stream
+    }
+}
+
 impl<R: Read> Input<R> {
     /// Of a reader that was not called yet.
     pub fn new(stream: R) -> Input<R>

@@ -4,6 +4,7 @@ pub mod WholeLemmas
 pub mod WordLemmas
 pub mod VerbLemmas
 pub mod LineLemmas
+pub mod DiagnosisLemmas
 pub mod OperandLemmas
 pub mod EventLemmas
 pub mod CountLemmas

@@ -80,7 +80,7 @@ all_words (word ∷ words) h t = let p = and_parts _ _ t in ((ltb-true _ _ p.0, 
 
 -- ---- the whole line
 
-fits : (bytes : List ℕ) → length bytes ≤ 256 → line_of bytes ≡ of_words (words_of bytes)
+pub fits : (bytes : List ℕ) → length bytes ≤ 256 → line_of bytes ≡ of_words (words_of bytes)
 unfolding line_of
 fits bytes short = cond-false _ _ _ (le-ltb _ _ short)
 

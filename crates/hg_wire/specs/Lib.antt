@@ -2,6 +2,7 @@ pub mod Words
 pub mod Numbers
 pub mod Verbs
 pub mod Lines
+pub mod Diagnoses
 pub mod InFront
 pub mod Accesses
 pub mod Readings

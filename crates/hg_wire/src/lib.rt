@@ -1,14 +1,15 @@
 //! The language of bytes: the text of traces and reports.
 #![tactic(auto)]
 
+pub mod diagnosis;
 mod held;
 pub mod laws;
 pub mod line;
 pub mod lines;
-mod number;
+pub mod number;
 mod operands;
 pub mod reader;
 pub mod report;
 pub mod splitter;
-mod verb;
+pub mod verb;
 mod words;

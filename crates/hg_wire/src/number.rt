@@ -1,8 +1,9 @@
 //! Numbers of the trace text.
 
-ghost use Rattle.std.specs.Prelude.{◌≡◌, ◌≤◌, IfSome, length, drop};
-ghost use Rattle.std.specs.Char.{digit_value};
-ghost use Rattle.hg_wire.specs.Numbers.{numeral};
+ghost use Rattle.std.specs.Prelude.{◌≡◌, ◌≤◌, IfSome, is_some, length, drop};
+ghost use Rattle.std.specs.Char.{digit_value, is_digit};
+ghost use Rattle.std.specs.List.{list_all};
+ghost use Rattle.hg_wire.specs.Numbers.{number_of, numeral};
 ghost use Rattle.hg_wire.specs.InFront.{HasRun, HasNumeral, HasNumber, IsFourDigits};
 ghost use Rattle.hg_wire.specs.Lines.{fitting, operand_of};
 
@@ -161,5 +162,32 @@ pub fn number_of_word(word: &[u8]) -> Option<u64>
     match word {
         [b'0', b'x', digits @ ..] => number_of_numeral(16, 16, digits),
         _ => number_of_numeral(10, 20, word),
+    }
+}
+
+/// Whether each byte is a digit of the base.
+fn are_digits(base: u8, bytes: &[u8]) -> bool
+    ensures { result ≡ list_all (λ c. is_digit c base) bytes.now }
+{
+    bytes.iter().all(|byte| value_of_digit(*byte) < base)
+}
+
+/// Whether the digits are a numeral of at most `most` digits.
+fn is_numeral(base: u8, most: usize, digits: &[u8]) -> bool
+    ensures { result ≡ is_some (numeral base most digits.now) }
+{
+    if digits.len() > most || digits.is_empty() {
+        return false;
+    }
+    are_digits(base, digits)
+}
+
+/// Whether a word spells a number, be it too great for 64 bits.
+pub fn is_number(word: &[u8]) -> bool
+    ensures { result ≡ is_some (number_of word.now) }
+{
+    match word {
+        [b'0', b'x', digits @ ..] => is_numeral(16, 16, digits),
+        _ => is_numeral(10, 20, word),
     }
 }

@@ -53,6 +53,18 @@ impl Verb {
         }
     }
 
+    /// The width in bits of each of its operands.
+    pub fn widths(self) -> &'static [u8]
+        ensures { result.now ≡ (row_of self).widths }
+    {
+        let verb = self;
+        match verb {
+            Verb::Fork | Verb::Join | Verb::Lock | Verb::RdLock | Verb::Unlock => &[16, 16],
+            Verb::Read | Verb::Write => &[16, 64, 8],
+            Verb::Alloc | Verb::Free => &[16, 64, 16],
+        }
+    }
+
     /// What follows the verb in bytes that begin with it.
     #[inline(always)]
     pub fn after(self, bytes: &[u8]) -> Option<&[u8]>

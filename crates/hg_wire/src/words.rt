@@ -1,6 +1,6 @@
 //! The words of a line, and the first of its faults.
 
-ghost use Rattle.std.specs.Prelude.{◌≡◌, [], ◌∷◌, ℕ, List, ◌<◌, length, false, MatchOption, position, ◌==◌};
+ghost use Rattle.std.specs.Prelude.{◌≡◌, [], ◌∷◌, ℕ, List, ◌<◌, length, false, MatchOption, IfSome, position, ◌==◌};
 ghost use Rattle.hg_wire.specs.Lines.{words_of, words_after, are_counted, operand_of, operands_of, result_map, of_verb, line_of};
 ghost use Rattle.hg_wire.specs.Verbs.{pair_widths, access_widths, block_widths};
 
@@ -16,8 +16,9 @@ fn first_space(line: &[u8]) -> Option<usize>
 }
 
 /// The first word of a line, and what follows the space after it, if there is one.
-fn split_word(line: &[u8]) -> (&[u8], Option<&[u8]>)
-    ensures { words_of line.now ≡ result.0.now ∷ words_after result.1 }
+pub(crate) fn split_word(line: &[u8]) -> (&[u8], Option<&[u8]>)
+    ensures words { words_of line.now ≡ result.0.now ∷ words_after result.1 }
+    ensures shorter { IfSome result.1 (λ rest. length rest.now < length line.now) }
 {
     match first_space(line) {
         None => (line, None),
@@ -61,7 +62,7 @@ fn three_words(words: Option<&[u8]>) -> Option<(&[u8], &[u8], &[u8])>
     Some((first, second, third))
 }
 
-fn short_of_word(word: &[u8]) -> Option<u16>
+pub(crate) fn short_of_word(word: &[u8]) -> Option<u16>
     ensures { result ≡ operand_of 16 word.now }
 {
     let value = number_of_word(word)?;
@@ -71,7 +72,7 @@ fn short_of_word(word: &[u8]) -> Option<u16>
     Some(value as u16)
 }
 
-fn byte_of_word(word: &[u8]) -> Option<u8>
+pub(crate) fn byte_of_word(word: &[u8]) -> Option<u8>
     ensures { result ≡ operand_of 8 word.now }
 {
     let value = number_of_word(word)?;

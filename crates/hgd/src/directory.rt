@@ -5,11 +5,11 @@ ghost use Rattle.std.specs.Prelude.{◌≡◌, ◌⊎◌, IfErr};
 use hg_disk::FileDisk;
 use hg_model::verdict::Refusal;
 use hg_store::devices::Devices;
-use std::fs;
-use std::fs::{File, OpenOptions};
+use std::fs::{File, OpenOptions, TryLockError};
 use std::io::ErrorKind;
 use std::os::fd::AsRawFd;
 use std::string::String;
+use std::{fs, io};
 
 /// What a command does to a store.
 #[derive(Clone, Copy, Debug, PartialEq, Eq, Drop)]
@@ -22,13 +22,43 @@ pub enum Access {
     Look,
 }
 
+/// Why a store's files can't be used: with which refusal that ends, at which of them, and what the system said.
+#[derive(Clone, Copy, Drop)]
+pub struct OpenFault {
+    pub refusal: Refusal,
+    pub name: &'static str,
+    pub error: Option<io::Error>,
+}
+
+/// A fault of a device.
+fn failed(name: &'static str, error: io::Error) -> OpenFault
+    ensures { result.refusal ≡ Refusal.DeviceFault }
+{
+    OpenFault {
+        refusal: Refusal::DeviceFault,
+        name,
+        error: Some(error),
+    }
+}
+
+/// Want of memory.
+fn out_of_memory(name: &'static str) -> OpenFault
+    ensures { result.refusal ≡ Refusal.OutOfMemory }
+{
+    OpenFault {
+        refusal: Refusal::OutOfMemory,
+        name,
+        error: None,
+    }
+}
+
 /// The file `name` of a directory, as text for the system.
-fn path_of(rt: &HostRuntime, directory: &str, name: &str) -> Result<String, Refusal>
-    ensures { IfErr result (λ r. r ≡ Refusal.OutOfMemory) }
+fn path_of(rt: &HostRuntime, directory: &str, name: &'static str) -> Result<String, OpenFault>
+    ensures { IfErr result (λ f. f.refusal ≡ Refusal.OutOfMemory) }
 {
     match format!(in rt.alloc(); "{directory}/{name}") {
         Ok(path) => Ok(path),
-        Err(_) => Err(Refusal::OutOfMemory),
+        Err(_) => Err(out_of_memory(name)),
     }
 }
 
@@ -36,10 +66,10 @@ fn path_of(rt: &HostRuntime, directory: &str, name: &str) -> Result<String, Refu
 fn open_file(
     rt: &HostRuntime,
     directory: &str,
-    name: &str,
+    name: &'static str,
     access: Access,
-) -> Result<Option<File>, Refusal>
-    ensures { IfErr result (λ r. (r ≡ Refusal.DeviceFault) ⊎ (r ≡ Refusal.OutOfMemory)) }
+) -> Result<Option<File>, OpenFault>
+    ensures { IfErr result (λ f. (f.refusal ≡ Refusal.DeviceFault) ⊎ (f.refusal ≡ Refusal.OutOfMemory)) }
 {
     let path = path_of(rt, directory, name)?;
     let mut options = OpenOptions::new();
@@ -51,7 +81,10 @@ fn open_file(
         Ok(file) => {
             // Descriptors 0 to 2 belong to the standard streams, even where they are closed.
             if file.as_raw_fd() <= 2 {
-                return Err(Refusal::DeviceFault);
+                return Err(failed(
+                    name,
+                    io::Error::other("it got the descriptor of a closed standard stream"),
+                ));
             }
             Ok(Some(file))
         }
@@ -59,14 +92,14 @@ fn open_file(
             if error.kind() == ErrorKind::NotFound && fs::metadata(rt, directory).is_ok() {
                 return Ok(None);
             }
-            Err(Refusal::DeviceFault)
+            Err(failed(name, error))
         }
     }
 }
 
 /// Locks a file for what is done to its store, at once or not at all.
-fn lock(file: &File, access: Access) -> Result<(), Refusal>
-    ensures { IfErr result (λ r. r ≡ Refusal.DeviceFault) }
+fn lock(file: &File, access: Access) -> Result<(), OpenFault>
+    ensures { IfErr result (λ f. f.refusal ≡ Refusal.DeviceFault) }
 {
     let locked = match access {
         Access::Look => file.try_lock_shared(),
@@ -74,44 +107,48 @@ fn lock(file: &File, access: Access) -> Result<(), Refusal>
     };
     match locked {
         Ok(()) => Ok(()),
-        Err(_) => Err(Refusal::DeviceFault),
+        Err(TryLockError::WouldBlock) => {
+            let error = io::Error::new(ErrorKind::WouldBlock, "another program uses the store");
+            Err(failed("journal", error))
+        }
+        Err(TryLockError::Error(error)) => Err(failed("journal", error)),
     }
 }
 
 /// A file as a device. One that is missing has no byte.
-fn device(file: Option<File>) -> Result<FileDisk, Refusal>
-    ensures { IfErr result (λ r. r ≡ Refusal.DeviceFault) }
+fn device(name: &'static str, file: Option<File>) -> Result<FileDisk, OpenFault>
+    ensures { IfErr result (λ f. f.refusal ≡ Refusal.DeviceFault) }
 {
     match file {
         Some(file) => match FileDisk::new(file) {
             Ok(disk) => Ok(disk),
-            Err(_) => Err(Refusal::DeviceFault),
+            Err(error) => Err(failed(name, error)),
         },
         None => Ok(FileDisk::missing()),
     }
 }
 
 /// Opens the journal, and locks it before anything of it is read.
-fn open_journal(rt: &HostRuntime, directory: &str, access: Access) -> Result<FileDisk, Refusal>
-    ensures { IfErr result (λ r. (r ≡ Refusal.DeviceFault) ⊎ (r ≡ Refusal.OutOfMemory)) }
+fn open_journal(rt: &HostRuntime, directory: &str, access: Access) -> Result<FileDisk, OpenFault>
+    ensures { IfErr result (λ f. (f.refusal ≡ Refusal.DeviceFault) ⊎ (f.refusal ≡ Refusal.OutOfMemory)) }
 {
     let file = open_file(rt, directory, "journal", access)?;
     if let Some(file) = &file {
         lock(file, access)?;
     }
-    device(file)
+    device("journal", file)
 }
 
 /// Opens another file than the journal.
 fn open_other(
     rt: &HostRuntime,
     directory: &str,
-    name: &str,
+    name: &'static str,
     access: Access,
-) -> Result<FileDisk, Refusal>
-    ensures { IfErr result (λ r. (r ≡ Refusal.DeviceFault) ⊎ (r ≡ Refusal.OutOfMemory)) }
+) -> Result<FileDisk, OpenFault>
+    ensures { IfErr result (λ f. (f.refusal ≡ Refusal.DeviceFault) ⊎ (f.refusal ≡ Refusal.OutOfMemory)) }
 {
-    device(open_file(rt, directory, name, access)?)
+    device(name, open_file(rt, directory, name, access)?)
 }
 
 /// Opens the files.
@@ -119,8 +156,8 @@ fn open_files(
     rt: &HostRuntime,
     directory: &str,
     access: Access,
-) -> Result<Devices<FileDisk>, Refusal>
-    ensures { IfErr result (λ r. (r ≡ Refusal.DeviceFault) ⊎ (r ≡ Refusal.OutOfMemory)) }
+) -> Result<Devices<FileDisk>, OpenFault>
+    ensures { IfErr result (λ f. (f.refusal ≡ Refusal.DeviceFault) ⊎ (f.refusal ≡ Refusal.OutOfMemory)) }
 {
     Ok(Devices {
         journal: open_journal(rt, directory, access)?,
@@ -140,8 +177,8 @@ pub fn open_directory(
     rt: &HostRuntime,
     directory: &str,
     access: Access,
-) -> Result<Devices<FileDisk>, Refusal>
-    ensures { IfErr result (λ r. (r ≡ Refusal.DeviceFault) ⊎ (r ≡ Refusal.OutOfMemory)) }
+) -> Result<Devices<FileDisk>, OpenFault>
+    ensures { IfErr result (λ f. (f.refusal ≡ Refusal.DeviceFault) ⊎ (f.refusal ≡ Refusal.OutOfMemory)) }
 {
     let first = File::open(rt, "/dev/null");
     let second = File::open(rt, "/dev/null");
@@ -152,22 +189,23 @@ pub fn open_directory(
 }
 
 /// Makes a directory's names durable.
-fn sync_directory(rt: &HostRuntime, path: &str) -> Result<(), Refusal>
-    ensures { IfErr result (λ r. r ≡ Refusal.DeviceFault) }
+fn sync_directory(rt: &HostRuntime, path: &str) -> Result<(), OpenFault>
+    ensures { IfErr result (λ f. f.refusal ≡ Refusal.DeviceFault) }
 {
-    let Ok(directory) = File::open(rt, path) else {
-        return Err(Refusal::DeviceFault);
+    let directory = match File::open(rt, path) {
+        Ok(directory) => directory,
+        Err(error) => return Err(failed("the folder", error)),
     };
     match directory.sync_all() {
         Ok(()) => Ok(()),
-        Err(_) => Err(Refusal::DeviceFault),
+        Err(error) => Err(failed("the folder", error)),
     }
 }
 
 /// Makes a directory where there is none, and opens its files as `open_directory` does, made where they are missing. Their
 /// names, and that of the directory, are then durable.
-pub fn make_directory(rt: &HostRuntime, directory: &str) -> Result<Devices<FileDisk>, Refusal>
-    ensures { IfErr result (λ r. (r ≡ Refusal.DeviceFault) ⊎ (r ≡ Refusal.OutOfMemory)) }
+pub fn make_directory(rt: &HostRuntime, directory: &str) -> Result<Devices<FileDisk>, OpenFault>
+    ensures { IfErr result (λ f. (f.refusal ≡ Refusal.DeviceFault) ⊎ (f.refusal ≡ Refusal.OutOfMemory)) }
 {
     // Where it can't be made, its files can't be opened.
     let _ = fs::create_dir(rt, directory);

@@ -2,23 +2,23 @@
 #![tactic(auto)]
 
 pub mod directory;
+pub mod events;
+pub mod stores;
+pub mod texts;
+pub mod told;
 
-ghost use Rattle.std.specs.Prelude.{◌≡◌, ◌⊎◌};
-
-use crate::directory::{Access, make_directory, open_directory};
-use hg_check::commands::{check, graph};
+use crate::directory::{Access, open_directory};
+use crate::stores::{create_in, explain_in, feed_in, graph_in, reports_in};
+use crate::texts::{check_input, explain_input, graph_input};
+use crate::told::{FAULT, fail, fail_to_open};
 use hg_check::telling::tell;
-use hg_commands::creating::create_store;
-use hg_commands::feeding::feed;
-use hg_commands::listing::{store_graph, store_reports};
 use hg_disk::FileDisk;
 use hg_model::verdict::Refusal;
 use hg_options::reading::read;
-use hg_options::task::{Frames, Misread, Serving, Source, StoreTask, Task};
+use hg_options::task::{Misread, Serving, StoreTask, Task};
 use hg_server::serving::{Plan, serve};
 use hg_server::worker::OpenGate;
 use hg_store::devices::Devices;
-use hg_streams::input::Input;
 use hg_streams::output::Output;
 use std::alloc::Global;
 use std::env;
@@ -29,25 +29,20 @@ use std::sync::Wait;
 use std::thread::Threads;
 use std::time::{Clock, Duration};
 
-/// The status of a fault.
-const FAULT: u8 = 3;
-
 /// The status of a bad command line.
 const BAD_COMMAND_LINE: u8 = 4;
 
-/// Tells a fault on standard error.
-fn fail(rt: &HostRuntime, refusal: Refusal) -> u8
-    requires { (refusal ≡ Refusal.DeviceFault) ⊎ (refusal ≡ Refusal.OutOfMemory) }
-{
-    tell(refusal, &mut Output::new(rt.stderr()));
-    FAULT
-}
-
 /// Prints what is told of a command line that asks for nothing else, and answers the status.
-fn explain(rt: &HostRuntime, misread: &Misread) -> u8 {
+fn tell_misread(rt: &HostRuntime, misread: &Misread) -> u8 {
     let (printed, status) = match misread {
         Misread::Help(text) => (rt.print(text), 0),
         Misread::Bad(text) => (rt.eprint(text), BAD_COMMAND_LINE),
+        Misread::BadAddress => (
+            rt.eprint(
+                "error: ADDRESS is no number from 0 to 2^64-1, in decimal or in hexadecimal after 0x\n",
+            ),
+            BAD_COMMAND_LINE,
+        ),
         Misread::Incomplete => (
             rt.eprint("error: the command lacks an argument\n"),
             BAD_COMMAND_LINE,
@@ -57,78 +52,6 @@ fn explain(rt: &HostRuntime, misread: &Misread) -> u8 {
     if printed.is_err() {
         return fail(rt, Refusal::DeviceFault);
     }
-    status
-}
-
-/// Checks the trace on standard input.
-fn check_input(rt: &HostRuntime) -> u8 {
-    let mut input = Input::new(rt.stdin());
-    let mut output = Output::new(rt.stdout());
-    let mut faults = Output::new(rt.stderr());
-    check(rt.alloc(), &mut input, &mut output, &mut faults)
-}
-
-/// Prints the segments of the trace on standard input.
-fn graph_input(rt: &HostRuntime) -> u8 {
-    let mut input = Input::new(rt.stdin());
-    let mut output = Output::new(rt.stdout());
-    let mut faults = Output::new(rt.stderr());
-    graph(rt.alloc(), &mut input, &mut output, &mut faults)
-}
-
-/// Makes the store in a directory.
-fn create_in(rt: &HostRuntime, directory: &str) -> u8 {
-    let devices = match make_directory(rt, directory) {
-        Ok(devices) => devices,
-        Err(refusal) => return fail(rt, refusal),
-    };
-    let mut output = Output::new(rt.stdout());
-    let mut faults = Output::new(rt.stderr());
-    create_store(rt.alloc(), devices, &mut output, &mut faults).status
-}
-
-/// Feeds the trace on standard input to the store in a directory.
-fn feed_in(rt: &HostRuntime, directory: &str, source: Source, frames: Frames) -> u8 {
-    let devices = match open_directory(rt, directory, Access::Change) {
-        Ok(devices) => devices,
-        Err(refusal) => return fail(rt, refusal),
-    };
-    let mut input = Input::new(rt.stdin());
-    let mut output = Output::new(rt.stdout());
-    let mut faults = Output::new(rt.stderr());
-    feed(
-        rt.alloc(),
-        devices,
-        source.number,
-        frames.pages,
-        &mut input,
-        &mut output,
-        &mut faults,
-    )
-    .status
-}
-
-/// Prints the reports of the store in a directory.
-fn reports_in(rt: &HostRuntime, directory: &str, frames: Frames) -> u8 {
-    let devices = match open_directory(rt, directory, Access::Look) {
-        Ok(devices) => devices,
-        Err(refusal) => return fail(rt, refusal),
-    };
-    let mut output = Output::new(rt.stdout());
-    let mut faults = Output::new(rt.stderr());
-    let (status, _) = store_reports(rt.alloc(), devices, frames.pages, &mut output, &mut faults);
-    status
-}
-
-/// Prints the segments of the store in a directory.
-fn graph_in(rt: &HostRuntime, directory: &str) -> u8 {
-    let devices = match open_directory(rt, directory, Access::Look) {
-        Ok(devices) => devices,
-        Err(refusal) => return fail(rt, refusal),
-    };
-    let mut output = Output::new(rt.stdout());
-    let mut faults = Output::new(rt.stderr());
-    let (status, _) = store_graph(rt.alloc(), devices, 64, &mut output, &mut faults);
     status
 }
 
@@ -150,9 +73,14 @@ enum Outcome<'a> {
 fn perform_on_store<'a>(rt: &HostRuntime, directory: &'a str, task: StoreTask) -> Outcome<'a> {
     let status = match task {
         StoreTask::Create => create_in(rt, directory),
-        StoreTask::Feed { source, frames } => feed_in(rt, directory, source, frames),
-        StoreTask::Reports { frames } => reports_in(rt, directory, frames),
-        StoreTask::Graph => graph_in(rt, directory),
+        StoreTask::Feed {
+            source,
+            frames,
+            verbose,
+        } => feed_in(rt, directory, source, frames, verbose),
+        StoreTask::Reports { frames, verbose } => reports_in(rt, directory, frames, verbose),
+        StoreTask::Graph { verbose } => graph_in(rt, directory, verbose),
+        StoreTask::Explain { explaining } => explain_in(rt, directory, explaining),
         StoreTask::Serve { serving } => return Outcome::Serve { directory, serving },
     };
     Outcome::Done { status }
@@ -164,16 +92,19 @@ fn perform<'a>(rt: &HostRuntime, words: &'a [String]) -> Outcome<'a> {
         Ok(task) => task,
         Err(misread) => {
             return Outcome::Done {
-                status: explain(rt, &misread),
+                status: tell_misread(rt, &misread),
             };
         }
     };
     match task {
-        Task::Check => Outcome::Done {
-            status: check_input(rt),
+        Task::Check { verbose } => Outcome::Done {
+            status: check_input(rt, verbose),
         },
-        Task::Graph => Outcome::Done {
-            status: graph_input(rt),
+        Task::Graph { verbose } => Outcome::Done {
+            status: graph_input(rt, verbose),
+        },
+        Task::Explain { explaining } => Outcome::Done {
+            status: explain_input(rt, explaining),
         },
         Task::OnStore { directory, task } => perform_on_store(rt, directory, task),
     }
@@ -239,7 +170,7 @@ fn main(rt: HostRuntime) -> ExitCode {
                                     &mut faults,
                                 )
                             }
-                            Err(refusal) => fail(&rt, refusal),
+                            Err(fault) => fail_to_open(&rt, &fault, false),
                         }
                     }
                 },

@@ -4,7 +4,7 @@ use Rattle.hg_detect.specs.Accessing.{access_event}
 use Rattle.hg_detect.specs.Memory.{content_of}
 use Rattle.hg_check.specs.Checking.{LeadsTo}
 use Rattle.hg_check.specs.Running.{WasOffered}
-use Rattle.hg_check.proofs.Steps.{accepted_grows, counted, few_after, few_same, leads_back, leads_on, leads_to_end, refused_grows, reports_grow}
+use Rattle.hg_check.proofs.Steps.{accepted_grows, content_after, counted, few_after, few_same, leads_back, leads_on, leads_to_end, refused_grows, reports_grow}
 use Rattle.hg_check.proofs.checker.apply_access.Goals as goal
 
 taken : (c : goal.In-Ok) → WasOffered c.args.detector.now c.offer_access.new.detector (access_event c.args.found.now.is_write c.args.found.now.access) (Ok c.in-Ok.field-0)
@@ -47,3 +47,7 @@ returns-in-Err-clause-front c later last end few h =
 pub returns-in-Err-clause-few : goal.returns-in-Err-clause-few
 returns-in-Err-clause-few c few =
     few_same c.args.detector.now c.offer_access.new.detector (access_event c.args.found.now.is_write c.args.found.now.access) c.in-Err.cause (subst (λ r. WasOffered c.args.detector.now c.offer_access.new.detector (access_event c.args.found.now.is_write c.args.found.now.access) r) c.in-Err.is c.offer_access.ensures) few
+
+pub returns-in-Ok-clause-content : goal.returns-in-Ok-clause-content
+returns-in-Ok-clause-content c same =
+    content_after c.args.detector.now c.offer_access.new.detector (access_event c.args.found.now.is_write c.args.found.now.access) c.in-Ok.field-0 (taken c)

@@ -1,6 +1,5 @@
-use Rattle.std.proofs.Common.{◌≡◌, ◌∙◌, ap, codes, rules, IfOk}
+use Rattle.std.proofs.Common.{ap}
 use Rattle.std.proofs.lemmas.Result.{IfOk-weaker}
-use Rattle.clap.specs.Words.{app_of, new_app}
 use Rattle.hg_options.proofs.Adding.{with_one}
 use Rattle.hg_options.proofs.commands.serve.Goals as goal
 

@@ -1,4 +1,4 @@
-use Rattle.std.proofs.Common.{◌≡◌, ◌∙◌, sym, codes}
+use Rattle.std.proofs.Common.{◌∙◌, sym, codes}
 use Rattle.clap.specs.Words.{found_of}
 use Rattle.clap.proofs.WalkLemmas.{first_value-rows}
 use Rattle.hg_options.proofs.matches.task.Goals as goal
@@ -7,6 +7,5 @@ pub returns-in_ok-task-in-Some : goal.returns-in_ok-task-in-Some
 returns-in_ok-task-in-Some c =
     (sym (first_value-rows (found_of c.args.given.now) (codes "DIR")) ∙ sym c.in-Some.ensures, c.in_ok-task-in-Some.ensures)
 
-pub returns-in-graph : goal.returns-in-graph
-returns-in-graph c =
-    (c.in-graph.is, sym (first_value-rows (found_of c.args.given.now) (codes "DIR")) ∙ sym c.in-None.ensures)
+pub stream_task-requires : goal.stream_task-requires
+stream_task-requires c = sym (first_value-rows (found_of c.args.given.now) (codes "DIR")) ∙ sym c.in-None.ensures

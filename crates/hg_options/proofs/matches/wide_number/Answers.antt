@@ -1,7 +1,6 @@
-use Rattle.std.proofs.Common.{rules, ◌≡◌, ◌≤◌, ◌<◌, ◌^◌, ℕ, inl, inr, arith, refl}
+use Rattle.std.proofs.Common.{◌≡◌, inl, inr, arith, refl}
 use Rattle.clap.specs.Words.{found_of, rows_of}
 use Rattle.std.specs.declared.num.ParseIntError.{ParseIntError}
-use Rattle.hg_options.specs.Tasks.{IsNumber, Spells}
 use Rattle.hg_options.proofs.Numbers.{not_spelled, one_number, spelled}
 use Rattle.hg_options.proofs.matches.wide_number.Goals as goal
 use Rattle.hg_options.proofs.matches.wide_number.Goals.{else-low-number-via-then-low-number+else-number-high, else-low-number-via-else-low-number}

@@ -1,4 +1,4 @@
-use Rattle.hg_pages.proofs.Places.{found_at, in_order, placed_at, same_entries}
+use Rattle.hg_pages.proofs.Places.{found_at, in_order, once, placed_at, same_entries}
 use Rattle.hg_pages.proofs.laws.entries_are_looked_up.Goals as goal
 
 pub returns-clause-found : goal.returns-clause-found
@@ -9,3 +9,6 @@ returns-clause-placed c = placed_at
 
 pub returns-clause-one_list : goal.returns-clause-one_list
 returns-clause-one_list c entries others are also same = same_entries entries others (in_order entries are).rising (in_order others also).rising same
+
+pub returns-clause-one_page : goal.returns-clause-one_page
+returns-clause-one_page c entries page other slot are one two = once entries page other slot (in_order entries are).distinct one two

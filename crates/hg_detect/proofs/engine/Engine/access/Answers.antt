@@ -9,8 +9,8 @@ use Rattle.hg_detect.proofs.Passing.{access_passes}
 use Rattle.hg_detect.proofs.Answering.{access_answers, nothing_changed}
 use Rattle.hg_detect.proofs.engine.Engine.access.Goals as goal
 
-pub returns-then-are_same : goal.returns-then-are_same
-returns-then-are_same g c =
+pub returns-then-are_same-clause-answers : goal.returns-then-are_same-clause-answers
+returns-then-are_same-clause-answers g c =
     let words = g.W.Words in
     let laws = g.met.W.Words in
     let old = c.args.self.now in

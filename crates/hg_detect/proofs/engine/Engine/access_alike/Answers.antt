@@ -16,8 +16,8 @@ use Rattle.hg_detect.proofs.Answering.{Keeps, access_answers, refused_answers, s
 use Rattle.hg_detect.proofs.Reports.{found_few}
 use Rattle.hg_detect.proofs.engine.Engine.access_alike.Goals as goal
 
-pub returns-in_err-planned : goal.returns-in_err-planned
-returns-in_err-planned g c =
+pub returns-in_err-planned-clause-answers : goal.returns-in_err-planned-clause-answers
+returns-in_err-planned-clause-answers g c =
     let words = g.W.Words in
     let laws = g.met.W.Words in
     let old = c.args.self.now in
@@ -42,8 +42,8 @@ returns-in_err-planned g c =
     (alike_refused old.graph old.sets c.plan_for.new.self.sets actor (words.cell_of old.words) c.args.cell first n r some alike cause asked))
     (subst (λ x. IfErr x (λ e. (e ≡ refusal.FullSets) ⊎ ((e ≡ refusal.OutOfMemory) ⊎ words.may_refuse e))) (sym same) (⊎_elim (λ full. inl full) (λ out. inr (inl out)) cause))
 
-pub returns-then-are_same : goal.returns-then-are_same
-returns-then-are_same g c =
+pub returns-then-are_same-clause-answers : goal.returns-then-are_same-clause-answers
+returns-then-are_same-clause-answers g c =
     let words = g.W.Words in
     let laws = g.met.W.Words in
     let old = c.args.self.now in
@@ -76,8 +76,8 @@ returns-then-are_same g c =
     refl (sym (ap (λ xs. take 65536 (mid.kept.items ++ xs)) none ∙ ap (take 65536) (append-nil mid.kept.items) ∙ take_all 65536 mid.kept.items (omega (arith, c.requires.sound.few, ap length k.kept)))) (sym (ap length none)) (sym (add-zero mid.total))
     (λ h. asked_from words.cell_of (shown_of old) c.args.named.now.event c.args.write a actor _ (Ok tt) (Ok tt) mid.sets c.requires.event passed.some refl refl refl asked)
 
-pub returns-then-not-planned : goal.returns-then-not-planned
-returns-then-not-planned g c =
+pub returns-then-not-planned-clause-answers : goal.returns-then-not-planned-clause-answers
+returns-then-not-planned-clause-answers g c =
     let words = g.W.Words in
     let laws = g.met.W.Words in
     let old = c.args.self.now in
@@ -112,8 +112,8 @@ returns-then-not-planned g c =
     refl (sym (ap (λ xs. take 65536 (mid.kept.items ++ xs)) none ∙ ap (take 65536) (append-nil mid.kept.items) ∙ take_all 65536 mid.kept.items (omega (arith, c.requires.sound.few, ap length k.kept)))) (sym (ap length none)) (sym (add-zero mid.total))
     (λ h. asked_from words.cell_of (shown_of old) c.args.named.now.event c.args.write a actor _ (Ok tt) (Ok tt) mid.sets c.requires.event passed.some refl refl refl asked)
 
-pub returns-in_err-map_err : goal.returns-in_err-map_err
-returns-in_err-map_err g c =
+pub returns-in_err-map_err-clause-answers : goal.returns-in_err-map_err-clause-answers
+returns-in_err-map_err-clause-answers g c =
     let words = g.W.Words in
     let laws = g.met.W.Words in
     let old = c.args.self.now in
@@ -173,8 +173,8 @@ overflow_add-self g c =
     let len = ap length (c.as_slice-2.ensures.value ∙ c.plan_alike.ensures.items) ∙ length-replicate c.args.count c.in_ok-planned.planned in
     omega (arith, few, len, c.add_reports-reports.ensures.count, ap (λ e. e.total) c.plan_for.ensures.others, c.requires.sound.total, passed.events, c.requires.count, c.requires.first, passed.few, passed.some)
 
-pub returns : goal.returns
-returns g c =
+pub returns-clause-answers : goal.returns-clause-answers
+returns-clause-answers g c =
     let words = g.W.Words in
     let laws = g.met.W.Words in
     let old = c.args.self.now in

@@ -9,8 +9,8 @@ use Rattle.hg_detect.proofs.Answering.{Keeps, access_answers, refused_answers}
 use Rattle.hg_detect.proofs.Reports.{found_few}
 use Rattle.hg_detect.proofs.engine.Engine.access_unlike.Goals as goal
 
-pub returns-in_err-prepare : goal.returns-in_err-prepare
-returns-in_err-prepare g c =
+pub returns-in_err-prepare-clause-answers : goal.returns-in_err-prepare-clause-answers
+returns-in_err-prepare-clause-answers g c =
     let words = g.W.Words in
     let old = c.args.self.now in
     let p = c.prepare.ensures in
@@ -23,7 +23,7 @@ returns-in_err-prepare g c =
       plan = p.plan;
       sets = p.sets;
       numbers = p.numbers;
-      lawful = p.lawful;
+      lawful = λ _. p.lawful;
       faithful = p.faithful;
       cells = p.cells;
     }
@@ -46,8 +46,8 @@ overflow_add-self g c =
     let count = c.add_reports.ensures.count ∙ ap (λ xs. length (found (c.events-event.result + 1) c.args.write a.t (a.at / 4) xs)) c.as_slice-2.ensures.value in
     omega (arith, count, c.prepare.ensures.total, c.requires.sound.total, passed.events, c.in_ok-prepare.ensures.len, c.from.ensures, passed.few)
 
-pub returns : goal.returns
-returns g c =
+pub returns-clause-answers : goal.returns-clause-answers
+returns-clause-answers g c =
     let words = g.W.Words in
     let laws = g.met.W.Words in
     let old = c.args.self.now in
@@ -64,7 +64,7 @@ returns g c =
       plan = p.plan;
       sets = p.sets;
       numbers = p.numbers;
-      lawful = p.lawful;
+      lawful = λ _. p.lawful;
       faithful = p.faithful;
       cells = p.cells;
     }

@@ -1,0 +1,4 @@
+pub mod Life
+pub mod Explaining
+pub mod Telling
+pub mod Laws

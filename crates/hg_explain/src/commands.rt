@@ -1,0 +1,114 @@
+//! The command that explains a word of a trace text.
+
+ghost use Rattle.std.specs.Prelude.{◌≡◌, ◌/◌, ◌++◌, ◌<◌, ◌^◌, [], IfOk, IfErr, OnErr, OnOk};
+ghost use Rattle.hg_check.specs.Printing.{last_line, line_text, status_of};
+ghost use Rattle.hg_explain.specs.Life.{more_text};
+ghost use Rattle.hg_check.specs.Streaming.{HasCause};
+ghost use Rattle.hg_check.specs.Written.{Took};
+ghost use Rattle.hg_check.specs.declared.checker.Ending.{Ending as EndingOf};
+ghost use Rattle.hg_detect.specs.Memory.{IsWhole, content_of};
+ghost use Rattle.hg_explain.specs.Explaining.{BreaksOff, Explains, WroteFrontOf, word_line};
+ghost use Rattle.hg_model.specs.Change.{empty_content};
+ghost use Rattle.hg_sets.specs.Interning.{first_table};
+
+use crate::address::hold_word;
+use crate::passing::Asked;
+use crate::run::run;
+use crate::telling::hold_more;
+use hg_check::checker::Ending;
+use hg_check::commands::status_of_end;
+use hg_check::printing::hold_last_line;
+use hg_check::streams::write_out;
+use hg_check::telling::tell;
+use hg_detect::memory::{MemoryDetector, new_detector};
+use hg_model::verdict::Refusal;
+use hg_sets::MOST_SETS;
+use hg_streams::input::Input;
+use hg_streams::output::Output;
+use std::alloc::Global;
+use std::io::{Read, Write};
+
+/// Runs a fresh detector, and tells the life of a word as it comes, and at last how the run ended.
+fn run_explain<R: Read, W: Write>(
+    alloc: Global,
+    asked: Asked,
+    detector: &mut MemoryDetector,
+    held: &mut Vec<u8>,
+    input: &mut Input<R>,
+    output: &mut Output<W>,
+) -> Result<Ending, Refusal>
+    requires whole { IsWhole detector.old }
+    requires start { content_of detector.old ≡ empty_content }
+    requires sets { detector.old.sets ≡ first_table 262144 }
+    requires word { asked.word < 2 ^ 62 }
+    requires none { held.old.items ≡ [] }
+    ensures prints { IfOk result (Explains asked.word asked.all input.old.calls input.new.calls output.old.calls output.new.calls) }
+    ensures front { OnErr result (WroteFrontOf asked.word asked.all input.old.calls input.new.calls output.old.calls output.new.calls) }
+    ensures cause { IfErr result (λ r. HasCause input.old.calls input.new.calls output.old.calls output.new.calls r) }
+{
+    let mut more = 0;
+    hold_word(asked.word, held)?;
+    let end = run(alloc, asked, detector, input, &mut more, held, output)?;
+    hold_end(detector, more, end, held)?;
+    write_out(held, output)?;
+    output.flush()?;
+    Ok(end)
+}
+
+/// Holds how many accesses were not shown at last, and the last line.
+fn hold_end(
+    detector: &MemoryDetector,
+    more: u64,
+    end: Ending,
+    held: &mut Vec<u8>,
+) -> Result<(), Refusal>
+    ensures ok { OnOk result (held.new.items ≡ held.old.items ++ (more_text more ++ line_text (last_line (content_of detector.now) end))) }
+    ensures cause { IfErr result (λ r. r ≡ Refusal.OutOfMemory) }
+{
+    hold_more(more, held)?;
+    hold_last_line(detector, end, held)
+}
+
+/// The same, with memory of its own.
+fn print_explain<R: Read, W: Write>(
+    alloc: Global,
+    asked: Asked,
+    input: &mut Input<R>,
+    output: &mut Output<W>,
+) -> Result<Ending, Refusal>
+    requires word { asked.word < 2 ^ 62 }
+    ensures prints { IfOk result (Explains asked.word asked.all input.old.calls input.new.calls output.old.calls output.new.calls) }
+    ensures front { OnErr result (WroteFrontOf asked.word asked.all input.old.calls input.new.calls output.old.calls output.new.calls) }
+    ensures cause { IfErr result (λ r. HasCause input.old.calls input.new.calls output.old.calls output.new.calls r) }
+{
+    let mut detector = new_detector(alloc, MOST_SETS)?;
+    let mut held = Vec::new(alloc);
+    run_explain(alloc, asked, &mut detector, &mut held, input, output)
+}
+
+/// Explains the word that has an address, by a trace text: prints the word, a line for each event that changes its state (of
+/// each that overlaps it, with `all`), and one line at last, which is that of `check`. After a line that is refused or bad,
+/// nothing is read.
+/// Answers the status: 0, 2 where a line was refused or bad, or 3 where a stream failed or memory was refused, which
+/// is told on `faults`. What was printed before that is a front of what was due.
+pub fn explain<R: Read, W: Write, V: Write>(
+    alloc: Global,
+    address: u64,
+    all: bool,
+    input: &mut Input<R>,
+    output: &mut Output<W>,
+    faults: &mut Output<V>,
+) -> u8
+    ensures prints { (result ≡ 3 → ⊥) → (end : EndingOf) × (result ≡ status_of end) × Explains (address / 4) all input.old.calls input.new.calls output.old.calls output.new.calls end }
+    ensures quiet { (result ≡ 3 → ⊥) → Took faults.old.calls faults.new.calls [] }
+    ensures fault { result ≡ 3 → BreaksOff (address / 4) all input.old.calls input.new.calls output.old.calls output.new.calls faults.old.calls faults.new.calls }
+{
+    let word = address / 4;
+    match print_explain(alloc, Asked { word, all }, input, output) {
+        Ok(end) => status_of_end(end),
+        Err(refusal) => {
+            tell(refusal, faults);
+            3
+        }
+    }
+}

@@ -1,0 +1,185 @@
+//! The lines of a trace text, and what each adds to the life of a word.
+
+ghost use Rattle.std.specs.Prelude.{◌≡◌, ◌+◌, ◌<◌, ◌≤◌, ◌^◌, [], ◌∷◌, ◌++◌, List, Ok, Some, None, length, IfErr, OnOk};
+ghost use Rattle.hg_check.specs.Checking.{LeadsTo};
+ghost use Rattle.hg_check.specs.Running.{EndsIn, Reaches};
+ghost use Rattle.hg_check.specs.declared.checker.Ending.{Ending as EndingOf};
+ghost use Rattle.hg_detect.specs.Memory.{IsWhole, content_of};
+ghost use Rattle.hg_explain.specs.Telling.{Stays, Tells, ToldAll, ToldOn, WentOn};
+ghost use Rattle.hg_detect.specs.Accessing.{access_event};
+ghost use Rattle.hg_wire.specs.Accesses.{event_of as event_in};
+ghost use Rattle.hg_wire.specs.Streams.{ended_from};
+ghost use Rattle.hg_wire.specs.declared.reader.Reading.{Reading as ReadingOf};
+ghost use Rattle.hg_explain.specs.Life as life;
+
+use crate::look::{Look, concerns, differs, look_at, overlaps};
+use crate::telling::{hold_event, hold_more};
+use hg_check::checker::{Ending, apply, apply_access};
+use hg_detect::memory::MemoryDetector;
+use hg_model::event::{Access, Event};
+use hg_model::verdict::Refusal;
+use hg_wire::line::AccessLine;
+use hg_wire::reader::{EventReader, Reading, Taken};
+
+/// What is asked: the life of a word, by the word's number, and whether each event is to have a line.
+#[derive(Clone, Copy, Debug, PartialEq, Eq, Drop)]
+pub struct Asked {
+    pub word: u64,
+    pub all: bool,
+}
+
+/// How many accesses an event is.
+fn accesses(event: &Event) -> u64
+    ensures { result ≡ life.accesses event.now }
+{
+    match event {
+        Event::Read(_) | Event::Write(_) => 1,
+        _ => 0,
+    }
+}
+
+/// Tells an event that was accepted just now, and that concerns the word.
+fn tell_event(
+    asked: Asked,
+    detector: &MemoryDetector,
+    before: Look,
+    from: usize,
+    line: u64,
+    event: &Event,
+    more: &mut u64,
+    held: &mut Vec<u8>,
+) -> Result<(), Refusal>
+    requires whole { IsWhole detector.now }
+    requires word { asked.word < 2 ^ 62 }
+    requires actor { life.actor_of event.now < 1024 }
+    requires few { more.old + 1 < 2 ^ 64 }
+    ensures ok { OnOk result ((held.new.items ≡ held.old.items ++ (life.told_by asked.word asked.all before from (content_of detector.now) more.old line event.now).0)
+        × (more.new ≡ (life.told_by asked.word asked.all before from (content_of detector.now) more.old line event.now).1)) }
+    ensures cause { IfErr result (λ r. r ≡ Refusal.OutOfMemory) }
+{
+    if asked.all || differs(before, look_at(detector, asked.word)) {
+        hold_more(*more, held)?;
+        *more = 0;
+        return hold_event(detector, asked.word, before, from, line, event, held);
+    }
+    *more += accesses(event);
+    Ok(())
+}
+
+/// Offers the event of a line as the next one of source 0, and tells it where it concerns the word. `None` says that it was accepted.
+pub fn pass(
+    asked: Asked,
+    detector: &mut MemoryDetector,
+    reading: &Reading,
+    more: &mut u64,
+    held: &mut Vec<u8>,
+) -> Result<Option<Ending>, Refusal>
+    requires whole { IsWhole detector.old }
+    requires word { asked.word < 2 ^ 62 }
+    requires fits { (content_of detector.old).last 0 + 1 < 2 ^ 64 }
+    requires few { more.old ≤ (content_of detector.old).last 0 }
+    ensures went { result ≡ Ok None → WentOn detector.old detector.new reading.now }
+    ensures tells { result ≡ Ok None → Tells asked.word asked.all (content_of detector.old) more.old reading.now (content_of detector.new) more.new held.old.items held.new.items }
+    ensures ended { (later : List ReadingOf) (end : EndingOf) → result ≡ Ok (Some end)
+        → LeadsTo (reading.now ∷ later) detector.old.sets (content_of detector.old) (content_of detector.new) end }
+    ensures stays { (end : EndingOf) → result ≡ Ok (Some end) → Stays detector.old more.old held.old.items detector.new more.new held.new.items }
+    ensures fault { IfErr result (λ r. r ≡ Refusal.OutOfMemory) }
+{
+    let line = reading.line;
+    let Ok(event) = reading.event else {
+        return apply(detector, reading);
+    };
+    if !concerns(asked.word, &event) {
+        return apply(detector, reading);
+    }
+    let before = look_at(detector, asked.word);
+    let from = detector.kept();
+    let stopped = apply(detector, reading)?;
+    if stopped.is_some() {
+        return Ok(stopped);
+    }
+    tell_event(asked, detector, before, from, line, &event, more, held)?;
+    Ok(None)
+}
+
+/// The same for the read or write of a line.
+#[inline(always)]
+fn pass_access(
+    asked: Asked,
+    detector: &mut MemoryDetector,
+    line: u64,
+    found: &AccessLine,
+    more: &mut u64,
+    held: &mut Vec<u8>,
+) -> Result<Option<Ending>, Refusal>
+    requires whole { IsWhole detector.old }
+    requires word { asked.word < 2 ^ 62 }
+    requires fits { (content_of detector.old).last 0 + 1 < 2 ^ 64 }
+    requires few { more.old ≤ (content_of detector.old).last 0 }
+    ensures went { result ≡ Ok None → WentOn detector.old detector.new (record { line = line; event = Ok (event_in found.now) }) }
+    ensures tells { result ≡ Ok None → Tells asked.word asked.all (content_of detector.old) more.old (record { line = line; event = Ok (event_in found.now) }) (content_of detector.new) more.new held.old.items held.new.items }
+    ensures ended { (later : List ReadingOf) (end : EndingOf) → result ≡ Ok (Some end)
+        → LeadsTo (record { line = line; event = Ok (event_in found.now) } ∷ later) detector.old.sets (content_of detector.old) (content_of detector.new) end }
+    ensures stays { (end : EndingOf) → result ≡ Ok (Some end) → Stays detector.old more.old held.old.items detector.new more.new held.new.items }
+    ensures fault { IfErr result (λ r. r ≡ Refusal.OutOfMemory) }
+{
+    if overlaps(found.access.at, u16::from(found.access.len), asked.word) {
+        let event = Ok(event_of(found.access, found.is_write));
+        return pass(asked, detector, &Reading { line, event }, more, held);
+    }
+    apply_access(detector, line, found)
+}
+
+/// The event of an access.
+fn event_of(access: Access, is_write: bool) -> Event
+    ensures { result ≡ access_event is_write access }
+{
+    if is_write {
+        Event::Write(access)
+    } else {
+        Event::Read(access)
+    }
+}
+
+/// Takes a piece of a trace text, offers its events up to the first that is not accepted, and tells those that concern
+/// the word. `None` says that all were accepted, and that the piece was taken whole.
+pub fn push(
+    asked: Asked,
+    reader: &mut EventReader,
+    detector: &mut MemoryDetector,
+    piece: &[u8],
+    more: &mut u64,
+    held: &mut Vec<u8>,
+) -> Result<Option<Ending>, Refusal>
+    requires whole { IsWhole detector.old }
+    requires word { asked.word < 2 ^ 62 }
+    requires lines { reader.old.lines + length piece.now < 2 ^ 64 }
+    requires events { (content_of detector.old).last 0 + length piece.now < 2 ^ 64 }
+    requires few { more.old ≤ (content_of detector.old).last 0 }
+    ensures reaches { result ≡ Ok None → Reaches reader.old detector.old piece.now reader.new detector.new [] }
+    ensures told { result ≡ Ok None → ToldOn asked.word asked.all reader.old (content_of detector.old) more.old piece.now reader.new (content_of detector.new) more.new [] held.old.items held.new.items }
+    ensures none_left { result ≡ Ok None → ended_from reader.new [] ≡ [] }
+    ensures ends { (end : EndingOf) → result ≡ Ok (Some end) → EndsIn reader.old detector.old piece.now detector.new end }
+    ensures told_all { (end : EndingOf) → result ≡ Ok (Some end) → ToldAll asked.word asked.all reader.old (content_of detector.old) more.old piece.now (content_of detector.new) more.new held.old.items held.new.items }
+    ensures fault { IfErr result (λ r. r ≡ Refusal.OutOfMemory) }
+{
+    let mut rest = piece;
+    loop {
+        if let Some(found) = reader.take_access(rest) {
+            rest = &rest[found.used..];
+            let stopped = pass_access(asked, detector, reader.lines(), &found, more, held)?;
+            if stopped.is_some() {
+                return Ok(stopped);
+            }
+            continue;
+        }
+        let Taken::Line { reading, used } = reader.take(rest) else {
+            return Ok(None);
+        };
+        rest = &rest[used..];
+        let stopped = pass(asked, detector, &reading, more, held)?;
+        if stopped.is_some() {
+            return Ok(stopped);
+        }
+    }
+}

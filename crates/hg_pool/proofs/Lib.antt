@@ -1,0 +1,15 @@
+pub mod Changing
+pub mod Slots
+pub mod Lookups
+pub mod Counting
+pub mod Stepping
+pub mod Moving
+pub mod Writing
+pub mod Orders
+pub mod FromSlots
+pub mod Filling
+pub mod Sealed
+pub mod Collecting
+pub mod Picked
+pub mod Begun
+pub mod Given

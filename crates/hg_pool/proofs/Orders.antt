@@ -1,0 +1,83 @@
+-- Which pages are in memory, and in what order of use.
+use Rattle.std.proofs.Common.{◌≡◌, ◌+◌, ◌-◌, ◌==◌, ◌∙◌, ℕ, zero, suc, nat_eq, Bool, true, false, List, [], ◌∷◌, ◌++◌, length, is_some, slice_get, Option, Some, None, if◌then◌else◌, refl, sym, ap, subst, arith}
+use Rattle.std.specs.List.{AllByRecursion, IsDistinct}
+use Rattle.std.specs.Map.{lookup, remove_entry, keys_of}
+use Rattle.std.proofs.lemmas.Map.Keys.{IsDistinct-head, IsDistinct-tail}
+use Rattle.hg_pool.proofs.Lookups.{if_false, if_true, itself, turned}
+
+-- whether the number is there
+abbrev pub listed : ℕ → List ℕ → Bool
+listed q [] = false
+listed q (k ∷ ks) = if q == k then true else listed q ks
+
+abbrev pub last_of : List ℕ → Option ℕ
+last_of [] = None
+last_of (k ∷ []) = Some k
+last_of (k ∷ l ∷ ks) = last_of (l ∷ ks)
+
+some_if : {X : Type 0} (b : Bool) (x : X) (o : Option X) → is_some (if b then Some x else o) ≡ (if b then true else is_some o)
+some_if true x o = refl
+some_if false x o = refl
+
+pub is_listed : {X : Type 0} (q : ℕ) (es : List (ℕ × X)) → is_some (lookup (nat_eq q) es) ≡ listed q (keys_of es)
+is_listed q [] = refl
+is_listed q (e ∷ es) = some_if (q == e.0) e.1 (lookup (nat_eq q) es) ∙ ap (λ (b : Bool). if q == e.0 then true else b) (is_listed q es)
+
+pub listed_front : (q n : ℕ) (ks : List ℕ) → listed q ks ≡ true → listed q (ks ++ n ∷ []) ≡ true
+listed_front q n [] is = absurd (cc is)
+listed_front q n (k ∷ ks) is = here (q == k) is (listed_front q n ks)
+  where
+    here : (b : Bool) → (if b then true else listed q ks) ≡ true → (listed q ks ≡ true → listed q (ks ++ n ∷ []) ≡ true) → (if b then true else listed q (ks ++ n ∷ [])) ≡ true
+    here true found rest = refl
+    here false found rest = rest found
+
+-- the same pages, or those but for the last
+pub same_pages : {X Y : Type 0} (q : ℕ) (es : List (ℕ × X)) (fs : List (ℕ × Y)) → keys_of fs ≡ keys_of es → is_some (lookup (nat_eq q) fs) ≡ true → is_some (lookup (nat_eq q) es) ≡ true
+same_pages q es fs same is = is_listed q es ∙ ap (λ (ks : List ℕ). listed q ks) (sym same) ∙ sym (is_listed q fs) ∙ is
+
+pub front_pages : {X Y : Type 0} (q n : ℕ) (es : List (ℕ × X)) (fs : List (ℕ × Y)) → keys_of es ≡ keys_of fs ++ n ∷ [] → is_some (lookup (nat_eq q) fs) ≡ true → is_some (lookup (nat_eq q) es) ≡ true
+front_pages q n es fs same is = is_listed q es ∙ ap (λ (ks : List ℕ). listed q ks) same ∙ listed_front q n (keys_of fs) (sym (is_listed q fs) ∙ is)
+
+-- the last entry
+pub last_get : {X : Type 0} (es : List (ℕ × X)) (k : ℕ) (e : ℕ × X) → k + 1 ≡ length es → slice_get es k ≡ Some e → last_of (keys_of es) ≡ Some e.0
+last_get [] k e at is = absurd (cc is)
+last_get (x ∷ []) zero e at is = let same : x ≡ e = cc is in ap (λ (y : ℕ × _). Some y.0) same
+last_get (x ∷ []) (suc k) e at is = absurd (omega (arith, at))
+last_get (x ∷ y ∷ es) zero e at is = absurd (omega (arith, at))
+last_get (x ∷ y ∷ es) (suc k) e at is = last_get (y ∷ es) k e (omega (arith, at)) is
+
+pub none_last : {X : Type 0} (es : List (ℕ × X)) (k : ℕ) → k ≡ length es - 1 → slice_get es k ≡ None → es ≡ []
+none_last [] k at is = refl
+none_last (x ∷ []) zero at is = absurd (cc is)
+none_last (x ∷ []) (suc k) at is = absurd (omega (arith, at))
+none_last (x ∷ y ∷ es) zero at is = absurd (cc is)
+none_last (x ∷ y ∷ es) (suc k) at is = let rest : (y ∷ es) ≡ [] = none_last (y ∷ es) k (omega (arith, at)) is in absurd (cc rest)
+
+pub got_there : {X : Type 0} (es : List (ℕ × X)) (k : ℕ) (e : ℕ × X) → slice_get es k ≡ Some e → is_some (lookup (nat_eq e.0) es) ≡ true
+got_there [] k e is = absurd (cc is)
+got_there (x ∷ es) zero e is =
+    let same : x ≡ e = cc is in
+    ap is_some (if_true (e.0 == x.0) (Some x.1) (lookup (nat_eq e.0) es) (ap (λ (y : ℕ × _). e.0 == y.0) same ∙ itself e.0))
+got_there (x ∷ es) (suc k) e is = some_if (e.0 == x.0) x.1 (lookup (nat_eq e.0) es) ∙ here (e.0 == x.0) (got_there es k e is)
+  where
+    here : (b : Bool) → is_some (lookup (nat_eq e.0) es) ≡ true → (if b then true else is_some (lookup (nat_eq e.0) es)) ≡ true
+    here true found = refl
+    here false found = found
+
+all_last : (P : ℕ → Type 0) (ks : List ℕ) (n : ℕ) → AllByRecursion P ks → last_of ks ≡ Some n → P n
+all_last P [] n all is = absurd (cc is)
+all_last P (k ∷ []) n all is = let same : k ≡ n = cc is in subst P same all.0
+all_last P (k ∷ l ∷ ks) n all is = all_last P (l ∷ ks) n all.1 is
+
+-- without the last one
+pub removed_last : {X : Type 0} (es : List (ℕ × X)) (n : ℕ) → IsDistinct nat_eq (keys_of es) → last_of (keys_of es) ≡ Some n → keys_of es ≡ keys_of (remove_entry (nat_eq n) es) ++ n ∷ []
+removed_last [] n distinct is = absurd (cc is)
+removed_last {X} (e ∷ []) n distinct is =
+    let same : e.0 ≡ n = cc is in
+    let gone : remove_entry (nat_eq n) (e ∷ []) ≡ [] = if_true (n == e.0) [] (e ∷ []) (ap (λ (k : ℕ). n == k) same ∙ itself n) in
+    ap (λ (k : ℕ). k ∷ []) same ∙ sym (ap (λ (l : List (ℕ × X)). keys_of l ++ n ∷ []) gone)
+removed_last {X} (e ∷ f ∷ es) n distinct is =
+    let apart : (n == e.0) ≡ false = turned n e.0 ∙ all_last (λ k. nat_eq e.0 k ≡ false) (keys_of (f ∷ es)) n (IsDistinct-head nat_eq e.0 (keys_of (f ∷ es)) distinct) is in
+    let left : remove_entry (nat_eq n) (e ∷ f ∷ es) ≡ e ∷ remove_entry (nat_eq n) (f ∷ es) = if_false (n == e.0) (f ∷ es) (e ∷ remove_entry (nat_eq n) (f ∷ es)) apart in
+    ap (λ (ks : List ℕ). e.0 ∷ ks) (removed_last (f ∷ es) n (IsDistinct-tail nat_eq e.0 (keys_of (f ∷ es)) distinct) is)
+    ∙ sym (ap (λ (l : List (ℕ × X)). keys_of l ++ n ∷ []) left)

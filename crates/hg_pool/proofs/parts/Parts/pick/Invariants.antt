@@ -1,0 +1,6 @@
+use Rattle.hg_pool.specs.Sound.{shown_of}
+use Rattle.hg_pool.proofs.Picked.{IsPicking}
+use Rattle.hg_pool.proofs.parts.Parts.pick.Given as goal
+
+abbrev pub invariant-loop-entry : goal.invariant-loop-entry
+invariant-loop-entry g l = IsPicking (shown_of l.self) l.pages.entries l.picks.entries l.entry-index l.from

@@ -1,0 +1,40 @@
+use Rattle.std.proofs.Common.{rules, ◌≡◌, ◌∙◌, ℕ, List, Option, None, Some, Err, length, get_or, sym, ap, subst}
+use Rattle.hg_cells.specs.declared.cell.Cell.{Cell}
+use Rattle.hg_cells.specs.declared.cell.Cell.TheVariants.{New}
+use Rattle.hg_cells.specs.Cells.{IsWithin}
+use Rattle.hg_pages.specs.Tables.{slot_in}
+use Rattle.hg_pool.specs.Maps.{bytes_of, in_slot}
+use Rattle.hg_pool.specs.Sound.{shown_of}
+use Rattle.hg_pool.proofs.FromSlots.{new_cells, new_within, no_damage, read_there, stands_there, stays_read, whole_before}
+use Rattle.hg_pool.proofs.parts.Parts.read.Goals as goal
+
+pub returns-in-None-clause-cells : goal.returns-in-None-clause-cells
+returns-in-None-clause-cells g c h i lt =
+    let p = c.args.self.now in
+    let none : slot_in p.live.entries c.args.page ≡ None = search rules in
+    ap (λ (l : List Cell). get_or l i New) c.new.ensures ∙ new_cells 256 i ∙ sym (ap (λ (o : Option ℕ). in_slot (bytes_of g.D.Disk (shown_of p)) o i) none)
+
+pub returns-in-None-clause-named : goal.returns-in-None-clause-named
+returns-in-None-clause-named g c i =
+    subst (λ (l : List Cell). IsWithin c.args.segments (length c.args.sets.now.sets) (get_or l i New)) (sym c.new.ensures) (new_within 256 c.args.segments (length c.args.sets.now.sets) i)
+
+pub returns-in-Ok-clause-stays : goal.returns-in-Ok-clause-stays
+returns-in-Ok-clause-stays g c = stays_read g.D.Disk (shown_of c.args.self.now) c.read_page.new.self c.read_page.ensures.any_moment c.read_page.ensures.works c.read_page.ensures.known
+
+pub returns-in-Err-clause-stays : goal.returns-in-Err-clause-stays
+returns-in-Err-clause-stays g c = stays_read g.D.Disk (shown_of c.args.self.now) c.read_page.new.self c.read_page.ensures.any_moment c.read_page.ensures.works c.read_page.ensures.known
+
+pub returns-in-Ok-clause-cells : goal.returns-in-Ok-clause-cells
+returns-in-Ok-clause-cells g c h i lt =
+    let p = c.args.self.now in
+    let some : slot_in p.live.entries c.args.page ≡ Some c.in-Some.slot = search rules in
+    let was = whole_before g.D.Disk (shown_of p) c.read_page.new.self c.read_page.ensures.known h in
+    read_there g.D.Disk (shown_of p) c.args.page c.in-Some.slot i c.in-Ok.cells c.args.segments c.args.sets.now.sets (bytes_of g.D.Disk (record (shown_of p) { file = c.read_page.new.self })) lt some c.read_page.ensures.known (c.in-Ok.ensures.read was.honest)
+
+pub returns-in-Err-clause-whole : goal.returns-in-Err-clause-whole
+returns-in-Err-clause-whole g c h known told =
+    let p = c.args.self.now in
+    let some : slot_in p.live.entries c.args.page ≡ Some c.in-Some.slot = search rules in
+    no_damage c.in-Err.fault
+    (λ damaged. stands_there g.D.Disk (shown_of p) c.args.page c.in-Some.slot c.args.segments c.args.sets.now.sets h some known (c.read_page.ensures.damaged h.honest (c.in-Err.is ∙ ap Err damaged)))
+    (sym c.told.ensures ∙ told)

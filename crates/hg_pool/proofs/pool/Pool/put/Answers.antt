@@ -1,0 +1,14 @@
+use Rattle.std.proofs.Common.{◌≡◌, ℕ, List, Some, IfOk, subst}
+use Rattle.hg_cells.specs.declared.cell.Cell.{Cell}
+use Rattle.hg_pages.specs.Slots.{slot_text}
+use Rattle.hg_pages.specs.Tables.{slot_in}
+use Rattle.hg_pool.specs.declared.job.Put.TheVariants.{Stale}
+use Rattle.hg_pool.specs.Answers.{IsFrozen}
+use Rattle.hg_pool.specs.Shown.{Shown}
+use Rattle.hg_pool.proofs.pool.Pool.put.Goals as goal
+
+pub returns-clause-stale : goal.returns-clause-stale
+returns-clause-stale g c =
+    let e = c.args.page.now in
+    subst (λ (p : Shown g.row.D.Denot). IfOk c.put.result (λ put. put ≡ Stale → (slot : ℕ) (cells : List Cell) → slot_in p.waiting e.page ≡ Some slot → IsFrozen p e.page cells → e.bytes ≡ slot_text e.page cells → ⊥)) c.self.view_is
+    c.put.ensures.stale

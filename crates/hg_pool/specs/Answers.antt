@@ -1,0 +1,55 @@
+-- What the calls of a pool answer.
+use Rattle.std.specs.Prelude.{◌≡◌, ◌⊎◌, ◌<◌, ℕ, List, [], ◌∷◌, map, Option, Some, None, IsTrue}
+use Rattle.hg_model.specs.declared.verdict.Refusal.{Refusal}
+use Rattle.hg_model.specs.declared.verdict.Refusal.TheVariants as refusal
+use Rattle.hg_cells.specs.declared.cell.Cell.{Cell}
+use Rattle.hg_pages.specs.declared.fault.SlotFault.{SlotFault}
+use Rattle.hg_pages.specs.declared.fault.SlotFault.TheVariants as fault
+use Rattle.hg_pages.specs.Tables.{IsNamed}
+use Rattle.hg_pool.specs.declared.frame.Frame.{Frame}
+use Rattle.hg_pool.specs.Maps.{copy_in, frame_in, is_broken}
+use Rattle.hg_pool.specs.Shown.{Shown}
+
+abbrev pub told_as : SlotFault → Refusal
+told_as fault.Broken = refusal.Broken
+told_as fault.Damaged = refusal.Damaged
+told_as fault.DeviceFault = refusal.DeviceFault
+told_as fault.OutOfMemory = refusal.OutOfMemory
+
+-- The slot is named: by a table of the pool, or as picked.
+abbrev pub IsTaken : {D : Type 0} → Shown D → ℕ → Type 0
+IsTaken p slot = IsNamed p.root slot ⊎ (IsNamed p.frozen slot ⊎ (IsNamed p.live slot ⊎ IsNamed p.waiting slot))
+
+-- Each slot is named.
+abbrev pub IsFull : {D : Type 0} → Shown D → Type 0
+IsFull p = (slot : ℕ) → slot < p.slots → IsTaken p slot
+
+-- A refusal is told only where its cause holds, as the pool stands then: an eviction may have taken the last slot.
+abbrev pub IsTrueCause : {D : Type 0} → Shown D → Shown D → Refusal → Type 0
+IsTrueCause old new refusal.Broken = IsTrue (is_broken new)
+IsTrueCause old new refusal.FullSlots = IsFull new
+IsTrueCause old new refusal.DeviceFault = Unit {0}
+IsTrueCause old new refusal.OutOfMemory = Unit {0}
+IsTrueCause old new refusal.Damaged = Unit {0}
+IsTrueCause old new _ = ⊥
+
+-- the causes of a call that reads nothing, takes no memory and picks no slot
+abbrev pub IsDeviceCause : Refusal → Type 0
+IsDeviceCause r = (r ≡ refusal.Broken) ⊎ (r ≡ refusal.DeviceFault)
+
+-- the first page of a table
+abbrev pub least_of : List (ℕ × ℕ) → Option ℕ
+least_of [] = None
+least_of (e ∷ rest) = Some e.0
+
+-- the pages in memory, that used last first
+abbrev pub order_of : {D : Type 0} → Shown D → List ℕ
+order_of p = map (λ e. e.0) p.frames
+
+-- The page is in memory, and was changed since it was new, read or written.
+abbrev pub IsDirty : {D : Type 0} → Shown D → ℕ → Type 0
+IsDirty p page = (f : Frame) × (frame_in p.frames page ≡ Some f) × IsTrue f.is_dirty
+
+-- These are the cells of a page that waits: those that were copied, or else those in its frame, which was not changed since.
+abbrev pub IsFrozen : {D : Type 0} → Shown D → ℕ → List Cell → Type 0
+IsFrozen p page cells = (copy_in p.copies page ≡ Some cells) ⊎ ((copy_in p.copies page ≡ None) × (f : Frame) × (frame_in p.frames page ≡ Some f) × (f.cells ≡ cells))

@@ -1,0 +1,78 @@
+-- What each call of a pool leaves as it was.
+use Rattle.std.specs.Prelude.{◌≡◌, ◌≤◌, ◌<◌, ℕ, false, List, length, Some, IsTrue, get_or}
+use Rattle.hg_disk.specs.declared.disk.Disk as disk
+use Rattle.hg_disk.specs.Moments.{GoesOn, Leaves, LeavesOnly}
+use Rattle.hg_cells.specs.declared.cell.Cell.{Cell}
+use Rattle.hg_cells.specs.declared.cell.Cell.TheVariants.{New}
+use Rattle.hg_cells.specs.Cells.{IsWithin}
+use Rattle.hg_pages.specs.Slots.{HasBytes, HasSlot}
+use Rattle.hg_pages.specs.Tables.{IsNamed, slot_in}
+use Rattle.hg_pool.specs.declared.frame.Frame.{Frame}
+use Rattle.hg_pool.specs.Maps.{GivesCells, bytes_of, disk_of, frame_in, frozen, in_slot, is_broken, live}
+use Rattle.hg_pool.specs.Shown.{Shown}
+
+-- each page keeps its slot
+abbrev pub Extends : List (ℕ × ℕ) → List (ℕ × ℕ) → Type 0
+Extends old new = (page slot : ℕ) → slot_in old page ≡ Some slot → slot_in new page ≡ Some slot
+
+-- no cell was changed
+abbrev pub SameMap : (ℕ → Cell) → (ℕ → Cell) → Type 0
+SameMap old new = (w : ℕ) → new w ≡ old w
+
+-- the slot has the page with some cells
+abbrev pub HasSome : ℕ → ℕ → List ℕ → Type 0
+HasSome slot page file = (cells : List Cell) × HasSlot slot page cells file
+
+module _ {D : Type 0} (g : disk.Ghosts D) where
+  -- The slots that a page is named in have it, and what is in memory and was not changed is what stands in its slot.
+  pub record IsPageWhole (p : Shown D) (page : ℕ) : Type 0 where
+    pub live_page : (slot : ℕ) → slot_in p.live page ≡ Some slot → HasSome slot page (bytes_of g p)
+    pub frozen_page : (slot : ℕ) → slot_in p.frozen page ≡ Some slot → HasSome slot page (bytes_of g p)
+    pub clean : (f : Frame) → frame_in p.frames page ≡ Some f → f.is_dirty ≡ false → (i : ℕ) → i < 256 → get_or f.cells i New ≡ in_slot (bytes_of g p) (slot_in p.live page) i
+
+  -- The maps are what was written: reads are honest, and each page is whole.
+  pub record IsWhole (p : Shown D) : Type 0 where
+    pub honest : IsTrue g.is_honest
+    pub pages : (page : ℕ) → IsPageWhole p page
+
+  -- The same, and the live cells name only segments and sets below these numbers.
+  pub record IsFaithful (p : Shown D) (segments sets : ℕ) : Type 0 where
+    pub whole : IsWhole p
+    pub within : (w : ℕ) → IsWithin segments sets (live g p w)
+
+  -- What each image has in a slot that the table names, it has at each moment from the one pool to the other.
+  abbrev pub KeepsNamed : List (ℕ × ℕ) → Shown D → Shown D → Type 0
+  KeepsNamed table old new = (slot : ℕ) (bytes : List ℕ) → IsNamed table slot → Leaves (HasBytes slot bytes) (g.state (disk_of old)) → LeavesOnly g (disk_of old) (disk_of new) (HasBytes slot bytes)
+
+  -- Where each image of the slots, read by this table, gives these cells, it does at each moment from the one pool to the other.
+  abbrev pub KeepsGiven : List (ℕ × ℕ) → Shown D → Shown D → Type 0
+  KeepsGiven table old new = (cells_of : ℕ → Cell) → Leaves (GivesCells table cells_of) (g.state (disk_of old)) → LeavesOnly g (disk_of old) (disk_of new) (GivesCells table cells_of)
+
+  -- What a pool keeps of the checkpoint that is being written, and of the one that counts, from one moment to another: nothing but a
+  -- freeze changes the frozen map, and nothing but the opening of a root changes which table the root has. What the two tables
+  -- name stays in each image.
+  pub record Went (old new : Shown D) : Type 0 where
+    pub goes : GoesOn g (disk_of old) (disk_of new)
+    pub works : is_broken new ≡ false → is_broken old ≡ false
+    pub root : new.root ≡ old.root
+    pub frozen_table : Extends old.frozen new.frozen
+    pub root_kept : KeepsNamed old.root old new
+    pub frozen_kept : KeepsNamed old.frozen old new
+    pub long : (n : ℕ) → Leaves (λ image. n ≤ length image) (g.state (disk_of old)) → LeavesOnly g (disk_of old) (disk_of new) (λ image. n ≤ length image)
+    pub whole : IsWhole old → IsWhole new
+    pub frozen_is : IsWhole old → SameMap (frozen g old) (frozen g new)
+    pub sealed : IsTrue old.is_sealed → IsTrue new.is_sealed
+    pub limits : (new.most_frames ≡ old.most_frames) × (new.slots ≡ old.slots)
+
+  -- What each call leaves that changes no word: the live map too, where it is what was written.
+  pub record Stays (old new : Shown D) : Type 0 where
+    pub went : Went old new
+    pub live_is : IsWhole old → SameMap (live g old) (live g new)
+
+-- What is in memory now was there, with the same cells.
+abbrev pub CellsFrom : List (ℕ × Frame) → List (ℕ × Frame) → Type 0
+CellsFrom old new = (q : ℕ) (f : Frame) → frame_in new q ≡ Some f → (e : Frame) × (frame_in old q ≡ Some e) × (f.cells ≡ e.cells)
+
+-- What is in memory names only segments and sets below these numbers.
+abbrev pub AreWithin : List (ℕ × Frame) → ℕ → ℕ → Type 0
+AreWithin frames segments sets = (q : ℕ) (f : Frame) → frame_in frames q ≡ Some f → (i : ℕ) → IsWithin segments sets (get_or f.cells i New)

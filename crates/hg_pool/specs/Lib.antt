@@ -1,0 +1,9 @@
+pub mod Maps
+pub mod Shown
+pub mod Kept
+pub mod Answers
+pub mod Picking
+pub mod Tables
+pub mod Sound
+pub mod OfWords
+pub mod Laws

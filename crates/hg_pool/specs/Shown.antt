@@ -1,0 +1,21 @@
+-- What contracts see of a pool.
+use Rattle.std.specs.Prelude.{ℕ, List, Bool}
+use Rattle.hg_cells.specs.declared.cell.Cell.{Cell}
+use Rattle.hg_pages.specs.declared.slot_file.SlotFile.{SlotFile}
+use Rattle.hg_pool.specs.declared.frame.Frame.{Frame}
+
+-- The file of slots. The tables of the newest root, of the frozen map and of the live one: pages and their slots. The pages that
+-- wait to be written for the frozen map, each with the slot that was picked for it, and the frozen cells of those that were changed
+-- since. The pages in memory, that used last first, and how many there may be. How many slots there may be. Whether the frozen
+-- map was sealed.
+pub record Shown (D : Type 0) : Type 0 where
+  pub file : SlotFile D
+  pub root : List (ℕ × ℕ)
+  pub frozen : List (ℕ × ℕ)
+  pub live : List (ℕ × ℕ)
+  pub waiting : List (ℕ × ℕ)
+  pub copies : List (ℕ × List Cell)
+  pub frames : List (ℕ × Frame)
+  pub most_frames : ℕ
+  pub slots : ℕ
+  pub is_sealed : Bool

@@ -1,0 +1,60 @@
+-- What holds of the parts of a pool.
+use Rattle.std.specs.Prelude.{◌≡◌, ◌+◌, ◌≤◌, ◌<◌, ◌^◌, ℕ, Bool, true, List, [], length, Option, Some, None, is_some, IsTrue}
+use Rattle.std.specs.Option.{unwrap_or}
+use Rattle.lru.specs.LruCache.{LruCache}
+use Rattle.hg_cells.specs.declared.cell.Cell.{Cell}
+use Rattle.hg_pages.specs.Tables as tables
+use Rattle.hg_pages.specs.Tables.{IsNamed, slot_in}
+use Rattle.hg_pool.specs.declared.frame.Frame.{Frame}
+use Rattle.hg_pool.specs.declared.parts.Parts.{Parts}
+use Rattle.hg_pool.specs.Maps.{copy_in, frame_in}
+use Rattle.hg_pool.specs.Shown.{Shown}
+
+-- the frozen table: the root's where there is no other
+abbrev pub frozen_of : {D : Type 0} → Parts D → tables.Shown
+frozen_of p = unwrap_or p.frozen p.root
+
+-- what contracts see
+abbrev pub shown_of : {D : Type 0} → Parts D → Shown D
+shown_of p = record {
+  file = p.file;
+  root = p.root.entries;
+  frozen = (frozen_of p).entries;
+  live = p.live.entries;
+  waiting = p.waiting.entries;
+  copies = p.copies.entries;
+  frames = p.frames.entries;
+  most_frames = p.frames.cap;
+  slots = p.slots;
+  is_sealed = p.is_sealed;
+}
+
+-- What holds of a page that waits for this slot: no table names the slot; the page is not written yet; without a copy, it is in
+-- memory as it was frozen; and there is room for its entries.
+pub record IsPicked (root : tables.Shown) (frozen : Option tables.Shown) (live waiting : tables.Shown) (copies : List (ℕ × List Cell)) (frames : List (ℕ × Frame)) (slots page slot : ℕ) : Type 0 where
+  pub not_root : ¬ IsNamed root.entries slot
+  pub not_frozen : ¬ IsNamed (unwrap_or frozen root).entries slot
+  pub not_live : ¬ IsNamed live.entries slot
+  pub unwritten : slot_in (unwrap_or frozen root).entries page ≡ None
+  pub present : copy_in copies page ≡ None → (f : Frame) × (frame_in frames page ≡ Some f) × (f.is_dirty ≡ true)
+  pub own : is_some frozen ≡ true
+  pub frozen_room : length (unwrap_or frozen root).entries + length waiting.entries ≤ (unwrap_or frozen root).capacity
+  pub live_room : length live.entries + length waiting.entries ≤ live.capacity
+  pub frozen_slots : slot < (unwrap_or frozen root).slots
+  pub live_slots : slot < live.slots
+  pub within : slot < slots
+  pub number : page < 2 ^ 54
+
+-- The parts agree with each other.
+pub record AreSound (root : tables.Shown) (frozen : Option tables.Shown) (live waiting : tables.Shown) (copies : LruCache ℕ (List Cell)) (frames : LruCache ℕ Frame) (slots : ℕ) (is_sealed : Bool) : Type 0 where
+  pub picked : (page slot : ℕ) → slot_in waiting.entries page ≡ Some slot → IsPicked root frozen live waiting copies.entries frames.entries slots page slot
+  pub copied : (page : ℕ) (cells : List Cell) → copy_in copies.entries page ≡ Some cells → is_some (slot_in waiting.entries page) ≡ true
+  pub few : length waiting.entries ≤ frames.cap
+  pub most : copies.cap ≡ frames.cap
+  pub numbers : (page : ℕ) (f : Frame) → frame_in frames.entries page ≡ Some f → page < 2 ^ 54
+  pub sealed : IsTrue is_sealed → waiting.entries ≡ []
+  pub most_frames : frames.cap ≤ 4096
+  pub most_slots : slots ≤ 1048576
+
+abbrev pub IsSound : {D : Type 0} → Parts D → Type 0
+IsSound p = AreSound p.root p.frozen p.live p.waiting p.copies p.frames p.slots p.is_sealed

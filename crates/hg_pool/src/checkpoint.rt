@@ -1,0 +1,133 @@
+//! The pages that wait are written, and a root that names them is opened.
+ghost use Rattle.std.specs.Prelude.{◌≡◌, ◌⊎◌, ◌↔◌, ◌+◌, ◌<◌, ◌≤◌, ◌^◌, ◌==◌, ℕ, List, [], length, get_or, true, Some, None, Ok, Err, is_some, IsTrue, OnOk, OnErr, IfOk, IfErr, MatchOption, if◌then◌else◌};
+ghost use Rattle.std.specs.Option.{unwrap_or};
+ghost use Rattle.hg_cells.specs.declared.cell.Cell.{Cell as CellOf};
+ghost use Rattle.hg_cells.specs.declared.cell.Cell.TheVariants.{New};
+ghost use Rattle.hg_detect.specs.Words.{failed_after};
+ghost use Rattle.hg_pages.specs.Slots.{IsSlot, slot_text};
+ghost use Rattle.hg_pages.specs.Tables.{slot_in};
+ghost use Rattle.hg_pool.specs.declared.frame.Frame.{Frame as FrameOf};
+ghost use Rattle.hg_pool.specs.Maps.{IsSealed, bytes_of, copy_in, disk_of, frame_in, frozen_at, is_broken};
+ghost use Rattle.hg_pool.specs.Kept.{IsWhole, Stays};
+ghost use Rattle.hg_pool.specs.Answers.{IsDeviceCause, IsFrozen, least_of};
+
+use crate::job::{Job, Put};
+use crate::parts::{Parts, told};
+use hg_cells::Page;
+use hg_disk::Disk;
+use hg_model::verdict::Refusal;
+use hg_pages::EncodedPage;
+
+impl<D: Disk> Parts<D> {
+    ghost use Rattle.hg_pool.specs.Sound.{IsSound, frozen_of, shown_of};
+
+    // The frozen cells of a page that waits.
+    fn frozen_cells(&self, page: u64) -> Option<&Page>
+        requires sound { IsSound self.now }
+        requires waits { is_some (slot_in self.now.waiting.entries page) ≡ true }
+        ensures { MatchOption result ⊥ (λ cells. IsFrozen (shown_of self.now) page cells.now) }
+    {
+        match self.copies.peek(&page) {
+            Some(cells) => Some(cells),
+            None => match self.frames.peek(&page) {
+                Some(frame) => Some(&frame.cells),
+                None => None,
+            },
+        }
+    }
+
+    /// The page with the least number of those that wait, and its frozen cells.
+    pub(crate) fn take_job(&self) -> Option<Job>
+        requires sound { IsSound self.now }
+        ensures { MatchOption result (self.now.waiting.entries ≡ []) (λ job. (Some job.page ≡ least_of self.now.waiting.entries) × (is_some (slot_in self.now.waiting.entries job.page) ≡ true) × IsFrozen (shown_of self.now) job.page job.cells) }
+    {
+        let entries = self.waiting.entries();
+        if entries.is_empty() {
+            return None;
+        }
+        let page = entries[0].0;
+        match self.frozen_cells(page) {
+            Some(cells) => Some(Job {
+                alloc: self.alloc,
+                page,
+                cells: cells.copy(),
+            }),
+            None => None,
+        }
+    }
+
+    // The slot of a page, where it waits and these are the bytes of its frozen cells.
+    fn awaits(&self, page: &EncodedPage) -> Option<u32>
+        requires sound { IsSound self.now }
+        ensures { MatchOption result ((slot : ℕ) (cells : List CellOf) → slot_in self.now.waiting.entries page.now.page ≡ Some slot → IsFrozen (shown_of self.now) page.now.page cells → page.now.bytes ≡ slot_text page.now.page cells → ⊥)
+            (λ slot. (slot_in self.now.waiting.entries page.now.page ≡ Some slot) × (cells : List CellOf) × IsFrozen (shown_of self.now) page.now.page cells × IsSlot page.now.page cells page.now.bytes) }
+    {
+        match self.waiting.get(page.page()) {
+            None => None,
+            Some(slot) => match self.frozen_cells(page.page()) {
+                Some(cells) => { if page.has(cells) { Some(slot) } else { None } }
+                None => None,
+            },
+        }
+    }
+
+    /// Writes a page to the slot that was picked for it, where it waits and the bytes are those of its frozen cells.
+    pub(crate) fn put(&mut self, page: &EncodedPage) -> Result<Put, Refusal>
+        requires sound { IsSound self.old }
+        ensures sound { IsSound self.new }
+        ensures stays { Stays ⟦<D as Disk>⟧ (shown_of self.old) (shown_of self.new) }
+        ensures written { IfOk result (λ put. put ≡ Put.Written → (cells : List CellOf) × (is_some (slot_in self.old.waiting.entries page.now.page) ≡ true) × IsFrozen (shown_of self.old) page.now.page cells × IsSlot page.now.page cells page.now.bytes) }
+        ensures stale { IfOk result (λ put. put ≡ Put.Stale → (slot : ℕ) (cells : List CellOf) → slot_in self.old.waiting.entries page.now.page ≡ Some slot → IsFrozen (shown_of self.old) page.now.page cells → page.now.bytes ≡ slot_text page.now.page cells → ⊥) }
+        ensures nothing { IfOk result (λ put. put ≡ Put.Stale → self.new ≡ self.old) }
+        ensures waiting { IfOk result (λ put. put ≡ Put.Written → (q : ℕ) → slot_in self.new.waiting.entries q ≡ (if page.now.page == q then None else slot_in self.old.waiting.entries q)) }
+        ensures refusal { IfErr result IsDeviceCause }
+        ensures broken { (result ≡ Err Refusal.Broken) → IsTrue (is_broken (shown_of self.old)) }
+        ensures breaks { OnErr result (IsTrue (is_broken (shown_of self.new))) }
+        ensures refused { OnErr result (self.new ≡ record self.old { file = self.new.file }) }
+        ensures device { D.failures (disk_of (shown_of self.new)) ≡ failed_after result (D.failures (disk_of (shown_of self.old))) }
+    {
+        match self.awaits(page) {
+            None => Ok(Put::Stale),
+            Some(slot) => match self.write_waiting(slot, page) {
+                Ok(()) => Ok(Put::Written),
+                Err(refusal) => Err(refusal),
+            },
+        }
+    }
+
+    /// Makes what was written durable.
+    pub(crate) fn seal(&mut self) -> Result<(), Refusal>
+        requires sound { IsSound self.old }
+        ensures sound { IsSound self.new }
+        ensures stays { Stays ⟦<D as Disk>⟧ (shown_of self.old) (shown_of self.new) }
+        ensures sealed { IsWhole ⟦<D as Disk>⟧ (shown_of self.old) → self.old.waiting.entries ≡ [] → OnOk result (IsSealed ⟦<D as Disk>⟧ (shown_of self.new)) }
+        ensures marked { self.old.waiting.entries ≡ [] → OnOk result (IsTrue self.new.is_sealed) }
+        ensures rest { self.new ≡ record self.old { file = self.new.file; is_sealed = self.new.is_sealed } }
+        ensures refusal { IfErr result IsDeviceCause }
+        ensures broken { (result ≡ Err Refusal.Broken) → IsTrue (is_broken (shown_of self.old)) }
+        ensures breaks { OnErr result (IsTrue (is_broken (shown_of self.new))) }
+        ensures device { D.failures (disk_of (shown_of self.new)) ≡ failed_after result (D.failures (disk_of (shown_of self.old))) }
+    {
+        match self.file.seal() {
+            Err(fault) => Err(told(fault)),
+            Ok(()) => {
+                if self.waiting.len() == 0 {
+                    self.is_sealed = true;
+                }
+                Ok(())
+            }
+        }
+    }
+
+    /// From now on the root's table is the frozen one.
+    pub(crate) fn root_opened(&mut self)
+        requires sound { IsSound self.old }
+        requires sealed { IsTrue self.old.is_sealed }
+        ensures sound { IsSound self.new }
+        ensures root { shown_of self.new ≡ record (shown_of self.old) { root = (frozen_of self.old).entries } }
+    {
+        if let Some(table) = self.frozen.take() {
+            self.root = table;
+        }
+    }
+}

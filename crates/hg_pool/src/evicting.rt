@@ -1,0 +1,186 @@
+//! Pages leave their frames, and those that were changed are written first.
+ghost use Rattle.std.specs.Prelude.{◌≡◌, ◌⊎◌, ◌↔◌, ◌+◌, ◌<◌, ◌≤◌, ◌^◌, ℕ, nat_eq, List, [], ◌∷◌, ◌++◌, length, map, get_or, true, false, Some, None, Ok, Err, is_some, IsTrue, OnOk, OnErr, IfOk, IfErr, MatchOption, ◌==◌, if◌then◌else◌};
+ghost use Rattle.std.specs.Map.{remove_entry};
+ghost use Rattle.lru.specs.LruCache.{last_entry};
+ghost use Rattle.hg_cells.specs.declared.cell.Cell.{Cell as CellOf};
+ghost use Rattle.hg_cells.specs.declared.cell.Cell.TheVariants.{New};
+ghost use Rattle.hg_detect.specs.Words.{failed_after};
+ghost use Rattle.hg_pages.specs.Slots.{IsSlot};
+ghost use Rattle.hg_pages.specs.Tables.{IsNamed, slot_in};
+ghost use Rattle.hg_pool.specs.declared.frame.Frame.{Frame as FrameOf};
+ghost use Rattle.hg_pool.specs.Maps.{bytes_of, copy_in, disk_of, frame_in, frozen_at, is_broken};
+ghost use Rattle.hg_pool.specs.Kept.{CellsFrom, Stays};
+ghost use Rattle.hg_pool.specs.Answers.{IsDeviceCause, IsTaken, IsTrueCause, order_of};
+
+use crate::parts::Parts;
+use hg_disk::Disk;
+use hg_model::verdict::Refusal;
+use hg_pages::{EncodedPage, encode};
+use std::alloc::AllocError;
+
+impl<D: Disk> Parts<D> {
+    ghost use Rattle.hg_pool.specs.Sound.{IsSound, shown_of};
+
+    // A page that is in memory as the bytes of its slot.
+    fn encoded(&self, page: u64) -> Result<EncodedPage, AllocError>
+        requires sound { IsSound self.now }
+        ensures page { IfOk result (λ encoded. encoded.page ≡ page) }
+        ensures slot { (f : FrameOf) → frame_in self.now.frames.entries page ≡ Some f → IfOk result (λ encoded. IsSlot page f.cells encoded.bytes) }
+    {
+        match self.frames.peek(&page) {
+            Some(frame) => encode(self.alloc, page, &frame.cells),
+            None => Err(AllocError),
+        }
+    }
+
+    // Writes a page that waits to the slot that was picked for it, from where it is frozen, and live if it was not changed since.
+    pub(crate) fn write_waiting(&mut self, slot: u32, encoded: &EncodedPage) -> Result<(), Refusal>
+        requires sound { IsSound self.old }
+        requires waits { slot_in self.old.waiting.entries encoded.now.page ≡ Some slot }
+        requires stands { (cells : List CellOf) × IsSlot encoded.now.page cells encoded.now.bytes
+            × ((i : ℕ) → i < 256 → get_or cells i New ≡ frozen_at (bytes_of ⟦<D as Disk>⟧ (shown_of self.old)) (shown_of self.old) encoded.now.page i) }
+        requires as_frozen { copy_in self.old.copies.entries encoded.now.page ≡ None → (f : FrameOf) → frame_in self.old.frames.entries encoded.now.page ≡ Some f → IsSlot encoded.now.page f.cells encoded.now.bytes }
+        ensures sound { IsSound self.new }
+        ensures stays { Stays ⟦<D as Disk>⟧ (shown_of self.old) (shown_of self.new) }
+        ensures refusal { IfErr result IsDeviceCause }
+        ensures device { D.failures (disk_of (shown_of self.new)) ≡ failed_after result (D.failures (disk_of (shown_of self.old))) }
+        ensures cells { CellsFrom self.old.frames.entries self.new.frames.entries }
+        ensures breaks { OnErr result (IsTrue (is_broken (shown_of self.new))) }
+        ensures refuses { IsTrue (is_broken (shown_of self.old)) → (result ≡ Err Refusal.Broken) × (self.new ≡ self.old) }
+        ensures broken { (result ≡ Err Refusal.Broken) → IsTrue (is_broken (shown_of self.old)) }
+        ensures order { map (λ e. e.0) self.new.frames.entries ≡ map (λ e. e.0) self.old.frames.entries }
+        ensures clean { copy_in self.old.copies.entries encoded.now.page ≡ None → OnOk result ((f : FrameOf) → frame_in self.new.frames.entries encoded.now.page ≡ Some f → f.is_dirty ≡ false) }
+        ensures waiting { OnOk result ((q : ℕ) → slot_in self.new.waiting.entries q ≡ (if encoded.now.page == q then None else slot_in self.old.waiting.entries q)) }
+        ensures refused { OnErr result (self.new ≡ record self.old { file = self.new.file }) }
+    {
+        self.write_unnamed(slot, encoded)?;
+        if self.release(encoded.page(), slot) {
+            self.move_live(encoded.page(), slot);
+        }
+        Ok(())
+    }
+
+    // Writes a page that was changed to a free slot, from where it is live.
+    fn write_changed(&mut self, page: u64, slot: u32) -> Result<(), Refusal>
+        requires sound { IsSound self.old }
+        requires present { is_some (frame_in self.old.frames.entries page) ≡ true }
+        requires settled { (slot_in self.old.waiting.entries page ≡ None) ⊎ (is_some (copy_in self.old.copies.entries page) ≡ true) }
+        requires free { ¬ IsTaken (shown_of self.old) slot }
+        requires within { slot < self.old.slots }
+        ensures sound { IsSound self.new }
+        ensures stays { Stays ⟦<D as Disk>⟧ (shown_of self.old) (shown_of self.new) }
+        ensures refusal { IfErr result (IsTrueCause (shown_of self.old) (shown_of self.new)) }
+        ensures device { D.failures (disk_of (shown_of self.new)) ≡ failed_after result (D.failures (disk_of (shown_of self.old))) }
+        ensures cells { CellsFrom self.old.frames.entries self.new.frames.entries }
+        ensures order { map (λ e. e.0) self.new.frames.entries ≡ map (λ e. e.0) self.old.frames.entries }
+        ensures clean { OnOk result ((f : FrameOf) → frame_in self.new.frames.entries page ≡ Some f → f.is_dirty ≡ false) }
+    {
+        let Ok(encoded) = self.encoded(page) else {
+            return Err(Refusal::OutOfMemory);
+        };
+        self.reserve_live(slot)?;
+        self.write_unnamed(slot, &encoded)?;
+        self.move_live(page, slot);
+        Ok(())
+    }
+
+    // Whether a page that is in memory was changed.
+    fn is_dirty(&self, page: u64) -> bool
+        ensures { (f : FrameOf) → frame_in self.now.frames.entries page ≡ Some f → result ≡ f.is_dirty }
+    {
+        match self.frames.peek(&page) {
+            Some(frame) => frame.is_dirty,
+            None => false,
+        }
+    }
+
+    // Writes a page that waits, and is as it was frozen, to the slot that was picked for it.
+    fn clean_waiting(&mut self, page: u64, slot: u32) -> Result<(), Refusal>
+        requires sound { IsSound self.old }
+        requires waits { slot_in self.old.waiting.entries page ≡ Some slot }
+        requires as_frozen { copy_in self.old.copies.entries page ≡ None }
+        ensures sound { IsSound self.new }
+        ensures stays { Stays ⟦<D as Disk>⟧ (shown_of self.old) (shown_of self.new) }
+        ensures refusal { IfErr result (IsTrueCause (shown_of self.old) (shown_of self.new)) }
+        ensures device { D.failures (disk_of (shown_of self.new)) ≡ failed_after result (D.failures (disk_of (shown_of self.old))) }
+        ensures cells { CellsFrom self.old.frames.entries self.new.frames.entries }
+        ensures order { map (λ e. e.0) self.new.frames.entries ≡ map (λ e. e.0) self.old.frames.entries }
+        ensures clean { OnOk result ((f : FrameOf) → frame_in self.new.frames.entries page ≡ Some f → f.is_dirty ≡ false) }
+    {
+        let Ok(encoded) = self.encoded(page) else {
+            return Err(Refusal::OutOfMemory);
+        };
+        self.write_waiting(slot, &encoded)
+    }
+
+    // Writes a page that was changed since its slot was written.
+    fn clean(&mut self, page: u64) -> Result<(), Refusal>
+        requires sound { IsSound self.old }
+        requires present { is_some (frame_in self.old.frames.entries page) ≡ true }
+        ensures sound { IsSound self.new }
+        ensures stays { Stays ⟦<D as Disk>⟧ (shown_of self.old) (shown_of self.new) }
+        ensures refusal { IfErr result (IsTrueCause (shown_of self.old) (shown_of self.new)) }
+        ensures device { D.failures (disk_of (shown_of self.new)) ≡ failed_after result (D.failures (disk_of (shown_of self.old))) }
+        ensures cells { CellsFrom self.old.frames.entries self.new.frames.entries }
+        ensures order { map (λ e. e.0) self.new.frames.entries ≡ map (λ e. e.0) self.old.frames.entries }
+        ensures clean { OnOk result ((f : FrameOf) → frame_in self.new.frames.entries page ≡ Some f → f.is_dirty ≡ false) }
+    {
+        if !self.is_dirty(page) {
+            return Ok(());
+        }
+        if let Some(slot) = self.waiting.get(page) {
+            if !self.copies.contains(&page) {
+                return self.clean_waiting(page, slot);
+            }
+        }
+        match self.free_slot() {
+            Some(slot) => self.write_changed(page, slot),
+            None => Err(Refusal::FullSlots),
+        }
+    }
+
+    /// Frees the frame of the page used least recently, which is written first where it was changed, and answers its number; none
+    /// where no page is in memory.
+    pub(crate) fn evict(&mut self) -> Result<Option<u64>, Refusal>
+        requires sound { IsSound self.old }
+        ensures sound { IsSound self.new }
+        ensures stays { Stays ⟦<D as Disk>⟧ (shown_of self.old) (shown_of self.new) }
+        ensures refusal { IfErr result (IsTrueCause (shown_of self.old) (shown_of self.new)) }
+        ensures device { D.failures (disk_of (shown_of self.new)) ≡ failed_after result (D.failures (disk_of (shown_of self.old))) }
+        ensures cells { CellsFrom self.old.frames.entries self.new.frames.entries }
+        ensures none { result ≡ Ok None → (self.new ≡ self.old) × (self.old.frames.entries ≡ []) }
+        ensures freed { IfOk result (λ page. MatchOption page (self.old.frames.entries ≡ []) (λ n. order_of (shown_of self.old) ≡ order_of (shown_of self.new) ++ n ∷ [])) }
+        ensures kept { OnErr result (order_of (shown_of self.new) ≡ order_of (shown_of self.old)) }
+        ensures fewer { (q : ℕ) → is_some (frame_in self.new.frames.entries q) ≡ true → is_some (frame_in self.old.frames.entries q) ≡ true }
+    {
+        let _count = self.frames.len();
+        let page = match self.frames.peek_lru() {
+            None => return Ok(None),
+            Some((page, _)) => *page,
+        };
+        self.clean(page)?;
+        self.let_go(page);
+        Ok(Some(page))
+    }
+
+    /// Frees a frame where all are taken.
+    pub(crate) fn make_room(&mut self) -> Result<(), Refusal>
+        requires sound { IsSound self.old }
+        ensures sound { IsSound self.new }
+        ensures stays { Stays ⟦<D as Disk>⟧ (shown_of self.old) (shown_of self.new) }
+        ensures refusal { IfErr result (IsTrueCause (shown_of self.old) (shown_of self.new)) }
+        ensures device { D.failures (disk_of (shown_of self.new)) ≡ failed_after result (D.failures (disk_of (shown_of self.old))) }
+        ensures cells { CellsFrom self.old.frames.entries self.new.frames.entries }
+        ensures room { OnOk result (length self.new.frames.entries < self.new.frames.cap) }
+        ensures quiet { length self.old.frames.entries < self.old.frames.cap → self.new ≡ self.old }
+        ensures fewer { (q : ℕ) → is_some (frame_in self.new.frames.entries q) ≡ true → is_some (frame_in self.old.frames.entries q) ≡ true }
+    {
+        if self.frames.len() < self.frames.cap().get() {
+            return Ok(());
+        }
+        match self.evict() {
+            Ok(_) => Ok(()),
+            Err(refusal) => Err(refusal),
+        }
+    }
+}

@@ -1,0 +1,160 @@
+//! The live map is fixed as the frozen one.
+ghost use Rattle.std.specs.Prelude.{◌≡◌, ◌⊎◌, ◌↔◌, ◌+◌, ◌<◌, ◌≤◌, ◌^◌, ◌==◌, ℕ, nat_eq, List, [], ◌∷◌, length, get_or, true, false, Some, None, Ok, Err, is_some, IsTrue, OnOk, OnErr, IfOk, IfErr, MatchOption, take, if◌then◌else◌};
+ghost use Rattle.hg_pages.specs.Tables.{IsNamed, slot_in};
+ghost use Rattle.hg_pool.specs.Maps.{frozen, live};
+ghost use Rattle.hg_pool.specs.Kept.{IsWhole, SameMap};
+ghost use Rattle.hg_pool.specs.Answers.{IsTaken};
+ghost use Rattle.hg_pool.specs.Picking.{ArePicks, HasDirty, IsFreezeCause, IsFreezeRefusal};
+
+use crate::frame::Frame;
+use crate::parts::Parts;
+use hg_disk::Disk;
+use hg_model::verdict::Refusal;
+use hg_pages::Table;
+use lru::LruCache;
+use std::alloc::Global;
+
+// Adds a page that was changed to a table, under its place.
+fn note(table: &mut Table, page: u64, place: u32, frame: &Frame) -> Result<(), Refusal>
+    requires { (q slot : ℕ) → slot_in table.old.entries q ≡ Some slot → slot < place }
+    ensures looks { OnOk result ((q : ℕ) → slot_in table.new.entries q ≡ (if frame.now.is_dirty then (if page == q then Some place else slot_in table.old.entries q) else slot_in table.old.entries q)) }
+    ensures few { OnOk result (length table.new.entries ≤ length table.old.entries + 1) }
+    ensures refusal { IfErr result (λ r. r ≡ Refusal.OutOfMemory) }
+{
+    if !frame.is_dirty {
+        return Ok(());
+    }
+    match table.set(page, place) {
+        Ok(()) => Ok(()),
+        Err(_) => Err(Refusal::OutOfMemory),
+    }
+}
+
+// The pages that were changed, each with its place in the order of use.
+fn changed_pages(alloc: Global, frames: &LruCache<u64, Frame>) -> Result<Table, Refusal>
+    requires { length frames.now.entries ≤ 4096 }
+    ensures pages { IfOk result (λ table. (q : ℕ) → (is_some (slot_in table.entries q) ≡ true) ↔ HasDirty frames.now.entries q) }
+    ensures few { IfOk result (λ table. length table.entries ≤ length frames.now.entries) }
+    ensures refusal { IfErr result (λ r. r ≡ Refusal.OutOfMemory) }
+{
+    let _count = frames.len();
+    let mut table = Table::new(alloc);
+    let mut place = 0u32;
+    for (page, frame) in frames {
+        note(&mut table, *page, place, frame)?;
+        place += 1;
+    }
+    Ok(table)
+}
+
+// A table without these pages.
+fn without(alloc: Global, table: &Table, pages: &Table) -> Result<Table, Refusal>
+    ensures looks { IfOk result (λ left. (q : ℕ) → slot_in left.entries q ≡ (if is_some (slot_in pages.now.entries q) then None else slot_in table.now.entries q)) }
+    ensures fewer { IfOk result (λ left. length left.entries ≤ length table.now.entries) }
+    ensures refusal { IfErr result (λ r. r ≡ Refusal.OutOfMemory) }
+{
+    let mut left = match table.copy(alloc) {
+        Ok(left) => left,
+        Err(_) => return Err(Refusal::OutOfMemory),
+    };
+    for entry in pages.entries() {
+        left.remove(entry.0);
+    }
+    Ok(left)
+}
+
+// Makes room for so many entries, in any of so many slots.
+fn make_roomy(table: &mut Table, count: usize, slots: u32) -> Result<(), Refusal>
+    ensures entries { table.new.entries ≡ table.old.entries }
+    ensures room { OnOk result ((length table.new.entries + count ≤ table.new.capacity) × (slots ≤ table.new.slots)) }
+    ensures no_less { (table.old.capacity ≤ table.new.capacity) × (table.old.slots ≤ table.new.slots) }
+    ensures refusal { IfErr result (λ r. r ≡ Refusal.OutOfMemory) }
+{
+    match table.reserve(count, slots) {
+        Ok(()) => Ok(()),
+        Err(_) => Err(Refusal::OutOfMemory),
+    }
+}
+
+impl<D: Disk> Parts<D> {
+    ghost use Rattle.hg_pool.specs.Sound.{IsSound, shown_of};
+
+    // The least slot from this one on that nothing names.
+    fn free_slot_from(&self, from: u32) -> Option<u32>
+        requires sound { IsSound self.now }
+        ensures { MatchOption result ((slot : ℕ) → from ≤ slot → slot < self.now.slots → IsTaken (shown_of self.now) slot)
+            (λ free. (from ≤ free) × (free < self.now.slots) × (¬ IsTaken (shown_of self.now) free) × ((slot : ℕ) → from ≤ slot → slot < free → IsTaken (shown_of self.now) slot)) }
+    {
+        let tables = [&self.root, self.frozen_table(), &self.live, &self.waiting];
+        match self.file.free_slot_from(from, &tables) {
+            Some(slot) => { if slot < self.slots { Some(slot) } else { None } }
+            None => None,
+        }
+    }
+
+    // A slot for each of these pages, in their order: each the least that nothing names.
+    fn pick(&self, pages: &Table) -> Result<Table, Refusal>
+        requires sound { IsSound self.now }
+        ensures picks { IfOk result (λ picks. ArePicks (shown_of self.now) pages.now.entries picks.entries) }
+        ensures refusal { IfErr result (IsFreezeCause (shown_of self.now) (length pages.now.entries)) }
+    {
+        let mut picks = Table::new(self.alloc);
+        let mut from = 0u32;
+        for entry in pages.entries() {
+            match self.free_slot_from(from) {
+                None => return Err(Refusal::FullSlots),
+                Some(slot) => match picks.set(entry.0, slot) {
+                    Ok(()) => from = slot + 1,
+                    Err(_) => return Err(Refusal::OutOfMemory),
+                },
+            }
+        }
+        Ok(picks)
+    }
+
+    // Takes up these pages as those that wait, and this table as the frozen one.
+    fn begin(&mut self, waiting: Table, table: Table)
+        requires sound { IsSound self.old }
+        requires dirty { (q : ℕ) → (is_some (slot_in waiting.entries q) ≡ true) ↔ HasDirty self.old.frames.entries q }
+        requires free { (q slot : ℕ) → slot_in waiting.entries q ≡ Some slot → (¬ IsTaken (shown_of self.old) slot) × (slot < self.old.slots) }
+        requires few { length waiting.entries ≤ self.old.frames.cap }
+        requires left { (q : ℕ) → slot_in table.entries q ≡ (if is_some (slot_in waiting.entries q) then None else slot_in self.old.live.entries q) }
+        requires frozen_room { (length table.entries + length waiting.entries ≤ table.capacity) × (self.old.slots ≤ table.slots) }
+        requires live_room { (length self.old.live.entries + length waiting.entries ≤ self.old.live.capacity) × (self.old.slots ≤ self.old.live.slots) }
+        ensures sound { IsSound self.new }
+        ensures frozen { IsWhole ⟦<D as Disk>⟧ (shown_of self.old) → SameMap (live ⟦<D as Disk>⟧ (shown_of self.old)) (frozen ⟦<D as Disk>⟧ (shown_of self.new)) }
+        ensures whole { IsWhole ⟦<D as Disk>⟧ (shown_of self.old) → IsWhole ⟦<D as Disk>⟧ (shown_of self.new) }
+        ensures rest { self.new ≡ record self.old { frozen = Some table; waiting = waiting; copies = self.new.copies; is_sealed = false } }
+        ensures copies { self.new.copies.entries ≡ [] }
+    {
+        self.waiting = waiting;
+        self.frozen = Some(table);
+        self.copies.clear();
+        self.is_sealed = false;
+    }
+
+    /// Fixes the live map as the frozen one. The pages that were changed wait from then on.
+    pub(crate) fn freeze(&mut self) -> Result<(), Refusal>
+        requires sound { IsSound self.old }
+        ensures sound { IsSound self.new }
+        ensures frozen { IsWhole ⟦<D as Disk>⟧ (shown_of self.old) → OnOk result (SameMap (live ⟦<D as Disk>⟧ (shown_of self.old)) (frozen ⟦<D as Disk>⟧ (shown_of self.new))) }
+        ensures live { SameMap (live ⟦<D as Disk>⟧ (shown_of self.old)) (live ⟦<D as Disk>⟧ (shown_of self.new)) }
+        ensures whole { IsWhole ⟦<D as Disk>⟧ (shown_of self.old) → IsWhole ⟦<D as Disk>⟧ (shown_of self.new) }
+        ensures waiting { OnOk result ((q : ℕ) → (is_some (slot_in self.new.waiting.entries q) ≡ true) ↔ HasDirty self.old.frames.entries q) }
+        ensures rest { self.new ≡ record self.old { frozen = self.new.frozen; live = self.new.live; waiting = self.new.waiting; copies = self.new.copies; is_sealed = self.new.is_sealed } }
+        ensures table { self.new.live.entries ≡ self.old.live.entries }
+        ensures sealed { OnOk result (self.new.is_sealed ≡ false) }
+        ensures refused { OnErr result (shown_of self.new ≡ shown_of self.old) }
+        ensures refusal { IfErr result (IsFreezeRefusal (shown_of self.old)) }
+    {
+        let _count = self.frames.len();
+        let changed = changed_pages(self.alloc, &self.frames)?;
+        let _entries = changed.entries();
+        let waiting = self.pick(&changed)?;
+        let mut frozen = without(self.alloc, &self.live, &changed)?;
+        make_roomy(&mut frozen, waiting.len(), self.slots)?;
+        make_roomy(&mut self.live, waiting.len(), self.slots)?;
+        self.begin(waiting, frozen);
+        Ok(())
+    }
+}

@@ -1,0 +1,42 @@
+//! A page that waits, to encode where the pool is not held.
+ghost use Rattle.std.specs.Prelude.{◌≡◌, ◌<◌, ◌^◌, IfOk, IfErr};
+ghost use Rattle.hg_pages.specs.Slots.{IsSlot, slot_text};
+
+use hg_cells::Page;
+use hg_pages::{EncodedPage, encode};
+use std::alloc::Global;
+
+/// How a page that was handed in was taken.
+#[derive(Clone, Copy, Debug, PartialEq, Eq, Drop)]
+pub enum Put {
+    /// It was written to the slot that was picked for it.
+    Written,
+    /// It does not wait, or has other cells than the frozen ones. Nothing was changed.
+    Stale,
+}
+
+/// A page that waits, with its frozen cells.
+#[derive(Drop)]
+pub struct Job {
+    /// Where its bytes are taken from.
+    pub alloc: Global,
+    /// The number of the page.
+    pub page: u64,
+    /// Its frozen cells.
+    pub cells: Page,
+}
+
+impl Job {
+    /// The page as the bytes of its slot. The job is handed back where memory is refused.
+    pub fn encode(self) -> Result<EncodedPage, Job>
+        ensures page { IfOk result (λ encoded. encoded.page ≡ self.page) }
+        ensures bytes { IfOk result (λ encoded. encoded.bytes ≡ slot_text self.page self.cells) }
+        ensures slot { self.page < 2 ^ 54 → IfOk result (λ encoded. IsSlot self.page self.cells encoded.bytes) }
+        ensures handed_back { IfErr result (λ job. job ≡ self) }
+    {
+        match encode(self.alloc, self.page, &self.cells) {
+            Ok(encoded) => Ok(encoded),
+            Err(_) => Err(self),
+        }
+    }
+}

@@ -1,0 +1,97 @@
+//! Pages come into frames, and are changed there.
+ghost use Rattle.std.specs.Prelude.{◌≡◌, ◌≢◌, ◌⊎◌, ◌+◌, ◌<◌, ◌≤◌, ◌^◌, ◌==◌, ℕ, List, ◌∷◌, length, get_or, true, false, Some, None, is_some, OnOk, OnErr, IfOk, IfErr, if◌then◌else◌};
+ghost use Rattle.hg_cells.specs.declared.cell.Cell.TheVariants.{New};
+ghost use Rattle.hg_cells.specs.Cells.{IsWithin};
+ghost use Rattle.hg_cells.specs.Pages.{filled};
+ghost use Rattle.hg_detect.specs.Words.{failed_after};
+ghost use Rattle.hg_pages.specs.Slots.{IsKnown};
+ghost use Rattle.hg_pages.specs.Tables.{slot_in};
+ghost use Rattle.hg_pool.specs.declared.frame.Frame.{Frame as FrameOf};
+ghost use Rattle.hg_pool.specs.Maps.{bytes_of, copy_in, disk_of, frame_in, in_slot};
+ghost use Rattle.hg_pool.specs.Kept.{AreWithin, IsWhole, Stays, Went};
+ghost use Rattle.hg_pool.specs.Answers.{IsTrueCause, order_of};
+
+use crate::held::fill_words;
+use crate::parts::{Parts, told};
+use hg_cells::{Cell, Page};
+use hg_disk::Disk;
+use hg_model::verdict::Refusal;
+use hg_sets::SetTable;
+
+impl<D: Disk> Parts<D> {
+    ghost use Rattle.hg_pool.specs.Sound.{IsSound, shown_of};
+
+    // The cells of a page that is not in memory: from its slot, or new ones.
+    fn read(&mut self, page: u64, segments: u32, sets: &SetTable) -> Result<Page, Refusal>
+        requires sound { IsSound self.old }
+        ensures sound { IsSound self.new }
+        ensures rest { self.new ≡ record self.old { file = self.new.file } }
+        ensures stays { Stays ⟦<D as Disk>⟧ (shown_of self.old) (shown_of self.new) }
+        ensures cells { IsWhole ⟦<D as Disk>⟧ (shown_of self.new) → IfOk result (λ cells. (i : ℕ) → i < 256 → get_or cells i New ≡ in_slot (bytes_of ⟦<D as Disk>⟧ (shown_of self.new)) (slot_in self.new.live.entries page) i) }
+        ensures named { IfOk result (λ cells. (i : ℕ) → IsWithin segments (length sets.now.sets) (get_or cells i New)) }
+        ensures whole { IsWhole ⟦<D as Disk>⟧ (shown_of self.old) → ((i : ℕ) → i < 256 → IsKnown segments sets.now.sets (in_slot (bytes_of ⟦<D as Disk>⟧ (shown_of self.old)) (slot_in self.old.live.entries page) i))
+            → IfErr result (λ r. r ≢ Refusal.Damaged) }
+        ensures refusal { IfErr result (IsTrueCause (shown_of self.old) (shown_of self.new)) }
+        ensures device { D.failures (disk_of (shown_of self.new)) ≡ failed_after result (D.failures (disk_of (shown_of self.old))) }
+    {
+        match self.live.get(page) {
+            None => Ok(Page::new()),
+            Some(slot) => match self.file.read_page(slot, page, segments, sets) {
+                Ok(cells) => Ok(cells),
+                Err(fault) => Err(told(fault)),
+            },
+        }
+    }
+
+    /// Brings a page into a frame, as the one used last.
+    pub(crate) fn load(&mut self, page: u64, segments: u32, sets: &SetTable) -> Result<(), Refusal>
+        requires sound { IsSound self.old }
+        requires number { page < 2 ^ 54 }
+        ensures sound { IsSound self.new }
+        ensures stays { Stays ⟦<D as Disk>⟧ (shown_of self.old) (shown_of self.new) }
+        ensures loaded { OnOk result (is_some (frame_in self.new.frames.entries page) ≡ true) }
+        ensures within { (n m : ℕ) → segments ≤ n → length sets.now.sets ≤ m → AreWithin self.old.frames.entries n m → AreWithin self.new.frames.entries n m }
+        ensures refusal { IfErr result (IsTrueCause (shown_of self.old) (shown_of self.new)) }
+        ensures device { D.failures (disk_of (shown_of self.new)) ≡ failed_after result (D.failures (disk_of (shown_of self.old))) }
+    {
+        if self.use_page(page) {
+            return Ok(());
+        }
+        self.make_room()?;
+        let cells = self.read(page, segments, sets)?;
+        self.take_in(page, cells)
+    }
+
+    /// Gives words of a page a cell.
+    pub(crate) fn fill(&mut self, page: u64, from: usize, to: usize, cell: Cell)
+        requires sound { IsSound self.old }
+        requires present { is_some (frame_in self.old.frames.entries page) ≡ true }
+        requires settled { (slot_in self.old.waiting.entries page ≡ None) ⊎ (is_some (copy_in self.old.copies.entries page) ≡ true) }
+        requires in_order { from ≤ to }
+        requires in_page { to ≤ 256 }
+        ensures sound { IsSound self.new }
+        ensures went { Went ⟦<D as Disk>⟧ (shown_of self.old) (shown_of self.new) }
+        ensures rest { self.new ≡ record self.old { frames = self.new.frames } }
+        ensures frames { (f : FrameOf) → frame_in self.old.frames.entries page ≡ Some f
+            → (length f.cells ≡ 256) × ((q : ℕ) → frame_in self.new.frames.entries q ≡ (if page == q then Some (record { cells = filled f.cells from to cell; is_dirty = true }) else frame_in self.old.frames.entries q)) }
+    {
+        fill_words(&mut self.frames, page, from, to, cell);
+    }
+
+    /// Gives words of a page a cell, and makes it the one used last.
+    pub(crate) fn update(&mut self, page: u64, from: usize, to: usize, cell: Cell)
+        requires sound { IsSound self.old }
+        requires present { is_some (frame_in self.old.frames.entries page) ≡ true }
+        requires settled { (slot_in self.old.waiting.entries page ≡ None) ⊎ (is_some (copy_in self.old.copies.entries page) ≡ true) }
+        requires in_order { from ≤ to }
+        requires in_page { to ≤ 256 }
+        ensures sound { IsSound self.new }
+        ensures went { Went ⟦<D as Disk>⟧ (shown_of self.old) (shown_of self.new) }
+        ensures rest { self.new ≡ record self.old { frames = self.new.frames } }
+        ensures frames { (f : FrameOf) → frame_in self.old.frames.entries page ≡ Some f
+            → (length f.cells ≡ 256) × ((q : ℕ) → frame_in self.new.frames.entries q ≡ (if page == q then Some (record { cells = filled f.cells from to cell; is_dirty = true }) else frame_in self.old.frames.entries q)) }
+    {
+        self.use_page(page);
+        self.fill(page, from, to, cell);
+    }
+}

@@ -1,0 +1,165 @@
+//! The parts of a pool, and what each step makes of them.
+ghost use Rattle.std.specs.Prelude.{◌≡◌, ◌≢◌, ◌⊎◌, ◌↔◌, ◌+◌, ◌*◌, ◌/◌, ◌<◌, ◌≤◌, ◌==◌, ◌^◌, ℕ, nat_eq, [], ◌∷◌, List, length, map, get_or, true, false, Some, None, Ok, Err, is_some, IsTrue, OnOk, OnErr, IsErrOf, IfOk, IfErr, IfSome, MatchOption, if◌then◌else◌};
+ghost use Rattle.std.specs.Map.{remove_entry};
+ghost use Rattle.lru.specs.LruCache.{promoted};
+ghost use Rattle.hg_disk.specs.Moments.{Leaves, LeavesOnly};
+ghost use Rattle.hg_cells.specs.declared.cell.Cell.TheVariants.{New};
+ghost use Rattle.hg_detect.specs.Words.{failed_after};
+ghost use Rattle.hg_pages.specs.Slots.{HasBytes};
+ghost use Rattle.hg_pages.specs.Tables.{IsNamed, slot_in};
+ghost use Rattle.hg_pool.specs.declared.frame.Frame.{Frame as FrameOf};
+ghost use Rattle.hg_pool.specs.Maps.{bytes_of, copy_in, disk_of, frame_in, in_slot, is_broken};
+ghost use Rattle.hg_pool.specs.Kept.{Stays};
+ghost use Rattle.hg_pool.specs.Answers.{IsDeviceCause, IsFull, IsTaken, IsTrueCause, told_as};
+
+use crate::frame::Frame;
+use hg_cells::Page;
+use hg_disk::Disk;
+use hg_model::verdict::Refusal;
+use hg_pages::{EncodedPage, SlotFault, SlotFile, Table, encode};
+use hg_sets::SetTable;
+use lru::LruCache;
+use std::alloc::Global;
+
+/// The parts of a pool.
+pub(crate) struct Parts<D: Disk> {
+    pub(crate) alloc: Global,
+    pub(crate) file: SlotFile<D>,
+    pub(crate) root: Table,
+    // None where it is the root's.
+    pub(crate) frozen: Option<Table>,
+    pub(crate) live: Table,
+    pub(crate) waiting: Table,
+    pub(crate) copies: LruCache<u64, Page>,
+    pub(crate) frames: LruCache<u64, Frame>,
+    pub(crate) slots: u32,
+    pub(crate) is_sealed: bool,
+}
+
+impl<D: Disk + Drop> Drop for Parts<D> {
+    fn drop(self) {
+        let Parts {
+            alloc: _,
+            file,
+            root,
+            frozen,
+            live,
+            waiting,
+            copies,
+            frames,
+            slots: _,
+            is_sealed: _,
+        } = self;
+        drop(file);
+        drop(root);
+        drop(frozen);
+        drop(live);
+        drop(waiting);
+        drop(copies);
+        drop(frames);
+    }
+}
+
+// What a fault of the file is told as.
+pub(crate) fn told(fault: SlotFault) -> Refusal
+    ensures { result ≡ told_as fault }
+{
+    match fault {
+        SlotFault::Broken => Refusal::Broken,
+        SlotFault::Damaged => Refusal::Damaged,
+        SlotFault::DeviceFault => Refusal::DeviceFault,
+        SlotFault::OutOfMemory => Refusal::OutOfMemory,
+    }
+}
+
+impl<D: Disk> Parts<D> {
+    ghost use Rattle.hg_pool.specs.Sound.{IsSound, frozen_of, shown_of};
+
+    /// The file.
+    pub(crate) fn into_file(self) -> SlotFile<D>
+        ensures { result ≡ self.file }
+    {
+        let Parts {
+            alloc: _,
+            file,
+            root,
+            frozen,
+            live,
+            waiting,
+            copies,
+            frames,
+            slots: _,
+            is_sealed: _,
+        } = self;
+        drop(root);
+        drop(frozen);
+        drop(live);
+        drop(waiting);
+        drop(copies);
+        drop(frames);
+        file
+    }
+
+    /// The table of the frozen map.
+    pub(crate) fn frozen_table(&self) -> &Table
+        ensures { result.now ≡ frozen_of self.now }
+    {
+        match &self.frozen {
+            Some(table) => table,
+            None => &self.root,
+        }
+    }
+
+    /// The least slot that no table names and that is not picked.
+    pub(crate) fn free_slot(&self) -> Option<u32>
+        requires sound { IsSound self.now }
+        ensures { MatchOption result (IsFull (shown_of self.now)) (λ slot. (slot < self.now.slots) × (¬ IsTaken (shown_of self.now) slot)) }
+    {
+        let tables = [&self.root, self.frozen_table(), &self.live, &self.waiting];
+        match self.file.free_slot(&tables) {
+            Some(slot) => { if slot < self.slots { Some(slot) } else { None } }
+            None => None,
+        }
+    }
+
+    // Writes a page to a slot: the one place where the file is written.
+    fn write_slot(&mut self, slot: u32, page: &EncodedPage) -> Result<(), Refusal>
+        ensures rest { self.new ≡ record self.old { file = self.new.file } }
+        ensures written { OnOk result (HasBytes slot page.now.bytes (bytes_of ⟦<D as Disk>⟧ (shown_of self.new))) }
+        ensures others { (other : ℕ) (bytes : List ℕ) → other ≢ slot → HasBytes other bytes (bytes_of ⟦<D as Disk>⟧ (shown_of self.old)) → HasBytes other bytes (bytes_of ⟦<D as Disk>⟧ (shown_of self.new)) }
+        ensures lost { OnErr result (bytes_of ⟦<D as Disk>⟧ (shown_of self.new) ≡ bytes_of ⟦<D as Disk>⟧ (shown_of self.old)) }
+        ensures any_moment { (other : ℕ) (bytes : List ℕ) → other ≢ slot → Leaves (HasBytes other bytes) (D.state (disk_of (shown_of self.old)))
+            → LeavesOnly ⟦<D as Disk>⟧ (disk_of (shown_of self.old)) (disk_of (shown_of self.new)) (HasBytes other bytes) }
+        ensures long { (n : ℕ) → Leaves (λ image. n ≤ length image) (D.state (disk_of (shown_of self.old))) → LeavesOnly ⟦<D as Disk>⟧ (disk_of (shown_of self.old)) (disk_of (shown_of self.new)) (λ image. n ≤ length image) }
+        ensures works { is_broken (shown_of self.new) ≡ false → is_broken (shown_of self.old) ≡ false }
+        ensures breaks { OnErr result (IsTrue (is_broken (shown_of self.new))) }
+        ensures refusal { IfErr result IsDeviceCause }
+        ensures broken { IsErrOf result Refusal.Broken → IsTrue (is_broken (shown_of self.old)) }
+        ensures refuses { IsTrue (is_broken (shown_of self.old)) → result ≡ Err Refusal.Broken }
+        ensures same { IsTrue (is_broken (shown_of self.old)) → self.new ≡ self.old }
+        ensures device { D.failures (disk_of (shown_of self.new)) ≡ failed_after result (D.failures (disk_of (shown_of self.old))) }
+    {
+        match self.file.write(slot, page) {
+            Ok(()) => Ok(()),
+            Err(fault) => Err(told(fault)),
+        }
+    }
+
+    /// Writes a page to a slot that no table names.
+    pub(crate) fn write_unnamed(&mut self, slot: u32, page: &EncodedPage) -> Result<(), Refusal>
+        requires not_root { ¬ IsNamed self.old.root.entries slot }
+        requires not_frozen { ¬ IsNamed (frozen_of self.old).entries slot }
+        requires not_live { ¬ IsNamed self.old.live.entries slot }
+        ensures rest { self.new ≡ record self.old { file = self.new.file } }
+        ensures written { OnOk result (HasBytes slot page.now.bytes (bytes_of ⟦<D as Disk>⟧ (shown_of self.new))) }
+        ensures stays { Stays ⟦<D as Disk>⟧ (shown_of self.old) (shown_of self.new) }
+        ensures breaks { OnErr result (IsTrue (is_broken (shown_of self.new))) }
+        ensures refusal { IfErr result IsDeviceCause }
+        ensures broken { IsErrOf result Refusal.Broken → IsTrue (is_broken (shown_of self.old)) }
+        ensures refuses { IsTrue (is_broken (shown_of self.old)) → result ≡ Err Refusal.Broken }
+        ensures same { IsTrue (is_broken (shown_of self.old)) → self.new ≡ self.old }
+        ensures device { D.failures (disk_of (shown_of self.new)) ≡ failed_after result (D.failures (disk_of (shown_of self.old))) }
+    {
+        self.write_slot(slot, page)
+    }
+}

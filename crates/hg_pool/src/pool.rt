@@ -1,0 +1,291 @@
+//! The pool.
+ghost use Rattle.std.specs.Prelude.{◌≡◌, ◌⊎◌, ◌↔◌, ◌+◌, ◌*◌, ◌/◌, ◌<◌, ◌≤◌, ◌^◌, ◌==◌, ℕ, List, [], ◌∷◌, ◌++◌, length, get_or, true, false, Some, None, Ok, Err, is_some, IsTrue, OnOk, OnErr, IfOk, IfErr, MatchOption, if◌then◌else◌};
+ghost use Rattle.hg_cells.specs.declared.cell.Cell.{Cell as CellOf};
+ghost use Rattle.hg_detect.specs.Words.{failed_after};
+ghost use Rattle.hg_pages.specs.Slots.{IsSlot, slot_text};
+ghost use Rattle.hg_pages.specs.Tables.{slot_in};
+ghost use Rattle.hg_pool.specs.Maps.{IsSealed, copy_in, disk_of, frame_in, frozen, is_broken, live};
+ghost use Rattle.hg_pool.specs.Kept.{AreWithin, IsWhole, SameMap, Stays, Went};
+ghost use Rattle.hg_pool.specs.declared.frame.Frame.{Frame as FrameOf};
+ghost use Rattle.hg_cells.specs.declared.cell.Cell.TheVariants.{New};
+ghost use Rattle.hg_cells.specs.Pages.{filled};
+ghost use Rattle.hg_pool.specs.Answers.{IsDeviceCause, IsFrozen, IsTrueCause, least_of, order_of};
+ghost use Rattle.hg_pool.specs.Picking.{HasDirty, IsFreezeRefusal};
+
+use crate::frame::Frame;
+use crate::job::{Job, Put};
+use crate::parts::Parts;
+use hg_cells::{Cell, Page};
+use hg_disk::Disk;
+use hg_model::verdict::Refusal;
+use hg_pages::{EncodedPage, SlotFile, Table};
+use hg_sets::SetTable;
+use lru::LruCache;
+use std::alloc::{AllocError, Global};
+use std::marker::Model;
+use std::num::NonZeroUsize;
+
+/// The live map of words and the frozen one, over a file of slots.
+pub struct Pool<D: Disk> {
+    pub(crate) parts: Parts<D>,
+}
+
+impl<D: Disk + Drop> Drop for Pool<D> {
+    fn drop(self) {
+        let Pool { parts } = self;
+        drop(parts);
+    }
+}
+
+impl<D: Disk> Model for Pool<D> {
+    ghost use Rattle.hg_pool.specs.Shown.{Shown};
+    ghost use Rattle.hg_pool.specs.Sound.{IsSound, shown_of};
+
+    ghost Value = { Shown D };
+
+    ghost view = { λ p. shown_of p.parts };
+
+    ghost invariant = { λ p. IsSound p.parts };
+}
+
+// A copy of the table, and room for copies and for frames.
+fn rooms(
+    alloc: Global,
+    table: &Table,
+    frames: usize,
+) -> Result<(Table, LruCache<u64, Page>, LruCache<u64, Frame>), AllocError>
+    ensures table { IfOk result (λ r. r.0.entries ≡ table.now.entries) }
+    ensures copies { IfOk result (λ r. (r.1.entries ≡ []) × (r.1.cap ≡ frames)) }
+    ensures frames { IfOk result (λ r. (r.2.entries ≡ []) × (r.2.cap ≡ frames)) }
+{
+    let Some(most) = NonZeroUsize::new(frames) else {
+        return Err(AllocError);
+    };
+    Ok((
+        table.copy(alloc)?,
+        LruCache::sparse(alloc, most)?,
+        LruCache::new(alloc, most)?,
+    ))
+}
+
+impl<D: Disk> Pool<D> {
+    /// A pool over a file of slots, with no page in memory: both maps are what the table of the newest root gives. There are so
+    /// many frames, at least 1 and at most 4,096, and slots below this number are named. Where memory runs out, the file is
+    /// handed back.
+    pub fn new(
+        alloc: Global,
+        file: SlotFile<D>,
+        table: Table,
+        frames: usize,
+        slots: u32,
+    ) -> Result<Self, SlotFile<D>>
+        requires frames { frames ≤ 4096 }
+        requires slots { slots ≤ 1048576 }
+        ensures pool { IfOk result (λ p. p ≡ record {
+          file = file;
+          root = table.entries;
+          frozen = table.entries;
+          live = table.entries;
+          waiting = [];
+          copies = [];
+          frames = [];
+          most_frames = frames;
+          slots = slots;
+          is_sealed = false;
+        }) }
+        ensures handed_back { IfErr result (λ f. f ≡ file) }
+    {
+        match rooms(alloc, &table, frames) {
+            Ok((live, copies, frames)) => Ok(Pool {
+                parts: Parts {
+                    alloc,
+                    file,
+                    root: table,
+                    frozen: None,
+                    live,
+                    waiting: Table::new(alloc),
+                    copies,
+                    frames,
+                    slots,
+                    is_sealed: false,
+                },
+            }),
+            Err(_) => Err(file),
+        }
+    }
+
+    /// Frees the frame of the page used least recently, and answers its number; none where no page is in memory. The page is
+    /// written first where it was changed: to the slot that was picked for it where it waits unchanged, and else to a free one.
+    pub fn evict(&mut self) -> Result<Option<u64>, Refusal>
+        ensures stays { Stays ⟦<D as Disk>⟧ self.old self.new }
+        ensures none { result ≡ Ok None → (self.new ≡ self.old) × (self.old.frames ≡ []) }
+        ensures freed { IfOk result (λ page. MatchOption page (self.old.frames ≡ []) (λ n. order_of self.old ≡ order_of self.new ++ n ∷ [])) }
+        ensures kept { OnErr result (order_of self.new ≡ order_of self.old) }
+        ensures refusal { IfErr result (IsTrueCause self.old self.new) }
+        ensures device { D.failures (disk_of self.new) ≡ failed_after result (D.failures (disk_of self.old)) }
+    {
+        self.parts.evict()
+    }
+
+    /// Frees a frame where all are taken.
+    pub fn make_room(&mut self) -> Result<(), Refusal>
+        ensures stays { Stays ⟦<D as Disk>⟧ self.old self.new }
+        ensures room { OnOk result (length self.new.frames < self.new.most_frames) }
+        ensures quiet { length self.old.frames < self.old.most_frames → self.new ≡ self.old }
+        ensures refusal { IfErr result (IsTrueCause self.old self.new) }
+        ensures device { D.failures (disk_of self.new) ≡ failed_after result (D.failures (disk_of self.old)) }
+    {
+        self.parts.make_room()
+    }
+
+    /// Brings a page into a frame, as the one used last.
+    pub fn load(&mut self, page: u64, segments: u32, sets: &SetTable) -> Result<(), Refusal>
+        requires { page < 2 ^ 54 }
+        ensures stays { Stays ⟦<D as Disk>⟧ self.old self.new }
+        ensures loaded { OnOk result (is_some (frame_in self.new.frames page) ≡ true) }
+        ensures within { (n m : ℕ) → segments ≤ n → length sets.now.sets ≤ m → AreWithin self.old.frames n m → AreWithin self.new.frames n m }
+        ensures refusal { IfErr result (IsTrueCause self.old self.new) }
+        ensures device { D.failures (disk_of self.new) ≡ failed_after result (D.failures (disk_of self.old)) }
+    {
+        self.parts.load(page, segments, sets)
+    }
+
+    /// Keeps the frozen cells of a page that waits and has none kept. Then the page may be changed.
+    pub fn keep(&mut self, page: u64) -> Result<(), Refusal>
+        ensures stays { Stays ⟦<D as Disk>⟧ self.old self.new }
+        ensures rest { self.new ≡ record self.old { copies = self.new.copies } }
+        ensures kept { OnOk result ((slot_in self.new.waiting page ≡ None) ⊎ (is_some (copy_in self.new.copies page) ≡ true)) }
+        ensures others { (q : ℕ) → is_some (copy_in self.old.copies q) ≡ true → is_some (copy_in self.new.copies q) ≡ true }
+        ensures refused { OnErr result (self.new ≡ self.old) }
+        ensures refusal { IfErr result (λ r. r ≡ Refusal.OutOfMemory) }
+    {
+        self.parts.keep_page(page)
+    }
+
+    /// The cell of a word of a page that is in memory.
+    pub fn cell(&self, page: u64, word: usize) -> Cell
+        requires present { is_some (frame_in self.now.frames page) ≡ true }
+        requires word { word < 256 }
+        ensures { (f : FrameOf) → frame_in self.now.frames page ≡ Some f → result ≡ get_or f.cells word New }
+    {
+        match self.parts.frames.peek(&page) {
+            Some(frame) => frame.cells.get(word),
+            None => Cell::New,
+        }
+    }
+
+    /// Gives words of a page a cell, from one place up to another, and makes the page the one used last. The frozen map stays.
+    pub fn update(&mut self, page: u64, from: usize, to: usize, cell: Cell)
+        requires present { is_some (frame_in self.old.frames page) ≡ true }
+        requires settled { (slot_in self.old.waiting page ≡ None) ⊎ (is_some (copy_in self.old.copies page) ≡ true) }
+        requires in_order { from ≤ to }
+        requires in_page { to ≤ 256 }
+        ensures went { Went ⟦<D as Disk>⟧ self.old self.new }
+        ensures rest { self.new ≡ record self.old { frames = self.new.frames } }
+        ensures frames { (f : FrameOf) → frame_in self.old.frames page ≡ Some f
+            → (length f.cells ≡ 256) × ((q : ℕ) → frame_in self.new.frames q ≡ (if page == q then Some (record { cells = filled f.cells from to cell; is_dirty = true }) else frame_in self.old.frames q)) }
+    {
+        self.parts.update(page, from, to, cell);
+    }
+
+    /// The file, as the calls left it.
+    pub fn into_disks(self) -> SlotFile<D>
+        ensures { result ≡ self.file }
+    {
+        let Pool { parts } = self;
+        parts.into_file()
+    }
+
+    /// Fixes the live map as the frozen one. The pages that were changed since they were new, read or written wait from then on,
+    /// each with a slot that nothing names. A refusal changes nothing.
+    pub fn freeze(&mut self) -> Result<(), Refusal>
+        ensures frozen { IsWhole ⟦<D as Disk>⟧ self.old → OnOk result (SameMap (live ⟦<D as Disk>⟧ self.old) (frozen ⟦<D as Disk>⟧ self.new)) }
+        ensures live { SameMap (live ⟦<D as Disk>⟧ self.old) (live ⟦<D as Disk>⟧ self.new) }
+        ensures whole { IsWhole ⟦<D as Disk>⟧ self.old → IsWhole ⟦<D as Disk>⟧ self.new }
+        ensures waiting { OnOk result ((q : ℕ) → (is_some (slot_in self.new.waiting q) ≡ true) ↔ HasDirty self.old.frames q) }
+        ensures root { self.new.root ≡ self.old.root }
+        ensures file { self.new.file ≡ self.old.file }
+        ensures sealed { OnOk result (self.new.is_sealed ≡ false) }
+        ensures refused { OnErr result (self.new ≡ self.old) }
+        ensures refusal { IfErr result (IsFreezeRefusal self.old) }
+    {
+        self.parts.freeze()
+    }
+
+    /// The page with the least number of those that wait, and its frozen cells. Takes no memory.
+    pub fn take_job(&self) -> Option<Job>
+        ensures { MatchOption result (self.now.waiting ≡ []) (λ job. (Some job.page ≡ least_of self.now.waiting) × (is_some (slot_in self.now.waiting job.page) ≡ true) × IsFrozen self.now job.page job.cells) }
+    {
+        self.parts.take_job()
+    }
+
+    /// Writes a page to the slot that was picked for it: `Written` exactly where it waits and the bytes are those of its frozen
+    /// cells. It makes one device call at most and takes no memory.
+    pub fn put(&mut self, page: &EncodedPage) -> Result<Put, Refusal>
+        ensures stays { Stays ⟦<D as Disk>⟧ self.old self.new }
+        ensures written { IfOk result (λ put. put ≡ Put.Written → (cells : List CellOf) × (is_some (slot_in self.old.waiting page.now.page) ≡ true) × IsFrozen self.old page.now.page cells × IsSlot page.now.page cells page.now.bytes) }
+        ensures stale { IfOk result (λ put. put ≡ Put.Stale → (slot : ℕ) (cells : List CellOf) → slot_in self.old.waiting page.now.page ≡ Some slot → IsFrozen self.old page.now.page cells → page.now.bytes ≡ slot_text page.now.page cells → ⊥) }
+        ensures nothing { IfOk result (λ put. put ≡ Put.Stale → self.new ≡ self.old) }
+        ensures waiting { IfOk result (λ put. put ≡ Put.Written → (q : ℕ) → slot_in self.new.waiting q ≡ (if page.now.page == q then None else slot_in self.old.waiting q)) }
+        ensures refusal { IfErr result IsDeviceCause }
+        ensures broken { (result ≡ Err Refusal.Broken) → IsTrue (is_broken self.old) }
+        ensures breaks { OnErr result (IsTrue (is_broken self.new)) }
+        ensures device { D.failures (disk_of self.new) ≡ failed_after result (D.failures (disk_of self.old)) }
+    {
+        self.parts.put(page)
+    }
+
+    /// Whether no page waits.
+    pub fn all_written(&self) -> bool
+        ensures { IsTrue result ↔ (self.now.waiting ≡ []) }
+    {
+        self.parts.waiting.entries().is_empty()
+    }
+
+    /// How many frozen copies there are: at most as many as frames.
+    pub fn copies(&self) -> usize
+        ensures count { result ≡ length self.now.copies }
+        ensures few { length self.now.copies ≤ self.now.most_frames }
+    {
+        self.parts.copies.len()
+    }
+
+    /// How many pages are in memory: at most as many as frames.
+    pub fn frames(&self) -> usize
+        ensures count { result ≡ length self.now.frames }
+        ensures few { length self.now.frames ≤ self.now.most_frames }
+    {
+        self.parts.frames.len()
+    }
+
+    /// The table of the frozen map. It names its pages as they are written.
+    pub fn frozen_table(&self) -> &Table
+        ensures { result.now.entries ≡ self.now.frozen }
+    {
+        self.parts.frozen_table()
+    }
+
+    /// Makes what was written durable. After an `Ok` with all written, each image of the slots, read by the frozen table, gives
+    /// the frozen map. It makes one device call and takes no memory.
+    pub fn seal(&mut self) -> Result<(), Refusal>
+        ensures stays { Stays ⟦<D as Disk>⟧ self.old self.new }
+        ensures sealed { IsWhole ⟦<D as Disk>⟧ self.old → self.old.waiting ≡ [] → OnOk result (IsSealed ⟦<D as Disk>⟧ self.new) }
+        ensures marked { self.old.waiting ≡ [] → OnOk result (IsTrue self.new.is_sealed) }
+        ensures rest { self.new ≡ record self.old { file = self.new.file; is_sealed = self.new.is_sealed } }
+        ensures refusal { IfErr result IsDeviceCause }
+        ensures broken { (result ≡ Err Refusal.Broken) → IsTrue (is_broken self.old) }
+        ensures breaks { OnErr result (IsTrue (is_broken self.new)) }
+        ensures device { D.failures (disk_of self.new) ≡ failed_after result (D.failures (disk_of self.old)) }
+    {
+        self.parts.seal()
+    }
+
+    /// The root that names the frozen table was opened: from now on its slots are kept, and those of the former root are free.
+    /// Takes no memory.
+    pub fn root_opened(&mut self)
+        requires { IsTrue self.old.is_sealed }
+        ensures { self.new ≡ record self.old { root = self.old.frozen } }
+    {
+        self.parts.root_opened();
+    }
+}

@@ -1,0 +1,21 @@
+-- Definition: what is told of locks that are held.
+use Rattle.std.specs.Prelude.{◌≡◌, ◌⊎◌, ◌+◌, true, false, List, [], ◌∷◌, length}
+use Rattle.hg_model.specs.declared.event.Event.{Event}
+use Rattle.hg_model.specs.declared.event.Event.TheVariants.{Lock, RdLock, Unlock}
+use Rattle.hg_verbose.specs.declared.holds.Hold.{Hold}
+
+-- the event takes the lock of the hold for its thread, in its mode
+abbrev pub Takes : Event → Hold → Type 0
+Takes (Lock t l) h = (h.thread ≡ t) × (h.lock ≡ l) × (h.write ≡ true)
+Takes (RdLock t l) h = (h.thread ≡ t) × (h.lock ≡ l) × (h.write ≡ false)
+Takes _ h = ⊥
+
+-- the event lets it go
+abbrev pub LetsGo : Event → Hold → Type 0
+LetsGo (Unlock t l) h = (h.thread ≡ t) × (h.lock ≡ l)
+LetsGo _ h = ⊥
+
+-- Of these events, the newest first, the one numbered `since` took the lock, and none behind it let it go.
+abbrev pub IsHeld : List Event → Hold → Type 0
+IsHeld [] h = ⊥
+IsHeld (e ∷ earlier) h = (Takes e h × (h.since ≡ length earlier + 1)) ⊎ (IsHeld earlier h × (LetsGo e h → ⊥))

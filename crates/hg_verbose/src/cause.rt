@@ -1,0 +1,171 @@
+//! Why the rules refuse an event, in words.
+
+use crate::holds::Hold;
+use crate::past::Past;
+use hg_model::event::Event;
+use std::alloc::AllocError;
+use std::fmt::Write;
+use std::string::String;
+
+/// The thread that acts, and the child or the lock that it names, where it names one.
+fn parties(event: Event) -> (u16, u16) {
+    match event {
+        Event::Fork { p, c } => (p, c),
+        Event::Join { p, c } => (p, c),
+        Event::Lock { t, l } => (t, l),
+        Event::RdLock { t, l } => (t, l),
+        Event::Unlock { t, l } => (t, l),
+        Event::Read(a) => (a.t, 0),
+        Event::Write(a) => (a.t, 0),
+        Event::Alloc(b) => (b.t, 0),
+        Event::Free(b) => (b.t, 0),
+    }
+}
+
+/// The address and the length of an event that has them.
+fn place(event: Event) -> (u64, u16) {
+    match event {
+        Event::Read(a) => (a.at, u16::from(a.len)),
+        Event::Write(a) => (a.at, u16::from(a.len)),
+        Event::Alloc(b) => (b.at, b.len),
+        Event::Free(b) => (b.at, b.len),
+        _ => (0, 0),
+    }
+}
+
+/// Appends that a thread holds a lock, and since when.
+fn put_hold(hold: Hold, text: &mut String) -> Result<(), AllocError> {
+    let mode = if hold.write { "write" } else { "read" };
+    let (thread, lock, since) = (hold.thread, hold.lock, hold.since);
+    write!(
+        text,
+        "thread {thread} holds lock {lock} in {mode} mode since event {since}"
+    )
+}
+
+/// Appends the first of some locks that are held, and how many there are more.
+fn put_first(first: Option<Hold>, count: usize, text: &mut String) -> Result<(), AllocError> {
+    let Some(hold) = first else {
+        return text.push_str("a lock is held");
+    };
+    put_hold(hold, text)?;
+    match count {
+        0 | 1 => Ok(()),
+        2 => text.push_str(", and there is one hold more"),
+        _ => {
+            let more = count.saturating_sub(1);
+            write!(text, ", and there are {more} holds more")
+        }
+    }
+}
+
+/// Appends that a thread is not alive.
+fn put_not_alive(past: &Past, thread: u16, text: &mut String) -> Result<(), AllocError> {
+    let joined = past.joined(thread);
+    if joined == 0 {
+        return write!(text, "thread {thread} was never forked");
+    }
+    write!(text, "thread {thread} was joined by event {joined}")
+}
+
+/// Appends which number is above the limit.
+fn put_bad_number(event: Event, text: &mut String) -> Result<(), AllocError> {
+    let (actor, other) = parties(event);
+    let thread = if actor > 1023 { actor } else { other };
+    write!(text, "there is no thread {thread}: threads are 0 to 1023")
+}
+
+fn put_bad_length(event: Event, text: &mut String) -> Result<(), AllocError> {
+    let (_, length) = place(event);
+    match event {
+        Event::Read(_) | Event::Write(_) => {
+            write!(text, "{length} bytes are not 1 to 64, as an access has")
+        }
+        _ => write!(text, "{length} bytes are not 1 to 1024, as a block has"),
+    }
+}
+
+/// Appends by what a thread was used before.
+fn put_used(past: &Past, thread: u16, text: &mut String) -> Result<(), AllocError> {
+    if thread == 0 {
+        return text.push_str("thread 0 is there from the start");
+    }
+    let forked = past.forked(thread);
+    write!(
+        text,
+        "thread {thread} was forked by event {forked}, and no number is used twice"
+    )
+}
+
+/// Appends which locks the joined thread holds.
+fn put_holds_of(past: &Past, thread: u16, text: &mut String) -> Result<(), AllocError> {
+    let (first, count) = past.holds().of_thread(thread);
+    put_first(first, count, text)
+}
+
+/// Appends who holds a lock.
+fn put_holders(past: &Past, lock: u16, text: &mut String) -> Result<(), AllocError> {
+    let (first, count) = past.holds().of_lock(lock);
+    put_first(first, count, text)
+}
+
+/// Appends since when the thread holds the lock that it takes.
+fn put_held(past: &Past, thread: u16, lock: u16, text: &mut String) -> Result<(), AllocError> {
+    put_first(past.holds().of_both(thread, lock), 1, text)
+}
+
+/// Appends that a thread doesn't hold a lock, and who does.
+fn put_not_held(past: &Past, thread: u16, lock: u16, text: &mut String) -> Result<(), AllocError> {
+    write!(text, "thread {thread} does not hold lock {lock}")?;
+    let Some(hold) = past.holds().of_lock(lock).0 else {
+        return text.push_str(", and no thread does");
+    };
+    text.push_str(", and ")?;
+    put_hold(hold, text)
+}
+
+/// Appends why an event was refused with a code of the trace rules, after those events.
+fn put_of_threads(
+    past: &Past,
+    event: Event,
+    code: u64,
+    text: &mut String,
+) -> Result<(), AllocError> {
+    let (actor, other) = parties(event);
+    match code {
+        5 => put_not_alive(past, actor, text),
+        6 => put_used(past, other, text),
+        7 => write!(text, "thread {actor} joins itself"),
+        8 => put_not_alive(past, other, text),
+        9 => put_holds_of(past, other, text),
+        12 => put_held(past, actor, other, text),
+        13 => put_holders(past, other, text),
+        14 => put_not_held(past, actor, other, text),
+        _ => write!(text, "thread {actor} holds 64 locks, and may hold no more"),
+    }
+}
+
+/// Appends why an event was refused with this code, after those events.
+pub fn put_cause(
+    past: &Past,
+    event: Event,
+    code: u64,
+    text: &mut String,
+) -> Result<(), AllocError> {
+    let (address, length) = place(event);
+    let segments = past.segments();
+    match code {
+        2 => put_bad_number(event, text),
+        3 => put_bad_length(event, text),
+        4 => write!(
+            text,
+            "{length} bytes from address {address:#x} on pass the end of the addresses, 2^64"
+        ),
+        16 => write!(text, "there are {segments} segments, and may be 1048576"),
+        17 => text.push_str("2^58 events were accepted, and there may be no more"),
+        19 => text.push_str(
+            "262144 sets of threads and of locks are in use, and this event needs another one",
+        ),
+        _ => put_of_threads(past, event, code, text),
+    }
+}

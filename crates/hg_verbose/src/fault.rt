@@ -1,0 +1,76 @@
+//! What a fault means, in words.
+
+use crate::past::Past;
+use hg_disk::Disk;
+use hg_journal::journal::Journal;
+use hg_model::verdict::Refusal;
+use std::alloc::{AllocError, Global};
+use std::fmt::Write;
+use std::io;
+use std::string::String;
+
+/// A stream or a file that a command uses, and what the system said where a call of it failed.
+#[derive(Clone, Copy)]
+pub struct Source<'a> {
+    pub name: &'a str,
+    pub error: Option<io::Error>,
+}
+
+/// Appends which stream or file failed, and why.
+fn put_failure(sources: &[Source<'_>], text: &mut String) -> Result<(), AllocError> {
+    for source in sources {
+        if let Some(error) = source.error {
+            let name = source.name;
+            return write!(text, "{name}: {error}");
+        }
+    }
+    text.push_str("a stream or a file that is not known")
+}
+
+/// Appends what a fault with this code is of.
+pub fn put_fault(code: u64, sources: &[Source<'_>], text: &mut String) -> Result<(), AllocError> {
+    match code {
+        11 => text.push_str("the store: its files are not a store's"),
+        19 => text.push_str(
+            "the store: its events need more than 262144 sets of threads and of locks",
+        ),
+        21 => put_failure(sources, text),
+        22 => text.push_str("memory: a growth was refused"),
+        _ => text.push_str("a cause that is not known"),
+    }
+}
+
+/// The device that is not a store's, and why, where the devices together have no content.
+pub fn damage<D: Disk + Drop>(alloc: Global, journal: D, root0: D, root1: D) -> &'static str {
+    if root0.len() == 0 {
+        return "root0: it is missing, or has no byte";
+    }
+    if root1.len() == 0 {
+        return "root1: it is missing, or has no byte";
+    }
+    if journal.len() == 0 {
+        return "journal: it is missing, or has no byte";
+    }
+    match Journal::attach(alloc, journal) {
+        Ok(_) => "journal, root0 and root1: what they hold is no store's",
+        Err(_) => "journal: what it holds is no journal's",
+    }
+}
+
+/// Goes on by the events of a journal.
+pub fn replay<D: Disk + Drop>(alloc: Global, journal: D, past: &mut Past) -> Result<(), Refusal> {
+    let mut journal = match Journal::attach(alloc, journal) {
+        Ok(journal) => journal,
+        Err((refusal, _)) => return Err(refusal),
+    };
+    let mut reader = journal.events()?;
+    for _ in 0..u64::MAX {
+        let Some(named) = journal.next(&mut reader)? else {
+            return Ok(());
+        };
+        if !past.follow(named.event) {
+            return Err(Refusal::OutOfMemory);
+        }
+    }
+    Ok(())
+}

@@ -1,0 +1,158 @@
+//! The locks that are held after some events, and since when.
+
+ghost use Rattle.std.specs.Prelude.{◌≡◌, ◌∷◌, ◌++◌, [], ◌+◌, ◌==◌, ◌&&◌, not, List, length, IfSome};
+ghost use Rattle.hg_model.specs.declared.event.Event.{Event as EventOf};
+ghost use Rattle.std.specs.Bool.{OnTrue, OnFalse};
+ghost use Rattle.std.specs.List.{AllByRecursion, filter};
+ghost use Rattle.hg_verbose.specs.Holds.{IsHeld};
+
+use hg_model::event::Event;
+use hg_streams::trail::Trail;
+use std::alloc::Global;
+use std::marker::Model;
+
+/// A lock that a thread holds.
+#[derive(Clone, Copy, Debug, PartialEq, Eq, Drop)]
+pub struct Hold {
+    pub thread: u16,
+    pub lock: u16,
+    /// Whether it is held in write mode.
+    pub write: bool,
+    /// The number of the event that took it, from 1 on.
+    pub since: u64,
+}
+
+/// The locks that are held after some events. A contract sees the events, the newest first.
+#[derive(Drop)]
+pub struct Holds {
+    list: Vec<Hold>,
+    events: u64,
+    history: Trail<Event>,
+}
+
+impl Model for Holds {
+    ghost use Rattle.std.specs.Prelude.{◌≡◌, List, length};
+    ghost use Rattle.std.specs.List.{AllByRecursion};
+    ghost use Rattle.hg_model.specs.declared.event.Event.{Event as EventOf};
+    ghost use Rattle.hg_verbose.specs.Holds.{IsHeld};
+
+    ghost Value = { List EventOf };
+
+    ghost view = { λ s. s.history };
+
+    ghost invariant = { λ s. (s.events ≡ length s.history) × AllByRecursion (IsHeld s.history) s.list.items };
+}
+
+/// Adds a hold, unless memory is refused.
+fn add(list: &mut Vec<Hold>, hold: Hold) -> bool
+    ensures added { OnTrue result (list.new.items ≡ list.old.items ++ hold ∷ []) }
+    ensures refused { OnFalse result (list.new.items ≡ list.old.items) }
+{
+    list.push(hold).is_ok()
+}
+
+/// Lets a lock go.
+fn let_go(list: &mut Vec<Hold>, thread: u16, lock: u16)
+    ensures { list.new.items ≡ filter (λ h. not ((h.thread == thread) && (h.lock == lock))) list.old.items }
+{
+    list.retain(|hold| !(hold.thread == thread && hold.lock == lock));
+}
+
+/// Makes of the holds after some events those after one more, the event of this number, unless memory is refused.
+fn change(list: &mut Vec<Hold>, event: Event, since: u64) -> bool
+    ensures changed { OnTrue result ((earlier : List EventOf) → since ≡ length earlier + 1 → AllByRecursion (IsHeld earlier) list.old.items → AllByRecursion (IsHeld (event ∷ earlier)) list.new.items) }
+    ensures refused { OnFalse result (list.new.items ≡ list.old.items) }
+{
+    match event {
+        Event::Lock { t, l } => add(
+            list,
+            Hold {
+                thread: t,
+                lock: l,
+                write: true,
+                since,
+            },
+        ),
+        Event::RdLock { t, l } => add(
+            list,
+            Hold {
+                thread: t,
+                lock: l,
+                write: false,
+                since,
+            },
+        ),
+        Event::Unlock { t, l } => {
+            let_go(list, t, l);
+            true
+        }
+        _ => true,
+    }
+}
+
+impl Holds {
+    /// After no event.
+    pub fn new(alloc: Global) -> Holds
+        ensures { result ≡ [] }
+    {
+        Holds {
+            list: Vec::new(alloc),
+            events: 0,
+            history: Trail::new(),
+        }
+    }
+
+    /// How many events there were.
+    pub fn events(&self) -> u64 {
+        self.events
+    }
+
+    /// Goes on by an event, and answers whether there was room for it.
+    pub fn follow(&mut self, event: Event) -> bool
+        ensures followed { OnTrue result (self.new ≡ event ∷ self.old) }
+        ensures refused { OnFalse result (self.new ≡ self.old) }
+    {
+        if self.events == u64::MAX {
+            return false;
+        }
+        let since = self.events + 1;
+        if !change(&mut self.list, event, since) {
+            return false;
+        }
+        self.events = since;
+        self.history.push(event);
+        true
+    }
+
+    /// The first lock that a thread holds, and how many it holds.
+    pub fn of_thread(&self, thread: u16) -> (Option<Hold>, usize)
+        ensures held { IfSome result.0 (λ h. IsHeld self.now h × (h.thread ≡ thread)) }
+    {
+        let first = self.list.iter().copied().find(|hold| hold.thread == thread);
+        let count = self
+            .list
+            .iter()
+            .filter(|hold| hold.thread == thread)
+            .count();
+        (first, count)
+    }
+
+    /// The first hold of a lock, and how many there are.
+    pub fn of_lock(&self, lock: u16) -> (Option<Hold>, usize)
+        ensures held { IfSome result.0 (λ h. IsHeld self.now h × (h.lock ≡ lock)) }
+    {
+        let first = self.list.iter().copied().find(|hold| hold.lock == lock);
+        let count = self.list.iter().filter(|hold| hold.lock == lock).count();
+        (first, count)
+    }
+
+    /// A thread's hold of a lock.
+    pub fn of_both(&self, thread: u16, lock: u16) -> Option<Hold>
+        ensures held { IfSome result (λ h. IsHeld self.now h × ((h.thread ≡ thread) × (h.lock ≡ lock))) }
+    {
+        self.list
+            .iter()
+            .copied()
+            .find(|hold| hold.thread == thread && hold.lock == lock)
+    }
+}

@@ -1,0 +1,82 @@
+//! What the accepted events left, as far as a refusal rests on it.
+
+use crate::holds::Holds;
+use hg_model::event::Event;
+use std::alloc::{AllocError, Global};
+
+/// How many threads there may be.
+const THREADS: usize = 1024;
+
+/// What some accepted events left: which locks are held since when, and when each thread was forked and joined.
+#[derive(Drop)]
+pub struct Past {
+    segments: u64,
+    holds: Holds,
+    forked: Vec<u64>,
+    joined: Vec<u64>,
+}
+
+/// Writes the number of an event at a thread's place.
+fn note(places: &mut Vec<u64>, thread: u16, event: u64) {
+    if usize::from(thread) < places.len() {
+        places[usize::from(thread)] = event;
+    }
+}
+
+/// The number at a thread's place, 0 where there is none.
+fn at(places: &[u64], thread: u16) -> u64 {
+    match places.get(usize::from(thread)) {
+        Some(event) => *event,
+        None => 0,
+    }
+}
+
+impl Past {
+    /// What no event leaves.
+    pub fn new(alloc: Global) -> Result<Past, AllocError> {
+        Ok(Past {
+            segments: 1,
+            holds: Holds::new(alloc),
+            forked: vec![in alloc; 0; THREADS]?,
+            joined: vec![in alloc; 0; THREADS]?,
+        })
+    }
+
+    /// Goes on by an event that was accepted, and answers whether there was room for it.
+    pub fn follow(&mut self, event: Event) -> bool {
+        let is_followed = self.holds.follow(event);
+        let number = self.holds.events();
+        match event {
+            Event::Fork { p: _, c } => {
+                self.segments = self.segments.saturating_add(2);
+                note(&mut self.forked, c, number);
+            }
+            Event::Join { p: _, c } => {
+                self.segments = self.segments.saturating_add(1);
+                note(&mut self.joined, c, number);
+            }
+            _ => {}
+        }
+        is_followed
+    }
+
+    /// The locks that are held.
+    pub fn holds(&self) -> &Holds {
+        &self.holds
+    }
+
+    /// How many segments there are.
+    pub fn segments(&self) -> u64 {
+        self.segments
+    }
+
+    /// The event that forked a thread, 0 where none did.
+    pub fn forked(&self, thread: u16) -> u64 {
+        at(self.forked.as_slice(), thread)
+    }
+
+    /// The event that joined a thread, 0 where none did.
+    pub fn joined(&self, thread: u16) -> u64 {
+        at(self.joined.as_slice(), thread)
+    }
+}

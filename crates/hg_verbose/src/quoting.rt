@@ -1,0 +1,30 @@
+//! Bytes as a text that any terminal can show.
+
+use std::alloc::AllocError;
+use std::fmt::Write;
+use std::string::String;
+
+/// How many bytes are shown at most.
+const MOST_SHOWN: usize = 60;
+
+/// Appends a byte: itself where it is a printable one of ASCII, else its number in hexadecimal.
+fn put_byte(byte: u8, text: &mut String) -> Result<(), AllocError> {
+    match byte {
+        b'"' => text.push_str("\\\""),
+        b'\\' => text.push_str("\\\\"),
+        32..=126 => text.push(char::from(byte)),
+        _ => write!(text, "\\x{byte:02x}"),
+    }
+}
+
+/// Appends bytes between quotation marks, the first of them where they are many.
+pub fn put_quoted(bytes: &[u8], text: &mut String) -> Result<(), AllocError> {
+    text.push('"')?;
+    for byte in bytes.iter().take(MOST_SHOWN) {
+        put_byte(*byte, text)?;
+    }
+    if bytes.len() > MOST_SHOWN {
+        text.push_str("..")?;
+    }
+    text.push('"')
+}

@@ -1,0 +1,159 @@
+//! Commands on the store in a directory.
+
+use crate::directory::{Access, make_directory, open_directory};
+use crate::events::EventText;
+use crate::told::{FAULT, fail_to_open, tell_of_feeding, tell_of_listing};
+use hg_check::telling::tell;
+use hg_commands::creating::create_store;
+use hg_commands::feeding::feed;
+use hg_commands::listing::{store_graph, store_reports};
+use hg_commands::opening::open_store;
+use hg_disk::FileDisk;
+use hg_explain::commands::explain;
+use hg_options::task::{Explaining, Frames, Source};
+use hg_store::devices::Devices;
+use hg_streams::input::Input;
+use hg_streams::output::Output;
+use hg_verbose::lines::Lines;
+use hg_verbose::noted::{NotedReader, NotedWriter};
+
+/// Makes the store.
+pub fn create_in(rt: &HostRuntime, directory: &str) -> u8 {
+    let devices = match make_directory(rt, directory) {
+        Ok(devices) => devices,
+        Err(fault) => return fail_to_open(rt, &fault, false),
+    };
+    let mut output = Output::new(rt.stdout());
+    let mut faults = Output::new(rt.stderr());
+    create_store(rt.alloc(), devices, &mut output, &mut faults).status
+}
+
+/// Feeds the trace on standard input to the store on these devices.
+fn feed_plainly(
+    rt: &HostRuntime,
+    devices: Devices<FileDisk>,
+    source: Source,
+    frames: Frames,
+) -> u8 {
+    let mut input = Input::new(rt.stdin());
+    let mut output = Output::new(rt.stdout());
+    let mut faults = Output::new(rt.stderr());
+    feed(
+        rt.alloc(),
+        devices,
+        source.number,
+        frames.pages,
+        &mut input,
+        &mut output,
+        &mut faults,
+    )
+    .status
+}
+
+/// The same, and tells what the last line means.
+fn feed_told(
+    rt: &HostRuntime,
+    devices: Devices<FileDisk>,
+    source: Source,
+    frames: Frames,
+    lines: Lines,
+) -> u8 {
+    let mut input = Input::new(NotedReader::new(rt.stdin(), lines));
+    let mut output = Output::new(NotedWriter::new(rt.alloc(), rt.stdout()));
+    let mut faults = Output::new(NotedWriter::new(rt.alloc(), rt.stderr()));
+    let outcome = feed(
+        rt.alloc(),
+        devices,
+        source.number,
+        frames.pages,
+        &mut input,
+        &mut output,
+        &mut faults,
+    );
+    let status = outcome.status;
+    tell_of_feeding(rt, input.into_stream(), &output, &faults, outcome.devices);
+    status
+}
+
+/// Feeds the trace on standard input to the store. Where there is no memory for a meaning it is left out.
+pub fn feed_in(
+    rt: &HostRuntime,
+    directory: &str,
+    source: Source,
+    frames: Frames,
+    verbose: bool,
+) -> u8 {
+    let devices = match open_directory(rt, directory, Access::Change) {
+        Ok(devices) => devices,
+        Err(fault) => return fail_to_open(rt, &fault, verbose),
+    };
+    if !verbose {
+        return feed_plainly(rt, devices, source, frames);
+    }
+    match Lines::new(rt.alloc()) {
+        Ok(lines) => feed_told(rt, devices, source, frames, lines),
+        Err(_) => feed_plainly(rt, devices, source, frames),
+    }
+}
+
+/// Prints the reports of the store.
+pub fn reports_in(rt: &HostRuntime, directory: &str, frames: Frames, verbose: bool) -> u8 {
+    let devices = match open_directory(rt, directory, Access::Look) {
+        Ok(devices) => devices,
+        Err(fault) => return fail_to_open(rt, &fault, verbose),
+    };
+    let mut output = Output::new(NotedWriter::new(rt.alloc(), rt.stdout()));
+    let mut faults = Output::new(NotedWriter::new(rt.alloc(), rt.stderr()));
+    let (status, devices) = store_reports(
+        rt.alloc(),
+        devices,
+        frames.pages,
+        &mut output,
+        &mut faults,
+    );
+    if verbose {
+        tell_of_listing(rt, &output, &faults, devices);
+    }
+    status
+}
+
+/// Prints the segments of the store.
+pub fn graph_in(rt: &HostRuntime, directory: &str, verbose: bool) -> u8 {
+    let devices = match open_directory(rt, directory, Access::Look) {
+        Ok(devices) => devices,
+        Err(fault) => return fail_to_open(rt, &fault, verbose),
+    };
+    let mut output = Output::new(NotedWriter::new(rt.alloc(), rt.stdout()));
+    let mut faults = Output::new(NotedWriter::new(rt.alloc(), rt.stderr()));
+    let (status, devices) = store_graph(rt.alloc(), devices, 64, &mut output, &mut faults);
+    if verbose {
+        tell_of_listing(rt, &output, &faults, devices);
+    }
+    status
+}
+
+/// Prints the life of a word by the store's events.
+pub fn explain_in(rt: &HostRuntime, directory: &str, explaining: Explaining) -> u8 {
+    let devices = match open_directory(rt, directory, Access::Look) {
+        Ok(devices) => devices,
+        Err(fault) => return fail_to_open(rt, &fault, false),
+    };
+    let mut faults = Output::new(rt.stderr());
+    let store = match open_store(rt.alloc(), devices, 64) {
+        Ok(store) => store,
+        Err((refusal, _)) => {
+            tell(refusal, &mut faults);
+            return FAULT;
+        }
+    };
+    let mut input = Input::new(EventText::new(rt.alloc(), store));
+    let mut output = Output::new(rt.stdout());
+    explain(
+        rt.alloc(),
+        explaining.address,
+        explaining.all,
+        &mut input,
+        &mut output,
+        &mut faults,
+    )
+}

@@ -1,0 +1,73 @@
+//! Commands over the trace on standard input.
+
+use crate::told::tell_of_text;
+use hg_check::commands::{check, graph};
+use hg_explain::commands::explain;
+use hg_options::task::Explaining;
+use hg_streams::input::Input;
+use hg_streams::output::Output;
+use hg_verbose::lines::Lines;
+use hg_verbose::noted::{NotedReader, NotedWriter};
+
+/// Checks the trace on standard input.
+fn check_plainly(rt: &HostRuntime) -> u8 {
+    let mut input = Input::new(rt.stdin());
+    let mut output = Output::new(rt.stdout());
+    let mut faults = Output::new(rt.stderr());
+    check(rt.alloc(), &mut input, &mut output, &mut faults)
+}
+
+/// The same, and tells what the last line means. Where there is no memory for that it is left out.
+pub fn check_input(rt: &HostRuntime, verbose: bool) -> u8 {
+    if !verbose {
+        return check_plainly(rt);
+    }
+    let Ok(lines) = Lines::new(rt.alloc()) else {
+        return check_plainly(rt);
+    };
+    let mut input = Input::new(NotedReader::new(rt.stdin(), lines));
+    let mut output = Output::new(NotedWriter::new(rt.alloc(), rt.stdout()));
+    let mut faults = Output::new(NotedWriter::new(rt.alloc(), rt.stderr()));
+    let status = check(rt.alloc(), &mut input, &mut output, &mut faults);
+    tell_of_text(rt, input.into_stream(), &output, &faults);
+    status
+}
+
+/// Prints the segments of the trace on standard input.
+fn graph_plainly(rt: &HostRuntime) -> u8 {
+    let mut input = Input::new(rt.stdin());
+    let mut output = Output::new(rt.stdout());
+    let mut faults = Output::new(rt.stderr());
+    graph(rt.alloc(), &mut input, &mut output, &mut faults)
+}
+
+/// The same, and tells what the last line means. Where there is no memory for that it is left out.
+pub fn graph_input(rt: &HostRuntime, verbose: bool) -> u8 {
+    if !verbose {
+        return graph_plainly(rt);
+    }
+    let Ok(lines) = Lines::new(rt.alloc()) else {
+        return graph_plainly(rt);
+    };
+    let mut input = Input::new(NotedReader::new(rt.stdin(), lines));
+    let mut output = Output::new(NotedWriter::new(rt.alloc(), rt.stdout()));
+    let mut faults = Output::new(NotedWriter::new(rt.alloc(), rt.stderr()));
+    let status = graph(rt.alloc(), &mut input, &mut output, &mut faults);
+    tell_of_text(rt, input.into_stream(), &output, &faults);
+    status
+}
+
+/// Explains a word by the trace on standard input.
+pub fn explain_input(rt: &HostRuntime, explaining: Explaining) -> u8 {
+    let mut input = Input::new(rt.stdin());
+    let mut output = Output::new(rt.stdout());
+    let mut faults = Output::new(rt.stderr());
+    explain(
+        rt.alloc(),
+        explaining.address,
+        explaining.all,
+        &mut input,
+        &mut output,
+        &mut faults,
+    )
+}

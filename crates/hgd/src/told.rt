@@ -1,0 +1,174 @@
+//! Faults, and what the last line means, told on standard error.
+
+ghost use Rattle.std.specs.Prelude.{◌≡◌, ◌⊎◌};
+
+use crate::directory::OpenFault;
+use hg_check::telling::tell;
+use hg_disk::FileDisk;
+use hg_model::verdict::Refusal;
+use hg_store::devices::Devices;
+use hg_streams::output::Output;
+use hg_verbose::fault::{Source, damage, replay};
+use hg_verbose::last::{Last, last_of};
+use hg_verbose::meaning::{of_damage, of_fault, of_line};
+use hg_verbose::noted::{NotedReader, NotedWriter};
+use hg_verbose::past::Past;
+use std::alloc::AllocError;
+use std::io;
+use std::string::String;
+
+/// The status of a fault.
+pub const FAULT: u8 = 3;
+
+/// Tells a fault.
+pub fn fail(rt: &HostRuntime, refusal: Refusal) -> u8
+    requires { (refusal ≡ Refusal.DeviceFault) ⊎ (refusal ≡ Refusal.OutOfMemory) }
+{
+    tell(refusal, &mut Output::new(rt.stderr()));
+    FAULT
+}
+
+/// Tells why a store could not be opened, in words too where they are asked for.
+pub fn fail_to_open(rt: &HostRuntime, fault: &OpenFault, verbose: bool) -> u8
+    requires { (fault.now.refusal ≡ Refusal.DeviceFault) ⊎ (fault.now.refusal ≡ Refusal.OutOfMemory) }
+{
+    let status = fail(rt, fault.refusal);
+    if verbose {
+        let code = u64::from(fault.refusal.code());
+        tell_fault(rt, code, &[source(fault.name, fault.error)]);
+    }
+    status
+}
+
+/// What the last line tells: that of the faults, or else that of the output.
+fn last_line<W, V>(
+    output: &Output<NotedWriter<W>>,
+    faults: &Output<NotedWriter<V>>,
+) -> Option<Last> {
+    match last_of(faults.stream().end()) {
+        Some(last) => Some(last),
+        None => last_of(output.stream().end()),
+    }
+}
+
+/// Prints a meaning on standard error, if there is one and memory for it.
+fn print(rt: &HostRuntime, meaning: Result<Option<String>, AllocError>) {
+    if let Ok(Some(text)) = meaning {
+        let _ = rt.eprint(text.as_str());
+    }
+}
+
+fn source(name: &str, error: Option<io::Error>) -> Source<'_> {
+    Source { name, error }
+}
+
+/// Tells a fault of the streams and the files.
+fn tell_fault(rt: &HostRuntime, code: u64, sources: &[Source<'_>]) {
+    if let Ok(text) = of_fault(rt.alloc(), code, sources) {
+        let _ = rt.eprint(text.as_str());
+    }
+}
+
+/// Tells the last line of a command that read a text, and used no store.
+pub fn tell_of_text<R, W, V>(
+    rt: &HostRuntime,
+    mut input: NotedReader<R>,
+    output: &Output<NotedWriter<W>>,
+    faults: &Output<NotedWriter<V>>,
+)
+where
+    R: Drop,
+{
+    match last_line(output, faults) {
+        Some(Last::Fault { code }) => {
+            let sources = [
+                source("standard input", input.error()),
+                source("standard output", output.stream().error()),
+            ];
+            tell_fault(rt, code, &sources);
+        }
+        Some(last) => print(rt, of_line(rt.alloc(), last, input.lines(), None)),
+        None => {}
+    }
+}
+
+/// Tells a fault of a command on a store, whose input failed so, if at all.
+fn tell_fault_of_store(
+    rt: &HostRuntime,
+    code: u64,
+    input: Option<io::Error>,
+    output: Option<io::Error>,
+    devices: Devices<FileDisk>,
+) {
+    let sources = [
+        source("standard input", input),
+        source("standard output", output),
+        source("journal", devices.journal.error()),
+        source("pages", devices.slots.error()),
+        source("root0", devices.root0.error()),
+        source("root1", devices.root1.error()),
+    ];
+    if code != 11 {
+        return tell_fault(rt, code, &sources);
+    }
+    let Devices {
+        journal,
+        slots: _,
+        root0,
+        root1,
+    } = devices;
+    let place = damage(rt.alloc(), journal, root0, root1);
+    print(rt, of_damage(rt.alloc(), place).map(Some));
+}
+
+/// Tells the last line of a command that lists a store.
+pub fn tell_of_listing<W, V>(
+    rt: &HostRuntime,
+    output: &Output<NotedWriter<W>>,
+    faults: &Output<NotedWriter<V>>,
+    devices: Devices<FileDisk>,
+) {
+    if let Some(Last::Fault { code }) = last_line(output, faults) {
+        tell_fault_of_store(rt, code, None, output.stream().error(), devices);
+    }
+}
+
+/// What the events of a store left, if they can be read again.
+fn past_of(rt: &HostRuntime, devices: Devices<FileDisk>) -> Option<Past> {
+    let mut past = Past::new(rt.alloc()).ok()?;
+    let Devices {
+        journal,
+        slots: _,
+        root0: _,
+        root1: _,
+    } = devices;
+    match replay(rt.alloc(), journal, &mut past) {
+        Ok(()) => Some(past),
+        Err(_) => None,
+    }
+}
+
+/// Tells the last line of a command that fed a text to a store.
+pub fn tell_of_feeding<R, W, V>(
+    rt: &HostRuntime,
+    mut input: NotedReader<R>,
+    output: &Output<NotedWriter<W>>,
+    faults: &Output<NotedWriter<V>>,
+    devices: Devices<FileDisk>,
+)
+where
+    R: Drop,
+{
+    match last_line(output, faults) {
+        Some(Last::Fault { code }) => {
+            let (input, output) = (input.error(), output.stream().error());
+            tell_fault_of_store(rt, code, input, output, devices);
+        }
+        Some(last) => {
+            if let Some(past) = past_of(rt, devices) {
+                print(rt, of_line(rt.alloc(), last, input.lines(), Some(&past)));
+            }
+        }
+        None => {}
+    }
+}
