@@ -1,5 +1,5 @@
 //! Pages leave their frames, and those that were changed are written first.
-ghost use Rattle.std.specs.Prelude.{◌≡◌, ◌⊎◌, ◌↔◌, ◌+◌, ◌<◌, ◌≤◌, ◌^◌, ℕ, nat_eq, List, [], ◌∷◌, ◌++◌, length, map, get_or, true, false, Some, None, Ok, Err, is_some, IsTrue, OnOk, OnErr, IfOk, IfErr, MatchOption, ◌==◌, if◌then◌else◌};
+ghost use Rattle.std.specs.Prelude.{◌≡◌, ◌⊎◌, ◌↔◌, ◌+◌, ◌-◌, ◌<◌, ◌≤◌, ◌^◌, ℕ, nat_eq, List, [], ◌∷◌, ◌++◌, length, map, take, get_or, true, false, Some, None, Ok, Err, is_some, IsTrue, OnOk, OnErr, IfOk, IfErr, MatchOption, ◌==◌, if◌then◌else◌};
 ghost use Rattle.std.specs.Map.{remove_entry};
 ghost use Rattle.lru.specs.LruCache.{last_entry};
 ghost use Rattle.hg_cells.specs.declared.cell.Cell.{Cell as CellOf};
@@ -173,6 +173,7 @@ impl<D: Disk> Parts<D> {
         ensures cells { CellsFrom self.old.frames.entries self.new.frames.entries }
         ensures room { OnOk result (length self.new.frames.entries < self.new.frames.cap) }
         ensures quiet { length self.old.frames.entries < self.old.frames.cap → self.new ≡ self.old }
+        ensures order { OnOk result (order_of (shown_of self.new) ≡ take (self.old.frames.cap - 1) (order_of (shown_of self.old))) }
         ensures fewer { (q : ℕ) → is_some (frame_in self.new.frames.entries q) ≡ true → is_some (frame_in self.old.frames.entries q) ≡ true }
     {
         if self.frames.len() < self.frames.cap().get() {

@@ -9,7 +9,7 @@ ghost use Rattle.hg_pool.specs.Kept.{AreWithin, IsWhole, SameMap, Stays, Went};
 ghost use Rattle.hg_pool.specs.declared.frame.Frame.{Frame as FrameOf};
 ghost use Rattle.hg_cells.specs.declared.cell.Cell.TheVariants.{New};
 ghost use Rattle.hg_cells.specs.Pages.{filled};
-ghost use Rattle.hg_pool.specs.Answers.{IsDeviceCause, IsFrozen, IsTrueCause, least_of, order_of};
+ghost use Rattle.hg_pool.specs.Answers.{IsDeviceCause, IsFrozen, IsTrueCause, least_of, order_of, order_with};
 ghost use Rattle.hg_pool.specs.Picking.{HasDirty, IsFreezeRefusal};
 
 use crate::frame::Frame;
@@ -57,7 +57,11 @@ fn rooms(
     ensures table { IfOk result (λ r. r.0.entries ≡ table.now.entries) }
     ensures copies { IfOk result (λ r. (r.1.entries ≡ []) × (r.1.cap ≡ frames)) }
     ensures frames { IfOk result (λ r. (r.2.entries ≡ []) × (r.2.cap ≡ frames)) }
+    ensures least { IfOk result (λ r. 2 ≤ frames) }
 {
+    if frames < 2 {
+        return Err(AllocError);
+    }
     let Some(most) = NonZeroUsize::new(frames) else {
         return Err(AllocError);
     };
@@ -70,8 +74,8 @@ fn rooms(
 
 impl<D: Disk> Pool<D> {
     /// A pool over a file of slots, with no page in memory: both maps are what the table of the newest root gives. There are so
-    /// many frames, at least 1 and at most 4,096, and slots below this number are named. Where memory runs out, the file is
-    /// handed back.
+    /// many frames, at least 2 and at most 4,096, and slots below this number are named. An event may lie on two pages, so with
+    /// fewer frames than 2 the file is handed back, as where memory runs out.
     pub fn new(
         alloc: Global,
         file: SlotFile<D>,
@@ -138,11 +142,14 @@ impl<D: Disk> Pool<D> {
         self.parts.make_room()
     }
 
-    /// Brings a page into a frame, as the one used last.
+    /// Brings a page into a frame, as the one used last. Where all frames are taken, the page used least recently leaves its
+    /// frame; the page that was used just before stays.
     pub fn load(&mut self, page: u64, segments: u32, sets: &SetTable) -> Result<(), Refusal>
         requires { page < 2 ^ 54 }
         ensures stays { Stays ⟦<D as Disk>⟧ self.old self.new }
         ensures loaded { OnOk result (is_some (frame_in self.new.frames page) ≡ true) }
+        ensures order { OnOk result (order_of self.new ≡ order_with self.old page) }
+        ensures before { OnOk result ((other : ℕ) (rest : List ℕ) → order_of self.old ≡ other ∷ rest → is_some (frame_in self.new.frames other) ≡ true) }
         ensures within { (n m : ℕ) → segments ≤ n → length sets.now.sets ≤ m → AreWithin self.old.frames n m → AreWithin self.new.frames n m }
         ensures refusal { IfErr result (IsTrueCause self.old self.new) }
         ensures device { D.failures (disk_of self.new) ≡ failed_after result (D.failures (disk_of self.old)) }
@@ -186,6 +193,20 @@ impl<D: Disk> Pool<D> {
             → (length f.cells ≡ 256) × ((q : ℕ) → frame_in self.new.frames q ≡ (if page == q then Some (record { cells = filled f.cells from to cell; is_dirty = true }) else frame_in self.old.frames q)) }
     {
         self.parts.update(page, from, to, cell);
+    }
+
+    // Gives words of a page a cell, from one place up to another, and leaves the order of use. The frozen map stays.
+    pub(crate) fn change(&mut self, page: u64, from: usize, to: usize, cell: Cell)
+        requires present { is_some (frame_in self.old.frames page) ≡ true }
+        requires settled { (slot_in self.old.waiting page ≡ None) ⊎ (is_some (copy_in self.old.copies page) ≡ true) }
+        requires in_order { from ≤ to }
+        requires in_page { to ≤ 256 }
+        ensures went { Went ⟦<D as Disk>⟧ self.old self.new }
+        ensures rest { self.new ≡ record self.old { frames = self.new.frames } }
+        ensures frames { (f : FrameOf) → frame_in self.old.frames page ≡ Some f
+            → (length f.cells ≡ 256) × ((q : ℕ) → frame_in self.new.frames q ≡ (if page == q then Some (record { cells = filled f.cells from to cell; is_dirty = true }) else frame_in self.old.frames q)) }
+    {
+        self.parts.fill(page, from, to, cell);
     }
 
     /// The file, as the calls left it.
