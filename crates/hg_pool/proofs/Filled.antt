@@ -1,5 +1,5 @@
 -- The live map where words of a page are given a cell.
-use Rattle.std.proofs.Common.{◌≡◌, ◌+◌, ◌-◌, ◌≤◌, ◌<◌, ◌/◌, ◌%◌, ◌==◌, ◌&&◌, ◌∙◌, ℕ, zero, suc, nat_eq, nat_le, nat_lt, Bool, true, false, cond, List, [], ◌∷◌, ◌++◌, length, take, drop, replicate, get_or, is_some, Option, Some, None, if◌then◌else◌, refl, sym, ap, subst, ⊎_elim, arith, le-leb, lt-ltb, le-ltb, append_assoc}
+use Rattle.std.proofs.Common.{◌≡◌, ◌+◌, ◌-◌, ◌≤◌, ◌<◌, ◌/◌, ◌%◌, ◌==◌, ◌&&◌, ◌∙◌, ℕ, zero, suc, nat_le, nat_lt, Bool, true, false, cond, List, [], ◌∷◌, ◌++◌, length, take, drop, replicate, get_or, is_some, Option, Some, if◌then◌else◌, refl, sym, ap, subst, ⊎_elim, arith, le-leb, lt-ltb, le-ltb, append_assoc}
 use Rattle.std.proofs.lemmas.List.{get_or-take, get_or-drop, get_or-replicate, length-replicate, get_or_append_left, get_or-append_right, length-take-le}
 use Rattle.std.proofs.lemmas.Bool.{lt-leb, and_from, and_left, and_right, cases_lt}
 use Rattle.hg_disk.specs.declared.disk.Disk as disk

@@ -1,4 +1,4 @@
-use Rattle.std.proofs.Common.{◌≡◌, ℕ, true, is_some, sym, subst}
+use Rattle.std.proofs.Common.{◌≡◌, true, is_some, sym, subst}
 use Rattle.hg_pool.specs.Maps.{frame_in}
 use Rattle.hg_pool.specs.OfWords.{IsSettled}
 use Rattle.hg_pool.specs.Shown.{Shown}
