@@ -10,7 +10,7 @@ ghost use Rattle.hg_pool.specs.declared.frame.Frame.{Frame as FrameOf};
 ghost use Rattle.hg_cells.specs.declared.cell.Cell.TheVariants.{New};
 ghost use Rattle.hg_cells.specs.Pages.{filled};
 ghost use Rattle.hg_pool.specs.Answers.{IsDeviceCause, IsFrozen, IsTrueCause, least_of, order_of, order_with};
-ghost use Rattle.hg_pool.specs.Picking.{HasDirty, IsFreezeRefusal};
+ghost use Rattle.hg_pool.specs.Picking.{AreLeastFree, HasDirty, IsFreezeRefusal};
 
 use crate::frame::Frame;
 use crate::job::{Job, Put};
@@ -218,12 +218,13 @@ impl<D: Disk> Pool<D> {
     }
 
     /// Fixes the live map as the frozen one. The pages that were changed since they were new, read or written wait from then on,
-    /// each with a slot that nothing names. A refusal changes nothing.
+    /// each with a slot that nothing names: the least ones, rising with the pages. A refusal changes nothing.
     pub fn freeze(&mut self) -> Result<(), Refusal>
         ensures frozen { IsWhole ⟦<D as Disk>⟧ self.old → OnOk result (SameMap (live ⟦<D as Disk>⟧ self.old) (frozen ⟦<D as Disk>⟧ self.new)) }
         ensures live { SameMap (live ⟦<D as Disk>⟧ self.old) (live ⟦<D as Disk>⟧ self.new) }
         ensures whole { IsWhole ⟦<D as Disk>⟧ self.old → IsWhole ⟦<D as Disk>⟧ self.new }
         ensures waiting { OnOk result ((q : ℕ) → (is_some (slot_in self.new.waiting q) ≡ true) ↔ HasDirty self.old.frames q) }
+        ensures picked { OnOk result (AreLeastFree self.old self.new.waiting) }
         ensures root { self.new.root ≡ self.old.root }
         ensures file { self.new.file ≡ self.old.file }
         ensures sealed { OnOk result (self.new.is_sealed ≡ false) }
