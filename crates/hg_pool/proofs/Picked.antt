@@ -5,7 +5,7 @@ use Rattle.std.specs.List.{AllByRecursion}
 use Rattle.hg_pages.specs.Marks.{ArePagesRising}
 use Rattle.hg_pages.specs.Tables.{IsNamed, slot_in}
 use Rattle.hg_pool.specs.Answers.{IsTaken}
-use Rattle.hg_pool.specs.Picking.{AreLeastFree, ArePicks}
+use Rattle.hg_pool.specs.Picking.{ArePicks}
 use Rattle.hg_pool.specs.Shown.{Shown}
 use Rattle.hg_pool.proofs.Lookups.{if_false, if_true, itself, same_number}
 

@@ -1,8 +1,8 @@
 //! The pool.
-ghost use Rattle.std.specs.Prelude.{◌≡◌, ◌⊎◌, ◌↔◌, ◌+◌, ◌*◌, ◌/◌, ◌<◌, ◌≤◌, ◌^◌, ◌==◌, ℕ, List, [], ◌∷◌, ◌++◌, length, get_or, true, false, Some, None, Ok, Err, is_some, IsTrue, OnOk, OnErr, IfOk, IfErr, MatchOption, if◌then◌else◌};
+ghost use Rattle.std.specs.Prelude.{◌≡◌, ◌≢◌, ◌⊎◌, ◌↔◌, ◌+◌, ◌*◌, ◌/◌, ◌<◌, ◌≤◌, ◌^◌, ◌==◌, ℕ, List, [], ◌∷◌, ◌++◌, length, get_or, true, false, Some, None, Ok, Err, is_some, IsTrue, OnOk, OnErr, IfOk, IfErr, MatchOption, if◌then◌else◌};
 ghost use Rattle.hg_cells.specs.declared.cell.Cell.{Cell as CellOf};
 ghost use Rattle.hg_detect.specs.Words.{failed_after};
-ghost use Rattle.hg_pages.specs.Slots.{IsSlot, slot_text};
+ghost use Rattle.hg_pages.specs.Slots.{IsKnown, IsSlot, slot_text};
 ghost use Rattle.hg_pages.specs.Tables.{slot_in};
 ghost use Rattle.hg_pool.specs.Maps.{IsSealed, copy_in, disk_of, frame_in, frozen, is_broken, live};
 ghost use Rattle.hg_pool.specs.Kept.{AreWithin, IsWhole, SameMap, Stays, Went};
@@ -126,6 +126,7 @@ impl<D: Disk> Pool<D> {
         ensures freed { IfOk result (λ page. MatchOption page (self.old.frames ≡ []) (λ n. order_of self.old ≡ order_of self.new ++ n ∷ [])) }
         ensures kept { OnErr result (order_of self.new ≡ order_of self.old) }
         ensures refusal { IfErr result (IsTrueCause self.old self.new) }
+        ensures undamaged { IfErr result (λ r. r ≢ Refusal.Damaged) }
         ensures device { D.failures (disk_of self.new) ≡ failed_after result (D.failures (disk_of self.old)) }
     {
         self.parts.evict()
@@ -137,6 +138,7 @@ impl<D: Disk> Pool<D> {
         ensures room { OnOk result (length self.new.frames < self.new.most_frames) }
         ensures quiet { length self.old.frames < self.old.most_frames → self.new ≡ self.old }
         ensures refusal { IfErr result (IsTrueCause self.old self.new) }
+        ensures undamaged { IfErr result (λ r. r ≢ Refusal.Damaged) }
         ensures device { D.failures (disk_of self.new) ≡ failed_after result (D.failures (disk_of self.old)) }
     {
         self.parts.make_room()
@@ -152,6 +154,7 @@ impl<D: Disk> Pool<D> {
         ensures before { OnOk result ((other : ℕ) (rest : List ℕ) → order_of self.old ≡ other ∷ rest → is_some (frame_in self.new.frames other) ≡ true) }
         ensures within { (n m : ℕ) → segments ≤ n → length sets.now.sets ≤ m → AreWithin self.old.frames n m → AreWithin self.new.frames n m }
         ensures refusal { IfErr result (IsTrueCause self.old self.new) }
+        ensures undamaged { IsWhole ⟦<D as Disk>⟧ self.old → ((w : ℕ) → w / 256 ≡ page → IsKnown segments sets.now.sets (live ⟦<D as Disk>⟧ self.old w)) → IfErr result (λ r. r ≢ Refusal.Damaged) }
         ensures device { D.failures (disk_of self.new) ≡ failed_after result (D.failures (disk_of self.old)) }
     {
         self.parts.load(page, segments, sets)

@@ -1,9 +1,12 @@
-use Rattle.std.proofs.Common.{◌∙◌, ◌-◌, ◌∷◌, ℕ, List, take, is_some, ap}
+use Rattle.std.proofs.Common.{◌∙◌, ◌-◌, ◌∷◌, ℕ, List, take, is_some, sym, ap}
 use Rattle.std.specs.Map.{keys_of}
-use Rattle.std.proofs.lemmas.Result.{on_ok_weaker}
+use Rattle.std.proofs.lemmas.Result.{err_from_is_err_and, on_ok_weaker}
 use Rattle.hg_pool.specs.declared.frame.Frame.{Frame}
 use Rattle.hg_pool.specs.declared.parts.Parts.{Parts}
 use Rattle.hg_pool.specs.Answers.{order_of}
+use Rattle.hg_pool.specs.Maps.{frame_in}
+use Rattle.hg_pool.specs.Shown.{Shown}
+use Rattle.hg_pool.proofs.FromSlots.{known_there, not_there}
 use Rattle.hg_pool.specs.Sound.{shown_of}
 use Rattle.hg_pool.proofs.Orders.{before_stays, first_listed, order_last}
 use Rattle.hg_pool.proofs.Stepping.{stays_on}
@@ -57,3 +60,14 @@ returns-clause-before g c =
     ∙ ap (λ (most : ℕ). page ∷ take (most - 1) (order_of (shown_of used))) c.use_page.ensures.cap
     ∙ ap (λ (ks : List ℕ). page ∷ take (p.frames.cap - 1) ks) (c.use_page.ensures.absent c.if-use_page.false ∙ was)))
     c.take_in.ensures.frames
+
+pub returns-in_err-cells-clause-undamaged : goal.returns-in_err-cells-clause-undamaged
+returns-in_err-cells-clause-undamaged g c h known =
+    let q = c.args.self.now in
+    let room = c.make_room.new.self in
+    let old : Shown g.row.D.Denot = shown_of q in
+    let stays = stays_on g.D.Disk old (shown_of c.use_page.new.self) (shown_of room) c.use_page.ensures.stays c.make_room.ensures.stays in
+    let missing = not_there (frame_in q.frames.entries c.args.page) (frame_in room.frames.entries c.args.page) (λ is. ap is_some (sym (c.use_page.ensures.looks c.args.page)) ∙ c.make_room.ensures.fewer c.args.page is)
+    (sym c.use_page.ensures.answer ∙ c.if-use_page.false) in
+    let p = err_from_is_err_and c.from_residual-in_err-cells.result c.from_residual-in_err-cells.ensures.1 in
+    rw (p.1, p.2) (c.in_err-cells.ensures.whole (stays.went.whole h) (known_there g.D.Disk old (shown_of room) c.args.page c.args.segments c.args.sets.now.sets stays h missing known))
