@@ -44,6 +44,7 @@ impl<D: Disk> Parts<D> {
     }
 
     // Whether the page is the one used last.
+    #[inline]
     fn is_last(&self, page: u64) -> bool
         ensures { IsTrue result → (rest : List ℕ) × (order_of (shown_of self.now) ≡ page ∷ rest) }
     {

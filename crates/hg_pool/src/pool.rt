@@ -199,6 +199,7 @@ impl<D: Disk> Pool<D> {
     }
 
     // Gives words of a page a cell, from one place up to another, and leaves the order of use. The frozen map stays.
+    #[inline]
     pub(crate) fn change(&mut self, page: u64, from: usize, to: usize, cell: Cell)
         requires present { is_some (frame_in self.old.frames page) ≡ true }
         requires settled { (slot_in self.old.waiting page ≡ None) ⊎ (is_some (copy_in self.old.copies page) ≡ true) }

@@ -76,6 +76,7 @@ impl<D: Disk> Pool<D> {
     }
 
     // Whether a page may be changed.
+    #[inline]
     fn is_settled(&self, page: u64) -> bool
         ensures { IsTrue result → IsSettled self.now page }
     {
@@ -86,6 +87,7 @@ impl<D: Disk> Pool<D> {
     }
 
     // A page in its frame, where it is the one used last.
+    #[inline]
     fn last_frame(&self, page: u64) -> Option<&Frame>
         ensures { IfSome result (λ f. frame_in self.now.frames page ≡ Some f.now) }
     {
@@ -96,6 +98,7 @@ impl<D: Disk> Pool<D> {
     }
 
     // Gives the words of a page from one place up to another a cell.
+    #[inline]
     fn fill_page(&mut self, number: u64, from: u64, to: u64, cell: Cell)
         requires present { is_some (frame_in self.old.frames number) ≡ true }
         requires settled { IsSettled self.old number }
