@@ -1,7 +1,5 @@
 //! Cells in words: read, and told.
 
-ghost use Rattle.std.specs.Prelude.{◌≡◌};
-
 use crate::text::Text;
 use hg_cells::{Cell, PAGE_WORDS, Page};
 

@@ -1,7 +1,5 @@
 //! The pool under trial, what its cells are checked against, and the disk of the last pool.
 
-ghost use Rattle.std.specs.Prelude.{◌≤◌, ◌<◌};
-
 use crate::opening::{pool_of, sets_of};
 use crate::text::{Text, front};
 use crate::trial::{Known, Trial};

@@ -1,7 +1,6 @@
 //! A disk in memory of which chosen calls fail.
-ghost use Rattle.std.specs.Prelude.{◌≡◌, ◌≤◌, true};
-ghost use Rattle.hg_disk.specs.Memory.{failures_of, past_of, state_of};
-ghost use Rattle.hg_disk.specs.Memory.{history_of, start_of};
+ghost use Rattle.std.specs.Prelude.{◌≡◌, true};
+ghost use Rattle.hg_disk.specs.Memory.{failures_of, history_of, past_of, start_of, state_of};
 ghost use Rattle.hg_disk.specs.Kept.{has_contents};
 
 use hg_disk::{Disk, DiskFault, MemDisk};

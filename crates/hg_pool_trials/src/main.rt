@@ -9,7 +9,7 @@
 //! | `cells P` | the page is loaded, and its cells but the new ones are told |
 //! | `take` | a job is taken, and its page and cells are told; it has the next number, from 0 on |
 //! | `put N`, `changed N AT VALUE`, `renamed N P` | the job is handed in; with another byte in its slot; as another page |
-//! | `open` | where all is written: another `seal`, and then the root of the frozen table is open |
+//! | `open` | where the frozen map is sealed: the root of its table is open |
 //! | `table` | the frozen table |
 //! | `end` | the pool ends, and the calls of its disk are told; behind those that failed stands `!` |
 //! | `image K TEAR` | of the last pool's disk, what a crash leaves after K calls; TEAR is `lost`, `kept`, `front9` or `fill255` |

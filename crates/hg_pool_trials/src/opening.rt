@@ -1,6 +1,6 @@
 //! What a line says of a new pool: its disk, which calls fail, its table, its frames and its slots.
 
-ghost use Rattle.std.specs.Prelude.{◌≡◌, ◌<◌, ◌≤◌, ◌^◌, IfSome};
+ghost use Rattle.std.specs.Prelude.{◌<◌, ◌^◌, IfSome};
 
 use crate::disk::{Failures, TrialDisk};
 use crate::text::{bytes_of, front};

@@ -1,6 +1,6 @@
 //! One pool under trial, and the jobs that were taken of it.
 
-ghost use Rattle.std.specs.Prelude.{◌≡◌, ◌<◌, ◌≤◌, ◌^◌};
+ghost use Rattle.std.specs.Prelude.{◌≡◌, ◌<◌, ◌≤◌, ◌^◌, true, IsTrue};
 
 use crate::cells::{cell_of, put_cell, put_page};
 use crate::disk::TrialDisk;
@@ -33,11 +33,18 @@ impl Drop for Known {
 pub struct Trial {
     pool: Pool<TrialDisk>,
     jobs: Vec<EncodedPage>,
+    // Whether the frozen map is sealed, and its root may be opened.
+    is_sealed: bool,
+    ghost sealed: { is_sealed ≡ true → IsTrue pool.is_sealed },
 }
 
 impl Drop for Trial {
     fn drop(self) {
-        let Trial { pool, jobs } = self;
+        let Trial {
+            pool,
+            jobs,
+            is_sealed: _,
+        } = self;
         drop(pool);
         drop(jobs);
     }
@@ -94,12 +101,17 @@ impl Trial {
         Trial {
             pool,
             jobs: Vec::new(alloc),
+            is_sealed: false,
         }
     }
 
     /// The disk in memory under the pool.
     pub fn into_disk(self) -> MemDisk {
-        let Trial { pool, jobs } = self;
+        let Trial {
+            pool,
+            jobs,
+            is_sealed: _,
+        } = self;
         drop(jobs);
         pool.into_disks().into_disks().into_inner()
     }
@@ -217,18 +229,28 @@ impl Trial {
         Some(())
     }
 
-    // `open`: where all is written, seals once more and tells the pool that the root of the frozen table is open.
-    fn open(&mut self, out: &mut Text) {
-        if !self.pool.all_written() {
-            out.put(b"not written");
-            return;
+    fn freeze(&mut self) -> Result<(), Refusal> {
+        self.pool.freeze()?;
+        self.is_sealed = false;
+        Ok(())
+    }
+
+    fn seal(&mut self) -> Result<(), Refusal> {
+        let is_whole = self.pool.all_written();
+        self.pool.seal()?;
+        if is_whole {
+            self.is_sealed = true;
         }
-        match self.pool.seal() {
-            Ok(()) => {
-                self.pool.root_opened();
-                out.put(b"ok");
-            }
-            Err(refusal) => put_refusal(refusal, out),
+        Ok(())
+    }
+
+    // `open`: where the frozen map is sealed, tells the pool that the root of its table is open.
+    fn open(&mut self, out: &mut Text) {
+        if self.is_sealed {
+            self.pool.root_opened();
+            out.put(b"ok");
+        } else {
+            out.put(b"not sealed");
         }
     }
 
@@ -249,12 +271,12 @@ impl Trial {
             "cells" => self.cells(known, rest, out)?,
             "evict" => self.evict(out),
             "room" => put_answer(self.pool.make_room(), out),
-            "freeze" => put_answer(self.pool.freeze(), out),
+            "freeze" => put_answer(self.freeze(), out),
             "take" => self.take(out)?,
             "put" => self.put(rest, out)?,
             "changed" => self.put_changed(alloc, rest, out)?,
             "renamed" => self.put_renamed(alloc, rest, out)?,
-            "seal" => put_answer(self.pool.seal(), out),
+            "seal" => put_answer(self.seal(), out),
             "open" => self.open(out),
             "table" => self.put_table(out),
             _ => return None,
