@@ -12,6 +12,7 @@ ghost use Rattle.hg_wire.specs.Streams.{ended_from};
 ghost use Rattle.hg_wire.specs.declared.reader.Reading.{Reading as ReadingOf};
 ghost use Rattle.hg_explain.specs.Life as life;
 
+use crate::form::Asked;
 use crate::look::{Look, concerns, differs, look_at, overlaps};
 use crate::telling::{hold_event, hold_more};
 use hg_check::checker::{Ending, apply, apply_access};
@@ -20,13 +21,6 @@ use hg_model::event::{Access, Event};
 use hg_model::verdict::Refusal;
 use hg_wire::line::AccessLine;
 use hg_wire::reader::{EventReader, Reading, Taken};
-
-/// What is asked: the life of a word, by the word's number, and whether each event is to have a line.
-#[derive(Clone, Copy, Debug, PartialEq, Eq, Drop)]
-pub struct Asked {
-    pub word: u64,
-    pub all: bool,
-}
 
 /// How many accesses an event is.
 fn accesses(event: &Event) -> u64
@@ -53,14 +47,14 @@ fn tell_event(
     requires word { asked.word < 2 ^ 62 }
     requires actor { life.actor_of event.now < 1024 }
     requires few { more.old + 1 < 2 ^ 64 }
-    ensures ok { OnOk result ((held.new.items ≡ held.old.items ++ (life.told_by asked.word asked.all before from (content_of detector.now) more.old line event.now).0)
-        × (more.new ≡ (life.told_by asked.word asked.all before from (content_of detector.now) more.old line event.now).1)) }
+    ensures ok { OnOk result ((held.new.items ≡ held.old.items ++ (life.told_by asked.word asked.form before from (content_of detector.now) more.old line event.now).0)
+        × (more.new ≡ (life.told_by asked.word asked.form before from (content_of detector.now) more.old line event.now).1)) }
     ensures cause { IfErr result (λ r. r ≡ Refusal.OutOfMemory) }
 {
-    if asked.all || differs(before, look_at(detector, asked.word)) {
+    if asked.form.all || differs(before, look_at(detector, asked.word)) {
         hold_more(*more, held)?;
         *more = 0;
-        return hold_event(detector, asked.word, before, from, line, event, held);
+        return hold_event(asked, detector, before, from, line, event, held);
     }
     *more += accesses(event);
     Ok(())
@@ -79,7 +73,7 @@ pub fn pass(
     requires fits { (content_of detector.old).last 0 + 1 < 2 ^ 64 }
     requires few { more.old ≤ (content_of detector.old).last 0 }
     ensures went { result ≡ Ok None → WentOn detector.old detector.new reading.now }
-    ensures tells { result ≡ Ok None → Tells asked.word asked.all (content_of detector.old) more.old reading.now (content_of detector.new) more.new held.old.items held.new.items }
+    ensures tells { result ≡ Ok None → Tells asked.word asked.form (content_of detector.old) more.old reading.now (content_of detector.new) more.new held.old.items held.new.items }
     ensures ended { (later : List ReadingOf) (end : EndingOf) → result ≡ Ok (Some end)
         → LeadsTo (reading.now ∷ later) detector.old.sets (content_of detector.old) (content_of detector.new) end }
     ensures stays { (end : EndingOf) → result ≡ Ok (Some end) → Stays detector.old more.old held.old.items detector.new more.new held.new.items }
@@ -117,7 +111,7 @@ fn pass_access(
     requires fits { (content_of detector.old).last 0 + 1 < 2 ^ 64 }
     requires few { more.old ≤ (content_of detector.old).last 0 }
     ensures went { result ≡ Ok None → WentOn detector.old detector.new (record { line = line; event = Ok (event_in found.now) }) }
-    ensures tells { result ≡ Ok None → Tells asked.word asked.all (content_of detector.old) more.old (record { line = line; event = Ok (event_in found.now) }) (content_of detector.new) more.new held.old.items held.new.items }
+    ensures tells { result ≡ Ok None → Tells asked.word asked.form (content_of detector.old) more.old (record { line = line; event = Ok (event_in found.now) }) (content_of detector.new) more.new held.old.items held.new.items }
     ensures ended { (later : List ReadingOf) (end : EndingOf) → result ≡ Ok (Some end)
         → LeadsTo (record { line = line; event = Ok (event_in found.now) } ∷ later) detector.old.sets (content_of detector.old) (content_of detector.new) end }
     ensures stays { (end : EndingOf) → result ≡ Ok (Some end) → Stays detector.old more.old held.old.items detector.new more.new held.new.items }
@@ -157,10 +151,10 @@ pub fn push(
     requires events { (content_of detector.old).last 0 + length piece.now < 2 ^ 64 }
     requires few { more.old ≤ (content_of detector.old).last 0 }
     ensures reaches { result ≡ Ok None → Reaches reader.old detector.old piece.now reader.new detector.new [] }
-    ensures told { result ≡ Ok None → ToldOn asked.word asked.all reader.old (content_of detector.old) more.old piece.now reader.new (content_of detector.new) more.new [] held.old.items held.new.items }
+    ensures told { result ≡ Ok None → ToldOn asked.word asked.form reader.old (content_of detector.old) more.old piece.now reader.new (content_of detector.new) more.new [] held.old.items held.new.items }
     ensures none_left { result ≡ Ok None → ended_from reader.new [] ≡ [] }
     ensures ends { (end : EndingOf) → result ≡ Ok (Some end) → EndsIn reader.old detector.old piece.now detector.new end }
-    ensures told_all { (end : EndingOf) → result ≡ Ok (Some end) → ToldAll asked.word asked.all reader.old (content_of detector.old) more.old piece.now (content_of detector.new) more.new held.old.items held.new.items }
+    ensures told_all { (end : EndingOf) → result ≡ Ok (Some end) → ToldAll asked.word asked.form reader.old (content_of detector.old) more.old piece.now (content_of detector.new) more.new held.old.items held.new.items }
     ensures fault { IfErr result (λ r. r ≡ Refusal.OutOfMemory) }
 {
     let mut rest = piece;

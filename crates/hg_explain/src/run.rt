@@ -18,7 +18,8 @@ ghost use Rattle.hg_check.specs.Printing.{line_text};
 ghost use Rattle.hg_streams.specs.Calls.{failed_reads, failed_writes};
 ghost use Rattle.hg_streams.specs.Told.{told};
 
-use crate::passing::{Asked, pass, push};
+use crate::form::Asked;
+use crate::passing::{pass, push};
 use hg_check::checker::Ending;
 use hg_check::run::{MOST_READS, Progress, piece_buffer, reader_at_start};
 use hg_check::streams::write_out;
@@ -47,11 +48,11 @@ fn advance<R: Read>(
     requires events { (content_of detector.old).last 0 + length buffer.old < 2 ^ 64 }
     requires few { more.old ≤ (content_of detector.old).last 0 }
     ensures underway { result ≡ Ok Progress.Underway
-        → Advances asked.word asked.all input.old.calls input.new.calls reader.old detector.old more.old reader.new detector.new more.new held.old.items held.new.items (length buffer.old) }
+        → Advances asked.word asked.form input.old.calls input.new.calls reader.old detector.old more.old reader.new detector.new more.new held.old.items held.new.items (length buffer.old) }
     ensures at_end { result ≡ Ok Progress.AtEnd
         → MeetsEnd input.old.calls input.new.calls reader.old detector.old more.old reader.new detector.new more.new held.old.items held.new.items }
     ensures stopped { (end : EndingOf) → result ≡ Ok (Progress.Stopped end)
-        → Finishes asked.word asked.all input.old.calls input.new.calls reader.old detector.old more.old (content_of detector.new) end more.new held.old.items held.new.items }
+        → Finishes asked.word asked.form input.old.calls input.new.calls reader.old detector.old more.old (content_of detector.new) end more.new held.old.items held.new.items }
     ensures call { (call : ReadCall) × (input.new.calls ≡ call ∷ input.old.calls) }
     ensures size { length buffer.new ≡ length buffer.old }
     ensures cause { IfErr result (λ r. (r ≡ Refusal.OutOfMemory) ⊎ (r ≡ Refusal.DeviceFault)) }
@@ -84,7 +85,7 @@ fn finish(
     requires events { (content_of detector.old).last 0 + 1 < 2 ^ 64 }
     requires few { more.old ≤ (content_of detector.old).last 0 }
     ensures ends { IfOk result (λ end. LeadsTo (readings_from reader []) detector.old.sets (content_of detector.old) (content_of detector.new) end) }
-    ensures told { IfOk result (λ end. ToldLast asked.word asked.all reader (content_of detector.old) more.old (content_of detector.new) more.new held.old.items held.new.items) }
+    ensures told { IfOk result (λ end. ToldLast asked.word asked.form reader (content_of detector.old) more.old (content_of detector.new) more.new held.old.items held.new.items) }
     ensures cause { IfErr result (λ r. r ≡ Refusal.OutOfMemory) }
 {
     let Some(reading) = reader.finish() else {
@@ -124,9 +125,9 @@ pub fn run<R: Read, W: Write>(
     requires sets { detector.old.sets ≡ first_table 262144 }
     requires word { asked.word < 2 ^ 62 }
     requires none { more.old ≡ 0 }
-    ensures ends { IfOk result (HasRun asked.word asked.all input.old.calls input.new.calls output.old.calls output.new.calls held.old.items held.new.items (content_of detector.new) more.new) }
+    ensures ends { IfOk result (HasRun asked.word asked.form input.old.calls input.new.calls output.old.calls output.new.calls held.old.items held.new.items (content_of detector.new) more.new) }
     ensures front { (first : List WriteCall) → IsDue first output.old.calls held.old.items [] (line_text (word_line asked.word))
-        → OnErr result (WroteFrontOf asked.word asked.all input.old.calls input.new.calls first output.new.calls) }
+        → OnErr result (WroteFrontOf asked.word asked.form input.old.calls input.new.calls first output.new.calls) }
     ensures cause { IfErr result (λ r. HasCause input.old.calls input.new.calls output.old.calls output.new.calls r) }
 {
     let mut reader = reader_at_start(alloc)?;

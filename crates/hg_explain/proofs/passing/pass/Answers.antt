@@ -16,7 +16,7 @@ returns-in_default-clause-tells c same =
 
 pub returns-then-not-concerns-clause-tells : goal.returns-then-not-concerns-clause-tells
 returns-then-not-concerns-clause-tells c same =
-    tells_nothing c.args.asked.word c.args.asked.all (content_of c.args.detector.now) c.args.more.now c.args.reading.now (content_of c.apply-then-not-concerns.new.detector) c.args.held.now.items c.in-Ok.event
+    tells_nothing c.args.asked.word c.args.asked.form (content_of c.args.detector.now) c.args.more.now c.args.reading.now (content_of c.apply-then-not-concerns.new.detector) c.args.held.now.items c.in-Ok.event
     c.in-Ok.is (c.apply-then-not-concerns.ensures.content c.in-Ok.event c.in-Ok.is same) (sym c.concerns.ensures ∙ c.if-not-concerns.true)
 
 pub tell_event-requires-clause-actor : goal.tell_event-requires-clause-actor
@@ -27,7 +27,7 @@ tell_event-requires-clause-actor c =
 pub returns-clause-tells : goal.returns-clause-tells
 returns-clause-tells c same =
     let accepted = c.in_ok-stopped.was ∙ ap (λ (x : Option Ending). Ok x) (none_stopped c.in_ok-stopped.stopped (sym c.is_some.ensures ∙ c.if-is_some.false)) in
-    tells_concerned c.args.asked.word c.args.asked.all (content_of c.args.detector.now) c.args.more.now c.args.reading.now (content_of c.apply-2.new.detector) c.tell_event.new.more c.args.held.now.items c.tell_event.new.held.items
+    tells_concerned c.args.asked.word c.args.asked.form (content_of c.args.detector.now) c.args.more.now c.args.reading.now (content_of c.apply-2.new.detector) c.tell_event.new.more c.args.held.now.items c.tell_event.new.held.items
     c.in-Ok.event c.look_at-before.result c.kept-from.result c.in-Ok.is (c.apply-2.ensures.content c.in-Ok.event c.in-Ok.is accepted) (sym c.concerns.ensures ∙ c.if-not-concerns.false)
     c.look_at-before.ensures (c.kept-from.ensures.count ∙ sym (length-map c.args.detector.now.kept (report_of c.args.detector.now.sets.sets)))
     c.in_ok-tell_event.ensures.ok.0 c.in_ok-tell_event.ensures.ok.1

@@ -8,7 +8,7 @@ abbrev pub invariant-loop-found : goal.invariant-loop-found
 invariant-loop-found l =
     record {
       reaches : Reaches l.fn.reader l.fn.detector l.piece l.reader l.detector l.rest;
-      told : ToldOn l.asked.word l.asked.all l.fn.reader (content_of l.fn.detector) l.fn.more l.piece l.reader (content_of l.detector) l.more l.rest l.fn.held.items l.held.items;
+      told : ToldOn l.asked.word l.asked.form l.fn.reader (content_of l.fn.detector) l.fn.more l.piece l.reader (content_of l.detector) l.more l.rest l.fn.held.items l.held.items;
     }
 
 abbrev pub decreases-loop-found : goal.decreases-loop-found

@@ -6,7 +6,7 @@ use Rattle.hg_explain.proofs.run.run.Given as goal
 abbrev pub invariant-loop-reads : goal.invariant-loop-reads
 invariant-loop-reads g l =
     record {
-      run : IsUnderway l.asked.word l.asked.all l.fn.input.calls l.input.calls l.fn.output.calls l.output.calls l.fn.held.items l.held.items l.reader l.detector l.more l.reads (length l.buffer.items);
+      run : IsUnderway l.asked.word l.asked.form l.fn.input.calls l.input.calls l.fn.output.calls l.output.calls l.fn.held.items l.held.items l.reader l.detector l.more l.reads (length l.buffer.items);
       counted : length l.input.calls ≡ l.reads + length l.fn.input.calls;
       no_read : failed_reads l.input.calls ≡ failed_reads l.fn.input.calls;
       no_write : failed_writes l.output.calls ≡ failed_writes l.fn.output.calls;
