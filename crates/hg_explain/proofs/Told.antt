@@ -7,10 +7,13 @@ use Rattle.hg_model.specs.declared.event.Access.{Access}
 use Rattle.hg_model.specs.History.{overlaps}
 use Rattle.hg_model.specs.declared.event.Event.TheVariants.{Fork, Join, Lock, RdLock, Unlock, Read, Write, Alloc, Free}
 use Rattle.hg_model.specs.declared.event.Named.{Named}
-use Rattle.hg_model.specs.declared.verdict.Verdict.TheVariants.{Accept}
-use Rattle.hg_model.specs.Verdicts.{Standing, bad_number, is_above_limit, verdict}
+use Rattle.hg_model.specs.declared.verdict.Verdict.{Verdict}
+use Rattle.hg_model.specs.declared.verdict.Verdict.TheVariants.{Accept, Duplicate, Refuse}
+use Rattle.hg_model.specs.Verdicts.{Standing, bad_number, is_above_limit, standing_of, verdict}
 use Rattle.hg_model.specs.Contents.{Content}
-use Rattle.hg_model.specs.Change.{after}
+use Rattle.hg_model.specs.Change.{after, locks_of, touched, word_after}
+use Rattle.hg_model.specs.Segments.{present}
+use Rattle.hg_model.specs.declared.word.WordState.TheVariants.{New}
 use Rattle.hg_model.proofs.Accepted.{no_cause}
 use Rattle.hg_detect.specs.declared.detector.Detector.{Detector}
 use Rattle.hg_detect.specs.declared.paged.PagedWords.{PagedWords}
@@ -18,8 +21,9 @@ use Rattle.hg_detect.specs.Memory.{content_of}
 use Rattle.hg_wire.specs.declared.reader.Reading.{Reading}
 use Rattle.hg_wire.specs.Streams.{GivesNoReading, GivesReading, Pending, readings_from}
 use Rattle.hg_check.specs.declared.checker.Ending.{Ending}
-use Rattle.hg_check.specs.declared.checker.Ending.TheVariants.{Ended, Bad}
-use Rattle.hg_check.specs.Checking.{IsRead, LeadsTo, next_named}
+use Rattle.hg_check.specs.declared.checker.Ending.TheVariants.{Ended, Bad, Refused}
+use Rattle.hg_model.specs.declared.verdict.Refusal.{Refusal}
+use Rattle.hg_check.specs.Checking.{Answered, IsRead, LeadsTo, next_named}
 use Rattle.hg_sets.specs.Interning.{Table}
 use Rattle.hg_wire.specs.declared.line.LineFault.{LineFault}
 use Rattle.hg_check.proofs.Pieces as pieces
@@ -87,6 +91,21 @@ tells_concerned w form c k r d j held kept e before from is content meets looked
     ∙ sym (ap (λ b. cond b (told_by w form (look_of (c.words w)) (length c.reports) d k r.line e) ([], k)) meets)) in
     tells_event w form c k r d j held kept e is content (text ∙ ap (λ (x : List ℕ × ℕ). held ++ x.0) same) (more ∙ ap (λ (x : List ℕ × ℕ). x.1) same)
 
+-- an event that does not concern the word leaves it as it is
+unmoved : (c : Content) (e : Event) (w : ℕ) → concerns w e ≡ false → word_after c e w ≡ c.words w
+unmoved c (Fork p d) w apart = refl
+unmoved c (Join p d) w apart = refl
+unmoved c (Lock t l) w apart = refl
+unmoved c (RdLock t l) w apart = refl
+unmoved c (Unlock t l) w apart = refl
+unmoved c (Read a) w apart = ap (λ b. cond b (touched c.segments a.t (present c.segments a.t) false (locks_of c.threads a.t false) (c.words w)) (c.words w)) apart
+unmoved c (Write a) w apart = ap (λ b. cond b (touched c.segments a.t (present c.segments a.t) true (locks_of c.threads a.t true) (c.words w)) (c.words w)) apart
+unmoved c (Alloc b) w apart = ap (λ x. cond x New (c.words w)) apart
+unmoved c (Free b) w apart = ap (λ x. cond x New (c.words w)) apart
+
+pub looks_same : (w : ℕ) (c d : Content) (e : Event) → d ≡ after c (next_named c e) → concerns w e ≡ false → look_of (c.words w) ≡ look_of (d.words w)
+looks_same w c d e content apart = ap look_of (sym (ap (λ (x : Content). x.words w) content ∙ unmoved c e w apart))
+
 -- whether an access concerns a word, by whether it writes
 pub access_concerns : (w : ℕ) (write : Bool) (a : Access) → concerns w (cond write (Write a) (Read a)) ≡ overlaps a.at a.len w
 access_concerns w true a = refl
@@ -130,6 +149,19 @@ read_is_event (Err fault) t c last line later h = absurd (never line h.1)
 pub accepted_is_event : (r : Reading) (t new : Table) (c d : Content)
     → ((later : List Reading) (last : Content) (end : Ending) → LeadsTo later new d last end → LeadsTo (r ∷ later) t c last end) → (e : Event) × (r.event ≡ Ok e)
 accepted_is_event r t new c d leads = read_is_event r.event t c d r.line (λ u x. LeadsTo [] u x d Ended) (leads [] d Ended (refl, refl))
+
+refused_never : (line : ℕ) (r : Refusal) → Ended ≡ Refused line r → ⊥
+refused_never line r h = absurd (cc)
+
+read_is_accepted : (e : Event) (v : Verdict) (t : Table) (c last : Content) (line : ℕ) (later : Table → Content → Type 0) → Answered v t c e line later last Ended → v ≡ Accept
+read_is_accepted e Accept t c last line later h = refl
+read_is_accepted e (Duplicate k) t c last line later h = absurd h
+read_is_accepted e (Refuse r) t c last line later h = absurd (refused_never line r h.1)
+
+-- an event whose line was accepted was allowed
+pub accepted_is_allowed : (line : ℕ) (e : Event) (t new : Table) (c d : Content)
+    → ((later : List Reading) (last : Content) (end : Ending) → LeadsTo later new d last end → LeadsTo (record { line = line; event = Ok e } ∷ later) t c last end) → verdict (standing_of c) (next_named c e) ≡ Accept
+accepted_is_allowed line e t new c d leads = read_is_accepted e (verdict (standing_of c) (next_named c e)) t c d line (λ u x. LeadsTo [] u x d Ended) (leads [] d Ended (refl, refl))
 
 -- ---- lines of a piece
 

@@ -15,6 +15,7 @@ pub loop-found-init : goal.loop-found-init
 loop-found-init c = record {
   reaches = reaches_first c.args.reader.now c.args.detector.now c.args.piece.now c.requires.whole;
   told = told_first c.args.asked.word c.args.asked.form c.args.reader.now (content_of c.args.detector.now) c.args.more.now c.args.piece.now c.args.held.now.items;
+  looks = c.requires.looks;
 }
 
 pub returns-then-is_some-clause-told_all : goal.returns-then-is_some-clause-told_all
@@ -35,6 +36,7 @@ loop-found-preserved-in-Some c =
           (told_on c.args.asked.word c.args.asked.form c.args.reader.now c.loop-found.reader c.take_access.new.self (content_of c.args.detector.now) (content_of c.loop-found.detector) (content_of c.pass_access.new.detector)
           c.args.more.now c.loop-found.more c.pass_access.new.more c.args.piece.now c.loop-found.rest.now c.args.held.now.items c.loop-found.held.items c.pass_access.new.held.items (record { line = c.lines.result; event = Ok (event_of c.in-Some.found) }) c.in-Some.found.used
           c.loop-found.invariant.told gives (c.in_ok-stopped.ensures.tells accepted));
+      looks = c.in_ok-stopped.ensures.looks accepted;
     }
 
 pub returns-then-is_some-2-clause-told_all : goal.returns-then-is_some-2-clause-told_all
@@ -55,4 +57,5 @@ loop-found-preserved c =
           (told_on c.args.asked.word c.args.asked.form c.args.reader.now c.loop-found.reader c.take.new.self (content_of c.args.detector.now) (content_of c.loop-found.detector) (content_of c.pass.new.detector)
           c.args.more.now c.loop-found.more c.pass.new.more c.args.piece.now c.loop-found.rest.now c.args.held.now.items c.loop-found.held.items c.pass.new.held.items c.in-Line.reading c.in-Line.used
           c.loop-found.invariant.told gives (c.in_ok-stopped-2.ensures.tells accepted));
+      looks = c.in_ok-stopped-2.ensures.looks accepted;
     }

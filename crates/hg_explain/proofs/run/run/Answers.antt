@@ -1,4 +1,4 @@
-use Rattle.std.proofs.Common.{◌≡◌, ℕ, ◌++◌, List, [], Result, Ok, Err, IfOk, length, take, drop, refl, sym, ap, subst, ◌∙◌, arith}
+use Rattle.std.proofs.Common.{◌≡◌, ℕ, ◌++◌, List, [], Result, Ok, Err, IfOk, length, take, drop, refl, sym, ap, subst, ◌∙◌, inl, arith}
 use Rattle.std.proofs.lemmas.List.{length-append, length-drop, length-take}
 use Rattle.std.proofs.lemmas.Result.{IfOk-weaker}
 use Rattle.hg_detect.specs.Memory.{content_of}
@@ -6,6 +6,8 @@ use Rattle.hg_wire.specs.Streams.{readings_from}
 use Rattle.hg_check.specs.Checking.{LeadsTo}
 use Rattle.hg_check.specs.Printing.{line_text}
 use Rattle.hg_check.proofs.Printed.{always_err, front_due}
+use Rattle.hg_model.specs.Contents.{Content}
+use Rattle.hg_explain.specs.Life.{look_of}
 use Rattle.hg_explain.specs.Explaining.{word_line}
 use Rattle.hg_explain.specs.Telling.{Advances, HasRun, ToldLast}
 use Rattle.hg_explain.proofs.Running.{finishes_at_end, front_now, front_underway, front_written, has_run, underway_first, underway_on, wrote_front, wrote_none}
@@ -31,6 +33,7 @@ pub loop-reads-init : goal.loop-reads-init
 loop-reads-init g c = record {
   run = underway_first c.args.asked.word c.args.asked.form c.args.input.now.calls c.args.output.now.calls c.args.held.now.items c.in_ok-reader.reader c.args.detector.now c.args.more.now (length c.in_ok-buffer.buffer.items)
       c.requires.whole c.requires.start c.requires.sets c.in_ok-reader.ensures.start c.requires.none c.in_ok-buffer.ensures.size;
+  looks = ap (λ (x : Content). look_of (x.words c.args.asked.word)) (sym c.requires.start);
   counted = omega arith;
   no_read = refl;
   no_write = refl;
@@ -50,6 +53,7 @@ loop-reads-preserved g c = record {
       (ap length c.as_mut_slice-piece.ensures.value) (c.in_ok-advance.ensures.underway (ap Ok c.in-Underway.is)))
       (resized c.loop-reads.buffer.len c.advance.new.buffer c.loop-reads.buffer.items (c.advance.ensures.size ∙ ap length c.as_mut_slice-piece.ensures.value) (sym c.as_mut_slice-piece.ensures.len ∙ ap length c.as_mut_slice-piece.ensures.value))
       c.in_ok-write_held-in-Underway.ensures.printed;
+  looks = c.in_ok-advance.ensures.looks (inl (ap Ok c.in-Underway.is));
   counted = omega (arith, c.in_ok-advance.ensures.counted, c.loop-reads.invariant.counted);
   no_read = omega (arith, c.in_ok-advance.ensures.fault, c.loop-reads.invariant.no_read);
   no_write = omega (arith, c.in_ok-write_held-in-Underway.ensures.fault, c.loop-reads.invariant.no_write);
