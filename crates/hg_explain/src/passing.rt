@@ -3,6 +3,7 @@
 ghost use Rattle.std.specs.Prelude.{◌≡◌, ◌+◌, ◌<◌, ◌≤◌, ◌^◌, [], ◌∷◌, ◌++◌, true, List, Ok, Some, None, length, IfErr, OnOk};
 ghost use Rattle.hg_check.specs.Checking.{LeadsTo};
 ghost use Rattle.hg_check.specs.Running.{EndsIn, Reaches};
+ghost use Rattle.hg_check.specs.Printing.{line_text};
 ghost use Rattle.hg_check.specs.declared.checker.Ending.{Ending as EndingOf};
 ghost use Rattle.hg_detect.specs.Memory.{IsWhole, content_of};
 ghost use Rattle.hg_explain.specs.Telling.{Stays, Tells, ToldAll, ToldOn, WentOn};
@@ -23,6 +24,7 @@ use hg_wire::line::AccessLine;
 use hg_wire::reader::{EventReader, Reading, Taken};
 
 /// How many accesses an event is.
+#[inline(always)]
 fn accesses(event: &Event) -> u64
     ensures { result ≡ life.accesses event.now }
 {
@@ -32,7 +34,32 @@ fn accesses(event: &Event) -> u64
     }
 }
 
+/// Shows an event that was accepted just now: behind how many accesses were not shown since the last line.
+#[inline(never)]
+fn show_event(
+    asked: Asked,
+    detector: &MemoryDetector,
+    before: Look,
+    from: usize,
+    line: u64,
+    event: &Event,
+    more: &mut u64,
+    held: &mut Vec<u8>,
+) -> Result<(), Refusal>
+    requires whole { IsWhole detector.now }
+    requires word { asked.word < 2 ^ 62 }
+    requires actor { life.actor_of event.now < 1024 }
+    ensures held { OnOk result (held.new.items ≡ held.old.items ++ (life.more_text more.old ++ line_text (life.event_line asked.word asked.form before from (content_of detector.now) line event.now))) }
+    ensures none { OnOk result (more.new ≡ 0) }
+    ensures cause { IfErr result (λ r. r ≡ Refusal.OutOfMemory) }
+{
+    hold_more(*more, held)?;
+    *more = 0;
+    hold_event(asked, detector, before, from, line, event, held)
+}
+
 /// Tells an event that was accepted just now, and that concerns the word, which looked so before it.
+#[inline(always)]
 fn tell_event(
     asked: Asked,
     detector: &MemoryDetector,
@@ -56,9 +83,7 @@ fn tell_event(
     let after = look_at(detector, asked.word);
     *look = after;
     if asked.form.all || differs(before, after) {
-        hold_more(*more, held)?;
-        *more = 0;
-        return hold_event(asked, detector, before, from, line, event, held);
+        return show_event(asked, detector, before, from, line, event, more, held);
     }
     *more += accesses(event);
     Ok(())
@@ -134,6 +159,7 @@ fn pass_access(
 }
 
 /// The same for one that overlaps the word.
+#[inline(always)]
 fn pass_concerned(
     asked: Asked,
     detector: &mut MemoryDetector,
@@ -168,6 +194,7 @@ fn pass_concerned(
 }
 
 /// The event of an access.
+#[inline(always)]
 fn event_of(access: Access, is_write: bool) -> Event
     ensures { result ≡ access_event is_write access }
 {
