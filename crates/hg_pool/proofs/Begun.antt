@@ -49,6 +49,7 @@ sound_begun p root before after live before_waiting waiting copies also frames s
   numbers = s.numbers;
   sealed = λ sealed. absurd (cc sealed);
   most_frames = s.most_frames;
+  least_frames = s.least_frames;
   most_slots = s.most_slots;
 }
 

@@ -1,5 +1,5 @@
 -- What is read of a slot.
-use Rattle.std.proofs.Common.{◌≡◌, ◌≢◌, ◌<◌, ◌≤◌, ◌∙◌, ◌==◌, ℕ, zero, suc, Bool, true, false, List, [], ◌∷◌, length, get_or, replicate, Option, Some, if◌then◌else◌, refl, sym, ap, subst, arith}
+use Rattle.std.proofs.Common.{◌≡◌, ◌≢◌, ◌+◌, ◌*◌, ◌/◌, ◌%◌, ◌<◌, ◌≤◌, ◌∙◌, ◌==◌, ℕ, zero, suc, Bool, true, false, List, [], ◌∷◌, length, get_or, replicate, is_some, Option, Some, None, if◌then◌else◌, refl, sym, ap, subst, arith}
 use Rattle.hg_model.specs.declared.verdict.Refusal.TheVariants as refusal
 use Rattle.hg_disk.specs.declared.disk.Disk as disk
 use Rattle.hg_disk.specs.State.{IsImage}
@@ -17,10 +17,10 @@ use Rattle.hg_pages.proofs.Decoding.{stored}
 use Rattle.hg_pool.specs.declared.frame.Frame.{Frame}
 use Rattle.hg_pool.specs.Answers.{told_as}
 use Rattle.hg_pool.specs.Kept.{AreWithin, CellsFrom, HasSome, IsWhole, Stays}
-use Rattle.hg_pool.specs.Maps.{bytes_of, disk_of, frame_in, in_slot, is_broken}
+use Rattle.hg_pool.specs.Maps.{bytes_of, disk_of, frame_in, in_frame_or, in_slot, is_broken, live}
 use Rattle.hg_pool.specs.Shown.{Shown}
 use Rattle.hg_pool.proofs.Changing.{quiet_file}
-use Rattle.hg_pool.proofs.Stepping.{stays_all}
+use Rattle.hg_pool.proofs.Stepping.{no_some, stays_all}
 
 -- what is there is within the counts
 known_within : (segments : ℕ) (sets : List (List ℕ)) (c : Cell) → IsKnown segments sets c → IsWithin segments (length sets) c
@@ -109,3 +109,22 @@ module _ {D : Type 0} (g : disk.Ghosts D) where
           clean = λ f is clean i lt. was.clean f is clean i lt ∙ ap (λ (l : List ℕ). in_slot l (slot_in old.live q) i) known;
         };
   }
+
+gone : (a b : Bool) → (a ≡ true → b ≡ true) → b ≡ false → a ≡ false
+gone true b there is = absurd (cc (sym (there refl) ∙ is))
+gone false b there is = refl
+
+pub not_there : (old new : Option Frame) → (is_some new ≡ true → is_some old ≡ true) → is_some old ≡ false → new ≡ None
+not_there old new there is = no_some new (gone (is_some new) (is_some old) there is)
+
+-- what the live map has in a page that is not in memory stands in its slot
+pub known_there : {D : Type 0} (g : disk.Ghosts D) (old new : Shown D) (page segments : ℕ) (sets : List (List ℕ)) → Stays g old new → IsWhole g old → frame_in new.frames page ≡ None
+    → ((w : ℕ) → w / 256 ≡ page → IsKnown segments sets (live g old w)) → (i : ℕ) → i < 256 → IsKnown segments sets (in_slot (bytes_of g new) (slot_in new.live page) i)
+known_there g old new page segments sets stays h none known i lt =
+    let number : (256 * page + i) / 256 ≡ page = omega (arith, lt) in
+    let place : (256 * page + i) % 256 ≡ i = omega (arith, lt) in
+    subst (λ (c : Cell). IsKnown segments sets c)
+    (sym (stays.live_is h (256 * page + i))
+    ∙ (λ k. in_frame_or (frame_in new.frames (number k)) (in_slot (bytes_of g new) (slot_in new.live (number k)) (place k)) (place k))
+    ∙ ap (λ (o : Option Frame). in_frame_or o (in_slot (bytes_of g new) (slot_in new.live page) i) i) none)
+    (known (256 * page + i) number)

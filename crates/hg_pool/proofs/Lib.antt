@@ -13,3 +13,5 @@ pub mod Collecting
 pub mod Picked
 pub mod Begun
 pub mod Given
+pub mod Filled
+pub mod Overlapping

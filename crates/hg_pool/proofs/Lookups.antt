@@ -1,5 +1,5 @@
 -- What is looked up of a page, after a change at one page.
-use Rattle.std.proofs.Common.{◌≡◌, ◌<◌, ◌≤◌, ◌-◌, ◌==◌, ◌∙◌, ℕ, suc, nat_eq, Bool, true, false, cond, List, [], ◌∷◌, length, take, is_some, Option, Some, None, if◌then◌else◌, refl, sym, ap, arith, rules}
+use Rattle.std.proofs.Common.{◌≡◌, ◌<◌, ◌≤◌, ◌-◌, ◌==◌, ◌∙◌, ℕ, suc, nat_eq, Bool, true, false, cond, List, [], ◌∷◌, length, take, is_some, slice_get, Option, Some, None, if◌then◌else◌, refl, sym, ap, arith, rules}
 use Rattle.std.specs.Option.{option_map_or}
 use Rattle.std.specs.List.{IsDistinct}
 use Rattle.std.specs.Cmp.{nat_eq_equiv}
@@ -33,7 +33,7 @@ module _ {X : Type 0} where
   looked_removed page q es distinct = lookup-remove_entry nat_eq_equiv (nat_eq page) (nat_eq_equiv.congr page) q es distinct
 
   -- the entry of a key is under it
-  entry_is : (page : ℕ) (es : List (ℕ × X)) (e : ℕ × X) → lookup_entry (nat_eq page) es ≡ Some e → (page ≡ e.0) × (lookup (nat_eq page) es ≡ Some e.1)
+  pub entry_is : (page : ℕ) (es : List (ℕ × X)) (e : ℕ × X) → lookup_entry (nat_eq page) es ≡ Some e → (page ≡ e.0) × (lookup (nat_eq page) es ≡ Some e.1)
   entry_is page [] e is = absurd (cc is)
   entry_is page (f ∷ es) e is = here (page == f.0) refl is (entry_is page es e)
     where
@@ -64,13 +64,28 @@ module _ {X : Type 0} where
   looked_promoted page q es distinct = moved page q es (lookup_entry (nat_eq page) es) refl distinct
 
   -- a key without an entry has no value, and the other way round
-  none_entry : (page : ℕ) (es : List (ℕ × X)) → lookup (nat_eq page) es ≡ None → lookup_entry (nat_eq page) es ≡ None
+  pub none_entry : (page : ℕ) (es : List (ℕ × X)) → lookup (nat_eq page) es ≡ None → lookup_entry (nat_eq page) es ≡ None
   none_entry page [] is = refl
   none_entry page (f ∷ es) is = here (page == f.0) is (none_entry page es)
     where
       here : (b : Bool) → cond b (Some f.1) (lookup (nat_eq page) es) ≡ None → (lookup (nat_eq page) es ≡ None → lookup_entry (nat_eq page) es ≡ None) → cond b (Some f) (lookup_entry (nat_eq page) es) ≡ None
       here true found rest = absurd (cc found)
       here false found rest = rest found
+
+  pub entry_none : (page : ℕ) (es : List (ℕ × X)) → lookup_entry (nat_eq page) es ≡ None → lookup (nat_eq page) es ≡ None
+  entry_none page [] is = refl
+  entry_none page (f ∷ es) is = here (page == f.0) is (entry_none page es)
+    where
+      here : (b : Bool) → cond b (Some f) (lookup_entry (nat_eq page) es) ≡ None → (lookup_entry (nat_eq page) es ≡ None → lookup (nat_eq page) es ≡ None) → cond b (Some f.1) (lookup (nat_eq page) es) ≡ None
+      here true found rest = absurd (cc found)
+      here false found rest = rest found
+
+  -- the first entry is under its key
+  pub first_entry : (es : List (ℕ × X)) (e : ℕ × X) → slice_get es 0 ≡ Some e → lookup (nat_eq e.0) es ≡ Some e.1
+  first_entry [] e is = absurd (cc is)
+  first_entry (f ∷ es) e is =
+      let same : f ≡ e = cc is in
+      if_true (e.0 == f.0) (Some f.1) (lookup (nat_eq e.0) es) (ap (λ (x : ℕ × X). e.0 == x.0) same ∙ itself e.0) ∙ ap (λ (x : ℕ × X). Some x.1) same
 
   -- a new entry where there is room
   pub put_new : (c : LruCache ℕ X) (page : ℕ) (v : X) → lookup (nat_eq page) c.entries ≡ None → length c.entries < c.cap → put_entries nat_eq c page v ≡ (page, v) ∷ c.entries

@@ -74,6 +74,7 @@ sound_moved root frozen live also waiting copies frames after slots is_sealed pa
   numbers = λ q e is. number q e (page == q) refl (sym (look q) ∙ is);
   sealed = s.sealed;
   most_frames = let most = s.most_frames in omega (arith, cap);
+  least_frames = let least = s.least_frames in omega (arith, cap);
   most_slots = s.most_slots;
 }
   where
@@ -163,6 +164,7 @@ sound_released root frozen was_frozen now_frozen live waiting rest copies also f
   numbers = s.numbers;
   sealed = λ sealed. let none = s.sealed sealed in absurd (cc (sym waits ∙ ap (λ (es : List (ℕ × ℕ)). slot_in es page) none));
   most_frames = s.most_frames;
+  least_frames = s.least_frames;
   most_slots = s.most_slots;
 }
 

@@ -1,9 +1,14 @@
 -- Which pages are in memory, and in what order of use.
-use Rattle.std.proofs.Common.{◌≡◌, ◌+◌, ◌-◌, ◌==◌, ◌∙◌, ℕ, zero, suc, nat_eq, Bool, true, false, List, [], ◌∷◌, ◌++◌, length, is_some, slice_get, Option, Some, None, if◌then◌else◌, refl, sym, ap, subst, arith}
+use Rattle.std.proofs.Common.{◌≡◌, ◌+◌, ◌-◌, ◌≤◌, ◌==◌, ◌∙◌, ℕ, zero, suc, nat_eq, Bool, true, false, cond, List, [], ◌∷◌, ◌++◌, length, take, is_some, slice_get, Option, Some, None, if◌then◌else◌, refl, sym, ap, subst, arith}
 use Rattle.std.specs.List.{AllByRecursion, IsDistinct}
-use Rattle.std.specs.Map.{lookup, remove_entry, keys_of}
+use Rattle.std.specs.Map.{lookup, lookup_entry, remove_entry, keys_of}
+use Rattle.std.specs.Option.{option_map_or}
+use Rattle.std.specs.Set.{remove_key}
+use Rattle.std.proofs.lemmas.List.{length-append}
+use Rattle.std.proofs.Math.Seq.{take-append_seam}
+use Rattle.lru.specs.LruCache.{promoted}
 use Rattle.std.proofs.lemmas.Map.Keys.{IsDistinct-head, IsDistinct-tail}
-use Rattle.hg_pool.proofs.Lookups.{if_false, if_true, itself, turned}
+use Rattle.hg_pool.proofs.Lookups.{entry_is, entry_none, if_false, if_true, itself, none_entry, turned}
 
 -- whether the number is there
 abbrev pub listed : ℕ → List ℕ → Bool
@@ -81,3 +86,76 @@ removed_last {X} (e ∷ f ∷ es) n distinct is =
     let left : remove_entry (nat_eq n) (e ∷ f ∷ es) ≡ e ∷ remove_entry (nat_eq n) (f ∷ es) = if_false (n == e.0) (f ∷ es) (e ∷ remove_entry (nat_eq n) (f ∷ es)) apart in
     ap (λ (ks : List ℕ). e.0 ∷ ks) (removed_last (f ∷ es) n (IsDistinct-tail nat_eq e.0 (keys_of (f ∷ es)) distinct) is)
     ∙ sym (ap (λ (l : List (ℕ × X)). keys_of l ++ n ∷ []) left)
+
+-- the order of use after an entry is taken out
+keys_removed : {X : Type 0} (page : ℕ) (es : List (ℕ × X)) → keys_of (remove_entry (nat_eq page) es) ≡ remove_key (nat_eq page) (keys_of es)
+keys_removed page [] = refl
+keys_removed {X} page (e ∷ es) = here (page == e.0) (keys_removed page es)
+  where
+    here : (b : Bool) → keys_of (remove_entry (nat_eq page) es) ≡ remove_key (nat_eq page) (keys_of es) → keys_of (cond b es (e ∷ remove_entry (nat_eq page) es)) ≡ cond b (keys_of es) (e.0 ∷ remove_key (nat_eq page) (keys_of es))
+    here true same = refl
+    here false same = ap (λ (ks : List ℕ). e.0 ∷ ks) same
+
+-- a page that was used is first
+pub order_used : {X : Type 0} (page : ℕ) (es : List (ℕ × X)) → is_some (lookup (nat_eq page) es) ≡ true → keys_of (promoted (nat_eq page) es) ≡ page ∷ remove_key (nat_eq page) (keys_of es)
+order_used {X} page es there = by (lookup_entry (nat_eq page) es) refl
+  where
+    by : (o : Option (ℕ × X)) → lookup_entry (nat_eq page) es ≡ o → keys_of (option_map_or (λ e. e ∷ remove_entry (nat_eq page) es) o es) ≡ page ∷ remove_key (nat_eq page) (keys_of es)
+    by None is = absurd (cc (sym there ∙ ap is_some (entry_none page es is)))
+    by (Some e) is = ap (λ (k : ℕ). k ∷ keys_of (remove_entry (nat_eq page) es)) (sym (entry_is page es e is).0) ∙ ap (λ (ks : List ℕ). page ∷ ks) (keys_removed page es)
+
+-- a page that is not there changes nothing
+pub order_unused : {X : Type 0} (page : ℕ) (es : List (ℕ × X)) → is_some (lookup (nat_eq page) es) ≡ false → promoted (nat_eq page) es ≡ es
+order_unused {X} page es missing = ap (λ (o : Option (ℕ × X)). option_map_or (λ e. e ∷ remove_entry (nat_eq page) es) o es) (none_entry page es (none (lookup (nat_eq page) es) missing))
+  where
+    none : (o : Option X) → is_some o ≡ false → o ≡ None
+    none None is = refl
+    none (Some x) is = absurd (cc is)
+
+-- the order of use where the last page left a full cache
+pub order_left : (most n : ℕ) (old new : List ℕ) → old ≡ new ++ n ∷ [] → length old ≡ most → new ≡ take (most - 1) old
+order_left most n old new same full =
+    let size : length old ≡ length new + 1 = ap (λ (l : List ℕ). length l) same ∙ length-append new (n ∷ []) in
+    let last : most - 1 ≡ length new = omega (arith, size, full) in
+    sym (ap (λ (k : ℕ). take k old) last ∙ ap (λ (l : List ℕ). take (length new) l) same ∙ take-append_seam new (n ∷ []))
+
+-- the page that was used last is first as it was
+pub order_again : (page : ℕ) (rest : List ℕ) → page ∷ rest ≡ page ∷ remove_key (nat_eq page) (page ∷ rest)
+order_again page rest = ap (λ (ks : List ℕ). page ∷ ks) (sym (if_true (page == page) rest (page ∷ remove_key (nat_eq page) rest) (itself page)))
+
+-- the page that was used just before is still there
+pub still_listed : (most page other : ℕ) (rest : List ℕ) (b : Bool) → 2 ≤ most → listed other (page ∷ (if b then remove_key (nat_eq page) (other ∷ rest) else take (most - 1) (other ∷ rest))) ≡ true
+still_listed most page other rest b two = by (other == page) refl b
+  where
+    first : (ks : List ℕ) → listed other (other ∷ ks) ≡ true
+    first ks = if_true (other == other) true (listed other ks) (itself other)
+
+    rest_has : (b : Bool) → (other == page) ≡ false → listed other (if b then remove_key (nat_eq page) (other ∷ rest) else take (most - 1) (other ∷ rest)) ≡ true
+    rest_has true apart =
+        ap (λ (ks : List ℕ). listed other ks) (if_false (page == other) rest (other ∷ remove_key (nat_eq page) rest) (turned page other ∙ apart)) ∙ first (remove_key (nat_eq page) rest)
+    rest_has false apart = let one : most - 1 ≡ suc (most - 2) = omega (arith, two) in ap (λ (k : ℕ). listed other (take k (other ∷ rest))) one ∙ first (take (most - 2) rest)
+
+    by : (same : Bool) → (other == page) ≡ same → (b : Bool) → (if other == page then true else listed other (if b then remove_key (nat_eq page) (other ∷ rest) else take (most - 1) (other ∷ rest))) ≡ true
+    by true test b = if_true (other == page) true _ test
+    by false test b = if_false (other == page) true _ test ∙ rest_has b test
+
+-- the first page is there
+pub first_listed : {X : Type 0} (page : ℕ) (es : List (ℕ × X)) (rest : List ℕ) → keys_of es ≡ page ∷ rest → is_some (lookup (nat_eq page) es) ≡ true
+first_listed page es rest is = is_listed page es ∙ ap (λ (ks : List ℕ). listed page ks) is ∙ if_true (page == page) true (listed page rest) (itself page)
+
+pub first_order : {X : Type 0} (es : List (ℕ × X)) (e : ℕ × X) (page : ℕ) → slice_get es 0 ≡ Some e → e.0 ≡ page → (rest : List ℕ) × (keys_of es ≡ page ∷ rest)
+first_order [] e page is at = absurd (cc is)
+first_order (f ∷ es) e page is at = let same : f ≡ e = cc is in (keys_of es, ap (λ (x : ℕ × _). x.0 ∷ keys_of es) same ∙ ap (λ (k : ℕ). k ∷ keys_of es) at)
+
+-- and stays first where it is used again
+pub order_last : {X : Type 0} (most page : ℕ) (es : List (ℕ × X)) (rest : List ℕ) → keys_of es ≡ page ∷ rest
+    → keys_of es ≡ page ∷ (if is_some (lookup (nat_eq page) es) then remove_key (nat_eq page) (keys_of es) else take (most - 1) (keys_of es))
+order_last most page es rest is =
+    is
+    ∙ order_again page rest
+    ∙ ap (λ (ks : List ℕ). page ∷ remove_key (nat_eq page) ks) (sym is)
+    ∙ ap (λ (ks : List ℕ). page ∷ ks) (sym (if_true (is_some (lookup (nat_eq page) es)) (remove_key (nat_eq page) (keys_of es)) (take (most - 1) (keys_of es)) (first_listed page es rest is)))
+
+-- the page that was first is there after another one came in
+pub before_stays : {X : Type 0} (most page other : ℕ) (new : List (ℕ × X)) (rest : List ℕ) → 2 ≤ most → keys_of new ≡ page ∷ take (most - 1) (other ∷ rest) → is_some (lookup (nat_eq other) new) ≡ true
+before_stays most page other new rest two order = is_listed other new ∙ ap (λ (ks : List ℕ). listed other ks) order ∙ still_listed most page other rest false two

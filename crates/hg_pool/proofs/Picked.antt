@@ -52,12 +52,26 @@ fresh (e ∷ es) (suc i) lt rising =
     let inside : i < length es = omega (arith, lt) in
     some_if (e.0 == key) e.1 (slot_in (take i es) key) ∙ if_false (e.0 == key) true (is_some (slot_in (take i es) key)) (apart e.0 key (above es i e.0 inside rising.0)) ∙ fresh es i inside rising.1
 
+-- those before come before
+earlier : (es : List (ℕ × ℕ)) (i q : ℕ) → i < length es → ArePagesRising es → is_some (slot_in (take i es) q) ≡ true → q < (get_or es i (0, 0)).0
+earlier [] i q lt rising is = absurd (omega (arith, lt))
+earlier (e ∷ es) zero q lt rising is = absurd (cc is)
+earlier (e ∷ es) (suc i) q lt rising is = by (e.0 == q) refl (sym (some_if (e.0 == q) e.1 (slot_in (take i es) q)) ∙ is) (earlier es i q inside rising.1)
+  where
+    inside : i < length es
+    inside = omega (arith, lt)
+
+    by : (b : Bool) → (e.0 == q) ≡ b → (if b then true else is_some (slot_in (take i es) q)) ≡ true → (is_some (slot_in (take i es) q) ≡ true → q < (get_or es i (0, 0)).0) → q < (get_or es i (0, 0)).0
+    by true test found rest = let same = same_number e.0 q test in let lt = above es i e.0 inside rising.0 in omega (arith, same, lt)
+    by false test found rest = rest found
+
 -- What holds of the picks for the first so many pages, behind which slots are searched from here on.
 pub record IsPicking {D : Type 0} (p : Shown D) (pages picks : List (ℕ × ℕ)) (index from : ℕ) : Type 0 where
   pub among : (q : ℕ) → is_some (slot_in picks q) ≡ true → is_some (slot_in (take index pages) q) ≡ true
   pub each : (q : ℕ) → is_some (slot_in (take index pages) q) ≡ true → is_some (slot_in picks q) ≡ true
   pub free : (q slot : ℕ) → slot_in picks q ≡ Some slot → (¬ IsTaken p slot) × (slot < p.slots) × (slot < from)
   pub named : (slot : ℕ) → slot < from → slot < p.slots → IsTaken p slot ⊎ IsNamed picks slot
+  pub rising : (q r s t : ℕ) → q < r → slot_in picks q ≡ Some s → slot_in picks r ≡ Some t → s < t
   pub few : length picks ≤ index
 
 pub none_picked : {D : Type 0} (p : Shown D) (pages : List (ℕ × ℕ)) → IsPicking p pages [] 0 0
@@ -66,6 +80,7 @@ none_picked p pages = record {
   each = λ q is. absurd (cc is);
   free = λ q slot is. absurd (cc is);
   named = λ slot lt within. absurd (omega (arith, lt));
+  rising = λ q r s t lt is. absurd (cc is);
   few = omega arith;
 }
 
@@ -79,11 +94,12 @@ three slot from free lt = grind arith
 pub picked_more : {D : Type 0} (p : Shown D) (pages old new : List (ℕ × ℕ)) (index from slot : ℕ) → IsPicking p pages old index from → index < length pages → ArePagesRising pages
     → ((q : ℕ) → slot_in new q ≡ (if (get_or pages index (0, 0)).0 == q then Some slot else slot_in old q)) → length new ≡ length old + (if is_some (slot_in old (get_or pages index (0, 0)).0) then 0 else 1)
     → from ≤ slot → slot < p.slots → ¬ IsTaken p slot → ((s : ℕ) → from ≤ s → s < slot → IsTaken p s) → IsPicking p pages new (index + 1) (slot + 1)
-picked_more p pages old new index from slot s inside rising look size from_on within not_taken between = record {
+picked_more p pages old new index from slot s inside rising_pages look size from_on within not_taken between = record {
   among = λ q is. more_entries pages index q inside ∙ among q (key == q) (sym (ap is_some (look q) ∙ some_if (key == q) slot (slot_in old q)) ∙ is);
   each = λ q is. ap is_some (look q) ∙ some_if (key == q) slot (slot_in old q) ∙ each q (key == q) (sym (more_entries pages index q inside) ∙ is);
   free = λ q t is. free q t (key == q) (sym (look q) ∙ is);
   named = λ t lt below. named t below (three t from slot lt);
+  rising = λ q r a b lt one two. rising q r a b lt (key == q) refl (sym (look q) ∙ one) (key == r) refl (sym (look r) ∙ two);
   few = let few = s.few in omega (arith, few, one_more (is_some (slot_in old key)) (length old) (length new) size);
 }
   where
@@ -102,9 +118,18 @@ picked_more p pages old new index from slot s inside rising look size from_on wi
     free q t true is = let same : slot ≡ t = cc is in (subst (λ (n : ℕ). ¬ IsTaken p n) same not_taken, omega (arith, same, within), omega (arith, same))
     free q t false is = let was = s.free q t is in (was.0, was.1, let lt = was.2 in omega (arith, lt, from_on))
 
+    before : (q t : ℕ) → slot_in old q ≡ Some t → q < key
+    before q t is = earlier pages index q inside rising_pages (s.among q (ap is_some is))
+
+    rising : (q r a b : ℕ) → q < r → (x : Bool) → (key == q) ≡ x → (if x then Some slot else slot_in old q) ≡ Some a → (y : Bool) → (key == r) ≡ y → (if y then Some slot else slot_in old r) ≡ Some b → a < b
+    rising q r a b lt true is_q one true is_r two = absurd (omega (arith, lt, same_number key q is_q, same_number key r is_r))
+    rising q r a b lt true is_q one false is_r two = absurd (omega (arith, lt, same_number key q is_q, before r b two))
+    rising q r a b lt false is_q one true is_r two = let same : slot ≡ b = cc two in let was = s.free q a one in let le = was.2 in omega (arith, same, le, from_on)
+    rising q r a b lt false is_q one false is_r two = s.rising q r a b lt one two
+
     other : (r : ℕ) (t : ℕ) → slot_in old r ≡ Some t → (b : Bool) → (key == r) ≡ b → (key == r) ≡ false
     other r t is true test =
-        absurd (cc (sym (fresh pages index inside rising) ∙ ap (λ (n : ℕ). is_some (slot_in (take index pages) n)) (same_number key r test) ∙ s.among r (ap is_some is)))
+        absurd (cc (sym (fresh pages index inside rising_pages) ∙ ap (λ (n : ℕ). is_some (slot_in (take index pages) n)) (same_number key r test) ∙ s.among r (ap is_some is)))
     other r t is false test = test
 
     was_named : (t : ℕ) → IsTaken p t ⊎ IsNamed old t → IsTaken p t ⊎ IsNamed new t
@@ -123,7 +148,11 @@ all_picked p pages picks index from s end le =
     record {
       among = λ q is. subst (λ (es : List (ℕ × ℕ)). is_some (slot_in es q) ≡ true) whole (s.among q is);
       each = λ q is. s.each q (subst (λ (es : List (ℕ × ℕ)). is_some (slot_in es q) ≡ true) (sym whole) is);
-      free = λ q slot is. let was = s.free q slot is in (was.0, was.1);
+      slots = record {
+        free = λ q slot is. let was = s.free q slot is in (was.0, was.1);
+        least = λ q slot is lesser lt. let was = s.free q slot is in let high = was.2 in let below = was.1 in s.named lesser (omega (arith, lt, high)) (omega (arith, lt, below));
+        rising = s.rising;
+      };
       few = let few = s.few in omega (arith, few, le);
     }
 

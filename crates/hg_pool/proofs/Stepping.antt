@@ -74,6 +74,7 @@ sound_frames root frozen live waiting copies frames also slots is_sealed s cap n
   numbers = numbers;
   sealed = s.sealed;
   most_frames = let most = s.most_frames in omega (arith, cap);
+  least_frames = let least = s.least_frames in omega (arith, cap);
   most_slots = s.most_slots;
 }
 
@@ -112,6 +113,7 @@ sound_room root frozen live also waiting copies frames slots is_sealed s entries
   numbers = s.numbers;
   sealed = s.sealed;
   most_frames = s.most_frames;
+  least_frames = s.least_frames;
   most_slots = s.most_slots;
 }
 
@@ -146,6 +148,7 @@ sound_copy root frozen live waiting copies also frames slots is_sealed page cell
   numbers = s.numbers;
   sealed = s.sealed;
   most_frames = s.most_frames;
+  least_frames = s.least_frames;
   most_slots = s.most_slots;
 }
   where

@@ -1,5 +1,6 @@
 -- What the calls of a pool answer.
-use Rattle.std.specs.Prelude.{◌≡◌, ◌⊎◌, ◌<◌, ℕ, List, [], ◌∷◌, map, Option, Some, None, IsTrue}
+use Rattle.std.specs.Prelude.{◌≡◌, ◌⊎◌, ◌-◌, ◌<◌, ℕ, nat_eq, List, [], ◌∷◌, map, take, Option, Some, None, is_some, IsTrue, if◌then◌else◌}
+use Rattle.std.specs.Set.{remove_key}
 use Rattle.hg_model.specs.declared.verdict.Refusal.{Refusal}
 use Rattle.hg_model.specs.declared.verdict.Refusal.TheVariants as refusal
 use Rattle.hg_cells.specs.declared.cell.Cell.{Cell}
@@ -45,6 +46,10 @@ least_of (e ∷ rest) = Some e.0
 -- the pages in memory, that used last first
 abbrev pub order_of : {D : Type 0} → Shown D → List ℕ
 order_of p = map (λ e. e.0) p.frames
+
+-- The same after this page was used: it is first. Where it was not in memory and all frames were taken, the last one left.
+abbrev pub order_with : {D : Type 0} → Shown D → ℕ → List ℕ
+order_with p page = page ∷ (if is_some (frame_in p.frames page) then remove_key (nat_eq page) (order_of p) else take (p.most_frames - 1) (order_of p))
 
 -- The page is in memory, and was changed since it was new, read or written.
 abbrev pub IsDirty : {D : Type 0} → Shown D → ℕ → Type 0

@@ -1,20 +1,66 @@
--- A pool as the detector's map of words: the laws.
-use Rattle.std.proofs.Common.{◌≡◌, ◌≤◌, ◌∙◌, ℕ, List, [], ◌∷◌, length, Some, refl, sym, subst}
+-- A pool as the detector's map of words: what its parts mean, and the laws.
+use Rattle.std.proofs.Common.{◌≡◌, ◌⊎◌, ◌≤◌, ◌+◌, ◌/◌, ◌%◌, ◌∙◌, ℕ, true, List, [], ◌∷◌, length, get_or, Some, None, is_some, refl, sym, subst}
 use Rattle.hg_disk.specs.declared.disk.Disk as disk
 use Rattle.hg_disk.specs.State.{DiskState}
 use Rattle.hg_disk.specs.Moments.{EachLeaves, GoesOn}
 use Rattle.hg_disk.proofs.Moments.{joined, at_end, started}
+use Rattle.hg_cells.specs.declared.cell.Cell.TheVariants.{New}
+use Rattle.hg_cells.specs.Cells.{IsWithin}
+use Rattle.hg_detect.specs.PagedLaws.{within_more}
+use Rattle.hg_model.specs.declared.verdict.Refusal.{Refusal}
+use Rattle.hg_model.specs.declared.verdict.Refusal.TheVariants as refusal
 use Rattle.hg_pages.specs.Slots.{HasBytes}
 use Rattle.hg_pages.specs.Tables.{slot_in}
-use Rattle.hg_pool.specs.Kept.{Extends, KeepsNamed, Went}
-use Rattle.hg_pool.specs.Maps.{disk_of}
+use Rattle.hg_pool.specs.Kept.{AreWithin, Extends, IsFaithful, KeepsNamed, Went}
+use Rattle.hg_pool.specs.Maps.{copy_in, disk_of, frame_in, live}
 use Rattle.hg_pool.specs.Shown.{Shown}
+
+-- what is in memory names only segments and sets below these numbers
+abbrev pub MayBring : {D : Type 0} → Shown D → ℕ → ℕ → Type 0
+MayBring p segments sets = AreWithin p.frames segments sets
+
+-- the word's page is in memory
+abbrev pub IsBrought : {D : Type 0} → Shown D → ℕ → Type 0
+IsBrought p w = is_some (frame_in p.frames (w / 256)) ≡ true
+
+-- The page may be changed: it does not wait, or its frozen cells are kept.
+abbrev pub IsSettled : {D : Type 0} → Shown D → ℕ → Type 0
+IsSettled p page = (slot_in p.waiting page ≡ None) ⊎ (is_some (copy_in p.copies page) ≡ true)
+
+-- the word's page is in memory, and may be changed
+abbrev pub IsKept : {D : Type 0} → Shown D → ℕ → Type 0
+IsKept p w = IsBrought p w × IsSettled p (w / 256)
+
+-- the words lie in one page, which is in memory and may be changed
+abbrev pub MayFill : {D : Type 0} → Shown D → ℕ → ℕ → Type 0
+MayFill p first count = IsKept p first × (first % 256 + count ≤ 256)
+
+-- what the pool refuses with: want of memory, no free slot, and what the file refuses with
+abbrev pub MayRefuse : Refusal → Type 0
+MayRefuse refusal.OutOfMemory = Unit {0}
+MayRefuse refusal.FullSlots = Unit {0}
+MayRefuse refusal.Damaged = Unit {0}
+MayRefuse refusal.Broken = Unit {0}
+MayRefuse refusal.DeviceFault = Unit {0}
+MayRefuse _ = ⊥
+
+pub never_full : MayRefuse refusal.FullSets → ⊥
+never_full refused = refused
+
+pub brings_more : {D : Type 0} (p : Shown D) (segments sets more_segments more_sets : ℕ) → segments ≤ more_segments → sets ≤ more_sets → MayBring p segments sets → MayBring p more_segments more_sets
+brings_more p segments sets more_segments more_sets a b within q f is i = within_more segments sets more_segments more_sets (get_or f.cells i New) a b (within q f is i)
 
 each_unit : (states : List DiskState) → EachLeaves (λ _. Unit {0}) states
 each_unit [] = tt
 each_unit (s ∷ earlier) = (λ _ _. tt, each_unit earlier)
 
 module _ {D : Type 0} (g : disk.Ghosts D) where
+  pub more_faithful : (p : Shown D) (segments sets more_segments more_sets : ℕ) → segments ≤ more_segments → sets ≤ more_sets → IsFaithful g p segments sets → IsFaithful g p more_segments more_sets
+  more_faithful p segments sets more_segments more_sets a b h = record { whole = h.whole; within = λ w. within_more segments sets more_segments more_sets (live g p w) a b (h.within w) }
+
+  pub faithful_within : (p : Shown D) (segments sets : ℕ) → IsFaithful g p segments sets → (w : ℕ) → IsWithin segments sets (live g p w)
+  faithful_within p segments sets h = h.within
+
   pub went_nowhere : (p : Shown D) → Went g p p
   went_nowhere p = record {
     goes = ([], refl);

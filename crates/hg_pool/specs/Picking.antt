@@ -12,11 +12,17 @@ use Rattle.hg_pool.specs.Shown.{Shown}
 abbrev pub HasDirty : List (ℕ × Frame) → ℕ → Type 0
 HasDirty frames page = (f : Frame) × (frame_in frames page ≡ Some f) × (f.is_dirty ≡ true)
 
--- Each of the pages, and no other, has a slot that nothing names.
+-- The slots are the least that nothing names, and rise with their pages.
+pub record AreLeastFree {D : Type 0} (p : Shown D) (picks : List (ℕ × ℕ)) : Type 0 where
+  pub free : (page slot : ℕ) → slot_in picks page ≡ Some slot → (¬ IsTaken p slot) × (slot < p.slots)
+  pub least : (page slot : ℕ) → slot_in picks page ≡ Some slot → (lesser : ℕ) → lesser < slot → IsTaken p lesser ⊎ IsNamed picks lesser
+  pub rising : (page later slot other : ℕ) → page < later → slot_in picks page ≡ Some slot → slot_in picks later ≡ Some other → slot < other
+
+-- Each of the pages, and no other, has a slot.
 pub record ArePicks {D : Type 0} (p : Shown D) (pages picks : List (ℕ × ℕ)) : Type 0 where
   pub among : (q : ℕ) → is_some (slot_in picks q) ≡ true → is_some (slot_in pages q) ≡ true
   pub each : (q : ℕ) → is_some (slot_in pages q) ≡ true → is_some (slot_in picks q) ≡ true
-  pub free : (q slot : ℕ) → slot_in picks q ≡ Some slot → (¬ IsTaken p slot) × (slot < p.slots)
+  pub slots : AreLeastFree p picks
   pub few : length picks ≤ length pages
 
 -- Fewer slots are free than pages need one: those that nothing names have fewer than so many pages.

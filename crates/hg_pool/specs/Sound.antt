@@ -54,6 +54,7 @@ pub record AreSound (root : tables.Shown) (frozen : Option tables.Shown) (live w
   pub numbers : (page : ℕ) (f : Frame) → frame_in frames.entries page ≡ Some f → page < 2 ^ 54
   pub sealed : IsTrue is_sealed → waiting.entries ≡ []
   pub most_frames : frames.cap ≤ 4096
+  pub least_frames : 2 ≤ frames.cap
   pub most_slots : slots ≤ 1048576
 
 abbrev pub IsSound : {D : Type 0} → Parts D → Type 0

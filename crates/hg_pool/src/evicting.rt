@@ -1,5 +1,5 @@
 //! Pages leave their frames, and those that were changed are written first.
-ghost use Rattle.std.specs.Prelude.{◌≡◌, ◌⊎◌, ◌↔◌, ◌+◌, ◌<◌, ◌≤◌, ◌^◌, ℕ, nat_eq, List, [], ◌∷◌, ◌++◌, length, map, get_or, true, false, Some, None, Ok, Err, is_some, IsTrue, OnOk, OnErr, IfOk, IfErr, MatchOption, ◌==◌, if◌then◌else◌};
+ghost use Rattle.std.specs.Prelude.{◌≡◌, ◌≢◌, ◌⊎◌, ◌↔◌, ◌+◌, ◌-◌, ◌<◌, ◌≤◌, ◌^◌, ℕ, nat_eq, List, [], ◌∷◌, ◌++◌, length, map, take, get_or, true, false, Some, None, Ok, Err, is_some, IsTrue, OnOk, OnErr, IfOk, IfErr, MatchOption, ◌==◌, if◌then◌else◌};
 ghost use Rattle.std.specs.Map.{remove_entry};
 ghost use Rattle.lru.specs.LruCache.{last_entry};
 ghost use Rattle.hg_cells.specs.declared.cell.Cell.{Cell as CellOf};
@@ -70,6 +70,7 @@ impl<D: Disk> Parts<D> {
         ensures sound { IsSound self.new }
         ensures stays { Stays ⟦<D as Disk>⟧ (shown_of self.old) (shown_of self.new) }
         ensures refusal { IfErr result (IsTrueCause (shown_of self.old) (shown_of self.new)) }
+        ensures undamaged { IfErr result (λ r. r ≢ Refusal.Damaged) }
         ensures device { D.failures (disk_of (shown_of self.new)) ≡ failed_after result (D.failures (disk_of (shown_of self.old))) }
         ensures cells { CellsFrom self.old.frames.entries self.new.frames.entries }
         ensures order { map (λ e. e.0) self.new.frames.entries ≡ map (λ e. e.0) self.old.frames.entries }
@@ -102,6 +103,7 @@ impl<D: Disk> Parts<D> {
         ensures sound { IsSound self.new }
         ensures stays { Stays ⟦<D as Disk>⟧ (shown_of self.old) (shown_of self.new) }
         ensures refusal { IfErr result (IsTrueCause (shown_of self.old) (shown_of self.new)) }
+        ensures undamaged { IfErr result (λ r. r ≢ Refusal.Damaged) }
         ensures device { D.failures (disk_of (shown_of self.new)) ≡ failed_after result (D.failures (disk_of (shown_of self.old))) }
         ensures cells { CellsFrom self.old.frames.entries self.new.frames.entries }
         ensures order { map (λ e. e.0) self.new.frames.entries ≡ map (λ e. e.0) self.old.frames.entries }
@@ -120,6 +122,7 @@ impl<D: Disk> Parts<D> {
         ensures sound { IsSound self.new }
         ensures stays { Stays ⟦<D as Disk>⟧ (shown_of self.old) (shown_of self.new) }
         ensures refusal { IfErr result (IsTrueCause (shown_of self.old) (shown_of self.new)) }
+        ensures undamaged { IfErr result (λ r. r ≢ Refusal.Damaged) }
         ensures device { D.failures (disk_of (shown_of self.new)) ≡ failed_after result (D.failures (disk_of (shown_of self.old))) }
         ensures cells { CellsFrom self.old.frames.entries self.new.frames.entries }
         ensures order { map (λ e. e.0) self.new.frames.entries ≡ map (λ e. e.0) self.old.frames.entries }
@@ -146,6 +149,7 @@ impl<D: Disk> Parts<D> {
         ensures sound { IsSound self.new }
         ensures stays { Stays ⟦<D as Disk>⟧ (shown_of self.old) (shown_of self.new) }
         ensures refusal { IfErr result (IsTrueCause (shown_of self.old) (shown_of self.new)) }
+        ensures undamaged { IfErr result (λ r. r ≢ Refusal.Damaged) }
         ensures device { D.failures (disk_of (shown_of self.new)) ≡ failed_after result (D.failures (disk_of (shown_of self.old))) }
         ensures cells { CellsFrom self.old.frames.entries self.new.frames.entries }
         ensures none { result ≡ Ok None → (self.new ≡ self.old) × (self.old.frames.entries ≡ []) }
@@ -169,10 +173,12 @@ impl<D: Disk> Parts<D> {
         ensures sound { IsSound self.new }
         ensures stays { Stays ⟦<D as Disk>⟧ (shown_of self.old) (shown_of self.new) }
         ensures refusal { IfErr result (IsTrueCause (shown_of self.old) (shown_of self.new)) }
+        ensures undamaged { IfErr result (λ r. r ≢ Refusal.Damaged) }
         ensures device { D.failures (disk_of (shown_of self.new)) ≡ failed_after result (D.failures (disk_of (shown_of self.old))) }
         ensures cells { CellsFrom self.old.frames.entries self.new.frames.entries }
         ensures room { OnOk result (length self.new.frames.entries < self.new.frames.cap) }
         ensures quiet { length self.old.frames.entries < self.old.frames.cap → self.new ≡ self.old }
+        ensures order { OnOk result (order_of (shown_of self.new) ≡ take (self.old.frames.cap - 1) (order_of (shown_of self.old))) }
         ensures fewer { (q : ℕ) → is_some (frame_in self.new.frames.entries q) ≡ true → is_some (frame_in self.old.frames.entries q) ≡ true }
     {
         if self.frames.len() < self.frames.cap().get() {

@@ -4,7 +4,7 @@ ghost use Rattle.hg_pages.specs.Tables.{IsNamed, slot_in};
 ghost use Rattle.hg_pool.specs.Maps.{frozen, live};
 ghost use Rattle.hg_pool.specs.Kept.{IsWhole, SameMap};
 ghost use Rattle.hg_pool.specs.Answers.{IsTaken};
-ghost use Rattle.hg_pool.specs.Picking.{ArePicks, HasDirty, IsFreezeCause, IsFreezeRefusal};
+ghost use Rattle.hg_pool.specs.Picking.{AreLeastFree, ArePicks, HasDirty, IsFreezeCause, IsFreezeRefusal};
 
 use crate::frame::Frame;
 use crate::parts::Parts;
@@ -141,6 +141,7 @@ impl<D: Disk> Parts<D> {
         ensures live { SameMap (live ⟦<D as Disk>⟧ (shown_of self.old)) (live ⟦<D as Disk>⟧ (shown_of self.new)) }
         ensures whole { IsWhole ⟦<D as Disk>⟧ (shown_of self.old) → IsWhole ⟦<D as Disk>⟧ (shown_of self.new) }
         ensures waiting { OnOk result ((q : ℕ) → (is_some (slot_in self.new.waiting.entries q) ≡ true) ↔ HasDirty self.old.frames.entries q) }
+        ensures picked { OnOk result (AreLeastFree (shown_of self.old) self.new.waiting.entries) }
         ensures rest { self.new ≡ record self.old { frozen = self.new.frozen; live = self.new.live; waiting = self.new.waiting; copies = self.new.copies; is_sealed = self.new.is_sealed } }
         ensures table { self.new.live.entries ≡ self.old.live.entries }
         ensures sealed { OnOk result (self.new.is_sealed ≡ false) }

@@ -12,6 +12,7 @@ mod loading;
 mod parts;
 mod pool;
 mod steps;
+mod words;
 
 pub use frame::Frame;
 pub use job::{Job, Put};

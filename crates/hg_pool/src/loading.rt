@@ -1,5 +1,5 @@
 //! Pages come into frames, and are changed there.
-ghost use Rattle.std.specs.Prelude.{◌≡◌, ◌≢◌, ◌⊎◌, ◌+◌, ◌<◌, ◌≤◌, ◌^◌, ◌==◌, ℕ, List, ◌∷◌, length, get_or, true, false, Some, None, is_some, OnOk, OnErr, IfOk, IfErr, if◌then◌else◌};
+ghost use Rattle.std.specs.Prelude.{◌≡◌, ◌≢◌, ◌⊎◌, ◌+◌, ◌/◌, ◌<◌, ◌≤◌, ◌^◌, ◌==◌, ℕ, List, ◌∷◌, length, get_or, true, false, Some, None, is_some, IsTrue, OnOk, OnErr, IfOk, IfErr, if◌then◌else◌};
 ghost use Rattle.hg_cells.specs.declared.cell.Cell.TheVariants.{New};
 ghost use Rattle.hg_cells.specs.Cells.{IsWithin};
 ghost use Rattle.hg_cells.specs.Pages.{filled};
@@ -7,9 +7,9 @@ ghost use Rattle.hg_detect.specs.Words.{failed_after};
 ghost use Rattle.hg_pages.specs.Slots.{IsKnown};
 ghost use Rattle.hg_pages.specs.Tables.{slot_in};
 ghost use Rattle.hg_pool.specs.declared.frame.Frame.{Frame as FrameOf};
-ghost use Rattle.hg_pool.specs.Maps.{bytes_of, copy_in, disk_of, frame_in, in_slot};
+ghost use Rattle.hg_pool.specs.Maps.{bytes_of, copy_in, disk_of, frame_in, in_slot, live};
 ghost use Rattle.hg_pool.specs.Kept.{AreWithin, IsWhole, Stays, Went};
-ghost use Rattle.hg_pool.specs.Answers.{IsTrueCause, order_of};
+ghost use Rattle.hg_pool.specs.Answers.{IsTrueCause, order_of, order_with};
 
 use crate::held::fill_words;
 use crate::parts::{Parts, told};
@@ -43,6 +43,17 @@ impl<D: Disk> Parts<D> {
         }
     }
 
+    // Whether the page is the one used last.
+    #[inline]
+    fn is_last(&self, page: u64) -> bool
+        ensures { IsTrue result → (rest : List ℕ) × (order_of (shown_of self.now) ≡ page ∷ rest) }
+    {
+        match self.frames.peek_mru() {
+            Some((last, _)) => *last == page,
+            None => false,
+        }
+    }
+
     /// Brings a page into a frame, as the one used last.
     pub(crate) fn load(&mut self, page: u64, segments: u32, sets: &SetTable) -> Result<(), Refusal>
         requires sound { IsSound self.old }
@@ -50,10 +61,16 @@ impl<D: Disk> Parts<D> {
         ensures sound { IsSound self.new }
         ensures stays { Stays ⟦<D as Disk>⟧ (shown_of self.old) (shown_of self.new) }
         ensures loaded { OnOk result (is_some (frame_in self.new.frames.entries page) ≡ true) }
+        ensures order { OnOk result (order_of (shown_of self.new) ≡ order_with (shown_of self.old) page) }
+        ensures before { OnOk result ((other : ℕ) (rest : List ℕ) → order_of (shown_of self.old) ≡ other ∷ rest → is_some (frame_in self.new.frames.entries other) ≡ true) }
         ensures within { (n m : ℕ) → segments ≤ n → length sets.now.sets ≤ m → AreWithin self.old.frames.entries n m → AreWithin self.new.frames.entries n m }
         ensures refusal { IfErr result (IsTrueCause (shown_of self.old) (shown_of self.new)) }
+        ensures undamaged { IsWhole ⟦<D as Disk>⟧ (shown_of self.old) → ((w : ℕ) → w / 256 ≡ page → IsKnown segments sets.now.sets (live ⟦<D as Disk>⟧ (shown_of self.old) w)) → IfErr result (λ r. r ≢ Refusal.Damaged) }
         ensures device { D.failures (disk_of (shown_of self.new)) ≡ failed_after result (D.failures (disk_of (shown_of self.old))) }
     {
+        if self.is_last(page) {
+            return Ok(());
+        }
         if self.use_page(page) {
             return Ok(());
         }

@@ -1,16 +1,16 @@
 //! The pool.
-ghost use Rattle.std.specs.Prelude.{◌≡◌, ◌⊎◌, ◌↔◌, ◌+◌, ◌*◌, ◌/◌, ◌<◌, ◌≤◌, ◌^◌, ◌==◌, ℕ, List, [], ◌∷◌, ◌++◌, length, get_or, true, false, Some, None, Ok, Err, is_some, IsTrue, OnOk, OnErr, IfOk, IfErr, MatchOption, if◌then◌else◌};
+ghost use Rattle.std.specs.Prelude.{◌≡◌, ◌≢◌, ◌⊎◌, ◌↔◌, ◌+◌, ◌*◌, ◌/◌, ◌<◌, ◌≤◌, ◌^◌, ◌==◌, ℕ, List, [], ◌∷◌, ◌++◌, length, get_or, true, false, Some, None, Ok, Err, is_some, IsTrue, OnOk, OnErr, IfOk, IfErr, MatchOption, if◌then◌else◌};
 ghost use Rattle.hg_cells.specs.declared.cell.Cell.{Cell as CellOf};
 ghost use Rattle.hg_detect.specs.Words.{failed_after};
-ghost use Rattle.hg_pages.specs.Slots.{IsSlot, slot_text};
+ghost use Rattle.hg_pages.specs.Slots.{IsKnown, IsSlot, slot_text};
 ghost use Rattle.hg_pages.specs.Tables.{slot_in};
 ghost use Rattle.hg_pool.specs.Maps.{IsSealed, copy_in, disk_of, frame_in, frozen, is_broken, live};
 ghost use Rattle.hg_pool.specs.Kept.{AreWithin, IsWhole, SameMap, Stays, Went};
 ghost use Rattle.hg_pool.specs.declared.frame.Frame.{Frame as FrameOf};
 ghost use Rattle.hg_cells.specs.declared.cell.Cell.TheVariants.{New};
 ghost use Rattle.hg_cells.specs.Pages.{filled};
-ghost use Rattle.hg_pool.specs.Answers.{IsDeviceCause, IsFrozen, IsTrueCause, least_of, order_of};
-ghost use Rattle.hg_pool.specs.Picking.{HasDirty, IsFreezeRefusal};
+ghost use Rattle.hg_pool.specs.Answers.{IsDeviceCause, IsFrozen, IsTrueCause, least_of, order_of, order_with};
+ghost use Rattle.hg_pool.specs.Picking.{AreLeastFree, HasDirty, IsFreezeRefusal};
 
 use crate::frame::Frame;
 use crate::job::{Job, Put};
@@ -57,7 +57,11 @@ fn rooms(
     ensures table { IfOk result (λ r. r.0.entries ≡ table.now.entries) }
     ensures copies { IfOk result (λ r. (r.1.entries ≡ []) × (r.1.cap ≡ frames)) }
     ensures frames { IfOk result (λ r. (r.2.entries ≡ []) × (r.2.cap ≡ frames)) }
+    ensures least { IfOk result (λ r. 2 ≤ frames) }
 {
+    if frames < 2 {
+        return Err(AllocError);
+    }
     let Some(most) = NonZeroUsize::new(frames) else {
         return Err(AllocError);
     };
@@ -70,8 +74,8 @@ fn rooms(
 
 impl<D: Disk> Pool<D> {
     /// A pool over a file of slots, with no page in memory: both maps are what the table of the newest root gives. There are so
-    /// many frames, at least 1 and at most 4,096, and slots below this number are named. Where memory runs out, the file is
-    /// handed back.
+    /// many frames, at least 2 and at most 4,096, and slots below this number are named. An event may lie on two pages, so with
+    /// fewer frames than 2 the file is handed back, as where memory runs out.
     pub fn new(
         alloc: Global,
         file: SlotFile<D>,
@@ -122,6 +126,7 @@ impl<D: Disk> Pool<D> {
         ensures freed { IfOk result (λ page. MatchOption page (self.old.frames ≡ []) (λ n. order_of self.old ≡ order_of self.new ++ n ∷ [])) }
         ensures kept { OnErr result (order_of self.new ≡ order_of self.old) }
         ensures refusal { IfErr result (IsTrueCause self.old self.new) }
+        ensures undamaged { IfErr result (λ r. r ≢ Refusal.Damaged) }
         ensures device { D.failures (disk_of self.new) ≡ failed_after result (D.failures (disk_of self.old)) }
     {
         self.parts.evict()
@@ -133,18 +138,23 @@ impl<D: Disk> Pool<D> {
         ensures room { OnOk result (length self.new.frames < self.new.most_frames) }
         ensures quiet { length self.old.frames < self.old.most_frames → self.new ≡ self.old }
         ensures refusal { IfErr result (IsTrueCause self.old self.new) }
+        ensures undamaged { IfErr result (λ r. r ≢ Refusal.Damaged) }
         ensures device { D.failures (disk_of self.new) ≡ failed_after result (D.failures (disk_of self.old)) }
     {
         self.parts.make_room()
     }
 
-    /// Brings a page into a frame, as the one used last.
+    /// Brings a page into a frame, as the one used last. Where all frames are taken, the page used least recently leaves its
+    /// frame; the page that was used just before stays.
     pub fn load(&mut self, page: u64, segments: u32, sets: &SetTable) -> Result<(), Refusal>
         requires { page < 2 ^ 54 }
         ensures stays { Stays ⟦<D as Disk>⟧ self.old self.new }
         ensures loaded { OnOk result (is_some (frame_in self.new.frames page) ≡ true) }
+        ensures order { OnOk result (order_of self.new ≡ order_with self.old page) }
+        ensures before { OnOk result ((other : ℕ) (rest : List ℕ) → order_of self.old ≡ other ∷ rest → is_some (frame_in self.new.frames other) ≡ true) }
         ensures within { (n m : ℕ) → segments ≤ n → length sets.now.sets ≤ m → AreWithin self.old.frames n m → AreWithin self.new.frames n m }
         ensures refusal { IfErr result (IsTrueCause self.old self.new) }
+        ensures undamaged { IsWhole ⟦<D as Disk>⟧ self.old → ((w : ℕ) → w / 256 ≡ page → IsKnown segments sets.now.sets (live ⟦<D as Disk>⟧ self.old w)) → IfErr result (λ r. r ≢ Refusal.Damaged) }
         ensures device { D.failures (disk_of self.new) ≡ failed_after result (D.failures (disk_of self.old)) }
     {
         self.parts.load(page, segments, sets)
@@ -188,6 +198,21 @@ impl<D: Disk> Pool<D> {
         self.parts.update(page, from, to, cell);
     }
 
+    // Gives words of a page a cell, from one place up to another, and leaves the order of use. The frozen map stays.
+    #[inline]
+    pub(crate) fn change(&mut self, page: u64, from: usize, to: usize, cell: Cell)
+        requires present { is_some (frame_in self.old.frames page) ≡ true }
+        requires settled { (slot_in self.old.waiting page ≡ None) ⊎ (is_some (copy_in self.old.copies page) ≡ true) }
+        requires in_order { from ≤ to }
+        requires in_page { to ≤ 256 }
+        ensures went { Went ⟦<D as Disk>⟧ self.old self.new }
+        ensures rest { self.new ≡ record self.old { frames = self.new.frames } }
+        ensures frames { (f : FrameOf) → frame_in self.old.frames page ≡ Some f
+            → (length f.cells ≡ 256) × ((q : ℕ) → frame_in self.new.frames q ≡ (if page == q then Some (record { cells = filled f.cells from to cell; is_dirty = true }) else frame_in self.old.frames q)) }
+    {
+        self.parts.fill(page, from, to, cell);
+    }
+
     /// The file, as the calls left it.
     pub fn into_disks(self) -> SlotFile<D>
         ensures { result ≡ self.file }
@@ -197,12 +222,13 @@ impl<D: Disk> Pool<D> {
     }
 
     /// Fixes the live map as the frozen one. The pages that were changed since they were new, read or written wait from then on,
-    /// each with a slot that nothing names. A refusal changes nothing.
+    /// each with a slot that nothing names: the least ones, rising with the pages. A refusal changes nothing.
     pub fn freeze(&mut self) -> Result<(), Refusal>
         ensures frozen { IsWhole ⟦<D as Disk>⟧ self.old → OnOk result (SameMap (live ⟦<D as Disk>⟧ self.old) (frozen ⟦<D as Disk>⟧ self.new)) }
         ensures live { SameMap (live ⟦<D as Disk>⟧ self.old) (live ⟦<D as Disk>⟧ self.new) }
         ensures whole { IsWhole ⟦<D as Disk>⟧ self.old → IsWhole ⟦<D as Disk>⟧ self.new }
         ensures waiting { OnOk result ((q : ℕ) → (is_some (slot_in self.new.waiting q) ≡ true) ↔ HasDirty self.old.frames q) }
+        ensures picked { OnOk result (AreLeastFree self.old self.new.waiting) }
         ensures root { self.new.root ≡ self.old.root }
         ensures file { self.new.file ≡ self.old.file }
         ensures sealed { OnOk result (self.new.is_sealed ≡ false) }

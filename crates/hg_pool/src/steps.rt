@@ -1,6 +1,7 @@
 //! Steps of a pool that change no word: each keeps the parts in agreement, and both maps.
 ghost use Rattle.std.specs.Prelude.{◌≡◌, ◌⊎◌, ◌↔◌, ◌+◌, ◌<◌, ◌≤◌, ◌==◌, ◌^◌, ℕ, nat_eq, ◌∷◌, List, length, map, get_or, true, false, Some, None, Ok, Err, is_some, IsTrue, OnOk, OnErr, IfErr, if◌then◌else◌};
 ghost use Rattle.std.specs.Map.{remove_entry};
+ghost use Rattle.std.specs.Set.{remove_key};
 ghost use Rattle.lru.specs.LruCache.{promoted};
 ghost use Rattle.hg_cells.specs.declared.cell.Cell.{Cell as CellOf};
 ghost use Rattle.hg_cells.specs.declared.cell.Cell.TheVariants.{New};
@@ -10,6 +11,7 @@ ghost use Rattle.hg_pool.specs.Tables.{IsSetAt};
 ghost use Rattle.hg_pool.specs.declared.frame.Frame.{Frame as FrameOf};
 ghost use Rattle.hg_pool.specs.Maps.{bytes_of, copy_in, frame_in, frozen_at, in_slot};
 ghost use Rattle.hg_pool.specs.Kept.{CellsFrom, IsWhole, Stays};
+ghost use Rattle.hg_pool.specs.Answers.{order_of};
 
 use crate::frame::Frame;
 use crate::held::{add_copy, mark_clean};
@@ -120,6 +122,8 @@ impl<D: Disk> Parts<D> {
         ensures rest { self.new ≡ record self.old { frames = self.new.frames } }
         ensures frames { self.new.frames.entries ≡ promoted (nat_eq page) self.old.frames.entries }
         ensures looks { (q : ℕ) → frame_in self.new.frames.entries q ≡ frame_in self.old.frames.entries q }
+        ensures order { IsTrue result → order_of (shown_of self.new) ≡ page ∷ remove_key (nat_eq page) (order_of (shown_of self.old)) }
+        ensures absent { result ≡ false → order_of (shown_of self.new) ≡ order_of (shown_of self.old) }
         ensures cap { self.new.frames.cap ≡ self.old.frames.cap }
     {
         let _count = self.frames.len();

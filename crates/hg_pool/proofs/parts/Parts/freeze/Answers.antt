@@ -22,7 +22,7 @@ begin-requires-clause-sound g c =
 pub begin-requires-clause-free : goal.begin-requires-clause-free
 begin-requires-clause-free g c q slot is =
     let p = c.args.self.now in
-    let at = c.in_ok-waiting.ensures.picks.free q slot is in
+    let at = c.in_ok-waiting.ensures.picks.slots.free q slot is in
     (λ taken. at.0 (subst (λ (es : List (ℕ × ℕ)). IsTaken (record (shown_of p) { live = es }) slot) c.make_roomy-2.ensures.entries taken), at.1)
 
 pub begin-requires-clause-few : goal.begin-requires-clause-few

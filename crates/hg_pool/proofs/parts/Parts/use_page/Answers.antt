@@ -1,4 +1,5 @@
-use Rattle.std.proofs.Common.{◌∙◌, ℕ, refl, sym, ap}
+use Rattle.std.proofs.Common.{◌∙◌, ℕ, List, refl, sym, ap}
+use Rattle.std.specs.Map.{keys_of}
 use Rattle.lru.specs.LruCache.{LruCache}
 use Rattle.hg_pool.specs.declared.frame.Frame.{Frame}
 use Rattle.hg_pool.specs.Maps.{frame_in}
@@ -6,6 +7,7 @@ use Rattle.hg_pool.specs.Shown.{Shown}
 use Rattle.hg_pool.specs.Sound.{shown_of}
 use Rattle.hg_pool.proofs.Changing.{still_file}
 use Rattle.hg_pool.proofs.Lookups.{looked_promoted}
+use Rattle.hg_pool.proofs.Orders.{order_unused, order_used}
 use Rattle.hg_pool.proofs.Stepping.{sound_frames, stays_all}
 use Rattle.hg_pool.proofs.parts.Parts.use_page.Goals as goal
 
@@ -26,3 +28,11 @@ returns-clause-stays g c =
     let new : Shown g.row.D.Denot = record old { frames = c.promote.new.self.entries; most_frames = c.promote.new.self.cap } in
     stays_all g.D.Disk old new (still_file g.D.Disk old new refl refl (λ q s there. there) (λ sealed. sealed) (ap (λ (x : LruCache ℕ Frame). x.cap) c.promote.ensures.entries, refl)) (λ s b named has. has)
     (λ q. record { frames = returns-clause-looks g c q; live = refl; frozen = refl; waiting = refl; copies = refl })
+
+pub returns-clause-order : goal.returns-clause-order
+returns-clause-order g c is = ap (λ (x : LruCache ℕ Frame). keys_of x.entries) c.promote.ensures.entries ∙ order_used c.args.page c.args.self.now.frames.entries (sym c.promote.ensures.value ∙ is)
+
+pub returns-clause-absent : goal.returns-clause-absent
+returns-clause-absent g c is =
+    ap (λ (x : LruCache ℕ Frame). keys_of x.entries) c.promote.ensures.entries
+    ∙ ap (λ (es : List (ℕ × Frame)). keys_of es) (order_unused c.args.page c.args.self.now.frames.entries (sym c.promote.ensures.value ∙ is))

@@ -1,8 +1,15 @@
-use Rattle.std.proofs.Common.{sym, subst}
-use Rattle.hg_pool.specs.Kept.{AreWithin}
+use Rattle.std.proofs.Common.{◌≡◌, ◌/◌, ℕ, sym, subst}
+use Rattle.hg_pages.specs.Slots.{IsKnown}
+use Rattle.hg_pool.specs.Kept.{AreWithin, IsWhole}
+use Rattle.hg_pool.specs.Maps.{live}
 use Rattle.hg_pool.specs.Shown.{Shown}
 use Rattle.hg_pool.proofs.pool.Pool.load.Goals as goal
 
 pub returns-clause-within : goal.returns-clause-within
 returns-clause-within g c n m a b within =
     c.load.ensures.within n m a b (subst (λ (p : Shown g.row.D.Denot). AreWithin p.frames n m) (sym c.self.view_is) within)
+
+pub returns-clause-undamaged : goal.returns-clause-undamaged
+returns-clause-undamaged g c h known =
+    c.load.ensures.undamaged (subst (λ (p : Shown g.row.D.Denot). IsWhole g.D.Disk p) (sym c.self.view_is) h)
+    (subst (λ (p : Shown g.row.D.Denot). (w : ℕ) → w / 256 ≡ c.args.page → IsKnown c.args.segments c.args.sets.now.sets (live g.D.Disk p w)) (sym c.self.view_is) known)

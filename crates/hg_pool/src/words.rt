@@ -1,0 +1,207 @@
+//! A pool as the detector's map of words: the live map.
+ghost use Rattle.std.specs.Prelude.{◌≡◌, ◌⊎◌, ◌+◌, ◌-◌, ◌*◌, ◌/◌, ◌%◌, ◌<◌, ◌≤◌, ◌==◌, ◌&&◌, ◌^◌, ℕ, length, nat_le, nat_lt, true, Some, None, is_some, IsTrue, IfErr, IfSome, OnOk, if◌then◌else◌};
+ghost use Rattle.hg_cells.specs.Cells.{IsWithin};
+ghost use Rattle.hg_detect.specs.Words.{failed_after};
+ghost use Rattle.hg_pages.specs.Tables.{slot_in};
+ghost use Rattle.hg_pool.specs.declared.frame.Frame.{Frame as FrameOf};
+ghost use Rattle.hg_pool.specs.Maps.{copy_in, disk_of, frame_in, live};
+ghost use Rattle.hg_pool.specs.Kept.{AreWithin, IsFaithful, Stays, Went};
+ghost use Rattle.hg_pool.specs.Answers.{IsTrueCause};
+ghost use Rattle.hg_pool.specs.OfWords.{IsSettled};
+
+use crate::frame::Frame;
+use crate::pool::Pool;
+use hg_cells::{Cell, PAGE_WORDS};
+use hg_detect::words::Words;
+use hg_disk::Disk;
+use hg_model::verdict::Refusal;
+use hg_sets::SetTable;
+
+/// How many bytes of memory a page stands for.
+const PAGE_BYTES: u64 = 1024;
+
+/// How many words a page has.
+const WORDS: u64 = PAGE_WORDS as u64;
+
+/// The numbers of the first and of the last page that `len` bytes from `at` on overlap.
+#[inline]
+fn pages_of(at: u64, len: u16) -> (u64, u64)
+    requires some { 0 < len }
+    requires few { len ≤ 1024 }
+    requires within { at + len ≤ 2 ^ 64 }
+    ensures first { result.0 ≡ at / 1024 }
+    ensures last { result.1 ≡ (at + (len - 1)) / 1024 }
+{
+    (at / PAGE_BYTES, (at + u64::from(len - 1)) / PAGE_BYTES)
+}
+
+impl<D: Disk> Pool<D> {
+    // Brings two pages into frames, which may be one. The first stays in memory where the second is brought.
+    fn load_both(
+        &mut self,
+        first: u64,
+        last: u64,
+        segments: u32,
+        sets: &SetTable,
+    ) -> Result<(), Refusal>
+        requires first { first < 2 ^ 54 }
+        requires last { last < 2 ^ 54 }
+        ensures stays { Stays ⟦<D as Disk>⟧ self.old self.new }
+        ensures first { OnOk result (is_some (frame_in self.new.frames first) ≡ true) }
+        ensures last { OnOk result (is_some (frame_in self.new.frames last) ≡ true) }
+        ensures within { (n m : ℕ) → segments ≤ n → length sets.now.sets ≤ m → AreWithin self.old.frames n m → AreWithin self.new.frames n m }
+        ensures refusal { IfErr result (IsTrueCause self.old self.new) }
+        ensures device { D.failures (disk_of self.new) ≡ failed_after result (D.failures (disk_of self.old)) }
+    {
+        self.load(first, segments, sets)?;
+        if last == first {
+            return Ok(());
+        }
+        self.load(last, segments, sets)
+    }
+
+    // Keeps the frozen cells of two pages, which may be one.
+    fn keep_both(&mut self, first: u64, last: u64) -> Result<(), Refusal>
+        ensures stays { Stays ⟦<D as Disk>⟧ self.old self.new }
+        ensures rest { self.new ≡ record self.old { copies = self.new.copies } }
+        ensures first { OnOk result (IsSettled self.new first) }
+        ensures last { OnOk result (IsSettled self.new last) }
+        ensures refusal { IfErr result (λ r. r ≡ Refusal.OutOfMemory) }
+    {
+        self.keep(first)?;
+        if last == first {
+            return Ok(());
+        }
+        self.keep(last)
+    }
+
+    // Whether a page may be changed.
+    #[inline]
+    fn is_settled(&self, page: u64) -> bool
+        ensures { IsTrue result → IsSettled self.now page }
+    {
+        if self.parts.waiting.get(page).is_none() {
+            return true;
+        }
+        self.parts.copies.contains(&page)
+    }
+
+    // A page in its frame, where it is the one used last.
+    #[inline]
+    fn last_frame(&self, page: u64) -> Option<&Frame>
+        ensures { IfSome result (λ f. frame_in self.now.frames page ≡ Some f.now) }
+    {
+        match self.parts.frames.peek_mru() {
+            Some((last, frame)) => { if *last == page { Some(frame) } else { None } }
+            None => None,
+        }
+    }
+
+    // Gives the words of a page from one place up to another a cell.
+    #[inline]
+    fn fill_page(&mut self, number: u64, from: u64, to: u64, cell: Cell)
+        requires present { is_some (frame_in self.old.frames number) ≡ true }
+        requires settled { IsSettled self.old number }
+        requires in_order { from ≤ to }
+        requires in_page { to ≤ 256 }
+        ensures cells { (w : ℕ) → live ⟦<D as Disk>⟧ self.new w ≡ (if (w / 256 == number) && (nat_le from (w % 256) && nat_lt (w % 256) to) then cell else live ⟦<D as Disk>⟧ self.old w) }
+        ensures present { (q : ℕ) → is_some (frame_in self.old.frames q) ≡ true → is_some (frame_in self.new.frames q) ≡ true }
+        ensures went { Went ⟦<D as Disk>⟧ self.old self.new }
+        ensures rest { self.new ≡ record self.old { frames = self.new.frames } }
+        ensures within { (n m : ℕ) → IsWithin n m cell → AreWithin self.old.frames n m → AreWithin self.new.frames n m }
+        ensures faithful { (n m : ℕ) → IsWithin n m cell → IsFaithful ⟦<D as Disk>⟧ self.old n m → IsFaithful ⟦<D as Disk>⟧ self.new n m }
+    {
+        self.change(number, from as usize, to as usize, cell);
+    }
+}
+
+impl<D: Disk> Words for Pool<D> {
+    ghost use Rattle.hg_pool.specs.OfWords as of;
+
+    ghost cell_of = { live ⟦<D as Disk>⟧ };
+
+    ghost may_bring = { of.MayBring };
+
+    ghost is_faithful = { IsFaithful ⟦<D as Disk>⟧ };
+
+    ghost is_brought = { of.IsBrought };
+
+    ghost is_kept = { of.IsKept };
+
+    ghost may_fill = { of.MayFill };
+
+    ghost may_refuse = { of.MayRefuse };
+
+    ghost went = { Went ⟦<D as Disk>⟧ };
+
+    ghost failures = { λ p. D.failures (disk_of p) };
+
+    ghost brings_more = { of.brings_more };
+
+    ghost more_faithful = { of.more_faithful ⟦<D as Disk>⟧ };
+
+    ghost faithful_within = { of.faithful_within ⟦<D as Disk>⟧ };
+
+    ghost went_nowhere = { of.went_nowhere ⟦<D as Disk>⟧ };
+
+    ghost went_on = { of.went_on ⟦<D as Disk>⟧ };
+
+    ghost not_full = { of.never_full };
+
+    fn bring(&mut self, at: u64, len: u16, segments: u32, sets: &SetTable) -> Result<(), Refusal> {
+        let (first, last) = pages_of(at, len);
+        self.load_both(first, last, segments, sets)
+    }
+
+    fn keep(&mut self, at: u64, len: u16) -> Result<(), Refusal> {
+        let (first, last) = pages_of(at, len);
+        self.keep_both(first, last)
+    }
+
+    fn get(&self, word: u64) -> Cell {
+        let number = word / WORDS;
+        let place = (word % WORDS) as usize;
+        match self.last_frame(number) {
+            Some(frame) => frame.cells.get(place),
+            None => self.cell(number, place),
+        }
+    }
+
+    fn same(&self, first: u64, count: u64) -> Option<Cell> {
+        let number = first / WORDS;
+        let from = first % WORDS;
+        if count == 0 || count > WORDS - from {
+            return None;
+        }
+        let frame = self.last_frame(number)?;
+        if !self.is_settled(number) {
+            return None;
+        }
+        frame.cells.same(from as usize, (from + count) as usize)
+    }
+
+    fn fill(&mut self, first: u64, count: u64, cell: Cell) {
+        let from = first % WORDS;
+        self.fill_page(first / WORDS, from, from + count, cell);
+    }
+
+    fn set(&mut self, word: u64, cell: Cell) {
+        let place = word % WORDS;
+        self.fill_page(word / WORDS, place, place + 1, cell);
+    }
+
+    fn reset(&mut self, at: u64, len: u16) {
+        let (first, last) = pages_of(at, len);
+        let from = at / 4;
+        let end = (at + u64::from(len - 1)) / 4 + 1;
+        self.fill_page(
+            first,
+            from % WORDS,
+            (end - first * WORDS).min(WORDS),
+            Cell::New,
+        );
+        if last != first {
+            self.fill_page(last, 0, end - last * WORDS, Cell::New);
+        }
+    }
+}
