@@ -1,0 +1,64 @@
+//! Applies to pools over disks in memory the steps that standard input says, and prints what each answers: a line for each line.
+//!
+//! | Line | Step |
+//! |---|---|
+//! | `known SEGMENTS SETS` | what cells are checked against from here on; the sets but the first one, as `0,1;5`, or `-` |
+//! | `new FRAMES SLOTS FAILURES TABLE HEX` | a new pool over a disk with these bytes, of which these calls fail, as `0,7` or `12..`; the root's table, as `4:0,9:1` |
+//! | `load P`, `keep P`, `evict`, `room`, `freeze`, `seal` | the call of the pool |
+//! | `update P FROM TO CELL` | the page is loaded and kept, and its words from one up to the other get the cell: `new`, `e5`, `r1,2` or `m1,2` |
+//! | `cells P` | the page is loaded, and its cells but the new ones are told |
+//! | `take` | a job is taken, and its page and cells are told; it has the next number, from 0 on |
+//! | `put N`, `changed N AT VALUE`, `renamed N P` | the job is handed in; with another byte in its slot; as another page |
+//! | `open` | where the frozen map is sealed: the root of its table is open |
+//! | `table` | the frozen table |
+//! | `end` | the pool ends, and the calls of its disk are told; behind those that failed stands `!` |
+//! | `image K TEAR` | of the last pool's disk, what a crash leaves after K calls; TEAR is `lost`, `kept`, `front9` or `fill255` |
+//!
+//! Behind the answer of a pool stand the number of its frames in use, that of its copies, and whether `all` is written or `some` is not.
+#![tactic(auto)]
+
+mod cells;
+mod desk;
+mod disk;
+mod opening;
+mod text;
+mod trial;
+
+use crate::desk::Desk;
+use crate::text::Text;
+use std::alloc::Global;
+use std::io;
+use std::io::Write;
+use std::process::ExitCode;
+
+/// Answers each line.
+fn answer_all(alloc: Global, text: &str, out: &mut Text) {
+    match Desk::new(alloc) {
+        Some(mut desk) => {
+            for line in text.lines() {
+                desk.answer(line, out);
+            }
+        }
+        None => out.put(b"no memory\n"),
+    }
+}
+
+fn run_input(rt: &HostRuntime) -> io::Result<()> {
+    let alloc = rt.alloc();
+    let text = io::read_to_string(alloc, rt.stdin())?;
+    let mut out = Text::new(alloc);
+    answer_all(alloc, text.as_str(), &mut out);
+    if !out.is_whole() {
+        return Err(io::ErrorKind::OutOfMemory.into());
+    }
+    let mut stdout = rt.stdout();
+    stdout.write_all(out.bytes())?;
+    stdout.flush()
+}
+
+fn main(rt: HostRuntime) -> ExitCode {
+    match run_input(&rt) {
+        Ok(()) => ExitCode::SUCCESS,
+        Err(_) => ExitCode::FAILURE,
+    }
+}

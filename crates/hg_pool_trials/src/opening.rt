@@ -1,0 +1,115 @@
+//! What a line says of a new pool: its disk, which calls fail, its table, its frames and its slots.
+
+ghost use Rattle.std.specs.Prelude.{◌<◌, ◌^◌, IfSome};
+
+use crate::disk::{Failures, TrialDisk};
+use crate::text::{bytes_of, front};
+use hg_disk::MemDisk;
+use hg_model::sets::NumberSet;
+use hg_pages::{MOST_PAGES, MOST_SLOTS, SlotFile, Table};
+use hg_pool::Pool;
+use hg_sets::{MOST_SETS, SetTable};
+use std::alloc::Global;
+
+/// The numbers of a list with commas.
+fn numbers_of(alloc: Global, word: &str) -> Option<NumberSet> {
+    let mut numbers = Vec::new(alloc);
+    for part in word.split(',') {
+        numbers.push(part.parse::<u16>().ok()?).ok()?;
+    }
+    Some(NumberSet::from_vec(numbers))
+}
+
+/// The table of sets that a word names: set 0 is empty, and the others stand with semicolons between. No other is named by `-`.
+pub fn sets_of(alloc: Global, word: &str) -> Option<SetTable> {
+    let mut sets = Vec::new(alloc);
+    sets.push(NumberSet::from_vec(Vec::new(alloc))).ok()?;
+    if word != "-" {
+        for part in word.split(';') {
+            sets.push(numbers_of(alloc, part)?).ok()?;
+        }
+    }
+    SetTable::restore(alloc, MOST_SETS, &sets).ok()?
+}
+
+/// The number of a page.
+pub fn page_of(word: &str) -> Option<u64>
+    ensures { IfSome result (λ page. page < 2 ^ 54) }
+{
+    let page = word.parse::<u64>().ok()?;
+    if page < MOST_PAGES { Some(page) } else { None }
+}
+
+// Gives a page the slot that a word like `4:2` names, where no page has the slot.
+fn add_entry(table: &mut Table, word: &str) -> Option<()> {
+    let (page, slot) = word.split_once(':')?;
+    let page = page_of(page)?;
+    let slot = slot.parse::<u32>().ok()?;
+    if table.names(slot) || slot >= MOST_SLOTS {
+        return None;
+    }
+    table.set(page, slot).ok()
+}
+
+/// The table that words with commas between name, or an empty one for `-`.
+fn table_of(alloc: Global, words: &str) -> Option<Table> {
+    let mut table = Table::new(alloc);
+    if words != "-" {
+        for word in words.split(',') {
+            add_entry(&mut table, word)?;
+        }
+    }
+    Some(table)
+}
+
+/// The calls that a list with commas says, or none for `-`. A number with `..` behind it stands for all calls from it on.
+fn failures_of(alloc: Global, words: &str) -> Option<Failures> {
+    let mut failures = Failures {
+        each: Vec::new(alloc),
+        from: u64::MAX,
+    };
+    if words != "-" {
+        for word in words.split(',') {
+            match word.strip_suffix("..") {
+                Some(from) => failures.from = from.parse::<u64>().ok()?,
+                None => failures.each.push(word.parse::<u64>().ok()?).ok()?,
+            }
+        }
+    }
+    Some(failures)
+}
+
+/// A disk with the bytes that digits spell, or an empty one for `-`.
+fn disk_of(alloc: Global, digits: &str) -> Option<MemDisk> {
+    if digits == "-" {
+        return Some(MemDisk::new(alloc));
+    }
+    let bytes = bytes_of(alloc, digits)?;
+    if bytes.len() > 1 << 62 {
+        return None;
+    }
+    MemDisk::holding(alloc, bytes).ok()
+}
+
+// A disk that fails as words say, which begin with the failures; and the table behind them.
+fn parts_of(alloc: Global, words: &str) -> Option<(TrialDisk, Table)> {
+    let (failures, rest) = front(words);
+    let (table, digits) = front(rest);
+    let table = table_of(alloc, table)?;
+    let failures = failures_of(alloc, failures)?;
+    let disk = disk_of(alloc, digits)?;
+    Some((TrialDisk::new(disk, failures), table))
+}
+
+/// The pool that a line says: frames, slots, the calls that fail, the table of the root, and the bytes of the disk.
+pub fn pool_of(alloc: Global, words: &str) -> Option<Pool<TrialDisk>> {
+    let (frames, rest) = front(words);
+    let (slots, rest) = front(rest);
+    let frames = frames.parse::<usize>().ok()?;
+    let slots = slots.parse::<u32>().ok()?;
+    if frames > 4096 || slots > MOST_SLOTS {
+        return None;
+    }
+    let (disk, table) = parts_of(alloc, rest)?;
+    Pool::new(alloc, SlotFile::attach(disk), table, frames, slots).ok()
+}
