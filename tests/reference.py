@@ -2,7 +2,9 @@
 """What `hgd check`, `hgd graph` and `hgd explain` print, from the definitions and with no thought of speed.
 
     tests/reference.py check|graph < trace
-    tests/reference.py explain ADDRESS [--all] < trace
+    tests/reference.py explain ADDRESS [--all] [--stored] < trace
+
+With `--stored` as `hgd explain ADDRESS DIR` does of a store that was fed with the trace: no line has `line N`, and the last one is `end`.
 
 A program keeps a cell for each word, and tables beside it. This one keeps every access of every word
 since the word was last new, and looks at the whole list once the trace has ended: where the word
@@ -290,8 +292,8 @@ def became(before, after, segment):
         yield "no common lock is left"
 
 
-def life(trace, word, reports, last, every):
-    """Yields the lines of a word's life, over the events up to the last one."""
+def life(trace, word, reports, last, every, told):
+    """Yields the lines of a word's life, over the events up to the last one, with the lines of the text where they are told."""
     from_which = reaching(trace.segments)
     kept = {(it.event, it.word): k for k, it in enumerate(reports[:MOST_KEPT], 1)}
     history, state, hidden = [], ("new",), 0
@@ -313,7 +315,8 @@ def life(trace, word, reports, last, every):
         if (it.event, word) in kept:
             notes.append(f"race {kept[it.event, word]}")
         locks = "" if it.verb in ("alloc", "free") else f" locks {members(it.counted)}"
-        who = f"event {it.event} line {it.line} {it.verb} thread {it.thread} segment {it.segment}{locks}"
+        place = f" line {it.line}" if told else ""
+        who = f"event {it.event}{place} {it.verb} thread {it.thread} segment {it.segment}{locks}"
         yield f"{who} state {state_text(state)}{''.join(f' ; {note}' for note in notes)}"
     if hidden:
         yield f"{hidden} more accesses"
@@ -332,8 +335,8 @@ def segment_line(number, thread, before):
     return f"segment {number} thread {thread} after {','.join(map(str, before)) or '-'}"
 
 
-def run(command, text, address=0, every=False):
-    """Returns the lines that the command prints, and its status."""
+def run(command, text, address=0, every=False, is_stored=False):
+    """Returns the lines that the command prints, and its status; of a store with the accepted events, where that is asked."""
     trace, end, status = Trace(), None, 0
     for number, line in lines(text):
         event = read_line(line)
@@ -347,10 +350,12 @@ def run(command, text, address=0, every=False):
     if full_at:
         end, status = f"refused line {trace.line_of[full_at]} code 19", 2
         segments = segments[: trace.segments_before[full_at]]
+    if is_stored:
+        end, status = None, 0
     end_line = f"end events {trace.events} races {len(reports)} segments {len(segments)}"
     if command == "explain":
         word = address // 4 * 4
-        out = [f"word 0x{word:016x}", *life(trace, word, reports, full_at - 1 if full_at else trace.events, every)]
+        out = [f"word 0x{word:016x}", *life(trace, word, reports, full_at - 1 if full_at else trace.events, every, not is_stored)]
         end = end or end_line
     elif command == "check":
         out = [report_line(k, it) for k, it in enumerate(reports[:MOST_KEPT], 1)]
@@ -362,12 +367,13 @@ def run(command, text, address=0, every=False):
 
 def main():
     command, *words = sys.argv[1:] or [""]
-    every = command == "explain" and "--all" in words
-    addresses = [word for word in words if word != "--all"] if command == "explain" else words
+    flags = ("--all", "--stored") if command == "explain" else ()
+    every, is_stored = (flag in flags and flag in words for flag in ("--all", "--stored"))
+    addresses = [word for word in words if word not in flags]
     if command not in ("check", "graph", "explain") or len(addresses) != (command == "explain"):
-        print("usage: reference.py check|graph|explain ADDRESS [--all] < trace", file=sys.stderr)
+        print("usage: reference.py check|graph|explain ADDRESS [--all] [--stored] < trace", file=sys.stderr)
         return 4
-    out, status = run(command, sys.stdin.buffer.read(), int(addresses[0], 0) if addresses else 0, every)
+    out, status = run(command, sys.stdin.buffer.read(), int(addresses[0], 0) if addresses else 0, every, is_stored)
     sys.stdout.write("".join(f"{line}\n" for line in out))
     return status
 

@@ -25,7 +25,8 @@ use Rattle.hg_wire.specs.Reports.{access_name, predecessors_text}
 use Rattle.hg_wire.specs.Streams.{readings}
 use Rattle.hg_check.specs.declared.checker.Ending.{Ending}
 use Rattle.hg_check.specs.Checking.{Answered, ChecksTo, IsRead, LeadsTo, next_named}
-use Rattle.hg_explain.specs.Life.{accesses, actor_of, acts_text, changes_text, concerns, differs, event_line, life, look_of, more_text, race_text, state_text, told_line, told_of}
+use Rattle.hg_explain.specs.declared.form.Form.{Form}
+use Rattle.hg_explain.specs.Life.{accesses, actor_of, acts_text, changes_text, concerns, differs, event_line, life, look_of, more_text, place_in, race_text, state_text, told_line, told_of}
 use Rattle.hg_explain.specs.Laws.{acts_in, kept_in, line_in, segment_text, state_in, story, story_line, told_in}
 
 -- the locks that count, looked up among the threads
@@ -48,91 +49,91 @@ access_same past write t is_used =
     ∙ ap (λ locks. access_at (segments_of past) write t locks) (locks_at past (used past) t write is_used)
 
 -- the line of an event is that of its item, where the event opens no segment
-line_by : (w line : ℕ) (past : List Named) (n : Named) → acts_text (summary (n ∷ past)) n.event ≡ acts_in (events_of past) n.event
+line_by : (w : ℕ) (form : Form) (line : ℕ) (past : List Named) (n : Named) → acts_text (summary (n ∷ past)) n.event ≡ acts_in (events_of past) n.event
     → present (summary (n ∷ past)).segments (actor_of n.event) ≡ present (segments_of (events_of past)) (actor_of n.event)
-    → event_line w (look_of (state_in w (events_of past))) (length (kept_in (events_of past))) (summary (n ∷ past)) line n.event ≡ line_in w (events_of past) line n.event
-line_by w line past n acts segment =
+    → event_line w form (look_of (state_in w (events_of past))) (length (kept_in (events_of past))) (summary (n ∷ past)) line n.event ≡ line_in w form (events_of past) line n.event
+line_by w form line past n acts segment =
     let evs = events_of past in
     let before = look_of (state_in w evs) in
     let after_it = state_in w (n.event ∷ evs) in
     let race = race_text (length (kept_in evs) + 1) w (drop (length (kept_in evs)) (kept_in (n.event ∷ evs))) in
-    ap (λ (m : ℕ). (codes "event " ++ decimal m ++ codes " line " ++ decimal line) ++ (acts_text (summary (n ∷ past)) n.event ++ (state_text after_it ++ (changes_text before after_it (present (summary (n ∷ past)).segments (actor_of n.event)) ++ race))))
+    ap (λ (m : ℕ). (codes "event " ++ decimal m ++ place_in form line) ++ (acts_text (summary (n ∷ past)) n.event ++ (state_text after_it ++ (changes_text before after_it (present (summary (n ∷ past)).segments (actor_of n.event)) ++ race))))
     (ap (λ (m : ℕ). suc m) (sym (length-map past (λ (x : Named). x.event))))
-    ∙ (ap (λ (x : List ℕ). (codes "event " ++ decimal (suc (length evs)) ++ codes " line " ++ decimal line) ++ (x ++ (state_text after_it ++ (changes_text before after_it (present (summary (n ∷ past)).segments (actor_of n.event)) ++ race)))) acts
-    ∙ ap (λ (g : ℕ). (codes "event " ++ decimal (suc (length evs)) ++ codes " line " ++ decimal line) ++ (acts_in evs n.event ++ (state_text after_it ++ (changes_text before after_it g ++ race)))) segment)
+    ∙ (ap (λ (x : List ℕ). (codes "event " ++ decimal (suc (length evs)) ++ place_in form line) ++ (x ++ (state_text after_it ++ (changes_text before after_it (present (summary (n ∷ past)).segments (actor_of n.event)) ++ race)))) acts
+    ∙ ap (λ (g : ℕ). (codes "event " ++ decimal (suc (length evs)) ++ place_in form line) ++ (acts_in evs n.event ++ (state_text after_it ++ (changes_text before after_it g ++ race)))) segment)
 
-told_by_line : (w : ℕ) (all : Bool) (k line : ℕ) (past : List Named) (n : Named)
-    → event_line w (look_of (state_in w (events_of past))) (length (kept_in (events_of past))) (summary (n ∷ past)) line n.event ≡ line_in w (events_of past) line n.event
-    → told_of w all (summary past) (summary (n ∷ past)) k line n.event ≡ told_in w all (events_of past) k line n.event
-told_by_line w all k line past n same =
+told_by_line : (w : ℕ) (form : Form) (k line : ℕ) (past : List Named) (n : Named)
+    → event_line w form (look_of (state_in w (events_of past))) (length (kept_in (events_of past))) (summary (n ∷ past)) line n.event ≡ line_in w form (events_of past) line n.event
+    → told_of w form (summary past) (summary (n ∷ past)) k line n.event ≡ told_in w form (events_of past) k line n.event
+told_by_line w form k line past n same =
     ap (λ (x : List ℕ). cond {A = List ℕ × ℕ} (concerns w n.event)
-    (cond {A = List ℕ × ℕ} (all || differs (look_of (state_in w (events_of past))) (look_of (state_in w (n.event ∷ events_of past)))) (more_text k ++ line_text x, 0) ([], k + accesses n.event)) ([], k)) same
+    (cond {A = List ℕ × ℕ} (form.all || differs (look_of (state_in w (events_of past))) (look_of (state_in w (n.event ∷ events_of past)))) (more_text k ++ line_text x, 0) ([], k + accesses n.event)) ([], k)) same
 
 -- what an accepted event adds is told by its item
-told_same : (w : ℕ) (all : Bool) (k line : ℕ) (past : List Named) (number : ℕ) (e : Event) → verdict (standing_of (summary past)) (record { source = 0; number = number; event = e }) ≡ Accept
-    → told_of w all (summary past) (summary ((record { source = 0; number = number; event = e }) ∷ past)) k line e ≡ told_in w all (events_of past) k line e
-told_same w all k line past number (Fork p c) ok = refl
-told_same w all k line past number (Join p c) ok = refl
-told_same w all k line past number (Lock t l) ok = refl
-told_same w all k line past number (RdLock t l) ok = refl
-told_same w all k line past number (Unlock t l) ok = refl
-told_same w all k line past number (Read a) ok =
+told_same : (w : ℕ) (form : Form) (k line : ℕ) (past : List Named) (number : ℕ) (e : Event) → verdict (standing_of (summary past)) (record { source = 0; number = number; event = e }) ≡ Accept
+    → told_of w form (summary past) (summary ((record { source = 0; number = number; event = e }) ∷ past)) k line e ≡ told_in w form (events_of past) k line e
+told_same w form k line past number (Fork p c) ok = refl
+told_same w form k line past number (Join p c) ok = refl
+told_same w form k line past number (Lock t l) ok = refl
+told_same w form k line past number (RdLock t l) ok = refl
+told_same w form k line past number (Unlock t l) ok = refl
+told_same w form k line past number (Read a) ok =
     let n : Named = record { source = 0; number = number; event = Read a } in
-    told_by_line w all k line past n (line_by w line past n (access_same (events_of past) false a.t (passes past n ok).actor_used) (ap (λ segments. present segments a.t) (append-nil (segments_of (events_of past)))))
-told_same w all k line past number (Write a) ok =
+    told_by_line w form k line past n (line_by w form line past n (access_same (events_of past) false a.t (passes past n ok).actor_used) (ap (λ segments. present segments a.t) (append-nil (segments_of (events_of past)))))
+told_same w form k line past number (Write a) ok =
     let n : Named = record { source = 0; number = number; event = Write a } in
-    told_by_line w all k line past n (line_by w line past n (access_same (events_of past) true a.t (passes past n ok).actor_used) (ap (λ segments. present segments a.t) (append-nil (segments_of (events_of past)))))
-told_same w all k line past number (Alloc b) ok =
+    told_by_line w form k line past n (line_by w form line past n (access_same (events_of past) true a.t (passes past n ok).actor_used) (ap (λ segments. present segments a.t) (append-nil (segments_of (events_of past)))))
+told_same w form k line past number (Alloc b) ok =
     let n : Named = record { source = 0; number = number; event = Alloc b } in
     let same = append-nil (segments_of (events_of past)) in
-    told_by_line w all k line past n (line_by w line past n (ap (λ segments. codes " alloc" ++ segment_text b.t (present segments b.t)) same) (ap (λ segments. present segments b.t) same))
-told_same w all k line past number (Free b) ok =
+    told_by_line w form k line past n (line_by w form line past n (ap (λ segments. codes " alloc" ++ segment_text b.t (present segments b.t)) same) (ap (λ segments. present segments b.t) same))
+told_same w form k line past number (Free b) ok =
     let n : Named = record { source = 0; number = number; event = Free b } in
     let same = append-nil (segments_of (events_of past)) in
-    told_by_line w all k line past n (line_by w line past n (ap (λ segments. codes " free" ++ segment_text b.t (present segments b.t)) same) (ap (λ segments. present segments b.t) same))
+    told_by_line w form k line past n (line_by w form line past n (ap (λ segments. codes " free" ++ segment_text b.t (present segments b.t)) same) (ap (λ segments. present segments b.t) same))
 
 -- one event more
-went : (w : ℕ) (all : Bool) (k line n : ℕ) (past : List Named) (e : Event) (later : List Reading) → IsAccepted past → verdict (standing_of (summary past)) (next_named (summary past) e) ≡ Accept
-    → ((j : ℕ) → life w all (summary (next_named (summary past) e ∷ past)) j n later ≡ story w all (next_named (summary past) e ∷ past) j n later)
-    → told_line w all (summary past) k line (Ok e) (λ d j. life w all d j n later) ≡ story_line w all past k line (Ok e) (λ trace j. story w all trace j n later)
-went w all k line n past e later accepted ok on =
+went : (w : ℕ) (form : Form) (k line n : ℕ) (past : List Named) (e : Event) (later : List Reading) → IsAccepted past → verdict (standing_of (summary past)) (next_named (summary past) e) ≡ Accept
+    → ((j : ℕ) → life w form (summary (next_named (summary past) e ∷ past)) j n later ≡ story w form (next_named (summary past) e ∷ past) j n later)
+    → told_line w form (summary past) k line (Ok e) (λ d j. life w form d j n later) ≡ story_line w form past k line (Ok e) (λ trace j. story w form trace j n later)
+went w form k line n past e later accepted ok on =
     let named = next_named (summary past) e in
-    let told = told_of w all (summary past) (summary (named ∷ past)) k line e in
-    ap (λ (d : Content). (told_of w all (summary past) d k line e).0 ++ life w all d (told_of w all (summary past) d k line e).1 n later) (sym (summary_step named past (accepted, ok)))
+    let told = told_of w form (summary past) (summary (named ∷ past)) k line e in
+    ap (λ (d : Content). (told_of w form (summary past) d k line e).0 ++ life w form d (told_of w form (summary past) d k line e).1 n later) (sym (summary_step named past (accepted, ok)))
     ∙ (ap (λ x. told.0 ++ x) (on told.1)
-    ∙ ap (λ (x : List ℕ × ℕ). x.0 ++ story w all (named ∷ past) x.1 n later) (told_same w all k line past ((summary past).last 0 + 1) e ok))
+    ∙ ap (λ (x : List ℕ × ℕ). x.0 ++ story w form (named ∷ past) x.1 n later) (told_same w form k line past ((summary past).last 0 + 1) e ok))
 
 stops_not : (n : ℕ) (past : List Named) (last : Content) → suc n + length past ≡ last.events → last ≡ summary past → ⊥
 stops_not n past last count same = let events : last.events ≡ length past = ap (λ (x : Content). x.events) same in omega (arith, count, events)
 
-answered : (v : Verdict) (w : ℕ) (all : Bool) (k n : ℕ) (r : Reading) (e : Event) (later : List Reading) (t : Table) (past : List Named) (last : Content) (end : Ending)
-    → ((u : Table) (more : List Named) (j : ℕ) → IsAccepted more → LeadsTo later u (summary more) last end → n + length more ≡ last.events → life w all (summary more) j n later ≡ story w all more j n later)
+answered : (v : Verdict) (w : ℕ) (form : Form) (k n : ℕ) (r : Reading) (e : Event) (later : List Reading) (t : Table) (past : List Named) (last : Content) (end : Ending)
+    → ((u : Table) (more : List Named) (j : ℕ) → IsAccepted more → LeadsTo later u (summary more) last end → n + length more ≡ last.events → life w form (summary more) j n later ≡ story w form more j n later)
     → IsAccepted past → verdict (standing_of (summary past)) (next_named (summary past) e) ≡ v → suc n + length past ≡ last.events
     → Answered v t (summary past) e r.line (λ u d. LeadsTo later u d last end) last end
-    → told_line w all (summary past) k r.line (Ok e) (λ d j. life w all d j n later) ≡ story_line w all past k r.line (Ok e) (λ trace j. story w all trace j n later)
-answered Accept w all k n r e later t past last end on ok v count h =
+    → told_line w form (summary past) k r.line (Ok e) (λ d j. life w form d j n later) ≡ story_line w form past k r.line (Ok e) (λ trace j. story w form trace j n later)
+answered Accept w form k n r e later t past last end on ok v count h =
     ⊎_elim
-    (λ next. went w all k r.line n past e later ok v
+    (λ next. went w form k r.line n past e later ok v
     (λ j. on h.0 (next_named (summary past) e ∷ past) j (ok, v)
     (subst (λ (d : Content). LeadsTo later h.0 d last end) (sym (summary_step (next_named (summary past) e) past (ok, v))) next.1) (omega (arith, count))))
     (λ full. absurd (stops_not n past last count full.1.0))
     h.1
-answered (Duplicate x) w all k n r e later t past last end on ok v count h = absurd h
-answered (Refuse x) w all k n r e later t past last end on ok v count h = absurd (stops_not n past last count h.0)
+answered (Duplicate x) w form k n r e later t past last end on ok v count h = absurd h
+answered (Refuse x) w form k n r e later t past last end on ok v count h = absurd (stops_not n past last count h.0)
 
-was_read : (event : Result Event LineFault) (w : ℕ) (all : Bool) (k n : ℕ) (r : Reading) (later : List Reading) (t : Table) (past : List Named) (last : Content) (end : Ending)
-    → ((u : Table) (more : List Named) (j : ℕ) → IsAccepted more → LeadsTo later u (summary more) last end → n + length more ≡ last.events → life w all (summary more) j n later ≡ story w all more j n later)
+was_read : (event : Result Event LineFault) (w : ℕ) (form : Form) (k n : ℕ) (r : Reading) (later : List Reading) (t : Table) (past : List Named) (last : Content) (end : Ending)
+    → ((u : Table) (more : List Named) (j : ℕ) → IsAccepted more → LeadsTo later u (summary more) last end → n + length more ≡ last.events → life w form (summary more) j n later ≡ story w form more j n later)
     → IsAccepted past → suc n + length past ≡ last.events → IsRead event t (summary past) r.line (λ u d. LeadsTo later u d last end) last end
-    → told_line w all (summary past) k r.line event (λ d j. life w all d j n later) ≡ story_line w all past k r.line event (λ trace j. story w all trace j n later)
-was_read (Err fault) w all k n r later t past last end on ok count h = absurd (stops_not n past last count h.0)
-was_read (Ok e) w all k n r later t past last end on ok count h = answered (verdict (standing_of (summary past)) (next_named (summary past) e)) w all k n r e later t past last end on ok refl count h
+    → told_line w form (summary past) k r.line event (λ d j. life w form d j n later) ≡ story_line w form past k r.line event (λ trace j. story w form trace j n later)
+was_read (Err fault) w form k n r later t past last end on ok count h = absurd (stops_not n past last count h.0)
+was_read (Ok e) w form k n r later t past last end on ok count h = answered (verdict (standing_of (summary past)) (next_named (summary past) e)) w form k n r e later t past last end on ok refl count h
 
-story_of : (w : ℕ) (all : Bool) (readings : List Reading) (t : Table) (past : List Named) (last : Content) (end : Ending) (k n : ℕ) → IsAccepted past → LeadsTo readings t (summary past) last end
-    → n + length past ≡ last.events → life w all (summary past) k n readings ≡ story w all past k n readings
-story_of w all [] t past last end k n ok h count = refl
-story_of w all (r ∷ later) t past last end k zero ok h count = refl
-story_of w all (r ∷ later) t past last end k (suc n) ok h count =
-    was_read r.event w all k n r later t past last end (λ u more j accepted l same. story_of w all later u more last end j n accepted l same) ok count h
+story_of : (w : ℕ) (form : Form) (readings : List Reading) (t : Table) (past : List Named) (last : Content) (end : Ending) (k n : ℕ) → IsAccepted past → LeadsTo readings t (summary past) last end
+    → n + length past ≡ last.events → life w form (summary past) k n readings ≡ story w form past k n readings
+story_of w form [] t past last end k n ok h count = refl
+story_of w form (r ∷ later) t past last end k zero ok h count = refl
+story_of w form (r ∷ later) t past last end k (suc n) ok h count =
+    was_read r.event w form k n r later t past last end (λ u more j accepted l same. story_of w form later u more last end j n accepted l same) ok count h
 
-pub life_is_story : (w : ℕ) (all : Bool) (bytes : List ℕ) (c : Content) (end : Ending) → ChecksTo bytes c end → life w all empty_content 0 c.events (readings bytes) ≡ story w all [] 0 c.events (readings bytes)
-life_is_story w all bytes c end h = story_of w all (readings bytes) (first_table 262144) [] c end 0 c.events tt h (omega arith)
+pub life_is_story : (w : ℕ) (form : Form) (bytes : List ℕ) (c : Content) (end : Ending) → ChecksTo bytes c end → life w form empty_content 0 c.events (readings bytes) ≡ story w form [] 0 c.events (readings bytes)
+life_is_story w form bytes c end h = story_of w form (readings bytes) (first_table 262144) [] c end 0 c.events tt h (omega arith)

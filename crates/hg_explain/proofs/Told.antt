@@ -7,10 +7,13 @@ use Rattle.hg_model.specs.declared.event.Access.{Access}
 use Rattle.hg_model.specs.History.{overlaps}
 use Rattle.hg_model.specs.declared.event.Event.TheVariants.{Fork, Join, Lock, RdLock, Unlock, Read, Write, Alloc, Free}
 use Rattle.hg_model.specs.declared.event.Named.{Named}
-use Rattle.hg_model.specs.declared.verdict.Verdict.TheVariants.{Accept}
-use Rattle.hg_model.specs.Verdicts.{Standing, bad_number, is_above_limit, verdict}
+use Rattle.hg_model.specs.declared.verdict.Verdict.{Verdict}
+use Rattle.hg_model.specs.declared.verdict.Verdict.TheVariants.{Accept, Duplicate, Refuse}
+use Rattle.hg_model.specs.Verdicts.{Standing, bad_number, is_above_limit, standing_of, verdict}
 use Rattle.hg_model.specs.Contents.{Content}
-use Rattle.hg_model.specs.Change.{after}
+use Rattle.hg_model.specs.Change.{after, locks_of, touched, word_after}
+use Rattle.hg_model.specs.Segments.{present}
+use Rattle.hg_model.specs.declared.word.WordState.TheVariants.{New}
 use Rattle.hg_model.proofs.Accepted.{no_cause}
 use Rattle.hg_detect.specs.declared.detector.Detector.{Detector}
 use Rattle.hg_detect.specs.declared.paged.PagedWords.{PagedWords}
@@ -18,18 +21,20 @@ use Rattle.hg_detect.specs.Memory.{content_of}
 use Rattle.hg_wire.specs.declared.reader.Reading.{Reading}
 use Rattle.hg_wire.specs.Streams.{GivesNoReading, GivesReading, Pending, readings_from}
 use Rattle.hg_check.specs.declared.checker.Ending.{Ending}
-use Rattle.hg_check.specs.declared.checker.Ending.TheVariants.{Ended, Bad}
-use Rattle.hg_check.specs.Checking.{IsRead, LeadsTo, next_named}
+use Rattle.hg_check.specs.declared.checker.Ending.TheVariants.{Ended, Bad, Refused}
+use Rattle.hg_model.specs.declared.verdict.Refusal.{Refusal}
+use Rattle.hg_check.specs.Checking.{Answered, IsRead, LeadsTo, next_named}
 use Rattle.hg_sets.specs.Interning.{Table}
 use Rattle.hg_wire.specs.declared.line.LineFault.{LineFault}
 use Rattle.hg_check.proofs.Pieces as pieces
 use Rattle.hg_explain.specs.declared.look.Look.{Look}
+use Rattle.hg_explain.specs.declared.form.Form.{Form}
 use Rattle.hg_explain.specs.Life.{accesses, actor_of, concerns, differs, life, look_of, more_text, told_by, told_line, told_of}
 use Rattle.hg_explain.specs.Telling.{Stays, Tells, ToldAll, ToldLast, ToldOn, WentOn}
 
-pub life_none : (w : ℕ) (all : Bool) (c : Content) (k : ℕ) (rs : List Reading) → life w all c k 0 rs ≡ more_text k
-life_none w all c k [] = refl
-life_none w all c k (r ∷ rs) = refl
+pub life_none : (w : ℕ) (form : Form) (c : Content) (k : ℕ) (rs : List Reading) → life w form c k 0 rs ≡ more_text k
+life_none w form c k [] = refl
+life_none w form c k (r ∷ rs) = refl
 
 accesses_few : (e : Event) → accesses e ≤ 1
 accesses_few (Fork p c) = omega arith
@@ -50,41 +55,56 @@ concerned_few : (b : Bool) (told : List ℕ × ℕ) (k : ℕ) → told.1 ≤ k +
 concerned_few true told k few = few
 concerned_few false told k few = omega arith
 
-told_few : (w : ℕ) (all : Bool) (c d : Content) (k line : ℕ) (e : Event) → (told_of w all c d k line e).1 ≤ k + 1
-told_few w all c d k line e =
-    concerned_few (concerns w e) (told_by w all (look_of (c.words w)) (length c.reports) d k line e) k
-    (shown_few (all || differs (look_of (c.words w)) (look_of (d.words w))) _ k (accesses e) (accesses_few e))
+told_few : (w : ℕ) (form : Form) (c d : Content) (k line : ℕ) (e : Event) → (told_of w form c d k line e).1 ≤ k + 1
+told_few w form c d k line e =
+    concerned_few (concerns w e) (told_by w form (look_of (c.words w)) (length c.reports) d k line e) k
+    (shown_few (form.all || differs (look_of (c.words w)) (look_of (d.words w))) _ k (accesses e) (accesses_few e))
 
 -- an accepted line adds what the definition says of its event
-pub tells_event : (w : ℕ) (all : Bool) (c : Content) (k : ℕ) (r : Reading) (d : Content) (j : ℕ) (held kept : List ℕ) (e : Event) → r.event ≡ Ok e → d ≡ after c (next_named c e)
-    → kept ≡ held ++ (told_of w all c d k r.line e).0 → j ≡ (told_of w all c d k r.line e).1 → Tells w all c k r d j held kept
-tells_event w all c k r d j held kept e is content text more = record {
-  added = (told_of w all c d k r.line e).0;
+pub tells_event : (w : ℕ) (form : Form) (c : Content) (k : ℕ) (r : Reading) (d : Content) (j : ℕ) (held kept : List ℕ) (e : Event) → r.event ≡ Ok e → d ≡ after c (next_named c e)
+    → kept ≡ held ++ (told_of w form c d k r.line e).0 → j ≡ (told_of w form c d k r.line e).1 → Tells w form c k r d j held kept
+tells_event w form c k r d j held kept e is content text more = record {
+  added = (told_of w form c d k r.line e).0;
   held_on = text;
   counted = ap (λ (x : Content). x.events) content;
-  few = λ few. let last : d.last 0 ≡ c.last 0 + 1 = ap (λ (x : Content). x.last 0) content in omega (arith, few, last, more, told_few w all c d k r.line e);
+  few = λ few. let last : d.last 0 ≡ c.last 0 + 1 = ap (λ (x : Content). x.last 0) content in omega (arith, few, last, more, told_few w form c d k r.line e);
   text = λ n later.
-      ap (λ x. told_line w all c k r.line x (λ x i. life w all x i n later)) is
-      ∙ (ap (λ (x : Content). (told_of w all c x k r.line e).0 ++ life w all x (told_of w all c x k r.line e).1 n later) (sym content)
-      ∙ ap (λ (i : ℕ). (told_of w all c d k r.line e).0 ++ life w all d i n later) (sym more));
+      ap (λ x. told_line w form c k r.line x (λ x i. life w form x i n later)) is
+      ∙ (ap (λ (x : Content). (told_of w form c x k r.line e).0 ++ life w form x (told_of w form c x k r.line e).1 n later) (sym content)
+      ∙ ap (λ (i : ℕ). (told_of w form c d k r.line e).0 ++ life w form d i n later) (sym more));
 }
 
 -- one that does not concern the word adds nothing
-pub tells_nothing : (w : ℕ) (all : Bool) (c : Content) (k : ℕ) (r : Reading) (d : Content) (held : List ℕ) (e : Event) → r.event ≡ Ok e → d ≡ after c (next_named c e)
-    → concerns w e ≡ false → Tells w all c k r d k held held
-tells_nothing w all c k r d held e is content apart =
-    let none : told_of w all c d k r.line e ≡ ([], k) = ap (λ b. cond b (told_by w all (look_of (c.words w)) (length c.reports) d k r.line e) ([], k)) apart in
-    tells_event w all c k r d k held held e is content (sym (ap (λ (x : List ℕ × ℕ). held ++ x.0) none ∙ append-nil held)) (sym (ap (λ (x : List ℕ × ℕ). x.1) none))
+pub tells_nothing : (w : ℕ) (form : Form) (c : Content) (k : ℕ) (r : Reading) (d : Content) (held : List ℕ) (e : Event) → r.event ≡ Ok e → d ≡ after c (next_named c e)
+    → concerns w e ≡ false → Tells w form c k r d k held held
+tells_nothing w form c k r d held e is content apart =
+    let none : told_of w form c d k r.line e ≡ ([], k) = ap (λ b. cond b (told_by w form (look_of (c.words w)) (length c.reports) d k r.line e) ([], k)) apart in
+    tells_event w form c k r d k held held e is content (sym (ap (λ (x : List ℕ × ℕ). held ++ x.0) none ∙ append-nil held)) (sym (ap (λ (x : List ℕ × ℕ). x.1) none))
 
 -- and one that does adds what is told by how the word looked
-pub tells_concerned : (w : ℕ) (all : Bool) (c : Content) (k : ℕ) (r : Reading) (d : Content) (j : ℕ) (held kept : List ℕ) (e : Event) (before : Look) (from : ℕ) → r.event ≡ Ok e → d ≡ after c (next_named c e)
+pub tells_concerned : (w : ℕ) (form : Form) (c : Content) (k : ℕ) (r : Reading) (d : Content) (j : ℕ) (held kept : List ℕ) (e : Event) (before : Look) (from : ℕ) → r.event ≡ Ok e → d ≡ after c (next_named c e)
     → concerns w e ≡ true → before ≡ look_of (c.words w) → from ≡ length c.reports
-    → kept ≡ held ++ (told_by w all before from d k r.line e).0 → j ≡ (told_by w all before from d k r.line e).1 → Tells w all c k r d j held kept
-tells_concerned w all c k r d j held kept e before from is content meets looked counted text more =
-    let same : told_by w all before from d k r.line e ≡ told_of w all c d k r.line e =
-    ap (λ (x : Look). told_by w all x from d k r.line e) looked ∙ (ap (λ (x : ℕ). told_by w all (look_of (c.words w)) x d k r.line e) counted
-    ∙ sym (ap (λ b. cond b (told_by w all (look_of (c.words w)) (length c.reports) d k r.line e) ([], k)) meets)) in
-    tells_event w all c k r d j held kept e is content (text ∙ ap (λ (x : List ℕ × ℕ). held ++ x.0) same) (more ∙ ap (λ (x : List ℕ × ℕ). x.1) same)
+    → kept ≡ held ++ (told_by w form before from d k r.line e).0 → j ≡ (told_by w form before from d k r.line e).1 → Tells w form c k r d j held kept
+tells_concerned w form c k r d j held kept e before from is content meets looked counted text more =
+    let same : told_by w form before from d k r.line e ≡ told_of w form c d k r.line e =
+    ap (λ (x : Look). told_by w form x from d k r.line e) looked ∙ (ap (λ (x : ℕ). told_by w form (look_of (c.words w)) x d k r.line e) counted
+    ∙ sym (ap (λ b. cond b (told_by w form (look_of (c.words w)) (length c.reports) d k r.line e) ([], k)) meets)) in
+    tells_event w form c k r d j held kept e is content (text ∙ ap (λ (x : List ℕ × ℕ). held ++ x.0) same) (more ∙ ap (λ (x : List ℕ × ℕ). x.1) same)
+
+-- an event that does not concern the word leaves it as it is
+unmoved : (c : Content) (e : Event) (w : ℕ) → concerns w e ≡ false → word_after c e w ≡ c.words w
+unmoved c (Fork p d) w apart = refl
+unmoved c (Join p d) w apart = refl
+unmoved c (Lock t l) w apart = refl
+unmoved c (RdLock t l) w apart = refl
+unmoved c (Unlock t l) w apart = refl
+unmoved c (Read a) w apart = ap (λ b. cond b (touched c.segments a.t (present c.segments a.t) false (locks_of c.threads a.t false) (c.words w)) (c.words w)) apart
+unmoved c (Write a) w apart = ap (λ b. cond b (touched c.segments a.t (present c.segments a.t) true (locks_of c.threads a.t true) (c.words w)) (c.words w)) apart
+unmoved c (Alloc b) w apart = ap (λ x. cond x New (c.words w)) apart
+unmoved c (Free b) w apart = ap (λ x. cond x New (c.words w)) apart
+
+pub looks_same : (w : ℕ) (c d : Content) (e : Event) → d ≡ after c (next_named c e) → concerns w e ≡ false → look_of (c.words w) ≡ look_of (d.words w)
+looks_same w c d e content apart = ap look_of (sym (ap (λ (x : Content). x.words w) content ∙ unmoved c e w apart))
 
 -- whether an access concerns a word, by whether it writes
 pub access_concerns : (w : ℕ) (write : Bool) (a : Access) → concerns w (cond write (Write a) (Read a)) ≡ overlaps a.at a.len w
@@ -130,21 +150,34 @@ pub accepted_is_event : (r : Reading) (t new : Table) (c d : Content)
     → ((later : List Reading) (last : Content) (end : Ending) → LeadsTo later new d last end → LeadsTo (r ∷ later) t c last end) → (e : Event) × (r.event ≡ Ok e)
 accepted_is_event r t new c d leads = read_is_event r.event t c d r.line (λ u x. LeadsTo [] u x d Ended) (leads [] d Ended (refl, refl))
 
+refused_never : (line : ℕ) (r : Refusal) → Ended ≡ Refused line r → ⊥
+refused_never line r h = absurd (cc)
+
+read_is_accepted : (e : Event) (v : Verdict) (t : Table) (c last : Content) (line : ℕ) (later : Table → Content → Type 0) → Answered v t c e line later last Ended → v ≡ Accept
+read_is_accepted e Accept t c last line later h = refl
+read_is_accepted e (Duplicate k) t c last line later h = absurd h
+read_is_accepted e (Refuse r) t c last line later h = absurd (refused_never line r h.1)
+
+-- an event whose line was accepted was allowed
+pub accepted_is_allowed : (line : ℕ) (e : Event) (t new : Table) (c d : Content)
+    → ((later : List Reading) (last : Content) (end : Ending) → LeadsTo later new d last end → LeadsTo (record { line = line; event = Ok e } ∷ later) t c last end) → verdict (standing_of c) (next_named c e) ≡ Accept
+accepted_is_allowed line e t new c d leads = read_is_accepted e (verdict (standing_of c) (next_named c e)) t c d line (λ u x. LeadsTo [] u x d Ended) (leads [] d Ended (refl, refl))
+
 -- ---- lines of a piece
 
-pub told_first : (w : ℕ) (all : Bool) (old : Pending) (c : Content) (k : ℕ) (piece held : List ℕ) → ToldOn w all old c k piece old c k piece held held
-told_first w all old c k piece held = record {
+pub told_first : (w : ℕ) (form : Form) (old : Pending) (c : Content) (k : ℕ) (piece held : List ℕ) → ToldOn w form old c k piece old c k piece held held
+told_first w form old c k piece held = record {
   added = [];
   held_on = sym (append-nil held);
   count = 0;
   counted = omega arith;
   few = λ h. h;
-  text = λ more n. let same : 0 + n ≡ n = omega arith in ap (λ (m : ℕ). life w all c k m (readings_from old (piece ++ more))) same;
+  text = λ more n. let same : 0 + n ≡ n = omega arith in ap (λ (m : ℕ). life w form c k m (readings_from old (piece ++ more))) same;
 }
 
-pub told_on : (w : ℕ) (all : Bool) (old mid new : Pending) (c d e : Content) (k j i : ℕ) (piece rest held mid_held kept : List ℕ) (reading : Reading) (used : ℕ)
-    → ToldOn w all old c k piece mid d j rest held mid_held → GivesReading mid new rest reading used → Tells w all d j reading e i mid_held kept → ToldOn w all old c k piece new e i (drop used rest) held kept
-told_on w all old mid new c d e k j i piece rest held mid_held kept reading used so_far gives t = record {
+pub told_on : (w : ℕ) (form : Form) (old mid new : Pending) (c d e : Content) (k j i : ℕ) (piece rest held mid_held kept : List ℕ) (reading : Reading) (used : ℕ)
+    → ToldOn w form old c k piece mid d j rest held mid_held → GivesReading mid new rest reading used → Tells w form d j reading e i mid_held kept → ToldOn w form old c k piece new e i (drop used rest) held kept
+told_on w form old mid new c d e k j i piece rest held mid_held kept reading used so_far gives t = record {
   added = so_far.added ++ t.added;
   held_on = t.held_on ∙ (ap (λ x. x ++ t.added) so_far.held_on ∙ append_assoc held so_far.added t.added);
   count = so_far.count + 1;
@@ -152,34 +185,34 @@ told_on w all old mid new c d e k j i piece rest held mid_held kept reading used
   few = λ h. t.few (so_far.few h);
   text = λ more n.
       let same : so_far.count + 1 + n ≡ so_far.count + suc n = omega arith in
-      ap (λ (m : ℕ). life w all c k m (readings_from old (piece ++ more))) same
+      ap (λ (m : ℕ). life w form c k m (readings_from old (piece ++ more))) same
       ∙ (so_far.text more (suc n)
-      ∙ (ap (λ x. so_far.added ++ x) (ap (λ rs. life w all d j (suc n) rs) (gives.readings more) ∙ t.text n (readings_from new (drop used rest ++ more)))
-      ∙ sym (append_assoc so_far.added t.added (life w all e i n (readings_from new (drop used rest ++ more))))));
+      ∙ (ap (λ x. so_far.added ++ x) (ap (λ rs. life w form d j (suc n) rs) (gives.readings more) ∙ t.text n (readings_from new (drop used rest ++ more)))
+      ∙ sym (append_assoc so_far.added t.added (life w form e i n (readings_from new (drop used rest ++ more))))));
 }
 
-pub told_end : (w : ℕ) (all : Bool) (old mid new : Pending) (c d : Content) (k j : ℕ) (piece rest held kept : List ℕ)
-    → ToldOn w all old c k piece mid d j rest held kept → GivesNoReading mid new rest → ToldOn w all old c k piece new d j [] held kept
-told_end w all old mid new c d k j piece rest held kept so_far gives = record {
+pub told_end : (w : ℕ) (form : Form) (old mid new : Pending) (c d : Content) (k j : ℕ) (piece rest held kept : List ℕ)
+    → ToldOn w form old c k piece mid d j rest held kept → GivesNoReading mid new rest → ToldOn w form old c k piece new d j [] held kept
+told_end w form old mid new c d k j piece rest held kept so_far gives = record {
   added = so_far.added;
   held_on = so_far.held_on;
   count = so_far.count;
   counted = so_far.counted;
   few = so_far.few;
-  text = λ more n. so_far.text more n ∙ ap (λ rs. so_far.added ++ life w all d j n rs) (gives.readings more);
+  text = λ more n. so_far.text more n ∙ ap (λ rs. so_far.added ++ life w form d j n rs) (gives.readings more);
 }
 
-pub told_all : (w : ℕ) (all : Bool) (old mid : Pending) (c : Content) (d f : Detector PagedWords) (k j i : ℕ) (piece rest held mid_held kept : List ℕ)
-    → ToldOn w all old c k piece mid (content_of d) j rest held mid_held → Stays d j mid_held f i kept → ToldAll w all old c k piece (content_of f) i held kept
-told_all w all old mid c d f k j i piece rest held mid_held kept so_far stays = record {
+pub told_all : (w : ℕ) (form : Form) (old mid : Pending) (c : Content) (d f : Detector PagedWords) (k j i : ℕ) (piece rest held mid_held kept : List ℕ)
+    → ToldOn w form old c k piece mid (content_of d) j rest held mid_held → Stays d j mid_held f i kept → ToldAll w form old c k piece (content_of f) i held kept
+told_all w form old mid c d f k j i piece rest held mid_held kept so_far stays = record {
   added = so_far.added;
   held_on = stays.text ∙ so_far.held_on;
   count = so_far.count;
   counted = ap (λ (x : Content). x.events) stays.content ∙ so_far.counted;
   text = λ more.
       let none : so_far.count ≡ so_far.count + 0 = omega arith in
-      ap (λ (m : ℕ). life w all c k m (readings_from old (piece ++ more))) none
-      ∙ (so_far.text more 0 ∙ ap (λ x. so_far.added ++ x) (life_none w all (content_of d) j (readings_from mid (rest ++ more)) ∙ ap more_text (sym stays.more)));
+      ap (λ (m : ℕ). life w form c k m (readings_from old (piece ++ more))) none
+      ∙ (so_far.text more 0 ∙ ap (λ x. so_far.added ++ x) (life_none w form (content_of d) j (readings_from mid (rest ++ more)) ∙ ap more_text (sym stays.more)));
 }
 
 pub went : (before now : Detector PagedWords) (reading : Reading) → WentOn before now reading → pieces.WentOn before now reading
@@ -187,20 +220,20 @@ went before now reading h = record { leads = h.leads; back = h.back; few = h.few
 
 -- ---- the last line
 
-pub last_told : (w : ℕ) (all : Bool) (p : Pending) (c d : Content) (k j : ℕ) (held kept : List ℕ) (r : Reading) → readings_from p [] ≡ r ∷ [] → Tells w all c k r d j held kept → ToldLast w all p c k d j held kept
-last_told w all p c d k j held kept r is t = record {
+pub last_told : (w : ℕ) (form : Form) (p : Pending) (c d : Content) (k j : ℕ) (held kept : List ℕ) (r : Reading) → readings_from p [] ≡ r ∷ [] → Tells w form c k r d j held kept → ToldLast w form p c k d j held kept
+last_told w form p c d k j held kept r is t = record {
   added = t.added;
   held_on = t.held_on;
   count = 1;
   counted = t.counted;
-  text = ap (λ rs. life w all c k 1 rs) is ∙ t.text 0 [];
+  text = ap (λ rs. life w form c k 1 rs) is ∙ t.text 0 [];
 }
 
-pub last_stays : (w : ℕ) (all : Bool) (p : Pending) (d f : Detector PagedWords) (k j : ℕ) (held kept : List ℕ) → Stays d k held f j kept → ToldLast w all p (content_of d) k (content_of f) j held kept
-last_stays w all p d f k j held kept s = record {
+pub last_stays : (w : ℕ) (form : Form) (p : Pending) (d f : Detector PagedWords) (k j : ℕ) (held kept : List ℕ) → Stays d k held f j kept → ToldLast w form p (content_of d) k (content_of f) j held kept
+last_stays w form p d f k j held kept s = record {
   added = [];
   held_on = s.text ∙ sym (append-nil held);
   count = 0;
   counted = let same : (content_of f).events ≡ (content_of d).events = ap (λ (x : Content). x.events) s.content in omega (arith, same);
-  text = life_none w all (content_of d) k (readings_from p []) ∙ ap more_text (sym s.more);
+  text = life_none w form (content_of d) k (readings_from p []) ∙ ap more_text (sym s.more);
 }

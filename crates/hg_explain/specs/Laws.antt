@@ -1,5 +1,5 @@
 -- Definition: part of what `explain` promises. The life of a word by its histories, over the trace so far.
-use Rattle.std.specs.Prelude.{◌≡◌, ℕ, zero, suc, ◌+◌, ◌≤◌, Bool, true, false, ◌||◌, List, [], ◌∷◌, ◌++◌, length, take, drop, codes, if◌then◌else◌, Result, Ok, Err}
+use Rattle.std.specs.Prelude.{◌≡◌, ℕ, zero, suc, ◌+◌, ◌≤◌, true, false, ◌||◌, List, [], ◌∷◌, ◌++◌, length, take, drop, codes, if◌then◌else◌, Result, Ok, Err}
 use Rattle.std.specs.Fmt.{decimal}
 use Rattle.hg_model.specs.declared.event.Event.{Event}
 use Rattle.hg_model.specs.declared.event.Event.TheVariants.{Read, Write, Alloc, Free}
@@ -20,7 +20,8 @@ use Rattle.hg_wire.specs.Reports.{access_name, predecessors_text}
 use Rattle.hg_check.specs.declared.checker.Ending.{Ending}
 use Rattle.hg_check.specs.Checking.{ChecksTo, next_named}
 use Rattle.hg_check.specs.Printing.{line_text}
-use Rattle.hg_explain.specs.Life.{accesses, actor_of, changes_text, concerns, differs, life, look_of, more_text, race_text, state_text}
+use Rattle.hg_explain.specs.declared.form.Form.{Form}
+use Rattle.hg_explain.specs.Life.{accesses, actor_of, changes_text, concerns, differs, life, look_of, more_text, place_in, race_text, state_text}
 
 -- the state of the word by its history
 abbrev pub state_in : ℕ → List Event → WordState
@@ -51,35 +52,35 @@ abbrev pub race_in : ℕ → List Event → Event → List ℕ
 race_in w past e = race_text (length (kept_in past) + 1) w (drop (length (kept_in past)) (kept_in (e ∷ past)))
 
 -- the line of an event right after the past: its item, the word's state with it, what became of the state that it had, and the number of its report
-abbrev pub line_in : ℕ → List Event → ℕ → Event → List ℕ
-line_in w past line e =
-    (codes "event " ++ decimal (suc (length past)) ++ codes " line " ++ decimal line)
+abbrev pub line_in : ℕ → Form → List Event → ℕ → Event → List ℕ
+line_in w form past line e =
+    (codes "event " ++ decimal (suc (length past)) ++ place_in form line)
     ++ (acts_in past e ++ (state_text (state_in w (e ∷ past))
     ++ (changes_text (look_of (state_in w past)) (state_in w (e ∷ past)) (present (segments_of past) (actor_of e))
     ++ race_in w past e)))
 
 -- what the event adds to the text, and how many accesses were not shown since its last line
-abbrev pub told_in : ℕ → Bool → List Event → ℕ → ℕ → Event → List ℕ × ℕ
-told_in w all past k line e =
+abbrev pub told_in : ℕ → Form → List Event → ℕ → ℕ → Event → List ℕ × ℕ
+told_in w form past k line e =
     if concerns w e then
-    if all || differs (look_of (state_in w past)) (look_of (state_in w (e ∷ past))) then (more_text k ++ line_text (line_in w past line e), 0) else ([], k + accesses e)
+    if form.all || differs (look_of (state_in w past)) (look_of (state_in w (e ∷ past))) then (more_text k ++ line_text (line_in w form past line e), 0) else ([], k + accesses e)
     else ([], k)
 
-abbrev pub story_line : ℕ → Bool → List Named → ℕ → ℕ → Result Event LineFault → (List Named → ℕ → List ℕ) → List ℕ
-story_line w all past k line (Err fault) later = later past k
-story_line w all past k line (Ok e) later =
-    (told_in w all (events_of past) k line e).0 ++ later (next_named (summary past) e ∷ past) (told_in w all (events_of past) k line e).1
+abbrev pub story_line : ℕ → Form → List Named → ℕ → ℕ → Result Event LineFault → (List Named → ℕ → List ℕ) → List ℕ
+story_line w form past k line (Err fault) later = later past k
+story_line w form past k line (Ok e) later =
+    (told_in w form (events_of past) k line e).0 ++ later (next_named (summary past) e ∷ past) (told_in w form (events_of past) k line e).1
 
 -- The story of the word w over so many lines of a trace, right after the past, where k accesses were not shown.
-abbrev pub story : ℕ → Bool → List Named → ℕ → ℕ → List Reading → List ℕ
-story w all past k n [] = more_text k
-story w all past k zero (r ∷ later) = more_text k
-story w all past k (suc n) (r ∷ later) = story_line w all past k r.line r.event (λ trace j. story w all trace j n later)
+abbrev pub story : ℕ → Form → List Named → ℕ → ℕ → List Reading → List ℕ
+story w form past k n [] = more_text k
+story w form past k zero (r ∷ later) = more_text k
+story w form past k (suc n) (r ∷ later) = story_line w form past k r.line r.event (λ trace j. story w form trace j n later)
 
 -- The life that `explain` prints of a text is the story of the word over the trace of its accepted lines.
 abbrev pub LifeIsTheStory : Type 0
-LifeIsTheStory = (w : ℕ) (all : Bool) (bytes : List ℕ) (c : Content) (end : Ending) → ChecksTo bytes c end
-    → life w all empty_content 0 c.events (readings bytes) ≡ story w all [] 0 c.events (readings bytes)
+LifeIsTheStory = (w : ℕ) (form : Form) (bytes : List ℕ) (c : Content) (end : Ending) → ChecksTo bytes c end
+    → life w form empty_content 0 c.events (readings bytes) ≡ story w form [] 0 c.events (readings bytes)
 
 -- A race stands on the line of an event where the word is reported at it, as far as reports are kept, and on no other.
 pub record RacesAreTheReports : Type 0 where

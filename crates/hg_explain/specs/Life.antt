@@ -15,6 +15,7 @@ use Rattle.hg_wire.specs.declared.reader.Reading.{Reading}
 use Rattle.hg_wire.specs.Reports.{access_name, predecessors_text}
 use Rattle.hg_check.specs.Checking.{next_named}
 use Rattle.hg_check.specs.Printing.{line_text}
+use Rattle.hg_explain.specs.declared.form.Form.{Form}
 use Rattle.hg_explain.specs.declared.look.Look.{Look}
 use Rattle.hg_explain.specs.declared.look.Look.TheVariants.{Fresh, Owned, Read as ReadBy, Modified}
 
@@ -105,18 +106,22 @@ actor_of (Alloc b) = b.t
 actor_of (Free b) = b.t
 actor_of _ = 0
 
+-- the line of the text, where lines are told
+abbrev pub place_in : Form → ℕ → List ℕ
+place_in form line = if form.lines then codes " line " ++ decimal line else []
+
 -- the number of an event, and of its line
-abbrev pub front_text : Content → ℕ → List ℕ
-front_text c line = codes "event " ++ decimal c.events ++ codes " line " ++ decimal line
+abbrev pub front_text : Form → Content → ℕ → List ℕ
+front_text form c line = codes "event " ++ decimal c.events ++ place_in form line
 
 -- what became of the state
 abbrev pub changes_text : Look → WordState → ℕ → List ℕ
 changes_text before after g = change_text before (look_of after) g ++ bare_text before (look_of after)
 
 -- The line of an event, by the content after it, how the word looked before it, and how many reports were kept before it.
-abbrev pub event_line : ℕ → Look → ℕ → Content → ℕ → Event → List ℕ
-event_line w before kept c line e =
-    front_text c line ++ (acts_text c e ++ (state_text (c.words w) ++ (changes_text before (c.words w) (present c.segments (actor_of e)) ++ race_text (kept + 1) w (drop kept c.reports))))
+abbrev pub event_line : ℕ → Form → Look → ℕ → Content → ℕ → Event → List ℕ
+event_line w form before kept c line e =
+    front_text form c line ++ (acts_text c e ++ (state_text (c.words w) ++ (changes_text before (c.words w) (present c.segments (actor_of e)) ++ race_text (kept + 1) w (drop kept c.reports))))
 
 -- so many accesses were not shown
 abbrev pub more_text : ℕ → List ℕ
@@ -124,22 +129,22 @@ more_text zero = []
 more_text (suc k) = line_text (decimal (suc k) ++ codes " more accesses")
 
 -- What an accepted event that concerns the word adds to the text, and how many accesses were not shown since its last line. Shown is one that changes the word's state, and where all are asked for each.
-abbrev pub told_by : ℕ → Bool → Look → ℕ → Content → ℕ → ℕ → Event → List ℕ × ℕ
-told_by w all before kept d k line e =
-    if all || differs before (look_of (d.words w)) then (more_text k ++ line_text (event_line w before kept d line e), 0) else ([], k + accesses e)
+abbrev pub told_by : ℕ → Form → Look → ℕ → Content → ℕ → ℕ → Event → List ℕ × ℕ
+told_by w form before kept d k line e =
+    if form.all || differs before (look_of (d.words w)) then (more_text k ++ line_text (event_line w form before kept d line e), 0) else ([], k + accesses e)
 
 -- the same of any accepted event, from the content before it to the one after it
-abbrev pub told_of : ℕ → Bool → Content → Content → ℕ → ℕ → Event → List ℕ × ℕ
-told_of w all c d k line e = if concerns w e then told_by w all (look_of (c.words w)) (length c.reports) d k line e else ([], k)
+abbrev pub told_of : ℕ → Form → Content → Content → ℕ → ℕ → Event → List ℕ × ℕ
+told_of w form c d k line e = if concerns w e then told_by w form (look_of (c.words w)) (length c.reports) d k line e else ([], k)
 
 -- one line of the trace, after which the rest is told by `later`
-abbrev pub told_line : ℕ → Bool → Content → ℕ → ℕ → Result Event LineFault → (Content → ℕ → List ℕ) → List ℕ
-told_line w all c k line (Err fault) later = later c k
-told_line w all c k line (Ok e) later =
-    (told_of w all c (after c (next_named c e)) k line e).0 ++ later (after c (next_named c e)) (told_of w all c (after c (next_named c e)) k line e).1
+abbrev pub told_line : ℕ → Form → Content → ℕ → ℕ → Result Event LineFault → (Content → ℕ → List ℕ) → List ℕ
+told_line w form c k line (Err fault) later = later c k
+told_line w form c k line (Ok e) later =
+    (told_of w form c (after c (next_named c e)) k line e).0 ++ later (after c (next_named c e)) (told_of w form c (after c (next_named c e)) k line e).1
 
 -- The life of the word w over so many lines of a trace, all of them accepted, from this content on, where k accesses were not shown.
-abbrev pub life : ℕ → Bool → Content → ℕ → ℕ → List Reading → List ℕ
-life w all c k n [] = more_text k
-life w all c k zero (r ∷ later) = more_text k
-life w all c k (suc n) (r ∷ later) = told_line w all c k r.line r.event (λ d j. life w all d j n later)
+abbrev pub life : ℕ → Form → Content → ℕ → ℕ → List Reading → List ℕ
+life w form c k n [] = more_text k
+life w form c k zero (r ∷ later) = more_text k
+life w form c k (suc n) (r ∷ later) = told_line w form c k r.line r.event (λ d j. life w form d j n later)

@@ -12,7 +12,7 @@ ghost use Rattle.hg_model.specs.Change.{empty_content};
 ghost use Rattle.hg_sets.specs.Interning.{first_table};
 
 use crate::address::hold_word;
-use crate::passing::Asked;
+use crate::form::{Asked, Form};
 use crate::run::run;
 use crate::telling::hold_more;
 use hg_check::checker::Ending;
@@ -42,8 +42,8 @@ fn run_explain<R: Read, W: Write>(
     requires sets { detector.old.sets ≡ first_table 262144 }
     requires word { asked.word < 2 ^ 62 }
     requires none { held.old.items ≡ [] }
-    ensures prints { IfOk result (Explains asked.word asked.all input.old.calls input.new.calls output.old.calls output.new.calls) }
-    ensures front { OnErr result (WroteFrontOf asked.word asked.all input.old.calls input.new.calls output.old.calls output.new.calls) }
+    ensures prints { IfOk result (Explains asked.word asked.form input.old.calls input.new.calls output.old.calls output.new.calls) }
+    ensures front { OnErr result (WroteFrontOf asked.word asked.form input.old.calls input.new.calls output.old.calls output.new.calls) }
     ensures cause { IfErr result (λ r. HasCause input.old.calls input.new.calls output.old.calls output.new.calls r) }
 {
     let mut more = 0;
@@ -77,8 +77,8 @@ fn print_explain<R: Read, W: Write>(
     output: &mut Output<W>,
 ) -> Result<Ending, Refusal>
     requires word { asked.word < 2 ^ 62 }
-    ensures prints { IfOk result (Explains asked.word asked.all input.old.calls input.new.calls output.old.calls output.new.calls) }
-    ensures front { OnErr result (WroteFrontOf asked.word asked.all input.old.calls input.new.calls output.old.calls output.new.calls) }
+    ensures prints { IfOk result (Explains asked.word asked.form input.old.calls input.new.calls output.old.calls output.new.calls) }
+    ensures front { OnErr result (WroteFrontOf asked.word asked.form input.old.calls input.new.calls output.old.calls output.new.calls) }
     ensures cause { IfErr result (λ r. HasCause input.old.calls input.new.calls output.old.calls output.new.calls r) }
 {
     let mut detector = new_detector(alloc, MOST_SETS)?;
@@ -87,24 +87,24 @@ fn print_explain<R: Read, W: Write>(
 }
 
 /// Explains the word that has an address, by a trace text: prints the word, a line for each event that changes its state (of
-/// each that overlaps it, with `all`), and one line at last, which is that of `check`. After a line that is refused or bad,
-/// nothing is read.
+/// each that overlaps it, with `form.all`; with the number of its line, with `form.lines`), and one line at last, which is that
+/// of `check`. After a line that is refused or bad, nothing is read.
 /// Answers the status: 0, 2 where a line was refused or bad, or 3 where a stream failed or memory was refused, which
 /// is told on `faults`. What was printed before that is a front of what was due.
 pub fn explain<R: Read, W: Write, V: Write>(
     alloc: Global,
     address: u64,
-    all: bool,
+    form: Form,
     input: &mut Input<R>,
     output: &mut Output<W>,
     faults: &mut Output<V>,
 ) -> u8
-    ensures prints { (result ≡ 3 → ⊥) → (end : EndingOf) × (result ≡ status_of end) × Explains (address / 4) all input.old.calls input.new.calls output.old.calls output.new.calls end }
+    ensures prints { (result ≡ 3 → ⊥) → (end : EndingOf) × (result ≡ status_of end) × Explains (address / 4) form input.old.calls input.new.calls output.old.calls output.new.calls end }
     ensures quiet { (result ≡ 3 → ⊥) → Took faults.old.calls faults.new.calls [] }
-    ensures fault { result ≡ 3 → BreaksOff (address / 4) all input.old.calls input.new.calls output.old.calls output.new.calls faults.old.calls faults.new.calls }
+    ensures fault { result ≡ 3 → BreaksOff (address / 4) form input.old.calls input.new.calls output.old.calls output.new.calls faults.old.calls faults.new.calls }
 {
     let word = address / 4;
-    match print_explain(alloc, Asked { word, all }, input, output) {
+    match print_explain(alloc, Asked { word, form }, input, output) {
         Ok(end) => status_of_end(end),
         Err(refusal) => {
             tell(refusal, faults);

@@ -24,6 +24,7 @@ pub enum Look {
 }
 
 /// How a word looks now.
+#[inline(always)]
 pub fn look_at(detector: &MemoryDetector, word: u64) -> Look
     requires whole { IsWhole detector.now }
     ensures { result ≡ life.look_of ((content_of detector.now).words word) }
@@ -42,6 +43,7 @@ pub fn look_at(detector: &MemoryDetector, word: u64) -> Look
 }
 
 /// Whether a word's state is another one.
+#[inline(always)]
 pub fn differs(before: Look, after: Look) -> bool
     ensures { result ≡ life.differs before after }
 {

@@ -1,8 +1,9 @@
 //! The lines of a trace text, and what each adds to the life of a word.
 
-ghost use Rattle.std.specs.Prelude.{◌≡◌, ◌+◌, ◌<◌, ◌≤◌, ◌^◌, [], ◌∷◌, ◌++◌, List, Ok, Some, None, length, IfErr, OnOk};
+ghost use Rattle.std.specs.Prelude.{◌≡◌, ◌+◌, ◌<◌, ◌≤◌, ◌^◌, [], ◌∷◌, ◌++◌, true, List, Ok, Some, None, length, IfErr, OnOk};
 ghost use Rattle.hg_check.specs.Checking.{LeadsTo};
 ghost use Rattle.hg_check.specs.Running.{EndsIn, Reaches};
+ghost use Rattle.hg_check.specs.Printing.{line_text};
 ghost use Rattle.hg_check.specs.declared.checker.Ending.{Ending as EndingOf};
 ghost use Rattle.hg_detect.specs.Memory.{IsWhole, content_of};
 ghost use Rattle.hg_explain.specs.Telling.{Stays, Tells, ToldAll, ToldOn, WentOn};
@@ -12,6 +13,7 @@ ghost use Rattle.hg_wire.specs.Streams.{ended_from};
 ghost use Rattle.hg_wire.specs.declared.reader.Reading.{Reading as ReadingOf};
 ghost use Rattle.hg_explain.specs.Life as life;
 
+use crate::form::Asked;
 use crate::look::{Look, concerns, differs, look_at, overlaps};
 use crate::telling::{hold_event, hold_more};
 use hg_check::checker::{Ending, apply, apply_access};
@@ -21,14 +23,8 @@ use hg_model::verdict::Refusal;
 use hg_wire::line::AccessLine;
 use hg_wire::reader::{EventReader, Reading, Taken};
 
-/// What is asked: the life of a word, by the word's number, and whether each event is to have a line.
-#[derive(Clone, Copy, Debug, PartialEq, Eq, Drop)]
-pub struct Asked {
-    pub word: u64,
-    pub all: bool,
-}
-
 /// How many accesses an event is.
+#[inline(always)]
 fn accesses(event: &Event) -> u64
     ensures { result ≡ life.accesses event.now }
 {
@@ -38,8 +34,9 @@ fn accesses(event: &Event) -> u64
     }
 }
 
-/// Tells an event that was accepted just now, and that concerns the word.
-fn tell_event(
+/// Shows an event that was accepted just now: behind how many accesses were not shown since the last line.
+#[inline(never)]
+fn show_event(
     asked: Asked,
     detector: &MemoryDetector,
     before: Look,
@@ -52,25 +49,53 @@ fn tell_event(
     requires whole { IsWhole detector.now }
     requires word { asked.word < 2 ^ 62 }
     requires actor { life.actor_of event.now < 1024 }
-    requires few { more.old + 1 < 2 ^ 64 }
-    ensures ok { OnOk result ((held.new.items ≡ held.old.items ++ (life.told_by asked.word asked.all before from (content_of detector.now) more.old line event.now).0)
-        × (more.new ≡ (life.told_by asked.word asked.all before from (content_of detector.now) more.old line event.now).1)) }
+    ensures held { OnOk result (held.new.items ≡ held.old.items ++ (life.more_text more.old ++ line_text (life.event_line asked.word asked.form before from (content_of detector.now) line event.now))) }
+    ensures none { OnOk result (more.new ≡ 0) }
     ensures cause { IfErr result (λ r. r ≡ Refusal.OutOfMemory) }
 {
-    if asked.all || differs(before, look_at(detector, asked.word)) {
-        hold_more(*more, held)?;
-        *more = 0;
-        return hold_event(detector, asked.word, before, from, line, event, held);
+    hold_more(*more, held)?;
+    *more = 0;
+    hold_event(asked, detector, before, from, line, event, held)
+}
+
+/// Tells an event that was accepted just now, and that concerns the word, which looked so before it.
+#[inline(always)]
+fn tell_event(
+    asked: Asked,
+    detector: &MemoryDetector,
+    from: usize,
+    line: u64,
+    event: &Event,
+    look: &mut Look,
+    more: &mut u64,
+    held: &mut Vec<u8>,
+) -> Result<(), Refusal>
+    requires whole { IsWhole detector.now }
+    requires word { asked.word < 2 ^ 62 }
+    requires actor { life.actor_of event.now < 1024 }
+    requires few { more.old + 1 < 2 ^ 64 }
+    ensures ok { OnOk result ((held.new.items ≡ held.old.items ++ (life.told_by asked.word asked.form look.old from (content_of detector.now) more.old line event.now).0)
+        × (more.new ≡ (life.told_by asked.word asked.form look.old from (content_of detector.now) more.old line event.now).1)) }
+    ensures looks { look.new ≡ life.look_of ((content_of detector.now).words asked.word) }
+    ensures cause { IfErr result (λ r. r ≡ Refusal.OutOfMemory) }
+{
+    let before = *look;
+    let after = look_at(detector, asked.word);
+    *look = after;
+    if asked.form.all || differs(before, after) {
+        return show_event(asked, detector, before, from, line, event, more, held);
     }
     *more += accesses(event);
     Ok(())
 }
 
 /// Offers the event of a line as the next one of source 0, and tells it where it concerns the word. `None` says that it was accepted.
+/// How the word looks is carried along, so that it is asked only behind an event that concerns the word.
 pub fn pass(
     asked: Asked,
     detector: &mut MemoryDetector,
     reading: &Reading,
+    look: &mut Look,
     more: &mut u64,
     held: &mut Vec<u8>,
 ) -> Result<Option<Ending>, Refusal>
@@ -78,8 +103,10 @@ pub fn pass(
     requires word { asked.word < 2 ^ 62 }
     requires fits { (content_of detector.old).last 0 + 1 < 2 ^ 64 }
     requires few { more.old ≤ (content_of detector.old).last 0 }
+    requires looks { look.old ≡ life.look_of ((content_of detector.old).words asked.word) }
     ensures went { result ≡ Ok None → WentOn detector.old detector.new reading.now }
-    ensures tells { result ≡ Ok None → Tells asked.word asked.all (content_of detector.old) more.old reading.now (content_of detector.new) more.new held.old.items held.new.items }
+    ensures tells { result ≡ Ok None → Tells asked.word asked.form (content_of detector.old) more.old reading.now (content_of detector.new) more.new held.old.items held.new.items }
+    ensures looks { result ≡ Ok None → look.new ≡ life.look_of ((content_of detector.new).words asked.word) }
     ensures ended { (later : List ReadingOf) (end : EndingOf) → result ≡ Ok (Some end)
         → LeadsTo (reading.now ∷ later) detector.old.sets (content_of detector.old) (content_of detector.new) end }
     ensures stays { (end : EndingOf) → result ≡ Ok (Some end) → Stays detector.old more.old held.old.items detector.new more.new held.new.items }
@@ -92,13 +119,12 @@ pub fn pass(
     if !concerns(asked.word, &event) {
         return apply(detector, reading);
     }
-    let before = look_at(detector, asked.word);
     let from = detector.kept();
     let stopped = apply(detector, reading)?;
     if stopped.is_some() {
         return Ok(stopped);
     }
-    tell_event(asked, detector, before, from, line, &event, more, held)?;
+    tell_event(asked, detector, from, line, &event, look, more, held)?;
     Ok(None)
 }
 
@@ -109,6 +135,7 @@ fn pass_access(
     detector: &mut MemoryDetector,
     line: u64,
     found: &AccessLine,
+    look: &mut Look,
     more: &mut u64,
     held: &mut Vec<u8>,
 ) -> Result<Option<Ending>, Refusal>
@@ -116,21 +143,58 @@ fn pass_access(
     requires word { asked.word < 2 ^ 62 }
     requires fits { (content_of detector.old).last 0 + 1 < 2 ^ 64 }
     requires few { more.old ≤ (content_of detector.old).last 0 }
+    requires looks { look.old ≡ life.look_of ((content_of detector.old).words asked.word) }
     ensures went { result ≡ Ok None → WentOn detector.old detector.new (record { line = line; event = Ok (event_in found.now) }) }
-    ensures tells { result ≡ Ok None → Tells asked.word asked.all (content_of detector.old) more.old (record { line = line; event = Ok (event_in found.now) }) (content_of detector.new) more.new held.old.items held.new.items }
+    ensures tells { result ≡ Ok None → Tells asked.word asked.form (content_of detector.old) more.old (record { line = line; event = Ok (event_in found.now) }) (content_of detector.new) more.new held.old.items held.new.items }
+    ensures looks { result ≡ Ok None → look.new ≡ life.look_of ((content_of detector.new).words asked.word) }
     ensures ended { (later : List ReadingOf) (end : EndingOf) → result ≡ Ok (Some end)
         → LeadsTo (record { line = line; event = Ok (event_in found.now) } ∷ later) detector.old.sets (content_of detector.old) (content_of detector.new) end }
     ensures stays { (end : EndingOf) → result ≡ Ok (Some end) → Stays detector.old more.old held.old.items detector.new more.new held.new.items }
     ensures fault { IfErr result (λ r. r ≡ Refusal.OutOfMemory) }
 {
     if overlaps(found.access.at, u16::from(found.access.len), asked.word) {
-        let event = Ok(event_of(found.access, found.is_write));
-        return pass(asked, detector, &Reading { line, event }, more, held);
+        return pass_concerned(asked, detector, line, found, look, more, held);
     }
     apply_access(detector, line, found)
 }
 
+/// The same for one that overlaps the word.
+#[inline(always)]
+fn pass_concerned(
+    asked: Asked,
+    detector: &mut MemoryDetector,
+    line: u64,
+    found: &AccessLine,
+    look: &mut Look,
+    more: &mut u64,
+    held: &mut Vec<u8>,
+) -> Result<Option<Ending>, Refusal>
+    requires whole { IsWhole detector.old }
+    requires word { asked.word < 2 ^ 62 }
+    requires fits { (content_of detector.old).last 0 + 1 < 2 ^ 64 }
+    requires few { more.old ≤ (content_of detector.old).last 0 }
+    requires looks { look.old ≡ life.look_of ((content_of detector.old).words asked.word) }
+    requires met { life.concerns asked.word (event_in found.now) ≡ true }
+    ensures went { result ≡ Ok None → WentOn detector.old detector.new (record { line = line; event = Ok (event_in found.now) }) }
+    ensures tells { result ≡ Ok None → Tells asked.word asked.form (content_of detector.old) more.old (record { line = line; event = Ok (event_in found.now) }) (content_of detector.new) more.new held.old.items held.new.items }
+    ensures looks { result ≡ Ok None → look.new ≡ life.look_of ((content_of detector.new).words asked.word) }
+    ensures ended { (later : List ReadingOf) (end : EndingOf) → result ≡ Ok (Some end)
+        → LeadsTo (record { line = line; event = Ok (event_in found.now) } ∷ later) detector.old.sets (content_of detector.old) (content_of detector.new) end }
+    ensures stays { (end : EndingOf) → result ≡ Ok (Some end) → Stays detector.old more.old held.old.items detector.new more.new held.new.items }
+    ensures fault { IfErr result (λ r. r ≡ Refusal.OutOfMemory) }
+{
+    let from = detector.kept();
+    let stopped = apply_access(detector, line, found)?;
+    if stopped.is_some() {
+        return Ok(stopped);
+    }
+    let event = event_of(found.access, found.is_write);
+    tell_event(asked, detector, from, line, &event, look, more, held)?;
+    Ok(None)
+}
+
 /// The event of an access.
+#[inline(always)]
 fn event_of(access: Access, is_write: bool) -> Event
     ensures { result ≡ access_event is_write access }
 {
@@ -148,6 +212,7 @@ pub fn push(
     reader: &mut EventReader,
     detector: &mut MemoryDetector,
     piece: &[u8],
+    look: &mut Look,
     more: &mut u64,
     held: &mut Vec<u8>,
 ) -> Result<Option<Ending>, Refusal>
@@ -156,18 +221,20 @@ pub fn push(
     requires lines { reader.old.lines + length piece.now < 2 ^ 64 }
     requires events { (content_of detector.old).last 0 + length piece.now < 2 ^ 64 }
     requires few { more.old ≤ (content_of detector.old).last 0 }
+    requires looks { look.old ≡ life.look_of ((content_of detector.old).words asked.word) }
     ensures reaches { result ≡ Ok None → Reaches reader.old detector.old piece.now reader.new detector.new [] }
-    ensures told { result ≡ Ok None → ToldOn asked.word asked.all reader.old (content_of detector.old) more.old piece.now reader.new (content_of detector.new) more.new [] held.old.items held.new.items }
+    ensures told { result ≡ Ok None → ToldOn asked.word asked.form reader.old (content_of detector.old) more.old piece.now reader.new (content_of detector.new) more.new [] held.old.items held.new.items }
+    ensures looks { result ≡ Ok None → look.new ≡ life.look_of ((content_of detector.new).words asked.word) }
     ensures none_left { result ≡ Ok None → ended_from reader.new [] ≡ [] }
     ensures ends { (end : EndingOf) → result ≡ Ok (Some end) → EndsIn reader.old detector.old piece.now detector.new end }
-    ensures told_all { (end : EndingOf) → result ≡ Ok (Some end) → ToldAll asked.word asked.all reader.old (content_of detector.old) more.old piece.now (content_of detector.new) more.new held.old.items held.new.items }
+    ensures told_all { (end : EndingOf) → result ≡ Ok (Some end) → ToldAll asked.word asked.form reader.old (content_of detector.old) more.old piece.now (content_of detector.new) more.new held.old.items held.new.items }
     ensures fault { IfErr result (λ r. r ≡ Refusal.OutOfMemory) }
 {
     let mut rest = piece;
     loop {
         if let Some(found) = reader.take_access(rest) {
             rest = &rest[found.used..];
-            let stopped = pass_access(asked, detector, reader.lines(), &found, more, held)?;
+            let stopped = pass_access(asked, detector, reader.lines(), &found, look, more, held)?;
             if stopped.is_some() {
                 return Ok(stopped);
             }
@@ -177,7 +244,7 @@ pub fn push(
             return Ok(None);
         };
         rest = &rest[used..];
-        let stopped = pass(asked, detector, &reading, more, held)?;
+        let stopped = pass(asked, detector, &reading, look, more, held)?;
         if stopped.is_some() {
             return Ok(stopped);
         }

@@ -7,6 +7,7 @@ ghost use Rattle.hg_check.specs.Written.{TookFront};
 ghost use Rattle.hg_check.specs.declared.checker.Ending.{Ending as EndingOf};
 ghost use Rattle.hg_detect.specs.Memory.{IsWhole, content_of};
 ghost use Rattle.hg_explain.specs.Explaining.{WroteFrontOf, word_line};
+ghost use Rattle.hg_explain.specs.Life as life;
 ghost use Rattle.hg_explain.specs.Telling.{Advances, Finishes, HasRun, MeetsEnd, ToldLast};
 ghost use Rattle.hg_check.specs.Checking.{LeadsTo};
 ghost use Rattle.hg_wire.specs.Streams.{readings_from};
@@ -18,7 +19,9 @@ ghost use Rattle.hg_check.specs.Printing.{line_text};
 ghost use Rattle.hg_streams.specs.Calls.{failed_reads, failed_writes};
 ghost use Rattle.hg_streams.specs.Told.{told};
 
-use crate::passing::{Asked, pass, push};
+use crate::form::Asked;
+use crate::look::Look;
+use crate::passing::{pass, push};
 use hg_check::checker::Ending;
 use hg_check::run::{MOST_READS, Progress, piece_buffer, reader_at_start};
 use hg_check::streams::write_out;
@@ -37,6 +40,7 @@ fn advance<R: Read>(
     buffer: &mut [u8],
     reader: &mut EventReader,
     detector: &mut MemoryDetector,
+    look: &mut Look,
     more: &mut u64,
     held: &mut Vec<u8>,
 ) -> Result<Progress, Refusal>
@@ -46,12 +50,14 @@ fn advance<R: Read>(
     requires lines { reader.old.lines + length buffer.old < 2 ^ 64 }
     requires events { (content_of detector.old).last 0 + length buffer.old < 2 ^ 64 }
     requires few { more.old ≤ (content_of detector.old).last 0 }
+    requires looks { look.old ≡ life.look_of ((content_of detector.old).words asked.word) }
     ensures underway { result ≡ Ok Progress.Underway
-        → Advances asked.word asked.all input.old.calls input.new.calls reader.old detector.old more.old reader.new detector.new more.new held.old.items held.new.items (length buffer.old) }
+        → Advances asked.word asked.form input.old.calls input.new.calls reader.old detector.old more.old reader.new detector.new more.new held.old.items held.new.items (length buffer.old) }
     ensures at_end { result ≡ Ok Progress.AtEnd
         → MeetsEnd input.old.calls input.new.calls reader.old detector.old more.old reader.new detector.new more.new held.old.items held.new.items }
+    ensures looks { (result ≡ Ok Progress.Underway) ⊎ (result ≡ Ok Progress.AtEnd) → look.new ≡ life.look_of ((content_of detector.new).words asked.word) }
     ensures stopped { (end : EndingOf) → result ≡ Ok (Progress.Stopped end)
-        → Finishes asked.word asked.all input.old.calls input.new.calls reader.old detector.old more.old (content_of detector.new) end more.new held.old.items held.new.items }
+        → Finishes asked.word asked.form input.old.calls input.new.calls reader.old detector.old more.old (content_of detector.new) end more.new held.old.items held.new.items }
     ensures call { (call : ReadCall) × (input.new.calls ≡ call ∷ input.old.calls) }
     ensures size { length buffer.new ≡ length buffer.old }
     ensures cause { IfErr result (λ r. (r ≡ Refusal.OutOfMemory) ⊎ (r ≡ Refusal.DeviceFault)) }
@@ -64,7 +70,7 @@ fn advance<R: Read>(
     if count == 0 {
         return Ok(Progress::AtEnd);
     }
-    match push(asked, reader, detector, &buffer[..count], more, held)? {
+    match push(asked, reader, detector, &buffer[..count], look, more, held)? {
         None => Ok(Progress::Underway),
         Some(end) => Ok(Progress::Stopped(end)),
     }
@@ -75,6 +81,7 @@ fn finish(
     asked: Asked,
     reader: EventReader,
     detector: &mut MemoryDetector,
+    look: &mut Look,
     more: &mut u64,
     held: &mut Vec<u8>,
 ) -> Result<Ending, Refusal>
@@ -83,14 +90,15 @@ fn finish(
     requires lines { reader.lines + 1 < 2 ^ 64 }
     requires events { (content_of detector.old).last 0 + 1 < 2 ^ 64 }
     requires few { more.old ≤ (content_of detector.old).last 0 }
+    requires looks { look.old ≡ life.look_of ((content_of detector.old).words asked.word) }
     ensures ends { IfOk result (λ end. LeadsTo (readings_from reader []) detector.old.sets (content_of detector.old) (content_of detector.new) end) }
-    ensures told { IfOk result (λ end. ToldLast asked.word asked.all reader (content_of detector.old) more.old (content_of detector.new) more.new held.old.items held.new.items) }
+    ensures told { IfOk result (λ end. ToldLast asked.word asked.form reader (content_of detector.old) more.old (content_of detector.new) more.new held.old.items held.new.items) }
     ensures cause { IfErr result (λ r. r ≡ Refusal.OutOfMemory) }
 {
     let Some(reading) = reader.finish() else {
         return Ok(Ending::Ended);
     };
-    match pass(asked, detector, &reading, more, held)? {
+    match pass(asked, detector, &reading, look, more, held)? {
         None => Ok(Ending::Ended),
         Some(end) => Ok(end),
     }
@@ -124,21 +132,31 @@ pub fn run<R: Read, W: Write>(
     requires sets { detector.old.sets ≡ first_table 262144 }
     requires word { asked.word < 2 ^ 62 }
     requires none { more.old ≡ 0 }
-    ensures ends { IfOk result (HasRun asked.word asked.all input.old.calls input.new.calls output.old.calls output.new.calls held.old.items held.new.items (content_of detector.new) more.new) }
+    ensures ends { IfOk result (HasRun asked.word asked.form input.old.calls input.new.calls output.old.calls output.new.calls held.old.items held.new.items (content_of detector.new) more.new) }
     ensures front { (first : List WriteCall) → IsDue first output.old.calls held.old.items [] (line_text (word_line asked.word))
-        → OnErr result (WroteFrontOf asked.word asked.all input.old.calls input.new.calls first output.new.calls) }
+        → OnErr result (WroteFrontOf asked.word asked.form input.old.calls input.new.calls first output.new.calls) }
     ensures cause { IfErr result (λ r. HasCause input.old.calls input.new.calls output.old.calls output.new.calls r) }
 {
     let mut reader = reader_at_start(alloc)?;
     let mut buffer = piece_buffer(alloc)?;
+    let mut look = Look::Fresh;
     let mut reads = 0;
     while reads < MOST_READS {
         reads += 1;
         let piece = buffer.as_mut_slice();
-        match advance(asked, input, piece, &mut reader, detector, more, held)? {
+        match advance(
+            asked,
+            input,
+            piece,
+            &mut reader,
+            detector,
+            &mut look,
+            more,
+            held,
+        )? {
             Progress::Underway => write_held(held, output)?,
             Progress::Stopped(end) => return Ok(end),
-            Progress::AtEnd => return finish(asked, reader, detector, more, held),
+            Progress::AtEnd => return finish(asked, reader, detector, &mut look, more, held),
         }
     }
     Err(Refusal::DeviceFault)

@@ -8,6 +8,7 @@ ghost use Rattle.hg_explain.specs.Life as life;
 ghost use Rattle.hg_check.specs.Printing.{line_text};
 ghost use Rattle.hg_sets.specs.Interning.{set_at};
 
+use crate::form::{Asked, Form};
 use crate::look::{Look, is_bare, look_at};
 use crate::pieces::{hold, hold_all, hold_members, hold_number};
 use hg_cells::Cell;
@@ -210,8 +211,8 @@ fn hold_race(
 
 /// Holds the line of an event that was accepted just now.
 pub fn hold_event(
+    asked: Asked,
     detector: &MemoryDetector,
-    word: u64,
     before: Look,
     from: usize,
     line: u64,
@@ -219,33 +220,34 @@ pub fn hold_event(
     held: &mut Vec<u8>,
 ) -> Result<(), Refusal>
     requires whole { IsWhole detector.now }
-    requires word { word < 2 ^ 62 }
+    requires word { asked.word < 2 ^ 62 }
     requires actor { life.actor_of event.now < 1024 }
-    ensures ok { OnOk result (held.new.items ≡ held.old.items ++ line_text (life.event_line word before from (content_of detector.now) line event.now)) }
+    ensures ok { OnOk result (held.new.items ≡ held.old.items ++ line_text (life.event_line asked.word asked.form before from (content_of detector.now) line event.now)) }
     ensures cause { IfErr result (λ r. r ≡ Refusal.OutOfMemory) }
 {
-    hold_front(detector, line, held)?;
+    hold_front(detector, asked.form, line, held)?;
     hold_acts(detector, event, held)?;
-    hold_state(detector, word, held)?;
-    hold_changes(detector, word, before, actor_of(event), held)?;
-    hold_race(detector, from, word, held)?;
+    hold_state(detector, asked.word, held)?;
+    hold_changes(detector, asked.word, before, actor_of(event), held)?;
+    hold_race(detector, from, asked.word, held)?;
     hold(b"\n", held)
 }
 
-/// Holds the number of an event and of its line.
-fn hold_front(detector: &MemoryDetector, line: u64, held: &mut Vec<u8>) -> Result<(), Refusal>
-    ensures ok { OnOk result (held.new.items ≡ held.old.items ++ life.front_text (content_of detector.now) line) }
+/// Holds the number of an event, and of its line where lines are told.
+fn hold_front(
+    detector: &MemoryDetector,
+    form: Form,
+    line: u64,
+    held: &mut Vec<u8>,
+) -> Result<(), Refusal>
+    ensures ok { OnOk result (held.new.items ≡ held.old.items ++ life.front_text form (content_of detector.now) line) }
     ensures cause { IfErr result (λ r. r ≡ Refusal.OutOfMemory) }
 {
-    let mut number = Buffer::new();
-    let mut place = Buffer::new();
-    let pieces = [
-        b"event ".as_slice(),
-        number.format(detector.state().events()).as_bytes(),
-        b" line ".as_slice(),
-        place.format(line).as_bytes(),
-    ];
-    hold_all(&pieces, held)
+    hold_number(b"event ", detector.state().events(), held)?;
+    if form.lines {
+        return hold_number(b" line ", line, held);
+    }
+    Ok(())
 }
 
 /// Holds what became of a word's state.

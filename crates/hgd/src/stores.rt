@@ -10,6 +10,7 @@ use hg_commands::listing::{store_graph, store_reports};
 use hg_commands::opening::open_store;
 use hg_disk::FileDisk;
 use hg_explain::commands::explain;
+use hg_explain::form::Form;
 use hg_options::task::{Explaining, Frames, Source};
 use hg_store::devices::Devices;
 use hg_streams::input::Input;
@@ -132,7 +133,7 @@ pub fn graph_in(rt: &HostRuntime, directory: &str, verbose: bool) -> u8 {
     status
 }
 
-/// Prints the life of a word by the store's events.
+/// Prints the life of a word by the store's events. They have no lines.
 pub fn explain_in(rt: &HostRuntime, directory: &str, explaining: Explaining) -> u8 {
     let devices = match open_directory(rt, directory, Access::Look) {
         Ok(devices) => devices,
@@ -146,12 +147,16 @@ pub fn explain_in(rt: &HostRuntime, directory: &str, explaining: Explaining) -> 
             return FAULT;
         }
     };
+    let form = Form {
+        all: explaining.all,
+        lines: false,
+    };
     let mut input = Input::new(EventText::new(rt.alloc(), store));
     let mut output = Output::new(rt.stdout());
     explain(
         rt.alloc(),
         explaining.address,
-        explaining.all,
+        form,
         &mut input,
         &mut output,
         &mut faults,

@@ -3,6 +3,7 @@
 use crate::told::tell_of_text;
 use hg_check::commands::{check, graph};
 use hg_explain::commands::explain;
+use hg_explain::form::Form;
 use hg_options::task::Explaining;
 use hg_streams::input::Input;
 use hg_streams::output::Output;
@@ -59,13 +60,17 @@ pub fn graph_input(rt: &HostRuntime, verbose: bool) -> u8 {
 
 /// Explains a word by the trace on standard input.
 pub fn explain_input(rt: &HostRuntime, explaining: Explaining) -> u8 {
+    let form = Form {
+        all: explaining.all,
+        lines: true,
+    };
     let mut input = Input::new(rt.stdin());
     let mut output = Output::new(rt.stdout());
     let mut faults = Output::new(rt.stderr());
     explain(
         rt.alloc(),
         explaining.address,
-        explaining.all,
+        form,
         &mut input,
         &mut output,
         &mut faults,

@@ -6,4 +6,4 @@ use Rattle.hg_explain.proofs.commands.print_explain.Goals as goal
 
 pub returns-in_err-detector-clause-front : goal.returns-in_err-detector-clause-front
 returns-in_err-detector-clause-front g c =
-    always_err _ (wrote_none c.args.asked.word c.args.asked.all c.args.input.now.calls c.args.output.now.calls c.args.output.now.calls (front_none c.args.output.now.calls (line_text (word_line c.args.asked.word))))
+    always_err _ (wrote_none c.args.asked.word c.args.asked.form c.args.input.now.calls c.args.output.now.calls c.args.output.now.calls (front_none c.args.output.now.calls (line_text (word_line c.args.asked.word))))

@@ -14,12 +14,13 @@ use Rattle.hg_explain.proofs.passing.push.Goals as goal
 pub loop-found-init : goal.loop-found-init
 loop-found-init c = record {
   reaches = reaches_first c.args.reader.now c.args.detector.now c.args.piece.now c.requires.whole;
-  told = told_first c.args.asked.word c.args.asked.all c.args.reader.now (content_of c.args.detector.now) c.args.more.now c.args.piece.now c.args.held.now.items;
+  told = told_first c.args.asked.word c.args.asked.form c.args.reader.now (content_of c.args.detector.now) c.args.more.now c.args.piece.now c.args.held.now.items;
+  looks = c.requires.looks;
 }
 
 pub returns-then-is_some-clause-told_all : goal.returns-then-is_some-clause-told_all
 returns-then-is_some-clause-told_all c end same =
-    told_all c.args.asked.word c.args.asked.all c.args.reader.now c.loop-found.reader (content_of c.args.detector.now) c.loop-found.detector c.pass_access.new.detector c.args.more.now c.loop-found.more c.pass_access.new.more
+    told_all c.args.asked.word c.args.asked.form c.args.reader.now c.loop-found.reader (content_of c.args.detector.now) c.loop-found.detector c.pass_access.new.detector c.args.more.now c.loop-found.more c.pass_access.new.more
     c.args.piece.now c.loop-found.rest.now c.args.held.now.items c.loop-found.held.items c.pass_access.new.held.items
     c.loop-found.invariant.told (c.in_ok-stopped.ensures.stays end same)
 
@@ -31,15 +32,16 @@ loop-found-preserved-in-Some c =
       reaches = subst (λ (r : List ℕ). Reaches c.args.reader.now c.args.detector.now c.args.piece.now c.take_access.new.self c.pass_access.new.detector r) (sym (left_is c.in-Some.found.used c.loop-found.rest.now))
           (reaches_on c.args.reader.now c.loop-found.reader c.take_access.new.self c.args.detector.now c.loop-found.detector c.pass_access.new.detector c.args.piece.now c.loop-found.rest.now (record { line = c.lines.result; event = Ok (event_of c.in-Some.found) }) c.in-Some.found.used
           c.loop-found.invariant.reaches gives (went c.loop-found.detector c.pass_access.new.detector (record { line = c.lines.result; event = Ok (event_of c.in-Some.found) }) (c.in_ok-stopped.ensures.went accepted)));
-      told = subst (λ (r : List ℕ). ToldOn c.args.asked.word c.args.asked.all c.args.reader.now (content_of c.args.detector.now) c.args.more.now c.args.piece.now c.take_access.new.self (content_of c.pass_access.new.detector) c.pass_access.new.more r c.args.held.now.items c.pass_access.new.held.items) (sym (left_is c.in-Some.found.used c.loop-found.rest.now))
-          (told_on c.args.asked.word c.args.asked.all c.args.reader.now c.loop-found.reader c.take_access.new.self (content_of c.args.detector.now) (content_of c.loop-found.detector) (content_of c.pass_access.new.detector)
+      told = subst (λ (r : List ℕ). ToldOn c.args.asked.word c.args.asked.form c.args.reader.now (content_of c.args.detector.now) c.args.more.now c.args.piece.now c.take_access.new.self (content_of c.pass_access.new.detector) c.pass_access.new.more r c.args.held.now.items c.pass_access.new.held.items) (sym (left_is c.in-Some.found.used c.loop-found.rest.now))
+          (told_on c.args.asked.word c.args.asked.form c.args.reader.now c.loop-found.reader c.take_access.new.self (content_of c.args.detector.now) (content_of c.loop-found.detector) (content_of c.pass_access.new.detector)
           c.args.more.now c.loop-found.more c.pass_access.new.more c.args.piece.now c.loop-found.rest.now c.args.held.now.items c.loop-found.held.items c.pass_access.new.held.items (record { line = c.lines.result; event = Ok (event_of c.in-Some.found) }) c.in-Some.found.used
           c.loop-found.invariant.told gives (c.in_ok-stopped.ensures.tells accepted));
+      looks = c.in_ok-stopped.ensures.looks accepted;
     }
 
 pub returns-then-is_some-2-clause-told_all : goal.returns-then-is_some-2-clause-told_all
 returns-then-is_some-2-clause-told_all c end same =
-    told_all c.args.asked.word c.args.asked.all c.args.reader.now c.loop-found.reader (content_of c.args.detector.now) c.loop-found.detector c.pass.new.detector c.args.more.now c.loop-found.more c.pass.new.more
+    told_all c.args.asked.word c.args.asked.form c.args.reader.now c.loop-found.reader (content_of c.args.detector.now) c.loop-found.detector c.pass.new.detector c.args.more.now c.loop-found.more c.pass.new.more
     c.args.piece.now c.loop-found.rest.now c.args.held.now.items c.loop-found.held.items c.pass.new.held.items
     c.loop-found.invariant.told (c.in_ok-stopped-2.ensures.stays end same)
 
@@ -51,8 +53,9 @@ loop-found-preserved c =
       reaches = subst (λ (r : List ℕ). Reaches c.args.reader.now c.args.detector.now c.args.piece.now c.take.new.self c.pass.new.detector r) (sym (left_is c.in-Line.used c.loop-found.rest.now))
           (reaches_on c.args.reader.now c.loop-found.reader c.take.new.self c.args.detector.now c.loop-found.detector c.pass.new.detector c.args.piece.now c.loop-found.rest.now c.in-Line.reading c.in-Line.used
           c.loop-found.invariant.reaches gives (went c.loop-found.detector c.pass.new.detector c.in-Line.reading (c.in_ok-stopped-2.ensures.went accepted)));
-      told = subst (λ (r : List ℕ). ToldOn c.args.asked.word c.args.asked.all c.args.reader.now (content_of c.args.detector.now) c.args.more.now c.args.piece.now c.take.new.self (content_of c.pass.new.detector) c.pass.new.more r c.args.held.now.items c.pass.new.held.items) (sym (left_is c.in-Line.used c.loop-found.rest.now))
-          (told_on c.args.asked.word c.args.asked.all c.args.reader.now c.loop-found.reader c.take.new.self (content_of c.args.detector.now) (content_of c.loop-found.detector) (content_of c.pass.new.detector)
+      told = subst (λ (r : List ℕ). ToldOn c.args.asked.word c.args.asked.form c.args.reader.now (content_of c.args.detector.now) c.args.more.now c.args.piece.now c.take.new.self (content_of c.pass.new.detector) c.pass.new.more r c.args.held.now.items c.pass.new.held.items) (sym (left_is c.in-Line.used c.loop-found.rest.now))
+          (told_on c.args.asked.word c.args.asked.form c.args.reader.now c.loop-found.reader c.take.new.self (content_of c.args.detector.now) (content_of c.loop-found.detector) (content_of c.pass.new.detector)
           c.args.more.now c.loop-found.more c.pass.new.more c.args.piece.now c.loop-found.rest.now c.args.held.now.items c.loop-found.held.items c.pass.new.held.items c.in-Line.reading c.in-Line.used
           c.loop-found.invariant.told gives (c.in_ok-stopped-2.ensures.tells accepted));
+      looks = c.in_ok-stopped-2.ensures.looks accepted;
     }
