@@ -3,7 +3,7 @@
 //! | Words | Map |
 //! |---|---|
 //! | `memory` | all pages in memory |
-//! | `pool FRAMES EVERY` | at most so many pages in memory, over a file of slots on a disk in memory; after each EVERY events the map is frozen, written and sealed (0: never) |
+//! | `pool FRAMES EVERY` | at most so many pages in memory, over a file of slots on a disk in memory; after each EVERY events (0: never) the pages that wait are written and sealed, the map is frozen anew, and half of its pages are written |
 //!
 //! The status is 0, or 2 where a line was refused or bad. Where the map has a fault or memory is refused it is 3, and the one line is `fault C`.
 #![tactic(auto)]

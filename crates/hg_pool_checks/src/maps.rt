@@ -52,9 +52,10 @@ pub fn check_in_memory(alloc: Global, text: &[u8], out: &mut Vec<u8>) -> Result<
     put_run(alloc, &detector, end, out)
 }
 
-/// One whole checkpoint of the pool under a detector.
+/// A checkpoint of the pool under a detector.
 fn write_map(detector: &mut PoolDetector) -> Result<(), Refusal>
-    ensures lawful { OnOk result (detector.new.words.frames ≡ []) }
+    requires lawful { AtPresent ⟦<Pool<MemDisk> as Words>⟧.may_bring detector.old }
+    ensures lawful { AtPresent ⟦<Pool<MemDisk> as Words>⟧.may_bring detector.new }
 {
     checkpoint(detector.words_mut())
 }
