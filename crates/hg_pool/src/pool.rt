@@ -185,6 +185,7 @@ impl<D: Disk> Pool<D> {
     }
 
     /// Gives words of a page a cell, from one place up to another, and makes the page the one used last. The frozen map stays.
+    #[inline]
     pub fn update(&mut self, page: u64, from: usize, to: usize, cell: Cell)
         requires present { is_some (frame_in self.old.frames page) ≡ true }
         requires settled { (slot_in self.old.waiting page ≡ None) ⊎ (is_some (copy_in self.old.copies page) ≡ true) }
@@ -196,21 +197,6 @@ impl<D: Disk> Pool<D> {
             → (length f.cells ≡ 256) × ((q : ℕ) → frame_in self.new.frames q ≡ (if page == q then Some (record { cells = filled f.cells from to cell; is_dirty = true }) else frame_in self.old.frames q)) }
     {
         self.parts.update(page, from, to, cell);
-    }
-
-    // Gives words of a page a cell, from one place up to another, and leaves the order of use. The frozen map stays.
-    #[inline]
-    pub(crate) fn change(&mut self, page: u64, from: usize, to: usize, cell: Cell)
-        requires present { is_some (frame_in self.old.frames page) ≡ true }
-        requires settled { (slot_in self.old.waiting page ≡ None) ⊎ (is_some (copy_in self.old.copies page) ≡ true) }
-        requires in_order { from ≤ to }
-        requires in_page { to ≤ 256 }
-        ensures went { Went ⟦<D as Disk>⟧ self.old self.new }
-        ensures rest { self.new ≡ record self.old { frames = self.new.frames } }
-        ensures frames { (f : FrameOf) → frame_in self.old.frames page ≡ Some f
-            → (length f.cells ≡ 256) × ((q : ℕ) → frame_in self.new.frames q ≡ (if page == q then Some (record { cells = filled f.cells from to cell; is_dirty = true }) else frame_in self.old.frames q)) }
-    {
-        self.parts.fill(page, from, to, cell);
     }
 
     /// The file, as the calls left it.
