@@ -130,6 +130,7 @@ impl<D: Disk> Parts<D> {
     {
         if let Some(table) = self.frozen.take() {
             self.root = table;
+            self.search_from = 0;
         }
     }
 }

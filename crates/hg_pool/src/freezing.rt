@@ -79,8 +79,8 @@ fn make_roomy(table: &mut Table, count: usize, slots: u32) -> Result<(), Refusal
 impl<D: Disk> Parts<D> {
     ghost use Rattle.hg_pool.specs.Sound.{IsSound, shown_of};
 
-    // The least slot from this one on that nothing names.
-    fn free_slot_from(&self, from: u32) -> Option<u32>
+    /// The least slot from this one on that nothing names.
+    pub(crate) fn free_slot_from(&self, from: u32) -> Option<u32>
         requires sound { IsSound self.now }
         ensures { MatchOption result ((slot : ℕ) → from ≤ slot → slot < self.now.slots → IsTaken (shown_of self.now) slot)
             (λ free. (from ≤ free) × (free < self.now.slots) × (¬ IsTaken (shown_of self.now) free) × ((slot : ℕ) → from ≤ slot → slot < free → IsTaken (shown_of self.now) slot)) }

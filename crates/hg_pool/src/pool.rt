@@ -112,6 +112,7 @@ impl<D: Disk> Pool<D> {
                     frames,
                     slots,
                     is_sealed: false,
+                    search_from: 0,
                 },
             }),
             Err(_) => Err(file),
