@@ -91,7 +91,10 @@ impl<D: Disk> Parts<D> {
         match self.awaits(page) {
             None => Ok(Put::Stale),
             Some(slot) => match self.write_waiting(slot, page) {
-                Ok(()) => Ok(Put::Written),
+                Ok(()) => {
+                    self.search_from = 0;
+                    Ok(Put::Written)
+                }
                 Err(refusal) => Err(refusal),
             },
         }

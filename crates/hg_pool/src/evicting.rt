@@ -85,16 +85,15 @@ impl<D: Disk> Parts<D> {
         Ok(())
     }
 
-    // The next search for a free slot begins behind a slot that was found, or at the page's former slot where that is free now.
+    // The next search for a free slot begins at the slot that was found, or at the page's former slot where that is free then.
     fn go_on_from(&mut self, found: u32, former: Option<u32>)
         ensures rest { self.new ≡ record self.old { search_from = self.new.search_from } }
     {
-        let next = found.saturating_add(1);
         self.search_from = match former {
-            Some(slot) if !self.root.names(slot) && !self.frozen_table().names(slot) => next.min(
-                slot,
-            ),
-            _ => next,
+            Some(slot) if !self.root.names(slot) && !self.frozen_table().names(slot) => {
+                found.min(slot)
+            }
+            _ => found,
         };
     }
 
@@ -143,6 +142,7 @@ impl<D: Disk> Parts<D> {
         ensures order { map (λ e. e.0) self.new.frames.entries ≡ map (λ e. e.0) self.old.frames.entries }
         ensures clean { OnOk result ((f : FrameOf) → frame_in self.new.frames.entries page ≡ Some f → f.is_dirty ≡ false) }
     {
+        self.search_from = 0;
         let Ok(encoded) = self.encoded(page) else {
             return Err(Refusal::OutOfMemory);
         };

@@ -34,7 +34,7 @@ pub(crate) struct Parts<D: Disk> {
     pub(crate) frames: LruCache<u64, Frame>,
     pub(crate) slots: u32,
     pub(crate) is_sealed: bool,
-    // Where the search for a free slot begins: most slots below are taken.
+    // Where the search for a free slot begins: no slot below is free. No clause rests on that, as a search that finds none goes on at slot 0.
     pub(crate) search_from: u32,
 }
 
