@@ -8,8 +8,8 @@ ghost use Rattle.hg_pages.specs.Slots.{IsSlot, slot_text};
 ghost use Rattle.hg_pages.specs.Tables.{slot_in};
 ghost use Rattle.hg_pool.specs.declared.frame.Frame.{Frame as FrameOf};
 ghost use Rattle.hg_pool.specs.Maps.{IsSealed, bytes_of, copy_in, disk_of, frame_in, frozen_at, is_broken};
-ghost use Rattle.hg_pool.specs.Kept.{IsWhole, Stays};
-ghost use Rattle.hg_pool.specs.Answers.{IsDeviceCause, IsFrozen, least_of};
+ghost use Rattle.hg_pool.specs.Kept.{CellsFrom, IsWhole, Stays};
+ghost use Rattle.hg_pool.specs.Answers.{IsDeviceCause, IsFrozen, least_of, order_of};
 
 use crate::job::{Job, Put};
 use crate::parts::{Parts, told};
@@ -83,13 +83,18 @@ impl<D: Disk> Parts<D> {
         ensures refusal { IfErr result IsDeviceCause }
         ensures broken { (result ≡ Err Refusal.Broken) → IsTrue (is_broken (shown_of self.old)) }
         ensures breaks { OnErr result (IsTrue (is_broken (shown_of self.new))) }
+        ensures cells { CellsFrom self.old.frames.entries self.new.frames.entries }
+        ensures order { order_of (shown_of self.new) ≡ order_of (shown_of self.old) }
         ensures refused { OnErr result (self.new ≡ record self.old { file = self.new.file }) }
         ensures device { D.failures (disk_of (shown_of self.new)) ≡ failed_after result (D.failures (disk_of (shown_of self.old))) }
     {
         match self.awaits(page) {
             None => Ok(Put::Stale),
             Some(slot) => match self.write_waiting(slot, page) {
-                Ok(()) => Ok(Put::Written),
+                Ok(()) => {
+                    self.search_from = 0;
+                    Ok(Put::Written)
+                }
                 Err(refusal) => Err(refusal),
             },
         }
@@ -128,6 +133,7 @@ impl<D: Disk> Parts<D> {
     {
         if let Some(table) = self.frozen.take() {
             self.root = table;
+            self.search_from = 0;
         }
     }
 }

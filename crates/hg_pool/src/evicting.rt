@@ -85,6 +85,39 @@ impl<D: Disk> Parts<D> {
         Ok(())
     }
 
+    // The next search for a free slot begins at the slot that was found, or at the page's former slot where that is free then.
+    fn go_on_from(&mut self, found: u32, former: Option<u32>)
+        ensures rest { self.new ≡ record self.old { search_from = self.new.search_from } }
+    {
+        self.search_from = match former {
+            Some(slot) if !self.root.names(slot) && !self.frozen_table().names(slot) => {
+                found.min(slot)
+            }
+            _ => found,
+        };
+    }
+
+    // Writes a page that was changed to a free slot that a search found.
+    fn write_searched(&mut self, page: u64, slot: u32) -> Result<(), Refusal>
+        requires sound { IsSound self.old }
+        requires present { is_some (frame_in self.old.frames.entries page) ≡ true }
+        requires settled { (slot_in self.old.waiting.entries page ≡ None) ⊎ (is_some (copy_in self.old.copies.entries page) ≡ true) }
+        requires free { ¬ IsTaken (shown_of self.old) slot }
+        requires within { slot < self.old.slots }
+        ensures sound { IsSound self.new }
+        ensures stays { Stays ⟦<D as Disk>⟧ (shown_of self.old) (shown_of self.new) }
+        ensures refusal { IfErr result (IsTrueCause (shown_of self.old) (shown_of self.new)) }
+        ensures undamaged { IfErr result (λ r. r ≢ Refusal.Damaged) }
+        ensures device { D.failures (disk_of (shown_of self.new)) ≡ failed_after result (D.failures (disk_of (shown_of self.old))) }
+        ensures cells { CellsFrom self.old.frames.entries self.new.frames.entries }
+        ensures order { map (λ e. e.0) self.new.frames.entries ≡ map (λ e. e.0) self.old.frames.entries }
+        ensures clean { OnOk result ((f : FrameOf) → frame_in self.new.frames.entries page ≡ Some f → f.is_dirty ≡ false) }
+    {
+        let former = self.live.get(page);
+        self.go_on_from(slot, former);
+        self.write_changed(page, slot)
+    }
+
     // Whether a page that is in memory was changed.
     fn is_dirty(&self, page: u64) -> bool
         ensures { (f : FrameOf) → frame_in self.now.frames.entries page ≡ Some f → result ≡ f.is_dirty }
@@ -109,6 +142,7 @@ impl<D: Disk> Parts<D> {
         ensures order { map (λ e. e.0) self.new.frames.entries ≡ map (λ e. e.0) self.old.frames.entries }
         ensures clean { OnOk result ((f : FrameOf) → frame_in self.new.frames.entries page ≡ Some f → f.is_dirty ≡ false) }
     {
+        self.search_from = 0;
         let Ok(encoded) = self.encoded(page) else {
             return Err(Refusal::OutOfMemory);
         };
@@ -137,7 +171,7 @@ impl<D: Disk> Parts<D> {
             }
         }
         match self.free_slot() {
-            Some(slot) => self.write_changed(page, slot),
+            Some(slot) => self.write_searched(page, slot),
             None => Err(Refusal::FullSlots),
         }
     }

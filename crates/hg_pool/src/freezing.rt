@@ -79,8 +79,8 @@ fn make_roomy(table: &mut Table, count: usize, slots: u32) -> Result<(), Refusal
 impl<D: Disk> Parts<D> {
     ghost use Rattle.hg_pool.specs.Sound.{IsSound, shown_of};
 
-    // The least slot from this one on that nothing names.
-    fn free_slot_from(&self, from: u32) -> Option<u32>
+    /// The least slot from this one on that nothing names.
+    pub(crate) fn free_slot_from(&self, from: u32) -> Option<u32>
         requires sound { IsSound self.now }
         ensures { MatchOption result ((slot : ℕ) → from ≤ slot → slot < self.now.slots → IsTaken (shown_of self.now) slot)
             (λ free. (from ≤ free) × (free < self.now.slots) × (¬ IsTaken (shown_of self.now) free) × ((slot : ℕ) → from ≤ slot → slot < free → IsTaken (shown_of self.now) slot)) }
@@ -142,12 +142,13 @@ impl<D: Disk> Parts<D> {
         ensures whole { IsWhole ⟦<D as Disk>⟧ (shown_of self.old) → IsWhole ⟦<D as Disk>⟧ (shown_of self.new) }
         ensures waiting { OnOk result ((q : ℕ) → (is_some (slot_in self.new.waiting.entries q) ≡ true) ↔ HasDirty self.old.frames.entries q) }
         ensures picked { OnOk result (AreLeastFree (shown_of self.old) self.new.waiting.entries) }
-        ensures rest { self.new ≡ record self.old { frozen = self.new.frozen; live = self.new.live; waiting = self.new.waiting; copies = self.new.copies; is_sealed = self.new.is_sealed } }
+        ensures rest { self.new ≡ record self.old { frozen = self.new.frozen; live = self.new.live; waiting = self.new.waiting; copies = self.new.copies; is_sealed = self.new.is_sealed; search_from = self.new.search_from } }
         ensures table { self.new.live.entries ≡ self.old.live.entries }
         ensures sealed { OnOk result (self.new.is_sealed ≡ false) }
         ensures refused { OnErr result (shown_of self.new ≡ shown_of self.old) }
         ensures refusal { IfErr result (IsFreezeRefusal (shown_of self.old)) }
     {
+        self.search_from = 0;
         let _count = self.frames.len();
         let changed = changed_pages(self.alloc, &self.frames)?;
         let _entries = changed.entries();

@@ -96,6 +96,7 @@ impl<D: Disk> Parts<D> {
     }
 
     /// Gives words of a page a cell, and makes it the one used last.
+    #[inline]
     pub(crate) fn update(&mut self, page: u64, from: usize, to: usize, cell: Cell)
         requires sound { IsSound self.old }
         requires present { is_some (frame_in self.old.frames.entries page) ≡ true }
@@ -108,6 +109,10 @@ impl<D: Disk> Parts<D> {
         ensures frames { (f : FrameOf) → frame_in self.old.frames.entries page ≡ Some f
             → (length f.cells ≡ 256) × ((q : ℕ) → frame_in self.new.frames.entries q ≡ (if page == q then Some (record { cells = filled f.cells from to cell; is_dirty = true }) else frame_in self.old.frames.entries q)) }
     {
+        if self.is_last(page) {
+            self.fill(page, from, to, cell);
+            return;
+        }
         self.use_page(page);
         self.fill(page, from, to, cell);
     }

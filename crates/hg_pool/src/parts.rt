@@ -34,6 +34,8 @@ pub(crate) struct Parts<D: Disk> {
     pub(crate) frames: LruCache<u64, Frame>,
     pub(crate) slots: u32,
     pub(crate) is_sealed: bool,
+    // Where the search for a free slot begins: no slot below is free. No clause rests on that, as a search that finds none goes on at slot 0.
+    pub(crate) search_from: u32,
 }
 
 impl<D: Disk + Drop> Drop for Parts<D> {
@@ -49,6 +51,7 @@ impl<D: Disk + Drop> Drop for Parts<D> {
             frames,
             slots: _,
             is_sealed: _,
+            search_from: _,
         } = self;
         drop(file);
         drop(root);
@@ -90,6 +93,7 @@ impl<D: Disk> Parts<D> {
             frames,
             slots: _,
             is_sealed: _,
+            search_from: _,
         } = self;
         drop(root);
         drop(frozen);
@@ -110,15 +114,14 @@ impl<D: Disk> Parts<D> {
         }
     }
 
-    /// The least slot that no table names and that is not picked.
+    /// A slot that no table names and that is not picked, where there is one.
     pub(crate) fn free_slot(&self) -> Option<u32>
         requires sound { IsSound self.now }
         ensures { MatchOption result (IsFull (shown_of self.now)) (λ slot. (slot < self.now.slots) × (¬ IsTaken (shown_of self.now) slot)) }
     {
-        let tables = [&self.root, self.frozen_table(), &self.live, &self.waiting];
-        match self.file.free_slot(&tables) {
-            Some(slot) => { if slot < self.slots { Some(slot) } else { None } }
-            None => None,
+        match self.free_slot_from(self.search_from) {
+            Some(slot) => Some(slot),
+            None => self.free_slot_from(0),
         }
     }
 

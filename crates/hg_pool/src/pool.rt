@@ -5,7 +5,7 @@ ghost use Rattle.hg_detect.specs.Words.{failed_after};
 ghost use Rattle.hg_pages.specs.Slots.{IsKnown, IsSlot, slot_text};
 ghost use Rattle.hg_pages.specs.Tables.{slot_in};
 ghost use Rattle.hg_pool.specs.Maps.{IsSealed, copy_in, disk_of, frame_in, frozen, is_broken, live};
-ghost use Rattle.hg_pool.specs.Kept.{AreWithin, IsWhole, SameMap, Stays, Went};
+ghost use Rattle.hg_pool.specs.Kept.{AreWithin, CellsFrom, IsWhole, SameMap, Stays, Went};
 ghost use Rattle.hg_pool.specs.declared.frame.Frame.{Frame as FrameOf};
 ghost use Rattle.hg_cells.specs.declared.cell.Cell.TheVariants.{New};
 ghost use Rattle.hg_cells.specs.Pages.{filled};
@@ -112,6 +112,7 @@ impl<D: Disk> Pool<D> {
                     frames,
                     slots,
                     is_sealed: false,
+                    search_from: 0,
                 },
             }),
             Err(_) => Err(file),
@@ -185,6 +186,7 @@ impl<D: Disk> Pool<D> {
     }
 
     /// Gives words of a page a cell, from one place up to another, and makes the page the one used last. The frozen map stays.
+    #[inline]
     pub fn update(&mut self, page: u64, from: usize, to: usize, cell: Cell)
         requires present { is_some (frame_in self.old.frames page) ≡ true }
         requires settled { (slot_in self.old.waiting page ≡ None) ⊎ (is_some (copy_in self.old.copies page) ≡ true) }
@@ -196,21 +198,6 @@ impl<D: Disk> Pool<D> {
             → (length f.cells ≡ 256) × ((q : ℕ) → frame_in self.new.frames q ≡ (if page == q then Some (record { cells = filled f.cells from to cell; is_dirty = true }) else frame_in self.old.frames q)) }
     {
         self.parts.update(page, from, to, cell);
-    }
-
-    // Gives words of a page a cell, from one place up to another, and leaves the order of use. The frozen map stays.
-    #[inline]
-    pub(crate) fn change(&mut self, page: u64, from: usize, to: usize, cell: Cell)
-        requires present { is_some (frame_in self.old.frames page) ≡ true }
-        requires settled { (slot_in self.old.waiting page ≡ None) ⊎ (is_some (copy_in self.old.copies page) ≡ true) }
-        requires in_order { from ≤ to }
-        requires in_page { to ≤ 256 }
-        ensures went { Went ⟦<D as Disk>⟧ self.old self.new }
-        ensures rest { self.new ≡ record self.old { frames = self.new.frames } }
-        ensures frames { (f : FrameOf) → frame_in self.old.frames page ≡ Some f
-            → (length f.cells ≡ 256) × ((q : ℕ) → frame_in self.new.frames q ≡ (if page == q then Some (record { cells = filled f.cells from to cell; is_dirty = true }) else frame_in self.old.frames q)) }
-    {
-        self.parts.fill(page, from, to, cell);
     }
 
     /// The file, as the calls left it.
@@ -231,6 +218,7 @@ impl<D: Disk> Pool<D> {
         ensures picked { OnOk result (AreLeastFree self.old self.new.waiting) }
         ensures root { self.new.root ≡ self.old.root }
         ensures file { self.new.file ≡ self.old.file }
+        ensures frames { self.new.frames ≡ self.old.frames }
         ensures sealed { OnOk result (self.new.is_sealed ≡ false) }
         ensures refused { OnErr result (self.new ≡ self.old) }
         ensures refusal { IfErr result (IsFreezeRefusal self.old) }
@@ -246,13 +234,15 @@ impl<D: Disk> Pool<D> {
     }
 
     /// Writes a page to the slot that was picked for it: `Written` exactly where it waits and the bytes are those of its frozen
-    /// cells. It makes one device call at most and takes no memory.
+    /// cells. The pages in memory stay, with their cells. It makes one device call at most and takes no memory.
     pub fn put(&mut self, page: &EncodedPage) -> Result<Put, Refusal>
         ensures stays { Stays ⟦<D as Disk>⟧ self.old self.new }
         ensures written { IfOk result (λ put. put ≡ Put.Written → (cells : List CellOf) × (is_some (slot_in self.old.waiting page.now.page) ≡ true) × IsFrozen self.old page.now.page cells × IsSlot page.now.page cells page.now.bytes) }
         ensures stale { IfOk result (λ put. put ≡ Put.Stale → (slot : ℕ) (cells : List CellOf) → slot_in self.old.waiting page.now.page ≡ Some slot → IsFrozen self.old page.now.page cells → page.now.bytes ≡ slot_text page.now.page cells → ⊥) }
         ensures nothing { IfOk result (λ put. put ≡ Put.Stale → self.new ≡ self.old) }
         ensures waiting { IfOk result (λ put. put ≡ Put.Written → (q : ℕ) → slot_in self.new.waiting q ≡ (if page.now.page == q then None else slot_in self.old.waiting q)) }
+        ensures cells { CellsFrom self.old.frames self.new.frames }
+        ensures order { order_of self.new ≡ order_of self.old }
         ensures refusal { IfErr result IsDeviceCause }
         ensures broken { (result ≡ Err Refusal.Broken) → IsTrue (is_broken self.old) }
         ensures breaks { OnErr result (IsTrue (is_broken self.new)) }

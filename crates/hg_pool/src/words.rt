@@ -97,6 +97,17 @@ impl<D: Disk> Pool<D> {
         }
     }
 
+    // A page in its frame, where it is in memory. That used last is found without a look-up.
+    #[inline]
+    fn frame(&self, page: u64) -> Option<&Frame>
+        ensures { IfSome result (λ f. frame_in self.now.frames page ≡ Some f.now) }
+    {
+        match self.last_frame(page) {
+            Some(frame) => Some(frame),
+            None => self.parts.frames.peek(&page),
+        }
+    }
+
     // Gives the words of a page from one place up to another a cell.
     #[inline]
     fn fill_page(&mut self, number: u64, from: u64, to: u64, cell: Cell)
@@ -111,7 +122,7 @@ impl<D: Disk> Pool<D> {
         ensures within { (n m : ℕ) → IsWithin n m cell → AreWithin self.old.frames n m → AreWithin self.new.frames n m }
         ensures faithful { (n m : ℕ) → IsWithin n m cell → IsFaithful ⟦<D as Disk>⟧ self.old n m → IsFaithful ⟦<D as Disk>⟧ self.new n m }
     {
-        self.change(number, from as usize, to as usize, cell);
+        self.update(number, from as usize, to as usize, cell);
     }
 }
 
@@ -173,7 +184,7 @@ impl<D: Disk> Words for Pool<D> {
         if count == 0 || count > WORDS - from {
             return None;
         }
-        let frame = self.last_frame(number)?;
+        let frame = self.frame(number)?;
         if !self.is_settled(number) {
             return None;
         }

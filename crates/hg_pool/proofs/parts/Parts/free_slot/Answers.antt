@@ -1,26 +1,16 @@
-use Rattle.std.proofs.Common.{[], ◌∷◌, subst, arith}
-use Rattle.hg_pages.specs.Tables.{EachNamed, Shown, SomeNames}
-use Rattle.hg_pool.specs.Sound.{frozen_of}
-use Rattle.hg_pool.proofs.Slots.{one_of, of_four}
+use Rattle.std.proofs.Common.{◌≤◌, ◌<◌, ℕ, Option, Some, None, MatchOption, arith}
+use Rattle.hg_pool.specs.Answers.{IsTaken}
+use Rattle.hg_pool.specs.Sound.{shown_of}
 use Rattle.hg_pool.proofs.parts.Parts.free_slot.Goals as goal
 
-pub returns-then-slot-self : goal.returns-then-slot-self
-returns-then-slot-self g c =
-    let p = c.args.self.now in (
-      c.if-slot-self.true,
-      λ taken.
-          let found = subst (λ (t : Shown). ¬ SomeNames (p.root ∷ t ∷ p.live ∷ p.waiting ∷ []) c.in-Some.slot) c.frozen_table.ensures c.in-Some.ensures.1 in
-          found (of_four p.root (frozen_of p) p.live p.waiting c.in-Some.slot taken),
-    )
-
-pub returns-else-slot-self : goal.returns-else-slot-self
-returns-else-slot-self g c slot lt =
-    let p = c.args.self.now in
-    let each = subst (λ (t : Shown). EachNamed (SomeNames (p.root ∷ t ∷ p.live ∷ p.waiting ∷ [])) 0 c.in-Some.slot) c.frozen_table.ensures c.in-Some.ensures.2 in
-    one_of p.root (frozen_of p) p.live p.waiting slot (each slot (omega arith) (omega (arith, lt, c.if-slot-self.false)))
+-- a search from slot 0 on is one of all slots
+of_all : (P : ℕ → Type 0) (most : ℕ) (o : Option ℕ)
+    → MatchOption o ((slot : ℕ) → 0 ≤ slot → slot < most → P slot) (λ free. (0 ≤ free) × (free < most) × (¬ P free) × ((slot : ℕ) → 0 ≤ slot → slot < free → P slot))
+    → MatchOption o ((slot : ℕ) → slot < most → P slot) (λ slot. (slot < most) × (¬ P slot))
+of_all P most None each = λ slot lt. each slot (omega arith) lt
+of_all P most (Some free) found = (found.1, found.2)
 
 pub returns-in-None : goal.returns-in-None
-returns-in-None g c slot lt =
+returns-in-None g c =
     let p = c.args.self.now in
-    let each = subst (λ (t : Shown). EachNamed (SomeNames (p.root ∷ t ∷ p.live ∷ p.waiting ∷ [])) 0 1048576) c.frozen_table.ensures c.in-None.ensures in
-    one_of p.root (frozen_of p) p.live p.waiting slot (each slot (omega arith) (omega (arith, lt, c.requires.sound.most_slots)))
+    of_all (λ (slot : ℕ). IsTaken (shown_of p) slot) p.slots c.free_slot_from-in-None.result c.free_slot_from-in-None.ensures
