@@ -1,7 +1,6 @@
 -- An access to words that all have one cell.
-use Rattle.std.proofs.Common.{◌≡◌, ℕ, zero, suc, ◌+◌, ◌-◌, ◌*◌, ◌<◌, ◌≤◌, Bool, true, false, not, cond, nat_eq, List, [], ◌∷◌, ◌++◌, length, replicate, Option, Some, None, Result, Ok, Err, IfOk, refl, sym, ap, ◌∙◌, subst, ◌⊎◌, inl, inr, ⊎_elim, arith}
-use Rattle.std.specs.List.{All, range_with_len, flat_map}
-use Rattle.std.specs.Result.{result_err}
+use Rattle.std.proofs.Common.{◌≡◌, ℕ, zero, suc, ◌+◌, ◌-◌, ◌*◌, ◌<◌, ◌≤◌, Bool, true, false, not, cond, List, [], ◌∷◌, ◌++◌, length, replicate, Option, Some, None, Ok, Err, refl, sym, ap, ◌∙◌, subst, ◌⊎◌, inl, inr, ⊎_elim, arith}
+use Rattle.std.specs.List.{All, range_with_len}
 use Rattle.std.proofs.lemmas.Bool.{cases_eq, cases_lt, eq-eqb, ne_eqb}
 use Rattle.std.proofs.lemmas.List.{length_push, length-replicate, get_or_append_left, get_or-append_right}
 use Rattle.std.proofs.lemmas.List.Elements.{All-head}
@@ -19,7 +18,6 @@ use Rattle.hg_detect.specs.declared.plan.Planned.{Planned}
 use Rattle.hg_detect.specs.Making.{Asks, AsksBy, sets_in}
 use Rattle.hg_detect.specs.Planning.{Actor, ArePlanned, IsPlanned, touched_by, wanted}
 use Rattle.hg_detect.specs.Shown.{found, given, threads_number}
-use Rattle.hg_cells.specs.declared.report.KeptReport.{KeptReport}
 use Rattle.hg_detect.proofs.Plans.{kept_twice, owned_asked, owned_on, stands_on}
 use Rattle.hg_detect.proofs.Sequences.{asks_more, refused_more}
 use Rattle.hg_detect.proofs.Stepping.{given_outside}

@@ -1,6 +1,6 @@
 //! The parts of a detector, and what an accepted event does to them.
 
-ghost use Rattle.std.specs.Prelude.{◌≡◌, ◌⊎◌, ℕ, ◌+◌, ◌-◌, ◌/◌, ◌*◌, ◌≤◌, ◌<◌, ◌^◌, [], ◌∷◌, All, IfOk, get_or, length, vec_capacity, IfErr, OnOk, Ok, Err, None, if◌then◌else◌, ◌==◌};
+ghost use Rattle.std.specs.Prelude.{◌≡◌, ◌⊎◌, ℕ, ◌+◌, ◌-◌, ◌/◌, ◌*◌, ◌≤◌, ◌<◌, ◌^◌, [], ◌∷◌, All, IfOk, get_or, length, vec_capacity, IfErr, IfSome, OnOk, Ok, Err, None, if◌then◌else◌, ◌==◌};
 ghost use Rattle.std.specs.List.{list_any, range_with_len};
 ghost use Rattle.hg_graph.specs.Graph.{names};
 ghost use Rattle.hg_model.specs.Segments.{of_thread};
@@ -47,6 +47,27 @@ pub(crate) struct Engine<W> {
 }
 
 impl<W> Engine<W> {
+    /// The map of words.
+    pub(crate) fn into_words(self) -> W
+        ensures { result ≡ self.words }
+    {
+        let Engine {
+            state,
+            graph,
+            sets,
+            words,
+            plan,
+            kept,
+            total: _,
+        } = self;
+        drop(state);
+        drop(graph);
+        drop(sets);
+        drop(plan);
+        drop(kept);
+        words
+    }
+
     /// A kept report.
     pub(crate) fn report(&self, alloc: Global, index: usize) -> Result<Report, AllocError>
         requires known { All (λ r. r.threads < length self.now.sets.sets) self.now.kept.items }
@@ -267,12 +288,40 @@ impl<W: Words> Engine<W> {
     {
         let first = access.at / 4;
         let last = (access.at + (u64::from(access.len) - 1)) / 4;
-        if let Some(cell) = self.words.same(first, last + 1 - first) {
+        let found = self.words.same(first, last + 1 - first);
+        self.access_found(named, access, write, first, last + 1 - first, found)
+    }
+
+    /// Accepts an access, where the map was asked whether its words all have one cell.
+    #[inline(always)]
+    fn access_found(
+        &mut self,
+        named: &Named,
+        access: &Access,
+        write: bool,
+        first: u64,
+        count: u64,
+        found: Option<Cell>,
+    ) -> Result<(), Refusal>
+        requires event { named.now.event ≡ (if write then Event.Write access.now else Event.Read access.now) }
+        requires sound { IsSound self.old }
+        requires accepted { rules.verdict (rules.standing self.old.state) named.now ≡ Verdict.Accept }
+        requires lawful { AtPresent W.may_bring (shown_of self.old) }
+        requires first { first ≡ access.now.at / 4 }
+        requires count { count ≡ (access.now.at + access.now.len + 3) / 4 - first }
+        requires cells { IfSome found (λ cell. (w : ℕ) → first ≤ w → w < first + count → W.cell_of self.old.words w ≡ cell) }
+        requires within { IfSome found (IsWithin (length self.old.graph) (length self.old.sets.sets)) }
+        requires fillable { IfSome found (λ cell. W.may_fill self.old.words first count) }
+        ensures answers { Answers W.cell_of W.may_bring W.is_faithful W.may_refuse self.old named.now result self.new }
+        ensures went { W.went self.old.words self.new.words }
+        ensures failures { W.failures self.new.words ≡ failed_after result (W.failures self.old.words) }
+    {
+        if let Some(cell) = found {
             if are_same(cell, Cell::Exclusive(self.graph.present(access.t))) {
                 self.state.follow(named);
                 return Ok(());
             }
-            return self.access_alike(named, access, write, first, last + 1 - first, cell);
+            return self.access_alike(named, access, write, first, count, cell);
         }
         self.access_unlike(*named, *access, write)
     }

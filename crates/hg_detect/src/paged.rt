@@ -202,7 +202,7 @@ impl Words for PagedWords {
         self.cell(word)
     }
 
-    fn same(&self, first: u64, count: u64) -> Option<Cell> {
+    fn same(&mut self, first: u64, count: u64) -> Option<Cell> {
         let number = first / WORDS;
         let from = first % WORDS;
         if count == 0 || count > WORDS - from {

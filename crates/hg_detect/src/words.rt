@@ -82,11 +82,17 @@ pub trait Words {
         requires { is_brought self.now word }
         ensures { result ≡ cell_of self.now word };
 
-    /// The cell that `count` words from `first` on all have, where they may be filled. (`None` says nothing of them.)
-    fn same(&self, first: u64, count: u64) -> Option<Cell>
-        ensures cells { IfSome result (λ cell. (w : ℕ) → first ≤ w → w < first + count → cell_of self.now w ≡ cell) }
-        ensures named { IfSome result (λ cell. (segments sets : ℕ) → may_bring self.now segments sets → IsWithin segments sets cell) }
-        ensures fillable { IfSome result (λ cell. may_fill self.now first count) };
+    /// The cell that `count` words from `first` on all have, where they may be filled. (`None` says nothing of them.) An event asks
+    /// this first, so a map with frames takes it as a use of their page.
+    fn same(&mut self, first: u64, count: u64) -> Option<Cell>
+        ensures cells { IfSome result (λ cell. (w : ℕ) → first ≤ w → w < first + count → cell_of self.new w ≡ cell) }
+        ensures named { IfSome result (λ cell. (segments sets : ℕ) → may_bring self.new segments sets → IsWithin segments sets cell) }
+        ensures fillable { IfSome result (λ cell. may_fill self.new first count) }
+        ensures unchanged { (n m : ℕ) → is_faithful self.old n m → SameCells (cell_of self.old) (cell_of self.new) }
+        ensures lawful { KeepsLaw (may_bring self.old) (may_bring self.new) }
+        ensures faithful { KeepsLaw (is_faithful self.old) (is_faithful self.new) }
+        ensures went { went self.old self.new }
+        ensures failures { failures self.new ≡ failures self.old };
 
     /// Gives `count` words from `first` on a cell.
     fn fill(&mut self, first: u64, count: u64, cell: Cell)

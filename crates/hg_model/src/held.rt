@@ -42,6 +42,15 @@ impl Model for HeldLocks {
         × (length h.holds.items ≤ 64) };
 }
 
+// The same items, in memory of their own.
+fn copy_of<T: Copy + Default>(items: &ArrayVec<T, MOST_HELD>) -> ArrayVec<T, MOST_HELD>
+    ensures { result.items ≡ items.now.items }
+{
+    let mut copy = ArrayVec::new();
+    let _fit = copy.try_extend_from_slice(items.as_slice());
+    copy
+}
+
 impl HeldLocks {
     /// No lock.
     pub fn new() -> Self
@@ -51,6 +60,17 @@ impl HeldLocks {
             holds: ArrayVec::new(),
             any: ArrayVec::new(),
             writing: ArrayVec::new(),
+        }
+    }
+
+    /// The same locks, in memory of their own.
+    pub fn copy(&self) -> Self
+        ensures { result ≡ self.now }
+    {
+        HeldLocks {
+            holds: copy_of(&self.holds),
+            any: copy_of(&self.any),
+            writing: copy_of(&self.writing),
         }
     }
 

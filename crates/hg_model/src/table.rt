@@ -1,6 +1,6 @@
 //! The threads of a trace in a table by number, with the use of each lock.
 
-ghost use Rattle.std.specs.Prelude.{◌≡◌, ◌⊎◌, ◌<◌, ◌==◌, ◌++◌, true, false, length, None, slice_index_or, IfOk, IfErr, nat_lt, nat_le, [], ◌∷◌, not, Some, IfSome, is_some, replicate};
+ghost use Rattle.std.specs.Prelude.{◌≡◌, ◌⊎◌, ◌<◌, ◌==◌, ◌++◌, true, false, length, None, slice_index_or, IfOk, IfErr, OnOk, nat_lt, nat_le, [], ◌∷◌, not, Some, IfSome, is_some, replicate};
 ghost use Rattle.std.specs.Option.{option_copied, option_map};
 ghost use Rattle.std.specs.List.{list_all, list_any};
 ghost use Rattle.std.specs.List.Sorted.{IsStrictlyIncreasing};
@@ -8,7 +8,7 @@ ghost use Rattle.hg_model.specs.Locks.{with_hold, without_lock, has_lock, has_lo
 ghost use Rattle.hg_model.specs.Verdicts.{has_thread, MayFollow};
 ghost use Rattle.hg_model.specs.Change.{change, with_held, with_thread, dead, locks_of, threads_after};
 ghost use Rattle.hg_model.specs.Restoring.{AreThreads, excludes, fits, holds_alive, is_next};
-ghost use Rattle.hg_model.specs.Tables.{readers_in};
+ghost use Rattle.hg_model.specs.Tables.{readers_in, started};
 
 use crate::event::Event;
 use crate::held::{HeldLock, HeldLocks};
@@ -86,6 +86,13 @@ impl ThreadTable {
             }
         }
         Ok(table)
+    }
+
+    /// The threads, in memory of their own.
+    pub(crate) fn list(&self, alloc: Global) -> Result<Vec<ThreadState>, AllocError>
+        ensures { IfOk result (λ threads. threads.items ≡ self.now) }
+    {
+        started_in(alloc, &self.slots)
     }
 
     /// Adds a thread with its locks, where it may stand behind the others.
@@ -302,6 +309,33 @@ impl ThreadTable {
         let readers = readers_of(self.uses[usize::from(l)]);
         self.uses[usize::from(l)] = LockUse::Reading(readers.saturating_sub(1));
     }
+}
+
+/// Puts the thread of a place at the end, where one stands there.
+fn push_started(
+    slot: &Option<ThreadState>,
+    threads: &mut Vec<ThreadState>,
+) -> Result<(), AllocError>
+    ensures { OnOk result (threads.new.items ≡ threads.old.items ++ started (slot.now ∷ [])) }
+{
+    match slot {
+        Some(thread) => {
+            threads.push(thread.copy())?;
+            Ok(())
+        }
+        None => Ok(()),
+    }
+}
+
+/// The threads that stand at these places.
+fn started_in(alloc: Global, slots: &[Option<ThreadState>]) -> Result<Vec<ThreadState>, AllocError>
+    ensures { IfOk result (λ threads. threads.items ≡ started slots.now) }
+{
+    let mut threads = Vec::new(alloc);
+    for slot in slots {
+        push_started(slot, &mut threads)?;
+    }
+    Ok(threads)
 }
 
 /// How many threads hold a lock for reading.

@@ -1,5 +1,7 @@
 //! Threads of a trace.
 
+ghost use Rattle.std.specs.Prelude.{◌≡◌};
+
 use crate::held::HeldLocks;
 
 /// A thread that was started, dead or alive, with the locks that it holds.
@@ -9,4 +11,17 @@ pub struct ThreadState {
     pub number: u16,
     pub alive: bool,
     pub held: HeldLocks,
+}
+
+impl ThreadState {
+    /// The same thread, in memory of its own.
+    pub fn copy(&self) -> Self
+        ensures { result ≡ self.now }
+    {
+        ThreadState {
+            number: self.number,
+            alive: self.alive,
+            held: self.held.copy(),
+        }
+    }
 }

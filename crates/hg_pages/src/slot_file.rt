@@ -92,6 +92,13 @@ impl<D: Disk> SlotFile<D> {
         disk
     }
 
+    /// Whether a write or a sync failed.
+    pub fn is_broken(&self) -> bool
+        ensures { result ≡ is_broken self.now }
+    {
+        self.is_broken
+    }
+
     /// Whether the slot lies within the file.
     pub fn has_slot(&self, slot: u32) -> bool
         ensures { IsTrue result ↔ (3080 * slot + 3080 ≤ length (D.state (disk_of self.now)).contents) }

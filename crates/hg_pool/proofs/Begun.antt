@@ -51,6 +51,9 @@ sound_begun p root before after live before_waiting waiting copies also frames s
   most_frames = s.most_frames;
   least_frames = s.least_frames;
   most_slots = s.most_slots;
+  root_below = s.root_below;
+  frozen_below = λ q slot is. s.live_below q slot (left_of (slot_in waiting.entries q) (slot_in live.entries q) (slot_in after.entries q) slot (left q) is);
+  live_below = s.live_below;
 }
 
 module _ {D : Type 0} (g : disk.Ghosts D) (old : Shown D) (after waiting : List (ℕ × ℕ)) (copies : List (ℕ × List Cell)) (dirty : (q : ℕ) → (is_some (slot_in waiting q) ≡ true) ↔ HasDirty old.frames q)

@@ -8,7 +8,7 @@ use Rattle.hg_cells.specs.declared.cell.Cell.{Cell}
 use Rattle.hg_pages.specs.Slots.{HasBytes, HasSlot, slot_text}
 use Rattle.hg_pages.specs.Tables.{IsNamed, slot_in}
 use Rattle.hg_pages.proofs.Decoding.{stored}
-use Rattle.hg_pool.specs.Kept.{Extends, HasSome, IsPageWhole, IsWhole, KeepsNamed, SameMap, Went}
+use Rattle.hg_pool.specs.Kept.{BreaksByFailure, Extends, HasSome, IsPageWhole, IsWhole, KeepsNamed, SameMap, Went}
 use Rattle.hg_pool.specs.Maps.{bytes_of, copy_in, disk_of, frame_in, frozen, frozen_at, frozen_by, in_frame_or, in_slot, is_broken, live, live_at}
 use Rattle.hg_pool.specs.Shown.{Shown}
 
@@ -52,12 +52,14 @@ module _ {D : Type 0} (g : disk.Ghosts D) where
   pub record FileStep (old new : Shown D) : Type 0 where
     pub goes : GoesOn g (disk_of old) (disk_of new)
     pub works : is_broken new ≡ false → is_broken old ≡ false
+    pub breaks : BreaksByFailure g old new
     pub root : new.root ≡ old.root
     pub frozen_table : Extends old.frozen new.frozen
     pub root_kept : KeepsNamed g old.root old new
     pub frozen_kept : KeepsNamed g old.frozen old new
     pub long : (n : ℕ) → Leaves (λ image. n ≤ length image) (g.state (disk_of old)) → LeavesOnly g (disk_of old) (disk_of new) (λ image. n ≤ length image)
     pub sealed : IsTrue old.is_sealed → IsTrue new.is_sealed
+    pub sealed_table : IsTrue old.is_sealed → new.frozen ≡ old.frozen
     pub limits : (new.most_frames ≡ old.most_frames) × (new.slots ≡ old.slots)
 
   live_slot_same : (q : ℕ) (old new : Shown D) → SlotsStay old new → IsWhole g old → (i : ℕ) → i < 256 → in_slot (bytes_of g new) (slot_in old.live q) i ≡ in_slot (bytes_of g old) (slot_in old.live q) i
@@ -101,6 +103,7 @@ module _ {D : Type 0} (g : disk.Ghosts D) where
   went_by old new file stay each = record {
     goes = file.goes;
     works = file.works;
+    breaks = file.breaks;
     root = file.root;
     frozen_table = file.frozen_table;
     root_kept = file.root_kept;
@@ -109,6 +112,7 @@ module _ {D : Type 0} (g : disk.Ghosts D) where
     whole = λ h. record { honest = h.honest; pages = λ q. (here_by q old new stay h (each q)).whole };
     frozen_is = λ h w. (here_by (w / 256) old new stay h (each (w / 256))).frozen (w % 256) (small w);
     sealed = file.sealed;
+    sealed_table = file.sealed_table;
     limits = file.limits;
   }
 
@@ -120,33 +124,37 @@ module _ {D : Type 0} (g : disk.Ghosts D) where
   live_by old new stay each h w = live_here_by (w / 256) old new stay h (each (w / 256)) (w % 256) (small w)
 
   -- where the file is as it was
-  pub still_file : (old new : Shown D) → new.file ≡ old.file → new.root ≡ old.root → Extends old.frozen new.frozen → (IsTrue old.is_sealed → IsTrue new.is_sealed) → (new.most_frames ≡ old.most_frames) × (new.slots ≡ old.slots) → FileStep old new
-  still_file old new file root frozen sealed limits =
+  pub still_file : (old new : Shown D) → new.file ≡ old.file → new.root ≡ old.root → Extends old.frozen new.frozen → (IsTrue old.is_sealed → IsTrue new.is_sealed) → (IsTrue old.is_sealed → new.frozen ≡ old.frozen) → (new.most_frames ≡ old.most_frames) × (new.slots ≡ old.slots) → FileStep old new
+  still_file old new file root frozen sealed sealed_table limits =
       let same : disk_of new ≡ disk_of old = λ k. (file k).disk in
       record {
         goes = ([], ap (λ (d : D). g.state d ∷ g.past d) same);
         works = λ works. sym (λ k. (file k).is_broken) ∙ works;
+        breaks = (let equal = ap (λ (d : D). g.failures d) same in omega (arith, equal), inl (λ k. (file k).is_broken));
         root = root;
         frozen_table = frozen;
         root_kept = λ slot bytes named leaves. subst (λ (d : D). LeavesOnly g (disk_of old) d (HasBytes slot bytes)) (sym same) (started g (disk_of old) (HasBytes slot bytes) leaves);
         frozen_kept = λ slot bytes named leaves. subst (λ (d : D). LeavesOnly g (disk_of old) d (HasBytes slot bytes)) (sym same) (started g (disk_of old) (HasBytes slot bytes) leaves);
         long = λ n leaves. subst (λ (d : D). LeavesOnly g (disk_of old) d (λ image. n ≤ length image)) (sym same) (started g (disk_of old) (λ image. n ≤ length image) leaves);
         sealed = sealed;
+        sealed_table = sealed_table;
         limits = limits;
       }
 
   -- where a call of the file adds no image
-  pub quiet_file : (old new : Shown D) → LeavesOnly g (disk_of old) (disk_of new) (IsImage (g.state (disk_of old))) → (is_broken new ≡ false → is_broken old ≡ false) → new.root ≡ old.root → Extends old.frozen new.frozen
-      → (IsTrue old.is_sealed → IsTrue new.is_sealed) → (new.most_frames ≡ old.most_frames) × (new.slots ≡ old.slots) → FileStep old new
-  quiet_file old new only works root frozen sealed limits = record {
+  pub quiet_file : (old new : Shown D) → LeavesOnly g (disk_of old) (disk_of new) (IsImage (g.state (disk_of old))) → (is_broken new ≡ false → is_broken old ≡ false) → BreaksByFailure g old new → new.root ≡ old.root → Extends old.frozen new.frozen
+      → (IsTrue old.is_sealed → IsTrue new.is_sealed) → (IsTrue old.is_sealed → new.frozen ≡ old.frozen) → (new.most_frames ≡ old.most_frames) × (new.slots ≡ old.slots) → FileStep old new
+  quiet_file old new only works breaks root frozen sealed sealed_table limits = record {
     goes = (only.later, only.has_gone);
     works = works;
+    breaks = breaks;
     root = root;
     frozen_table = frozen;
     root_kept = λ slot bytes named leaves. weaker g (disk_of old) (disk_of new) (IsImage (g.state (disk_of old))) (HasBytes slot bytes) only leaves;
     frozen_kept = λ slot bytes named leaves. weaker g (disk_of old) (disk_of new) (IsImage (g.state (disk_of old))) (HasBytes slot bytes) only leaves;
     long = λ n leaves. weaker g (disk_of old) (disk_of new) (IsImage (g.state (disk_of old))) (λ image. n ≤ length image) only leaves;
     sealed = sealed;
+    sealed_table = sealed_table;
     limits = limits;
   }
 
@@ -154,18 +162,20 @@ module _ {D : Type 0} (g : disk.Ghosts D) where
   pub written_file : (old new : Shown D) (slot : ℕ) → ¬ IsNamed old.root slot → ¬ IsNamed old.frozen slot
       → ((other : ℕ) (bytes : List ℕ) → other ≢ slot → Leaves (HasBytes other bytes) (g.state (disk_of old)) → LeavesOnly g (disk_of old) (disk_of new) (HasBytes other bytes))
       → ((n : ℕ) → Leaves (λ image. n ≤ length image) (g.state (disk_of old)) → LeavesOnly g (disk_of old) (disk_of new) (λ image. n ≤ length image))
-      → (is_broken new ≡ false → is_broken old ≡ false) → new.root ≡ old.root → Extends old.frozen new.frozen
-      → (IsTrue old.is_sealed → IsTrue new.is_sealed) → (new.most_frames ≡ old.most_frames) × (new.slots ≡ old.slots) → FileStep old new
-  written_file old new slot not_root not_frozen moments long works root frozen sealed limits =
+      → (is_broken new ≡ false → is_broken old ≡ false) → BreaksByFailure g old new → new.root ≡ old.root → Extends old.frozen new.frozen
+      → (IsTrue old.is_sealed → IsTrue new.is_sealed) → (IsTrue old.is_sealed → new.frozen ≡ old.frozen) → (new.most_frames ≡ old.most_frames) × (new.slots ≡ old.slots) → FileStep old new
+  written_file old new slot not_root not_frozen moments long works breaks root frozen sealed sealed_table limits =
       let all = long 0 (λ image is. omega arith) in
       record {
         goes = (all.later, all.has_gone);
         works = works;
+        breaks = breaks;
         root = root;
         frozen_table = frozen;
         root_kept = λ other bytes named leaves. moments other bytes (λ same. not_root (subst (λ (s : ℕ). IsNamed old.root s) same named)) leaves;
         frozen_kept = λ other bytes named leaves. moments other bytes (λ same. not_frozen (subst (λ (s : ℕ). IsNamed old.frozen s) same named)) leaves;
         long = long;
         sealed = sealed;
+        sealed_table = sealed_table;
         limits = limits;
       }

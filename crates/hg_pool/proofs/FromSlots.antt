@@ -1,5 +1,5 @@
 -- What is read of a slot.
-use Rattle.std.proofs.Common.{◌≡◌, ◌≢◌, ◌+◌, ◌*◌, ◌/◌, ◌%◌, ◌<◌, ◌≤◌, ◌∙◌, ◌==◌, ℕ, zero, suc, Bool, true, false, List, [], ◌∷◌, length, get_or, replicate, is_some, Option, Some, None, if◌then◌else◌, refl, sym, ap, subst, arith}
+use Rattle.std.proofs.Common.{◌≡◌, inl, ◌≢◌, ◌+◌, ◌*◌, ◌/◌, ◌%◌, ◌<◌, ◌≤◌, ◌∙◌, ◌==◌, ℕ, zero, suc, Bool, true, false, List, [], ◌∷◌, length, get_or, replicate, is_some, Option, Some, None, if◌then◌else◌, refl, sym, ap, subst, arith}
 use Rattle.hg_model.specs.declared.verdict.Refusal.TheVariants as refusal
 use Rattle.hg_disk.specs.declared.disk.Disk as disk
 use Rattle.hg_disk.specs.State.{IsImage}
@@ -73,10 +73,10 @@ frames_with old new page n m e look each within q f is i = by (page == q) (sym (
 
 module _ {D : Type 0} (g : disk.Ghosts D) where
   -- a call of the file that changes nothing that is known of it
-  pub stays_read : (old : Shown D) (file : SlotFile D) → LeavesOnly g (disk_of old) (files.disk_of file) (IsImage (g.state (disk_of old))) → files.is_broken file ≡ is_broken old → files.known g file ≡ bytes_of g old → Stays g old (record old { file = file })
-  stays_read old file only works known =
+  pub stays_read : (old : Shown D) (file : SlotFile D) → LeavesOnly g (disk_of old) (files.disk_of file) (IsImage (g.state (disk_of old))) → files.is_broken file ≡ is_broken old → g.failures (disk_of old) ≤ g.failures (files.disk_of file) → files.known g file ≡ bytes_of g old → Stays g old (record old { file = file })
+  stays_read old file only works more known =
       let new : Shown D = record old { file = file } in
-      stays_all g old new (quiet_file g old new only (λ now. sym works ∙ now) refl (λ q s is. is) (λ sealed. sealed) (refl, refl))
+      stays_all g old new (quiet_file g old new only (λ now. sym works ∙ now) (more, inl works) refl (λ q s is. is) (λ sealed. sealed) (λ sealed. refl) (refl, refl))
       (λ s bytes named has. subst (λ (l : List ℕ). HasBytes s bytes l) (sym known) has)
       (λ q. record { frames = refl; live = refl; frozen = refl; waiting = refl; copies = refl })
 

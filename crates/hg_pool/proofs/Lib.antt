@@ -1,5 +1,7 @@
+pub mod Breaking
 pub mod Changing
 pub mod Slots
+pub mod Naming
 pub mod Lookups
 pub mod Counting
 pub mod Stepping
@@ -15,3 +17,5 @@ pub mod Begun
 pub mod Given
 pub mod Filled
 pub mod Overlapping
+pub mod Framing
+pub mod Reaching

@@ -1,5 +1,5 @@
 -- A page that was written gets its slot, in the live table or in the frozen one.
-use Rattle.std.proofs.Common.{◌≡◌, ◌⊎◌, inl, inr, ◌<◌, ◌≤◌, ◌+◌, ◌^◌, ◌==◌, ◌∙◌, ℕ, Bool, true, false, List, length, get_or, is_some, Option, Some, None, Result, Ok, Err, IsOk, OnOk, if◌then◌else◌, refl, sym, ap, subst, arith}
+use Rattle.std.proofs.Common.{◌≡◌, ◌⊎◌, inl, inr, ◌<◌, ◌≤◌, ◌+◌, ◌^◌, ◌==◌, ◌∙◌, ℕ, Bool, true, false, List, [], length, IsTrue, get_or, is_some, Option, Some, None, Result, Ok, Err, IsOk, OnOk, if◌then◌else◌, refl, sym, ap, subst, arith}
 use Rattle.std.specs.Option.{unwrap_or}
 use Rattle.lru.specs.LruCache.{LruCache}
 use Rattle.hg_disk.specs.declared.disk.Disk as disk
@@ -14,7 +14,7 @@ use Rattle.hg_pool.specs.Kept.{Stays}
 use Rattle.hg_pool.specs.Maps.{bytes_of, copy_in, frame_in, frozen_at, frozen_by, in_frame_or, in_slot, live_at}
 use Rattle.hg_pool.specs.Shown.{Shown}
 use Rattle.hg_pool.specs.Sound.{AreSound}
-use Rattle.hg_pool.specs.Tables.{IsSetAt}
+use Rattle.hg_pool.specs.Tables.{FindsBelow, IsSetAt}
 use Rattle.hg_pool.proofs.Changing.{LiveHere, still_file}
 use Rattle.hg_pool.proofs.Lookups.{if_false, if_true, itself, same_number}
 use Rattle.hg_pool.proofs.Stepping.{frozen_from_live, stays_at}
@@ -46,12 +46,20 @@ names_no_other page slot other old new put apart not named = by (page == named.0
     by true is = apart (cc is)
     by false is = not (named.0, is)
 
+-- and which pages it has
+set_below : (slots page slot : ℕ) (old new : tables.Shown) → IsSetAt page slot old new → page < 2 ^ 54 → slot < slots → FindsBelow slots old.entries → FindsBelow slots new.entries
+set_below slots page slot old new put number within below q t is = by (page == q) refl (sym (put.looks q) ∙ is)
+  where
+    by : (b : Bool) → (page == q) ≡ b → (if b then Some slot else slot_in old.entries q) ≡ Some t → (q < 2 ^ 54) × (t < slots)
+    by true test found = let same : slot ≡ t = cc found in (subst (λ (n : ℕ). n < 2 ^ 54) (same_number page q test) number, subst (λ (n : ℕ). n < slots) same within)
+    by false test found = below q t found
+
 -- the live table
 pub sound_moved : (root : tables.Shown) (frozen : Option tables.Shown) (live also waiting : tables.Shown) (copies : LruCache ℕ (List Cell)) (frames after : LruCache ℕ Frame) (slots : ℕ) (is_sealed : Bool) (page slot : ℕ) (f : Frame) → AreSound root frozen live waiting copies frames slots is_sealed
     → IsSetAt page slot live also → frame_in frames.entries page ≡ Some f → ((q : ℕ) → frame_in after.entries q ≡ (if page == q then Some (record f { is_dirty = false }) else frame_in frames.entries q)) → after.cap ≡ frames.cap
-    → ¬ IsNamed waiting.entries slot → (slot_in waiting.entries page ≡ None) ⊎ (is_some (copy_in copies.entries page) ≡ true) → length live.entries + length waiting.entries < live.capacity
+    → ¬ IsNamed waiting.entries slot → (slot_in waiting.entries page ≡ None) ⊎ (is_some (copy_in copies.entries page) ≡ true) → length live.entries + length waiting.entries < live.capacity → slot < slots
     → AreSound root frozen also waiting copies after slots is_sealed
-sound_moved root frozen live also waiting copies frames after slots is_sealed page slot f s put there look cap unpicked settled room = record {
+sound_moved root frozen live also waiting copies frames after slots is_sealed page slot f s put there look cap unpicked settled room within = record {
   picked = λ q t waits.
       let was = s.picked q t waits in
       record {
@@ -76,6 +84,9 @@ sound_moved root frozen live also waiting copies frames after slots is_sealed pa
   most_frames = let most = s.most_frames in omega (arith, cap);
   least_frames = let least = s.least_frames in omega (arith, cap);
   most_slots = s.most_slots;
+  root_below = s.root_below;
+  frozen_below = s.frozen_below;
+  live_below = set_below slots page slot live also put (s.numbers page f there) within s.live_below;
 }
   where
     apart : (q t : ℕ) → slot_in waiting.entries q ≡ Some t → copy_in copies.entries q ≡ None → (slot_in waiting.entries page ≡ None) ⊎ (is_some (copy_in copies.entries page) ≡ true) → (b : Bool) → (page == q) ≡ b → (page == q) ≡ false
@@ -97,7 +108,7 @@ stays_moved {D} g old live frames cap page slot f look there frames_look same_ca
     let slot_here : slot_in live page ≡ Some slot = look page ∙ if_true (page == page) (Some slot) (slot_in old.live page) (itself page) in
     let same : LiveHere g page old new = λ i lt.
     (λ k. in_frame_or (here k) (in_slot (bytes_of g old) (slot_in live page) i) i) ∙ sym (λ k. in_frame_or (there k) (in_slot (bytes_of g old) (slot_in old.live page) i) i) in
-    stays_at g old new page (still_file g old new refl refl (λ q s is. is) (λ sealed. sealed) (same_cap, refl)) (λ s b named has. has)
+    stays_at g old new page (still_file g old new refl refl (λ q s is. is) (λ sealed. sealed) (λ sealed. refl) (same_cap, refl)) (λ s b named has. has)
     (λ q apart. record {
       frames = frames_look q ∙ if_false (page == q) (Some clean) (frame_in old.frames q) apart;
       live = look q ∙ if_false (page == q) (Some slot) (slot_in old.live q) apart;
@@ -166,17 +177,20 @@ sound_released root frozen was_frozen now_frozen live waiting rest copies also f
   most_frames = s.most_frames;
   least_frames = s.least_frames;
   most_slots = s.most_slots;
+  root_below = s.root_below;
+  frozen_below = let was = s.picked page slot waits in set_below slots page slot was_frozen now_frozen put was.number was.within (subst (λ (o : Option tables.Shown). FindsBelow slots (unwrap_or o root).entries) own s.frozen_below);
+  live_below = s.live_below;
 }
 
 pub stays_released : {D : Type 0} (g : disk.Ghosts D) (old : Shown D) (frozen waiting : List (ℕ × ℕ)) (copies : List (ℕ × List Cell)) (page slot : ℕ) → ((q : ℕ) → slot_in frozen q ≡ (if page == q then Some slot else slot_in old.frozen q))
     → slot_in old.waiting page ≡ Some slot → slot_in old.frozen page ≡ None → ((q : ℕ) → slot_in waiting q ≡ (if page == q then None else slot_in old.waiting q)) → ((q : ℕ) → copy_in copies q ≡ (if page == q then None else copy_in old.copies q))
     → ((cells : List Cell) × HasSlot slot page cells (bytes_of g old) × ((i : ℕ) → i < 256 → get_or cells i New ≡ frozen_at (bytes_of g old) old page i))
-    → Stays g old (record old { frozen = frozen; waiting = waiting; copies = copies })
-stays_released {D} g old frozen waiting copies page slot look waits unwritten waiting_look copies_look stands =
+    → (IsTrue old.is_sealed → old.waiting ≡ []) → Stays g old (record old { frozen = frozen; waiting = waiting; copies = copies })
+stays_released {D} g old frozen waiting copies page slot look waits unwritten waiting_look copies_look stands none_waits =
     let new : Shown D = record old { frozen = frozen; waiting = waiting; copies = copies } in
     let slot_here : slot_in frozen page ≡ Some slot = look page ∙ if_true (page == page) (Some slot) (slot_in old.frozen page) (itself page) in
     let none_here : slot_in waiting page ≡ None = waiting_look page ∙ if_true (page == page) None (slot_in old.waiting page) (itself page) in
-    stays_at g old new page (still_file g old new refl refl (λ q s is. by q s is (page == q) refl) (λ sealed. sealed) (refl, refl)) (λ s b named has. has)
+    stays_at g old new page (still_file g old new refl refl (λ q s is. by q s is (page == q) refl) (λ sealed. sealed) (λ sealed. absurd (cc (sym waits ∙ ap (λ (es : List (ℕ × ℕ)). slot_in es page) (none_waits sealed)))) (refl, refl)) (λ s b named has. has)
     (λ q apart. record {
       frames = refl;
       live = refl;

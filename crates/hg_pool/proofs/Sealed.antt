@@ -8,7 +8,7 @@ use Rattle.hg_pages.specs.Slots.{HasBytes}
 use Rattle.hg_pages.specs.Tables.{slot_in}
 use Rattle.hg_pages.specs.declared.slot_file.SlotFile.{SlotFile}
 use Rattle.hg_pages.proofs.Decoding.{stored}
-use Rattle.hg_pool.specs.Kept.{IsWhole, Stays}
+use Rattle.hg_pool.specs.Kept.{BreaksByFailure, IsWhole, Stays}
 use Rattle.hg_pool.specs.Maps.{GivesCells, IsSealed, bytes_of, copy_in, disk_of, frozen, frozen_at, frozen_by, in_slot, is_broken, live_at}
 use Rattle.hg_pool.specs.Shown.{Shown}
 use Rattle.hg_pool.proofs.Changing.{quiet_file}
@@ -53,10 +53,10 @@ module _ {D : Type 0} (g : disk.Ghosts D) where
       let now : GivesCells old.frozen (frozen g old) image = subst (λ (l : List ℕ). GivesCells old.frozen (frozen g old) l) (sym (durable image is)) given in
       subst (λ (l : List ℕ). GivesCells old.frozen (λ w. frozen_at l old (w / 256) (w % 256)) image) (sym same) now
 
-  pub stays_sealed : (old : Shown D) (file : SlotFile D) (sealed : Bool) → LeavesOnly g (disk_of old) (files.disk_of file) (IsImage (g.state (disk_of old))) → (files.is_broken file ≡ false → is_broken old ≡ false) → files.known g file ≡ bytes_of g old
+  pub stays_sealed : (old : Shown D) (file : SlotFile D) (sealed : Bool) → LeavesOnly g (disk_of old) (files.disk_of file) (IsImage (g.state (disk_of old))) → (files.is_broken file ≡ false → is_broken old ≡ false) → BreaksByFailure g old (record old { file = file }) → files.known g file ≡ bytes_of g old
       → (IsTrue old.is_sealed → IsTrue sealed) → Stays g old (record old { file = file; is_sealed = sealed })
-  stays_sealed old file sealed only works known mark =
+  stays_sealed old file sealed only works breaks known mark =
       let new : Shown D = record old { file = file; is_sealed = sealed } in
-      stays_all g old new (quiet_file g old new only works refl (λ q s is. is) mark (refl, refl))
+      stays_all g old new (quiet_file g old new only works breaks refl (λ q s is. is) mark (λ sealed. refl) (refl, refl))
       (λ s bytes named has. subst (λ (l : List ℕ). HasBytes s bytes l) (sym known) has)
       (λ q. record { frames = refl; live = refl; frozen = refl; waiting = refl; copies = refl })

@@ -12,6 +12,7 @@ use Rattle.hg_pool.specs.Kept.{CellsFrom, IsWhole, Stays}
 use Rattle.hg_pool.specs.Maps.{bytes_of, copy_in, frame_in, frozen_at, frozen_by, in_frame_or, in_slot}
 use Rattle.hg_pool.specs.Shown.{Shown}
 use Rattle.hg_pool.specs.Sound.{AreSound}
+use Rattle.hg_pool.specs.Tables.{FindsBelow}
 use Rattle.hg_pool.proofs.Changing.{FileStep, Here, LiveHere, Same, SlotsStay, live_by, still_file, went_by}
 use Rattle.hg_pool.specs.OfWords.{went_on}
 use Rattle.hg_pool.proofs.Lookups.{if_false, if_true, itself, same_number}
@@ -76,6 +77,9 @@ sound_frames root frozen live waiting copies frames also slots is_sealed s cap n
   most_frames = let most = s.most_frames in omega (arith, cap);
   least_frames = let least = s.least_frames in omega (arith, cap);
   most_slots = s.most_slots;
+  root_below = s.root_below;
+  frozen_below = s.frozen_below;
+  live_below = s.live_below;
 }
 
 -- a page that waits without a copy is in a dirty frame; so one in a clean frame does not
@@ -115,6 +119,9 @@ sound_room root frozen live also waiting copies frames slots is_sealed s entries
   most_frames = s.most_frames;
   least_frames = s.least_frames;
   most_slots = s.most_slots;
+  root_below = s.root_below;
+  frozen_below = s.frozen_below;
+  live_below = subst (λ (es : List (ℕ × ℕ)). FindsBelow slots es) (sym entries) s.live_below;
 }
 
 copied_before : (b : Bool) (o : Option (List Cell)) (cells : List Cell) → (if b then Some cells else o) ≡ None → o ≡ None
@@ -150,6 +157,9 @@ sound_copy root frozen live waiting copies also frames slots is_sealed page cell
   most_frames = s.most_frames;
   least_frames = s.least_frames;
   most_slots = s.most_slots;
+  root_below = s.root_below;
+  frozen_below = s.frozen_below;
+  live_below = s.live_below;
 }
   where
     by : (q : ℕ) (found : List Cell) (b : Bool) → (page == q) ≡ b → (if b then Some cells else copy_in copies.entries q) ≡ Some found → is_some (slot_in waiting.entries q) ≡ true
@@ -182,14 +192,14 @@ either (Err error) a b ok err = err b
 
 -- a pool that was not changed
 pub stays_nowhere : {D : Type 0} (g : disk.Ghosts D) (p : Shown D) → Stays g p p
-stays_nowhere g p = stays_all g p p (still_file g p p refl refl (λ q s there. there) (λ sealed. sealed) (refl, refl)) (λ s b named has. has) (λ q. record { frames = refl; live = refl; frozen = refl; waiting = refl; copies = refl })
+stays_nowhere g p = stays_all g p p (still_file g p p refl refl (λ q s there. there) (λ sealed. sealed) (λ sealed. refl) (refl, refl)) (λ s b named has. has) (λ q. record { frames = refl; live = refl; frozen = refl; waiting = refl; copies = refl })
 
 -- a copy more
 pub stays_copied : {D : Type 0} (g : disk.Ghosts D) (old : Shown D) (copies : List (ℕ × List Cell)) (page slot : ℕ) (f : Frame) (cells : List Cell) → ((q : ℕ) → copy_in copies q ≡ (if page == q then Some cells else copy_in old.copies q))
     → slot_in old.waiting page ≡ Some slot → copy_in old.copies page ≡ None → frame_in old.frames page ≡ Some f → cells ≡ f.cells → Stays g old (record old { copies = copies })
 stays_copied {D} g old copies page slot f cells look waits none there same =
     let new : Shown D = record old { copies = copies } in
-    stays_at g old new page (still_file g old new refl refl (λ q s is. is) (λ sealed. sealed) (refl, refl)) (λ s b named has. has)
+    stays_at g old new page (still_file g old new refl refl (λ q s is. is) (λ sealed. sealed) (λ sealed. refl) (refl, refl)) (λ s b named has. has)
     (λ q apart. record { frames = refl; live = refl; frozen = refl; waiting = refl; copies = look q ∙ if_false (page == q) (Some cells) (copy_in old.copies q) apart })
     (λ h i lt. refl)
     (λ h. record {

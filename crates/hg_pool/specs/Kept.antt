@@ -1,5 +1,5 @@
 -- What each call of a pool leaves as it was.
-use Rattle.std.specs.Prelude.{◌≡◌, ◌≤◌, ◌<◌, ℕ, false, List, length, Some, IsTrue, get_or}
+use Rattle.std.specs.Prelude.{◌≡◌, ◌⊎◌, ◌≤◌, ◌<◌, ℕ, false, List, length, Some, IsTrue, get_or}
 use Rattle.hg_disk.specs.declared.disk.Disk as disk
 use Rattle.hg_disk.specs.Moments.{GoesOn, Leaves, LeavesOnly}
 use Rattle.hg_cells.specs.declared.cell.Cell.{Cell}
@@ -48,12 +48,17 @@ module _ {D : Type 0} (g : disk.Ghosts D) where
   abbrev pub KeepsGiven : List (ℕ × ℕ) → Shown D → Shown D → Type 0
   KeepsGiven table old new = (cells_of : ℕ → Cell) → Leaves (GivesCells table cells_of) (g.state (disk_of old)) → LeavesOnly g (disk_of old) (disk_of new) (GivesCells table cells_of)
 
+  -- No failure of the device is forgotten, and only a call of it that failed breaks a pool.
+  abbrev pub BreaksByFailure : Shown D → Shown D → Type 0
+  BreaksByFailure old new = (g.failures (disk_of old) ≤ g.failures (disk_of new)) × ((is_broken new ≡ is_broken old) ⊎ (g.failures (disk_of old) < g.failures (disk_of new)))
+
   -- What a pool keeps of the checkpoint that is being written, and of the one that counts, from one moment to another: nothing but a
   -- freeze changes the frozen map, and nothing but the opening of a root changes which table the root has. What the two tables
-  -- name stays in each image.
+  -- name stays in each image. Once the frozen map is sealed, nothing waits, so its table stays as it is.
   pub record Went (old new : Shown D) : Type 0 where
     pub goes : GoesOn g (disk_of old) (disk_of new)
     pub works : is_broken new ≡ false → is_broken old ≡ false
+    pub breaks : BreaksByFailure old new
     pub root : new.root ≡ old.root
     pub frozen_table : Extends old.frozen new.frozen
     pub root_kept : KeepsNamed old.root old new
@@ -62,6 +67,7 @@ module _ {D : Type 0} (g : disk.Ghosts D) where
     pub whole : IsWhole old → IsWhole new
     pub frozen_is : IsWhole old → SameMap (frozen g old) (frozen g new)
     pub sealed : IsTrue old.is_sealed → IsTrue new.is_sealed
+    pub sealed_table : IsTrue old.is_sealed → new.frozen ≡ old.frozen
     pub limits : (new.most_frames ≡ old.most_frames) × (new.slots ≡ old.slots)
 
   -- What each call leaves that changes no word: the live map too, where it is what was written.

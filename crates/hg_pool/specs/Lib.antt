@@ -4,6 +4,8 @@ pub mod Kept
 pub mod Answers
 pub mod Picking
 pub mod Tables
+pub mod Frames
 pub mod Sound
+pub mod Reached
 pub mod OfWords
 pub mod Laws

@@ -1,5 +1,5 @@
 -- A pool as the detector's map of words: what its parts mean, and the laws.
-use Rattle.std.proofs.Common.{◌≡◌, ◌⊎◌, ◌≤◌, ◌+◌, ◌/◌, ◌%◌, ◌∙◌, ℕ, true, List, [], ◌∷◌, length, get_or, Some, None, is_some, refl, sym, subst}
+use Rattle.std.proofs.Common.{arith, inl, inr, ◌<◌, ◌≡◌, ◌⊎◌, ◌≤◌, ◌+◌, ◌/◌, ◌%◌, ◌∙◌, ℕ, true, List, [], ◌∷◌, length, get_or, Some, None, is_some, refl, sym, subst}
 use Rattle.hg_disk.specs.declared.disk.Disk as disk
 use Rattle.hg_disk.specs.State.{DiskState}
 use Rattle.hg_disk.specs.Moments.{EachLeaves, GoesOn}
@@ -11,8 +11,8 @@ use Rattle.hg_model.specs.declared.verdict.Refusal.{Refusal}
 use Rattle.hg_model.specs.declared.verdict.Refusal.TheVariants as refusal
 use Rattle.hg_pages.specs.Slots.{HasBytes}
 use Rattle.hg_pages.specs.Tables.{slot_in}
-use Rattle.hg_pool.specs.Kept.{AreWithin, Extends, IsFaithful, KeepsNamed, Went}
-use Rattle.hg_pool.specs.Maps.{copy_in, disk_of, frame_in, live}
+use Rattle.hg_pool.specs.Kept.{AreWithin, BreaksByFailure, Extends, IsFaithful, KeepsNamed, Went}
+use Rattle.hg_pool.specs.Maps.{copy_in, disk_of, frame_in, is_broken, live}
 use Rattle.hg_pool.specs.Shown.{Shown}
 
 -- what is in memory names only segments and sets below these numbers
@@ -65,6 +65,7 @@ module _ {D : Type 0} (g : disk.Ghosts D) where
   went_nowhere p = record {
     goes = ([], refl);
     works = λ works. works;
+    breaks = (omega arith, inl refl);
     root = refl;
     frozen_table = λ page slot names. names;
     root_kept = λ slot bytes named leaves. started g (disk_of p) (HasBytes slot bytes) leaves;
@@ -73,6 +74,7 @@ module _ {D : Type 0} (g : disk.Ghosts D) where
     whole = λ h. h;
     frozen_is = λ h w. refl;
     sealed = λ was. was;
+    sealed_table = λ was. refl;
     limits = (refl, refl);
   }
 
@@ -86,10 +88,24 @@ module _ {D : Type 0} (g : disk.Ghosts D) where
       let first = one slot bytes named leaves in
       joined g (disk_of old) (disk_of mid) (disk_of new) (HasBytes slot bytes) first (two slot bytes (named.0, extends named.0 slot named.1) (at_end g (disk_of old) (disk_of mid) (HasBytes slot bytes) first))
 
+  breaks_either : (old mid new : Shown D) → g.failures (disk_of old) ≤ g.failures (disk_of mid) → g.failures (disk_of mid) ≤ g.failures (disk_of new)
+      → (is_broken mid ≡ is_broken old) ⊎ (g.failures (disk_of old) < g.failures (disk_of mid)) → (is_broken new ≡ is_broken mid) ⊎ (g.failures (disk_of mid) < g.failures (disk_of new))
+      → (is_broken new ≡ is_broken old) ⊎ (g.failures (disk_of old) < g.failures (disk_of new))
+  breaks_either old mid new a b (inl x) (inl y) = inl (y ∙ x)
+  breaks_either old mid new a b (inr x) y = inr (omega (arith, x, b))
+  breaks_either old mid new a b (inl x) (inr y) = inr (omega (arith, a, y))
+
+  breaks_join : (old mid new : Shown D) → BreaksByFailure g old mid → BreaksByFailure g mid new → BreaksByFailure g old new
+  breaks_join old mid new one two =
+      let a = one.0 in
+      let b = two.0 in
+      (omega (arith, a, b), breaks_either old mid new a b one.1 two.1)
+
   pub went_on : (old mid new : Shown D) → Went g old mid → Went g mid new → Went g old new
   went_on old mid new one two = record {
     goes = goes_join (disk_of old) (disk_of mid) (disk_of new) one.goes two.goes;
     works = λ works. one.works (two.works works);
+    breaks = breaks_join old mid new one.breaks two.breaks;
     root = two.root ∙ one.root;
     frozen_table = λ page slot names. two.frozen_table page slot (one.frozen_table page slot names);
     root_kept = named_join old.root mid.root old mid new (λ page slot names. subst (λ (t : List (ℕ × ℕ)). slot_in t page ≡ Some slot) (sym one.root) names) one.root_kept two.root_kept;
@@ -100,5 +116,6 @@ module _ {D : Type 0} (g : disk.Ghosts D) where
     whole = λ h. two.whole (one.whole h);
     frozen_is = λ h w. two.frozen_is (one.whole h) w ∙ one.frozen_is h w;
     sealed = λ was. two.sealed (one.sealed was);
+    sealed_table = λ was. two.sealed_table (one.sealed was) ∙ one.sealed_table was;
     limits = (two.limits.0 ∙ one.limits.0, two.limits.1 ∙ one.limits.1);
   }

@@ -18,6 +18,14 @@ pub record AreLeastFree {D : Type 0} (p : Shown D) (picks : List (ℕ × ℕ)) :
   pub least : (page slot : ℕ) → slot_in picks page ≡ Some slot → (lesser : ℕ) → lesser < slot → IsTaken p lesser ⊎ IsNamed picks lesser
   pub rising : (page later slot other : ℕ) → page < later → slot_in picks page ≡ Some slot → slot_in picks later ≡ Some other → slot < other
 
+-- The slot is the least that nothing names.
+abbrev pub IsLeastFree : {D : Type 0} → Shown D → ℕ → Type 0
+IsLeastFree p slot = (¬ IsTaken p slot) × ((lesser : ℕ) → lesser < slot → IsTaken p lesser)
+
+-- A page that has another slot than before has the one that was picked for it, or the least that nothing named.
+abbrev pub TakesLeastFree : {D : Type 0} → Shown D → Shown D → Type 0
+TakesLeastFree old new = (page slot : ℕ) → slot_in new.live page ≡ Some slot → (slot_in old.live page ≡ Some slot) ⊎ ((slot_in old.waiting page ≡ Some slot) ⊎ IsLeastFree old slot)
+
 -- Each of the pages, and no other, has a slot.
 pub record ArePicks {D : Type 0} (p : Shown D) (pages picks : List (ℕ × ℕ)) : Type 0 where
   pub among : (q : ℕ) → is_some (slot_in picks q) ≡ true → is_some (slot_in pages q) ≡ true

@@ -9,6 +9,7 @@ use Rattle.hg_pool.specs.declared.frame.Frame.{Frame}
 use Rattle.hg_pool.specs.declared.parts.Parts.{Parts}
 use Rattle.hg_pool.specs.Maps.{copy_in, frame_in}
 use Rattle.hg_pool.specs.Shown.{Shown}
+use Rattle.hg_pool.specs.Tables.{FindsBelow}
 
 -- the frozen table: the root's where there is no other
 abbrev pub frozen_of : {D : Type 0} → Parts D → tables.Shown
@@ -56,6 +57,9 @@ pub record AreSound (root : tables.Shown) (frozen : Option tables.Shown) (live w
   pub most_frames : frames.cap ≤ 4096
   pub least_frames : 2 ≤ frames.cap
   pub most_slots : slots ≤ 1048576
+  pub root_below : FindsBelow slots root.entries
+  pub frozen_below : FindsBelow slots (unwrap_or frozen root).entries
+  pub live_below : FindsBelow slots live.entries
 
 abbrev pub IsSound : {D : Type 0} → Parts D → Type 0
 IsSound p = AreSound p.root p.frozen p.live p.waiting p.copies p.frames p.slots p.is_sealed

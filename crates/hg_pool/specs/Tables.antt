@@ -1,6 +1,21 @@
--- A table in which a page was given a slot.
-use Rattle.std.specs.Prelude.{◌≡◌, ◌+◌, ◌≤◌, ◌==◌, ℕ, length, Some, is_some, if◌then◌else◌}
-use Rattle.hg_pages.specs.Tables.{Shown, slot_in}
+-- Tables: their pages and slots, and a table in which a page was given a slot.
+use Rattle.std.specs.Prelude.{◌≡◌, ◌+◌, ◌≤◌, ◌<◌, ◌^◌, ◌==◌, ℕ, List, length, Some, All, is_some, if◌then◌else◌}
+use Rattle.hg_pages.specs.Tables.{AreEntries, Shown, slot_in}
+
+-- the pages are below 2^54, and the slots below this number
+abbrev pub AreBelow : ℕ → List (ℕ × ℕ) → Type 0
+AreBelow slots table = All (λ e. (e.0 < 2 ^ 54) × (e.1 < slots)) table
+
+-- the same, as pages are looked up
+abbrev pub FindsBelow : ℕ → List (ℕ × ℕ) → Type 0
+FindsBelow slots table = (page slot : ℕ) → slot_in table page ≡ Some slot → (page < 2 ^ 54) × (slot < slots)
+
+-- A root can name the table: its pages rise, no slot has two, all are of the profile, and there are no more than slots.
+pub record IsNameable (slots : ℕ) (table : List (ℕ × ℕ)) : Type 0 where
+  pub entries : AreEntries table
+  pub below : AreBelow slots table
+  pub few : length table ≤ slots
+  pub most : slots ≤ 1048576
 
 -- The page has the slot, other pages have theirs, and there is no less room.
 pub record IsSetAt (page slot : ℕ) (old new : Shown) : Type 0 where

@@ -19,6 +19,7 @@ use hg_model::verdict::Refusal;
 use hg_pages::EncodedPage;
 
 impl<D: Disk> Parts<D> {
+    ghost use Rattle.hg_pool.specs.Reached.{IsReached};
     ghost use Rattle.hg_pool.specs.Sound.{IsSound, frozen_of, shown_of};
 
     // The frozen cells of a page that waits.
@@ -29,7 +30,7 @@ impl<D: Disk> Parts<D> {
     {
         match self.copies.peek(&page) {
             Some(cells) => Some(cells),
-            None => match self.frames.peek(&page) {
+            None => match self.frames.get(page) {
                 Some(frame) => Some(&frame.cells),
                 None => None,
             },
@@ -75,6 +76,7 @@ impl<D: Disk> Parts<D> {
     pub(crate) fn put(&mut self, page: &EncodedPage) -> Result<Put, Refusal>
         requires sound { IsSound self.old }
         ensures sound { IsSound self.new }
+        ensures reached { IsReached self.old → IsReached self.new }
         ensures stays { Stays ⟦<D as Disk>⟧ (shown_of self.old) (shown_of self.new) }
         ensures written { IfOk result (λ put. put ≡ Put.Written → (cells : List CellOf) × (is_some (slot_in self.old.waiting.entries page.now.page) ≡ true) × IsFrozen (shown_of self.old) page.now.page cells × IsSlot page.now.page cells page.now.bytes) }
         ensures stale { IfOk result (λ put. put ≡ Put.Stale → (slot : ℕ) (cells : List CellOf) → slot_in self.old.waiting.entries page.now.page ≡ Some slot → IsFrozen (shown_of self.old) page.now.page cells → page.now.bytes ≡ slot_text page.now.page cells → ⊥) }
@@ -104,6 +106,7 @@ impl<D: Disk> Parts<D> {
     pub(crate) fn seal(&mut self) -> Result<(), Refusal>
         requires sound { IsSound self.old }
         ensures sound { IsSound self.new }
+        ensures reached { IsReached self.old → IsReached self.new }
         ensures stays { Stays ⟦<D as Disk>⟧ (shown_of self.old) (shown_of self.new) }
         ensures sealed { IsWhole ⟦<D as Disk>⟧ (shown_of self.old) → self.old.waiting.entries ≡ [] → OnOk result (IsSealed ⟦<D as Disk>⟧ (shown_of self.new)) }
         ensures marked { self.old.waiting.entries ≡ [] → OnOk result (IsTrue self.new.is_sealed) }
@@ -129,6 +132,7 @@ impl<D: Disk> Parts<D> {
         requires sound { IsSound self.old }
         requires sealed { IsTrue self.old.is_sealed }
         ensures sound { IsSound self.new }
+        ensures reached { IsReached self.old → IsReached self.new }
         ensures root { shown_of self.new ≡ record (shown_of self.old) { root = (frozen_of self.old).entries } }
     {
         if let Some(table) = self.frozen.take() {

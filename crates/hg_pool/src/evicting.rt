@@ -11,6 +11,7 @@ ghost use Rattle.hg_pool.specs.declared.frame.Frame.{Frame as FrameOf};
 ghost use Rattle.hg_pool.specs.Maps.{bytes_of, copy_in, disk_of, frame_in, frozen_at, is_broken};
 ghost use Rattle.hg_pool.specs.Kept.{CellsFrom, Stays};
 ghost use Rattle.hg_pool.specs.Answers.{IsDeviceCause, IsTaken, IsTrueCause, order_of};
+ghost use Rattle.hg_pool.specs.Picking.{IsLeastFree, TakesLeastFree};
 
 use crate::parts::Parts;
 use hg_disk::Disk;
@@ -19,7 +20,8 @@ use hg_pages::{EncodedPage, encode};
 use std::alloc::AllocError;
 
 impl<D: Disk> Parts<D> {
-    ghost use Rattle.hg_pool.specs.Sound.{IsSound, shown_of};
+    ghost use Rattle.hg_pool.specs.Reached.{IsReached};
+    ghost use Rattle.hg_pool.specs.Sound.{IsSound, frozen_of, shown_of};
 
     // A page that is in memory as the bytes of its slot.
     fn encoded(&self, page: u64) -> Result<EncodedPage, AllocError>
@@ -27,7 +29,7 @@ impl<D: Disk> Parts<D> {
         ensures page { IfOk result (λ encoded. encoded.page ≡ page) }
         ensures slot { (f : FrameOf) → frame_in self.now.frames.entries page ≡ Some f → IfOk result (λ encoded. IsSlot page f.cells encoded.bytes) }
     {
-        match self.frames.peek(&page) {
+        match self.frames.get(page) {
             Some(frame) => encode(self.alloc, page, &frame.cells),
             None => Err(AllocError),
         }
@@ -49,6 +51,8 @@ impl<D: Disk> Parts<D> {
         ensures refuses { IsTrue (is_broken (shown_of self.old)) → (result ≡ Err Refusal.Broken) × (self.new ≡ self.old) }
         ensures broken { (result ≡ Err Refusal.Broken) → IsTrue (is_broken (shown_of self.old)) }
         ensures order { map (λ e. e.0) self.new.frames.entries ≡ map (λ e. e.0) self.old.frames.entries }
+        ensures slots { (q s : ℕ) → slot_in self.new.live.entries q ≡ Some s → (slot_in self.old.live.entries q ≡ Some s) ⊎ (slot_in self.old.waiting.entries q ≡ Some s) }
+        ensures search { self.new.search_from ≡ self.old.search_from }
         ensures clean { copy_in self.old.copies.entries encoded.now.page ≡ None → OnOk result ((f : FrameOf) → frame_in self.new.frames.entries encoded.now.page ≡ Some f → f.is_dirty ≡ false) }
         ensures waiting { OnOk result ((q : ℕ) → slot_in self.new.waiting.entries q ≡ (if encoded.now.page == q then None else slot_in self.old.waiting.entries q)) }
         ensures refused { OnErr result (self.new ≡ record self.old { file = self.new.file }) }
@@ -75,6 +79,9 @@ impl<D: Disk> Parts<D> {
         ensures cells { CellsFrom self.old.frames.entries self.new.frames.entries }
         ensures order { map (λ e. e.0) self.new.frames.entries ≡ map (λ e. e.0) self.old.frames.entries }
         ensures clean { OnOk result ((f : FrameOf) → frame_in self.new.frames.entries page ≡ Some f → f.is_dirty ≡ false) }
+        ensures rest { self.new ≡ record self.old { file = self.new.file; live = self.new.live; frames = self.new.frames } }
+        ensures slots { OnOk result ((q : ℕ) → slot_in self.new.live.entries q ≡ (if page == q then Some slot else slot_in self.old.live.entries q)) }
+        ensures refused { OnErr result (self.new.live.entries ≡ self.old.live.entries) }
     {
         let Ok(encoded) = self.encoded(page) else {
             return Err(Refusal::OutOfMemory);
@@ -85,16 +92,30 @@ impl<D: Disk> Parts<D> {
         Ok(())
     }
 
-    // The next search for a free slot begins at the slot that was found, or at the page's former slot where that is free then.
-    fn go_on_from(&mut self, found: u32, former: Option<u32>)
-        ensures rest { self.new ≡ record self.old { search_from = self.new.search_from } }
+    // Whether the newest root or the frozen map names a slot, so that it is not free where the live map leaves it.
+    fn is_saved(&self, slot: u32) -> bool
+        ensures { IsTrue result → IsNamed self.now.root.entries slot ⊎ IsNamed (frozen_of self.now).entries slot }
     {
-        self.search_from = match former {
-            Some(slot) if !self.root.names(slot) && !self.frozen_table().names(slot) => {
-                found.min(slot)
+        if self.root.names(slot) {
+            return true;
+        }
+        self.frozen_table().names(slot)
+    }
+
+    // Where the next search for a free slot begins: at the slot that was found, or at the page's former slot where that is free then.
+    fn next_search(&self, found: u32, former: Option<u32>) -> u32
+        ensures { (slot : ℕ) → slot < result → (slot < found) × (former ≡ Some slot → IsNamed self.now.root.entries slot ⊎ IsNamed (frozen_of self.now).entries slot) }
+    {
+        match former {
+            None => found,
+            Some(slot) => {
+                if self.is_saved(slot) {
+                    found
+                } else {
+                    found.min(slot)
+                }
             }
-            _ => found,
-        };
+        }
     }
 
     // Writes a page that was changed to a free slot that a search found.
@@ -102,9 +123,11 @@ impl<D: Disk> Parts<D> {
         requires sound { IsSound self.old }
         requires present { is_some (frame_in self.old.frames.entries page) ≡ true }
         requires settled { (slot_in self.old.waiting.entries page ≡ None) ⊎ (is_some (copy_in self.old.copies.entries page) ≡ true) }
-        requires free { ¬ IsTaken (shown_of self.old) slot }
+        requires least { IsLeastFree (shown_of self.old) slot }
         requires within { slot < self.old.slots }
         ensures sound { IsSound self.new }
+        ensures reached { IsReached self.new }
+        ensures takes { TakesLeastFree (shown_of self.old) (shown_of self.new) }
         ensures stays { Stays ⟦<D as Disk>⟧ (shown_of self.old) (shown_of self.new) }
         ensures refusal { IfErr result (IsTrueCause (shown_of self.old) (shown_of self.new)) }
         ensures undamaged { IfErr result (λ r. r ≢ Refusal.Damaged) }
@@ -114,7 +137,7 @@ impl<D: Disk> Parts<D> {
         ensures clean { OnOk result ((f : FrameOf) → frame_in self.new.frames.entries page ≡ Some f → f.is_dirty ≡ false) }
     {
         let former = self.live.get(page);
-        self.go_on_from(slot, former);
+        self.search_from = self.next_search(slot, former);
         self.write_changed(page, slot)
     }
 
@@ -122,7 +145,7 @@ impl<D: Disk> Parts<D> {
     fn is_dirty(&self, page: u64) -> bool
         ensures { (f : FrameOf) → frame_in self.now.frames.entries page ≡ Some f → result ≡ f.is_dirty }
     {
-        match self.frames.peek(&page) {
+        match self.frames.get(page) {
             Some(frame) => frame.is_dirty,
             None => false,
         }
@@ -134,6 +157,8 @@ impl<D: Disk> Parts<D> {
         requires waits { slot_in self.old.waiting.entries page ≡ Some slot }
         requires as_frozen { copy_in self.old.copies.entries page ≡ None }
         ensures sound { IsSound self.new }
+        ensures reached { IsReached self.new }
+        ensures takes { TakesLeastFree (shown_of self.old) (shown_of self.new) }
         ensures stays { Stays ⟦<D as Disk>⟧ (shown_of self.old) (shown_of self.new) }
         ensures refusal { IfErr result (IsTrueCause (shown_of self.old) (shown_of self.new)) }
         ensures undamaged { IfErr result (λ r. r ≢ Refusal.Damaged) }
@@ -152,8 +177,11 @@ impl<D: Disk> Parts<D> {
     // Writes a page that was changed since its slot was written.
     fn clean(&mut self, page: u64) -> Result<(), Refusal>
         requires sound { IsSound self.old }
+        requires reached { IsReached self.old }
         requires present { is_some (frame_in self.old.frames.entries page) ≡ true }
         ensures sound { IsSound self.new }
+        ensures reached { IsReached self.new }
+        ensures takes { TakesLeastFree (shown_of self.old) (shown_of self.new) }
         ensures stays { Stays ⟦<D as Disk>⟧ (shown_of self.old) (shown_of self.new) }
         ensures refusal { IfErr result (IsTrueCause (shown_of self.old) (shown_of self.new)) }
         ensures undamaged { IfErr result (λ r. r ≢ Refusal.Damaged) }
@@ -180,7 +208,10 @@ impl<D: Disk> Parts<D> {
     /// where no page is in memory.
     pub(crate) fn evict(&mut self) -> Result<Option<u64>, Refusal>
         requires sound { IsSound self.old }
+        requires reached { IsReached self.old }
         ensures sound { IsSound self.new }
+        ensures reached { IsReached self.new }
+        ensures takes { TakesLeastFree (shown_of self.old) (shown_of self.new) }
         ensures stays { Stays ⟦<D as Disk>⟧ (shown_of self.old) (shown_of self.new) }
         ensures refusal { IfErr result (IsTrueCause (shown_of self.old) (shown_of self.new)) }
         ensures undamaged { IfErr result (λ r. r ≢ Refusal.Damaged) }
@@ -192,9 +223,9 @@ impl<D: Disk> Parts<D> {
         ensures fewer { (q : ℕ) → is_some (frame_in self.new.frames.entries q) ≡ true → is_some (frame_in self.old.frames.entries q) ≡ true }
     {
         let _count = self.frames.len();
-        let page = match self.frames.peek_lru() {
+        let page = match self.frames.oldest() {
             None => return Ok(None),
-            Some((page, _)) => *page,
+            Some(page) => page,
         };
         self.clean(page)?;
         self.let_go(page);
@@ -204,7 +235,10 @@ impl<D: Disk> Parts<D> {
     /// Frees a frame where all are taken.
     pub(crate) fn make_room(&mut self) -> Result<(), Refusal>
         requires sound { IsSound self.old }
+        requires reached { IsReached self.old }
         ensures sound { IsSound self.new }
+        ensures reached { IsReached self.new }
+        ensures takes { TakesLeastFree (shown_of self.old) (shown_of self.new) }
         ensures stays { Stays ⟦<D as Disk>⟧ (shown_of self.old) (shown_of self.new) }
         ensures refusal { IfErr result (IsTrueCause (shown_of self.old) (shown_of self.new)) }
         ensures undamaged { IfErr result (λ r. r ≢ Refusal.Damaged) }
@@ -215,7 +249,7 @@ impl<D: Disk> Parts<D> {
         ensures order { OnOk result (order_of (shown_of self.new) ≡ take (self.old.frames.cap - 1) (order_of (shown_of self.old))) }
         ensures fewer { (q : ℕ) → is_some (frame_in self.new.frames.entries q) ≡ true → is_some (frame_in self.old.frames.entries q) ≡ true }
     {
-        if self.frames.len() < self.frames.cap().get() {
+        if self.frames.len() < self.frames.most() {
             return Ok(());
         }
         match self.evict() {

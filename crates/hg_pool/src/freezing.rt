@@ -6,45 +6,24 @@ ghost use Rattle.hg_pool.specs.Kept.{IsWhole, SameMap};
 ghost use Rattle.hg_pool.specs.Answers.{IsTaken};
 ghost use Rattle.hg_pool.specs.Picking.{AreLeastFree, ArePicks, HasDirty, IsFreezeCause, IsFreezeRefusal};
 
-use crate::frame::Frame;
+use crate::frames::Frames;
 use crate::parts::Parts;
 use hg_disk::Disk;
 use hg_model::verdict::Refusal;
 use hg_pages::Table;
-use lru::LruCache;
 use std::alloc::Global;
 
-// Adds a page that was changed to a table, under its place.
-fn note(table: &mut Table, page: u64, place: u32, frame: &Frame) -> Result<(), Refusal>
-    requires { (q slot : ℕ) → slot_in table.old.entries q ≡ Some slot → slot < place }
-    ensures looks { OnOk result ((q : ℕ) → slot_in table.new.entries q ≡ (if frame.now.is_dirty then (if page == q then Some place else slot_in table.old.entries q) else slot_in table.old.entries q)) }
-    ensures few { OnOk result (length table.new.entries ≤ length table.old.entries + 1) }
-    ensures refusal { IfErr result (λ r. r ≡ Refusal.OutOfMemory) }
-{
-    if !frame.is_dirty {
-        return Ok(());
-    }
-    match table.set(page, place) {
-        Ok(()) => Ok(()),
-        Err(_) => Err(Refusal::OutOfMemory),
-    }
-}
-
 // The pages that were changed, each with its place in the order of use.
-fn changed_pages(alloc: Global, frames: &LruCache<u64, Frame>) -> Result<Table, Refusal>
+fn changed_pages(alloc: Global, frames: &Frames) -> Result<Table, Refusal>
     requires { length frames.now.entries ≤ 4096 }
     ensures pages { IfOk result (λ table. (q : ℕ) → (is_some (slot_in table.entries q) ≡ true) ↔ HasDirty frames.now.entries q) }
     ensures few { IfOk result (λ table. length table.entries ≤ length frames.now.entries) }
     ensures refusal { IfErr result (λ r. r ≡ Refusal.OutOfMemory) }
 {
-    let _count = frames.len();
-    let mut table = Table::new(alloc);
-    let mut place = 0u32;
-    for (page, frame) in frames {
-        note(&mut table, *page, place, frame)?;
-        place += 1;
+    match frames.changed(alloc) {
+        Ok(table) => Ok(table),
+        Err(_) => Err(Refusal::OutOfMemory),
     }
-    Ok(table)
 }
 
 // A table without these pages.
@@ -77,6 +56,7 @@ fn make_roomy(table: &mut Table, count: usize, slots: u32) -> Result<(), Refusal
 }
 
 impl<D: Disk> Parts<D> {
+    ghost use Rattle.hg_pool.specs.Reached.{IsReached};
     ghost use Rattle.hg_pool.specs.Sound.{IsSound, shown_of};
 
     /// The least slot from this one on that nothing names.
@@ -137,6 +117,7 @@ impl<D: Disk> Parts<D> {
     pub(crate) fn freeze(&mut self) -> Result<(), Refusal>
         requires sound { IsSound self.old }
         ensures sound { IsSound self.new }
+        ensures reached { IsReached self.new }
         ensures frozen { IsWhole ⟦<D as Disk>⟧ (shown_of self.old) → OnOk result (SameMap (live ⟦<D as Disk>⟧ (shown_of self.old)) (frozen ⟦<D as Disk>⟧ (shown_of self.new))) }
         ensures live { SameMap (live ⟦<D as Disk>⟧ (shown_of self.old)) (live ⟦<D as Disk>⟧ (shown_of self.new)) }
         ensures whole { IsWhole ⟦<D as Disk>⟧ (shown_of self.old) → IsWhole ⟦<D as Disk>⟧ (shown_of self.new) }

@@ -2,10 +2,11 @@
 #![tactic(auto)]
 
 mod checkpoint;
+mod copies;
 mod evicting;
 mod frame;
+mod frames;
 mod freezing;
-mod held;
 mod job;
 pub mod laws;
 mod loading;

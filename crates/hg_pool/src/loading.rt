@@ -10,8 +10,8 @@ ghost use Rattle.hg_pool.specs.declared.frame.Frame.{Frame as FrameOf};
 ghost use Rattle.hg_pool.specs.Maps.{bytes_of, copy_in, disk_of, frame_in, in_slot, live};
 ghost use Rattle.hg_pool.specs.Kept.{AreWithin, IsWhole, Stays, Went};
 ghost use Rattle.hg_pool.specs.Answers.{IsTrueCause, order_of, order_with};
+ghost use Rattle.hg_pool.specs.Picking.{TakesLeastFree};
 
-use crate::held::fill_words;
 use crate::parts::{Parts, told};
 use hg_cells::{Cell, Page};
 use hg_disk::Disk;
@@ -19,6 +19,7 @@ use hg_model::verdict::Refusal;
 use hg_sets::SetTable;
 
 impl<D: Disk> Parts<D> {
+    ghost use Rattle.hg_pool.specs.Reached.{IsReached};
     ghost use Rattle.hg_pool.specs.Sound.{IsSound, shown_of};
 
     // The cells of a page that is not in memory: from its slot, or new ones.
@@ -43,22 +44,63 @@ impl<D: Disk> Parts<D> {
         }
     }
 
+    // Reads a page that is not in memory into a frame. What owns a page's cells stands here, and not in `load`, which mostly needs none.
+    #[inline(never)]
+    fn read_in(&mut self, page: u64, segments: u32, sets: &SetTable) -> Result<(), Refusal>
+        requires sound { IsSound self.old }
+        requires number { page < 2 ^ 54 }
+        requires absent { frame_in self.old.frames.entries page ≡ None }
+        requires room { length self.old.frames.entries < self.old.frames.cap }
+        ensures sound { IsSound self.new }
+        ensures stays { Stays ⟦<D as Disk>⟧ (shown_of self.old) (shown_of self.new) }
+        ensures rest { self.new ≡ record self.old { file = self.new.file; frames = self.new.frames } }
+        ensures loaded { OnOk result (is_some (frame_in self.new.frames.entries page) ≡ true) }
+        ensures order { OnOk result (order_of (shown_of self.new) ≡ page ∷ order_of (shown_of self.old)) }
+        ensures within { (n m : ℕ) → segments ≤ n → length sets.now.sets ≤ m → AreWithin self.old.frames.entries n m → AreWithin self.new.frames.entries n m }
+        ensures whole { IsWhole ⟦<D as Disk>⟧ (shown_of self.old) → ((i : ℕ) → i < 256 → IsKnown segments sets.now.sets (in_slot (bytes_of ⟦<D as Disk>⟧ (shown_of self.old)) (slot_in self.old.live.entries page) i))
+            → IfErr result (λ r. r ≢ Refusal.Damaged) }
+        ensures refusal { IfErr result (IsTrueCause (shown_of self.old) (shown_of self.new)) }
+        ensures device { D.failures (disk_of (shown_of self.new)) ≡ failed_after result (D.failures (disk_of (shown_of self.old))) }
+    {
+        let cells = self.read(page, segments, sets)?;
+        self.take_in(page, cells)
+    }
+
     // Whether the page is the one used last.
     #[inline]
     fn is_last(&self, page: u64) -> bool
         ensures { IsTrue result → (rest : List ℕ) × (order_of (shown_of self.now) ≡ page ∷ rest) }
     {
-        match self.frames.peek_mru() {
-            Some((last, _)) => *last == page,
-            None => false,
+        self.frames.is_first(page)
+    }
+
+    /// Makes a page the one used last, and answers whether it is in memory.
+    #[inline]
+    pub(crate) fn touch(&mut self, page: u64) -> bool
+        requires sound { IsSound self.old }
+        ensures sound { IsSound self.new }
+        ensures reached { IsReached self.old → IsReached self.new }
+        ensures stays { Stays ⟦<D as Disk>⟧ (shown_of self.old) (shown_of self.new) }
+        ensures rest { self.new ≡ record self.old { frames = self.new.frames } }
+        ensures looks { (q : ℕ) → frame_in self.new.frames.entries q ≡ frame_in self.old.frames.entries q }
+        ensures cap { self.new.frames.cap ≡ self.old.frames.cap }
+        ensures answer { result ≡ is_some (frame_in self.old.frames.entries page) }
+        ensures order { IsTrue result → order_of (shown_of self.new) ≡ order_with (shown_of self.old) page }
+    {
+        if self.is_last(page) {
+            return true;
         }
+        self.use_page(page)
     }
 
     /// Brings a page into a frame, as the one used last.
     pub(crate) fn load(&mut self, page: u64, segments: u32, sets: &SetTable) -> Result<(), Refusal>
         requires sound { IsSound self.old }
+        requires reached { IsReached self.old }
         requires number { page < 2 ^ 54 }
         ensures sound { IsSound self.new }
+        ensures reached { IsReached self.new }
+        ensures takes { TakesLeastFree (shown_of self.old) (shown_of self.new) }
         ensures stays { Stays ⟦<D as Disk>⟧ (shown_of self.old) (shown_of self.new) }
         ensures loaded { OnOk result (is_some (frame_in self.new.frames.entries page) ≡ true) }
         ensures order { OnOk result (order_of (shown_of self.new) ≡ order_with (shown_of self.old) page) }
@@ -75,11 +117,11 @@ impl<D: Disk> Parts<D> {
             return Ok(());
         }
         self.make_room()?;
-        let cells = self.read(page, segments, sets)?;
-        self.take_in(page, cells)
+        self.read_in(page, segments, sets)
     }
 
-    /// Gives words of a page a cell.
+    /// Gives words of a page a cell. The order of use stays.
+    #[inline]
     pub(crate) fn fill(&mut self, page: u64, from: usize, to: usize, cell: Cell)
         requires sound { IsSound self.old }
         requires present { is_some (frame_in self.old.frames.entries page) ≡ true }
@@ -91,8 +133,9 @@ impl<D: Disk> Parts<D> {
         ensures rest { self.new ≡ record self.old { frames = self.new.frames } }
         ensures frames { (f : FrameOf) → frame_in self.old.frames.entries page ≡ Some f
             → (length f.cells ≡ 256) × ((q : ℕ) → frame_in self.new.frames.entries q ≡ (if page == q then Some (record { cells = filled f.cells from to cell; is_dirty = true }) else frame_in self.old.frames.entries q)) }
+        ensures order { order_of (shown_of self.new) ≡ order_of (shown_of self.old) }
     {
-        fill_words(&mut self.frames, page, from, to, cell);
+        self.frames.fill(page, from, to, cell);
     }
 
     /// Gives words of a page a cell, and makes it the one used last.
@@ -104,16 +147,14 @@ impl<D: Disk> Parts<D> {
         requires in_order { from ≤ to }
         requires in_page { to ≤ 256 }
         ensures sound { IsSound self.new }
+        ensures reached { IsReached self.old → IsReached self.new }
         ensures went { Went ⟦<D as Disk>⟧ (shown_of self.old) (shown_of self.new) }
         ensures rest { self.new ≡ record self.old { frames = self.new.frames } }
         ensures frames { (f : FrameOf) → frame_in self.old.frames.entries page ≡ Some f
             → (length f.cells ≡ 256) × ((q : ℕ) → frame_in self.new.frames.entries q ≡ (if page == q then Some (record { cells = filled f.cells from to cell; is_dirty = true }) else frame_in self.old.frames.entries q)) }
+        ensures order { order_of (shown_of self.new) ≡ order_with (shown_of self.old) page }
     {
-        if self.is_last(page) {
-            self.fill(page, from, to, cell);
-            return;
-        }
-        self.use_page(page);
+        let _present = self.touch(page);
         self.fill(page, from, to, cell);
     }
 }

@@ -9,10 +9,11 @@ ghost use Rattle.hg_pages.specs.Slots.{HasBytes};
 ghost use Rattle.hg_pages.specs.Tables.{IsNamed, slot_in};
 ghost use Rattle.hg_pool.specs.declared.frame.Frame.{Frame as FrameOf};
 ghost use Rattle.hg_pool.specs.Maps.{bytes_of, copy_in, disk_of, frame_in, in_slot, is_broken};
-ghost use Rattle.hg_pool.specs.Kept.{Stays};
-ghost use Rattle.hg_pool.specs.Answers.{IsDeviceCause, IsFull, IsTaken, IsTrueCause, told_as};
+ghost use Rattle.hg_pool.specs.Kept.{BreaksByFailure, Stays};
+ghost use Rattle.hg_pool.specs.Answers.{IsDeviceCause, IsFull, IsTrueCause, told_as};
+ghost use Rattle.hg_pool.specs.Picking.{IsLeastFree};
 
-use crate::frame::Frame;
+use crate::frames::Frames;
 use hg_cells::Page;
 use hg_disk::Disk;
 use hg_model::verdict::Refusal;
@@ -31,10 +32,10 @@ pub(crate) struct Parts<D: Disk> {
     pub(crate) live: Table,
     pub(crate) waiting: Table,
     pub(crate) copies: LruCache<u64, Page>,
-    pub(crate) frames: LruCache<u64, Frame>,
+    pub(crate) frames: Frames,
     pub(crate) slots: u32,
     pub(crate) is_sealed: bool,
-    // Where the search for a free slot begins: no slot below is free. No clause rests on that, as a search that finds none goes on at slot 0.
+    // Where the search for a free slot begins: no slot below is free.
     pub(crate) search_from: u32,
 }
 
@@ -76,6 +77,7 @@ pub(crate) fn told(fault: SlotFault) -> Refusal
 }
 
 impl<D: Disk> Parts<D> {
+    ghost use Rattle.hg_pool.specs.Reached.{IsReached};
     ghost use Rattle.hg_pool.specs.Sound.{IsSound, frozen_of, shown_of};
 
     /// The file.
@@ -114,15 +116,13 @@ impl<D: Disk> Parts<D> {
         }
     }
 
-    /// A slot that no table names and that is not picked, where there is one.
+    /// The least slot that no table names and that is not picked, where there is one.
     pub(crate) fn free_slot(&self) -> Option<u32>
         requires sound { IsSound self.now }
-        ensures { MatchOption result (IsFull (shown_of self.now)) (λ slot. (slot < self.now.slots) × (¬ IsTaken (shown_of self.now) slot)) }
+        requires reached { IsReached self.now }
+        ensures { MatchOption result (IsFull (shown_of self.now)) (λ slot. (slot < self.now.slots) × IsLeastFree (shown_of self.now) slot) }
     {
-        match self.free_slot_from(self.search_from) {
-            Some(slot) => Some(slot),
-            None => self.free_slot_from(0),
-        }
+        self.free_slot_from(self.search_from)
     }
 
     // Writes a page to a slot: the one place where the file is written.
@@ -135,6 +135,7 @@ impl<D: Disk> Parts<D> {
             → LeavesOnly ⟦<D as Disk>⟧ (disk_of (shown_of self.old)) (disk_of (shown_of self.new)) (HasBytes other bytes) }
         ensures long { (n : ℕ) → Leaves (λ image. n ≤ length image) (D.state (disk_of (shown_of self.old))) → LeavesOnly ⟦<D as Disk>⟧ (disk_of (shown_of self.old)) (disk_of (shown_of self.new)) (λ image. n ≤ length image) }
         ensures works { is_broken (shown_of self.new) ≡ false → is_broken (shown_of self.old) ≡ false }
+        ensures cause { BreaksByFailure ⟦<D as Disk>⟧ (shown_of self.old) (shown_of self.new) }
         ensures breaks { OnErr result (IsTrue (is_broken (shown_of self.new))) }
         ensures refusal { IfErr result IsDeviceCause }
         ensures broken { IsErrOf result Refusal.Broken → IsTrue (is_broken (shown_of self.old)) }

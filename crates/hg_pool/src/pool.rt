@@ -10,9 +10,10 @@ ghost use Rattle.hg_pool.specs.declared.frame.Frame.{Frame as FrameOf};
 ghost use Rattle.hg_cells.specs.declared.cell.Cell.TheVariants.{New};
 ghost use Rattle.hg_cells.specs.Pages.{filled};
 ghost use Rattle.hg_pool.specs.Answers.{IsDeviceCause, IsFrozen, IsTrueCause, least_of, order_of, order_with};
-ghost use Rattle.hg_pool.specs.Picking.{AreLeastFree, HasDirty, IsFreezeRefusal};
+ghost use Rattle.hg_pool.specs.Picking.{AreLeastFree, HasDirty, IsFreezeRefusal, TakesLeastFree};
+ghost use Rattle.hg_pool.specs.Tables.{AreBelow, IsNameable};
 
-use crate::frame::Frame;
+use crate::frames::Frames;
 use crate::job::{Job, Put};
 use crate::parts::Parts;
 use hg_cells::{Cell, Page};
@@ -39,13 +40,14 @@ impl<D: Disk + Drop> Drop for Pool<D> {
 
 impl<D: Disk> Model for Pool<D> {
     ghost use Rattle.hg_pool.specs.Shown.{Shown};
+    ghost use Rattle.hg_pool.specs.Reached.{IsReached};
     ghost use Rattle.hg_pool.specs.Sound.{IsSound, shown_of};
 
     ghost Value = { Shown D };
 
     ghost view = { λ p. shown_of p.parts };
 
-    ghost invariant = { λ p. IsSound p.parts };
+    ghost invariant = { λ p. IsSound p.parts × IsReached p.parts };
 }
 
 // A copy of the table, and room for copies and for frames.
@@ -53,7 +55,7 @@ fn rooms(
     alloc: Global,
     table: &Table,
     frames: usize,
-) -> Result<(Table, LruCache<u64, Page>, LruCache<u64, Frame>), AllocError>
+) -> Result<(Table, LruCache<u64, Page>, Frames), AllocError>
     ensures table { IfOk result (λ r. r.0.entries ≡ table.now.entries) }
     ensures copies { IfOk result (λ r. (r.1.entries ≡ []) × (r.1.cap ≡ frames)) }
     ensures frames { IfOk result (λ r. (r.2.entries ≡ []) × (r.2.cap ≡ frames)) }
@@ -68,13 +70,13 @@ fn rooms(
     Ok((
         table.copy(alloc)?,
         LruCache::sparse(alloc, most)?,
-        LruCache::new(alloc, most)?,
+        Frames::new(alloc, most)?,
     ))
 }
 
 impl<D: Disk> Pool<D> {
     /// A pool over a file of slots, with no page in memory: both maps are what the table of the newest root gives. There are so
-    /// many frames, at least 2 and at most 4,096, and slots below this number are named. An event may lie on two pages, so with
+    /// many frames, at least 2 and at most 4,096, and slots below this number are named, by the table too. An event may lie on two pages, so with
     /// fewer frames than 2 the file is handed back, as where memory runs out.
     pub fn new(
         alloc: Global,
@@ -85,6 +87,7 @@ impl<D: Disk> Pool<D> {
     ) -> Result<Self, SlotFile<D>>
         requires frames { frames ≤ 4096 }
         requires slots { slots ≤ 1048576 }
+        requires table { AreBelow slots table.entries }
         ensures pool { IfOk result (λ p. p ≡ record {
           file = file;
           root = table.entries;
@@ -120,8 +123,9 @@ impl<D: Disk> Pool<D> {
     }
 
     /// Frees the frame of the page used least recently, and answers its number; none where no page is in memory. The page is
-    /// written first where it was changed: to the slot that was picked for it where it waits unchanged, and else to a free one.
+    /// written first where it was changed: to the slot that was picked for it where it waits unchanged, and else to the least free one.
     pub fn evict(&mut self) -> Result<Option<u64>, Refusal>
+        ensures takes { TakesLeastFree self.old self.new }
         ensures stays { Stays ⟦<D as Disk>⟧ self.old self.new }
         ensures none { result ≡ Ok None → (self.new ≡ self.old) × (self.old.frames ≡ []) }
         ensures freed { IfOk result (λ page. MatchOption page (self.old.frames ≡ []) (λ n. order_of self.old ≡ order_of self.new ++ n ∷ [])) }
@@ -135,6 +139,7 @@ impl<D: Disk> Pool<D> {
 
     /// Frees a frame where all are taken.
     pub fn make_room(&mut self) -> Result<(), Refusal>
+        ensures takes { TakesLeastFree self.old self.new }
         ensures stays { Stays ⟦<D as Disk>⟧ self.old self.new }
         ensures room { OnOk result (length self.new.frames < self.new.most_frames) }
         ensures quiet { length self.old.frames < self.old.most_frames → self.new ≡ self.old }
@@ -149,6 +154,7 @@ impl<D: Disk> Pool<D> {
     /// frame; the page that was used just before stays.
     pub fn load(&mut self, page: u64, segments: u32, sets: &SetTable) -> Result<(), Refusal>
         requires { page < 2 ^ 54 }
+        ensures takes { TakesLeastFree self.old self.new }
         ensures stays { Stays ⟦<D as Disk>⟧ self.old self.new }
         ensures loaded { OnOk result (is_some (frame_in self.new.frames page) ≡ true) }
         ensures order { OnOk result (order_of self.new ≡ order_with self.old page) }
@@ -179,7 +185,7 @@ impl<D: Disk> Pool<D> {
         requires word { word < 256 }
         ensures { (f : FrameOf) → frame_in self.now.frames page ≡ Some f → result ≡ get_or f.cells word New }
     {
-        match self.parts.frames.peek(&page) {
+        match self.parts.frames.get(page) {
             Some(frame) => frame.cells.get(word),
             None => Cell::New,
         }
@@ -196,6 +202,7 @@ impl<D: Disk> Pool<D> {
         ensures rest { self.new ≡ record self.old { frames = self.new.frames } }
         ensures frames { (f : FrameOf) → frame_in self.old.frames page ≡ Some f
             → (length f.cells ≡ 256) × ((q : ℕ) → frame_in self.new.frames q ≡ (if page == q then Some (record { cells = filled f.cells from to cell; is_dirty = true }) else frame_in self.old.frames q)) }
+        ensures order { order_of self.new ≡ order_with self.old page }
     {
         self.parts.update(page, from, to, cell);
     }
@@ -251,6 +258,13 @@ impl<D: Disk> Pool<D> {
         self.parts.put(page)
     }
 
+    /// Whether a write or a sync of the file failed.
+    pub fn is_broken(&self) -> bool
+        ensures { result ≡ is_broken self.now }
+    {
+        self.parts.file.is_broken()
+    }
+
     /// Whether no page waits.
     pub fn all_written(&self) -> bool
         ensures { IsTrue result ↔ (self.now.waiting ≡ []) }
@@ -274,11 +288,14 @@ impl<D: Disk> Pool<D> {
         self.parts.frames.len()
     }
 
-    /// The table of the frozen map. It names its pages as they are written.
+    /// The table of the frozen map. It names its pages as they are written, and a root can name it.
     pub fn frozen_table(&self) -> &Table
-        ensures { result.now.entries ≡ self.now.frozen }
+        ensures entries { result.now.entries ≡ self.now.frozen }
+        ensures nameable { IsNameable self.now.slots self.now.frozen }
     {
-        self.parts.frozen_table()
+        let table = self.parts.frozen_table();
+        let _entries = table.entries();
+        table
     }
 
     /// Makes what was written durable. After an `Ok` with all written, each image of the slots, read by the frozen table, gives

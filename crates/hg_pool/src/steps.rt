@@ -13,8 +13,8 @@ ghost use Rattle.hg_pool.specs.Maps.{bytes_of, copy_in, frame_in, frozen_at, in_
 ghost use Rattle.hg_pool.specs.Kept.{CellsFrom, IsWhole, Stays};
 ghost use Rattle.hg_pool.specs.Answers.{order_of};
 
+use crate::copies::add_copy;
 use crate::frame::Frame;
-use crate::held::{add_copy, mark_clean};
 use crate::parts::Parts;
 use hg_cells::Page;
 use hg_disk::Disk;
@@ -34,6 +34,7 @@ fn name_frozen(frozen: &mut Option<Table>, page: u64, slot: u32)
 }
 
 impl<D: Disk> Parts<D> {
+    ghost use Rattle.hg_pool.specs.Reached.{IsReached};
     ghost use Rattle.hg_pool.specs.Sound.{IsSound, frozen_of, shown_of};
 
     /// Makes room for an entry of the live table beside those that the pages that wait may need, and for this slot.
@@ -64,9 +65,11 @@ impl<D: Disk> Parts<D> {
         requires settled { (slot_in self.old.waiting.entries page ≡ None) ⊎ (is_some (copy_in self.old.copies.entries page) ≡ true) }
         requires room { length self.old.live.entries + length self.old.waiting.entries < self.old.live.capacity }
         requires slots { slot < self.old.live.slots }
+        requires within { slot < self.old.slots }
         ensures sound { IsSound self.new }
         ensures stays { Stays ⟦<D as Disk>⟧ (shown_of self.old) (shown_of self.new) }
         ensures rest { self.new ≡ record self.old { live = self.new.live; frames = self.new.frames } }
+        ensures slots { (q : ℕ) → slot_in self.new.live.entries q ≡ (if page == q then Some slot else slot_in self.old.live.entries q) }
         ensures clean { (f : FrameOf) → frame_in self.new.frames.entries page ≡ Some f → f.is_dirty ≡ false }
         ensures cells { CellsFrom self.old.frames.entries self.new.frames.entries }
         ensures present { is_some (frame_in self.new.frames.entries page) ≡ true }
@@ -74,7 +77,7 @@ impl<D: Disk> Parts<D> {
         ensures cap { self.new.frames.cap ≡ self.old.frames.cap }
     {
         let _placed = self.live.set(page, slot);
-        mark_clean(&mut self.frames, page);
+        self.frames.mark_clean(page);
     }
 
     /// Takes a page that was written from those that wait, and answers whether it is as it was frozen.
@@ -110,10 +113,11 @@ impl<D: Disk> Parts<D> {
         ensures cap { self.new.frames.cap ≡ self.old.frames.cap }
     {
         let _count = self.frames.len();
-        let _gone = self.frames.pop(&page);
+        self.frames.remove(page);
     }
 
     /// Makes a page the one used last, and answers whether it is in memory.
+    #[inline(always)]
     pub(crate) fn use_page(&mut self, page: u64) -> bool
         requires sound { IsSound self.old }
         ensures sound { IsSound self.new }
@@ -127,7 +131,7 @@ impl<D: Disk> Parts<D> {
         ensures cap { self.new.frames.cap ≡ self.old.frames.cap }
     {
         let _count = self.frames.len();
-        self.frames.promote(&page)
+        self.frames.promote(page)
     }
 
     /// Takes a page that is not in memory into a frame, as the one used last.
@@ -159,6 +163,7 @@ impl<D: Disk> Parts<D> {
     pub(crate) fn keep_page(&mut self, page: u64) -> Result<(), Refusal>
         requires sound { IsSound self.old }
         ensures sound { IsSound self.new }
+        ensures reached { IsReached self.old → IsReached self.new }
         ensures stays { Stays ⟦<D as Disk>⟧ (shown_of self.old) (shown_of self.new) }
         ensures rest { self.new ≡ record self.old { copies = self.new.copies } }
         ensures kept { OnOk result ((slot_in self.new.waiting.entries page ≡ None) ⊎ (is_some (copy_in self.new.copies.entries page) ≡ true)) }
@@ -170,9 +175,9 @@ impl<D: Disk> Parts<D> {
             return Ok(());
         }
         let _count = self.copies.len();
-        match self.frames.peek(&page) {
+        match self.frames.get(page) {
             None => Ok(()),
-            Some(frame) => add_copy(&mut self.copies, page, frame.cells.copy()),
+            Some(frame) => add_copy(&mut self.copies, page, &frame.cells),
         }
     }
 }

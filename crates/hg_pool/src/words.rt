@@ -1,12 +1,12 @@
 //! A pool as the detector's map of words: the live map.
-ghost use Rattle.std.specs.Prelude.{◌≡◌, ◌⊎◌, ◌+◌, ◌-◌, ◌*◌, ◌/◌, ◌%◌, ◌<◌, ◌≤◌, ◌==◌, ◌&&◌, ◌^◌, ℕ, length, nat_le, nat_lt, true, Some, None, is_some, IsTrue, IfErr, IfSome, OnOk, if◌then◌else◌};
+ghost use Rattle.std.specs.Prelude.{slice_get, ◌≡◌, ◌⊎◌, ◌+◌, ◌-◌, ◌*◌, ◌/◌, ◌%◌, ◌<◌, ◌≤◌, ◌==◌, ◌&&◌, ◌^◌, ℕ, length, nat_le, nat_lt, true, Some, None, is_some, IsTrue, IfErr, IfSome, OnOk, if◌then◌else◌};
 ghost use Rattle.hg_cells.specs.Cells.{IsWithin};
 ghost use Rattle.hg_detect.specs.Words.{failed_after};
 ghost use Rattle.hg_pages.specs.Tables.{slot_in};
 ghost use Rattle.hg_pool.specs.declared.frame.Frame.{Frame as FrameOf};
 ghost use Rattle.hg_pool.specs.Maps.{copy_in, disk_of, frame_in, live};
 ghost use Rattle.hg_pool.specs.Kept.{AreWithin, IsFaithful, Stays, Went};
-ghost use Rattle.hg_pool.specs.Answers.{IsTrueCause};
+ghost use Rattle.hg_pool.specs.Answers.{IsTrueCause, order_of, order_with};
 ghost use Rattle.hg_pool.specs.OfWords.{IsSettled};
 
 use crate::frame::Frame;
@@ -75,9 +75,9 @@ impl<D: Disk> Pool<D> {
         self.keep(last)
     }
 
-    // Whether a page may be changed.
-    #[inline]
-    fn is_settled(&self, page: u64) -> bool
+    // Whether a page may be changed, where some pages wait.
+    #[inline(never)]
+    fn is_settled_of_some(&self, page: u64) -> bool
         ensures { IsTrue result → IsSettled self.now page }
     {
         if self.parts.waiting.get(page).is_none() {
@@ -86,26 +86,58 @@ impl<D: Disk> Pool<D> {
         self.parts.copies.contains(&page)
     }
 
+    // Whether a page may be changed.
+    #[inline]
+    fn is_settled(&self, page: u64) -> bool
+        ensures { IsTrue result → IsSettled self.now page }
+    {
+        if self.parts.waiting.len() == 0 {
+            return true;
+        }
+        self.is_settled_of_some(page)
+    }
+
     // A page in its frame, where it is the one used last.
     #[inline]
     fn last_frame(&self, page: u64) -> Option<&Frame>
         ensures { IfSome result (λ f. frame_in self.now.frames page ≡ Some f.now) }
     {
-        match self.parts.frames.peek_mru() {
-            Some((last, frame)) => { if *last == page { Some(frame) } else { None } }
-            None => None,
-        }
+        self.parts.frames.first(page)
     }
 
-    // A page in its frame, where it is in memory. That used last is found without a look-up.
+    // Makes a page the one used last, and answers whether it is in memory.
     #[inline]
-    fn frame(&self, page: u64) -> Option<&Frame>
-        ensures { IfSome result (λ f. frame_in self.now.frames page ≡ Some f.now) }
+    fn touch(&mut self, page: u64) -> bool
+        ensures stays { Stays ⟦<D as Disk>⟧ self.old self.new }
+        ensures rest { self.new ≡ record self.old { frames = self.new.frames } }
+        ensures within { (n m : ℕ) → AreWithin self.old.frames n m → AreWithin self.new.frames n m }
+        ensures order { IsTrue result → order_of self.new ≡ order_with self.old page }
+        ensures answer { result ≡ is_some (frame_in self.old.frames page) }
     {
-        match self.last_frame(page) {
-            Some(frame) => Some(frame),
-            None => self.parts.frames.peek(&page),
+        self.parts.touch(page)
+    }
+
+    /// The cell that the words of a page from one place up to another all have, where the page is in memory and may be changed. (`None`
+    /// says nothing of them.) The page becomes the one used last.
+    #[inline]
+    pub fn ask(&mut self, page: u64, from: usize, to: usize) -> Option<Cell>
+        requires in_order { from < to }
+        requires in_page { to ≤ 256 }
+        ensures stays { Stays ⟦<D as Disk>⟧ self.old self.new }
+        ensures rest { self.new ≡ record self.old { frames = self.new.frames } }
+        ensures within { (n m : ℕ) → AreWithin self.old.frames n m → AreWithin self.new.frames n m }
+        ensures cells { IfSome result (λ cell. (f : FrameOf) × (frame_in self.new.frames page ≡ Some f) × ((i : ℕ) → from ≤ i → i < to → slice_get f.cells i ≡ Some cell)) }
+        ensures settled { IfSome result (λ cell. IsSettled self.new page) }
+        ensures order { is_some (frame_in self.old.frames page) ≡ true → order_of self.new ≡ order_with self.old page }
+    {
+        if !self.touch(page) {
+            return None;
         }
+        if !self.is_settled(page) {
+            return None;
+        }
+        let frame = self.last_frame(page)?;
+        frame.cells.same(from, to)
     }
 
     // Gives the words of a page from one place up to another a cell.
@@ -178,17 +210,13 @@ impl<D: Disk> Words for Pool<D> {
         }
     }
 
-    fn same(&self, first: u64, count: u64) -> Option<Cell> {
+    fn same(&mut self, first: u64, count: u64) -> Option<Cell> {
         let number = first / WORDS;
         let from = first % WORDS;
         if count == 0 || count > WORDS - from {
             return None;
         }
-        let frame = self.frame(number)?;
-        if !self.is_settled(number) {
-            return None;
-        }
-        frame.cells.same(from as usize, (from + count) as usize)
+        self.ask(number, from as usize, (from + count) as usize)
     }
 
     fn fill(&mut self, first: u64, count: u64, cell: Cell) {

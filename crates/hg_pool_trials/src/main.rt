@@ -3,7 +3,7 @@
 //! | Line | Step |
 //! |---|---|
 //! | `known SEGMENTS SETS` | what cells are checked against from here on; the sets but the first one, as `0,1;5`, or `-` |
-//! | `new FRAMES SLOTS FAILURES TABLE HEX` | a new pool over a disk with these bytes, of which these calls fail, as `0,7` or `12..`; the root's table, as `4:0,9:1` |
+//! | `new FRAMES SLOTS FAILURES TABLE HEX` | a new pool over a disk with these bytes, of which these calls fail, as `0,7` or `12..`; the root's table, as `4:0,9:1`, of slots below SLOTS |
 //! | `load P`, `keep P`, `evict`, `room`, `freeze`, `seal` | the call of the pool |
 //! | `update P FROM TO CELL` | the page is loaded and kept, and its words from one up to the other get the cell: `new`, `e5`, `r1,2` or `m1,2` |
 //! | `cells P` | the page is loaded, and its cells but the new ones are told |

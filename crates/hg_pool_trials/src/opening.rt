@@ -1,6 +1,7 @@
 //! What a line says of a new pool: its disk, which calls fail, its table, its frames and its slots.
 
-ghost use Rattle.std.specs.Prelude.{◌<◌, ◌^◌, IfSome};
+ghost use Rattle.std.specs.Prelude.{◌<◌, ◌^◌, IfSome, IsTrue};
+ghost use Rattle.hg_pool.specs.Tables.{AreBelow};
 
 use crate::disk::{Failures, TrialDisk};
 use crate::text::{bytes_of, front};
@@ -38,6 +39,18 @@ pub fn page_of(word: &str) -> Option<u64>
 {
     let page = word.parse::<u64>().ok()?;
     if page < MOST_PAGES { Some(page) } else { None }
+}
+
+// Whether a pool of so many slots may have the table.
+fn is_below(table: &Table, slots: u32) -> bool
+    ensures { IsTrue result → AreBelow slots table.now.entries }
+{
+    for entry in table.entries() {
+        if entry.0 >= MOST_PAGES || entry.1 >= slots {
+            return false;
+        }
+    }
+    true
 }
 
 // Gives a page the slot that a word like `4:2` names, where no page has the slot.
@@ -111,5 +124,8 @@ pub fn pool_of(alloc: Global, words: &str) -> Option<Pool<TrialDisk>> {
         return None;
     }
     let (disk, table) = parts_of(alloc, rest)?;
+    if !is_below(&table, slots) {
+        return None;
+    }
     Pool::new(alloc, SlotFile::attach(disk), table, frames, slots).ok()
 }

@@ -159,6 +159,49 @@ pub fn read_event(bytes: &[u8]) -> Option<(Event, usize)>
     }
 }
 
+/// Each event has a record: the types of its fields keep each within its width. Does nothing at run time.
+#[inline(always)]
+pub fn records_fit(named: &Named)
+    ensures { RecordFits named.now }
+{
+    let (_source, _number) = (named.source, named.number);
+    events_fit(named.event);
+}
+
+/// Each event is within its widths.
+#[inline(always)]
+fn events_fit(event: Event)
+    ensures { EventFits event }
+{
+    match event {
+        Event::Fork { p: _p, c: _c } => (),
+        Event::Join { p: _p, c: _c } => (),
+        Event::Lock { t: _t, l: _l } => (),
+        Event::RdLock { t: _t, l: _l } => (),
+        Event::Unlock { t: _t, l: _l } => (),
+        Event::Read(access) => accesses_fit(access),
+        Event::Write(access) => accesses_fit(access),
+        Event::Alloc(block) => blocks_fit(block),
+        Event::Free(block) => blocks_fit(block),
+    }
+}
+
+/// Each access is within its widths.
+#[inline(always)]
+fn accesses_fit(access: Access)
+    ensures { AccessFits access }
+{
+    let (_t, _at, _len) = (access.t, access.at, access.len);
+}
+
+/// Each block is within its widths.
+#[inline(always)]
+fn blocks_fit(block: Block)
+    ensures { BlockFits block }
+{
+    let (_t, _at, _len) = (block.t, block.at, block.len);
+}
+
 /// Appends the record of an event. An `Err` leaves `out` as it was. It takes no memory where `out` has room for
 /// `MAX_RECORD_LEN` bytes more.
 pub fn put_record(named: &Named, out: &mut Vec<u8>) -> Result<(), AllocError>

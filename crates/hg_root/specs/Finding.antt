@@ -4,6 +4,7 @@ use Rattle.hg_disk.specs.Calls.{CallsAtMost}
 use Rattle.hg_disk.specs.Moments.{LeavesOnly}
 use Rattle.hg_disk.specs.State.{IsImage}
 use Rattle.hg_disk.specs.declared.disk.Disk as disk
+use Rattle.hg_root.specs.Lawful.{IsLawful}
 use Rattle.hg_root.specs.Newest.{IsNewest}
 use Rattle.hg_root.specs.Pairs.{Stands, first_bytes, second_bytes}
 use Rattle.hg_root.specs.Parts.{Parts}
@@ -16,9 +17,9 @@ abbrev pub root_in : Option Root → Option Parts
 root_in None = None
 root_in (Some root) = Some (parts_of root)
 
--- If there is a root, it is whole.
+-- If there is a root, it is whole and obeys the rules: also where the disk lies.
 abbrev pub IsWholeIn : Option Root → Type 0
-IsWholeIn found = IfSome found IsWhole
+IsWholeIn found = IfSome found (λ r. IsWhole r × IsLawful (parts_of r))
 
 -- the number of a root, 0 where there is none
 abbrev pub number_in : Option Parts → ℕ

@@ -1,4 +1,4 @@
-use Rattle.std.proofs.Common.{◌≡◌, ◌≤◌, length, replicate}
+use Rattle.std.proofs.Common.{◌≡◌, ◌≤◌, replicate}
 use Rattle.std.specs.Prelude.{vec_capacity}
 use Rattle.hg_detect.proofs.plan.plan_alike.Given as goal
 

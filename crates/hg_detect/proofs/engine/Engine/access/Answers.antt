@@ -1,38 +1,30 @@
-use Rattle.std.proofs.Common.{◌≡◌, ◌+◌, ◌-◌, ◌/◌, ◌<◌, ◌≤◌, ◌++◌, ℕ, length, take, replicate, add-zero, Ok, None, refl, sym, ap, ◌∙◌, subst, arith}
-use Rattle.std.proofs.lemmas.List.{append-nil, length-replicate, take_all}
+use Rattle.std.proofs.Common.{ℕ, length, Option, Some, None, IfSome, arith}
 use Rattle.hg_model.specs.Verdicts.{standing}
-use Rattle.hg_cells.specs.declared.cell.Cell.TheVariants.{Exclusive}
-use Rattle.hg_detect.specs.Engine.{actor_of, shown_of}
-use Rattle.hg_detect.proofs.Accesses.{asked_from, last_word}
-use Rattle.hg_detect.proofs.Alike.{alike_asked, alike_found, alike_given, alike_planned, owned, owned_asks_none, stays_owned}
+use Rattle.hg_cells.specs.declared.cell.Cell.{Cell}
+use Rattle.hg_cells.specs.Cells.{IsWithin}
+use Rattle.hg_detect.proofs.Accesses.{last_word}
+use Rattle.hg_detect.proofs.Answering.{answers_from}
 use Rattle.hg_detect.proofs.Passing.{access_passes}
-use Rattle.hg_detect.proofs.Answering.{access_answers, nothing_changed}
 use Rattle.hg_detect.proofs.engine.Engine.access.Goals as goal
 
-pub returns-then-are_same-clause-answers : goal.returns-then-are_same-clause-answers
-returns-then-are_same-clause-answers g c =
-    let words = g.W.Words in
-    let laws = g.met.W.Words in
-    let old = c.args.self.now in
+pub access_found-requires-clause-count : goal.access_found-requires-clause-count
+access_found-requires-clause-count g c =
     let a = c.args.access.now in
-    let passed = access_passes (standing old.state) c.args.named.now c.args.write a c.requires.event c.requires.accepted in
-    let actor = actor_of old a c.args.write in
-    let first = a.at / 4 in
+    let passed = access_passes (standing c.args.self.now.state) c.args.named.now c.args.write a c.requires.event c.requires.accepted in
     let ends = last_word a c.from.result c.from.ensures passed.some in
-    let n : ℕ = (a.at + a.len + 3) / 4 - first in
-    let some : 0 < n = let l = passed.some in omega arith in
-    let segment = c.present.ensures.value in
-    let within : actor.segment < length old.graph = let lt = c.present.ensures.within in omega (arith, segment) in
-    let is : c.in-Some.cell ≡ Exclusive actor.segment = c.are_same.ensures.0 c.if-are_same.true ∙ ap Exclusive segment in
-    let alike : (w : ℕ) → first ≤ w → w < first + n → words.cell_of old.words w ≡ Exclusive actor.segment = λ w low high. c.in-Some.ensures.cells w low (omega (arith, ends)) ∙ is in
-    let p = owned actor.segment in
-    let none = alike_found (old.state.events + 1) c.args.write a.t first p n refl in
-    access_answers words.cell_of words.may_bring words.is_faithful words.may_refuse old old _ c.args.named.now c.args.write a (old.state.events + 1) 0 _ (replicate n p)
-    c.requires.event passed (nothing_changed words.cell_of words.may_bring words.is_faithful old c.requires.sound) laws.brings_more laws.more_faithful laws.faithful_within c.requires.sound c.requires.lawful
-    c.follow.ensures refl refl refl refl (alike_planned old.graph old.sets.sets old.sets.sets actor (words.cell_of old.words) (Exclusive actor.segment) p first n (stays_owned old.graph old.sets.sets actor within) alike) (length-replicate n p)
-    (alike_given (words.cell_of old.words) (words.cell_of old.words) p first n alike (λ w out. refl))
-    (λ s m each h. h)
-    (λ s m each h. h)
-    refl (sym (ap (λ xs. take 65536 (old.kept.items ++ xs)) none ∙ ap (take 65536) (append-nil old.kept.items) ∙ take_all 65536 old.kept.items c.requires.sound.few)) (sym (ap length none)) (sym (add-zero old.total))
-    (λ h. asked_from words.cell_of (shown_of old) c.args.named.now.event c.args.write a actor _ (Ok tt) (Ok tt) old.sets c.requires.event passed.some refl refl refl
-    (alike_asked old.graph old.sets old.sets actor (words.cell_of old.words) (Exclusive actor.segment) first n None some (owned_asks_none old.graph old.sets actor) alike))
+    omega (arith, ends)
+
+pub access_found-requires-clause-within : goal.access_found-requires-clause-within
+access_found-requires-clause-within g c =
+    let old = c.args.self.now in
+    let lawful = c.same-found.ensures.lawful (length old.graph) (length old.sets.sets) c.requires.lawful in
+    at_counts g.W.Words.may_bring c.same-found.new.self (length old.graph) (length old.sets.sets) c.same-found.result c.same-found.ensures.named lawful
+  where
+    at_counts : {W : Type 0} (may_bring : W → ℕ → ℕ → Type 0) (words : W) (n m : ℕ) (o : Option Cell) → IfSome o (λ cell. (segments sets : ℕ) → may_bring words segments sets → IsWithin segments sets cell) → may_bring words n m → IfSome o (IsWithin n m)
+    at_counts may_bring words n m None named lawful = named
+    at_counts may_bring words n m (Some cell) named lawful = named n m lawful
+
+pub returns-clause-answers : goal.returns-clause-answers
+returns-clause-answers g c =
+    let words = g.W.Words in
+    answers_from words.cell_of words.may_bring words.is_faithful words.may_refuse c.args.self.now c.access_found.new.self c.same-found.new.self c.args.named.now c.access_found.result c.same-found.ensures.unchanged c.same-found.ensures.faithful c.access_found.ensures.answers

@@ -1,14 +1,12 @@
-use Rattle.std.proofs.Common.{◌≡◌, ◌⊎◌, ◌+◌, ◌-◌, ◌/◌, ◌<◌, ◌≤◌, ◌++◌, ℕ, List, length, take, replicate, add-zero, false, Ok, Err, IfOk, OnOk, IfErr, None, inl, inr, ⊎_elim, refl, sym, ap, ◌∙◌, subst, arith}
+use Rattle.std.proofs.Common.{◌≡◌, ◌⊎◌, ◌+◌, ◌-◌, ◌/◌, ◌<◌, ◌≤◌, ◌++◌, ℕ, length, take, replicate, add-zero, Ok, Err, IfOk, OnOk, IfErr, None, inl, inr, ⊎_elim, refl, sym, ap, ◌∙◌, subst, arith}
 use Rattle.std.proofs.lemmas.List.{append-nil, length-replicate, take_all}
 use Rattle.hg_model.specs.Verdicts.{standing}
 use Rattle.hg_model.specs.declared.verdict.Refusal.TheVariants as refusal
-use Rattle.hg_cells.specs.declared.cell.Cell.{Cell}
 use Rattle.hg_cells.specs.Cells.{meaning}
 use Rattle.hg_detect.specs.Engine.{actor_of, shown_of}
 use Rattle.hg_detect.specs.Making.{Asks, AsksBy, sets_in}
-use Rattle.hg_detect.specs.Planning.{IsPlanned, touched_by, wanted}
-use Rattle.hg_detect.specs.Shown.{found, given}
-use Rattle.std.specs.List.{range_with_len}
+use Rattle.hg_detect.specs.Planning.{IsPlanned, touched_by}
+use Rattle.hg_detect.specs.Shown.{found}
 use Rattle.hg_detect.proofs.Accesses.{asked_from}
 use Rattle.hg_detect.proofs.Alike.{alike_planned, alike_given, alike_found, alike_asked, alike_refused, alike_within, quiet}
 use Rattle.hg_detect.proofs.Passing.{access_passes}

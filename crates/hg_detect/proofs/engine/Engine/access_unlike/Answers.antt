@@ -1,4 +1,4 @@
-use Rattle.std.proofs.Common.{true, ◌≡◌, ◌+◌, ◌-◌, ◌/◌, ◌<◌, ◌≤◌, List, replicate, add-zero, sym, ℕ, Ok, Err, refl, ap, ◌∙◌, subst, arith, length, take, ◌++◌, All}
+use Rattle.std.proofs.Common.{◌≡◌, ◌+◌, ◌/◌, ℕ, Ok, Err, refl, ap, ◌∙◌, subst, arith, length, take, ◌++◌, All}
 use Rattle.hg_model.specs.Verdicts.{standing}
 use Rattle.hg_detect.specs.Engine.{actor_of, shown_of}
 use Rattle.hg_detect.specs.Shown.{found, given}

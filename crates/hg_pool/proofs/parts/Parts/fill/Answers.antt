@@ -12,11 +12,11 @@ returns-clause-sound g c =
     let p = c.args.self.now in
     let found = the_some (frame_in p.frames.entries c.args.page) c.requires.present in
     let e : Frame = record { cells = filled found.0.cells c.args.from c.args.to c.args.cell; is_dirty = true } in
-    sound_filled p.root p.frozen p.live p.waiting p.copies p.frames c.fill_words.new.frames p.slots p.is_sealed c.args.page e found.0 c.requires.sound c.fill_words.ensures.cap (c.fill_words.ensures.frames found.0 found.1) refl found.1
+    sound_filled p.root p.frozen p.live p.waiting p.copies p.frames c.fill.new.self p.slots p.is_sealed c.args.page e found.0 c.requires.sound c.fill.ensures.cap (c.fill.ensures.frames found.0 found.1) refl found.1
 
 pub returns-clause-went : goal.returns-clause-went
 returns-clause-went g c =
     let p = c.args.self.now in
     let found = the_some (frame_in p.frames.entries c.args.page) c.requires.present in
     let e : Frame = record { cells = filled found.0.cells c.args.from c.args.to c.args.cell; is_dirty = true } in
-    went_filled g.D.Disk (shown_of p) c.fill_words.new.frames.entries c.fill_words.new.frames.cap c.args.page e (c.fill_words.ensures.frames found.0 found.1) refl c.fill_words.ensures.cap c.requires.settled
+    went_filled g.D.Disk (shown_of p) c.fill.new.self.entries c.fill.new.self.cap c.args.page e (c.fill.ensures.frames found.0 found.1) refl c.fill.ensures.cap c.requires.settled

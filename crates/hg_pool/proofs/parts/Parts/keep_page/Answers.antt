@@ -1,4 +1,4 @@
-use Rattle.std.proofs.Common.{rules, ◌≡◌, ℕ, List, Some, true, false, is_some, sym, subst, arith}
+use Rattle.std.proofs.Common.{rules, ◌≡◌, ℕ, List, Some, true, false, is_some, refl, sym, subst, arith}
 use Rattle.hg_cells.specs.declared.cell.Cell.{Cell}
 use Rattle.hg_pages.specs.Tables.{slot_in}
 use Rattle.hg_pool.specs.Kept.{Stays}
@@ -17,8 +17,8 @@ add_copy-requires-clause-room g c =
     let waits : is_some (slot_in p.waiting.entries page) ≡ true = search rules in
     let missing : is_some (copy_in p.copies.entries page) ≡ false = search rules in
     let none = no_some (copy_in p.copies.entries page) missing in
-    let distinct = distinct_new page c.copy.result p.copies.entries c.len-count.ensures.valid.0 none in
-    let few = fewer page c.copy.result p.waiting.entries p.copies.entries distinct (λ k is. let found = the_some (copy_in p.copies.entries k) is in c.requires.sound.copied k found.0 found.1) waits in
+    let distinct = distinct_new page c.in-Some.frame.now.cells p.copies.entries c.len-count.ensures.valid.0 none in
+    let few = fewer page c.in-Some.frame.now.cells p.waiting.entries p.copies.entries distinct (λ k is. let found = the_some (copy_in p.copies.entries k) is in c.requires.sound.copied k found.0 found.1) waits in
     omega (arith, few, c.requires.sound.few, c.requires.sound.most)
 
 pub returns-in-Some-clause-stays : goal.returns-in-Some-clause-stays
@@ -31,5 +31,5 @@ returns-in-Some-clause-stays g c =
     let there : Some c.in-Some.frame.now ≡ frame_in p.frames.entries page = search rules in
     let found = the_some (slot_in p.waiting.entries page) waits in
     either {S = Stays g.D.Disk old (record old { copies = c.add_copy.new.copies.entries })} c.add_copy.result c.add_copy.ensures.looks c.add_copy.ensures.refused
-    (λ look. stays_copied g.D.Disk old c.add_copy.new.copies.entries page found.0 c.in-Some.frame.now c.copy.result look found.1 (no_some (copy_in p.copies.entries page) missing) (sym there) c.copy.ensures.cells)
+    (λ look. stays_copied g.D.Disk old c.add_copy.new.copies.entries page found.0 c.in-Some.frame.now c.in-Some.frame.now.cells look found.1 (no_some (copy_in p.copies.entries page) missing) (sym there) refl)
     (λ same. subst (λ (x : LruCache ℕ (List Cell)). Stays g.D.Disk old (record old { copies = x.entries })) (sym same) (stays_nowhere g.D.Disk old))

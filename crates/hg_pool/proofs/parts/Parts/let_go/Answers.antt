@@ -21,10 +21,10 @@ pub returns-clause-sound : goal.returns-clause-sound
 returns-clause-sound g c =
     let p = c.args.self.now in
     let s = c.requires.sound in
-    let new = c.pop-gone.ensures.entries in
-    let look : (q : ℕ) → frame_in c.pop-gone.new.self.entries q ≡ (if c.args.page == q then None else frame_in p.frames.entries q) =
+    let new = c.remove.ensures.entries in
+    let look : (q : ℕ) → frame_in c.remove.new.self.entries q ≡ (if c.args.page == q then None else frame_in p.frames.entries q) =
     λ q. ap (λ (x : LruCache ℕ Frame). frame_in x.entries q) new ∙ looked_removed c.args.page q p.frames.entries c.len-count.ensures.valid.0 in
-    sound_frames p.root p.frozen p.live p.waiting p.copies p.frames c.pop-gone.new.self p.slots p.is_sealed s (ap (λ (x : LruCache ℕ Frame). x.cap) new)
+    sound_frames p.root p.frozen p.live p.waiting p.copies p.frames c.remove.new.self p.slots p.is_sealed s (ap (λ (x : LruCache ℕ Frame). x.cap) new)
     (λ q f is. s.numbers q f (kept (c.args.page == q) (frame_in p.frames.entries q) f (sym (look q) ∙ is)))
     (λ q slot f waits none is dirty.
     let apart = clean_apart p.root p.frozen p.live p.waiting p.copies p.frames p.slots p.is_sealed c.args.page q slot f s c.requires.clean is dirty in
@@ -38,16 +38,16 @@ pub returns-clause-stays : goal.returns-clause-stays
 returns-clause-stays g c =
     let p = c.args.self.now in
     let old : Shown g.row.D.Denot = shown_of p in
-    let new : Shown g.row.D.Denot = record old { frames = c.pop-gone.new.self.entries; most_frames = c.pop-gone.new.self.cap } in
+    let new : Shown g.row.D.Denot = record old { frames = c.remove.new.self.entries; most_frames = c.remove.new.self.cap } in
     let page = c.args.page in
-    let is = c.pop-gone.ensures.entries in
+    let is = c.remove.ensures.entries in
     let look : (q : ℕ) → frame_in new.frames q ≡ (if page == q then None else frame_in p.frames.entries q) =
     λ q. ap (λ (x : LruCache ℕ Frame). frame_in x.entries q) is ∙ looked_removed page q p.frames.entries c.len-count.ensures.valid.0 in
     let gone : frame_in new.frames page ≡ None = look page ∙ if_true (page == page) None (frame_in p.frames.entries page) (itself page) in
     let live : IsWhole g.D.Disk old → LiveHere g.D.Disk page old new = λ h i lt.
     ap (λ (o : Option Frame). in_frame_or o (in_slot (bytes_of g.D.Disk old) (slot_in old.live page) i) i) gone
     ∙ looks page (frame_in old.frames page) (in_slot (bytes_of g.D.Disk old) (slot_in old.live page) i) i (λ f there. (h.pages page).clean f there (c.requires.clean f there) i lt) in
-    stays_at g.D.Disk old new page (still_file g.D.Disk old new refl refl (λ q s there. there) (λ sealed. sealed) (ap (λ (x : LruCache ℕ Frame). x.cap) is, refl)) (λ s b named has. has)
+    stays_at g.D.Disk old new page (still_file g.D.Disk old new refl refl (λ q s there. there) (λ sealed. sealed) (λ sealed. refl) (ap (λ (x : LruCache ℕ Frame). x.cap) is, refl)) (λ s b named has. has)
     (λ q apart. record { frames = look q ∙ if_false (page == q) None (frame_in p.frames.entries q) apart; live = refl; frozen = refl; waiting = refl; copies = refl })
     live
     (λ h. record {
@@ -58,5 +58,5 @@ returns-clause-stays g c =
 pub returns-clause-cells : goal.returns-clause-cells
 returns-clause-cells g c =
     let p = c.args.self.now in
-    cells_gone c.args.page p.frames.entries c.pop-gone.new.self.entries
-    (λ q. ap (λ (x : LruCache ℕ Frame). frame_in x.entries q) c.pop-gone.ensures.entries ∙ looked_removed c.args.page q p.frames.entries c.len-count.ensures.valid.0)
+    cells_gone c.args.page p.frames.entries c.remove.new.self.entries
+    (λ q. ap (λ (x : LruCache ℕ Frame). frame_in x.entries q) c.remove.ensures.entries ∙ looked_removed c.args.page q p.frames.entries c.len-count.ensures.valid.0)

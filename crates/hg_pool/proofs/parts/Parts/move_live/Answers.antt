@@ -30,8 +30,8 @@ returns-clause-sound g c =
     let found = the_some (frame_in p.frames.entries c.args.page) c.requires.present in
     let e = c.set-placed.ensures in
     let put = set_at c.args.page c.args.slot p.live c.set-placed.new.self c.set-placed.result p.waiting c.requires.room c.requires.slots e.ok e.adds e.length e.no_less in
-    sound_moved p.root p.frozen p.live c.set-placed.new.self p.waiting p.copies p.frames c.mark_clean.new.frames p.slots p.is_sealed c.args.page c.args.slot found.0 c.requires.sound put found.1
-    (c.mark_clean.ensures.frames found.0 found.1) c.mark_clean.ensures.cap c.requires.unpicked c.requires.settled c.requires.room
+    sound_moved p.root p.frozen p.live c.set-placed.new.self p.waiting p.copies p.frames c.mark_clean.new.self p.slots p.is_sealed c.args.page c.args.slot found.0 c.requires.sound put found.1
+    (c.mark_clean.ensures.frames found.0 found.1) c.mark_clean.ensures.cap c.requires.unpicked c.requires.settled c.requires.room c.requires.within
 
 pub returns-clause-stays : goal.returns-clause-stays
 returns-clause-stays g c =
@@ -39,11 +39,11 @@ returns-clause-stays g c =
     let found = the_some (frame_in p.frames.entries c.args.page) c.requires.present in
     let e = c.set-placed.ensures in
     let put = set_at c.args.page c.args.slot p.live c.set-placed.new.self c.set-placed.result p.waiting c.requires.room c.requires.slots e.ok e.adds e.length e.no_less in
-    stays_moved g.D.Disk (shown_of p) c.set-placed.new.self.entries c.mark_clean.new.frames.entries c.mark_clean.new.frames.cap c.args.page c.args.slot found.0 put.looks found.1
+    stays_moved g.D.Disk (shown_of p) c.set-placed.new.self.entries c.mark_clean.new.self.entries c.mark_clean.new.self.cap c.args.page c.args.slot found.0 put.looks found.1
     (c.mark_clean.ensures.frames found.0 found.1) c.mark_clean.ensures.cap (c.requires.stands found.0 found.1)
 
 pub returns-clause-cells : goal.returns-clause-cells
 returns-clause-cells g c =
     let p = c.args.self.now in
     let found = the_some (frame_in p.frames.entries c.args.page) c.requires.present in
-    cells_clean c.args.page found.0 p.frames.entries c.mark_clean.new.frames.entries found.1 (c.mark_clean.ensures.frames found.0 found.1)
+    cells_clean c.args.page found.0 p.frames.entries c.mark_clean.new.self.entries found.1 (c.mark_clean.ensures.frames found.0 found.1)

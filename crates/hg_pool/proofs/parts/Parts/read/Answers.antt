@@ -2,9 +2,11 @@ use Rattle.std.proofs.Common.{rules, ◌≡◌, ◌∙◌, ℕ, List, Option, No
 use Rattle.hg_cells.specs.declared.cell.Cell.{Cell}
 use Rattle.hg_cells.specs.declared.cell.Cell.TheVariants.{New}
 use Rattle.hg_cells.specs.Cells.{IsWithin}
+use Rattle.hg_pages.specs.Files as files
 use Rattle.hg_pages.specs.Tables.{slot_in}
-use Rattle.hg_pool.specs.Maps.{bytes_of, in_slot}
+use Rattle.hg_pool.specs.Maps.{bytes_of, disk_of, in_slot}
 use Rattle.hg_pool.specs.Sound.{shown_of}
+use Rattle.hg_pool.proofs.Breaking.{more_after}
 use Rattle.hg_pool.proofs.FromSlots.{new_cells, new_within, no_damage, read_there, stands_there, stays_read, whole_before}
 use Rattle.hg_pool.proofs.parts.Parts.read.Goals as goal
 
@@ -19,10 +21,10 @@ returns-in-None-clause-named g c i =
     subst (λ (l : List Cell). IsWithin c.args.segments (length c.args.sets.now.sets) (get_or l i New)) (sym c.new.ensures) (new_within 256 c.args.segments (length c.args.sets.now.sets) i)
 
 pub returns-in-Ok-clause-stays : goal.returns-in-Ok-clause-stays
-returns-in-Ok-clause-stays g c = stays_read g.D.Disk (shown_of c.args.self.now) c.read_page.new.self c.read_page.ensures.any_moment c.read_page.ensures.works c.read_page.ensures.known
+returns-in-Ok-clause-stays g c = stays_read g.D.Disk (shown_of c.args.self.now) c.read_page.new.self c.read_page.ensures.any_moment c.read_page.ensures.works (more_after c.read_page.result (g.D.Disk.failures (disk_of (shown_of c.args.self.now))) (g.D.Disk.failures (files.disk_of c.read_page.new.self)) c.read_page.ensures.device) c.read_page.ensures.known
 
 pub returns-in-Err-clause-stays : goal.returns-in-Err-clause-stays
-returns-in-Err-clause-stays g c = stays_read g.D.Disk (shown_of c.args.self.now) c.read_page.new.self c.read_page.ensures.any_moment c.read_page.ensures.works c.read_page.ensures.known
+returns-in-Err-clause-stays g c = stays_read g.D.Disk (shown_of c.args.self.now) c.read_page.new.self c.read_page.ensures.any_moment c.read_page.ensures.works (more_after c.read_page.result (g.D.Disk.failures (disk_of (shown_of c.args.self.now))) (g.D.Disk.failures (files.disk_of c.read_page.new.self)) c.read_page.ensures.device) c.read_page.ensures.known
 
 pub returns-in-Ok-clause-cells : goal.returns-in-Ok-clause-cells
 returns-in-Ok-clause-cells g c h i lt =

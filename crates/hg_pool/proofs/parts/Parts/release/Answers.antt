@@ -53,4 +53,4 @@ returns-clause-stays g c =
     ∙ ap (λ (o : Option tables.Shown). if page == q then Some c.args.slot else slot_in (unwrap_or o p.root).entries q) (sym own.1))
     c.requires.waits was.unwritten c.remove.ensures.removed
     (λ q. ap (λ (x : LruCache ℕ (List Cell)). copy_in x.entries q) c.pop.ensures.entries ∙ looked_removed page q p.copies.entries c.len-count.ensures.valid.0)
-    c.requires.stands
+    c.requires.stands c.requires.sound.sealed

@@ -8,13 +8,13 @@ use Rattle.hg_pool.specs.Maps.{bytes_of, frame_in, in_frame_or, in_slot}
 use Rattle.hg_pool.specs.Shown.{Shown}
 use Rattle.hg_pool.specs.Sound.{shown_of}
 use Rattle.hg_pool.proofs.Changing.{LiveHere, still_file}
-use Rattle.hg_pool.proofs.Lookups.{if_false, if_true, itself, looked_new, put_new, same_number}
+use Rattle.hg_pool.proofs.Lookups.{if_false, if_true, itself, looked_new, same_number}
 use Rattle.hg_pool.proofs.Stepping.{frozen_from_live, sound_frames, stays_at}
 use Rattle.hg_pool.proofs.parts.Parts.take_in.Goals as goal
 
 pub returns-in-Ok-clause-frames : goal.returns-in-Ok-clause-frames
 returns-in-Ok-clause-frames g c =
-    ap (λ (x : LruCache ℕ Frame). x.entries) c.in-Ok.ensures.entries ∙ put_new c.args.self.now.frames c.args.page (record { cells = c.args.cells; is_dirty = false }) c.requires.absent c.requires.room
+    ap (λ (x : LruCache ℕ Frame). x.entries) c.in-Ok.ensures.entries
 
 number : (b : Bool) (page q : ℕ) (new f : Frame) (o : Option Frame) → (page == q) ≡ b → (if b then Some new else o) ≡ Some f → page < 2 ^ 54 → (o ≡ Some f → q < 2 ^ 54) → q < 2 ^ 54
 number true page q new f o test is lt rest = subst (λ (n : ℕ). n < 2 ^ 54) (same_number page q test) lt
@@ -50,7 +50,7 @@ returns-in-Ok-clause-stays g c =
     ap (λ (o : Option Frame). in_frame_or o (in_slot (bytes_of g.D.Disk old) (slot_in old.live page) i) i) here
     ∙ c.requires.stands h i lt
     ∙ sym (ap (λ (o : Option Frame). in_frame_or o (in_slot (bytes_of g.D.Disk old) (slot_in old.live page) i) i) c.requires.absent) in
-    stays_at g.D.Disk old new page (still_file g.D.Disk old new refl refl (λ q s there. there) (λ sealed. sealed) (ap (λ (x : LruCache ℕ Frame). x.cap) c.in-Ok.ensures.entries, refl)) (λ s b named has. has)
+    stays_at g.D.Disk old new page (still_file g.D.Disk old new refl refl (λ q s there. there) (λ sealed. sealed) (λ sealed. refl) (ap (λ (x : LruCache ℕ Frame). x.cap) c.in-Ok.ensures.entries, refl)) (λ s b named has. has)
     (λ q test. record { frames = look q ∙ if_false (page == q) (Some fresh) (frame_in p.frames.entries q) test; live = refl; frozen = refl; waiting = refl; copies = refl })
     live
     (λ h. record {

@@ -11,4 +11,4 @@ returns-clause-stays g c =
     let e = c.write_slot.ensures in
     let n = c.requires in
     subst (λ (x : Parts g.row.D.Denot). Stays g.D.Disk (shown_of p) (shown_of x)) (sym e.rest)
-    (stays_written g.D.Disk (shown_of p) c.write_slot.new.self.file c.args.slot n.not_root n.not_frozen n.not_live e.others e.any_moment e.long e.works)
+    (stays_written g.D.Disk (shown_of p) c.write_slot.new.self.file c.args.slot n.not_root n.not_frozen n.not_live e.others e.any_moment e.long e.works e.cause)

@@ -3,6 +3,8 @@ use Rattle.hg_pages.specs.Slots.{IsKnown}
 use Rattle.hg_pool.specs.Kept.{AreWithin, IsWhole}
 use Rattle.hg_pool.specs.Maps.{live}
 use Rattle.hg_pool.specs.Shown.{Shown}
+use Rattle.hg_pool.specs.Picking.{TakesLeastFree}
+use Rattle.hg_pool.specs.Sound.{shown_of}
 use Rattle.hg_pool.proofs.pool.Pool.load.Goals as goal
 
 pub returns-clause-within : goal.returns-clause-within
@@ -13,3 +15,6 @@ pub returns-clause-undamaged : goal.returns-clause-undamaged
 returns-clause-undamaged g c h known =
     c.load.ensures.undamaged (subst (λ (p : Shown g.row.D.Denot). IsWhole g.D.Disk p) (sym c.self.view_is) h)
     (subst (λ (p : Shown g.row.D.Denot). (w : ℕ) → w / 256 ≡ c.args.page → IsKnown c.args.segments c.args.sets.now.sets (live g.D.Disk p w)) (sym c.self.view_is) known)
+
+pub returns-clause-takes : goal.returns-clause-takes
+returns-clause-takes g c = subst (λ (p : Shown g.row.D.Denot). TakesLeastFree p (shown_of c.load.new.self)) c.self.view_is c.load.ensures.takes

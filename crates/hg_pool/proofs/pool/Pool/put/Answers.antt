@@ -12,3 +12,6 @@ returns-clause-stale g c =
     let e = c.args.page.now in
     subst (λ (p : Shown g.row.D.Denot). IfOk c.put.result (λ put. put ≡ Stale → (slot : ℕ) (cells : List Cell) → slot_in p.waiting e.page ≡ Some slot → IsFrozen p e.page cells → e.bytes ≡ slot_text e.page cells → ⊥)) c.self.view_is
     c.put.ensures.stale
+
+pub invariant_of-self : goal.invariant_of-self
+invariant_of-self g c = (c.put.ensures.sound, c.put.ensures.reached c.self.invariant.1)

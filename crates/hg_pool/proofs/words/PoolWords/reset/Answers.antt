@@ -1,6 +1,6 @@
 use Rattle.std.proofs.Common.{◌≡◌, true, is_some, sym, subst}
 use Rattle.hg_pool.specs.Maps.{frame_in}
-use Rattle.hg_pool.specs.OfWords.{IsSettled}
+use Rattle.hg_pool.specs.OfWords.{IsSettled, went_on}
 use Rattle.hg_pool.specs.Shown.{Shown}
 use Rattle.hg_pool.proofs.Overlapping.{at_first, at_last}
 use Rattle.hg_pool.proofs.words.PoolWords.reset.Goals as goal
@@ -28,3 +28,6 @@ returns-then-last-first-clause-lawful g c n m within = c.fill_page-then-last-fir
 
 pub returns-else-last-first-clause-lawful : goal.returns-else-last-first-clause-lawful
 returns-else-last-first-clause-lawful g c n m within = c.fill_page.ensures.within n m tt within
+
+pub returns-then-last-first-clause-went : goal.returns-then-last-first-clause-went
+returns-then-last-first-clause-went g c = went_on g.D.Disk c.args.self.now c.fill_page.new.self c.fill_page-then-last-first.new.self c.fill_page.ensures.went c.fill_page-then-last-first.ensures.went

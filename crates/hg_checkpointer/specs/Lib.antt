@@ -1,0 +1,5 @@
+pub mod Tables
+pub mod Told
+pub mod Phases
+pub mod Standing
+pub mod Laws

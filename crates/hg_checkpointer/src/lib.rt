@@ -1,0 +1,10 @@
+//! A checkpoint in progress: its phases, over a pool and two root files.
+#![tactic(auto)]
+
+mod checkpointer;
+pub mod laws;
+mod phase;
+mod rows;
+
+pub use checkpointer::Checkpointer;
+pub use phase::{CheckpointFault, Phase};

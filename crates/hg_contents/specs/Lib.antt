@@ -1,0 +1,10 @@
+pub mod Images
+pub mod Choices
+pub mod Stores
+pub mod Maps
+pub mod Runs
+pub mod Laws
+pub mod Lawful
+pub mod Heads
+pub mod Spellings
+pub mod States

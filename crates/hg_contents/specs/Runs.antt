@@ -1,0 +1,45 @@
+-- Runs of a store, and what an image meanwhile stands for.
+use Rattle.std.specs.Prelude.{◌≡◌, ◌⊎◌, ◌++◌, List, [], ◌∷◌, reverse, Bool, true, Some}
+use Rattle.hg_model.specs.declared.event.Named.{Named}
+use Rattle.hg_model.specs.declared.verdict.Verdict.TheVariants.{Accept}
+use Rattle.hg_model.specs.Contents.{Content, summary}
+use Rattle.hg_model.specs.Verdicts.{IsAccepted, verdict, standing_of}
+use Rattle.hg_model.specs.Change.{after, empty_content, followed}
+use Rattle.hg_contents.specs.Images.{HasContent, Image}
+
+-- The events that were accepted: those before the last commit that was acknowledged, and those since. In doubt: a commit was ended by
+-- a fault of a device.
+pub record Run : Type 0 where
+  pub acknowledged : List Named
+  pub pending : List Named
+  pub in_doubt : Bool
+
+abbrev pub accepted : Run → List Named
+accepted run = run.acknowledged ++ run.pending
+
+-- The image has the content at the acknowledged events or, where in doubt, at all accepted ones.
+abbrev pub StandsFor : Content → Run → Bool → Image → Type 0
+StandsFor start run in_doubt image =
+    (c : Content) × HasContent image c × ((followed start run.acknowledged ≡ Some c) ⊎ ((in_doubt ≡ true) × (followed start (accepted run) ≡ Some c)))
+
+-- each event is accepted after those before it
+abbrev pub AreAccepted : Content → List Named → Type 0
+AreAccepted c [] = Unit {0}
+AreAccepted c (n ∷ rest) = (verdict (standing_of c) n ≡ Accept) × AreAccepted (after c n) rest
+
+-- A prefix of the accepted events that has each acknowledged one, and the rest.
+pub record Split (run : Run) (front rest : List Named) : Type 0 where
+  pub whole : front ++ rest ≡ accepted run
+  pub more : List Named
+  pub acknowledged : run.acknowledged ++ more ≡ front
+
+-- What remains of a stopped run, accepted after the content of an image, gives the content of the run that was never stopped.
+abbrev pub RemainingGiveTheSame : Type 0
+RemainingGiveTheSame = (start live : Content) (run : Run) (in_doubt : Bool) (image : Image) → StandsFor start run in_doubt image → followed start (accepted run) ≡ Some live
+    → (c : Content) × (front : List Named) × (rest : List Named)
+    × HasContent image c × Split run front rest × (followed start front ≡ Some c) × (followed c rest ≡ Some live) × AreAccepted c rest
+
+-- From the empty content on, the content of an image is the summary of a prefix of the accepted events that has each acknowledged one.
+abbrev pub PrefixIsSummed : Type 0
+PrefixIsSummed = (run : Run) (in_doubt : Bool) (image : Image) → StandsFor empty_content run in_doubt image
+    → (front : List Named) × (rest : List Named) × Split run front rest × IsAccepted (reverse front) × HasContent image (summary (reverse front))

@@ -1,0 +1,15 @@
+pub mod Moments
+pub mod Backing
+pub mod Going
+pub mod Offering
+pub mod Refusing
+pub mod Committing
+pub mod Staying
+pub mod Checkpointing
+pub mod Reading
+pub mod Runs
+pub mod Stepping
+pub mod Opening
+pub mod Freezing
+pub mod Replaying
+pub mod Making

@@ -1,0 +1,49 @@
+-- What a crash may leave of the devices of a store, from one moment to another.
+use Rattle.std.specs.Prelude.{◌≡◌, ◌+◌, ℕ, Some}
+use Rattle.hg_model.specs.Contents.{Content}
+use Rattle.hg_disk.specs.Moments.{GoesOn, MayLeave}
+use Rattle.hg_disk.specs.declared.disk.Disk as disk
+use Rattle.hg_root.specs.Checkpoints.{Checkpoint, HasCheckpoint}
+use Rattle.hg_contents.specs.Images.{Image, content_of}
+use Rattle.hg_contents.specs.Stores.{IsLeft, States}
+use Rattle.hg_paged_store.specs.declared.devices.Devices.{Devices}
+
+module _ {D : Type 0} (g : disk.Ghosts D) where
+  abbrev pub states_of : Devices D → States
+  states_of devices = record { journal = g.state devices.journal; slots = g.state devices.slots; root0 = g.state devices.root0; root1 = g.state devices.root1 }
+
+  -- what a crash may leave of the devices from one moment of each to another, each device by itself
+  pub record MayLeaveAll (old new : Devices D) (image : Image) : Type 0 where
+    pub journal : MayLeave g old.journal new.journal image.journal
+    pub slots : MayLeave g old.slots new.slots image.slots
+    pub root0 : MayLeave g old.root0 new.root0 image.root0
+    pub root1 : MayLeave g old.root1 new.root1 image.root1
+
+  -- Each image of the devices from `old` to `new`, both included, has P.
+  pub record EachImage (old new : Devices D) (P : Image → Type 0) : Type 0 where
+    pub journal : GoesOn g old.journal new.journal
+    pub slots : GoesOn g old.slots new.slots
+    pub root0 : GoesOn g old.root0 new.root0
+    pub root1 : GoesOn g old.root1 new.root1
+    pub each : (image : Image) → MayLeaveAll old new image → P image
+
+  -- Each image of the devices has a checkpoint of this number and this content, and its root is the newest open one.
+  pub record HasOpened (devices : Devices D) (number : ℕ) (c : Content) : Type 0 where
+    pub checkpoint : Checkpoint
+    pub is_number : checkpoint.root.number ≡ number
+    pub events : checkpoint.root.events ≡ c.events
+    pub is_content : content_of checkpoint ≡ c
+    pub newest : (image : Image) → IsLeft (states_of devices) image → HasCheckpoint (Some checkpoint) image.root0 image.root1 image.slots
+
+  -- what the devices read
+  abbrev pub read_of : Devices D → Image
+  read_of devices = record {
+    journal = (g.state devices.journal).contents;
+    slots = (g.state devices.slots).contents;
+    root0 = (g.state devices.root0).contents;
+    root1 = (g.state devices.root1).contents;
+  }
+
+  -- how many calls of the devices have failed
+  abbrev pub failures_of : Devices D → ℕ
+  failures_of devices = g.failures devices.journal + g.failures devices.slots + g.failures devices.root0 + g.failures devices.root1

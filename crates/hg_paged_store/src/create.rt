@@ -1,0 +1,160 @@
+//! Making a store.
+
+ghost use Rattle.std.specs.Prelude.{◌≡◌, ◌⊎◌, ◌+◌, ◌≤◌, ◌∷◌, [], vec_capacity, false, IsTrue, IfOk, IfErr, OnOk};
+ghost use Rattle.hg_model.specs.Change.{empty_content};
+ghost use Rattle.hg_detect.specs.Engine.{AtPresent};
+ghost use Rattle.hg_detect.specs.Shown.{content};
+ghost use Rattle.hg_disk.specs.Calls.{CallsAtMost};
+ghost use Rattle.hg_disk.specs.State.{counted, settled};
+ghost use Rattle.hg_gate.specs.Batches.{closed_gate};
+ghost use Rattle.hg_pool.specs.Kept.{IsFaithful};
+ghost use Rattle.hg_journal.specs.Reading as journals;
+ghost use Rattle.hg_pool.specs.Maps as pools;
+ghost use Rattle.hg_pool.specs.Maps.{live};
+ghost use Rattle.hg_pool.specs.OfWords.{MayBring};
+ghost use Rattle.hg_sets.specs.Interning.{first_table};
+ghost use Rattle.hg_checkpointer.specs.declared.phase.Phase.TheVariants.{Idle};
+ghost use Rattle.hg_contents.specs.Choices.{Basis};
+ghost use Rattle.hg_paged_store.specs.Kept.{devices_of};
+ghost use Rattle.hg_paged_store.specs.Recovering.{IsBased, IsEmpty, IsReady};
+ghost use Rattle.hg_paged_store.specs.Store.{IsFresh};
+
+use crate::devices::{Caps, Devices};
+use crate::store::{MOST_PENDING, Store};
+use hg_checkpointer::Checkpointer;
+use hg_detect::detector::Detector;
+use hg_disk::{Disk, DiskFault, write_through};
+use hg_gate::CLOSED;
+use hg_journal::journal::{Journal, JournalRoom};
+use hg_model::event::Named;
+use hg_model::verdict::Refusal;
+use hg_pages::{SlotFile, Table};
+use hg_pool::Pool;
+use std::alloc::{AllocError, Global};
+use std::snapshot::Snapshot;
+
+/// Why a store was not made.
+#[derive(Clone, Copy, Debug, PartialEq, Eq)]
+pub enum CreateFault {
+    /// A device has bytes.
+    NotEmpty,
+    /// `DeviceFault` or `OutOfMemory`.
+    Refused(Refusal),
+}
+
+/// Room for all events that may wait for a commit.
+pub(crate) fn pending_room(alloc: Global) -> Result<Vec<Named>, Refusal>
+    ensures none { IfOk result (λ pending. pending.items ≡ []) }
+    ensures room { IfOk result (λ pending. 1024 ≤ vec_capacity pending) }
+    ensures refusal { IfErr result (λ refusal. refusal ≡ Refusal.OutOfMemory) }
+{
+    match Vec::with_capacity(alloc, MOST_PENDING) {
+        Ok(pending) => Ok(pending),
+        Err(AllocError) => Err(Refusal::OutOfMemory),
+    }
+}
+
+/// The memory of the journal.
+fn journal_room(alloc: Global) -> Result<JournalRoom, Refusal>
+    ensures refusal { IfErr result (λ refusal. refusal ≡ Refusal.OutOfMemory) }
+{
+    match JournalRoom::new(alloc) {
+        Ok(room) => Ok(room),
+        Err(AllocError) => Err(Refusal::OutOfMemory),
+    }
+}
+
+/// The detector of no events, over a file of slots of which none is named. Where memory runs out, the file is handed back.
+pub(crate) fn empty_detector<D: Disk>(
+    alloc: Global,
+    file: SlotFile<D>,
+    frames: u16,
+    caps: Caps,
+) -> Result<Detector<Pool<D>>, SlotFile<D>>
+    requires frames { (4 ≤ frames) × (frames ≤ 4096) }
+    requires sets { (1 ≤ caps.sets) × (caps.sets ≤ 262144) }
+    requires slots { (1 ≤ caps.slots) × (caps.slots ≤ 1048576) }
+    ensures content { IfOk result (λ d. content (live ⟦<D as Disk>⟧) d ≡ empty_content) }
+    ensures sets { IfOk result (λ d. d.sets ≡ first_table caps.sets) }
+    ensures file { IfOk result (λ d. d.words.file ≡ file) }
+    ensures root { IfOk result (λ d. d.words.root ≡ []) }
+    ensures lawful { IfOk result (AtPresent MayBring) }
+    ensures faithful { IsTrue D.is_honest → IfOk result (AtPresent (IsFaithful ⟦<D as Disk>⟧)) }
+    ensures handed_back { IfErr result (λ f. f ≡ file) }
+{
+    let pool = Pool::new(
+        alloc,
+        file,
+        Table::new(alloc),
+        usize::from(frames),
+        caps.slots,
+    )?;
+    match Detector::new(alloc, pool, caps.sets) {
+        Ok(detector) => Ok(detector),
+        Err(pool) => Err(pool.into_disks()),
+    }
+}
+
+/// Whether no device has a byte.
+fn is_empty<D: Disk>(devices: &Devices<D>) -> bool
+    ensures yes { IsTrue result → IsEmpty ⟦<D as Disk>⟧ devices.now }
+    ensures no { IsEmpty ⟦<D as Disk>⟧ devices.now → IsTrue result }
+{
+    if devices.journal.len() > 0 {
+        return false;
+    }
+    if devices.slots.len() > 0 {
+        return false;
+    }
+    if devices.root0.len() > 0 {
+        return false;
+    }
+    devices.root1.len() == 0
+}
+
+/// Closes the empty roots, durably.
+fn close_roots<D: Disk>(root0: &mut D, root1: &mut D) -> Result<(), DiskFault>
+    ensures first { (D.state root0.old).contents ≡ [] → OnOk result (D.state root0.new ≡ settled (closed_gate ∷ [])) }
+    ensures second { (D.state root1.old).contents ≡ [] → OnOk result (D.state root1.new ≡ settled (closed_gate ∷ [])) }
+    ensures first_calls { CallsAtMost ⟦<D as Disk>⟧ 2 root0.old root0.new }
+    ensures second_calls { CallsAtMost ⟦<D as Disk>⟧ 2 root1.old root1.new }
+    ensures failures { D.failures root0.new + D.failures root1.new ≡ counted result (D.failures root0.old + D.failures root1.old) }
+{
+    write_through(root0, 0, &[CLOSED])?;
+    write_through(root1, 0, &[CLOSED])
+}
+
+/// The store of these parts, with nothing pending and no checkpoint in progress.
+pub(crate) fn made<D: Disk>(
+    journal: Journal<D>,
+    detector: Detector<Pool<D>>,
+    checkpointer: Checkpointer<D>,
+    pending: Vec<Named>,
+) -> Store<D>
+    requires none { pending.items ≡ [] }
+    requires room { 1024 ≤ vec_capacity pending }
+    requires lawful { AtPresent MayBring detector }
+    requires journal { journals.is_broken journal ≡ false }
+    requires words { pools.is_broken detector.words ≡ false }
+    requires checkpointer { checkpointer.is_broken ≡ false }
+    requires idle { checkpointer.phase ≡ Idle }
+    requires stands { IsTrue D.is_honest → (basis : Basis) × IsBased ⟦<D as Disk>⟧ journal detector checkpointer basis × IsReady ⟦<D as Disk>⟧ detector }
+    ensures fresh { (basis : Basis) → IsBased ⟦<D as Disk>⟧ journal detector checkpointer basis → IsFresh ⟦<D as Disk>⟧ result (content (live ⟦<D as Disk>⟧) detector) }
+    ensures devices { result.devices ≡ devices_of ⟦<D as Disk>⟧ journal detector.words checkpointer }
+    ensures detector { result.detector ≡ detector }
+{
+    let durable = detector.state().events();
+    let committed = Snapshot::of(&detector);
+    let frozen = Snapshot::of(&detector);
+    Store {
+        journal,
+        detector,
+        checkpointer,
+        committed,
+        frozen,
+        pending,
+        durable,
+        is_broken: false,
+        in_doubt: false,
+    }
+}

@@ -1,0 +1,37 @@
+//! The devices of a store, and how much a store may have.
+
+ghost use Rattle.std.specs.Prelude.{◌≡◌};
+
+/// The four devices of a store.
+#[derive(Debug, Drop)]
+pub struct Devices<D> {
+    /// The events, in the batches in which they were committed.
+    pub journal: D,
+    /// The pages of checkpoints.
+    pub slots: D,
+    /// One of the two heads of checkpoints.
+    pub root0: D,
+    /// The other one.
+    pub root1: D,
+}
+
+/// How much a store may have. It is not stored.
+#[derive(Clone, Copy, Debug, PartialEq, Eq)]
+pub struct Caps {
+    /// How many sets of threads and of locks: 1 to 262,144.
+    pub sets: u32,
+    /// How many slots of pages: 1 to 1,048,576.
+    pub slots: u32,
+}
+
+impl Caps {
+    /// The greatest.
+    pub fn profile() -> Caps
+        ensures { (result.sets ≡ 262144) × (result.slots ≡ 1048576) }
+    {
+        Caps {
+            sets: 262_144,
+            slots: 1_048_576,
+        }
+    }
+}

@@ -1,0 +1,171 @@
+//! The store.
+
+ghost use Rattle.std.specs.Prelude.{◌≡◌, ◌≤◌, [], List, Ok, Err, false, true, IsTrue, OnOk, OnErr, IfOk, IfErr, length, cond};
+ghost use Rattle.hg_model.specs.Contents.{Content};
+ghost use Rattle.hg_disk.specs.Calls.{CallsAtMost};
+ghost use Rattle.hg_journal.specs.Journal.{failed_after};
+ghost use Rattle.hg_contents.specs.Choices.{Stands};
+ghost use Rattle.hg_paged_store.specs.Images.{EachImage, failures_of};
+ghost use Rattle.hg_paged_store.specs.Shown.{live, phase_of, saved};
+ghost use Rattle.hg_paged_store.specs.Steps.{CommitDone, ContentOffered, OfferDone};
+ghost use Rattle.hg_paged_store.specs.Store.{Backs};
+
+use crate::devices::Devices;
+use crate::steps::StorePhase;
+use hg_checkpointer::{Checkpointer, Phase};
+use hg_detect::detector::{Answer, Detector};
+use hg_disk::Disk;
+use hg_journal::journal::{Journal, MAX_BATCH_EVENTS};
+use hg_model::event::Named;
+use hg_model::report::Report;
+use hg_model::segment::Segment;
+use hg_model::verdict::{Refusal, Verdict};
+use hg_pool::Pool;
+use hg_records::record::records_fit;
+use std::alloc::Global;
+use std::marker::Model;
+use std::snapshot::Snapshot;
+
+/// How many accepted events may wait for a commit: as many as a batch of the journal may have.
+pub const MOST_PENDING: usize = MAX_BATCH_EVENTS;
+
+/// What was accepted, and what of it is durable.
+///
+/// After a write, a cut or a sync that failed, each call answers `Broken` until the devices are taken back and the store is recovered.
+pub struct Store<D: Disk> {
+    pub(crate) journal: Journal<D>,
+    pub(crate) detector: Detector<Pool<D>>,
+    pub(crate) checkpointer: Checkpointer<D>,
+    /// The detector as it was with the durable events alone: contracts see it.
+    pub(crate) committed: Snapshot<Detector<Pool<D>>>,
+    /// The detector as it was at the last freeze: contracts see it.
+    pub(crate) frozen: Snapshot<Detector<Pool<D>>>,
+    pub(crate) pending: Vec<Named>,
+    pub(crate) durable: u64,
+    pub(crate) is_broken: bool,
+    pub(crate) in_doubt: bool,
+}
+
+impl<D: Disk + Drop> Drop for Store<D> {
+    fn drop(self) {
+        let Store {
+            journal,
+            detector,
+            checkpointer,
+            committed: _,
+            frozen: _,
+            pending,
+            durable: _,
+            is_broken: _,
+            in_doubt: _,
+        } = self;
+        drop(journal);
+        drop(detector);
+        drop(checkpointer);
+        drop(pending);
+    }
+}
+
+impl<D: Disk> Model for Store<D> {
+    ghost use Rattle.std.specs.Prelude.{vec_capacity};
+    ghost use Rattle.hg_paged_store.specs.Kept.{IsSound, shown_of};
+    ghost use Rattle.hg_paged_store.specs.Shown.{Shown};
+
+    ghost Value = { Shown D };
+
+    ghost view = { λ s. shown_of ⟦<D as Disk>⟧ (record { journal = s.journal; detector = s.detector; checkpointer = s.checkpointer; committed = s.committed.value; frozen = s.frozen.value; pending = s.pending.items; durable = s.durable; is_broken = s.is_broken; in_doubt = s.in_doubt }) };
+
+    ghost invariant = { λ s. IsSound ⟦<D as Disk>⟧ (record { journal = s.journal; detector = s.detector; checkpointer = s.checkpointer; committed = s.committed.value; frozen = s.frozen.value; pending = s.pending.items; durable = s.durable; is_broken = s.is_broken; in_doubt = s.in_doubt }) (vec_capacity s.pending) };
+}
+
+impl<D: Disk> Store<D> {
+    /// Offers an event. It is accepted, or it was sent before, or it is refused; the first refusal that applies is
+    /// answered: `Broken`, those of the trace rules, `FullPending` where 1,024 events wait for a commit, and then those of room: of the
+    /// pages of the event's words, of its sets, and of memory. A refusal leaves the content and what is pending as they were.
+    pub fn offer(&mut self, named: &Named) -> Result<Answer, Refusal>
+        ensures done { OfferDone ⟦<D as Disk>⟧ self.old self.new named.now result }
+        ensures content { IsTrue D.is_honest → ContentOffered ⟦<D as Disk>⟧ self.old self.new named.now result }
+        ensures device { failures_of ⟦<D as Disk>⟧ self.new.devices ≡ failed_after result (failures_of ⟦<D as Disk>⟧ self.old.devices) }
+        ensures images { IsTrue D.is_honest → EachImage ⟦<D as Disk>⟧ self.old.devices self.new.devices (Stands (saved ⟦<D as Disk>⟧ self.old) (live ⟦<D as Disk>⟧ self.old) self.old.in_doubt) }
+    {
+        if self.is_broken {
+            return Err(Refusal::Broken);
+        }
+        match self.detector.verdict(named) {
+            Verdict::Duplicate(last) => return Ok(Answer::Duplicate(last)),
+            Verdict::Refuse(refusal) => return Err(refusal),
+            Verdict::Accept => {}
+        }
+        if self.pending.len() >= MOST_PENDING {
+            return Err(Refusal::FullPending);
+        }
+        records_fit(named);
+        match self.detector.accept(named) {
+            Ok(()) => {
+                self.pending.push_reserved(*named);
+                Ok(Answer::Accepted)
+            }
+            Err(refusal) => {
+                self.is_broken = self.detector.words().is_broken();
+                Err(refusal)
+            }
+        }
+    }
+
+    /// Makes all accepted events durable, and answers their count. It calls the journal four times at most, and with nothing
+    /// pending no device. It takes no memory. A crash during it leaves the events of the last commit, or all accepted ones.
+    pub fn commit(&mut self) -> Result<u64, Refusal>
+        ensures done { CommitDone ⟦<D as Disk>⟧ self.old self.new result }
+        ensures calls { CallsAtMost ⟦<D as Disk>⟧ 4 self.old.devices.journal self.new.devices.journal }
+        ensures device { failures_of ⟦<D as Disk>⟧ self.new.devices ≡ failed_after result (failures_of ⟦<D as Disk>⟧ self.old.devices) }
+        ensures images { IsTrue D.is_honest → EachImage ⟦<D as Disk>⟧ self.old.devices self.new.devices (Stands (saved ⟦<D as Disk>⟧ self.old) (live ⟦<D as Disk>⟧ self.old) true) }
+    {
+        if self.is_broken {
+            return Err(Refusal::Broken);
+        }
+        let events = self.detector.state().events();
+        if self.pending.is_empty() {
+            self.durable = events;
+            self.committed = Snapshot::of(&self.detector);
+            return Ok(events);
+        }
+        match self.journal.append(&self.pending) {
+            Ok(()) => {
+                self.pending.clear();
+                self.durable = events;
+                self.committed = Snapshot::of(&self.detector);
+                Ok(events)
+            }
+            Err(refusal) => {
+                self.is_broken = true;
+                self.in_doubt = true;
+                Err(refusal)
+            }
+        }
+    }
+
+    /// The devices as they are. What was pending is lost.
+    pub fn into_devices(self) -> Devices<D>
+        ensures { result ≡ self.devices }
+    {
+        let Store {
+            journal,
+            detector,
+            checkpointer,
+            committed: _,
+            frozen: _,
+            pending,
+            durable: _,
+            is_broken: _,
+            in_doubt: _,
+        } = self;
+        drop(pending);
+        let (root0, root1) = checkpointer.into_roots().into_disks();
+        Devices {
+            journal: journal.into_disk(),
+            slots: detector.into_words().into_disks().into_disks(),
+            root0,
+            root1,
+        }
+    }
+}

@@ -1,0 +1,233 @@
+-- Pages with the frames in their places.
+use Rattle.std.proofs.Common.{◌≡◌, ◌≢◌, ◌-◌, ◌<◌, ◌==◌, ◌∙◌, ℕ, zero, suc, nat_eq, Bool, true, false, cond, List, [], ◌∷◌, ◌++◌, length, get_or, set, slice_get, is_some, option_map, Option, Some, None, if◌then◌else◌, refl, sym, ap, subst, arith}
+use Rattle.std.specs.List.{AllByRecursion, IsDistinct}
+use Rattle.std.specs.Option.{option_map_or}
+use Rattle.std.specs.Map.{lookup, lookup_entry, remove_entry, keys_of}
+use Rattle.std.proofs.lemmas.List.{get_or-set_same, get_or-set_other}
+use Rattle.std.proofs.lemmas.Map.Keys.{IsDistinct-head, IsDistinct-tail}
+use Rattle.lru.specs.LruCache.{last_entry, promoted}
+use Rattle.hg_pool.specs.declared.frame.Frame.{Frame}
+use Rattle.hg_pool.specs.declared.frame.Held.{Held}
+use Rattle.hg_pool.specs.Frames.{AreHeld, HasPage, IsFree, frame_at, framed, nothing, with_frame}
+use Rattle.hg_pool.proofs.Lookups.{if_false, if_true, itself, same_number}
+use Rattle.hg_pool.proofs.Orders.{is_listed, listed}
+
+module _ (held : List Held) where
+  -- a page with its frame
+  abbrev pub with_its : ℕ × ℕ → ℕ × Frame
+  with_its e = (e.0, frame_at held e.1)
+
+  pub keys_framed : (es : List (ℕ × ℕ)) → keys_of (framed held es) ≡ keys_of es
+  keys_framed [] = refl
+  keys_framed (e ∷ es) = ap (λ (ks : List ℕ). e.0 ∷ ks) (keys_framed es)
+
+  pub length_framed : (es : List (ℕ × ℕ)) → length (framed held es) ≡ length es
+  length_framed [] = refl
+  length_framed (e ∷ es) = ap suc (length_framed es)
+
+  pub looked_framed : (q : ℕ) (es : List (ℕ × ℕ)) → lookup (nat_eq q) (framed held es) ≡ option_map (frame_at held) (lookup (nat_eq q) es)
+  looked_framed q [] = refl
+  looked_framed q (e ∷ es) = here (q == e.0) (looked_framed q es)
+    where
+      here : (b : Bool) → lookup (nat_eq q) (framed held es) ≡ option_map (frame_at held) (lookup (nat_eq q) es) → cond b (Some (frame_at held e.1)) (lookup (nat_eq q) (framed held es)) ≡ option_map (frame_at held) (cond b (Some e.1) (lookup (nat_eq q) es))
+      here true same = refl
+      here false same = same
+
+  -- the same pages are there
+  pub is_there : (q : ℕ) (es : List (ℕ × ℕ)) → is_some (lookup (nat_eq q) es) ≡ is_some (lookup (nat_eq q) (framed held es))
+  is_there q es = by (lookup (nat_eq q) es) ∙ ap is_some (sym (looked_framed q es))
+    where
+      by : (o : Option ℕ) → is_some o ≡ is_some (option_map (frame_at held) o)
+      by None = refl
+      by (Some place) = refl
+
+  pub absent_framed : (q : ℕ) (es : List (ℕ × ℕ)) → lookup (nat_eq q) (framed held es) ≡ None → lookup (nat_eq q) es ≡ None
+  absent_framed q es none = by (lookup (nat_eq q) es) (sym (looked_framed q es) ∙ none)
+    where
+      by : (o : Option ℕ) → option_map (frame_at held) o ≡ None → o ≡ None
+      by None is = refl
+      by (Some place) is = absurd (cc is)
+
+  pub entry_framed : (q : ℕ) (es : List (ℕ × ℕ)) → lookup_entry (nat_eq q) (framed held es) ≡ option_map with_its (lookup_entry (nat_eq q) es)
+  entry_framed q [] = refl
+  entry_framed q (e ∷ es) = here (q == e.0) (entry_framed q es)
+    where
+      here : (b : Bool) → lookup_entry (nat_eq q) (framed held es) ≡ option_map with_its (lookup_entry (nat_eq q) es) → cond b (Some (with_its e)) (lookup_entry (nat_eq q) (framed held es)) ≡ option_map with_its (cond b (Some e) (lookup_entry (nat_eq q) es))
+      here true same = refl
+      here false same = same
+
+  pub removed_framed : (q : ℕ) (es : List (ℕ × ℕ)) → framed held (remove_entry (nat_eq q) es) ≡ remove_entry (nat_eq q) (framed held es)
+  removed_framed q [] = refl
+  removed_framed q (e ∷ es) = here (q == e.0) (removed_framed q es)
+    where
+      here : (b : Bool) → framed held (remove_entry (nat_eq q) es) ≡ remove_entry (nat_eq q) (framed held es) → framed held (cond b es (e ∷ remove_entry (nat_eq q) es)) ≡ cond b (framed held es) (with_its e ∷ remove_entry (nat_eq q) (framed held es))
+      here true same = refl
+      here false same = ap (λ (fs : List (ℕ × Frame)). with_its e ∷ fs) same
+
+  pub promoted_framed : (q : ℕ) (es : List (ℕ × ℕ)) → framed held (promoted (nat_eq q) es) ≡ promoted (nat_eq q) (framed held es)
+  promoted_framed q es =
+      by (lookup_entry (nat_eq q) es)
+      ∙ ap (λ (o : Option (ℕ × Frame)). option_map_or (λ e. e ∷ remove_entry (nat_eq q) (framed held es)) o (framed held es)) (sym (entry_framed q es))
+    where
+      by : (o : Option (ℕ × ℕ)) → framed held (option_map_or (λ e. e ∷ remove_entry (nat_eq q) es) o es) ≡ option_map_or (λ e. e ∷ remove_entry (nat_eq q) (framed held es)) (option_map with_its o) (framed held es)
+      by None = refl
+      by (Some e) = ap (λ (fs : List (ℕ × Frame)). with_its e ∷ fs) (removed_framed q es)
+
+  got_framed : (k : ℕ) (es : List (ℕ × ℕ)) → slice_get (framed held es) k ≡ option_map with_its (slice_get es k)
+  got_framed k [] = refl
+  got_framed zero (e ∷ es) = refl
+  got_framed (suc k) (e ∷ es) = got_framed k es
+
+  -- the page that is last
+  pub last_framed : (es : List (ℕ × ℕ)) → option_map (λ e. e.0) (last_entry (framed held es)) ≡ option_map (λ e. e.0) (last_entry es)
+  last_framed es =
+      ap (λ (n : ℕ). option_map (λ e. e.0) (slice_get (framed held es) (n - 1))) (length_framed es)
+      ∙ ap (λ (o : Option (ℕ × Frame)). option_map (λ e. e.0) o) (got_framed (length es - 1) es)
+      ∙ by (slice_get es (length es - 1))
+    where
+      by : (o : Option (ℕ × ℕ)) → option_map (λ e. e.0) (option_map with_its o) ≡ option_map (λ e. e.0) o
+      by None = refl
+      by (Some e) = refl
+
+  pub held_removed : (q : ℕ) (es : List (ℕ × ℕ)) → AreHeld held es → AreHeld held (remove_entry (nat_eq q) es)
+  held_removed q [] all = all
+  held_removed q (e ∷ es) all = here (q == e.0) (held_removed q es all.1)
+    where
+      here : (b : Bool) → AreHeld held (remove_entry (nat_eq q) es) → AreHeld held (cond b es (e ∷ remove_entry (nat_eq q) es))
+      here true rest = all.1
+      here false rest = (all.0, rest)
+
+  entry_held : (q : ℕ) (es : List (ℕ × ℕ)) (e : ℕ × ℕ) → AreHeld held es → lookup_entry (nat_eq q) es ≡ Some e → HasPage held e
+  entry_held q [] e all is = absurd (cc is)
+  entry_held q (f ∷ es) e all is = here (q == f.0) is (entry_held q es e all.1)
+    where
+      here : (b : Bool) → cond b (Some f) (lookup_entry (nat_eq q) es) ≡ Some e → (lookup_entry (nat_eq q) es ≡ Some e → HasPage held e) → HasPage held e
+      here true found rest = let same : f ≡ e = cc found in subst (λ (x : ℕ × ℕ). HasPage held x) same all.0
+      here false found rest = rest found
+
+  pub held_promoted : (q : ℕ) (es : List (ℕ × ℕ)) → AreHeld held es → AreHeld held (promoted (nat_eq q) es)
+  held_promoted q es all = by (lookup_entry (nat_eq q) es) refl
+    where
+      by : (o : Option (ℕ × ℕ)) → lookup_entry (nat_eq q) es ≡ o → AreHeld held (option_map_or (λ e. e ∷ remove_entry (nat_eq q) es) o es)
+      by None is = all
+      by (Some e) is = (entry_held q es e all is, held_removed q es all)
+
+  -- the place of a page has it
+  pub held_of : (q place : ℕ) (es : List (ℕ × ℕ)) → AreHeld held es → lookup (nat_eq q) es ≡ Some place → HasPage held (q, place)
+  held_of q place [] all is = absurd (cc is)
+  held_of q place (f ∷ es) all is = here (q == f.0) refl is (held_of q place es all.1)
+    where
+      here : (b : Bool) → (q == f.0) ≡ b → cond b (Some f.1) (lookup (nat_eq q) es) ≡ Some place → (lookup (nat_eq q) es ≡ Some place → HasPage held (q, place)) → HasPage held (q, place)
+      here true test found rest =
+          let same : f.1 ≡ place = cc found in
+          (subst (λ (n : ℕ). n < length held) same all.0.0, ap (λ (n : ℕ). (get_or held n nothing).page) (sym same) ∙ all.0.1 ∙ sym (same_number q f.0 test))
+      here false test found rest = rest found
+
+  -- A place whose page is elsewhere, or nowhere, is free.
+  none_behind : (q : ℕ) (ks : List ℕ) → AllByRecursion (λ k. nat_eq q k ≡ false) ks → listed q ks ≡ false
+  none_behind q [] all = refl
+  none_behind q (k ∷ ks) all = if_false (q == k) true (listed q ks) all.0 ∙ none_behind q ks all.1
+
+  pub free_of : (former place : ℕ) (es : List (ℕ × ℕ)) → IsDistinct nat_eq (keys_of es) → AreHeld held es → (get_or held place nothing).page ≡ former → (lookup (nat_eq former) es ≡ Some place → ⊥) → IsFree place es
+  free_of former place [] distinct all at not = tt
+  free_of former place (e ∷ es) distinct all at not = (first, free_of former place es (IsDistinct-tail nat_eq e.0 (keys_of es) distinct) all.1 at (λ found. later (former == e.0) refl found))
+    where
+      first : e.1 ≢ place
+      first same =
+          let is : former ≡ e.0 = sym at ∙ ap (λ (n : ℕ). (get_or held n nothing).page) (sym same) ∙ all.0.1 in
+          not (if_true (former == e.0) (Some e.1) (lookup (nat_eq former) es) (ap (λ (n : ℕ). n == e.0) is ∙ itself e.0) ∙ ap Some same)
+
+      later : (b : Bool) → (former == e.0) ≡ b → lookup (nat_eq former) es ≡ Some place → ⊥
+      later true test found =
+          let none = is_listed e.0 es ∙ none_behind e.0 (keys_of es) (IsDistinct-head nat_eq e.0 (keys_of es) distinct) in
+          absurd (cc (sym (ap is_some found) ∙ ap (λ (n : ℕ). is_some (lookup (nat_eq n) es)) (same_number former e.0 test) ∙ none))
+      later false test found = not (if_false (former == e.0) (Some e.1) (lookup (nat_eq former) es) test ∙ found)
+
+  set_length : (xs : List Held) (k : ℕ) (x : Held) → length (set xs k x) ≡ length xs
+  set_length [] k x = refl
+  set_length (y ∷ ys) zero x = refl
+  set_length (y ∷ ys) (suc k) x = ap suc (set_length ys k x)
+
+  -- A free place may be taken.
+  pub free_framed : (place : ℕ) (x : Held) (es : List (ℕ × ℕ)) → IsFree place es → framed (set held place x) es ≡ framed held es
+  free_framed place x [] free = refl
+  free_framed place x (e ∷ es) free = λ i. (e.0, (get_or-set_other held place e.1 x nothing free.0 i).frame) ∷ free_framed place x es free.1 i
+
+  pub free_held : (place : ℕ) (x : Held) (es : List (ℕ × ℕ)) → IsFree place es → AreHeld held es → AreHeld (set held place x) es
+  free_held place x [] free all = tt
+  free_held place x (e ∷ es) free all =
+      ((subst (λ (n : ℕ). e.1 < n) (sym (set_length held place x)) all.0.0, ap (λ (h : Held). h.page) (get_or-set_other held place e.1 x nothing free.0) ∙ all.0.1), free_held place x es free.1 all.1)
+
+  -- and so may a new one
+  got_front : (xs : List Held) (x : Held) (k : ℕ) → k < length xs → get_or (xs ++ x ∷ []) k nothing ≡ get_or xs k nothing
+  got_front [] x k lt = absurd (omega (arith, lt))
+  got_front (y ∷ ys) x zero lt = refl
+  got_front (y ∷ ys) x (suc k) lt = got_front ys x k (omega (arith, lt))
+
+  pub got_back : (xs : List Held) (x : Held) → (length xs < length (xs ++ x ∷ [])) × (get_or (xs ++ x ∷ []) (length xs) nothing ≡ x)
+  got_back [] x = (omega arith, refl)
+  got_back (y ∷ ys) x = let lt = (got_back ys x).0 in (omega (arith, lt), (got_back ys x).1)
+
+  longer : (xs : List Held) (x : Held) (k : ℕ) → k < length xs → k < length (xs ++ x ∷ [])
+  longer [] x k lt = absurd (omega (arith, lt))
+  longer (y ∷ ys) x zero lt = omega arith
+  longer (y ∷ ys) x (suc k) lt = let rest = longer ys x k (omega (arith, lt)) in omega (arith, rest)
+
+  pub more_framed : (x : Held) (es : List (ℕ × ℕ)) → AreHeld held es → framed (held ++ x ∷ []) es ≡ framed held es
+  more_framed x [] all = refl
+  more_framed x (e ∷ es) all = λ i. (e.0, (got_front held x e.1 all.0.0 i).frame) ∷ more_framed x es all.1 i
+
+  pub more_held : (x : Held) (es : List (ℕ × ℕ)) → AreHeld held es → AreHeld (held ++ x ∷ []) es
+  more_held x [] all = tt
+  more_held x (e ∷ es) all = ((longer held x e.1 all.0.0, ap (λ (h : Held). h.page) (got_front held x e.1 all.0.0) ∙ all.0.1), more_held x es all.1)
+
+  -- another frame of the same page
+  page_kept : (place j : ℕ) (f : Frame) → place < length held → (get_or (with_frame held place f) j nothing).page ≡ (get_or held j nothing).page
+  page_kept place j f lt = by (j == place) refl
+    where
+      by : (b : Bool) → (j == place) ≡ b → (get_or (with_frame held place f) j nothing).page ≡ (get_or held j nothing).page
+      by true test =
+          let same = same_number j place test in
+          ap (λ (n : ℕ). (get_or (with_frame held place f) n nothing).page) same
+          ∙ ap (λ (h : Held). h.page) (get_or-set_same held place (record { page = (get_or held place nothing).page; frame = f }) nothing lt)
+          ∙ ap (λ (n : ℕ). (get_or held n nothing).page) (sym same)
+      by false test = ap (λ (h : Held). h.page) (get_or-set_other held place j (record { page = (get_or held place nothing).page; frame = f }) nothing (λ same. absurd (cc (sym test ∙ ap (λ (n : ℕ). n == place) same ∙ itself place))))
+
+  pub with_held : (place : ℕ) (f : Frame) (es : List (ℕ × ℕ)) → place < length held → AreHeld held es → AreHeld (with_frame held place f) es
+  with_held place f [] lt all = tt
+  with_held place f (e ∷ es) lt all =
+      ((subst (λ (n : ℕ). e.1 < n) (sym (set_length held place (record { page = (get_or held place nothing).page; frame = f }))) all.0.0, page_kept place e.1 f lt ∙ all.0.1), with_held place f es lt all.1)
+
+  pub looked_with : (page place q : ℕ) (f : Frame) (es : List (ℕ × ℕ)) → AreHeld held es → lookup (nat_eq page) es ≡ Some place
+      → option_map (frame_at (with_frame held place f)) (lookup (nat_eq q) es) ≡ (if page == q then Some f else option_map (frame_at held) (lookup (nat_eq q) es))
+  looked_with page place q f es all is = by (page == q) refl (lookup (nat_eq q) es) refl
+    where
+      at : HasPage held (page, place)
+      at = held_of page place es all is
+
+      by : (b : Bool) → (page == q) ≡ b → (o : Option ℕ) → lookup (nat_eq q) es ≡ o → option_map (frame_at (with_frame held place f)) o ≡ (if b then Some f else option_map (frame_at held) o)
+      by true test o found =
+          let there : o ≡ Some place = sym found ∙ ap (λ (n : ℕ). lookup (nat_eq n) es) (sym (same_number page q test)) ∙ is in
+          ap (λ (x : Option ℕ). option_map (frame_at (with_frame held place f)) x) there
+          ∙ ap (λ (h : Held). Some h.frame) (get_or-set_same held place (record { page = (get_or held place nothing).page; frame = f }) nothing at.0)
+      by false test None found = refl
+      by false test (Some j) found =
+          let other = held_of q j es all found in
+          let apart : j ≢ place = λ same. absurd (cc (sym test ∙ ap (λ (n : ℕ). page == n) (sym other.1 ∙ ap (λ (n : ℕ). (get_or held n nothing).page) same ∙ at.1) ∙ itself page)) in
+          ap (λ (h : Held). Some h.frame) (get_or-set_other held place j (record { page = (get_or held place nothing).page; frame = f }) nothing apart)
+
+pub written : (held : List Held) (page place q : ℕ) (f : Frame) (es : List (ℕ × ℕ)) → AreHeld held es → lookup (nat_eq page) es ≡ Some place
+    → lookup (nat_eq q) (framed (with_frame held place f) es) ≡ (if page == q then Some f else lookup (nat_eq q) (framed held es))
+written held page place q f es all is =
+    looked_framed (with_frame held place f) q es ∙ looked_with held page place q f es all is ∙ ap (λ (o : Option Frame). if page == q then Some f else o) (sym (looked_framed held q es))
+
+-- the frame of a page in this place
+pub frame_there : (held : List Held) (page place : ℕ) (f : Frame) (es : List (ℕ × ℕ)) → lookup (nat_eq page) es ≡ Some place → lookup (nat_eq page) (framed held es) ≡ Some f → frame_at held place ≡ f
+frame_there held page place f es at is =
+    let there : Some (frame_at held place) ≡ Some f = sym (ap (λ (o : Option ℕ). option_map (frame_at held) o) at) ∙ sym (looked_framed held page es) ∙ is in
+    cc there
+
+-- a page that is there has a place
+pub no_place : (held : List Held) (page : ℕ) (es : List (ℕ × ℕ)) (o : Option ℕ) → o ≡ lookup (nat_eq page) es → ((place : ℕ) → o ≡ Some place → ⊥) → is_some (lookup (nat_eq page) (framed held es)) ≡ true → ⊥
+no_place held page es None is not there = absurd (cc (sym (ap is_some is ∙ is_there held page es ∙ there)))
+no_place held page es (Some place) is not there = not place refl

@@ -1,0 +1,34 @@
+use Rattle.std.proofs.Common.{rules, ◌≡◌, ◌∙◌, ℕ, nat_eq, Option, Some, slice_get, option_map, sym, ap}
+use Rattle.std.specs.Map.{keys_of, lookup}
+use Rattle.lru.specs.LruCache.{LruCache}
+use Rattle.hg_pool.specs.declared.frame.Frame.{Frame}
+use Rattle.hg_pool.specs.Frames.{frame_at}
+use Rattle.hg_pool.specs.Maps.{frame_in}
+use Rattle.hg_pool.proofs.Lookups.{first_entry}
+use Rattle.hg_pool.proofs.Framing.{held_of, keys_framed, looked_framed}
+use Rattle.hg_pool.proofs.Orders.{first_order}
+use Rattle.hg_pool.proofs.frames.Frames.first.Goals as goal
+
+pub frame_of-requires : goal.frame_of-requires
+frame_of-requires c =
+    let f = c.self.inside in
+    let first : Some (c.in-Some.first.now, c.in-Some.place.now) ≡ slice_get f.order.entries 0 = search rules in
+    (held_of f.held.items c.in-Some.first.now c.in-Some.place.now f.order.entries c.self.invariant (first_entry f.order.entries (c.in-Some.first.now, c.in-Some.place.now) (sym first))).0
+
+pub returns-then-first-page-clause-frame : goal.returns-then-first-page-clause-frame
+returns-then-first-page-clause-frame c =
+    let f = c.self.inside in
+    let place = c.in-Some.place.now in
+    let first : Some (c.in-Some.first.now, place) ≡ slice_get f.order.entries 0 = search rules in
+    let there = ap (λ (n : ℕ). lookup (nat_eq n) f.order.entries) (sym c.if-first-page.true) ∙ first_entry f.order.entries (c.in-Some.first.now, place) (sym first) in
+    ap (λ (x : LruCache ℕ Frame). frame_in x.entries c.args.page) (sym c.self.view_is)
+    ∙ looked_framed f.held.items c.args.page f.order.entries
+    ∙ ap (λ (o : Option ℕ). option_map (frame_at f.held.items) o) there
+    ∙ ap Some (sym c.frame_of.ensures)
+
+pub returns-then-first-page-clause-first : goal.returns-then-first-page-clause-first
+returns-then-first-page-clause-first c =
+    let f = c.self.inside in
+    let first : Some (c.in-Some.first.now, c.in-Some.place.now) ≡ slice_get f.order.entries 0 = search rules in
+    let at = first_order f.order.entries (c.in-Some.first.now, c.in-Some.place.now) c.args.page (sym first) c.if-first-page.true in
+    (at.0, ap (λ (x : LruCache ℕ Frame). keys_of x.entries) (sym c.self.view_is) ∙ keys_framed f.held.items f.order.entries ∙ at.1)

@@ -1,0 +1,34 @@
+-- Pages in frames, each in a place of its own.
+use Rattle.std.specs.Prelude.{◌≡◌, ◌≢◌, ◌<◌, ℕ, false, List, [], ◌∷◌, length, get_or, set}
+use Rattle.std.specs.List.{AllByRecursion}
+use Rattle.hg_pool.specs.declared.frame.Frame.{Frame}
+use Rattle.hg_pool.specs.declared.frame.Held.{Held}
+
+-- what lies beyond the last place
+abbrev pub nothing : Held
+nothing = record { page = 0; frame = record { cells = []; is_dirty = false } }
+
+-- the frame in a place
+abbrev pub frame_at : List Held → ℕ → Frame
+frame_at held place = (get_or held place nothing).frame
+
+-- each page with the frame in its place
+abbrev pub framed : List Held → List (ℕ × ℕ) → List (ℕ × Frame)
+framed held [] = []
+framed held (e ∷ es) = (e.0, frame_at held e.1) ∷ framed held es
+
+-- the place has the page
+abbrev pub HasPage : List Held → ℕ × ℕ → Type 0
+HasPage held e = (e.1 < length held) × ((get_or held e.1 nothing).page ≡ e.0)
+
+-- Each page is in its place, so no two have one.
+abbrev pub AreHeld : List Held → List (ℕ × ℕ) → Type 0
+AreHeld held es = AllByRecursion (λ e. HasPage held e) es
+
+-- no page has the place
+abbrev pub IsFree : ℕ → List (ℕ × ℕ) → Type 0
+IsFree place es = AllByRecursion (λ e. e.1 ≢ place) es
+
+-- another frame in the place, of the same page
+abbrev pub with_frame : List Held → ℕ → Frame → List Held
+with_frame held place frame = set held place (record { page = (get_or held place nothing).page; frame = frame })

@@ -1,0 +1,333 @@
+//! Pages in frames, in the order of their use.
+ghost use Rattle.std.specs.Prelude.{◌≡◌, ◌≢◌, ◌⊎◌, ◌↔◌, ◌+◌, ◌<◌, ◌≤◌, ◌==◌, ◌^◌, ℕ, nat_eq, List, [], ◌∷◌, length, map, get_or, option_map, option_copied, Some, None, true, false, is_some, set, OnOk, OnErr, IfOk, IfErr, IfSome, IsTrue, if◌then◌else◌};
+ghost use Rattle.std.specs.Map.{lookup, remove_entry, keys_of};
+ghost use Rattle.std.specs.NonZero.{non_zero_usize_get};
+ghost use Rattle.std.specs.Set.{remove_key};
+ghost use Rattle.lru.specs.LruCache.{LruCache as Entries, IsValid, last_entry, promoted};
+ghost use Rattle.hg_cells.specs.Pages.{filled};
+ghost use Rattle.hg_pool.specs.declared.frame.Frame.{Frame as FrameOf};
+ghost use Rattle.hg_pages.specs.Tables.{slot_in};
+ghost use Rattle.hg_pool.specs.Frames.{AreHeld, HasPage, IsFree, frame_at, framed, with_frame};
+ghost use Rattle.hg_pool.specs.Maps.{frame_in};
+ghost use Rattle.hg_pool.specs.Picking.{HasDirty};
+
+use crate::frame::{Frame, Held};
+use hg_cells::Cell;
+use hg_pages::Table;
+use lru::LruCache;
+use std::alloc::{AllocError, Global};
+use std::marker::Model;
+use std::num::NonZeroUsize;
+
+/// Pages in frames, in the order of their use.
+///
+/// Each stands in a place, and the order of use knows the places. So the page used last is read and changed with no search. Contracts
+/// see the pages with their frames, that used last first.
+pub(crate) struct Frames {
+    order: LruCache<u64, usize>,
+    held: Vec<Held>,
+    // Places that pages left. No clause rests on that: a place is taken again where its page is not in it any more.
+    left: Vec<usize>,
+}
+
+impl Drop for Frames {
+    fn drop(self) {
+        let Frames { order, held, left } = self;
+        drop(order);
+        drop(held);
+        drop(left);
+    }
+}
+
+impl Model for Frames {
+    ghost use Rattle.std.specs.Prelude.{ℕ};
+    ghost use Rattle.lru.specs.LruCache.{LruCache as Entries, lru_cache};
+    ghost use Rattle.hg_pool.specs.declared.frame.Frame.{Frame as FrameOf};
+    ghost use Rattle.hg_pool.specs.Frames.{AreHeld, framed};
+
+    ghost Value = { Entries ℕ FrameOf };
+
+    ghost view = { λ f. lru_cache (framed f.held.items f.order.entries) f.order.cap };
+
+    ghost invariant = { λ f. AreHeld f.held.items f.order.entries };
+}
+
+// The place of a page.
+#[inline]
+fn place_of(order: &LruCache<u64, usize>, page: u64) -> Option<usize>
+    ensures { result ≡ lookup (nat_eq page) order.now.entries }
+{
+    if let Some((first, place)) = order.peek_mru() {
+        if *first == page {
+            return Some(*place);
+        }
+    }
+    match order.peek(&page) {
+        Some(place) => Some(*place),
+        None => None,
+    }
+}
+
+// A place that a page left, and that no other has.
+fn free_place(
+    order: &LruCache<u64, usize>,
+    held: &Vec<Held>,
+    left: &mut Vec<usize>,
+) -> Option<usize>
+    requires { AreHeld held.now.items order.now.entries }
+    ensures { IfSome result (λ place. (place < length held.now.items) × IsFree place order.now.entries) }
+{
+    let _count = order.len();
+    let place = left.pop()?;
+    if place >= held.len() {
+        return None;
+    }
+    match place_of(order, held[place].page) {
+        None => Some(place),
+        Some(at) => { if at == place { None } else { Some(place) } }
+    }
+}
+
+// Puts a page into a place that no other has.
+fn take_place(
+    order: &LruCache<u64, usize>,
+    held: &mut Vec<Held>,
+    left: &mut Vec<usize>,
+    taken: Held,
+) -> Result<usize, AllocError>
+    requires { AreHeld held.old.items order.now.entries }
+    ensures page { IfOk result (λ place. HasPage held.new.items (taken.page, place)) }
+    ensures frame { IfOk result (λ place. frame_at held.new.items place ≡ taken.frame) }
+    ensures held { AreHeld held.new.items order.now.entries }
+    ensures others { framed held.new.items order.now.entries ≡ framed held.old.items order.now.entries }
+{
+    if let Some(place) = free_place(order, held, left) {
+        held[place] = taken;
+        return Ok(place);
+    }
+    let place = held.len();
+    match held.push(taken) {
+        Ok(()) => Ok(place),
+        Err(_) => Err(AllocError),
+    }
+}
+
+// The frame in a place.
+#[inline]
+fn frame_of(held: &Vec<Held>, place: usize) -> &Frame
+    requires { place < length held.now.items }
+    ensures { result.now ≡ frame_at held.now.items place }
+{
+    &held[place].frame
+}
+
+// Gives words of the page in a place a cell.
+#[inline]
+fn fill_at(held: &mut Vec<Held>, place: usize, from: usize, to: usize, cell: Cell)
+    requires place { place < length held.old.items }
+    requires in_order { from ≤ to }
+    requires in_page { to ≤ 256 }
+    ensures held { held.new.items ≡ with_frame held.old.items place (record { cells = filled (frame_at held.old.items place).cells from to cell; is_dirty = true }) }
+    ensures words { length (frame_at held.old.items place).cells ≡ 256 }
+{
+    let frame = &mut held[place].frame;
+    frame.cells.fill(from, to, cell);
+    frame.is_dirty = true;
+}
+
+// Marks the page in a place as one that its slot has.
+fn clean_at(held: &mut Vec<Held>, place: usize)
+    requires place { place < length held.old.items }
+    ensures held { held.new.items ≡ with_frame held.old.items place (record (frame_at held.old.items place) { is_dirty = false }) }
+{
+    held[place].frame.is_dirty = false;
+}
+
+// Adds a page that was changed to a table, under its place in the order of use.
+fn note(table: &mut Table, page: u64, place: u32, frame: &Frame) -> Result<(), AllocError>
+    requires { (q slot : ℕ) → slot_in table.old.entries q ≡ Some slot → slot < place }
+    ensures looks { OnOk result ((q : ℕ) → slot_in table.new.entries q ≡ (if frame.now.is_dirty then (if page == q then Some place else slot_in table.old.entries q) else slot_in table.old.entries q)) }
+    ensures few { OnOk result (length table.new.entries ≤ length table.old.entries + 1) }
+{
+    if !frame.is_dirty {
+        return Ok(());
+    }
+    table.set(page, place)
+}
+
+// The pages that were changed, each with its place in the order of use.
+fn changed_pages(
+    alloc: Global,
+    order: &LruCache<u64, usize>,
+    held: &Vec<Held>,
+) -> Result<Table, AllocError>
+    requires held { AreHeld held.now.items order.now.entries }
+    requires few { length (framed held.now.items order.now.entries) ≤ 4096 }
+    ensures pages { IfOk result (λ table. (q : ℕ) → (is_some (slot_in table.entries q) ≡ true) ↔ HasDirty (framed held.now.items order.now.entries) q) }
+    ensures few { IfOk result (λ table. length table.entries ≤ length (framed held.now.items order.now.entries)) }
+{
+    let _count = order.len();
+    let mut table = Table::new(alloc);
+    let mut place = 0u32;
+    for (page, at) in order {
+        note(&mut table, *page, place, frame_of(held, *at))?;
+        place += 1;
+    }
+    Ok(table)
+}
+
+impl Frames {
+    ghost use Rattle.lru.specs.LruCache.{lru_cache};
+    /// No pages, and room for so many. All memory for frames is taken here.
+    pub(crate) fn new(alloc: Global, most: NonZeroUsize) -> Result<Self, AllocError>
+        ensures entries { IfOk result (λ f. f.entries ≡ []) }
+        ensures cap { IfOk result (λ f. f.cap ≡ non_zero_usize_get most) }
+    {
+        Ok(Frames {
+            order: LruCache::new(alloc, most)?,
+            held: Vec::with_capacity(alloc, most.get())?,
+            left: Vec::with_capacity(alloc, most.get())?,
+        })
+    }
+
+    /// How many pages there are.
+    #[inline]
+    pub(crate) fn len(&self) -> usize
+        ensures len { result ≡ length self.now.entries }
+        ensures valid { IsValid nat_eq self.now }
+    {
+        self.order.len()
+    }
+
+    /// How many there may be.
+    pub(crate) fn most(&self) -> usize
+        ensures { result ≡ self.now.cap }
+    {
+        self.order.cap().get()
+    }
+
+    /// The frame of a page.
+    #[inline]
+    pub(crate) fn get(&self, page: u64) -> Option<&Frame>
+        ensures { option_copied result ≡ frame_in self.now.entries page }
+    {
+        match place_of(&self.order, page) {
+            Some(place) => Some(frame_of(&self.held, place)),
+            None => None,
+        }
+    }
+
+    /// The frame of a page, where it is the one used last.
+    #[inline]
+    pub(crate) fn first(&self, page: u64) -> Option<&Frame>
+        ensures frame { IfSome result (λ f. frame_in self.now.entries page ≡ Some f.now) }
+        ensures first { IfSome result (λ f. (rest : List ℕ) × (keys_of self.now.entries ≡ page ∷ rest)) }
+    {
+        match self.order.peek_mru() {
+            Some((first, place)) => {
+                if *first == page {
+                    Some(frame_of(&self.held, *place))
+                } else {
+                    None
+                }
+            }
+            None => None,
+        }
+    }
+
+    /// Whether a page is the one used last.
+    #[inline]
+    pub(crate) fn is_first(&self, page: u64) -> bool
+        ensures { IsTrue result → (rest : List ℕ) × (keys_of self.now.entries ≡ page ∷ rest) }
+    {
+        match self.order.peek_mru() {
+            Some((first, _)) => *first == page,
+            None => false,
+        }
+    }
+
+    /// The page used least recently.
+    pub(crate) fn oldest(&self) -> Option<u64>
+        ensures { result ≡ option_map (λ e. e.0) (last_entry self.now.entries) }
+    {
+        match self.order.peek_lru() {
+            Some((page, _)) => Some(*page),
+            None => None,
+        }
+    }
+
+    /// Makes a page the one used last, and answers whether it is there.
+    #[inline(always)]
+    pub(crate) fn promote(&mut self, page: u64) -> bool
+        ensures value { result ≡ is_some (frame_in self.old.entries page) }
+        ensures entries { self.new ≡ lru_cache (promoted (nat_eq page) self.old.entries) self.old.cap }
+    {
+        self.order.promote(&page)
+    }
+
+    /// Takes a page out.
+    pub(crate) fn remove(&mut self, page: u64)
+        ensures entries { self.new ≡ lru_cache (remove_entry (nat_eq page) self.old.entries) self.old.cap }
+    {
+        if let Some(place) = self.order.pop(&page) {
+            let _noted = self.left.push(place);
+        }
+    }
+
+    /// Adds a page, as the one used last.
+    pub(crate) fn put(&mut self, page: u64, frame: Frame) -> Result<(), AllocError>
+        requires absent { frame_in self.old.entries page ≡ None }
+        requires room { length self.old.entries < self.old.cap }
+        ensures entries { OnOk result (self.new ≡ lru_cache ((page, frame) ∷ self.old.entries) self.old.cap) }
+        ensures refused { OnErr result (self.new ≡ self.old) }
+    {
+        let taken = Held { page, frame };
+        let place = take_place(&self.order, &mut self.held, &mut self.left, taken)?;
+        match self.order.put(page, place) {
+            Ok(_) => Ok(()),
+            Err(_) => {
+                let _noted = self.left.push(place);
+                Err(AllocError)
+            }
+        }
+    }
+
+    /// Marks a page as one that its slot has.
+    pub(crate) fn mark_clean(&mut self, page: u64)
+        requires { is_some (frame_in self.old.entries page) ≡ true }
+        ensures frames { (f : FrameOf) → frame_in self.old.entries page ≡ Some f
+            → (q : ℕ) → frame_in self.new.entries q ≡ (if page == q then Some (record f { is_dirty = false }) else frame_in self.old.entries q) }
+        ensures order { keys_of self.new.entries ≡ keys_of self.old.entries }
+        ensures cap { self.new.cap ≡ self.old.cap }
+    {
+        if let Some(place) = place_of(&self.order, page) {
+            clean_at(&mut self.held, place);
+        }
+    }
+
+    /// Gives some words of a page a cell. The order of use stays.
+    #[inline]
+    pub(crate) fn fill(&mut self, page: u64, from: usize, to: usize, cell: Cell)
+        requires page { is_some (frame_in self.old.entries page) ≡ true }
+        requires in_order { from ≤ to }
+        requires in_page { to ≤ 256 }
+        ensures frames { (f : FrameOf) → frame_in self.old.entries page ≡ Some f
+            → (q : ℕ) → frame_in self.new.entries q ≡ (if page == q then Some (record { cells = filled f.cells from to cell; is_dirty = true }) else frame_in self.old.entries q) }
+        ensures words { (f : FrameOf) → frame_in self.old.entries page ≡ Some f → length f.cells ≡ 256 }
+        ensures order { keys_of self.new.entries ≡ keys_of self.old.entries }
+        ensures cap { self.new.cap ≡ self.old.cap }
+    {
+        if let Some(place) = place_of(&self.order, page) {
+            fill_at(&mut self.held, place, from, to, cell);
+        }
+    }
+
+    /// The pages that were changed, each with its place in the order of use.
+    pub(crate) fn changed(&self, alloc: Global) -> Result<Table, AllocError>
+        requires { length self.now.entries ≤ 4096 }
+        ensures pages { IfOk result (λ table. (q : ℕ) → (is_some (slot_in table.entries q) ≡ true) ↔ HasDirty self.now.entries q) }
+        ensures few { IfOk result (λ table. length table.entries ≤ length self.now.entries) }
+    {
+        changed_pages(alloc, &self.order, &self.held)
+    }
+}

@@ -1,0 +1,36 @@
+-- What a detector puts into the head of a root.
+use Rattle.std.specs.Prelude.{◌<◌, ◌^◌, All, length, ℕ, List, [], ◌∷◌, nat_lt, slice_index, if◌then◌else◌}
+use Rattle.hg_model.specs.declared.thread.ThreadState.{ThreadState}
+use Rattle.hg_model.specs.declared.segment.Segment.{Segment}
+use Rattle.hg_cells.specs.declared.report.KeptReport.{KeptReport}
+use Rattle.hg_detect.specs.Shown.{Shown}
+use Rattle.hg_root.specs.declared.parts.SourceCount.{SourceCount}
+use Rattle.hg_root.specs.Grammar.{ReportFits, SegmentFits, SetFits, SourceFits, ThreadFits}
+use Rattle.hg_root.specs.Heads.{head_parts}
+use Rattle.hg_root.specs.Parts.{Parts}
+use Rattle.hg_contents.specs.Heads.{source_counts}
+
+-- the parts of a root with this number and what the detector shows, but its words
+abbrev pub parts_with : {W : Type 0} → ℕ → Shown W → Parts
+parts_with number d = head_parts number d.parts.events d.segments d.parts.threads d.sets d.total d.kept (source_counts (slice_index d.parts.last))
+
+-- a source with its last number, where it sent something
+abbrev pub if_sent : ℕ → ℕ → List SourceCount
+if_sent source last = if nat_lt 0 last then record { source = source; last = last } ∷ [] else []
+
+-- the thread has a spelling, and a number of a thread
+abbrev pub IsNumbered : ThreadState → Type 0
+IsNumbered t = ThreadFits t × (t.number < 1024)
+
+-- Each of these parts of a head has a spelling.
+pub record AreSpelled (segments : List Segment) (threads : List ThreadState) (sets : List (List ℕ)) (reports : List KeptReport) (sources : List SourceCount) : Type 0 where
+  pub segments_fit : All SegmentFits segments
+  pub segment_count : length segments < 2 ^ 32
+  pub threads_fit : All IsNumbered threads
+  pub thread_count : length threads < 2 ^ 16
+  pub sets_fit : All SetFits sets
+  pub set_count : length sets < 2 ^ 32
+  pub reports_fit : All ReportFits reports
+  pub report_count : length reports < 2 ^ 32
+  pub sources_fit : All SourceFits sources
+  pub source_count : length sources < 2 ^ 16

@@ -1,0 +1,4 @@
+pub mod Reading
+pub mod Standing
+pub mod Restoring
+pub mod Capturing

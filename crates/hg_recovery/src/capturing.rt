@@ -1,0 +1,132 @@
+//! The head of a root, from a detector.
+ghost use Rattle.std.specs.Prelude.{◌≡◌, ◌⊎◌, ◌≤◌, ◌^◌, ◌++◌, ◌↔◌, IfErr, IfOk, IsTrue, OnOk, slice_index};
+ghost use Rattle.hg_contents.specs.Heads.{FitsARoot, source_counts};
+ghost use Rattle.hg_root.specs.Grammar.{head_text};
+ghost use Rattle.hg_root.specs.Heads.{head_parts};
+ghost use Rattle.hg_root.specs.Lawful.{IsLawfulHead};
+ghost use Rattle.hg_recovery.specs.Capturing.{AreSpelled, if_sent, parts_with};
+
+use crate::fitting::{have_spellings, sets_have_spellings};
+use hg_contents::laws::{a_detector_has_a_lawful_head, threads_have_small_numbers};
+use hg_detect::detector::Detector;
+use hg_detect::words::Words;
+use hg_model::limits::SOURCE_NUMBERS;
+use hg_model::state::TraceState;
+use hg_model::thread::ThreadState;
+use hg_model::verdict::Refusal;
+use hg_root::{RootHead, SourceCount};
+use std::alloc::{AllocError, Global};
+
+// Puts a source at the end, where it sent something.
+fn push_sent(source: u16, last: u64, counts: &mut Vec<SourceCount>) -> Result<(), AllocError>
+    ensures { OnOk result (counts.new.items ≡ counts.old.items ++ if_sent source last) }
+{
+    if last > 0 {
+        counts.push(SourceCount { source, last })?;
+    }
+    Ok(())
+}
+
+// The sources that sent something, rising, each with its last number.
+fn sources_of(alloc: Global, state: &TraceState) -> Result<Vec<SourceCount>, AllocError>
+    ensures { IfOk result (λ counts. counts.items ≡ source_counts (slice_index state.now.last)) }
+{
+    let mut counts = Vec::new(alloc);
+    for source in 0..SOURCE_NUMBERS as u16 {
+        push_sent(source, state.last(source), &mut counts)?;
+    }
+    Ok(counts)
+}
+
+// The threads and the sources of a detector.
+fn lists_of<W>(
+    alloc: Global,
+    detector: &Detector<W>,
+) -> Result<(Vec<ThreadState>, Vec<SourceCount>), AllocError>
+    ensures threads { IfOk result (λ lists. lists.0.items ≡ detector.now.parts.threads) }
+    ensures sources { IfOk result (λ lists. lists.1.items ≡ source_counts (slice_index detector.now.parts.last)) }
+{
+    let state = detector.state();
+    let threads = state.threads(alloc)?;
+    let sources = sources_of(alloc, state)?;
+    Ok((threads, sources))
+}
+
+// Whether each part of a detector with these threads and sources has a spelling.
+fn has_spelling<W>(detector: &Detector<W>, threads: &[ThreadState], sources: &[SourceCount]) -> bool
+    ensures { IsTrue result ↔ AreSpelled detector.now.segments threads.now detector.now.sets.sets detector.now.kept sources.now }
+{
+    if threads.len() > 65_535 {
+        return false;
+    }
+    if sources.len() > 65_535 {
+        return false;
+    }
+    if !have_spellings(detector.segments()) {
+        return false;
+    }
+    if !have_spellings(threads) {
+        return false;
+    }
+    if !have_spellings(detector.kept_reports()) {
+        return false;
+    }
+    if !have_spellings(sources) {
+        return false;
+    }
+    let _kept = detector.kept();
+    sets_have_spellings(detector.sets())
+}
+
+// The head of a root with these lists, where all of it has a spelling.
+fn spelled<W>(
+    alloc: Global,
+    number: u64,
+    detector: &Detector<W>,
+    threads: &[ThreadState],
+    sources: &[SourceCount],
+) -> Result<RootHead, Refusal>
+    requires threads { threads.now ≡ detector.now.parts.threads }
+    ensures text { IfOk result (λ head. head ≡ head_text (head_parts number detector.now.parts.events detector.now.segments detector.now.parts.threads detector.now.sets detector.now.total detector.now.kept sources.now)) }
+    ensures refusal { IfErr result (λ r. (r ≡ Refusal.OutOfMemory) ⊎ ((r ≡ Refusal.Damaged) × ¬ AreSpelled detector.now.segments detector.now.parts.threads detector.now.sets.sets detector.now.kept sources.now)) }
+{
+    if !has_spelling(detector, threads, sources) {
+        return Err(Refusal::Damaged);
+    }
+    match RootHead::encode(
+        alloc,
+        number,
+        detector.state().events(),
+        detector.graph(),
+        threads,
+        detector.sets(),
+        detector.total(),
+        detector.kept_reports(),
+        sources,
+    ) {
+        Ok(head) => Ok(head),
+        Err(_) => Err(Refusal::OutOfMemory),
+    }
+}
+
+/// The head of a root with this number, 1 to 2^58: everything that a detector has but its words. Where the detector fits a root
+/// (`FitsARoot`), as it does over an honest disk, the head is lawful. `Damaged` says that it does not, as a part of it has no
+/// spelling, and `OutOfMemory` that memory was refused.
+pub fn head_of<W: Words>(
+    alloc: Global,
+    number: u64,
+    detector: &Detector<W>,
+) -> Result<RootHead, Refusal>
+    requires least { 1 ≤ number }
+    requires most { number ≤ 2 ^ 58 }
+    ensures text { IfOk result (λ head. head ≡ head_text (parts_with number detector.now)) }
+    ensures lawful { FitsARoot W.cell_of detector.now → IsLawfulHead (parts_with number detector.now) }
+    ensures refusal { IfErr result (λ r. (r ≡ Refusal.OutOfMemory) ⊎ ((r ≡ Refusal.Damaged) × ¬ FitsARoot W.cell_of detector.now)) }
+{
+    a_detector_has_a_lawful_head::<W>();
+    threads_have_small_numbers();
+    match lists_of(alloc, detector) {
+        Ok((threads, sources)) => spelled(alloc, number, detector, &threads, &sources),
+        Err(_) => Err(Refusal::OutOfMemory),
+    }
+}

@@ -1,0 +1,124 @@
+//! A detector over a pool, from a root and the file of slots that it names.
+ghost use Rattle.std.specs.Prelude.{◌≡◌, ◌<◌, ◌≤◌, length, All, IfErr, IfOk, IsTrue, OnOk};
+ghost use Rattle.hg_contents.specs.Images.{content_of};
+ghost use Rattle.hg_detect.specs.Engine.{AtPresent};
+ghost use Rattle.hg_detect.specs.Shown.{content};
+ghost use Rattle.hg_detect.specs.Words.{failed_after};
+ghost use Rattle.hg_pages.specs.Files.{disk_of, known};
+ghost use Rattle.hg_pool.specs.Answers.{told_as};
+ghost use Rattle.hg_pool.specs.Maps.{live};
+ghost use Rattle.hg_root.specs.Checkpoints.{Checkpoint, HasPages};
+ghost use Rattle.hg_root.specs.Lawful.{IsLawful};
+ghost use Rattle.hg_root.specs.Roots.{IsWhole, parts_of};
+ghost use Rattle.hg_recovery.specs.Reading.{WasRead};
+ghost use Rattle.hg_recovery.specs.Restoring.{AreCaps, FitsCaps, IsTrueCause, detector_of, failures_after, file_in};
+ghost use Rattle.hg_recovery.specs.Standing.{HasPagesOf, entries_of};
+ghost use Rattle.hg_recovery.specs.declared.caps.Caps.{Caps as CapsOf};
+
+use crate::caps::Caps;
+use crate::checking::check_slots;
+use crate::detectors::over_pool;
+use crate::tables::{lie_below, table_of};
+use hg_detect::detector::Detector;
+use hg_detect::words::Words;
+use hg_disk::Disk;
+use hg_model::verdict::Refusal;
+use hg_pages::{SlotFault, SlotFile, Table};
+use hg_pool::Pool;
+use hg_root::Root;
+use std::alloc::Global;
+
+// What a fault of the file is told as.
+fn told(fault: SlotFault) -> Refusal
+    ensures { result ≡ told_as fault }
+{
+    match fault {
+        SlotFault::Broken => Refusal::Broken,
+        SlotFault::Damaged => Refusal::Damaged,
+        SlotFault::DeviceFault => Refusal::DeviceFault,
+        SlotFault::OutOfMemory => Refusal::OutOfMemory,
+    }
+}
+
+// Reads each page that a root names.
+fn read_pages<D: Disk>(root: &Root, file: &mut SlotFile<D>) -> Result<(), Refusal>
+    requires { IsLawful (parts_of root.now) }
+    ensures stands { IsTrue D.is_honest → OnOk result (HasPagesOf (parts_of root.now) (known ⟦<D as Disk>⟧ file.old)) }
+    ensures refusal { (caps : CapsOf) → IfErr result (IsTrueCause ⟦<D as Disk>⟧ (parts_of root.now) caps file.old) }
+    ensures read { WasRead ⟦<D as Disk>⟧ (length root.now.pages.items) file.old file.new }
+    ensures device { D.failures (disk_of file.new) ≡ failed_after result (D.failures (disk_of file.old)) }
+{
+    match check_slots(root, file) {
+        Ok(()) => Ok(()),
+        Err(fault) => Err(told(fault)),
+    }
+}
+
+// The table of the pages that a root names, where the root fits the caps and the slots have its pages.
+fn checked_table<D: Disk>(
+    alloc: Global,
+    root: &Root,
+    file: &mut SlotFile<D>,
+    caps: Caps,
+) -> Result<Table, Refusal>
+    requires { IsLawful (parts_of root.now) }
+    ensures table { IfOk result (λ table. table.entries ≡ entries_of root.now.pages.items) }
+    ensures fits { OnOk result (FitsCaps (parts_of root.now) caps) }
+    ensures sets { caps.sets < length root.now.sets.sets → IfErr result (λ r. r ≡ Refusal.FullSets) }
+    ensures slots { length root.now.sets.sets ≤ caps.sets → ¬ All (λ p. p.slot < caps.slots) root.now.pages.items → IfErr result (λ r. r ≡ Refusal.FullSlots) }
+    ensures unread { ¬ FitsCaps (parts_of root.now) caps → file.new ≡ file.old }
+    ensures stands { IsTrue D.is_honest → OnOk result (HasPagesOf (parts_of root.now) (known ⟦<D as Disk>⟧ file.old)) }
+    ensures refusal { IfErr result (IsTrueCause ⟦<D as Disk>⟧ (parts_of root.now) caps file.old) }
+    ensures read { WasRead ⟦<D as Disk>⟧ (length root.now.pages.items) file.old file.new }
+    ensures device { D.failures (disk_of file.new) ≡ failed_after result (D.failures (disk_of file.old)) }
+{
+    if root.sets.len() > caps.sets {
+        return Err(Refusal::FullSets);
+    }
+    if !lie_below(&root.pages, caps.slots) {
+        return Err(Refusal::FullSlots);
+    }
+    read_pages(root, file)?;
+    match table_of(alloc, &root.pages) {
+        Ok(table) => Ok(table),
+        Err(_) => Err(Refusal::OutOfMemory),
+    }
+}
+
+/// The detector of a root, over the pool of its pages, with no page in memory. Over an honest disk its content is that of each
+/// checkpoint with the root's parts whose pages the slots have, and there is one. Each page is read once, one device call a page at
+/// most. What is refused hands the file back, as it was.
+///
+/// It refuses with `FullSets` where the root has more sets than the cap, and then with `FullSlots` where it names a slot at the cap or
+/// above, and then reads.
+pub fn restored<D: Disk>(
+    alloc: Global,
+    root: Root,
+    file: SlotFile<D>,
+    caps: Caps,
+) -> Result<Detector<Pool<D>>, (Refusal, SlotFile<D>)>
+    requires lawful { IsLawful (parts_of root) }
+    requires whole { IsWhole root }
+    requires caps { AreCaps caps }
+    ensures shown { IfOk result (λ d. d ≡ detector_of root caps d.words.file) }
+    ensures content { IsTrue D.is_honest → (c : Checkpoint) → c.root ≡ parts_of root → HasPages (known ⟦<D as Disk>⟧ file) c → IfOk result (λ d. content (live ⟦<D as Disk>⟧) d ≡ content_of c) }
+    ensures stands { IsTrue D.is_honest → OnOk result (HasPagesOf (parts_of root) (known ⟦<D as Disk>⟧ file)) }
+    ensures lawful { IfOk result (AtPresent ⟦<Pool<D> as Words>⟧.may_bring) }
+    ensures faithful { IsTrue D.is_honest → IfOk result (AtPresent ⟦<Pool<D> as Words>⟧.is_faithful) }
+    ensures fits { OnOk result (FitsCaps (parts_of root) caps) }
+    ensures sets { caps.sets < length root.sets.sets → IfErr result (λ e. e.0 ≡ Refusal.FullSets) }
+    ensures slots { length root.sets.sets ≤ caps.sets → ¬ All (λ p. p.slot < caps.slots) root.pages.items → IfErr result (λ e. e.0 ≡ Refusal.FullSlots) }
+    ensures unread { ¬ FitsCaps (parts_of root) caps → file_in result ≡ file }
+    ensures refusal { IfErr result (λ e. IsTrueCause ⟦<D as Disk>⟧ (parts_of root) caps file e.0) }
+    ensures read { WasRead ⟦<D as Disk>⟧ (length root.pages.items) file (file_in result) }
+    ensures device { D.failures (disk_of (file_in result)) ≡ failures_after result (D.failures (disk_of file)) }
+{
+    let mut file = file;
+    match checked_table(alloc, &root, &mut file, caps) {
+        Ok(table) => match over_pool(alloc, root, table, file, caps) {
+            Ok(detector) => Ok(detector),
+            Err(file) => Err((Refusal::OutOfMemory, file)),
+        },
+        Err(refusal) => Err((refusal, file)),
+    }
+}

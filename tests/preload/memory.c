@@ -1,0 +1,76 @@
+/* A library for LD_PRELOAD that refuses a program one allocation.
+ *
+ *   MEMORY_REFUSE=N   the N-th allocation, counted from 1, finds no memory
+ *   MEMORY_COUNT=PATH where the program ends, the number of its allocations is written there
+ *
+ * Allocations are malloc, calloc, realloc to another place or size, aligned_alloc and posix_memalign.
+ */
+#define _GNU_SOURCE
+#include <errno.h>
+#include <fcntl.h>
+#include <stdio.h>
+#include <stdlib.h>
+#include <sys/syscall.h>
+#include <unistd.h>
+
+extern void *__libc_malloc(size_t size);
+extern void *__libc_calloc(size_t count, size_t size);
+extern void *__libc_realloc(void *former, size_t size);
+extern void *__libc_memalign(size_t align, size_t size);
+
+static long made, refused = -1;
+
+static int is_refused(void)
+{
+    if (refused < 0) {
+        const char *text = getenv("MEMORY_REFUSE");
+        refused = text ? atol(text) : 0;
+    }
+    made++;
+    if (made != refused)
+        return 0;
+    errno = ENOMEM;
+    return 1;
+}
+
+void *malloc(size_t size)
+{
+    return is_refused() ? NULL : __libc_malloc(size);
+}
+
+void *calloc(size_t count, size_t size)
+{
+    return is_refused() ? NULL : __libc_calloc(count, size);
+}
+
+void *realloc(void *former, size_t size)
+{
+    return is_refused() ? NULL : __libc_realloc(former, size);
+}
+
+void *aligned_alloc(size_t align, size_t size)
+{
+    return is_refused() ? NULL : __libc_memalign(align, size);
+}
+
+int posix_memalign(void **block, size_t align, size_t size)
+{
+    if (is_refused())
+        return ENOMEM;
+    *block = __libc_memalign(align, size);
+    return *block ? 0 : ENOMEM;
+}
+
+__attribute__((destructor)) static void tell(void)
+{
+    const char *path = getenv("MEMORY_COUNT");
+    if (!path)
+        return;
+    char line[32];
+    int len = snprintf(line, sizeof line, "%ld\n", made);
+    int file = (int)syscall(SYS_openat, AT_FDCWD, path, O_WRONLY | O_CREAT | O_TRUNC, 0600);
+    if (file >= 0) {
+        syscall(SYS_write, file, line, (size_t)len);
+        syscall(SYS_close, file);
+    }
+}
