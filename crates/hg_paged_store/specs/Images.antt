@@ -4,7 +4,7 @@ use Rattle.hg_model.specs.Contents.{Content}
 use Rattle.hg_disk.specs.Moments.{GoesOn, MayLeave}
 use Rattle.hg_disk.specs.declared.disk.Disk as disk
 use Rattle.hg_root.specs.Checkpoints.{Checkpoint, HasCheckpoint}
-use Rattle.hg_contents.specs.Images.{Image, content_of}
+use Rattle.hg_contents.specs.Images.{HasContent, Image, content_of}
 use Rattle.hg_contents.specs.Stores.{IsLeft, States}
 use Rattle.hg_paged_store.specs.declared.devices.Devices.{Devices}
 
@@ -47,3 +47,18 @@ module _ {D : Type 0} (g : disk.Ghosts D) where
   -- how many calls of the devices have failed
   abbrev pub failures_of : Devices D → ℕ
   failures_of devices = g.failures devices.journal + g.failures devices.slots + g.failures devices.root0 + g.failures devices.root1
+
+-- The image has what content another one has, if any.
+abbrev pub HasContentOf : Image → Image → Type 0
+HasContentOf before image = (c : Content) → HasContent before c → HasContent image c
+
+module _ {D : Type 0} (g : disk.Ghosts D) where
+  -- The image has the content of one that the devices left.
+  abbrev pub HasContentOfOne : Devices D → Image → Type 0
+  HasContentOfOne devices image = (before : Image) × IsLeft (states_of g devices) before × HasContentOf before image
+
+  -- Up to a moment, and from there on, each image of the devices has the content of one that they left at first.
+  pub record Recovers (old new : Devices D) : Type 0 where
+    pub synced : Devices D
+    pub before : EachImage g old synced (HasContentOfOne old)
+    pub behind : EachImage g synced new (HasContentOfOne old)

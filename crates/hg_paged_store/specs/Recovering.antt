@@ -7,7 +7,7 @@ use Rattle.hg_model.specs.declared.verdict.Verdict.TheVariants.{Accept}
 use Rattle.hg_model.specs.Contents.{Content}
 use Rattle.hg_model.specs.Verdicts.{verdict, standing_of}
 use Rattle.hg_model.specs.Change.{after}
-use Rattle.hg_sets.specs.Interning.{Table}
+use Rattle.hg_sets.specs.Interning.{Table, first_table}
 use Rattle.hg_sets.specs.declared.fault.SetFault.TheVariants.{Full}
 use Rattle.hg_detect.specs.Making.{Asks, sets_asked}
 use Rattle.hg_disk.specs.declared.disk.Disk as disk
@@ -21,14 +21,15 @@ use Rattle.hg_journal.specs.Reading as journals
 use Rattle.hg_pool.specs.Kept.{IsFaithful}
 use Rattle.hg_pool.specs.Maps as pools
 use Rattle.hg_pool.specs.Shown as pool
-use Rattle.hg_root.specs.Checkpoints.{root_of}
+use Rattle.hg_root.specs.Checkpoints.{Checkpoint, HasCheckpoint, root_of}
 use Rattle.hg_root.specs.Finding.{number_in}
+use Rattle.hg_root.specs.Newest.{IsNewest}
 use Rattle.hg_root.specs.Grammar.{SetFits}
 use Rattle.hg_root.specs.Parts.{Parts}
 use Rattle.hg_root.specs.Pairs as pairs
 use Rattle.hg_root.specs.declared.pair.RootPair.{RootPair}
-use Rattle.hg_contents.specs.Choices.{Basis, Choice, HasSlots}
-use Rattle.hg_contents.specs.Images.{Gives, start_of}
+use Rattle.hg_contents.specs.Choices.{Basis, Choice, HasRoots, HasSlots}
+use Rattle.hg_contents.specs.Images.{Gives, Image, start_of}
 use Rattle.hg_contents.specs.States.{IsLawfulState}
 use Rattle.hg_checkpointer.specs.declared.checkpointer.Checkpointer.{Checkpointer}
 use Rattle.hg_checkpointer.specs.Standing.{Stands}
@@ -92,6 +93,39 @@ abbrev pub IsTooFew : ℕ → ℕ → Option Parts → Refusal → Type 0
 IsTooFew sets slots None refusal = (refusal ≢ FullSets) × (refusal ≢ FullSlots)
 IsTooFew sets slots (Some root) refusal = (refusal ≡ FullSets → sets < length root.sets) × (refusal ≡ FullSlots → ¬ All (λ p. p.slot < slots) root.pages)
 
+-- the table of sets from which a recovery goes on, with room for so many: that of the root, or the first one
+abbrev pub table_at : ℕ → Option Parts → Table
+table_at cap None = first_table cap
+table_at cap (Some root) = record { limit = cap; sets = root.sets }
+
+-- The table of sets is what that of the newest root became, or the first one, as the events of the journal behind it were accepted.
+pub record HasTable (cap : ℕ) (image : Image) (c : Content) (table : Table) : Type 0 where
+  pub checkpoint : Option Checkpoint
+  pub stands : HasCheckpoint checkpoint image.root0 image.root1 image.slots
+  pub sets : HasSets (start_of checkpoint) (table_at cap (root_of checkpoint)) image.journal c table
+
+-- The newest root of two files has P.
+pub record HasRootThat (P : Parts → Type 0) (one other : List ℕ) : Type 0 where
+  pub root : Parts
+  pub former : Option Parts
+  pub newest : IsNewest (Some root) former one other
+  pub has : P root
+
+-- It has more sets than so many.
+abbrev pub HasMoreSets : ℕ → List ℕ → List ℕ → Type 0
+HasMoreSets cap one other = HasRootThat (λ root. cap < length root.sets) one other
+
+-- Where sets or slots are told to be too few, the newest root has more sets, or names a slot beyond.
+pub record HasNoRoom (sets slots : ℕ) (one other : List ℕ) (refusal : Refusal) : Type 0 where
+  pub sets : refusal ≡ FullSets → HasMoreSets sets one other
+  pub slots : refusal ≡ FullSlots → HasRootThat (λ root. ¬ All (λ p. p.slot < slots) root.pages) one other
+
+-- A table of so many sets is too small for an image: its newest root has more, or the events behind it ask for one too many.
+abbrev pub HasFewSets : ℕ → Image → Type 0
+HasFewSets cap image =
+    HasMoreSets cap image.root0 image.root1
+    ⊎ ((c : Option Checkpoint) × HasCheckpoint c image.root0 image.root1 image.slots × IsTooSmall (start_of c) (table_at cap (root_of c)) image.journal)
+
 -- The refusals of a recovery.
 abbrev pub IsOfRecovery : Refusal → Type 0
 IsOfRecovery refusal = (refusal ≡ Damaged) ⊎ ((refusal ≡ FullSets) ⊎ ((refusal ≡ FullSlots) ⊎ ((refusal ≡ DeviceFault) ⊎ (refusal ≡ OutOfMemory))))
@@ -132,6 +166,41 @@ pub record IsStarted {D : Type 0} (g : disk.Ghosts D) (d : detect.Shown (pool.Sh
   pub names : NamesOf d.words.root now.checkpoint
   pub content : detect.content (pools.live g) d ≡ start_of now.checkpoint
   pub ready : IsReady g d
+
+-- A detector stands at the newest root of two files with these bytes, or at none, over a file of slots with these bytes. No other checkpoint is there.
+pub record IsRooted {D : Type 0} (g : disk.Ghosts D) (cap : ℕ) (one other slots : List ℕ) (d : detect.Shown (pool.Shown D)) (roots : RootPair D) (number : ℕ) : Type 0 where
+  pub now : Choice
+  pub has_roots : HasRoots now one other
+  pub has_slots : HasSlots now slots
+  pub only : (c : Option Checkpoint) → HasCheckpoint c one other slots → start_of c ≡ start_of now.checkpoint
+  pub started : IsStarted g d roots number now
+  pub sets : d.sets ≡ table_at cap (root_of now.checkpoint)
+
+-- a detector with the two root files, or what is handed back
+abbrev pub RootedOr : Type 0 → Type 0
+RootedOr D = Result (detect.Shown (pool.Shown D) × RootPair D × ℕ) (Refusal × D × RootPair D)
+
+module _ {D : Type 0} where
+  abbrev pub slots_of : RootedOr D → D
+  slots_of (Ok r) = pools.disk_of r.0.words
+  slots_of (Err e) = e.1
+
+  abbrev pub roots_of : RootedOr D → RootPair D
+  roots_of (Ok r) = r.1
+  roots_of (Err e) = e.2
+
+  abbrev pub CountsRooted : RootedOr D → ℕ → ℕ → Type 0
+  CountsRooted (Ok r) old new = new ≡ old
+  CountsRooted (Err e) old new = CountedBy e.0 old new
+
+  -- the devices after a making, or a recovery, with this answer
+  abbrev pub made_of : {E : Type 0} → Result (Shown D) (E × Devices D) → Devices D
+  made_of (Ok s) = s.devices
+  made_of (Err e) = e.1
+
+  abbrev pub CountsRecovered : Result (Shown D) (Refusal × Devices D) → ℕ → ℕ → Type 0
+  CountsRecovered (Ok s) old new = new ≡ old
+  CountsRecovered (Err e) old new = CountedBy e.0 old new
 
 -- the parts that a store is made of, or that are handed back
 abbrev pub Caught : (D : Type 0) → disk.Ghosts D → Type 0

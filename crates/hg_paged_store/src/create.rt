@@ -17,7 +17,7 @@ ghost use Rattle.hg_checkpointer.specs.declared.phase.Phase.TheVariants.{Idle};
 ghost use Rattle.hg_contents.specs.Choices.{Basis};
 ghost use Rattle.hg_paged_store.specs.Kept.{devices_of};
 ghost use Rattle.hg_paged_store.specs.Recovering.{IsBased, IsEmpty, IsReady};
-ghost use Rattle.hg_paged_store.specs.Store.{IsFresh};
+ghost use Rattle.hg_paged_store.specs.Store.{IsFresh, IsIdle};
 
 use crate::devices::{Caps, Devices};
 use crate::store::{MOST_PENDING, Store};
@@ -140,6 +140,7 @@ pub(crate) fn made<D: Disk>(
     requires idle { checkpointer.phase ≡ Idle }
     requires stands { IsTrue D.is_honest → (basis : Basis) × IsBased ⟦<D as Disk>⟧ journal detector checkpointer basis × IsReady ⟦<D as Disk>⟧ detector }
     ensures fresh { (basis : Basis) → IsBased ⟦<D as Disk>⟧ journal detector checkpointer basis → IsFresh ⟦<D as Disk>⟧ result (content (live ⟦<D as Disk>⟧) detector) }
+    ensures idle { IsIdle result }
     ensures devices { result.devices ≡ devices_of ⟦<D as Disk>⟧ journal detector.words checkpointer }
     ensures detector { result.detector ≡ detector }
 {

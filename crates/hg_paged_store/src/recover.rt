@@ -15,19 +15,20 @@ ghost use Rattle.hg_pool.specs.Kept.{IsFaithful, Went};
 ghost use Rattle.hg_pool.specs.Maps as pools;
 ghost use Rattle.hg_pool.specs.Maps.{live};
 ghost use Rattle.hg_pool.specs.OfWords.{MayBring};
-ghost use Rattle.hg_root.specs.Checkpoints.{Checkpoint, HasPages, root_of};
-ghost use Rattle.hg_root.specs.Finding.{HasNoNewest, IsNewestOf, IsOnlyOf, IsWholeIn, StandsWith, WasRead, root_in};
-ghost use Rattle.hg_root.specs.Pairs.{IsWorking, failures, first_of, second_of};
+ghost use Rattle.hg_root.specs.Checkpoints.{Checkpoint, HasCheckpoint, HasPages, LieWithin, root_of};
+ghost use Rattle.hg_root.specs.Finding.{AreWhole, HasNoNewest, IsNewestOf, IsOnlyOf, IsWholeIn, StandsWith, WasRead, number_in, root_in};
+ghost use Rattle.hg_root.specs.Newest.{IsNewest};
+ghost use Rattle.hg_root.specs.Pairs.{IsWorking, Stands, failures, first_bytes, first_of, second_bytes, second_of};
 ghost use Rattle.hg_root.specs.Parts.{Parts};
 ghost use Rattle.hg_contents.specs.Choices.{Choice};
-ghost use Rattle.hg_contents.specs.Images.{Gives, start_of};
+ghost use Rattle.hg_contents.specs.Images.{Gives, HasContent, start_of};
 ghost use Rattle.hg_recovery.specs.Restoring.{failures_after, file_in};
 ghost use Rattle.hg_checkpointer.specs.Tables.{NamesOf};
-ghost use Rattle.hg_paged_store.specs.Images.{failures_of};
-ghost use Rattle.hg_paged_store.specs.Recovering.{CountsCaught, CountsFailures, HasSets, IsOfRecovery, IsReady, IsStarted, IsTooFew, IsTooSmall, Settled, Stay, first_after, journal_after, second_after, words_after};
-ghost use Rattle.hg_paged_store.specs.Store.{IsFresh};
+ghost use Rattle.hg_paged_store.specs.Images.{EachImage, HasContentOf, Recovers, failures_of, read_of};
+ghost use Rattle.hg_paged_store.specs.Recovering.{CountsCaught, CountsFailures, CountsRecovered, CountsRooted, HasFewSets, HasNoRoom, HasSets, HasTable, IsOfRecovery, IsReady, IsRooted, IsStarted, IsTooFew, IsTooSmall, Settled, Stay, first_after, journal_after, made_of, roots_of, second_after, slots_of, table_at, words_after};
+ghost use Rattle.hg_paged_store.specs.Store.{IsFresh, IsIdle};
 
-use crate::create::{empty_detector, made};
+use crate::create::{empty_detector, made, pending_room};
 use crate::devices::{Caps, Devices};
 use crate::replay::replay;
 use crate::store::Store;
@@ -39,8 +40,8 @@ use hg_model::event::Named;
 use hg_model::verdict::Refusal;
 use hg_pages::SlotFile;
 use hg_pool::Pool;
-use hg_recovery::restored;
-use hg_root::{Root, RootFault, RootPair};
+use hg_recovery::{lies_within, restored};
+use hg_root::{Newest, Root, RootFault, RootPair};
 use std::alloc::Global;
 
 /// Makes what each device reads durable.
@@ -59,12 +60,12 @@ fn sync_all<D: Disk>(devices: &mut Devices<D>) -> Result<(), DiskFault>
     devices.root1.sync()
 }
 
-/// The newest open root of two files that can be used, or none where both are closed.
-fn newest<D: Disk>(alloc: Global, roots: &mut RootPair<D>) -> Result<Option<Root>, Refusal>
+/// The two roots of two files that can be used.
+fn newest<D: Disk>(alloc: Global, roots: &mut RootPair<D>) -> Result<Newest, Refusal>
     requires works { IsWorking roots.old }
     ensures found { IsTrue D.is_honest → IfOk result (IsNewestOf ⟦<D as Disk>⟧ roots.old) }
     ensures only { IsTrue D.is_honest → IfOk result (IsOnlyOf ⟦<D as Disk>⟧ roots.old) }
-    ensures whole { IfOk result IsWholeIn }
+    ensures whole { IfOk result AreWhole }
     ensures stands { IsTrue D.is_honest → (one other : List ℕ) → D.state (first_of roots.old) ≡ settled one → D.state (second_of roots.old) ≡ settled other
         → IfOk result (StandsWith ⟦<D as Disk>⟧ roots.new) }
     ensures damaged { IsTrue D.is_honest → result ≡ Err Refusal.Damaged → HasNoNewest ⟦<D as Disk>⟧ roots.old }
@@ -80,6 +81,36 @@ fn newest<D: Disk>(alloc: Global, roots: &mut RootPair<D>) -> Result<Option<Root
         Err(RootFault::Damaged) => Err(Refusal::Damaged),
         Err(RootFault::Broken) => Err(Refusal::Damaged),
     }
+}
+
+/// Whether the slots that a root names lie within the file, if there is a root.
+fn lie_within<D: Disk>(root: &Option<Root>, file: &SlotFile<D>) -> bool
+    ensures { IsTrue result ↔ IfSome (root_in root.now) (LieWithin (D.state (files.disk_of file.now)).contents) }
+{
+    match root {
+        Some(root) => lies_within(root, file),
+        None => true,
+    }
+}
+
+/// The newest root of two files, or none, where the slots of the other root lie within the file of slots.
+fn standing<D: Disk>(alloc: Global, roots: &mut RootPair<D>, file: &SlotFile<D>) -> Result<Option<Root>, Refusal>
+    requires works { IsWorking roots.old }
+    ensures only { IsTrue D.is_honest → IfOk result (λ found. (root former : Option Parts) → IsNewest root former (first_bytes ⟦<D as Disk>⟧ roots.old) (second_bytes ⟦<D as Disk>⟧ roots.old) → root ≡ root_in found) }
+    ensures whole { IfOk result IsWholeIn }
+    ensures stands { IsTrue D.is_honest → (one other : List ℕ) → D.state (first_of roots.old) ≡ settled one → D.state (second_of roots.old) ≡ settled other
+        → IfOk result (λ found. (former : Option Parts) × Stands ⟦<D as Disk>⟧ roots.new (root_in found) former × IsNewest (root_in found) former one other × IfSome former (LieWithin (D.state (files.disk_of file.now)).contents)) }
+    ensures damaged { IsTrue D.is_honest → result ≡ Err Refusal.Damaged → (c : Option Checkpoint) → ¬ HasCheckpoint c (first_bytes ⟦<D as Disk>⟧ roots.old) (second_bytes ⟦<D as Disk>⟧ roots.old) (D.state (files.disk_of file.now)).contents }
+    ensures refusal { IfErr result (λ r. (r ≡ Refusal.Damaged) ⊎ ((r ≡ Refusal.DeviceFault) ⊎ (r ≡ Refusal.OutOfMemory))) }
+    ensures first { WasRead ⟦<D as Disk>⟧ (first_of roots.old) (first_of roots.new) }
+    ensures second { WasRead ⟦<D as Disk>⟧ (second_of roots.old) (second_of roots.new) }
+    ensures device { CountsFailures result (failures ⟦<D as Disk>⟧ roots.old) (failures ⟦<D as Disk>⟧ roots.new) }
+{
+    let Newest { root, former } = newest(alloc, roots)?;
+    if !lie_within(&former, file) {
+        return Err(Refusal::Damaged);
+    }
+    Ok(root)
 }
 
 /// The caps of the detector that a root makes.
@@ -106,6 +137,7 @@ fn detector_of<D: Disk>(
     requires slots { (1 ≤ caps.slots) × (caps.slots ≤ 1048576) }
     requires whole { IsWholeIn found }
     requires works { files.is_broken file ≡ false }
+    ensures sets { IfOk result (λ d. d.sets ≡ table_at caps.sets (root_in found)) }
     ensures content { IsTrue D.is_honest → (c : Option Checkpoint) → root_of c ≡ root_in found → IfSome c (HasPages (files.known ⟦<D as Disk>⟧ file))
         → IfOk result (λ d. content (live ⟦<D as Disk>⟧) d ≡ start_of c) }
     ensures stands { IsTrue D.is_honest → OnOk result ((c : Option Checkpoint) × (root_of c ≡ root_in found) × IfSome c (HasPages (files.known ⟦<D as Disk>⟧ file))) }
@@ -149,6 +181,7 @@ fn caught_up<D: Disk>(
         → IfOk result (λ store. (c : Content) × (events : List NamedOf) × IsJournal (D.state (journals.disk_of journal)).contents events × Gives now.checkpoint events c × IsFresh ⟦<D as Disk>⟧ store c) }
     ensures damaged { (now : Choice) → IsTrue D.is_honest → IsStarted ⟦<D as Disk>⟧ detector roots number now
         → IfErr result (λ e. e.0 ≡ Refusal.Damaged → (events : List NamedOf) (c : Content) → IsJournal (D.state (journals.disk_of journal)).contents events → ¬ Gives now.checkpoint events c) }
+    ensures idle { IfOk result IsIdle }
     ensures sets { IsTrue D.is_honest → IfOk result (λ store. HasSets (content (live ⟦<D as Disk>⟧) detector) detector.sets (D.state (journals.disk_of journal)).contents (content (live ⟦<D as Disk>⟧) store.detector) store.detector.sets) }
     ensures full { IsTrue D.is_honest → IfErr result (λ e. e.0 ≡ Refusal.FullSets → IsTooSmall (content (live ⟦<D as Disk>⟧) detector) detector.sets (D.state (journals.disk_of journal)).contents) }
     ensures refusal { IfErr result (λ e. IsOfRecovery e.0) }
@@ -169,4 +202,157 @@ fn caught_up<D: Disk>(
     }
     let checkpointer = Checkpointer::new(alloc, roots, number);
     Ok(made(journal, detector, checkpointer, pending))
+}
+
+/// The detector that stands at the newest root of two files, or at none, over the file of slots; the two files; and the number of the
+/// root. Each page that the root names is read. A refusal hands the disks back.
+fn rooted<D: Disk>(
+    alloc: Global,
+    slots: D,
+    roots: RootPair<D>,
+    frames: u16,
+    caps: Caps,
+) -> Result<(Detector<Pool<D>>, RootPair<D>, u64), (Refusal, D, RootPair<D>)>
+    requires frames { (4 ≤ frames) × (frames ≤ 4096) }
+    requires sets { (1 ≤ caps.sets) × (caps.sets ≤ 262144) }
+    requires slots { (1 ≤ caps.slots) × (caps.slots ≤ 1048576) }
+    requires works { IsWorking roots }
+    ensures rooted { IsTrue D.is_honest → (one other bytes : List ℕ) → D.state (first_of roots) ≡ settled one → D.state (second_of roots) ≡ settled other → D.state slots ≡ settled bytes
+        → IfOk result (λ r. IsRooted ⟦<D as Disk>⟧ caps.sets one other bytes r.0 r.1 r.2) }
+    ensures lawful { IfOk result (λ r. AtPresent MayBring r.0) }
+    ensures damaged { IsTrue D.is_honest → IfErr result (λ e. e.0 ≡ Refusal.Damaged → (c : Option Checkpoint) → ¬ HasCheckpoint c (first_bytes ⟦<D as Disk>⟧ roots) (second_bytes ⟦<D as Disk>⟧ roots) (D.state slots).contents) }
+    ensures full { IsTrue D.is_honest → IfErr result (λ e. HasNoRoom caps.sets caps.slots (first_bytes ⟦<D as Disk>⟧ roots) (second_bytes ⟦<D as Disk>⟧ roots) e.0) }
+    ensures refusal { IfErr result (λ e. IsOfRecovery e.0) }
+    ensures state { D.state (slots_of result) ≡ D.state slots }
+    ensures any_moment { LeavesOnly ⟦<D as Disk>⟧ slots (slots_of result) (IsImage (D.state slots)) }
+    ensures first { WasRead ⟦<D as Disk>⟧ (first_of roots) (first_of (roots_of result)) }
+    ensures second { WasRead ⟦<D as Disk>⟧ (second_of roots) (second_of (roots_of result)) }
+    ensures device { CountsRooted result (failures ⟦<D as Disk>⟧ roots + D.failures slots) (failures ⟦<D as Disk>⟧ (roots_of result) + D.failures (slots_of result)) }
+{
+    let mut roots = roots;
+    let file = SlotFile::attach(slots);
+    let found = match standing(alloc, &mut roots, &file) {
+        Ok(found) => found,
+        Err(refusal) => return Err((refusal, file.into_disks(), roots)),
+    };
+    let number = number_of(&found);
+    match detector_of(alloc, found, file, frames, caps) {
+        Ok(detector) => Ok((detector, roots, number)),
+        Err((refusal, file)) => Err((refusal, file.into_disks(), roots)),
+    }
+}
+
+/// The number of a root, 0 where there is none.
+fn number_of(root: &Option<Root>) -> u64
+    ensures { result ≡ number_in (root_in root.now) }
+{
+    match root {
+        Some(root) => root.number,
+        None => 0,
+    }
+}
+
+/// The devices of a store that was not made.
+fn handed_back<D: Disk>(journal: D, slots: D, roots: RootPair<D>) -> Devices<D>
+    ensures { result ≡ record { journal = journal; slots = slots; root0 = first_of roots; root1 = second_of roots } }
+{
+    let (root0, root1) = roots.into_disks();
+    Devices {
+        journal,
+        slots,
+        root0,
+        root1,
+    }
+}
+
+/// The store that four devices hold of which each has on it what it reads. A refusal hands them back.
+fn recovered<D: Disk>(
+    alloc: Global,
+    devices: Devices<D>,
+    pending: Vec<Named>,
+    frames: u16,
+    caps: Caps,
+) -> Result<Store<D>, (Refusal, Devices<D>)>
+    requires frames { (4 ≤ frames) × (frames ≤ 4096) }
+    requires sets { (1 ≤ caps.sets) × (caps.sets ≤ 262144) }
+    requires slots { (1 ≤ caps.slots) × (caps.slots ≤ 1048576) }
+    requires none { pending.items ≡ [] }
+    requires room { 1024 ≤ vec_capacity pending }
+    requires settled { Settled ⟦<D as Disk>⟧ devices devices }
+    ensures content { IsTrue D.is_honest → IfOk result (λ store. (c : Content) × HasContent (read_of ⟦<D as Disk>⟧ devices) c × IsFresh ⟦<D as Disk>⟧ store c) }
+    ensures sets { IsTrue D.is_honest → IfOk result (λ store. HasTable caps.sets (read_of ⟦<D as Disk>⟧ devices) (content (live ⟦<D as Disk>⟧) store.detector) store.detector.sets) }
+    ensures idle { IfOk result IsIdle }
+    ensures damaged { IsTrue D.is_honest → IfErr result (λ e. e.0 ≡ Refusal.Damaged → (c : Content) → ¬ HasContent (read_of ⟦<D as Disk>⟧ devices) c) }
+    ensures full { IsTrue D.is_honest → IfErr result (λ e. e.0 ≡ Refusal.FullSets → HasFewSets caps.sets (read_of ⟦<D as Disk>⟧ devices)) }
+    ensures refusal { IfErr result (λ e. IsOfRecovery e.0) }
+    ensures device { CountsRecovered result (failures_of ⟦<D as Disk>⟧ devices) (failures_of ⟦<D as Disk>⟧ (made_of result)) }
+    ensures images { IsTrue D.is_honest → EachImage ⟦<D as Disk>⟧ devices (made_of result) (HasContentOf (read_of ⟦<D as Disk>⟧ devices)) }
+{
+    let Devices {
+        journal,
+        slots,
+        root0,
+        root1,
+    } = devices;
+    let roots = RootPair::attach(root0, root1);
+    let journal = match Journal::attach(alloc, journal) {
+        Ok(journal) => journal,
+        Err((refusal, journal)) => return Err((refusal, handed_back(journal, slots, roots))),
+    };
+    match rooted(alloc, slots, roots, frames, caps) {
+        Ok((detector, roots, number)) => {
+            match caught_up(alloc, journal, detector, roots, number, pending) {
+                Ok(store) => Ok(store),
+                Err((refusal, journal, detector, roots)) => {
+                    let slots = detector.into_words().into_disks().into_disks();
+                    Err((refusal, handed_back(journal.into_disk(), slots, roots)))
+                }
+            }
+        }
+        Err((refusal, slots, roots)) => {
+            Err((refusal, handed_back(journal.into_disk(), slots, roots)))
+        }
+    }
+}
+
+impl<D: Disk> Store<D> {
+    /// The store that four devices hold, with nothing pending and no checkpoint in progress. First each device is synced, so that what it reads is durable. Then
+    /// the newest open root is read with its pages, and the events of the journal behind it are followed, from the empty trace where no root is
+    /// open.
+    ///
+    /// A refusal hands the devices back: `Damaged` where their bytes have no content, `FullSets` where the sets of the root, or with those of the
+    /// events, are more than `caps.sets`, `FullSlots` where the root names a slot at `caps.slots` or above, or more pages were changed than
+    /// there is room for, `DeviceFault` where a device failed, or `OutOfMemory`. A stop inside it leaves images that have the content of one
+    /// that there was before.
+    ///
+    /// `frames` is how many pages stand in memory at most, 4 to 4,096.
+    pub fn recover(
+        alloc: Global,
+        devices: Devices<D>,
+        frames: u16,
+        caps: Caps,
+    ) -> Result<Store<D>, (Refusal, Devices<D>)>
+        requires frames { (4 ≤ frames) × (frames ≤ 4096) }
+        requires sets { (1 ≤ caps.sets) × (caps.sets ≤ 262144) }
+        requires slots { (1 ≤ caps.slots) × (caps.slots ≤ 1048576) }
+        ensures content { IsTrue D.is_honest → IfOk result (λ store. (c : Content) × HasContent (read_of ⟦<D as Disk>⟧ devices) c × IsFresh ⟦<D as Disk>⟧ store c) }
+        ensures sets { IsTrue D.is_honest → IfOk result (λ store. HasTable caps.sets (read_of ⟦<D as Disk>⟧ devices) (content (live ⟦<D as Disk>⟧) store.detector) store.detector.sets) }
+        ensures idle { IfOk result IsIdle }
+        ensures damaged { IsTrue D.is_honest → IfErr result (λ e. e.0 ≡ Refusal.Damaged → (c : Content) → ¬ HasContent (read_of ⟦<D as Disk>⟧ devices) c) }
+        ensures full { IsTrue D.is_honest → IfErr result (λ e. e.0 ≡ Refusal.FullSets → HasFewSets caps.sets (read_of ⟦<D as Disk>⟧ devices)) }
+        ensures refusal { IfErr result (λ e. IsOfRecovery e.0) }
+        ensures device { CountsRecovered result (failures_of ⟦<D as Disk>⟧ devices) (failures_of ⟦<D as Disk>⟧ (made_of result)) }
+
+        // A crash at any moment leaves an image with the content of one that there was before, and so it does afterwards.
+        ensures images { IsTrue D.is_honest → Recovers ⟦<D as Disk>⟧ devices (made_of result) }
+    {
+        let mut devices = devices;
+        if sync_all(&mut devices).is_err() {
+            return Err((Refusal::DeviceFault, devices));
+        }
+        match pending_room(alloc) {
+            Ok(pending) => recovered(alloc, devices, pending, frames, caps),
+            Err(refusal) => Err((refusal, devices)),
+        }
+    }
 }

@@ -1,7 +1,8 @@
 //! Whether the slots of a file have the pages that a root names.
-ghost use Rattle.std.specs.Prelude.{◌≡◌, IsTrue, IsErrOf, OnOk, length};
+ghost use Rattle.std.specs.Prelude.{◌≡◌, ◌↔◌, IsTrue, IsErrOf, OnOk, length};
 ghost use Rattle.hg_pages.specs.Fault.{failures_after};
 ghost use Rattle.hg_pages.specs.Files.{disk_of, is_broken, known};
+ghost use Rattle.hg_root.specs.Checkpoints.{LieWithin};
 ghost use Rattle.hg_root.specs.Lawful.{IsLawful};
 ghost use Rattle.hg_root.specs.Roots.{parts_of};
 ghost use Rattle.hg_recovery.specs.Reading.{WasRead};
@@ -47,4 +48,17 @@ pub fn check_slots<D: Disk>(root: &Root, file: &mut SlotFile<D>) -> Result<(), S
         check_page(root.pages[i], segments, &root.sets, file)?;
     }
     Ok(())
+}
+
+/// Whether each slot that a root names lies within the file. It makes no device call: of the root that is not the newest one the rules
+/// ask no more.
+pub fn lies_within<D: Disk>(root: &Root, file: &SlotFile<D>) -> bool
+    ensures { IsTrue result ↔ LieWithin (D.state (disk_of file.now)).contents (parts_of root.now) }
+{
+    for page in root.pages.as_slice() {
+        if !file.has_slot(page.slot) {
+            return false;
+        }
+    }
+    true
 }

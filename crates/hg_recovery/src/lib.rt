@@ -11,5 +11,5 @@ mod tables;
 
 pub use caps::Caps;
 pub use capturing::head_of;
-pub use checking::check_slots;
+pub use checking::{check_slots, lies_within};
 pub use restoring::restored;

@@ -1,5 +1,5 @@
 -- Which of two root files has the newest root.
-use Rattle.std.proofs.Common.{◌≡◌, ◌⊎◌, inl, inr, ⊎_elim, ℕ, ◌+◌, ◌<◌, ◌≤◌, ◌^◌, Bool, true, false, not, is_some, cond, List, [], Option, Some, None, Result, Ok, Err, IfOk, OnErr, length, get_or, refl, sym, ap, subst, arith}
+use Rattle.std.proofs.Common.{◌≡◌, ◌⊎◌, inl, inr, ⊎_elim, ℕ, ◌+◌, ◌<◌, ◌≤◌, ◌^◌, Bool, true, false, not, is_some, cond, List, [], Option, Some, None, Result, Ok, Err, IfOk, OnErr, length, get_or, refl, sym, trans, ap, subst, arith}
 use Rattle.std.proofs.lemmas.Bool.{cases_lt}
 use Rattle.hg_disk.specs.State.{DiskState, settled}
 use Rattle.hg_disk.specs.declared.disk.Disk as disk
@@ -10,13 +10,14 @@ use Rattle.hg_gate.specs.declared.fault.GateFault.{GateFault}
 use Rattle.hg_gate.specs.declared.fault.GateFault.TheVariants as gate
 use Rattle.hg_root.specs.declared.fault.RootFault.TheVariants.{Damaged}
 use Rattle.hg_root.specs.Fault.{of_gate}
-use Rattle.hg_root.specs.Finding.{IsDue, WasRead, number_in, root_in}
+use Rattle.hg_root.specs.Finding.{AreRootsOf, IsDue, WasRead, number_in, root_in}
 use Rattle.hg_root.specs.Lawful.{IsRoot}
-use Rattle.hg_root.specs.Newest.{IsBelow, IsNewest, IsRootFile}
+use Rattle.hg_root.specs.Newest.{IsBelow, IsFormer, IsNewest, IsRootFile}
 use Rattle.hg_root.specs.Pairs.{IsKnown, Stands, failures, first_bytes, first_of, newer, older, second_bytes, second_of}
 use Rattle.hg_root.specs.Parts.{Parts}
 use Rattle.hg_root.specs.Roots.{parts_of}
 use Rattle.hg_root.specs.declared.root.Root.{Root}
+use Rattle.hg_root.specs.declared.pair.Newest.{Newest}
 use Rattle.hg_root.specs.declared.pair.RootPair.{RootPair}
 use Rattle.hg_root.proofs.Bodies.{one_reading}
 use Rattle.hg_root.proofs.Pairs.{is_former}
@@ -88,11 +89,24 @@ one_newest root former other earlier one two small short a b = both a.either b.e
 pub swapped : (root former : Option Parts) (one other : List ℕ) → IsNewest root former one other → IsNewest root former other one
 swapped root former one other is = record { lesser = is.lesser; among = is.among; below = is.below; either = ⊎_elim (λ x. inr (x.1, x.0)) (λ x. inl (x.1, x.0)) is.either }
 
-pub newest_last : (x y : Option Parts) (one other : List ℕ) → IsRootFile one x → IsRootFile other y → IsBelow x y → (former : Option Parts) × IsNewest y former one other
-newest_last x y one other has has_other below = (x, record { lesser = x; among = is_former x; below = below; either = inl (has, has_other) })
+pub newest_of : (found : Newest) (one other : List ℕ) → AreRootsOf found one other → IsNewest (root_in found.root) (root_in found.former) one other
+newest_of found one other are = record { lesser = root_in found.former; among = is_former (root_in found.former); below = are.below; either = are.either }
 
-pub newest_first : (x y : Option Parts) (one other : List ℕ) → IsRootFile one x → IsRootFile other y → IsBelow y x → (former : Option Parts) × IsNewest x former one other
-newest_first x y one other has has_other below = (y, record { lesser = y; among = is_former y; below = below; either = inr (has, has_other) })
+same_lesser : (root lesser x y : Option Parts) (one other : List ℕ) → length one < 2 ^ 64 → length other < 2 ^ 64 → root ≡ x
+    → (IsRootFile one lesser × IsRootFile other root) ⊎ (IsRootFile one root × IsRootFile other lesser) → (IsRootFile one y × IsRootFile other x) ⊎ (IsRootFile one x × IsRootFile other y) → lesser ≡ y
+same_lesser root lesser x y one other small short same (inl a) (inl b) = one_root one lesser y small a.0 b.0
+same_lesser root lesser x y one other small short same (inr a) (inr b) = one_root other lesser y short a.1 b.1
+same_lesser root lesser x y one other small short same (inl a) (inr b) = trans (one_root one lesser x small a.0 b.0) (trans (sym same) (one_root other root y short a.1 b.1))
+same_lesser root lesser x y one other small short same (inr a) (inl b) = trans (one_root other lesser x short a.1 b.1) (trans (sym same) (one_root one root y small a.0 b.0))
+
+-- no other roots are those of the files
+pub only_roots : (found : Newest) (root former : Option Parts) (one other : List ℕ) → length one < 2 ^ 64 → length other < 2 ^ 64 → IsNewest root former one other → AreRootsOf found one other
+    → (root ≡ root_in found.root) × IsFormer (root_in found.former) former
+only_roots found root former one other small short is are =
+    let x = root_in found.root in
+    let y = root_in found.former in
+    let same : root ≡ x = one_newest root former x y one other small short is (newest_of found one other are) in
+    (same, subst (λ (l : Option Parts). IsFormer l former) (same_lesser root is.lesser x y one other small short same is.either are.either) is.among)
 
 -- of two roots with distinct numbers one is below the other
 pub below_by : (x y : Option Parts) (bytes : List ℕ) → IsRootFile bytes x → (number_in x ≡ number_in y → number_in x ≡ 0) → number_in x ≤ number_in y → IsBelow x y
@@ -161,16 +175,16 @@ module _ {D : Type 0} (g : disk.Ghosts D) where
 
   -- ---- the first file and the second one, where the older one is either
 
-  in_turn : (b : Bool) (a c : D) (root former : Option Parts) → IsNewest root former (bytes a) (bytes c) → IsNewest root former (bytes (cond b c a)) (bytes (cond b a c))
-  in_turn true a c root former is = swapped root former (bytes a) (bytes c) is
-  in_turn false a c root former is = is
+  roots_in_turn : (b : Bool) (a c : D) (found : Newest) → AreRootsOf found (bytes a) (bytes c) → AreRootsOf found (bytes (cond b c a)) (bytes (cond b a c))
+  roots_in_turn true a c found are = record { below = are.below; either = ⊎_elim (λ x. inr (x.1, x.0)) (λ x. inl (x.1, x.0)) are.either }
+  roots_in_turn false a c found are = are
 
   out_of_turn : (b : Bool) (a c : D) (root former : Option Parts) → IsNewest root former (bytes (cond b c a)) (bytes (cond b a c)) → IsNewest root former (bytes a) (bytes c)
   out_of_turn true a c root former is = swapped root former (bytes c) (bytes a) is
   out_of_turn false a c root former is = is
 
-  pub to_first : (p : RootPair D) (root former : Option Parts) → IsNewest root former (bytes (older p)) (bytes (newer p)) → IsNewest root former (first_bytes g p) (second_bytes g p)
-  to_first p root former is = in_turn p.is_turned (older p) (newer p) root former is
+  pub to_first : (p : RootPair D) (found : Newest) → AreRootsOf found (bytes (older p)) (bytes (newer p)) → AreRootsOf found (first_bytes g p) (second_bytes g p)
+  to_first p found are = roots_in_turn p.is_turned (older p) (newer p) found are
 
   pub of_first : (p : RootPair D) (root former : Option Parts) → IsNewest root former (first_bytes g p) (second_bytes g p) → IsNewest root former (bytes (older p)) (bytes (newer p))
   of_first p root former is = out_of_turn p.is_turned (older p) (newer p) root former is

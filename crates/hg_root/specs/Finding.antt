@@ -1,14 +1,15 @@
 -- What is found of two root files.
-use Rattle.std.specs.Prelude.{◌≡◌, ◌≤◌, ℕ, Bool, true, false, Option, Some, None, IfSome}
+use Rattle.std.specs.Prelude.{◌≡◌, ◌≤◌, ◌⊎◌, ℕ, List, Bool, true, false, Option, Some, None, IfSome}
 use Rattle.hg_disk.specs.Calls.{CallsAtMost}
 use Rattle.hg_disk.specs.Moments.{LeavesOnly}
 use Rattle.hg_disk.specs.State.{IsImage}
 use Rattle.hg_disk.specs.declared.disk.Disk as disk
 use Rattle.hg_root.specs.Lawful.{IsLawful}
-use Rattle.hg_root.specs.Newest.{IsNewest}
+use Rattle.hg_root.specs.Newest.{IsBelow, IsFormer, IsNewest, IsRootFile}
 use Rattle.hg_root.specs.Pairs.{Stands, first_bytes, second_bytes}
 use Rattle.hg_root.specs.Parts.{Parts}
 use Rattle.hg_root.specs.Roots.{IsWhole, parts_of}
+use Rattle.hg_root.specs.declared.pair.Newest.{Newest}
 use Rattle.hg_root.specs.declared.pair.RootPair.{RootPair}
 use Rattle.hg_root.specs.declared.root.Root.{Root}
 
@@ -20,6 +21,15 @@ root_in (Some root) = Some (parts_of root)
 -- If there is a root, it is whole and obeys the rules: also where the disk lies.
 abbrev pub IsWholeIn : Option Root → Type 0
 IsWholeIn found = IfSome found (λ r. IsWhole r × IsLawful (parts_of r))
+
+-- The same of both roots.
+abbrev pub AreWhole : Newest → Type 0
+AreWhole found = IsWholeIn found.root × IsWholeIn found.former
+
+-- Of two files one has the newest root, or none where both are closed, and the other has the lesser one, or is closed.
+pub record AreRootsOf (found : Newest) (one other : List ℕ) : Type 0 where
+  pub below : IsBelow (root_in found.former) (root_in found.root)
+  pub either : (IsRootFile one (root_in found.former) × IsRootFile other (root_in found.root)) ⊎ (IsRootFile one (root_in found.root) × IsRootFile other (root_in found.former))
 
 -- the number of a root, 0 where there is none
 abbrev pub number_in : Option Parts → ℕ
@@ -38,18 +48,18 @@ module _ {D : Type 0} (g : disk.Ghosts D) where
     pub any_moment : LeavesOnly g old new (IsImage (g.state old))
     pub calls : CallsAtMost g 3 old new
 
-  -- It is the newest open root of the two files, or none where both are closed.
-  abbrev pub IsNewestOf : RootPair D → Option Root → Type 0
-  IsNewestOf p found = (former : Option Parts) × IsNewest (root_in found) former (first_bytes g p) (second_bytes g p)
+  -- They are the two roots of the files, or as many as are open.
+  abbrev pub IsNewestOf : RootPair D → Newest → Type 0
+  IsNewestOf p found = AreRootsOf found (first_bytes g p) (second_bytes g p)
 
-  -- No other is.
-  abbrev pub IsOnlyOf : RootPair D → Option Root → Type 0
-  IsOnlyOf p found = (root former : Option Parts) → IsNewest root former (first_bytes g p) (second_bytes g p) → root ≡ root_in found
+  -- No other is the newest, and what else is told as the former one has it.
+  abbrev pub IsOnlyOf : RootPair D → Newest → Type 0
+  IsOnlyOf p found = (root former : Option Parts) → IsNewest root former (first_bytes g p) (second_bytes g p) → (root ≡ root_in found.root) × IsFormer (root_in found.former) former
 
   -- Neither a root is their newest, nor are both closed.
   abbrev pub HasNoNewest : RootPair D → Type 0
   HasNoNewest p = (root former : Option Parts) → ¬ IsNewest root former (first_bytes g p) (second_bytes g p)
 
-  -- The pair stands with it as the newest root.
-  abbrev pub StandsWith : RootPair D → Option Root → Type 0
-  StandsWith p found = (former : Option Parts) × Stands g p (root_in found) former
+  -- The pair stands with them.
+  abbrev pub StandsWith : RootPair D → Newest → Type 0
+  StandsWith p found = Stands g p (root_in found.root) (root_in found.former)

@@ -16,6 +16,6 @@ mod threads;
 
 pub use fault::RootFault;
 pub use head::RootHead;
-pub use pair::RootPair;
+pub use pair::{Newest, RootPair};
 pub use parts::{PageSlot, SourceCount};
 pub use root::Root;

@@ -17,6 +17,15 @@ use hg_gate::Gated;
 use std::alloc::Global;
 use std::mem::swap;
 
+/// What two root files have.
+#[derive(Drop)]
+pub struct Newest {
+    /// The newest open root, or none where both files are closed.
+    pub root: Option<Root>,
+    /// The root of the other file, or none where that is closed.
+    pub former: Option<Root>,
+}
+
 /// Two root files. The next root is written to the one that does not have the newest open root.
 #[derive(Drop)]
 pub struct RootPair<D: Disk> {
@@ -31,7 +40,7 @@ pub struct RootPair<D: Disk> {
 }
 
 impl<D: Disk> RootPair<D> {
-    ghost use Rattle.hg_root.specs.Finding.{HasNoNewest, IsNewestOf, IsOnlyOf, IsWholeIn, StandsWith, WasRead, number_in, root_in};
+    ghost use Rattle.hg_root.specs.Finding.{AreRootsOf, AreWhole, HasNoNewest, IsNewestOf, IsOnlyOf, IsWholeIn, StandsWith, WasRead, number_in, root_in};
     ghost use Rattle.hg_root.specs.Pairs.{EachPair, IsEither, IsOpened, IsPrepared, IsWorking, Stands, failures, first_of, is_broken, is_closed, is_other_broken, is_other_closed, is_turned, newer, older, second_of, turned};
 
     /// The pair of two files, whatever their bytes are. It makes no device call. Which of them has the newest open root is told by
@@ -87,17 +96,17 @@ impl<D: Disk> RootPair<D> {
         }
     }
 
-    /// The newest open root, or none where both files are closed. From then on the next root is written to the file that does not have
-    /// it, or to the first one where none is open. `Damaged` exactly where there is no newest root: a file is empty, or is open with a
+    /// The newest open root, or none where both files are closed, and the root of the other file. From then on the next root is written to
+    /// that one, or to the first one where none is open. `Damaged` exactly where there is no newest root: a file is empty, or is open with a
     /// length or a body outside the grammar, or both are open with one number. It makes three device calls of each disk at most. After an
     /// `Err` the pair stands as before, and it can be tried again.
-    pub fn newest(&mut self, alloc: Global) -> Result<Option<Root>, RootFault>
+    pub fn newest(&mut self, alloc: Global) -> Result<Newest, RootFault>
         ensures found { IsTrue D.is_honest → IfOk result (IsNewestOf ⟦<D as Disk>⟧ self.old) }
         ensures only { IsTrue D.is_honest → IfOk result (IsOnlyOf ⟦<D as Disk>⟧ self.old) }
-        ensures whole { IfOk result IsWholeIn }
+        ensures whole { IfOk result AreWhole }
         ensures stands { IsTrue D.is_honest → (one other : List ℕ) → D.state (first_of self.old) ≡ settled one → D.state (second_of self.old) ≡ settled other
             → IfOk result (StandsWith ⟦<D as Disk>⟧ self.new) }
-        ensures none_open { IfOk result (λ found. root_in found ≡ None → older self.new ≡ first_of self.new) }
+        ensures none_open { IfOk result (λ found. root_in found.root ≡ None → older self.new ≡ first_of self.new) }
         ensures damaged { IsTrue D.is_honest → IsErrOf result RootFault.Damaged → HasNoNewest ⟦<D as Disk>⟧ self.old }
         ensures stays { (root former : Option Parts) → Stands ⟦<D as Disk>⟧ self.old root former → OnErr result (Stands ⟦<D as Disk>⟧ self.new root former) }
 
@@ -114,18 +123,18 @@ impl<D: Disk> RootPair<D> {
         self.choose(older, newer)
     }
 
-    // Notes what the two files have, and answers the newest root.
+    // Notes what the two files have, and answers which of the two roots is the newest.
     fn choose(
         &mut self,
         in_older: Option<Root>,
         in_newer: Option<Root>,
-    ) -> Result<Option<Root>, RootFault>
+    ) -> Result<Newest, RootFault>
         ensures found { (one other : List ℕ) → IsRootFile one (root_in in_older) → IsRootFile other (root_in in_newer)
-            → IfOk result (λ found. (former : Option Parts) × IsNewest (root_in found) former one other) }
-        ensures whole { IsWholeIn in_older → IsWholeIn in_newer → IfOk result IsWholeIn }
+            → IfOk result (λ found. AreRootsOf found one other) }
+        ensures whole { IsWholeIn in_older → IsWholeIn in_newer → IfOk result AreWhole }
         ensures stands { (one other : List ℕ) → Rests ⟦<D as Disk>⟧ self.old.older one → Rests ⟦<D as Disk>⟧ self.old.newer other
             → IsRootFile one (root_in in_older) → IsRootFile other (root_in in_newer) → IfOk result (StandsWith ⟦<D as Disk>⟧ self.new) }
-        ensures none_open { IfOk result (λ found. root_in found ≡ None → older self.new ≡ first_of self.new) }
+        ensures none_open { IfOk result (λ found. root_in found.root ≡ None → older self.new ≡ first_of self.new) }
         ensures damaged { IfErr result (λ fault. (fault ≡ RootFault.Damaged) × (1 ≤ number_in (root_in in_older)) × (number_in (root_in in_older) ≡ number_in (root_in in_newer))) }
         ensures first { first_of self.new ≡ first_of self.old }
         ensures second { second_of self.new ≡ second_of self.old }
@@ -138,9 +147,15 @@ impl<D: Disk> RootPair<D> {
         self.is_other_closed = in_newer.is_none();
         if are_due {
             self.take_turns();
-            return Ok(in_older);
+            return Ok(Newest {
+                root: in_older,
+                former: in_newer,
+            });
         }
-        Ok(in_newer)
+        Ok(Newest {
+            root: in_newer,
+            former: in_older,
+        })
     }
 
     /// Closes the older file, where it is open. It makes two device calls at most, and none where the file is closed already: a

@@ -3,7 +3,7 @@ use Rattle.hg_gate.specs.Gated.{Rests}
 use Rattle.hg_root.specs.Finding.{number_in, root_in}
 use Rattle.hg_root.specs.Pairs.{Stands}
 use Rattle.hg_root.specs.declared.fault.RootFault.TheVariants.{Damaged}
-use Rattle.hg_root.proofs.Choosing.{durable_in, file_is, first_read, if_ok, no_newest, none_newest, not_so, of_first, on_err, one_newest, second_read, swapped, to_first}
+use Rattle.hg_root.proofs.Choosing.{durable_in, file_is, first_read, if_ok, no_newest, none_newest, not_so, of_first, on_err, only_roots, second_read, swapped, to_first}
 use Rattle.hg_root.proofs.pair.RootPair.newest.Goals as goal
 
 pub returns-in_err-newer-clause-damaged : goal.returns-in_err-newer-clause-damaged
@@ -23,7 +23,7 @@ pub returns-clause-found : goal.returns-clause-found
 returns-clause-found g c honest =
     let one = (g.D.Disk.state c.args.self.now.older.disk).contents in
     let other = (g.D.Disk.state c.args.self.now.newer.disk).contents in
-    if_ok c.choose.result (λ found h. (h.0, to_first g.D.Disk c.args.self.now (root_in found) h.0 h.1)) (c.choose.ensures.found one other (c.in_ok-older.ensures.found honest) (c.in_ok-newer.ensures.found honest))
+    if_ok c.choose.result (λ found h. to_first g.D.Disk c.args.self.now found h) (c.choose.ensures.found one other (c.in_ok-older.ensures.found honest) (c.in_ok-newer.ensures.found honest))
 
 pub returns-clause-only : goal.returns-clause-only
 returns-clause-only g c honest =
@@ -31,7 +31,7 @@ returns-clause-only g c honest =
     let other = (g.D.Disk.state c.args.self.now.newer.disk).contents in
     let small : length one < 2 ^ 64 = let fits = c.in_ok-older.ensures.fits in omega (arith, fits) in
     let short : length other < 2 ^ 64 = let fits = c.in_ok-newer.ensures.fits in omega (arith, fits) in
-    if_ok c.choose.result (λ found h root former newest. one_newest root former (root_in found) h.0 one other small short (of_first g.D.Disk c.args.self.now root former newest) h.1)
+    if_ok c.choose.result (λ found h root former newest. only_roots found root former one other small short (of_first g.D.Disk c.args.self.now root former newest) h)
     (c.choose.ensures.found one other (c.in_ok-older.ensures.found honest) (c.in_ok-newer.ensures.found honest))
 
 pub returns-clause-stands : goal.returns-clause-stands
