@@ -11,9 +11,11 @@ use Rattle.hg_sets.specs.Interning.{Table, first_table}
 use Rattle.hg_sets.specs.declared.fault.SetFault.TheVariants.{Full}
 use Rattle.hg_detect.specs.Making.{Asks, sets_asked}
 use Rattle.hg_disk.specs.declared.disk.Disk as disk
+use Rattle.hg_disk.specs.Calls.{CallsAtMost}
 use Rattle.hg_disk.specs.State.{IsImage, settled}
 use Rattle.hg_disk.specs.Moments.{Leaves, LeavesOnly}
-use Rattle.hg_journal.specs.Journal.{IsJournal}
+use Rattle.hg_gate.specs.Batches.{closed_gate, header}
+use Rattle.hg_journal.specs.Journal.{IsJournal, after_refusal}
 use Rattle.hg_detect.specs.Engine.{AtPresent}
 use Rattle.hg_detect.specs.Shown as detect
 use Rattle.hg_journal.specs.declared.journal.Journal.{Journal}
@@ -36,7 +38,13 @@ use Rattle.hg_checkpointer.specs.Standing.{Stands}
 use Rattle.hg_checkpointer.specs.Tables.{NamesOf}
 use Rattle.hg_paged_store.specs.Shown.{Shown}
 use Rattle.hg_paged_store.specs.Answers.{failed_in}
+use Rattle.hg_paged_store.specs.declared.create.CreateFault.{CreateFault}
+use Rattle.hg_paged_store.specs.declared.create.CreateFault.TheVariants.{NotEmpty, Refused}
 use Rattle.hg_paged_store.specs.declared.devices.Devices.{Devices}
+
+-- what the devices of a store read that was just made: the journal's header and a closed gate, no slot, and closed roots
+abbrev pub empty_image : Image
+empty_image = record { journal = header ++ closed_gate ∷ []; slots = []; root0 = closed_gate ∷ []; root1 = closed_gate ∷ [] }
 
 -- no device has a byte
 pub record IsEmpty {D : Type 0} (g : disk.Ghosts D) (devices : Devices D) : Type 0 where
@@ -175,6 +183,22 @@ pub record IsRooted {D : Type 0} (g : disk.Ghosts D) (cap : ℕ) (one other slot
   pub only : (c : Option Checkpoint) → HasCheckpoint c one other slots → start_of c ≡ start_of now.checkpoint
   pub started : IsStarted g d roots number now
   pub sets : d.sets ≡ table_at cap (root_of now.checkpoint)
+
+-- A store is made in so many calls of each device, at most: a write and a sync of the journal and of each root, and none of the slots.
+pub record MakingCalls {D : Type 0} (g : disk.Ghosts D) (old new : Devices D) : Type 0 where
+  pub journal : CallsAtMost g 2 old.journal new.journal
+  pub slots : new.slots ≡ old.slots
+  pub root0 : CallsAtMost g 2 old.root0 new.root0
+  pub root1 : CallsAtMost g 2 old.root1 new.root1
+
+-- how many calls of devices have failed after a making with this answer, of n before
+abbrev pub after_create_fault : CreateFault → ℕ → ℕ
+after_create_fault NotEmpty n = n
+after_create_fault (Refused refusal) n = after_refusal refusal n
+
+abbrev pub tells_create : {D : Type 0} → Result (Shown D) (CreateFault × Devices D) → ℕ → ℕ
+tells_create (Ok store) n = n
+tells_create (Err refused) n = after_create_fault refused.0 n
 
 -- a detector with the two root files, or what is handed back
 abbrev pub RootedOr : Type 0 → Type 0

@@ -16,7 +16,8 @@ ghost use Rattle.hg_sets.specs.Interning.{first_table};
 ghost use Rattle.hg_checkpointer.specs.declared.phase.Phase.TheVariants.{Idle};
 ghost use Rattle.hg_contents.specs.Choices.{Basis};
 ghost use Rattle.hg_paged_store.specs.Kept.{devices_of};
-ghost use Rattle.hg_paged_store.specs.Recovering.{IsBased, IsEmpty, IsReady};
+ghost use Rattle.hg_paged_store.specs.Images.{failures_of, read_of};
+ghost use Rattle.hg_paged_store.specs.Recovering.{IsBased, IsEmpty, IsReady, MakingCalls, empty_image, made_of, tells_create};
 ghost use Rattle.hg_paged_store.specs.Store.{IsFresh, IsIdle};
 
 use crate::devices::{Caps, Devices};
@@ -30,6 +31,7 @@ use hg_model::event::Named;
 use hg_model::verdict::Refusal;
 use hg_pages::{SlotFile, Table};
 use hg_pool::Pool;
+use hg_root::RootPair;
 use std::alloc::{AllocError, Global};
 use std::snapshot::Snapshot;
 
@@ -157,5 +159,122 @@ pub(crate) fn made<D: Disk>(
         durable,
         is_broken: false,
         in_doubt: false,
+    }
+}
+
+/// The store of a detector of no events on an empty journal and two empty roots.
+fn on_closed_roots<D: Disk>(
+    alloc: Global,
+    journal: D,
+    room: JournalRoom,
+    detector: Detector<Pool<D>>,
+    root0: D,
+    root1: D,
+    pending: Vec<Named>,
+) -> Result<Store<D>, (CreateFault, Devices<D>)>
+    requires none { pending.items ≡ [] }
+    requires room { 1024 ≤ vec_capacity pending }
+    requires journal { (D.state journal).contents ≡ [] }
+    requires first { (D.state root0).contents ≡ [] }
+    requires second { (D.state root1).contents ≡ [] }
+    requires lawful { AtPresent MayBring detector }
+    requires words { pools.is_broken detector.words ≡ false }
+    requires unnamed { detector.words.root ≡ [] }
+    requires content { content (live ⟦<D as Disk>⟧) detector ≡ empty_content }
+    requires ready { IsTrue D.is_honest → IsReady ⟦<D as Disk>⟧ detector }
+    ensures fresh { IsTrue D.is_honest → IfOk result (λ store. IsFresh ⟦<D as Disk>⟧ store empty_content) }
+    ensures idle { IfOk result IsIdle }
+    ensures detector { IfOk result (λ store. store.detector ≡ detector) }
+    ensures bytes { IfOk result (λ store. read_of ⟦<D as Disk>⟧ store.devices ≡ record empty_image { slots = (D.state (pools.disk_of detector.words)).contents }) }
+    ensures calls { MakingCalls ⟦<D as Disk>⟧ (record { journal = journal; slots = pools.disk_of detector.words; root0 = root0; root1 = root1 }) (made_of result) }
+    ensures refusal { IfErr result (λ e. e.0 ≡ CreateFault.Refused Refusal.DeviceFault) }
+    ensures device { failures_of ⟦<D as Disk>⟧ (made_of result) ≡ tells_create result (D.failures journal + D.failures (pools.disk_of detector.words) + D.failures root0 + D.failures root1) }
+{
+    let mut root0 = root0;
+    let mut root1 = root1;
+    if close_roots(&mut root0, &mut root1).is_err() {
+        let devices = Devices {
+            journal,
+            slots: detector.into_words().into_disks().into_disks(),
+            root0,
+            root1,
+        };
+        return Err((CreateFault::Refused(Refusal::DeviceFault), devices));
+    }
+    match Journal::create_in(room, journal) {
+        Ok(journal) => {
+            let roots = RootPair::of_closed(root0, root1);
+            let checkpointer = Checkpointer::new(alloc, roots, 0);
+            Ok(made(journal, detector, checkpointer, pending))
+        }
+        Err((refusal, journal)) => {
+            let devices = Devices {
+                journal,
+                slots: detector.into_words().into_disks().into_disks(),
+                root0,
+                root1,
+            };
+            Err((CreateFault::Refused(refusal), devices))
+        }
+    }
+}
+
+impl<D: Disk> Store<D> {
+    /// Makes a store of no events on four devices without a byte. A refusal hands the devices back: `NotEmpty` or
+    /// `OutOfMemory`, with nothing changed, or `DeviceFault`. All memory is taken before the first device is called, and then
+    /// six calls are made at most, none of them of the slots. Of a stop inside it nothing is promised.
+    ///
+    /// `frames` is how many pages stand in memory at most, 4 to 4,096.
+    pub fn create(
+        alloc: Global,
+        devices: Devices<D>,
+        frames: u16,
+        caps: Caps,
+    ) -> Result<Store<D>, (CreateFault, Devices<D>)>
+        requires frames { (4 ≤ frames) × (frames ≤ 4096) }
+        requires sets { (1 ≤ caps.sets) × (caps.sets ≤ 262144) }
+        requires slots { (1 ≤ caps.slots) × (caps.slots ≤ 1048576) }
+        ensures fresh { IsTrue D.is_honest → IfOk result (λ store. IsFresh ⟦<D as Disk>⟧ store empty_content) }
+        ensures idle { IfOk result IsIdle }
+        ensures sets { IfOk result (λ store. store.detector.sets ≡ first_table caps.sets) }
+        ensures bytes { IfOk result (λ store. read_of ⟦<D as Disk>⟧ store.devices ≡ empty_image) }
+        ensures empty { IfOk result (λ _. IsEmpty ⟦<D as Disk>⟧ devices) }
+        ensures not_empty { IfErr result (λ e. e.0 ≡ CreateFault.NotEmpty → ¬ IsEmpty ⟦<D as Disk>⟧ devices × (e.1 ≡ devices)) }
+        ensures else_empty { IfErr result (λ e. (e.0 ≡ CreateFault.NotEmpty → ⊥) → IsEmpty ⟦<D as Disk>⟧ devices) }
+        ensures memory { IfErr result (λ e. e.0 ≡ CreateFault.Refused Refusal.OutOfMemory → e.1 ≡ devices) }
+        ensures calls { MakingCalls ⟦<D as Disk>⟧ devices (made_of result) }
+        ensures refusal { IfErr result (λ e. (e.0 ≡ CreateFault.NotEmpty) ⊎ ((e.0 ≡ CreateFault.Refused Refusal.DeviceFault) ⊎ (e.0 ≡ CreateFault.Refused Refusal.OutOfMemory))) }
+        ensures device { failures_of ⟦<D as Disk>⟧ (made_of result) ≡ tells_create result (failures_of ⟦<D as Disk>⟧ devices) }
+    {
+        if !is_empty(&devices) {
+            return Err((CreateFault::NotEmpty, devices));
+        }
+        let pending = match pending_room(alloc) {
+            Ok(pending) => pending,
+            Err(refusal) => return Err((CreateFault::Refused(refusal), devices)),
+        };
+        let room = match journal_room(alloc) {
+            Ok(room) => room,
+            Err(refusal) => return Err((CreateFault::Refused(refusal), devices)),
+        };
+        let Devices {
+            journal,
+            slots,
+            root0,
+            root1,
+        } = devices;
+        let detector = match empty_detector(alloc, SlotFile::attach(slots), frames, caps) {
+            Ok(detector) => detector,
+            Err(file) => {
+                let devices = Devices {
+                    journal,
+                    slots: file.into_disks(),
+                    root0,
+                    root1,
+                };
+                return Err((CreateFault::Refused(Refusal::OutOfMemory), devices));
+            }
+        };
+        on_closed_roots(alloc, journal, room, detector, root0, root1, pending)
     }
 }

@@ -1,5 +1,5 @@
 -- Which of two root files has the newest root.
-use Rattle.std.proofs.Common.{◌≡◌, ◌⊎◌, inl, inr, ⊎_elim, ℕ, ◌+◌, ◌<◌, ◌≤◌, ◌^◌, Bool, true, false, not, is_some, cond, List, [], Option, Some, None, Result, Ok, Err, IfOk, OnErr, length, get_or, refl, sym, trans, ap, subst, arith}
+use Rattle.std.proofs.Common.{◌≡◌, ◌⊎◌, inl, inr, ⊎_elim, ℕ, ◌+◌, ◌<◌, ◌≤◌, ◌^◌, Bool, true, false, not, is_some, cond, List, [], Option, Some, None, Result, Ok, Err, IfOk, OnErr, length, get_or, refl, sym, ◌∙◌, ap, subst, arith}
 use Rattle.std.proofs.lemmas.Bool.{cases_lt}
 use Rattle.hg_disk.specs.State.{DiskState, settled}
 use Rattle.hg_disk.specs.declared.disk.Disk as disk
@@ -96,8 +96,8 @@ same_lesser : (root lesser x y : Option Parts) (one other : List ℕ) → length
     → (IsRootFile one lesser × IsRootFile other root) ⊎ (IsRootFile one root × IsRootFile other lesser) → (IsRootFile one y × IsRootFile other x) ⊎ (IsRootFile one x × IsRootFile other y) → lesser ≡ y
 same_lesser root lesser x y one other small short same (inl a) (inl b) = one_root one lesser y small a.0 b.0
 same_lesser root lesser x y one other small short same (inr a) (inr b) = one_root other lesser y short a.1 b.1
-same_lesser root lesser x y one other small short same (inl a) (inr b) = trans (one_root one lesser x small a.0 b.0) (trans (sym same) (one_root other root y short a.1 b.1))
-same_lesser root lesser x y one other small short same (inr a) (inl b) = trans (one_root other lesser x short a.1 b.1) (trans (sym same) (one_root one root y small a.0 b.0))
+same_lesser root lesser x y one other small short same (inl a) (inr b) = one_root one lesser x small a.0 b.0 ∙ sym same ∙ one_root other root y short a.1 b.1
+same_lesser root lesser x y one other small short same (inr a) (inl b) = one_root other lesser x short a.1 b.1 ∙ sym same ∙ one_root one root y small a.0 b.0
 
 -- no other roots are those of the files
 pub only_roots : (found : Newest) (root former : Option Parts) (one other : List ℕ) → length one < 2 ^ 64 → length other < 2 ^ 64 → IsNewest root former one other → AreRootsOf found one other
