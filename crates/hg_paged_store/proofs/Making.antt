@@ -55,7 +55,7 @@ use Rattle.hg_checkpointer.proofs.Rooting.{still_now}
 use Rattle.hg_paged_store.specs.Kept.{IsInProgress, IsSound, IsWorking, Parts, Standing, is_rooting, shown_of}
 use Rattle.hg_paged_store.specs.Recovering.{Fills, IsBased, IsReady, IsStarted}
 use Rattle.hg_paged_store.specs.Shown.{live, saved}
-use Rattle.hg_paged_store.specs.Store.{IsFresh, view_of}
+use Rattle.hg_paged_store.specs.Store.{IsFresh, IsIdle, view_of}
 
 -- the pool of a table over a file, with no page in memory
 abbrev pub over_table : {D : Type 0} → SlotFile D → List (ℕ × ℕ) → ℕ → ℕ → pool.Shown D
@@ -155,14 +155,14 @@ module _ {D : Type 0} (g : disk.Ghosts D) where
     standing : IsReady g s.detector → Standing g s basis
     standing ready = record { keeps = keeps; faithful = ready.faithful; state = ready.state; spelled = ready.spelled; works = λ _. working }
 
+    idle : IsIdle (shown_of g s)
+    idle = record { pending = made.pending; phase = made.idle; works = made.works; certain = made.certain }
+
     pub fresh : IsFresh g (shown_of g s) (live g (shown_of g s))
     fresh = record {
       has = refl;
       durable = saved_is;
-      pending = made.pending;
-      idle = made.idle;
-      works = made.works;
-      certain = made.certain;
+      idle = idle;
       backs = facts_back basis (view_of g (shown_of g s)) (saved g (shown_of g s)) keeps;
     }
 
