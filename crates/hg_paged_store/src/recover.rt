@@ -96,6 +96,7 @@ fn lie_within<D: Disk>(root: &Option<Root>, file: &SlotFile<D>) -> bool
 /// The newest root of two files, or none, where the slots of the other root lie within the file of slots.
 fn standing<D: Disk>(alloc: Global, roots: &mut RootPair<D>, file: &SlotFile<D>) -> Result<Option<Root>, Refusal>
     requires works { IsWorking roots.old }
+    ensures found { IsTrue D.is_honest → IfOk result (λ found. (former : Option Parts) × IsNewest (root_in found) former (first_bytes ⟦<D as Disk>⟧ roots.old) (second_bytes ⟦<D as Disk>⟧ roots.old)) }
     ensures only { IsTrue D.is_honest → IfOk result (λ found. (root former : Option Parts) → IsNewest root former (first_bytes ⟦<D as Disk>⟧ roots.old) (second_bytes ⟦<D as Disk>⟧ roots.old) → root ≡ root_in found) }
     ensures whole { IfOk result IsWholeIn }
     ensures stands { IsTrue D.is_honest → (one other : List ℕ) → D.state (first_of roots.old) ≡ settled one → D.state (second_of roots.old) ≡ settled other
