@@ -189,6 +189,7 @@ fn caught_up<D: Disk>(
     ensures device { CountsCaught result (D.failures (journals.disk_of journal) + D.failures (pools.disk_of detector.words)) (D.failures (journal_after result) + D.failures (pools.disk_of (words_after result))) }
     ensures journal { LeavesOnly ⟦<D as Disk>⟧ (journals.disk_of journal) (journal_after result) (IsImage (D.state (journals.disk_of journal))) }
     ensures went { Went ⟦<D as Disk>⟧ detector.words (words_after result) }
+    ensures slots { IfOk result (λ store. store.devices.slots ≡ pools.disk_of store.detector.words) }
     ensures first { first_after result ≡ first_of roots }
     ensures second { second_after result ≡ second_of roots }
 {
