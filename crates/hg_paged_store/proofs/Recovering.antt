@@ -49,13 +49,13 @@ module _ {D : Type 0} (g : disk.Ghosts D) where
       root1 = (stay.root1.later, stay.root1.has_gone);
       each = λ image may c has.
           let journal : image.journal ≡ (g.state old.journal).contents =
-              one_image (g.state old.journal) image.journal at.journal (may_leave g old.journal new.journal (IsImage (g.state old.journal)) image.journal stay.journal may.journal) in
+          one_image (g.state old.journal) image.journal at.journal (may_leave g old.journal new.journal (IsImage (g.state old.journal)) image.journal stay.journal may.journal) in
           let slots : image.slots ≡ (g.state old.slots).contents =
-              one_image (g.state old.slots) image.slots at.slots (may_leave g old.slots new.slots (IsImage (g.state old.slots)) image.slots stay.slots may.slots) in
+          one_image (g.state old.slots) image.slots at.slots (may_leave g old.slots new.slots (IsImage (g.state old.slots)) image.slots stay.slots may.slots) in
           let root0 : image.root0 ≡ (g.state old.root0).contents =
-              one_image (g.state old.root0) image.root0 at.root0 (may_leave g old.root0 new.root0 (IsImage (g.state old.root0)) image.root0 stay.root0 may.root0) in
+          one_image (g.state old.root0) image.root0 at.root0 (may_leave g old.root0 new.root0 (IsImage (g.state old.root0)) image.root0 stay.root0 may.root0) in
           let root1 : image.root1 ≡ (g.state old.root1).contents =
-              one_image (g.state old.root1) image.root1 at.root1 (may_leave g old.root1 new.root1 (IsImage (g.state old.root1)) image.root1 stay.root1 may.root1) in
+          one_image (g.state old.root1) image.root1 at.root1 (may_leave g old.root1 new.root1 (IsImage (g.state old.root1)) image.root1 stay.root1 may.root1) in
           let same : read_of g old ≡ image = λ i. record { journal = sym journal i; slots = sym slots i; root0 = sym root0 i; root1 = sym root1 i } in
           subst (λ (x : Image). HasContent x c) same has;
     }
@@ -73,11 +73,11 @@ module _ {D : Type 0} (g : disk.Ghosts D) where
       root1 = (root1.later, root1.has_gone);
       each = λ image may c has.
           let same_journal : (g.state old.journal).contents ≡ image.journal =
-              sym (one_image (g.state old.journal) image.journal at.journal (may_leave g old.journal new.journal (IsImage (g.state old.journal)) image.journal journal may.journal)) in
+          sym (one_image (g.state old.journal) image.journal at.journal (may_leave g old.journal new.journal (IsImage (g.state old.journal)) image.journal journal may.journal)) in
           let same_root0 : (g.state old.root0).contents ≡ image.root0 =
-              sym (one_image (g.state old.root0) image.root0 at.root0 (may_leave g old.root0 new.root0 (IsImage (g.state old.root0)) image.root0 root0 may.root0)) in
+          sym (one_image (g.state old.root0) image.root0 at.root0 (may_leave g old.root0 new.root0 (IsImage (g.state old.root0)) image.root0 root0 may.root0)) in
           let same_root1 : (g.state old.root1).contents ≡ image.root1 =
-              sym (one_image (g.state old.root1) image.root1 at.root1 (may_leave g old.root1 new.root1 (IsImage (g.state old.root1)) image.root1 root1 may.root1)) in
+          sym (one_image (g.state old.root1) image.root1 at.root1 (may_leave g old.root1 new.root1 (IsImage (g.state old.root1)) image.root1 root1 may.root1)) in
           let stand = may_leave g old.slots new.slots (HasSlots rooted.now) image.slots slots may.slots in
           let before : HasCheckpoint rooted.now.checkpoint (g.state old.root0).contents (g.state old.root1).contents image.slots = record { former = rooted.now.former; newest = rooted.has_roots; stand = stand } in record {
             checkpoint = rooted.now.checkpoint;
@@ -96,6 +96,15 @@ module _ {D : Type 0} (g : disk.Ghosts D) where
     slots = subst (λ (l : List ℕ). IsImage (g.state old.slots) l) (sym (ap (λ (s : DiskState). s.contents) at.slots)) (bytes old.slots);
     root0 = subst (λ (l : List ℕ). IsImage (g.state old.root0) l) (sym (ap (λ (s : DiskState). s.contents) at.root0)) (bytes old.root0);
     root1 = subst (λ (l : List ℕ). IsImage (g.state old.root1) l) (sym (ap (λ (s : DiskState). s.contents) at.root1)) (bytes old.root1);
+  }
+
+  -- and reads what it read
+  pub reads_same : (old mid : Devices D) → Settled g old mid → read_of g mid ≡ read_of g old
+  reads_same old mid at = λ i. record {
+    journal = ap (λ (s : DiskState). s.contents) at.journal i;
+    slots = ap (λ (s : DiskState). s.contents) at.slots i;
+    root0 = ap (λ (s : DiskState). s.contents) at.root0 i;
+    root1 = ap (λ (s : DiskState). s.contents) at.root1 i;
   }
 
   -- an image that was there has its own content

@@ -44,18 +44,18 @@ caught_up-requires-clause-started g c honest =
     let old = c.args.devices in
     let opens = c.in-Ok.ensures.opens honest c.requires.settled.journal in
     let rooted = c.in-Ok-rooted.ensures.rooted honest (g.D.Disk.state old.root0).contents (g.D.Disk.state old.root1).contents (g.D.Disk.state old.slots).contents
-        (ap (λ d. g.D.Disk.state d) c.attach-roots.ensures.first ∙ c.requires.settled.root0)
-        (ap (λ d. g.D.Disk.state d) c.attach-roots.ensures.second ∙ c.requires.settled.root1)
-        c.requires.settled.slots in
+    (ap (λ d. g.D.Disk.state d) c.attach-roots.ensures.first ∙ c.requires.settled.root0)
+    (ap (λ d. g.D.Disk.state d) c.attach-roots.ensures.second ∙ c.requires.settled.root1)
+    c.requires.settled.slots in
     (opens.0, rooted.now, opens.1, rooted.started)
 
 pub returns-in-Ok-caught_up-clause-content : goal.returns-in-Ok-caught_up-clause-content
 returns-in-Ok-caught_up-clause-content g c honest =
     let old = c.args.devices in
     let rooted = c.in-Ok-rooted.ensures.rooted honest (g.D.Disk.state old.root0).contents (g.D.Disk.state old.root1).contents (g.D.Disk.state old.slots).contents
-        (ap (λ d. g.D.Disk.state d) c.attach-roots.ensures.first ∙ c.requires.settled.root0)
-        (ap (λ d. g.D.Disk.state d) c.attach-roots.ensures.second ∙ c.requires.settled.root1)
-        c.requires.settled.slots in
+    (ap (λ d. g.D.Disk.state d) c.attach-roots.ensures.first ∙ c.requires.settled.root0)
+    (ap (λ d. g.D.Disk.state d) c.attach-roots.ensures.second ∙ c.requires.settled.root1)
+    c.requires.settled.slots in
     let has = c.in-Ok-caught_up.ensures.content rooted.now honest rooted.started in (
       has.0,
       record {
@@ -73,9 +73,9 @@ returns-in-Ok-caught_up-clause-sets g c honest =
     let old = c.args.devices in
     let store = c.in-Ok-caught_up.store in
     let rooted = c.in-Ok-rooted.ensures.rooted honest (g.D.Disk.state old.root0).contents (g.D.Disk.state old.root1).contents (g.D.Disk.state old.slots).contents
-        (ap (λ d. g.D.Disk.state d) c.attach-roots.ensures.first ∙ c.requires.settled.root0)
-        (ap (λ d. g.D.Disk.state d) c.attach-roots.ensures.second ∙ c.requires.settled.root1)
-        c.requires.settled.slots in
+    (ap (λ d. g.D.Disk.state d) c.attach-roots.ensures.first ∙ c.requires.settled.root0)
+    (ap (λ d. g.D.Disk.state d) c.attach-roots.ensures.second ∙ c.requires.settled.root1)
+    c.requires.settled.slots in
     let live = detect.content (pools.live g.D.Disk) store.detector in
     record {
       checkpoint = rooted.now.checkpoint;
@@ -91,9 +91,9 @@ returns-in-Ok-caught_up-clause-images g c honest =
     let old = c.args.devices in
     let new = c.in-Ok-caught_up.store.devices in
     let rooted = c.in-Ok-rooted.ensures.rooted honest (g.D.Disk.state old.root0).contents (g.D.Disk.state old.root1).contents (g.D.Disk.state old.slots).contents
-        (ap (λ d. g.D.Disk.state d) c.attach-roots.ensures.first ∙ c.requires.settled.root0)
-        (ap (λ d. g.D.Disk.state d) c.attach-roots.ensures.second ∙ c.requires.settled.root1)
-        c.requires.settled.slots in
+    (ap (λ d. g.D.Disk.state d) c.attach-roots.ensures.first ∙ c.requires.settled.root0)
+    (ap (λ d. g.D.Disk.state d) c.attach-roots.ensures.second ∙ c.requires.settled.root1)
+    c.requires.settled.slots in
     let words = c.in-Ok-rooted.detector.words in
     let P = HasSlots rooted.now in
     with_pages g.D.Disk old new c.requires.settled c.args.caps.sets c.in-Ok-rooted.number c.in-Ok-rooted.detector c.in-Ok-rooted.roots rooted
@@ -109,9 +109,9 @@ pub returns-in-Err-caught_up-clause-damaged : goal.returns-in-Err-caught_up-clau
 returns-in-Err-caught_up-clause-damaged g c honest told d has =
     let old = c.args.devices in
     let rooted = c.in-Ok-rooted.ensures.rooted honest (g.D.Disk.state old.root0).contents (g.D.Disk.state old.root1).contents (g.D.Disk.state old.slots).contents
-        (ap (λ d. g.D.Disk.state d) c.attach-roots.ensures.first ∙ c.requires.settled.root0)
-        (ap (λ d. g.D.Disk.state d) c.attach-roots.ensures.second ∙ c.requires.settled.root1)
-        c.requires.settled.slots in
+    (ap (λ d. g.D.Disk.state d) c.attach-roots.ensures.first ∙ c.requires.settled.root0)
+    (ap (λ d. g.D.Disk.state d) c.attach-roots.ensures.second ∙ c.requires.settled.root1)
+    c.requires.settled.slots in
     c.in-Err-caught_up.ensures.damaged rooted.now honest rooted.started told has.events d
     (subst (λ (s : DiskState). IsJournal s.contents has.events) (sym c.in-Ok.ensures.state) has.journal)
     (subst (λ (s : Content). LeadFrom s has.events d) (rooted.only has.checkpoint has.stands) has.gives)
@@ -120,16 +120,16 @@ pub returns-in-Err-caught_up-clause-full : goal.returns-in-Err-caught_up-clause-
 returns-in-Err-caught_up-clause-full g c honest told =
     let old = c.args.devices in
     let rooted = c.in-Ok-rooted.ensures.rooted honest (g.D.Disk.state old.root0).contents (g.D.Disk.state old.root1).contents (g.D.Disk.state old.slots).contents
-        (ap (λ d. g.D.Disk.state d) c.attach-roots.ensures.first ∙ c.requires.settled.root0)
-        (ap (λ d. g.D.Disk.state d) c.attach-roots.ensures.second ∙ c.requires.settled.root1)
-        c.requires.settled.slots in
+    (ap (λ d. g.D.Disk.state d) c.attach-roots.ensures.first ∙ c.requires.settled.root0)
+    (ap (λ d. g.D.Disk.state d) c.attach-roots.ensures.second ∙ c.requires.settled.root1)
+    c.requires.settled.slots in
     inr (
       rooted.now.checkpoint,
       record { former = rooted.now.former; newest = rooted.has_roots; stand = rooted.has_slots },
       subst (λ (s : Content). IsTooSmall s (table_at c.args.caps.sets (root_of rooted.now.checkpoint)) (g.D.Disk.state old.journal).contents) rooted.started.content
-      (subst (λ (t : Table). IsTooSmall (detect.content (pools.live g.D.Disk) c.in-Ok-rooted.detector) t (g.D.Disk.state old.journal).contents) rooted.sets
-      (subst (λ (s : DiskState). IsTooSmall (detect.content (pools.live g.D.Disk) c.in-Ok-rooted.detector) c.in-Ok-rooted.detector.sets s.contents) c.in-Ok.ensures.state
-      (c.in-Err-caught_up.ensures.full honest told))),
+          (subst (λ (t : Table). IsTooSmall (detect.content (pools.live g.D.Disk) c.in-Ok-rooted.detector) t (g.D.Disk.state old.journal).contents) rooted.sets
+          (subst (λ (s : DiskState). IsTooSmall (detect.content (pools.live g.D.Disk) c.in-Ok-rooted.detector) c.in-Ok-rooted.detector.sets s.contents) c.in-Ok.ensures.state
+          (c.in-Err-caught_up.ensures.full honest told))),
     )
 
 pub returns-in-Err-caught_up-clause-device : goal.returns-in-Err-caught_up-clause-device
@@ -151,9 +151,9 @@ pub returns-in-Err-caught_up-clause-images : goal.returns-in-Err-caught_up-claus
 returns-in-Err-caught_up-clause-images g c honest =
     let old = c.args.devices in
     let rooted = c.in-Ok-rooted.ensures.rooted honest (g.D.Disk.state old.root0).contents (g.D.Disk.state old.root1).contents (g.D.Disk.state old.slots).contents
-        (ap (λ d. g.D.Disk.state d) c.attach-roots.ensures.first ∙ c.requires.settled.root0)
-        (ap (λ d. g.D.Disk.state d) c.attach-roots.ensures.second ∙ c.requires.settled.root1)
-        c.requires.settled.slots in
+    (ap (λ d. g.D.Disk.state d) c.attach-roots.ensures.first ∙ c.requires.settled.root0)
+    (ap (λ d. g.D.Disk.state d) c.attach-roots.ensures.second ∙ c.requires.settled.root1)
+    c.requires.settled.slots in
     let words = c.in-Ok-rooted.detector.words in
     let now = c.in-Err-caught_up.detector.words in
     let P = HasSlots rooted.now in

@@ -27,8 +27,8 @@ returns-in-Ok-detector_of-clause-rooted g c honest one other bytes first second 
     let st = c.in-Ok.ensures.stands honest one other first second in
     let made = c.in-Ok-detector_of.ensures.stands honest in
     let known : files.known g.D.Disk file ≡ bytes =
-        ap (λ (b : Bool). cond b (g.D.Disk.state file.before.value).contents (g.D.Disk.state file.disk).contents) c.attach-file.ensures.works
-        ∙ ap (λ d. (g.D.Disk.state d).contents) c.attach-file.ensures.disk ∙ settled_reads bytes _ at in
+    ap (λ (b : Bool). cond b (g.D.Disk.state file.before.value).contents (g.D.Disk.state file.disk).contents) c.attach-file.ensures.works
+    ∙ ap (λ d. (g.D.Disk.state d).contents) c.attach-file.ensures.disk ∙ settled_reads bytes _ at in
     let read : (g.D.Disk.state (files.disk_of file)).contents ≡ bytes = ap (λ d. (g.D.Disk.state d).contents) c.attach-file.ensures.disk ∙ settled_reads bytes _ at in
     rooted_so g.D.Disk c.args.caps.sets one other bytes found st.0 made.0 c.in-Ok-detector_of.detector c.standing.new.roots c.number_of-number.result made.1 st.2
     (subst (λ (l : List ℕ). IfSome st.0 (LieWithin l)) read st.3)
@@ -45,7 +45,7 @@ pub returns-in-Err-detector_of-clause-damaged : goal.returns-in-Err-detector_of-
 returns-in-Err-detector_of-clause-damaged g c honest told cp is =
     let file = c.attach-file.result in
     let known : files.known g.D.Disk file ≡ (g.D.Disk.state c.args.slots).contents =
-        ap (λ (b : Bool). cond b (g.D.Disk.state file.before.value).contents (g.D.Disk.state file.disk).contents) c.attach-file.ensures.works ∙ ap (λ d. (g.D.Disk.state d).contents) c.attach-file.ensures.disk in
+    ap (λ (b : Bool). cond b (g.D.Disk.state file.before.value).contents (g.D.Disk.state file.disk).contents) c.attach-file.ensures.works ∙ ap (λ d. (g.D.Disk.state d).contents) c.attach-file.ensures.disk in
     c.in-Err-detector_of.ensures.damaged honest told cp (c.in-Ok.ensures.only honest (root_of cp) is.former is.newest) (subst (λ (l : List ℕ). IfSome cp (HasPages l)) (sym known) is.stand.0)
 
 pub returns-in-Err-detector_of-clause-full : goal.returns-in-Err-detector_of-clause-full
