@@ -9,7 +9,7 @@ use hg_cells::KeptReport;
 use hg_gate::{GateFault, Gated};
 use hg_model::limits::GREATEST_NUMBER;
 use hg_model::segment::Segment;
-use hg_root::{PageSlot, Root, RootFault, RootPair, SourceCount};
+use hg_root::{Newest, PageSlot, Root, RootFault, RootPair, SourceCount};
 use hg_sets::SetTable;
 use std::alloc::Global;
 
@@ -133,10 +133,13 @@ pub fn tell_newest(alloc: Global, digits: &str, out: &mut Text) {
         return;
     };
     match RootPair::attach(one, other).newest(alloc) {
-        Ok(found) => match found.root {
-            Some(root) => put_root(&root, out),
-            None => out.put(b"closed"),
-        },
+        Ok(Newest { root, former }) => {
+            drop(former);
+            match root {
+                Some(root) => put_root(&root, out),
+                None => out.put(b"closed"),
+            }
+        }
         Err(RootFault::Damaged) => out.put(b"damaged"),
         Err(_) => out.put(b"no memory"),
     }
