@@ -1,11 +1,12 @@
 //! What the disks of a scenario have while nothing is open over them.
 
 use crate::answers::{Text, put_bytes, put_number, put_ok};
-use crate::device::{Device, read_device};
-use crate::tears::tear;
+use crate::device::{DEVICES, Device, read_device};
+use crate::stores::Memories;
+use crate::tears::{Tears, tear};
 use crate::words::{Halt, after, number};
 use hg_disk::{FuseDisk, MemDisk, Tear};
-use hg_store::devices::Devices;
+use hg_paged_store::devices::Devices;
 use std::alloc::{AllocError, Global};
 
 /// A disk of a scenario.
@@ -71,6 +72,15 @@ impl Image {
         self.parts.slots.extend_from_slice(&other.parts.slots)?;
         self.parts.root0.extend_from_slice(&other.parts.root0)?;
         self.parts.root1.extend_from_slice(&other.parts.root1)
+    }
+
+    /// Has what is synced of disks.
+    pub fn take_synced(&mut self, disks: &Memories) -> Result<(), AllocError> {
+        for device in DEVICES {
+            let disk = device.of(&disks.devices);
+            copy_image(disk, Tear::Lost, device.of_mut(&mut self.parts))?;
+        }
+        Ok(())
     }
 }
 
@@ -213,8 +223,8 @@ impl Shelf {
     pub fn tear_by(&mut self, text: &str) -> Result<(), Halt> {
         let (found, _) = tear(text)?;
         match found {
-            Some(found) => self.tear = found,
-            None => return Err(Halt::Words),
+            Tears::One(found) => self.tear = found,
+            Tears::Fronts(_) => return Err(Halt::Words),
         }
         Ok(())
     }

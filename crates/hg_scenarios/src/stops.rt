@@ -5,10 +5,10 @@ use crate::device::{DEVICES, Device};
 use crate::running::{Progress, Reference, Run, reference_of, resume, stop_run};
 use crate::shelf::Image;
 use crate::stores::{Memories, Opening};
-use crate::tears::tears_of;
+use crate::tears::{Tears, tears_of};
 use crate::words::Halt;
 use hg_disk::{Answer, Call, MemDisk, Tear};
-use hg_store::devices::Devices;
+use hg_paged_store::devices::Devices;
 use std::alloc::{AllocError, Global};
 
 /// How many stops were gone on from, and how often the commit that was under way was found.
@@ -134,11 +134,19 @@ fn try_tear(
     try_image(alloc, stop, tear, Tear::Lost, count, out)
 }
 
-/// Goes on from each front of what is not synced.
-fn try_fronts(alloc: Global, stop: &Stop, count: &mut Count, out: &mut Text) -> Result<(), Halt> {
+/// Goes on from each front of what is not synced whose length is a multiple of `step`.
+fn try_fronts(
+    alloc: Global,
+    stop: &Stop,
+    step: usize,
+    count: &mut Count,
+    out: &mut Text,
+) -> Result<(), Halt> {
     let (_, bytes) = since_sync(stop.device.of(stop.devices));
     for front in 0..bytes {
-        try_tear(alloc, stop, Tear::Front(front), count, out)?;
+        if front.checked_rem(step) == Some(0) {
+            try_tear(alloc, stop, Tear::Front(front), count, out)?;
+        }
     }
     Ok(())
 }
@@ -147,14 +155,14 @@ fn try_fronts(alloc: Global, stop: &Stop, count: &mut Count, out: &mut Text) -> 
 fn try_stop(
     alloc: Global,
     stop: &Stop,
-    tears: &[Option<Tear>],
+    tears: &[Tears],
     count: &mut Count,
     out: &mut Text,
 ) -> Result<(), Halt> {
     for tear in tears {
         match *tear {
-            Some(tear) => try_tear(alloc, stop, tear, count, out)?,
-            None => try_fronts(alloc, stop, count, out)?,
+            Tears::One(tear) => try_tear(alloc, stop, tear, count, out)?,
+            Tears::Fronts(step) => try_fronts(alloc, stop, step, count, out)?,
         }
     }
     Ok(())
@@ -167,7 +175,7 @@ fn try_call(
     reference: &Reference,
     device: Device,
     after: u64,
-    tears: &[Option<Tear>],
+    tears: &[Tears],
     count: &mut Count,
     out: &mut Text,
 ) -> Result<bool, Halt> {
@@ -198,7 +206,7 @@ fn try_device(
     run: &Run,
     reference: &Reference,
     device: Device,
-    tears: &[Option<Tear>],
+    tears: &[Tears],
     count: &mut Count,
     out: &mut Text,
 ) -> Result<(), Halt> {
