@@ -55,7 +55,7 @@ module _ (root : Parts) (f g : ℕ → List Cell) (slots : List ℕ) (one : HasP
     last = last_number root.sources;
   }
 
-one_start : (a b : Option Checkpoint) (slots : List ℕ) → root_of a ≡ root_of b → IfSome a (HasPages slots) → IfSome b (HasPages slots) → start_of a ≡ start_of b
+pub one_start : (a b : Option Checkpoint) (slots : List ℕ) → root_of a ≡ root_of b → IfSome a (HasPages slots) → IfSome b (HasPages slots) → start_of a ≡ start_of b
 one_start None None slots same one other = refl
 one_start None (Some b) slots same one other = absurd cc
 one_start (Some a) None slots same one other = absurd cc

@@ -7,6 +7,7 @@ pub mod Committing
 pub mod Staying
 pub mod Checkpointing
 pub mod Reading
+pub mod Rooting
 pub mod Runs
 pub mod Stepping
 pub mod Opening

@@ -124,9 +124,9 @@ abbrev pub HasMoreSets : ℕ → List ℕ → List ℕ → Type 0
 HasMoreSets cap one other = HasRootThat (λ root. cap < length root.sets) one other
 
 -- Where sets or slots are told to be too few, the newest root has more sets, or names a slot beyond.
-pub record HasNoRoom (sets slots : ℕ) (one other : List ℕ) (refusal : Refusal) : Type 0 where
-  pub sets : refusal ≡ FullSets → HasMoreSets sets one other
-  pub slots : refusal ≡ FullSlots → HasRootThat (λ root. ¬ All (λ p. p.slot < slots) root.pages) one other
+pub record HasNoRoom (most_sets most_slots : ℕ) (one other : List ℕ) (refusal : Refusal) : Type 0 where
+  pub sets : refusal ≡ FullSets → HasMoreSets most_sets one other
+  pub slots : refusal ≡ FullSlots → HasRootThat (λ root. ¬ All (λ p. p.slot < most_slots) root.pages) one other
 
 -- A table of so many sets is too small for an image: its newest root has more, or the events behind it ask for one too many.
 abbrev pub HasFewSets : ℕ → Image → Type 0

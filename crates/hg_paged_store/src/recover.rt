@@ -1,6 +1,6 @@
 //! Recovering a store.
 
-ghost use Rattle.std.specs.Prelude.{◌≡◌, ◌⊎◌, ◌+◌, ◌≤◌, ◌<◌, ℕ, List, [], Err, Option, Some, None, All, length, vec_capacity, false, IsTrue, IfOk, IfErr, IfSome, OnErr, OnOk};
+ghost use Rattle.std.specs.Prelude.{◌≡◌, ◌↔◌, ◌⊎◌, ◌+◌, ◌≤◌, ◌<◌, ℕ, List, [], Err, Option, Some, None, All, length, vec_capacity, false, IsTrue, IfOk, IfErr, IfSome, OnErr, OnOk};
 ghost use Rattle.hg_model.specs.Contents.{Content};
 ghost use Rattle.hg_model.specs.declared.event.Named.{Named as NamedOf};
 ghost use Rattle.hg_detect.specs.Engine.{AtPresent};

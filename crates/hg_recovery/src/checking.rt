@@ -1,5 +1,5 @@
 //! Whether the slots of a file have the pages that a root names.
-ghost use Rattle.std.specs.Prelude.{◌≡◌, ◌↔◌, IsTrue, IsErrOf, OnOk, length};
+ghost use Rattle.std.specs.Prelude.{◌≡◌, ◌≤◌, ◌+◌, ◌*◌, ◌↔◌, All, IsTrue, IsErrOf, OnOk, length};
 ghost use Rattle.hg_pages.specs.Fault.{failures_after};
 ghost use Rattle.hg_pages.specs.Files.{disk_of, is_broken, known};
 ghost use Rattle.hg_root.specs.Checkpoints.{LieWithin};
@@ -50,15 +50,22 @@ pub fn check_slots<D: Disk>(root: &Root, file: &mut SlotFile<D>) -> Result<(), S
     Ok(())
 }
 
-/// Whether each slot that a root names lies within the file. It makes no device call: of the root that is not the newest one the rules
-/// ask no more.
-pub fn lies_within<D: Disk>(root: &Root, file: &SlotFile<D>) -> bool
-    ensures { IsTrue result ↔ LieWithin (D.state (disk_of file.now)).contents (parts_of root.now) }
+// Whether the slot of each of these pages lies within the file.
+fn lie_in<D: Disk>(pages: &[PageSlot], file: &SlotFile<D>) -> bool
+    ensures { IsTrue result ↔ All (λ p. 3080 * p.slot + 3080 ≤ length (D.state (disk_of file.now)).contents) pages.now }
 {
-    for page in root.pages.as_slice() {
+    for page in pages {
         if !file.has_slot(page.slot) {
             return false;
         }
     }
     true
+}
+
+/// Whether each slot that a root names lies within the file. It makes no device call: of the root that is not the newest one the rules
+/// ask no more.
+pub fn lies_within<D: Disk>(root: &Root, file: &SlotFile<D>) -> bool
+    ensures { IsTrue result ↔ LieWithin (D.state (disk_of file.now)).contents (parts_of root.now) }
+{
+    lie_in(&root.pages, file)
 }
