@@ -95,7 +95,7 @@ fn root_told(opened: &Result<u64, StepFault>) -> Told {
 }
 
 /// What a step was answered.
-pub fn told(answer: &StepResult) -> Told {
+pub fn told_of(answer: &StepResult) -> Told {
     match answer {
         StepResult::Offered(offered) => offer_told(offered),
         StepResult::Committed(committed) => commit_told(committed),
@@ -205,7 +205,7 @@ pub fn make(alloc: Global, store: &mut Store<Held>, action: Action, desk: &mut D
         Action::Take => desk.take(store),
         Action::Put => desk.put(store),
         _ => match step_of(action) {
-            Some(step) => told(&store.step(alloc, &step)),
+            Some(step) => told_of(&store.step(alloc, &step)),
             None => Told::NoPage,
         },
     }

@@ -1,6 +1,6 @@
 //! What the lines of a scenario do with a store.
 
-use crate::actions::{Action, Desk, Told, note_and_make, told};
+use crate::actions::{Action, Desk, Told, note_and_make, told_of};
 use crate::answers::{
     Text, put_checkpoint, put_count, put_count_of_events, put_number, put_ok, put_told,
 };
@@ -10,7 +10,7 @@ use crate::rows::put_events;
 use crate::running::{Progress, Run, stop_run};
 use crate::shelf::{Held, Image, NO_FUSES, Shelf};
 use crate::stops::{NO_PROGRESS, put_images, put_stops};
-use crate::stores::{Disks, OpenStore, Opening, ROOM, Room, open};
+use crate::stores::{Disks, OpenStore, Opening, USUAL_ROOM, Room, open};
 use crate::tears::{Tears, tear};
 use crate::telling::{put_answer, put_durable, put_picture};
 use crate::words::{Halt, after, front, number, short_number};
@@ -73,7 +73,7 @@ fn read_part<'a>(text: &'a str, room: &mut Room) -> Result<&'a str, Halt> {
 
 /// `frames N`, `sets N` and `slots N`, those of them that are said, one behind the other.
 fn room_of(text: &str) -> Result<Room, Halt> {
-    let mut room = ROOM;
+    let mut room = USUAL_ROOM;
     let mut rest = text;
     for _ in 0..text.len() {
         if rest.is_empty() {
@@ -89,10 +89,10 @@ fn put_answers(answers: &[StepAnswer<Held>], out: &mut Text) {
     let [first, others @ ..] = answers else {
         return;
     };
-    let mut last = told(&first.result);
+    let mut last = told_of(&first.result);
     let mut times = 1_u64;
     for answer in others {
-        let next = told(&answer.result);
+        let next = told_of(&answer.result);
         if next == last {
             times = times.wrapping_add(1);
         } else {
@@ -271,7 +271,7 @@ impl Bench {
             opened: None,
             run: Run {
                 start: Image::new(alloc),
-                opening: Opening::Create(ROOM),
+                opening: Opening::Create(USUAL_ROOM),
                 base: 0,
                 actions: Vec::new(alloc),
             },
@@ -370,7 +370,7 @@ impl Bench {
     }
 
     /// Does all that was noted at once. Jobs that are taken meanwhile change nothing, and a run that is made again leaves them out.
-    fn drive(&mut self, alloc: Global, out: &mut Text) -> Result<(), Halt> {
+    fn drive_noted(&mut self, alloc: Global, out: &mut Text) -> Result<(), Halt> {
         let Some(opened) = &mut self.opened else {
             return Err(Halt::Closed);
         };
@@ -380,9 +380,14 @@ impl Bench {
                 put_action(*action, &mut self.run.actions)?;
             }
         }
-        drive(alloc, opened, &steps, out)?;
+        drive(alloc, opened, &steps, out)
+    }
+
+    /// The same, and nothing is noted any more.
+    fn drive(&mut self, alloc: Global, out: &mut Text) -> Result<(), Halt> {
+        let driven = self.drive_noted(alloc, out);
         self.actions.clear();
-        Ok(())
+        driven
     }
 
     /// Does what an action says, and notes it.
@@ -467,16 +472,16 @@ impl Bench {
         Ok(())
     }
 
-    /// `DEVICE at K TEAR`: stops the run of the store after so many calls of a device, and leaves the image.
-    fn stop(
+    /// `K TEAR`: stops the run of the store after so many calls of a device, and leaves the image.
+    fn stop_one(
         &mut self,
         alloc: Global,
         shelf: &mut Shelf,
+        device: Device,
         text: &str,
         out: &mut Text,
     ) -> Result<(), Halt> {
-        let (device, rest) = read_device(text)?;
-        let (calls, rest) = number(after("at ", rest)?)?;
+        let (calls, rest) = number(text)?;
         let (Tears::One(tear), _) = tear(rest)? else {
             return Err(Halt::Words);
         };
@@ -509,18 +514,38 @@ impl Bench {
         }
     }
 
-    /// `.. every device at each call TEARS`, or `DEVICE at K TEAR`
-    fn stop_or_all(
+    /// `each call TEARS`, or `K TEAR`, of a device, or of each one
+    fn stop_at(
         &mut self,
         alloc: Global,
         shelf: &mut Shelf,
-        rest: &str,
+        only: Option<Device>,
+        text: &str,
         out: &mut Text,
     ) -> Result<(), Halt> {
-        match rest.strip_prefix("every device at each call ") {
-            Some(tears) => put_stops(alloc, &self.run, tears, out),
-            None => self.stop(alloc, shelf, rest, out),
+        let text = after("at ", text)?;
+        if let Some(tears) = text.strip_prefix("each call ") {
+            return put_stops(alloc, &self.run, only, tears, out);
         }
+        match only {
+            Some(device) => self.stop_one(alloc, shelf, device, text, out),
+            None => Err(Halt::Words),
+        }
+    }
+
+    /// `every device at ..`, or `DEVICE at ..`
+    fn stop(
+        &mut self,
+        alloc: Global,
+        shelf: &mut Shelf,
+        text: &str,
+        out: &mut Text,
+    ) -> Result<(), Halt> {
+        if let Some(rest) = text.strip_prefix("every device ") {
+            return self.stop_at(alloc, shelf, None, rest, out);
+        }
+        let (device, rest) = read_device(text)?;
+        self.stop_at(alloc, shelf, Some(device), rest, out)
     }
 
     /// Does what a line asks for that looks at a store, or at what a stop leaves of it.
@@ -537,7 +562,7 @@ impl Bench {
             "read" => self.read(alloc, rest, out),
             "remember" => self.remember(alloc, out),
             "found" => find(alloc, shelf, self.run.opening.room(), out),
-            "stop" => self.stop_or_all(alloc, shelf, rest, out),
+            "stop" => self.stop(alloc, shelf, rest, out),
             "profile" => put_profile(out),
             _ => Err(Halt::Words),
         }

@@ -144,6 +144,19 @@ fn put_back(
     copy_image(&disk, tear, bytes)
 }
 
+/// All bytes, or with `from N count M` those of them.
+fn put_part(bytes: &[u8], text: &str, out: &mut Text) -> Result<(), Halt> {
+    if text.is_empty() {
+        put_bytes(bytes, out);
+        return Ok(());
+    }
+    let (from, rest) = number(after("from ", text)?)?;
+    let (count, _) = number(after("count ", rest)?)?;
+    let behind = bytes.split_at(bytes.len().min(from as usize)).1;
+    put_bytes(behind.split_at(behind.len().min(count as usize)).0, out);
+    Ok(())
+}
+
 impl Shelf {
     /// Four disks without a byte.
     pub fn new(alloc: Global) -> Shelf {
@@ -199,10 +212,10 @@ impl Shelf {
 
     /// What a device that is closed has, or had: its bytes, how many, or how many calls.
     fn tell(&self, word: &str, rest: &str, out: &mut Text) -> Result<(), Halt> {
-        let (device, _) = read_device(rest)?;
+        let (device, rest) = read_device(rest)?;
         let bytes = device.of(&self.image.parts);
         match word {
-            "bytes" => put_bytes(bytes, out),
+            "bytes" => return put_part(bytes, rest, out),
             "length" => put_number(bytes.len() as u64, out),
             _ => put_number(*device.of(&self.calls), out),
         }

@@ -218,10 +218,11 @@ fn try_device(
     Ok(())
 }
 
-/// Goes on from each stop of each device, for each of the tears that the words name.
+/// Goes on from each stop of a device, or of each one, for each of the tears that the words name.
 fn count_stops(
     alloc: Global,
     run: &Run,
+    only: Option<Device>,
     words: &str,
     count: &mut Count,
     out: &mut Text,
@@ -229,15 +230,30 @@ fn count_stops(
     let tears = tears_of(alloc, words)?;
     let reference = reference_of(alloc, run)?;
     for device in DEVICES {
-        try_device(alloc, run, &reference, device, &tears, count, out)?;
+        if is_meant(device, only) {
+            try_device(alloc, run, &reference, device, &tears, count, out)?;
+        }
     }
     Ok(())
 }
 
-/// Goes on from each stop of each device: `N ended alike, M of them ahead`.
-pub fn put_stops(alloc: Global, run: &Run, words: &str, out: &mut Text) -> Result<(), Halt> {
+fn is_meant(device: Device, only: Option<Device>) -> bool {
+    match only {
+        Some(only) => device as u8 == only as u8,
+        None => true,
+    }
+}
+
+/// Goes on from each stop of a device, or of each one: `N ended alike, M of them ahead`.
+pub fn put_stops(
+    alloc: Global,
+    run: &Run,
+    only: Option<Device>,
+    words: &str,
+    out: &mut Text,
+) -> Result<(), Halt> {
     let mut count = Count { stops: 0, ahead: 0 };
-    count_stops(alloc, run, words, &mut count, out)?;
+    count_stops(alloc, run, only, words, &mut count, out)?;
     out.clear();
     put_count(b"", count.stops, out);
     put_count(b" ended alike, ", count.ahead, out);

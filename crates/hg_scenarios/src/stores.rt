@@ -22,7 +22,7 @@ pub struct Room {
 }
 
 /// Where nothing else is said.
-pub const ROOM: Room = Room {
+pub const USUAL_ROOM: Room = Room {
     frames: 16,
     sets: 64,
     slots: 1024,
