@@ -4,9 +4,9 @@ use crate::shelf::Held;
 use hg_detect::detector::Answer;
 use hg_model::event::Named;
 use hg_model::verdict::Refusal;
-use hg_pages::EncodedPage;
 use hg_paged_store::steps::{Step, StepFault, StepResult, StorePhase};
 use hg_paged_store::store::Store;
+use hg_pages::EncodedPage;
 use hg_pool::{Job, Put};
 use std::alloc::{AllocError, Global};
 

@@ -10,7 +10,7 @@ use crate::rows::put_events;
 use crate::running::{Progress, Run, stop_run};
 use crate::shelf::{Held, Image, NO_FUSES, Shelf};
 use crate::stops::{NO_PROGRESS, put_images, put_stops};
-use crate::stores::{Disks, OpenStore, Opening, USUAL_ROOM, Room, open};
+use crate::stores::{Disks, OpenStore, Opening, Room, USUAL_ROOM, open};
 use crate::tears::{Tears, tear};
 use crate::telling::{put_answer, put_durable, put_picture};
 use crate::words::{Halt, after, front, number, short_number};
