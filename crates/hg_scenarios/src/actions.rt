@@ -80,7 +80,7 @@ fn job_told(taken: &Result<Option<Job>, StepFault>) -> Told {
     }
 }
 
-fn put_told(put: &Result<Put, StepFault>) -> Told {
+fn handed_told(put: &Result<Put, StepFault>) -> Told {
     match put {
         Ok(put) => Told::Put(*put),
         Err(fault) => fault_told(*fault),
@@ -101,7 +101,7 @@ pub fn told_of(answer: &StepResult) -> Told {
         StepResult::Committed(committed) => commit_told(committed),
         StepResult::Frozen(done) => done_told(done),
         StepResult::Taken(taken) => job_told(taken),
-        StepResult::Put(put) => put_told(put),
+        StepResult::Put(put) => handed_told(put),
         StepResult::Sealed(done) => done_told(done),
         StepResult::Prepared(done) => done_told(done),
         StepResult::Written(done) => done_told(done),
@@ -184,7 +184,7 @@ impl Desk {
     /// Hands in the page.
     fn put(&self, store: &mut Store<Held>) -> Told {
         match &self.page {
-            Some(page) => put_told(&store.put(page)),
+            Some(page) => handed_told(&store.put(page)),
             None => Told::NoPage,
         }
     }
