@@ -133,8 +133,10 @@ pub fn tell_newest(alloc: Global, digits: &str, out: &mut Text) {
         return;
     };
     match RootPair::attach(one, other).newest(alloc) {
-        Ok(Some(root)) => put_root(&root, out),
-        Ok(None) => out.put(b"closed"),
+        Ok(found) => match found.root {
+            Some(root) => put_root(&root, out),
+            None => out.put(b"closed"),
+        },
         Err(RootFault::Damaged) => out.put(b"damaged"),
         Err(_) => out.put(b"no memory"),
     }

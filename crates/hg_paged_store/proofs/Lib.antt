@@ -8,6 +8,7 @@ pub mod Staying
 pub mod Checkpointing
 pub mod Reading
 pub mod Rooting
+pub mod Recovering
 pub mod Runs
 pub mod Stepping
 pub mod Opening

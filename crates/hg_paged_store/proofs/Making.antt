@@ -35,6 +35,7 @@ use Rattle.hg_detect.specs.Engine.{AtPresent}
 use Rattle.hg_detect.specs.Shown as detect
 use Rattle.hg_disk.specs.declared.disk.Disk as disk
 use Rattle.hg_disk.proofs.Moments.{at_end, left_at_end, stays}
+use Rattle.hg_gate.specs.Batches.{IsClosed, closed_gate}
 use Rattle.hg_journal.specs.Reading as journals
 use Rattle.hg_journal.proofs.Journaling.{each_image_has}
 use Rattle.hg_pages.specs.declared.slot_file.SlotFile.{SlotFile}
@@ -46,16 +47,18 @@ use Rattle.hg_root.specs.Checkpoints.{Checkpoint, HasPages, root_of}
 use Rattle.hg_root.specs.Pairs.{first_of, second_of}
 use Rattle.hg_root.specs.Parts as roots
 use Rattle.hg_contents.specs.Choices.{Basis, Choice, GivesDurable, HasSlots}
-use Rattle.hg_contents.specs.Images.{Gives, content_of}
+use Rattle.hg_contents.specs.Images.{Gives, Image, content_of}
 use Rattle.hg_contents.specs.Stores as stores
 use Rattle.hg_contents.proofs.Joining.{facts_back}
 use Rattle.hg_checkpointer.specs.declared.phase.Phase.{Phase}
 use Rattle.hg_checkpointer.specs.declared.phase.Phase.TheVariants as phase
 use Rattle.hg_checkpointer.proofs.Rooting.{still_now}
+use Rattle.hg_paged_store.specs.declared.devices.Devices.{Devices}
+use Rattle.hg_paged_store.specs.Images.{read_of}
 use Rattle.hg_paged_store.specs.Kept.{IsInProgress, IsSound, IsWorking, Parts, Standing, is_rooting, shown_of}
 use Rattle.hg_paged_store.specs.Recovering.{Fills, IsBased, IsReady, IsStarted}
 use Rattle.hg_paged_store.specs.Shown.{live, saved}
-use Rattle.hg_paged_store.specs.Store.{IsFresh, view_of}
+use Rattle.hg_paged_store.specs.Store.{IsFresh, IsIdle, view_of}
 
 -- the pool of a table over a file, with no page in memory
 abbrev pub over_table : {D : Type 0} → SlotFile D → List (ℕ × ℕ) → ℕ → ℕ → pool.Shown D
@@ -71,6 +74,16 @@ over_table file entries most slots = record {
   slots = slots;
   is_sealed = false;
 }
+
+abbrev pub image_of : List ℕ → List ℕ → List ℕ → List ℕ → Image
+image_of journal slots one other = record { journal = journal; slots = slots; root0 = one; root1 = other }
+
+-- the basis of a store that was made
+abbrev pub new_basis : Basis
+new_basis = record { events = []; now = record { checkpoint = None; former = None }; next = record { checkpoint = None; former = None } }
+
+pub closed_is_closed : IsClosed (closed_gate ∷ [])
+closed_is_closed = record { gate = closed_gate; rest = []; spelling = refl; closed = λ e. absurd (omega (arith, e)) }
 
 -- a checkpoint that has this root
 pub some_checkpoint : (c : Option Checkpoint) (root : roots.Parts) → root_of c ≡ Some root → (k : Checkpoint) × (c ≡ Some k) × (k.root ≡ root)
@@ -155,14 +168,14 @@ module _ {D : Type 0} (g : disk.Ghosts D) where
     standing : IsReady g s.detector → Standing g s basis
     standing ready = record { keeps = keeps; faithful = ready.faithful; state = ready.state; spelled = ready.spelled; works = λ _. working }
 
+    idle : IsIdle (shown_of g s)
+    idle = record { pending = made.pending; phase = made.idle; works = made.works; certain = made.certain }
+
     pub fresh : IsFresh g (shown_of g s) (live g (shown_of g s))
     fresh = record {
       has = refl;
       durable = saved_is;
-      pending = made.pending;
-      idle = made.idle;
-      works = made.works;
-      certain = made.certain;
+      idle = idle;
       backs = facts_back basis (view_of g (shown_of g s)) (saved g (shown_of g s)) keeps;
     }
 
@@ -182,6 +195,27 @@ module _ {D : Type 0} (g : disk.Ghosts D) where
   -- the basis of a store that was recovered
   abbrev pub basis_of : List Named → Choice → Basis
   basis_of events now = record { events = events; now = now; next = now }
+
+  -- the parts of a store of no events on two closed roots
+  pub new_based : (journal : Journal D g) (d : detect.Shown (pool.Shown D)) (c : Checkpointer D g) → journals.Keeps journal [] → detect.content (pools.live g) d ≡ empty_content
+      → RootsStand g c.phase c.roots None None c.body.value.items → c.number ≡ 0 → IsBased g journal d c new_basis
+  new_based journal d c keeps content stand number = record {
+    one = refl;
+    keeps = keeps;
+    stands = record { roots = stand; slots = λ image left. (tt, tt); names = tt };
+    number = number;
+    gives = record { enough = omega arith; leads = ap (λ (s : Content). Some s) (sym content) };
+  }
+
+  -- what devices read, by what each of them reads
+  pub read_as : (devices : Devices D) (journal slots one other : List ℕ) → (g.state devices.journal).contents ≡ journal → (g.state devices.slots).contents ≡ slots
+      → (g.state devices.root0).contents ≡ one → (g.state devices.root1).contents ≡ other → read_of g devices ≡ image_of journal slots one other
+  read_as devices journal slots one other is_journal is_slots is_one is_other =
+      let first = read_of g devices in
+      ap (λ (l : List ℕ). image_of l first.slots first.root0 first.root1) is_journal
+      ∙ (ap (λ (l : List ℕ). image_of journal l first.root0 first.root1) is_slots
+      ∙ (ap (λ (l : List ℕ). image_of journal slots l first.root1) is_one
+      ∙ ap (λ (l : List ℕ). image_of journal slots one l) is_other))
 
   module _ (bytes : (d : D) → IsImage (g.state d) (g.state d).contents) (old : detect.Shown (pool.Shown D)) (roots : RootPair D) (number : ℕ) (now : Choice) (started : IsStarted g old roots number now) (d : detect.Shown (pool.Shown D)) (went : Went g old.words d.words) where
     pub based : (journal : Journal D g) (events : List Named) (c : Checkpointer D g) → journals.Keeps journal events → LeadFrom (detect.content (pools.live g) old) events (detect.content (pools.live g) d)

@@ -94,8 +94,13 @@ fn lie_within<D: Disk>(root: &Option<Root>, file: &SlotFile<D>) -> bool
 }
 
 /// The newest root of two files, or none, where the slots of the other root lie within the file of slots.
-fn standing<D: Disk>(alloc: Global, roots: &mut RootPair<D>, file: &SlotFile<D>) -> Result<Option<Root>, Refusal>
+fn standing<D: Disk>(
+    alloc: Global,
+    roots: &mut RootPair<D>,
+    file: &SlotFile<D>,
+) -> Result<Option<Root>, Refusal>
     requires works { IsWorking roots.old }
+    ensures found { IsTrue D.is_honest → IfOk result (λ found. (former : Option Parts) × IsNewest (root_in found) former (first_bytes ⟦<D as Disk>⟧ roots.old) (second_bytes ⟦<D as Disk>⟧ roots.old)) }
     ensures only { IsTrue D.is_honest → IfOk result (λ found. (root former : Option Parts) → IsNewest root former (first_bytes ⟦<D as Disk>⟧ roots.old) (second_bytes ⟦<D as Disk>⟧ roots.old) → root ≡ root_in found) }
     ensures whole { IfOk result IsWholeIn }
     ensures stands { IsTrue D.is_honest → (one other : List ℕ) → D.state (first_of roots.old) ≡ settled one → D.state (second_of roots.old) ≡ settled other
@@ -188,6 +193,7 @@ fn caught_up<D: Disk>(
     ensures device { CountsCaught result (D.failures (journals.disk_of journal) + D.failures (pools.disk_of detector.words)) (D.failures (journal_after result) + D.failures (pools.disk_of (words_after result))) }
     ensures journal { LeavesOnly ⟦<D as Disk>⟧ (journals.disk_of journal) (journal_after result) (IsImage (D.state (journals.disk_of journal))) }
     ensures went { Went ⟦<D as Disk>⟧ detector.words (words_after result) }
+    ensures slots { IfOk result (λ store. store.devices.slots ≡ pools.disk_of store.detector.words) }
     ensures first { first_after result ≡ first_of roots }
     ensures second { second_after result ≡ second_of roots }
 {
@@ -347,8 +353,9 @@ impl<D: Disk> Store<D> {
         ensures images { IsTrue D.is_honest → Recovers ⟦<D as Disk>⟧ devices (made_of result) }
     {
         let mut devices = devices;
-        if sync_all(&mut devices).is_err() {
-            return Err((Refusal::DeviceFault, devices));
+        match sync_all(&mut devices) {
+            Ok(()) => {}
+            Err(_) => return Err((Refusal::DeviceFault, devices)),
         }
         match pending_room(alloc) {
             Ok(pending) => recovered(alloc, devices, pending, frames, caps),

@@ -380,7 +380,10 @@ fn lends_its_words(rt: HostRuntime) -> Result<(), Fail> {
         detector.touch(0, 2, access, true),
         Ok(Answer::Duplicate(2))
     );
-    assert_eq!(rt; detector.words_mut().same(WORD, 1), Some(Cell::Exclusive(0)));
+    assert_eq!(rt;
+        detector.words_mut().same(WORD, 1),
+        Some(Cell::Exclusive(0))
+    );
     assert_eq!(rt; detector.words_mut().same(WORD, 2), None);
     let words = detector.words_mut();
     words.keep(0x1000, 4)?;

@@ -1,7 +1,8 @@
 use Rattle.std.proofs.Common.{rules}
 use Rattle.hg_root.specs.Checkpoints.{LieWithin, root_of}
 use Rattle.hg_root.specs.Finding.{root_in}
-use Rattle.hg_root.specs.Pairs.{first_of, second_of}
+use Rattle.hg_root.specs.Pairs.{first_bytes, first_of, second_bytes, second_of}
+use Rattle.hg_root.proofs.Choosing.{newest_of}
 use Rattle.hg_pages.specs.Files as files
 use Rattle.hg_paged_store.proofs.Rooting.{newest_in, of_former}
 use Rattle.hg_paged_store.proofs.recover.standing.Goals as goal
@@ -28,3 +29,9 @@ returns-clause-stands g c honest one other first second =
       newest_in c.in_ok-root.field-0 (g.D.Disk.state (first_of old)) (g.D.Disk.state (second_of old)) one other first second found,
       c.lie_within.ensures.0 (search rules),
     )
+
+pub returns-clause-found : goal.returns-clause-found
+returns-clause-found g c honest =
+    let found = c.in_ok-root.field-0 in
+    let old = c.args.roots.now in
+    (root_in found.former, newest_of found (first_bytes g.D.Disk old) (second_bytes g.D.Disk old) (c.in_ok-root.ensures.found honest))

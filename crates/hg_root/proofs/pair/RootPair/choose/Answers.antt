@@ -19,7 +19,7 @@ returns-then-are_due-clause-stands g c one other rests rests_other has has_other
     let below : IsBelow y x = due_below x y c.number_of.result c.number_of-2.result c.in_ok-are_due.are_due other c.number_of.ensures c.number_of-2.ensures c.in_ok-are_due.ensures.due c.if-are_due.true c.in_ok-are_due.ensures.apart has_other in
     let noted = record c.args.self.now { is_closed = c.is_none-self.result; is_other_closed = c.is_none-self-2.result } in
     subst (λ p. Stands g.D.Disk p x y) (sym c.take_turns.ensures.turned)
-        (stands_so g.D.Disk (turned noted) y x other one rests_other rests has_other has below (known_so c.args.in_newer c.is_none-self-2.result c.is_none-self-2.ensures) (known_so c.args.in_older c.is_none-self.result c.is_none-self.ensures))
+    (stands_so g.D.Disk (turned noted) y x other one rests_other rests has_other has below (known_so c.args.in_newer c.is_none-self-2.result c.is_none-self-2.ensures) (known_so c.args.in_older c.is_none-self.result c.is_none-self.ensures))
 
 pub returns-clause-found : goal.returns-clause-found
 returns-clause-found g c one other has has_other =

@@ -1,0 +1,43 @@
+use Rattle.std.proofs.Common.{◌≡◌, subst}
+use Rattle.std.specs.Prelude.{IfErr, IfOk}
+use Rattle.hg_model.specs.Contents.{Content}
+use Rattle.hg_model.specs.declared.verdict.Refusal.TheVariants.{Damaged, FullSets}
+use Rattle.hg_detect.specs.Shown.{content}
+use Rattle.hg_pool.specs.Maps.{live}
+use Rattle.hg_contents.specs.Images.{HasContent, Image}
+use Rattle.hg_paged_store.specs.Images.{read_of}
+use Rattle.hg_paged_store.specs.Recovering.{HasFewSets, HasTable}
+use Rattle.hg_paged_store.specs.Store.{IsFresh}
+use Rattle.hg_paged_store.proofs.Recovering.{only_synced, reads_same, synced_first}
+use Rattle.hg_paged_store.proofs.store.Store.recover.Goals as goal
+
+pub returns-in-Err-clause-images : goal.returns-in-Err-clause-images
+returns-in-Err-clause-images g c honest = only_synced g.D.Disk c.args.devices c.sync_all.new.devices c.sync_all.ensures.stay
+
+pub returns-in-Err-pending_room-clause-images : goal.returns-in-Err-pending_room-clause-images
+returns-in-Err-pending_room-clause-images g c honest = only_synced g.D.Disk c.args.devices c.sync_all.new.devices c.sync_all.ensures.stay
+
+pub returns-in-Ok-pending_room-clause-content : goal.returns-in-Ok-pending_room-clause-content
+returns-in-Ok-pending_room-clause-content g c honest =
+    let at = c.in-Ok.ensures.settled in
+    subst (λ (x : Image). IfOk c.recovered.result (λ store. (d : Content) × HasContent x d × IsFresh g.D.Disk store d)) (reads_same g.D.Disk c.args.devices c.sync_all.new.devices at) (c.recovered.ensures.content honest)
+
+pub returns-in-Ok-pending_room-clause-sets : goal.returns-in-Ok-pending_room-clause-sets
+returns-in-Ok-pending_room-clause-sets g c honest =
+    let at = c.in-Ok.ensures.settled in
+    subst (λ (x : Image). IfOk c.recovered.result (λ store. HasTable c.args.caps.sets x (content (live g.D.Disk) store.detector) store.detector.sets)) (reads_same g.D.Disk c.args.devices c.sync_all.new.devices at) (c.recovered.ensures.sets honest)
+
+pub returns-in-Ok-pending_room-clause-damaged : goal.returns-in-Ok-pending_room-clause-damaged
+returns-in-Ok-pending_room-clause-damaged g c honest =
+    let at = c.in-Ok.ensures.settled in
+    subst (λ (x : Image). IfErr c.recovered.result (λ e. e.0 ≡ Damaged → (d : Content) → ¬ HasContent x d)) (reads_same g.D.Disk c.args.devices c.sync_all.new.devices at) (c.recovered.ensures.damaged honest)
+
+pub returns-in-Ok-pending_room-clause-full : goal.returns-in-Ok-pending_room-clause-full
+returns-in-Ok-pending_room-clause-full g c honest =
+    let at = c.in-Ok.ensures.settled in
+    subst (λ (x : Image). IfErr c.recovered.result (λ e. e.0 ≡ FullSets → HasFewSets c.args.caps.sets x)) (reads_same g.D.Disk c.args.devices c.sync_all.new.devices at) (c.recovered.ensures.full honest)
+
+pub returns-in-Ok-pending_room-clause-images : goal.returns-in-Ok-pending_room-clause-images
+returns-in-Ok-pending_room-clause-images g c honest =
+    let at = c.in-Ok.ensures.settled in
+    synced_first g.D.Disk c.args.devices c.sync_all.new.devices _ g.met.D.Disk.has_its_bytes c.sync_all.ensures.stay at (c.recovered.ensures.images honest)
