@@ -1,5 +1,7 @@
 //! What a line answers, as text.
 
+use crate::actions::Told;
+use crate::checkpoints::Opened;
 use crate::words::Halt;
 use hg_detect::detector::Answer;
 use hg_disk::Tear;
@@ -8,7 +10,8 @@ use hg_model::event::{Access, Block, Event, Named};
 use hg_model::report::Report;
 use hg_model::segment::Segment;
 use hg_model::verdict::Refusal;
-use hg_store::steps::StepResult;
+use hg_paged_store::steps::StorePhase;
+use hg_pool::Put;
 use hg_wire::lines::put_segment_line;
 use hg_wire::report::put_report_line;
 use itoa::Buffer;
@@ -130,14 +133,51 @@ fn put_offered(answer: Answer, out: &mut Text) {
     }
 }
 
-/// What a step was answered.
-pub fn put_result(answered: StepResult, out: &mut Text) {
-    match answered {
-        StepResult::Offered(Ok(answer)) => put_offered(answer, out),
-        StepResult::Offered(Err(refusal)) => put_refusal(refusal, out),
-        StepResult::Committed(Ok(count)) => put_number(count, out),
-        StepResult::Committed(Err(refusal)) => put_refusal(refusal, out),
+/// The name of a phase.
+pub fn put_phase_name(phase: StorePhase, out: &mut Text) {
+    match phase {
+        StorePhase::Idle => out.put(b"idle"),
+        StorePhase::Pending => out.put(b"pending"),
+        StorePhase::Flushing => out.put(b"flushing"),
+        StorePhase::Sealed => out.put(b"sealed"),
+        StorePhase::Prepared => out.put(b"prepared"),
+        StorePhase::Written => out.put(b"written"),
     }
+}
+
+fn put_wrong_phase(phase: StorePhase, out: &mut Text) {
+    out.put(b"wrong phase ");
+    put_phase_name(phase, out);
+}
+
+fn put_put(put: Put, out: &mut Text) {
+    match put {
+        Put::Written => out.put(b"written"),
+        Put::Stale => out.put(b"stale"),
+    }
+}
+
+/// What an action was answered.
+pub fn put_told(told: Told, out: &mut Text) {
+    match told {
+        Told::Offered(answer) => put_offered(answer, out),
+        Told::Committed(count) => put_number(count, out),
+        Told::Done => out.put(b"ok"),
+        Told::Page(page) => put_count(b"page ", page, out),
+        Told::NoneWaits => out.put(b"none"),
+        Told::Put(put) => put_put(put, out),
+        Told::Root(number) => put_count(b"root ", number, out),
+        Told::WrongPhase(phase) => put_wrong_phase(phase, out),
+        Told::Refused(refusal) => put_refusal(refusal, out),
+        Told::NoPage => out.put(b"no page"),
+    }
+}
+
+/// `root N, M pages`
+pub fn put_checkpoint(opened: Opened, out: &mut Text) {
+    put_count(b"root ", opened.root, out);
+    put_count(b", ", opened.pages, out);
+    out.put(b" pages");
 }
 
 fn put_pair(verb: &[u8], first: u16, second: u16, out: &mut Text) {

@@ -1,22 +1,26 @@
 //! What the lines of a scenario do with a store.
 
-use crate::answers::{Text, put_count, put_count_of_events, put_number, put_ok, put_result};
+use crate::actions::{Action, Desk, Told, note_and_make, told_of};
+use crate::answers::{
+    Text, put_checkpoint, put_count, put_count_of_events, put_number, put_ok, put_told,
+};
+use crate::checkpoints::{checkpoint, put_all};
 use crate::device::{Device, read_device};
 use crate::rows::put_events;
 use crate::running::{Progress, Run, stop_run};
 use crate::shelf::{Held, Image, NO_FUSES, Shelf};
 use crate::stops::{NO_PROGRESS, put_images, put_stops};
-use crate::stores::{Disks, OpenStore, Opening, open};
-use crate::tears::tear;
-use crate::telling::{put_durable, put_picture, put_told};
-use crate::words::{Halt, after, front, number};
+use crate::stores::{Disks, OpenStore, Opening, Room, USUAL_ROOM, open};
+use crate::tears::{Tears, tear};
+use crate::telling::{put_answer, put_durable, put_picture};
+use crate::words::{Halt, after, front, number, short_number};
 use hg_detect::detector::Answer;
 use hg_disk::Tear;
 use hg_model::event::Named;
-use hg_store::create::CreateFault;
-use hg_store::devices::{Caps, Devices};
-use hg_store::drive::StepAnswer;
-use hg_store::steps::{Step, StepResult};
+use hg_paged_store::create::CreateFault;
+use hg_paged_store::devices::{Caps, Devices};
+use hg_paged_store::drive::StepAnswer;
+use hg_paged_store::steps::Step;
 use std::alloc::{AllocError, Global};
 
 /// A store, if one is open, and its run so far.
@@ -25,8 +29,10 @@ pub struct Bench {
     run: Run,
     /// All that the store told as it was last remembered.
     remembered: Text,
-    /// The steps that are to be made at once.
-    steps: Vec<Step>,
+    /// What is to be done at once.
+    actions: Vec<Action>,
+    /// The page that is handed in next.
+    desk: Desk,
 }
 
 impl Drop for Bench {
@@ -35,24 +41,47 @@ impl Drop for Bench {
             opened: _,
             run: _,
             remembered: _,
-            steps: _,
+            actions: _,
+            desk: _,
         } = self;
     }
 }
 
-/// How many sets a table has where nothing is said.
-const SETS: u32 = 64;
-
-/// `sets N`, or nothing.
-fn sets(text: &str) -> Result<u32, Halt> {
-    if text.is_empty() {
-        return Ok(SETS);
-    }
-    let (value, _) = number(after("sets ", text)?)?;
+fn narrow(value: u64) -> Result<u32, Halt> {
     match u32::try_from(value) {
-        Ok(sets) => Ok(sets),
+        Ok(value) => Ok(value),
         Err(_) => Err(Halt::Words),
     }
+}
+
+/// Takes `frames N`, `sets N` or `slots N` in front into account, and gives what follows it.
+fn read_part<'a>(text: &'a str, room: &mut Room) -> Result<&'a str, Halt> {
+    let (word, rest) = front(text);
+    if word == "frames" {
+        let (frames, rest) = short_number(rest)?;
+        room.frames = frames;
+        return Ok(rest);
+    }
+    let (value, rest) = number(rest)?;
+    match word {
+        "sets" => room.sets = narrow(value)?,
+        "slots" => room.slots = narrow(value)?,
+        _ => return Err(Halt::Words),
+    }
+    Ok(rest)
+}
+
+/// `frames N`, `sets N` and `slots N`, those of them that are said, one behind the other.
+fn room_of(text: &str) -> Result<Room, Halt> {
+    let mut room = USUAL_ROOM;
+    let mut rest = text;
+    for _ in 0..text.len() {
+        if rest.is_empty() {
+            return Ok(room);
+        }
+        rest = read_part(rest, &mut room)?;
+    }
+    Ok(room)
 }
 
 /// Appends the answers of a run: of equal ones that follow each other their number, and one of them.
@@ -60,28 +89,56 @@ fn put_answers(answers: &[StepAnswer<Held>], out: &mut Text) {
     let [first, others @ ..] = answers else {
         return;
     };
-    let mut last = first.result;
+    let mut last = told_of(&first.result);
     let mut times = 1_u64;
     for answer in others {
-        if answer.result == last {
+        let next = told_of(&answer.result);
+        if next == last {
             times = times.wrapping_add(1);
         } else {
             put_times(times, last, out);
             out.put(b", ");
-            last = answer.result;
+            last = next;
             times = 1;
         }
     }
     put_times(times, last, out);
 }
 
-/// `RESULT`, or `N times RESULT`
-fn put_times(times: u64, answered: StepResult, out: &mut Text) {
+/// `ANSWER`, or `N times ANSWER`
+fn put_times(times: u64, told: Told, out: &mut Text) {
     if times > 1 {
         put_number(times, out);
         out.put(b" times ");
     }
-    put_result(answered, out);
+    put_told(told, out);
+}
+
+/// Actions as steps, those that hand in a page with the one that lies ready.
+fn steps_of(
+    alloc: Global,
+    actions: &[Action],
+    desk: &Desk,
+    out: &mut Text,
+) -> Result<Vec<Step>, Halt> {
+    let mut steps = Vec::new(alloc);
+    for action in actions {
+        match desk.step(alloc, *action)? {
+            Some(step) => put_step(step, &mut steps)?,
+            None => {
+                put_told(Told::NoPage, out);
+                return Err(Halt::Said);
+            }
+        }
+    }
+    Ok(steps)
+}
+
+fn put_step(step: Step, steps: &mut Vec<Step>) -> Result<(), Halt> {
+    match steps.push(step) {
+        Ok(()) => Ok(()),
+        Err(_) => Err(Halt::Memory),
+    }
 }
 
 /// Has the store make all steps at once.
@@ -99,15 +156,26 @@ fn drive(
     Ok(())
 }
 
-fn put_step(step: Step, steps: &mut Vec<Step>) -> Result<(), Halt> {
-    match steps.push(step) {
+fn put_action(action: Action, actions: &mut Vec<Action>) -> Result<(), Halt> {
+    match actions.push(action) {
         Ok(()) => Ok(()),
         Err(_) => Err(Halt::Memory),
     }
 }
 
-fn is_accepted(answered: StepResult) -> bool {
-    matches!(answered, StepResult::Offered(Ok(Answer::Accepted)))
+/// The action of a word that names no event.
+fn action_of(word: &str) -> Result<Action, Halt> {
+    match word {
+        "commit" => Ok(Action::Commit),
+        "freeze" => Ok(Action::Freeze),
+        "take" => Ok(Action::Take),
+        "put" => Ok(Action::Put),
+        "seal" => Ok(Action::Seal),
+        "prepare" => Ok(Action::Prepare),
+        "write-root" => Ok(Action::WriteRoot),
+        "open-root" => Ok(Action::OpenRoot),
+        _ => Err(Halt::Words),
+    }
 }
 
 /// Disks for what is opened next.
@@ -170,9 +238,9 @@ fn put_progress(progress: Progress, out: &mut Text) -> Result<(), Halt> {
 }
 
 /// What a recovery from the disks as they are finds. The run stays.
-fn find(alloc: Global, shelf: &Shelf, out: &mut Text) -> Result<(), Halt> {
+fn find(alloc: Global, shelf: &Shelf, room: Room, out: &mut Text) -> Result<(), Halt> {
     let disks = Disks::whole(alloc, &shelf.image)?;
-    match open(alloc, disks, Opening::Recover(SETS)) {
+    match open(alloc, disks, Opening::Recover(room)) {
         Ok(opened) => put_found(opened, out),
         Err((fault, disks)) => {
             drop(disks);
@@ -203,12 +271,13 @@ impl Bench {
             opened: None,
             run: Run {
                 start: Image::new(alloc),
-                opening: Opening::Create(1),
+                opening: Opening::Create(USUAL_ROOM),
                 base: 0,
-                steps: Vec::new(alloc),
+                actions: Vec::new(alloc),
             },
             remembered: Text::new(alloc),
-            steps: Vec::new(alloc),
+            actions: Vec::new(alloc),
+            desk: Desk::new(),
         }
     }
 
@@ -220,7 +289,8 @@ impl Bench {
     pub fn clear(&mut self) {
         self.put_opened(None);
         self.remembered.clear();
-        self.steps.clear();
+        self.actions.clear();
+        self.desk.clear();
     }
 
     /// Puts the disks of the store back, if one is open.
@@ -251,7 +321,8 @@ impl Bench {
         self.close(shelf)?;
         self.run.start.copy(&shelf.image)?;
         self.run.opening = opening;
-        self.run.steps.clear();
+        self.run.actions.clear();
+        self.desk.clear();
         let disks = take_disks(alloc, shelf)?;
         match open(alloc, disks, opening) {
             Ok(opened) => self.keep(opened, out),
@@ -267,7 +338,7 @@ impl Bench {
         if line == "unchanged" {
             return self.compare(alloc, opened, out);
         }
-        put_told(alloc, &opened.store, line, out)
+        put_answer(alloc, &opened.store, line, out)
     }
 
     fn compare(&self, alloc: Global, opened: &OpenStore, out: &mut Text) -> Result<(), Halt> {
@@ -298,36 +369,78 @@ impl Bench {
         put_durable(alloc, &mut opened.store, rest, out)
     }
 
-    fn drive(&mut self, alloc: Global, out: &mut Text) -> Result<(), Halt> {
+    /// Does all that was noted at once. Jobs that are taken meanwhile change nothing, and a run that is made again leaves them out.
+    fn drive_noted(&mut self, alloc: Global, out: &mut Text) -> Result<(), Halt> {
         let Some(opened) = &mut self.opened else {
             return Err(Halt::Closed);
         };
-        self.run.steps.extend_from_slice(&self.steps)?;
-        drive(alloc, opened, &self.steps, out)?;
-        self.steps.clear();
-        Ok(())
+        let steps = steps_of(alloc, &self.actions, &self.desk, out)?;
+        for action in self.actions.iter() {
+            if !matches!(action, Action::Take) {
+                put_action(*action, &mut self.run.actions)?;
+            }
+        }
+        drive(alloc, opened, &steps, out)
     }
 
-    fn step(&mut self, step: Step) -> Result<StepResult, Halt> {
-        put_step(step, &mut self.run.steps)?;
+    /// The same, and nothing is noted any more.
+    fn drive(&mut self, alloc: Global, out: &mut Text) -> Result<(), Halt> {
+        let driven = self.drive_noted(alloc, out);
+        self.actions.clear();
+        driven
+    }
+
+    /// Does what an action says, and notes it.
+    fn make(&mut self, alloc: Global, action: Action) -> Result<Told, Halt> {
+        let made = &mut self.run.actions;
         match &mut self.opened {
-            Some(opened) => Ok(opened.store.step(&step)),
+            Some(opened) => {
+                let store = &mut opened.store;
+                Ok(note_and_make(alloc, store, action, &mut self.desk, made))
+            }
             None => Err(Halt::Closed),
         }
     }
 
-    fn commit(&mut self, out: &mut Text) -> Result<(), Halt> {
-        let answered = self.step(Step::Commit)?;
-        put_result(answered, out);
+    /// A step that names no event.
+    fn step(&mut self, alloc: Global, word: &str, out: &mut Text) -> Result<(), Halt> {
+        let told = self.make(alloc, action_of(word)?)?;
+        put_told(told, out);
+        Ok(())
+    }
+
+    /// All steps of a checkpoint.
+    fn checkpoint(&mut self, alloc: Global, out: &mut Text) -> Result<(), Halt> {
+        let Some(opened) = &mut self.opened else {
+            return Err(Halt::Closed);
+        };
+        let made = &mut self.run.actions;
+        match checkpoint(alloc, &mut opened.store, &mut self.desk, made) {
+            Ok(done) => put_checkpoint(done, out),
+            Err(told) => put_told(told, out),
+        }
+        Ok(())
+    }
+
+    /// Hands in all pages that wait.
+    fn pages(&mut self, alloc: Global, out: &mut Text) -> Result<(), Halt> {
+        let Some(opened) = &mut self.opened else {
+            return Err(Halt::Closed);
+        };
+        let made = &mut self.run.actions;
+        match put_all(alloc, &mut opened.store, &mut self.desk, made) {
+            Ok(count) => put_number(count, out),
+            Err(told) => put_told(told, out),
+        }
         Ok(())
     }
 
     /// Offers events. The answer is `accepted`, or the first other one.
-    fn offer_all(&mut self, events: &[Named], out: &mut Text) -> Result<(), Halt> {
+    fn offer_all(&mut self, alloc: Global, events: &[Named], out: &mut Text) -> Result<(), Halt> {
         for event in events {
-            let answered = self.step(Step::Offer(*event))?;
-            if !is_accepted(answered) {
-                put_result(answered, out);
+            let told = self.make(alloc, Action::Offer(*event))?;
+            if told != Told::Offered(Answer::Accepted) {
+                put_told(told, out);
                 return Ok(());
             }
         }
@@ -338,16 +451,15 @@ impl Bench {
     fn offer(&mut self, alloc: Global, text: &str, out: &mut Text) -> Result<(), Halt> {
         let mut events = Vec::new(alloc);
         put_events(text, &mut events)?;
-        self.offer_all(&events, out)
+        self.offer_all(alloc, &events, out)
     }
 
-    /// Notes the steps of a line, to be made at once.
+    /// Notes what a line says, to be done at once.
     fn note(&mut self, alloc: Global, text: &str) -> Result<(), Halt> {
         let (word, rest) = front(text);
         match word {
             "offer" => self.note_offers(alloc, rest),
-            "commit" => put_step(Step::Commit, &mut self.steps),
-            _ => Err(Halt::Words),
+            _ => put_action(action_of(word)?, &mut self.actions),
         }
     }
 
@@ -355,22 +467,22 @@ impl Bench {
         let mut events = Vec::new(alloc);
         put_events(text, &mut events)?;
         for event in events.iter() {
-            put_step(Step::Offer(*event), &mut self.steps)?;
+            put_action(Action::Offer(*event), &mut self.actions)?;
         }
         Ok(())
     }
 
-    /// `DEVICE at K TEAR`: stops the run of the store after so many calls of a device, and leaves the image.
-    fn stop(
+    /// `K TEAR`: stops the run of the store after so many calls of a device, and leaves the image.
+    fn stop_one(
         &mut self,
         alloc: Global,
         shelf: &mut Shelf,
+        device: Device,
         text: &str,
         out: &mut Text,
     ) -> Result<(), Halt> {
-        let (device, rest) = read_device(text)?;
-        let (calls, rest) = number(after("at ", rest)?)?;
-        let (Some(tear), _) = tear(rest)? else {
+        let (calls, rest) = number(text)?;
+        let (Tears::One(tear), _) = tear(rest)? else {
             return Err(Halt::Words);
         };
         self.put_opened(None);
@@ -388,31 +500,52 @@ impl Bench {
         out: &mut Text,
     ) -> Result<(), Halt> {
         match word {
-            "store" => self.open(alloc, shelf, Opening::Create(sets(rest)?), out),
-            "recover" => self.open(alloc, shelf, Opening::Recover(sets(rest)?), out),
+            "store" => self.open(alloc, shelf, Opening::Create(room_of(rest)?), out),
+            "recover" => self.open(alloc, shelf, Opening::Recover(room_of(rest)?), out),
             "offer" => self.offer(alloc, rest, out),
-            "commit" => self.commit(out),
+            "pages" => self.pages(alloc, out),
+            "checkpoint" => self.checkpoint(alloc, out),
             "then" => {
                 self.note(alloc, rest)?;
                 put_ok(out)
             }
             "run" => self.drive(alloc, out),
-            _ => Err(Halt::Words),
+            _ => self.step(alloc, word, out),
         }
     }
 
-    /// `.. every device at each call TEARS`, or `DEVICE at K TEAR`
-    fn stop_or_all(
+    /// `each call TEARS`, or `K TEAR`, of a device, or of each one
+    fn stop_at(
         &mut self,
         alloc: Global,
         shelf: &mut Shelf,
-        rest: &str,
+        only: Option<Device>,
+        text: &str,
         out: &mut Text,
     ) -> Result<(), Halt> {
-        match rest.strip_prefix("every device at each call ") {
-            Some(tears) => put_stops(alloc, &self.run, tears, out),
-            None => self.stop(alloc, shelf, rest, out),
+        let text = after("at ", text)?;
+        if let Some(tears) = text.strip_prefix("each call ") {
+            return put_stops(alloc, &self.run, only, tears, out);
         }
+        match only {
+            Some(device) => self.stop_one(alloc, shelf, device, text, out),
+            None => Err(Halt::Words),
+        }
+    }
+
+    /// `every device at ..`, or `DEVICE at ..`
+    fn stop(
+        &mut self,
+        alloc: Global,
+        shelf: &mut Shelf,
+        text: &str,
+        out: &mut Text,
+    ) -> Result<(), Halt> {
+        if let Some(rest) = text.strip_prefix("every device ") {
+            return self.stop_at(alloc, shelf, None, rest, out);
+        }
+        let (device, rest) = read_device(text)?;
+        self.stop_at(alloc, shelf, Some(device), rest, out)
     }
 
     /// Does what a line asks for that looks at a store, or at what a stop leaves of it.
@@ -428,8 +561,8 @@ impl Bench {
             "expect" => self.tell(alloc, rest, out),
             "read" => self.read(alloc, rest, out),
             "remember" => self.remember(alloc, out),
-            "found" => find(alloc, shelf, out),
-            "stop" => self.stop_or_all(alloc, shelf, rest, out),
+            "found" => find(alloc, shelf, self.run.opening.room(), out),
+            "stop" => self.stop(alloc, shelf, rest, out),
             "profile" => put_profile(out),
             _ => Err(Halt::Words),
         }
@@ -445,10 +578,10 @@ impl Bench {
         out: &mut Text,
     ) -> Result<(), Halt> {
         match word {
-            "store" | "recover" | "offer" | "commit" | "then" | "run" => {
-                self.change(alloc, shelf, word, rest, out)
+            "expect" | "read" | "remember" | "found" | "stop" | "profile" => {
+                self.look(alloc, shelf, word, rest, out)
             }
-            _ => self.look(alloc, shelf, word, rest, out),
+            _ => self.change(alloc, shelf, word, rest, out),
         }
     }
 }

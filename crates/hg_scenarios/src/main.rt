@@ -1,8 +1,10 @@
 //! Runs scenarios of stores, logs, journals and gated files over disks in memory, and prints a line for each.
 #![tactic(auto)]
 
+mod actions;
 mod answers;
 mod bench;
+mod checkpoints;
 mod device;
 mod gates;
 mod journals;

@@ -1,26 +1,27 @@
 //! Runs of a store that are made again, and stopped.
 
-use crate::answers::{Text, put_count};
+use crate::actions::{Action, Desk, Told, make};
+use crate::answers::{Text, put_count, put_told};
+use crate::checkpoints::checkpoint;
 use crate::device::Device;
 use crate::rows::put_event;
 use crate::shelf::{Fuse, Held, Image, NO_FUSES};
 use crate::stores::{Disks, Memories, OpenStore, Opening, open};
-use crate::telling::put_picture;
+use crate::telling::put_contents;
 use crate::words::Halt;
 use hg_detect::detector::Answer;
 use hg_model::event::Named;
 use hg_model::verdict::Refusal;
-use hg_store::steps::{Step, StepResult};
-use hg_store::store::Store;
+use hg_paged_store::store::Store;
 use std::alloc::{AllocError, Global};
 
-/// How a store came to be, and its steps since then.
+/// How a store came to be, and what was done to it since then.
 pub struct Run {
     pub start: Image,
     pub opening: Opening,
     /// How many events it had as it was opened.
     pub base: u64,
-    pub steps: Vec<Step>,
+    pub actions: Vec<Action>,
 }
 
 impl Drop for Run {
@@ -29,7 +30,7 @@ impl Drop for Run {
             start: _,
             opening: _,
             base: _,
-            steps: _,
+            actions: _,
         } = self;
     }
 }
@@ -44,43 +45,54 @@ pub struct Progress {
     pub in_doubt: bool,
 }
 
-/// What a run that was never stopped has: the events that were accepted, and all that is told in the end.
+/// What a run that was never stopped has: the events that were accepted, and all that is told of them in the end.
 pub struct Reference {
     accepted: Vec<Named>,
-    picture: Text,
+    contents: Text,
 }
 
 impl Drop for Reference {
     fn drop(self) {
         let Reference {
             accepted: _,
-            picture: _,
+            contents: _,
         } = self;
     }
 }
 
-/// Counts a step in by its answer.
-fn count(progress: &mut Progress, answered: StepResult) {
-    match answered {
-        StepResult::Offered(Ok(Answer::Accepted)) => {
+/// Counts an action in by its answer.
+fn count(progress: &mut Progress, action: Action, told: Told) {
+    match (action, told) {
+        (_, Told::Offered(Answer::Accepted)) => {
             progress.accepted = progress.accepted.wrapping_add(1);
         }
-        StepResult::Committed(Ok(events)) => progress.acknowledged = events,
-        StepResult::Committed(Err(Refusal::DeviceFault)) => progress.in_doubt = true,
+        (_, Told::Committed(events)) => progress.acknowledged = events,
+        (Action::Commit, Told::Refused(Refusal::DeviceFault)) => progress.in_doubt = true,
         _ => {}
     }
 }
 
-fn count_all(store: &mut Store<Held>, steps: &[Step], progress: &mut Progress) {
-    for step in steps {
-        count(progress, store.step(step));
+/// Does what the actions say, up to the first that a device's fault ends: there the run stops.
+fn make_all(alloc: Global, store: &mut Store<Held>, actions: &[Action], progress: &mut Progress) {
+    let mut desk = Desk::new();
+    for action in actions {
+        let told = make(alloc, store, *action, &mut desk);
+        count(progress, *action, told);
+        if told == Told::Refused(Refusal::DeviceFault) {
+            return;
+        }
     }
 }
 
-/// Makes the steps, and takes the disks back.
-fn go_and_close(opened: OpenStore, steps: &[Step], progress: &mut Progress) -> Disks {
+/// Does what the actions say, and takes the disks back.
+fn go_and_close(
+    alloc: Global,
+    opened: OpenStore,
+    actions: &[Action],
+    progress: &mut Progress,
+) -> Disks {
     let mut opened = opened;
-    count_all(&mut opened.store, steps, progress);
+    make_all(alloc, &mut opened.store, actions, progress);
     opened.into_disks()
 }
 
@@ -104,46 +116,56 @@ pub fn stop_run(
     match open(alloc, disks, run.opening) {
         Ok(opened) => {
             progress.is_open = true;
-            Ok(go_and_close(opened, &run.steps, progress).into_memories())
+            Ok(go_and_close(alloc, opened, &run.actions, progress).into_memories())
         }
         Err((_, disks)) => Ok(disks.into_memories()),
     }
 }
 
-/// Makes the steps and a commit, and keeps the events that were accepted.
-fn follow(store: &mut Store<Held>, steps: &[Step], accepted: &mut Vec<Named>) -> Result<(), Halt> {
-    for step in steps {
-        match (step, store.step(step)) {
-            (Step::Offer(named), StepResult::Offered(Ok(Answer::Accepted))) => {
-                put_event(*named, accepted)?;
-            }
-            _ => {}
-        }
+/// Keeps the event of an action that accepted it.
+fn keep_accepted(action: Action, told: Told, accepted: &mut Vec<Named>) -> Result<(), Halt> {
+    match (action, told) {
+        (Action::Offer(named), Told::Offered(Answer::Accepted)) => put_event(named, accepted),
+        _ => Ok(()),
+    }
+}
+
+/// Does what the actions say and makes a commit, and keeps the events that were accepted.
+fn follow(
+    alloc: Global,
+    store: &mut Store<Held>,
+    actions: &[Action],
+    accepted: &mut Vec<Named>,
+) -> Result<(), Halt> {
+    let mut desk = Desk::new();
+    for action in actions {
+        let told = make(alloc, store, *action, &mut desk);
+        keep_accepted(*action, told, accepted)?;
     }
     store.commit()?;
     Ok(())
 }
 
-/// Makes the steps, and describes the store.
+/// Does what the actions say, and describes the store.
 fn describe(
     alloc: Global,
     store: &mut Store<Held>,
-    steps: &[Step],
+    actions: &[Action],
     reference: &mut Reference,
 ) -> Result<(), Halt> {
-    follow(store, steps, &mut reference.accepted)?;
-    put_picture(alloc, store, &mut reference.picture)
+    follow(alloc, store, actions, &mut reference.accepted)?;
+    put_contents(alloc, store, &mut reference.contents)
 }
 
 /// What the run has where it isn't stopped.
 pub fn reference_of(alloc: Global, run: &Run) -> Result<Reference, Halt> {
     let mut reference = Reference {
         accepted: Vec::new(alloc),
-        picture: Text::new(alloc),
+        contents: Text::new(alloc),
     };
     let disks = Disks::whole(alloc, &run.start)?;
     match open(alloc, disks, run.opening) {
-        Ok(mut opened) => match describe(alloc, &mut opened.store, &run.steps, &mut reference) {
+        Ok(mut opened) => match describe(alloc, &mut opened.store, &run.actions, &mut reference) {
             Ok(()) => Ok(reference),
             Err(_) => Err(Halt::Closed),
         },
@@ -180,6 +202,23 @@ fn offer_all(
     Ok(place)
 }
 
+/// Sees that a store tells what the run has that was never stopped.
+fn compare(
+    alloc: Global,
+    store: &Store<Held>,
+    reference: &Reference,
+    wrong: &[u8],
+    out: &mut Text,
+) -> Result<(), Halt> {
+    let mut contents = Text::new(alloc);
+    put_contents(alloc, store, &mut contents)?;
+    if contents.bytes() == reference.contents.bytes() {
+        return Ok(());
+    }
+    out.put(wrong);
+    Err(Halt::Said)
+}
+
 /// Goes on to the end of the run, and sees that the store then tells what it would have told without a stop.
 fn go_on(
     alloc: Global,
@@ -194,13 +233,21 @@ fn go_on(
     if committed != count {
         return Err(wrong_at(b"commits ", committed, out));
     }
-    let mut picture = Text::new(alloc);
-    put_picture(alloc, store, &mut picture)?;
-    if picture.bytes() != reference.picture.bytes() {
-        out.put(b"differs in the end");
-        return Err(Halt::Said);
+    compare(alloc, store, reference, b"differs in the end", out)
+}
+
+/// Makes a checkpoint.
+fn save(alloc: Global, store: &mut Store<Held>, out: &mut Text) -> Result<(), Halt> {
+    let mut desk = Desk::new();
+    let mut made = Vec::new(alloc);
+    match checkpoint(alloc, store, &mut desk, &mut made) {
+        Ok(_) => Ok(()),
+        Err(told) => {
+            out.put(b"a checkpoint answers ");
+            put_told(told, out);
+            Err(Halt::Said)
+        }
     }
-    Ok(())
 }
 
 /// How many events are found. They are the acknowledged ones or, where a commit is in doubt, the accepted ones.
@@ -228,7 +275,31 @@ fn find_and_go_on(
     Ok(found)
 }
 
-/// Recovers what a stop left, goes on to the end of the run, and tells how many events were found.
+/// Recovers what is synced of a store, and sees that it tells the same.
+fn recover_again(
+    alloc: Global,
+    opened: OpenStore,
+    opening: Opening,
+    reference: &Reference,
+    out: &mut Text,
+) -> Result<(), Halt> {
+    let mut image = Image::new(alloc);
+    image.take_synced(&opened.into_disks().into_memories())?;
+    let disks = Disks::whole(alloc, &image)?;
+    match open(alloc, disks, opening) {
+        Ok(opened) => {
+            let wrong = b"differs after a checkpoint";
+            compare(alloc, &opened.store, reference, wrong, out)
+        }
+        Err(_) => {
+            out.put(b"is not recovered after a checkpoint");
+            Err(Halt::Said)
+        }
+    }
+}
+
+/// Recovers what a stop left, goes on to the end of the run, makes a checkpoint and recovers what is synced then; and tells how many events
+/// were found.
 pub fn resume(
     alloc: Global,
     image: &Image,
@@ -237,11 +308,15 @@ pub fn resume(
     reference: &Reference,
     out: &mut Text,
 ) -> Result<u64, Halt> {
-    let (Opening::Create(sets) | Opening::Recover(sets)) = run.opening;
+    let opening = Opening::Recover(run.opening.room());
     let disks = Disks::whole(alloc, image)?;
-    match open(alloc, disks, Opening::Recover(sets)) {
+    match open(alloc, disks, opening) {
         Ok(mut opened) => {
-            find_and_go_on(alloc, &mut opened.store, run.base, progress, reference, out)
+            let store = &mut opened.store;
+            let found = find_and_go_on(alloc, store, run.base, progress, reference, out)?;
+            save(alloc, store, out)?;
+            recover_again(alloc, opened, opening, reference, out)?;
+            Ok(found)
         }
         Err(_) => {
             out.put(b"is not recovered");

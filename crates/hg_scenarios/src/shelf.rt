@@ -1,11 +1,12 @@
 //! What the disks of a scenario have while nothing is open over them.
 
 use crate::answers::{Text, put_bytes, put_number, put_ok};
-use crate::device::{Device, read_device};
-use crate::tears::tear;
+use crate::device::{DEVICES, Device, read_device};
+use crate::stores::Memories;
+use crate::tears::{Tears, tear};
 use crate::words::{Halt, after, number};
 use hg_disk::{FuseDisk, MemDisk, Tear};
-use hg_store::devices::Devices;
+use hg_paged_store::devices::Devices;
 use std::alloc::{AllocError, Global};
 
 /// A disk of a scenario.
@@ -72,6 +73,15 @@ impl Image {
         self.parts.root0.extend_from_slice(&other.parts.root0)?;
         self.parts.root1.extend_from_slice(&other.parts.root1)
     }
+
+    /// Has what is synced of disks.
+    pub fn take_synced(&mut self, disks: &Memories) -> Result<(), AllocError> {
+        for device in DEVICES {
+            let disk = device.of(&disks.devices);
+            copy_image(disk, Tear::Lost, device.of_mut(&mut self.parts))?;
+        }
+        Ok(())
+    }
 }
 
 /// The most bytes of a disk to start from.
@@ -134,6 +144,19 @@ fn put_back(
     copy_image(&disk, tear, bytes)
 }
 
+/// All bytes, or with `from N count M` those of them.
+fn put_part(bytes: &[u8], text: &str, out: &mut Text) -> Result<(), Halt> {
+    if text.is_empty() {
+        put_bytes(bytes, out);
+        return Ok(());
+    }
+    let (from, rest) = number(after("from ", text)?)?;
+    let (count, _) = number(after("count ", rest)?)?;
+    let behind = bytes.split_at(bytes.len().min(from as usize)).1;
+    put_bytes(behind.split_at(behind.len().min(count as usize)).0, out);
+    Ok(())
+}
+
 impl Shelf {
     /// Four disks without a byte.
     pub fn new(alloc: Global) -> Shelf {
@@ -189,10 +212,10 @@ impl Shelf {
 
     /// What a device that is closed has, or had: its bytes, how many, or how many calls.
     fn tell(&self, word: &str, rest: &str, out: &mut Text) -> Result<(), Halt> {
-        let (device, _) = read_device(rest)?;
+        let (device, rest) = read_device(rest)?;
         let bytes = device.of(&self.image.parts);
         match word {
-            "bytes" => put_bytes(bytes, out),
+            "bytes" => return put_part(bytes, rest, out),
             "length" => put_number(bytes.len() as u64, out),
             _ => put_number(*device.of(&self.calls), out),
         }
@@ -213,8 +236,8 @@ impl Shelf {
     pub fn tear_by(&mut self, text: &str) -> Result<(), Halt> {
         let (found, _) = tear(text)?;
         match found {
-            Some(found) => self.tear = found,
-            None => return Err(Halt::Words),
+            Tears::One(found) => self.tear = found,
+            Tears::Fronts(_) => return Err(Halt::Words),
         }
         Ok(())
     }

@@ -5,10 +5,10 @@ use crate::device::{DEVICES, Device};
 use crate::running::{Progress, Reference, Run, reference_of, resume, stop_run};
 use crate::shelf::Image;
 use crate::stores::{Memories, Opening};
-use crate::tears::tears_of;
+use crate::tears::{Tears, tears_of};
 use crate::words::Halt;
 use hg_disk::{Answer, Call, MemDisk, Tear};
-use hg_store::devices::Devices;
+use hg_paged_store::devices::Devices;
 use std::alloc::{AllocError, Global};
 
 /// How many stops were gone on from, and how often the commit that was under way was found.
@@ -134,11 +134,19 @@ fn try_tear(
     try_image(alloc, stop, tear, Tear::Lost, count, out)
 }
 
-/// Goes on from each front of what is not synced.
-fn try_fronts(alloc: Global, stop: &Stop, count: &mut Count, out: &mut Text) -> Result<(), Halt> {
+/// Goes on from each front of what is not synced whose length is a multiple of `step`.
+fn try_fronts(
+    alloc: Global,
+    stop: &Stop,
+    step: usize,
+    count: &mut Count,
+    out: &mut Text,
+) -> Result<(), Halt> {
     let (_, bytes) = since_sync(stop.device.of(stop.devices));
     for front in 0..bytes {
-        try_tear(alloc, stop, Tear::Front(front), count, out)?;
+        if front.checked_rem(step) == Some(0) {
+            try_tear(alloc, stop, Tear::Front(front), count, out)?;
+        }
     }
     Ok(())
 }
@@ -147,14 +155,14 @@ fn try_fronts(alloc: Global, stop: &Stop, count: &mut Count, out: &mut Text) -> 
 fn try_stop(
     alloc: Global,
     stop: &Stop,
-    tears: &[Option<Tear>],
+    tears: &[Tears],
     count: &mut Count,
     out: &mut Text,
 ) -> Result<(), Halt> {
     for tear in tears {
         match *tear {
-            Some(tear) => try_tear(alloc, stop, tear, count, out)?,
-            None => try_fronts(alloc, stop, count, out)?,
+            Tears::One(tear) => try_tear(alloc, stop, tear, count, out)?,
+            Tears::Fronts(step) => try_fronts(alloc, stop, step, count, out)?,
         }
     }
     Ok(())
@@ -167,7 +175,7 @@ fn try_call(
     reference: &Reference,
     device: Device,
     after: u64,
-    tears: &[Option<Tear>],
+    tears: &[Tears],
     count: &mut Count,
     out: &mut Text,
 ) -> Result<bool, Halt> {
@@ -198,7 +206,7 @@ fn try_device(
     run: &Run,
     reference: &Reference,
     device: Device,
-    tears: &[Option<Tear>],
+    tears: &[Tears],
     count: &mut Count,
     out: &mut Text,
 ) -> Result<(), Halt> {
@@ -210,10 +218,11 @@ fn try_device(
     Ok(())
 }
 
-/// Goes on from each stop of each device, for each of the tears that the words name.
+/// Goes on from each stop of a device, or of each one, for each of the tears that the words name.
 fn count_stops(
     alloc: Global,
     run: &Run,
+    only: Option<Device>,
     words: &str,
     count: &mut Count,
     out: &mut Text,
@@ -221,15 +230,30 @@ fn count_stops(
     let tears = tears_of(alloc, words)?;
     let reference = reference_of(alloc, run)?;
     for device in DEVICES {
-        try_device(alloc, run, &reference, device, &tears, count, out)?;
+        if is_meant(device, only) {
+            try_device(alloc, run, &reference, device, &tears, count, out)?;
+        }
     }
     Ok(())
 }
 
-/// Goes on from each stop of each device: `N ended alike, M of them ahead`.
-pub fn put_stops(alloc: Global, run: &Run, words: &str, out: &mut Text) -> Result<(), Halt> {
+fn is_meant(device: Device, only: Option<Device>) -> bool {
+    match only {
+        Some(only) => device as u8 == only as u8,
+        None => true,
+    }
+}
+
+/// Goes on from each stop of a device, or of each one: `N ended alike, M of them ahead`.
+pub fn put_stops(
+    alloc: Global,
+    run: &Run,
+    only: Option<Device>,
+    words: &str,
+    out: &mut Text,
+) -> Result<(), Halt> {
     let mut count = Count { stops: 0, ahead: 0 };
-    count_stops(alloc, run, words, &mut count, out)?;
+    count_stops(alloc, run, only, words, &mut count, out)?;
     out.clear();
     put_count(b"", count.stops, out);
     put_count(b" ended alike, ", count.ahead, out);

@@ -3,20 +3,46 @@
 //! A store has many parts, and each exit of a function that owns one lets all of them go. So the owners here have a `drop`
 //! of their own: what lets them go is one call.
 
-ghost use Rattle.std.specs.Prelude.{◌≡◌, ◌≤◌};
+ghost use Rattle.std.specs.Prelude.{◌≤◌};
 
 use crate::shelf::{Fuse, Held, Image, NO_FUSES, disk_with};
 use hg_disk::MemDisk;
-use hg_store::create::CreateFault;
-use hg_store::devices::{Caps, Devices};
-use hg_store::store::Store;
+use hg_paged_store::create::CreateFault;
+use hg_paged_store::devices::{Caps, Devices};
+use hg_paged_store::store::Store;
 use std::alloc::{AllocError, Global};
 
-/// How a store comes to be, with room for how many sets.
+/// How much a store may have.
+#[derive(Clone, Copy)]
+pub struct Room {
+    /// How many pages stand in memory at most.
+    pub frames: u16,
+    pub sets: u32,
+    pub slots: u32,
+}
+
+/// Where nothing else is said.
+pub const USUAL_ROOM: Room = Room {
+    frames: 16,
+    sets: 64,
+    slots: 1024,
+};
+
+/// How a store comes to be.
 #[derive(Clone, Copy)]
 pub enum Opening {
-    Create(u32),
-    Recover(u32),
+    Create(Room),
+    Recover(Room),
+}
+
+impl Opening {
+    /// How much the store may have.
+    pub fn room(self) -> Room {
+        match self {
+            Opening::Create(room) => room,
+            Opening::Recover(room) => room,
+        }
+    }
 }
 
 /// The disks of a store.
@@ -121,24 +147,31 @@ impl Disks {
     }
 }
 
-fn caps_of(sets: u32) -> Caps
-    ensures { (1 ≤ result.sets) × (result.sets ≤ 262144) × (result.slots ≡ 16) }
+fn caps_of(room: Room) -> Caps
+    ensures sets { (1 ≤ result.sets) × (result.sets ≤ 262144) }
+    ensures slots { (1 ≤ result.slots) × (result.slots ≤ 1048576) }
 {
     Caps {
-        sets: sets.clamp(1, 262_144),
-        slots: 16,
+        sets: room.sets.clamp(1, 262_144),
+        slots: room.slots.clamp(1, 1_048_576),
     }
 }
 
-fn create(alloc: Global, disks: Disks, sets: u32) -> Result<OpenStore, (CreateFault, Disks)> {
-    match Store::create(alloc, disks.into_devices(), 4, caps_of(sets)) {
+fn frames_of(room: Room) -> u16
+    ensures { (4 ≤ result) × (result ≤ 4096) }
+{
+    room.frames.clamp(4, 4096)
+}
+
+fn create(alloc: Global, disks: Disks, room: Room) -> Result<OpenStore, (CreateFault, Disks)> {
+    match Store::create(alloc, disks.into_devices(), frames_of(room), caps_of(room)) {
         Ok(store) => Ok(OpenStore { store }),
         Err((fault, devices)) => Err((fault, Disks { devices })),
     }
 }
 
-fn recover(alloc: Global, disks: Disks, sets: u32) -> Result<OpenStore, (CreateFault, Disks)> {
-    match Store::recover(alloc, disks.into_devices(), 4, caps_of(sets)) {
+fn recover(alloc: Global, disks: Disks, room: Room) -> Result<OpenStore, (CreateFault, Disks)> {
+    match Store::recover(alloc, disks.into_devices(), frames_of(room), caps_of(room)) {
         Ok(store) => Ok(OpenStore { store }),
         Err((refusal, devices)) => Err((CreateFault::Refused(refusal), Disks { devices })),
     }
@@ -151,7 +184,7 @@ pub fn open(
     opening: Opening,
 ) -> Result<OpenStore, (CreateFault, Disks)> {
     match opening {
-        Opening::Create(sets) => create(alloc, disks, sets),
-        Opening::Recover(sets) => recover(alloc, disks, sets),
+        Opening::Create(room) => create(alloc, disks, room),
+        Opening::Recover(room) => recover(alloc, disks, room),
     }
 }

@@ -4,28 +4,54 @@ use crate::words::{Halt, byte_of, front, number};
 use hg_disk::Tear;
 use std::alloc::Global;
 
-fn fill(text: &str) -> Result<(Option<Tear>, &str), Halt> {
-    let (digits, rest) = front(text);
-    Ok((Some(Tear::Fill(byte_of(digits)?)), rest))
+/// A tear, or many.
+#[derive(Clone, Copy)]
+pub enum Tears {
+    One(Tear),
+    /// Each front whose length is a multiple of this number.
+    Fronts(usize),
 }
 
-fn front_of(text: &str) -> Result<(Option<Tear>, &str), Halt> {
-    if let Some(rest) = text.strip_prefix("*") {
-        return Ok((None, rest.trim_start()));
-    }
+fn fill(text: &str) -> Result<(Tears, &str), Halt> {
+    let (digits, rest) = front(text);
+    Ok((Tears::One(Tear::Fill(byte_of(digits)?)), rest))
+}
+
+/// A count in front, and what follows it.
+fn count(text: &str) -> Result<(usize, &str), Halt> {
     let (count, rest) = number(text)?;
     match usize::try_from(count) {
-        Ok(count) => Ok((Some(Tear::Front(count)), rest)),
+        Ok(count) => Ok((count, rest)),
         Err(_) => Err(Halt::Words),
     }
 }
 
-/// A tear in front, and what follows it: `lost`, `kept`, `fill HH`, `front N`. It is none at `front *`, each front.
-pub fn tear(text: &str) -> Result<(Option<Tear>, &str), Halt> {
+fn fronts(text: &str) -> Result<(Tears, &str), Halt> {
+    let (step, rest) = count(text)?;
+    if step == 0 {
+        return Err(Halt::Words);
+    }
+    Ok((Tears::Fronts(step), rest))
+}
+
+fn front_of(text: &str) -> Result<(Tears, &str), Halt> {
+    if let Some(rest) = text.strip_prefix("*") {
+        return Ok((Tears::Fronts(1), rest.trim_start()));
+    }
+    if let Some(rest) = text.strip_prefix("every ") {
+        return fronts(rest);
+    }
+    let (length, rest) = count(text)?;
+    Ok((Tears::One(Tear::Front(length)), rest))
+}
+
+/// Tears in front, and what follows them: `lost`, `kept`, `fill HH`, `front N`; `front *` is each front, `front every N` those that
+/// have a multiple of N bytes.
+pub fn tear(text: &str) -> Result<(Tears, &str), Halt> {
     let (word, rest) = front(text);
     match word {
-        "lost" => Ok((Some(Tear::Lost), rest)),
-        "kept" => Ok((Some(Tear::Kept), rest)),
+        "lost" => Ok((Tears::One(Tear::Lost), rest)),
+        "kept" => Ok((Tears::One(Tear::Kept), rest)),
         "fill" => fill(rest),
         "front" => front_of(rest),
         _ => Err(Halt::Words),
@@ -33,7 +59,7 @@ pub fn tear(text: &str) -> Result<(Option<Tear>, &str), Halt> {
 }
 
 /// The tears that words name.
-pub fn tears_of(alloc: Global, words: &str) -> Result<Vec<Option<Tear>>, Halt> {
+pub fn tears_of(alloc: Global, words: &str) -> Result<Vec<Tears>, Halt> {
     let mut tears = Vec::new(alloc);
     let mut rest = words;
     for _ in 0..words.len() {

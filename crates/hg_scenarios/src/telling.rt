@@ -1,18 +1,16 @@
 //! What a store tells of itself, as lines.
 
-use crate::answers::{Text, put_count, put_named, put_number};
+use crate::answers::{Text, put_count, put_named, put_number, put_phase_name};
 use crate::shelf::Held;
 use crate::words::{Halt, front, number, short_number};
 use hg_model::verdict::Refusal;
-use hg_store::steps::Phase;
-use hg_store::store::Store;
+use hg_paged_store::store::Store;
 use std::alloc::Global;
 
 fn put_phase(store: &Store<Held>, out: &mut Text) -> Result<(), Halt> {
-    match store.phase()? {
-        Phase::Idle => out.put(b"phase idle"),
-        Phase::Pending => out.put(b"phase pending"),
-    }
+    let phase = store.phase()?;
+    out.put(b"phase ");
+    put_phase_name(phase, out);
     Ok(())
 }
 
@@ -56,7 +54,7 @@ fn segments_in(store: &Store<Held>) -> Result<u64, Refusal> {
 }
 
 /// The line that begins with these words.
-pub fn put_told(
+pub fn put_answer(
     alloc: Global,
     store: &Store<Held>,
     line: &str,
@@ -115,13 +113,18 @@ fn put_segments(store: &Store<Held>, out: &mut Text) -> Result<(), Halt> {
     Ok(())
 }
 
-/// Appends all that a store tells, with the last numbers of the sources 0 to 7.
-pub fn put_picture(alloc: Global, store: &Store<Held>, out: &mut Text) -> Result<(), Halt> {
+/// Appends what a store tells of its events, with the last numbers of the sources 0 to 7.
+pub fn put_contents(alloc: Global, store: &Store<Held>, out: &mut Text) -> Result<(), Halt> {
     put_number(store.events()?, out);
     put_count(b" ", store.durable()?, out);
     put_count(b" ", store.total()?, out);
-    put_phase(store, out)?;
     put_lasts(store, out)?;
     put_segments(store, out)?;
     put_races(alloc, store, out)
+}
+
+/// Appends all that a store tells: the same, and how far it is.
+pub fn put_picture(alloc: Global, store: &Store<Held>, out: &mut Text) -> Result<(), Halt> {
+    put_phase(store, out)?;
+    put_contents(alloc, store, out)
 }
