@@ -1,5 +1,5 @@
 -- The calls of a journal over those of its log.
-use Rattle.std.proofs.Common.{◌≡◌, ◌⊎◌, inl, inr, ◌≤◌, ℕ, List, [], ◌∷◌, ◌++◌, length, map, false, refl, sym, ◌∙◌, ap, subst, arith, append_assoc, length-append}
+use Rattle.std.proofs.Common.{◌≡◌, ◌⊎◌, inl, inr, ◌≤◌, ◌+◌, ℕ, zero, suc, List, [], ◌∷◌, ◌++◌, length, map, false, refl, sym, ◌∙◌, ap, subst, arith, append_assoc, length-append}
 use Rattle.std.proofs.lemmas.List.{append-nil}
 use Rattle.std.proofs.lemmas.Grind.{flat_map-append}
 use Rattle.std.specs.List.{AllByRecursion}
@@ -17,12 +17,26 @@ use Rattle.hg_gate.proofs.Appending.{each_image}
 use Rattle.hg_journal.specs.declared.journal.Journal.{Journal}
 use Rattle.hg_journal.specs.declared.journal.JournalReader.{JournalReader}
 use Rattle.hg_journal.specs.Journal.{IsJournal, batch_text, told_as}
-use Rattle.hg_journal.specs.Reading.{IsAt, Keeps, disk_of, is_broken, rest_of}
+use Rattle.hg_journal.specs.Reading.{IsAt, Keeps, Passes, disk_of, is_broken, rest_of}
 use Rattle.hg_journal.proofs.Journals.{Turned, bytes_of, events_of, events_push, fits_back, fits_join, front_of, no_journal, pushed, text_push, turned}
 
 body_within : (bodies : List (List ℕ)) (body : List ℕ) (later : List (List ℕ)) → AllByRecursion IsBody (bodies ++ body ∷ later) → IsBody body
 body_within [] body later each = each.0
 body_within (b ∷ bodies) body later each = body_within bodies body later each.1
+
+-- the events that were passed over
+passed_text : (count : ℕ) (first rest : List ℕ) → Passes count first rest → (more : List Named) × (length more ≡ count) × AllByRecursion RecordFits more × (first ≡ batch_text more ++ rest)
+passed_text zero first rest is = ([], refl, tt, sym is)
+passed_text (suc n) first rest is =
+    let p = passed_text n first is.0 is.1 in
+    let named = is.2 in
+    let begins = is.3 in (
+      p.0 ++ named ∷ [],
+      length-append p.0 (named ∷ []) ∙ ap (λ (k : ℕ). k + 1) p.1 ∙ omega arith,
+      fits_join p.0 (named ∷ []) p.2 (begins.0, tt),
+      p.3 ∙ ap (λ (l : List ℕ). batch_text p.0 ++ l) begins.1 ∙ sym (append_assoc (batch_text p.0) (record_text named) rest)
+          ∙ ap (λ (l : List ℕ). l ++ rest) (ap (λ (l : List ℕ). batch_text p.0 ++ l) (sym (append-nil (record_text named))) ∙ sym (flat_map-append record_text p.0 (named ∷ []))),
+    )
 
 module _ {D : Type 0} (g : disk.Ghosts D) where
   -- ---- what a journal keeps
@@ -146,6 +160,27 @@ module _ {D : Type 0} (g : disk.Ghosts D) where
       fits = fits_join seen (named ∷ []) h.fits (begins.0, tt);
       whole = ap (λ (l : List Named). l ++ named ∷ []) h.whole ∙ append_assoc (events_of h.past) h.read (named ∷ []);
     }
+
+    -- some events more
+    pub steps : (s : JournalReader) (count : ℕ) → Passes count (rest_of r) (rest_of s) → s.place ≡ r.place → (more : List Named) × (length more ≡ count) × IsAt old s (seen ++ more)
+    steps s count passes same =
+        let p = passed_text count (rest_of r) (rest_of s) passes in (
+          p.0,
+          p.1,
+          record {
+            past = h.past;
+            present = h.present;
+            later = h.later;
+            read = h.read ++ p.0;
+            has = h.has;
+            place = ap (λ q. q.at) same ∙ h.place;
+            one = h.one;
+            split = h.split ∙ ap (λ (l : List ℕ). batch_text h.read ++ l) p.3 ∙ sym (append_assoc (batch_text h.read) (batch_text p.0) (rest_of s))
+                ∙ ap (λ (l : List ℕ). l ++ rest_of s) (sym (flat_map-append record_text h.read p.0));
+            fits = fits_join seen p.0 h.fits p.2;
+            whole = ap (λ (l : List Named). l ++ p.0) h.whole ∙ append_assoc (events_of h.past) h.read p.0;
+          },
+        )
 
     -- no record where bytes are left: the bytes are none of a journal
     pub none_of : 1 ≤ length (rest_of r) → ((named : Named) (tail : List ℕ) → BeginsWith (rest_of r) named tail → ⊥) → (events : List Named) → IsJournal (g.state (disk_of old)).contents events → ⊥

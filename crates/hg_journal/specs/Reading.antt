@@ -1,9 +1,9 @@
 -- What a journal shows that can be used, and how far its events were read.
-use Rattle.std.specs.Prelude.{◌≡◌, ℕ, ◌≤◌, Bool, List, ◌++◌, length, drop, map, Result, Ok, Err}
+use Rattle.std.specs.Prelude.{◌≡◌, ℕ, zero, suc, ◌≤◌, Bool, List, ◌++◌, length, drop, map, Result, Ok, Err}
 use Rattle.std.specs.List.{flat_map, AllByRecursion}
 use Rattle.hg_model.specs.declared.event.Named.{Named}
 use Rattle.hg_model.specs.declared.verdict.Refusal.{Refusal}
-use Rattle.hg_records.specs.Records.{RecordFits}
+use Rattle.hg_records.specs.Records.{BeginsWith, RecordFits}
 use Rattle.hg_disk.specs.declared.disk.Disk as disk
 use Rattle.hg_gate.specs.Log as log
 use Rattle.hg_gate.specs.Log.{Has, IsBehind}
@@ -14,6 +14,11 @@ use Rattle.hg_journal.specs.Journal.{batch_text, after_refusal}
 -- the bytes of the present batch that were not read yet
 abbrev pub rest_of : JournalReader → List ℕ
 rest_of r = drop r.at r.body.items
+
+-- So many records lead from the first bytes to those behind them.
+abbrev pub Passes : ℕ → List ℕ → List ℕ → Type 0
+Passes zero first rest = rest ≡ first
+Passes (suc n) first rest = (mid : List ℕ) × Passes n first mid × (named : Named) × BeginsWith mid named rest
 
 module _ {D : Type 0} {g : disk.Ghosts D} where
   abbrev pub disk_of : Journal D g → D

@@ -1,6 +1,8 @@
 -- What a crash may leave of the devices of a store, from one moment to another.
-use Rattle.std.specs.Prelude.{◌≡◌, ◌+◌, ℕ, Some}
+use Rattle.std.specs.Prelude.{◌≡◌, ◌+◌, ℕ, List, [], ◌∷◌, Some}
+use Rattle.hg_model.specs.declared.event.Named.{Named}
 use Rattle.hg_model.specs.Contents.{Content}
+use Rattle.hg_model.specs.Change.{followed}
 use Rattle.hg_disk.specs.Moments.{GoesOn, MayLeave}
 use Rattle.hg_disk.specs.declared.disk.Disk as disk
 use Rattle.hg_root.specs.Checkpoints.{Checkpoint, HasCheckpoint}
@@ -62,3 +64,17 @@ module _ {D : Type 0} (g : disk.Ghosts D) where
     pub synced : Devices D
     pub before : EachImage g old synced (HasContentOfOne old)
     pub behind : EachImage g synced new (HasContentOfOne old)
+
+-- The image has the content after a front of the events that lead from the first content to the last.
+pub record IsOn (first last : Content) (image : Image) : Type 0 where
+  pub content : Content
+  pub has : HasContent image content
+  pub front : List Named
+  pub back : List Named
+  pub before : followed first front ≡ Some content
+  pub behind : followed content back ≡ Some last
+
+-- Between each two neighbours of these moments, the newest first, and from the newest one to now, each image has P.
+abbrev pub EachImageAlong : {D : Type 0} → disk.Ghosts D → (start : Devices D) → List (Devices D) → (now : Devices D) → (Image → Type 0) → Type 0
+EachImageAlong g start [] now P = EachImage g start now P
+EachImageAlong g start (mid ∷ earlier) now P = EachImage g mid now P × EachImageAlong g start earlier mid P

@@ -182,7 +182,7 @@ fn on_closed_roots<D: Disk>(
     requires unnamed { detector.words.root ≡ [] }
     requires content { content (live ⟦<D as Disk>⟧) detector ≡ empty_content }
     requires ready { IsTrue D.is_honest → IsReady ⟦<D as Disk>⟧ detector }
-    ensures fresh { IsTrue D.is_honest → IfOk result (λ store. IsFresh ⟦<D as Disk>⟧ store empty_content) }
+    ensures fresh { IfOk result (λ store. IsFresh ⟦<D as Disk>⟧ store empty_content) }
     ensures idle { IfOk result IsIdle }
     ensures detector { IfOk result (λ store. store.detector ≡ detector) }
     ensures bytes { IfOk result (λ store. read_of ⟦<D as Disk>⟧ store.devices ≡ record empty_image { slots = (D.state (pools.disk_of detector.words)).contents }) }
@@ -234,7 +234,7 @@ impl<D: Disk> Store<D> {
         requires frames { (4 ≤ frames) × (frames ≤ 4096) }
         requires sets { (1 ≤ caps.sets) × (caps.sets ≤ 262144) }
         requires slots { (1 ≤ caps.slots) × (caps.slots ≤ 1048576) }
-        ensures fresh { IsTrue D.is_honest → IfOk result (λ store. IsFresh ⟦<D as Disk>⟧ store empty_content) }
+        ensures fresh { IfOk result (λ store. IsFresh ⟦<D as Disk>⟧ store empty_content) }
         ensures idle { IfOk result IsIdle }
         ensures sets { IfOk result (λ store. store.detector.sets ≡ first_table caps.sets) }
         ensures bytes { IfOk result (λ store. read_of ⟦<D as Disk>⟧ store.devices ≡ empty_image) }

@@ -2,6 +2,7 @@
 
 ghost use Rattle.std.specs.Prelude.{◌≡◌, ◌≢◌, ◌⊎◌, ◌+◌, ◌-◌, ◌*◌, List, Ok, Err, length, take, drop, false, IsTrue, OnOk, IfOk, IfErr, cond};
 ghost use Rattle.hg_model.specs.declared.event.Named.{Named as NamedOf};
+ghost use Rattle.hg_model.specs.ThreadSets.{HasThreadSets};
 ghost use Rattle.hg_disk.specs.Calls.{CallsAtMost};
 ghost use Rattle.hg_journal.specs.Journal.{IsJournal, IsOfReading, failed_after};
 ghost use Rattle.hg_paged_store.specs.Images.{EachImage, failures_of, states_of};
@@ -24,6 +25,7 @@ impl<D: Disk> Store<D> {
     pub fn stands(&self)
         ensures backs { IsTrue D.is_honest → Backs ⟦<D as Disk>⟧ self.now }
         ensures count { IsTrue D.is_honest → (live ⟦<D as Disk>⟧ self.now).events ≡ self.now.durable + length self.now.pending }
+        ensures sets { IsTrue D.is_honest → HasThreadSets (live ⟦<D as Disk>⟧ self.now) }
     {
         let _ = &self.pending;
     }

@@ -70,7 +70,7 @@ fn follow<D: Disk>(detector: &mut Detector<Pool<D>>, named: &Named) -> Result<()
     }
 }
 
-/// Reads so many events.
+/// Passes over so many events.
 fn skip<D: Disk>(
     journal: &mut Journal<D>,
     reader: &mut JournalReader,
@@ -86,11 +86,13 @@ fn skip<D: Disk>(
     ensures state { D.state (disk_of journal.new) ≡ D.state (disk_of journal.old) }
     ensures any_moment { LeavesOnly ⟦<D as Disk>⟧ (disk_of journal.old) (disk_of journal.new) (IsImage (D.state (disk_of journal.old))) }
 {
-    for _number in 0..count {
-        match journal.next(reader)? {
-            Some(_named) => {}
-            None => return Err(Refusal::Damaged),
+    let mut left = count;
+    while left > 0 {
+        let passed = journal.pass(reader, left)?;
+        if passed == 0 {
+            return Err(Refusal::Damaged);
         }
+        left -= passed;
     }
     Ok(())
 }

@@ -1,1 +1,2 @@
 pub mod RecordLemmas
+mod Lengths

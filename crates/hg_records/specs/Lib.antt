@@ -1,3 +1,4 @@
 pub mod Records
 pub mod RecordReading
+pub mod Lengths
 pub mod Laws

@@ -5,6 +5,7 @@ ghost use Rattle.std.specs.Int.{w16, w64, to_be_bytes};
 ghost use Rattle.hg_model.specs.declared.event.Event.{Event as EventOf};
 ghost use Rattle.hg_model.specs.declared.event.Named.{Named as NamedOf};
 ghost use Rattle.hg_records.specs.Records.{AccessFits, BeginsWith, BeginsWithEvent, BlockFits, EventFits, PairFits, RecordFits, access_text, block_text, event_text, pair_text, record_text};
+ghost use Rattle.hg_records.specs.Lengths.{HasRecord, length_by_kind};
 ghost use Rattle.hg_records.specs.RecordReading.{Gives, access_at, block_at, byte_at, event_at, number_at, operands_at, record_at};
 
 use hg_model::event::{Access, Block, Event, Named};
@@ -145,6 +146,45 @@ pub fn read_record(bytes: &[u8]) -> Option<(Named, usize)>
         None => None,
         Some((named, rest)) => Some((named, bytes.len() - rest.len())),
     }
+}
+
+/// How many bytes a record has by its kind, 0 where there is no such kind.
+#[inline(always)]
+#[tactic(auto, unfolding(crate::specs::Lengths::length_by_kind))]
+fn len_of(kind: u8) -> usize
+    ensures { result ≡ length_by_kind kind }
+{
+    match kind {
+        1 => 15,
+        2 => 15,
+        3 => 15,
+        4 => 15,
+        5 => 15,
+        6 => 22,
+        7 => 22,
+        8 => 23,
+        9 => 23,
+        _ => 0,
+    }
+}
+
+/// How many bytes the record at the front of the bytes has. `None` says that the bytes begin with no record. It makes no event of them.
+#[inline]
+pub fn record_len(bytes: &[u8]) -> Option<usize>
+    ensures some { IfSome result (λ len. (1 ≤ len) × (len ≤ length bytes.now) × HasRecord bytes.now (drop len bytes.now)) }
+    ensures none { IfNone result ((n : NamedOf) (rest : List ℕ) → BeginsWith bytes.now n rest → ⊥) }
+{
+    if bytes.len() < 15 {
+        return None;
+    }
+    let len = len_of(bytes[10]);
+    if len == 0 {
+        return None;
+    }
+    if bytes.len() < len {
+        return None;
+    }
+    Some(len)
 }
 
 /// Reads the event at the front of the bytes, as a record has it after its name, and how many bytes it takes. `None` says

@@ -19,7 +19,7 @@ made-requires-clause-stands g c honest =
     (new_basis, new_based g.D.Disk c.in-Ok.journal c.args.detector c.new-checkpointer.result c.in-Ok.ensures.empty.0 c.requires.content stand c.new-checkpointer.ensures.number, c.requires.ready honest)
 
 pub returns-in-Ok-clause-fresh : goal.returns-in-Ok-clause-fresh
-returns-in-Ok-clause-fresh g c honest =
+returns-in-Ok-clause-fresh g c =
     let first : g.D.Disk.state c.close_roots.new.root0 ≡ settled (closed_gate ∷ []) = search rules in
     let second : g.D.Disk.state c.close_roots.new.root1 ≡ settled (closed_gate ∷ []) = search rules in
     let roots = c.of_closed-roots.ensures.stands (closed_gate ∷ []) (closed_gate ∷ []) first second closed_is_closed closed_is_closed in

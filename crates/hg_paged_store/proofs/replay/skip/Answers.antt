@@ -1,4 +1,4 @@
-use Rattle.std.proofs.Common.{rules, ◌≡◌, ◌+◌, ◌++◌, [], ◌∷◌, length, sym, ◌∙◌, subst, arith}
+use Rattle.std.proofs.Common.{rules, ◌≡◌, ◌≤◌, ◌+◌, ◌-◌, ◌++◌, [], ◌∷◌, length, sym, ◌∙◌, subst, arith}
 use Rattle.std.proofs.lemmas.List.{length-append}
 use Rattle.hg_disk.specs.State.{DiskState}
 use Rattle.hg_disk.proofs.Staying.{then}
@@ -9,32 +9,34 @@ use Rattle.hg_journal.proofs.Journals.{one_reading}
 use Rattle.hg_paged_store.proofs.Replaying.{too_few}
 use Rattle.hg_paged_store.proofs.replay.skip.Goals as goal
 
-pub returns-in_err-_named-clause-any_moment : goal.returns-in_err-_named-clause-any_moment
-returns-in_err-_named-clause-any_moment g c = then g.D.Disk (disk_of c.args.journal.now) (disk_of c.loop-number.journal) (disk_of c.next.new.self) c.loop-number.invariant.moments c.next.ensures.any_moment
+pub returns-in_err-passed-clause-any_moment : goal.returns-in_err-passed-clause-any_moment
+returns-in_err-passed-clause-any_moment g c = then g.D.Disk (disk_of c.args.journal.now) (disk_of c.loop-left.journal) (disk_of c.pass.new.self) c.loop-left.invariant.moments c.pass.ensures.any_moment
 
-pub returns-in-None-clause-any_moment : goal.returns-in-None-clause-any_moment
-returns-in-None-clause-any_moment g c = then g.D.Disk (disk_of c.args.journal.now) (disk_of c.loop-number.journal) (disk_of c.next.new.self) c.loop-number.invariant.moments c.next.ensures.any_moment
+pub returns-then-passed-eq0-clause-any_moment : goal.returns-then-passed-eq0-clause-any_moment
+returns-then-passed-eq0-clause-any_moment g c = then g.D.Disk (disk_of c.args.journal.now) (disk_of c.loop-left.journal) (disk_of c.pass.new.self) c.loop-left.invariant.moments c.pass.ensures.any_moment
 
-pub returns-in_err-_named-clause-damaged : goal.returns-in_err-_named-clause-damaged
-returns-in_err-_named-clause-damaged g c honest at told events is enough =
-    let read = c.loop-number.invariant.read honest at in
-    c.next.ensures.damaged read.0 honest read.2 (search rules) events (subst (λ (s : DiskState). IsJournal s.contents events) (sym c.loop-number.invariant.state) is)
+pub returns-in_err-passed-clause-damaged : goal.returns-in_err-passed-clause-damaged
+returns-in_err-passed-clause-damaged g c honest at told events is enough =
+    let read = c.loop-left.invariant.read honest at in
+    c.pass.ensures.damaged read.0 honest read.2 (search rules) events (subst (λ (s : DiskState). IsJournal s.contents events) (sym c.loop-left.invariant.state) is)
 
-pub returns-in-None-clause-damaged : goal.returns-in-None-clause-damaged
-returns-in-None-clause-damaged g c honest at told events is enough =
-    let read = c.loop-number.invariant.read honest at in
-    let keeps = rw c.in-None.is at (c.in_ok-_named.ensures.next read.0 honest read.2) in
+pub returns-then-passed-eq0-clause-damaged : goal.returns-then-passed-eq0-clause-damaged
+returns-then-passed-eq0-clause-damaged g c honest at told events is enough =
+    let read = c.loop-left.invariant.read honest at in
+    let keeps = c.in_ok-passed.ensures.at_end read.0 honest read.2 c.if-passed-eq0.true in
     let bytes = (g.D.Disk.state (disk_of c.args.journal.now)).contents in
-    let seen : IsJournal bytes read.0 = subst (λ (s : DiskState). IsJournal s.contents read.0) (c.next.ensures.state ∙ c.loop-number.invariant.state) (bytes_now g.D.Disk c.next.new.self read.0 keeps) in
-    too_few g.D.Disk read.0 events c.args.count (omega (arith, read.1, c.loop-number-test.true)) (one_reading bytes events read.0 is seen) enough
+    let seen : IsJournal bytes read.0 = subst (λ (s : DiskState). IsJournal s.contents read.0) (c.pass.ensures.state ∙ c.loop-left.invariant.state) (bytes_now g.D.Disk c.pass.new.self read.0 keeps) in
+    too_few g.D.Disk read.0 events c.args.count (omega (arith, read.1, c.loop-left-test.true)) (one_reading bytes events read.0 is seen) enough
 
-pub loop-number-preserved : goal.loop-number-preserved
-loop-number-preserved g c = record {
+pub loop-left-preserved : goal.loop-left-preserved
+loop-left-preserved g c = record {
   works = search rules;
-  state = c.next.ensures.state ∙ c.loop-number.invariant.state;
-  moments = then g.D.Disk (disk_of c.args.journal.now) (disk_of c.loop-number.journal) (disk_of c.next.new.self) c.loop-number.invariant.moments c.next.ensures.any_moment;
+  state = c.pass.ensures.state ∙ c.loop-left.invariant.state;
+  moments = then g.D.Disk (disk_of c.args.journal.now) (disk_of c.loop-left.journal) (disk_of c.pass.new.self) c.loop-left.invariant.moments c.pass.ensures.any_moment;
   failures = search rules;
+  few = search rules;
   read = λ honest at.
-      let read = c.loop-number.invariant.read honest at in
-      (read.0 ++ c.in-Some._named ∷ [], (let one : length (read.0 ++ c.in-Some._named ∷ []) ≡ c.loop-number._number + 1 = omega (arith, length-append read.0 (c.in-Some._named ∷ []), read.1) in one), rw c.in-Some.is at (c.in_ok-_named.ensures.next read.0 honest read.2));
+      let read = c.loop-left.invariant.read honest at in
+      let more = c.in_ok-passed.ensures.passed read.0 honest read.2 (omega (arith, c.if-passed-eq0.false)) in
+      (read.0 ++ more.0, (let sum : length (read.0 ++ more.0) + (c.loop-left.left - c.in_ok-passed.passed) ≡ c.args.count = omega (arith, length-append read.0 more.0, read.1, more.1, c.in_ok-passed.ensures.few) in sum), more.2);
 }
