@@ -1,4 +1,5 @@
 mod disk;
+mod journals;
 mod lines;
 mod records;
 mod roots;

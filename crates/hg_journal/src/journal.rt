@@ -1,5 +1,6 @@
 //! A journal: events on a disk, in batches, each of which is durable once it was appended.
-ghost use Rattle.std.specs.Prelude.{◌≡◌, ◌≢◌, ◌⊎◌, ◌+◌, ◌<◌, ◌≤◌, ◌++◌, ◌∷◌, [], ℕ, List, length, vec_capacity, IsTrue, IfOk, IfErr, IfSome, IfNone, OnOk, OnErr, IsErrOf, MatchBool, MatchOption, Err, false};
+ghost use Rattle.std.specs.Prelude.{◌≡◌, ◌≢◌, ◌⊎◌, ◌+◌, ◌<◌, ◌≤◌, ◌++◌, ◌∷◌, [], ℕ, List, length, vec_capacity};
+ghost use Rattle.std.specs.Prelude.{IsTrue, IfOk, IfErr, IfSome, IfNone, OnOk, OnErr, IsErrOf, MatchBool, MatchOption, Err, false};
 ghost use Rattle.std.specs.List.{AllByRecursion};
 ghost use Rattle.hg_model.specs.declared.event.Named.{Named as NamedOf};
 ghost use Rattle.hg_disk.specs.State.{IsImage, settled};
@@ -8,6 +9,7 @@ ghost use Rattle.hg_disk.specs.Moments.{Leaves, LeavesOnly};
 ghost use Rattle.hg_gate.specs.Batch.{vec_of};
 ghost use Rattle.hg_gate.specs.Batches.{IsBody, IsLog, closed_gate, header};
 ghost use Rattle.hg_records.specs.Records.{BeginsWith, RecordFits};
+ghost use Rattle.hg_records.specs.Lengths.{HasNoRecord};
 ghost use Rattle.hg_journal.specs.Journal.{IsBrokenOrDevice, IsJournal, IsOfReading, batch_text, failed_after, told_as};
 
 use hg_disk::Disk;
@@ -107,7 +109,7 @@ impl JournalReader {
     // Takes the record at the front of what is left of the present batch, if there is one.
     fn take(&mut self) -> Option<Named>
         ensures some { IfSome result (λ named. BeginsWith (rest_of self.old) named (rest_of self.new)) }
-        ensures none { IfNone result ((named : NamedOf) (rest : List ℕ) → BeginsWith (rest_of self.old) named rest → ⊥) }
+        ensures none { IfNone result (HasNoRecord (rest_of self.old)) }
         ensures place { self.new.place ≡ self.old.place }
         ensures stays { IfNone result (self.new ≡ self.old) }
     {
@@ -120,7 +122,7 @@ impl JournalReader {
     fn pass(&mut self, most: u64) -> u64
         ensures few { result ≤ most }
         ensures passed { Passes result (rest_of self.old) (rest_of self.new) }
-        ensures none { result < most → (named : NamedOf) (rest : List ℕ) → BeginsWith (rest_of self.new) named rest → ⊥ }
+        ensures none { result < most → HasNoRecord (rest_of self.new) }
         ensures place { self.new.place ≡ self.old.place }
     {
         let mut count = 0;
@@ -320,15 +322,17 @@ impl<D: Disk> Journal<D> {
         }
     }
 
-    /// Passes over events, of one batch, and answers how many: `most` of them, or as many as the present batch has left, or else the next one; none
-    /// behind the last event alone. It makes no events of their bytes, so it is much faster than `next`. After an `Err` it can be tried
-    /// again; `Damaged` says that the bytes are none of a journal. It makes two device calls at most, and takes memory for one batch alone.
+    /// Passes over events of one batch, and answers how many: `most` of them, or as many as the batch has left. Behind the
+    /// last event, and only there, it answers 0. It makes no events of their bytes, so it is much faster than `next`. After an
+    /// `Err` it can be tried again; `Damaged` says that the bytes are none of a journal. It makes two device calls at most, and
+    /// takes memory for one batch alone.
     pub fn pass(&mut self, reader: &mut JournalReader, most: u64) -> Result<u64, Refusal>
         requires some { 0 < most }
         ensures few { IfOk result (λ count. count ≤ most) }
         ensures passed { (seen : List NamedOf) → IsTrue D.is_honest → IsAt self.old reader.old seen
             → IfOk result (λ count. 1 ≤ count → (more : List NamedOf) × (length more ≡ count) × IsAt self.new reader.new (seen ++ more)) }
-        ensures at_end { (seen : List NamedOf) → IsTrue D.is_honest → IsAt self.old reader.old seen → IfOk result (λ count. count ≡ 0 → Keeps self.new seen) }
+        ensures at_end { (seen : List NamedOf) → IsTrue D.is_honest → IsAt self.old reader.old seen
+            → IfOk result (λ count. count ≡ 0 → Keeps self.new seen) }
         ensures damaged { (seen : List NamedOf) → IsTrue D.is_honest → IsAt self.old reader.old seen → IsErrOf result Refusal.Damaged
             → (events : List NamedOf) → ¬ IsJournal (D.state (disk_of self.old)).contents events }
 

@@ -7,6 +7,10 @@ use Rattle.hg_records.specs.Records.{BeginsWith}
 abbrev pub HasRecord : List ℕ → List ℕ → Type 0
 HasRecord bytes rest = (n : Named) × BeginsWith bytes n rest
 
+-- The bytes begin with no record.
+abbrev pub HasNoRecord : List ℕ → Type 0
+HasNoRecord bytes = (n : Named) (rest : List ℕ) → BeginsWith bytes n rest → ⊥
+
 -- the bytes of a record by the number of its kind, 0 where there is no such kind
 unfoldable pub length_by_kind : ℕ → ℕ
 length_by_kind kind =

@@ -3,9 +3,8 @@
 ghost use Rattle.std.specs.Prelude.{◌≡◌, ◌≤◌, ◌++◌, ◌+◌, ◌∷◌, List, ℕ, Some, length, drop, vec_capacity, IsOk, OnOk, OnErr, IfSome, IfNone};
 ghost use Rattle.std.specs.Int.{w16, w64, to_be_bytes};
 ghost use Rattle.hg_model.specs.declared.event.Event.{Event as EventOf};
-ghost use Rattle.hg_model.specs.declared.event.Named.{Named as NamedOf};
 ghost use Rattle.hg_records.specs.Records.{AccessFits, BeginsWith, BeginsWithEvent, BlockFits, EventFits, PairFits, RecordFits, access_text, block_text, event_text, pair_text, record_text};
-ghost use Rattle.hg_records.specs.Lengths.{HasRecord, length_by_kind};
+ghost use Rattle.hg_records.specs.Lengths.{HasNoRecord, HasRecord, length_by_kind};
 ghost use Rattle.hg_records.specs.RecordReading.{Gives, access_at, block_at, byte_at, event_at, number_at, operands_at, record_at};
 
 use hg_model::event::{Access, Block, Event, Named};
@@ -140,7 +139,7 @@ fn record_of(bytes: &[u8]) -> Option<(Named, &[u8])>
 /// `None` says that the bytes begin with no record. Takes no memory.
 pub fn read_record(bytes: &[u8]) -> Option<(Named, usize)>
     ensures read { IfSome result (λ r. (r.1 ≡ length (record_text r.0)) × BeginsWith bytes.now r.0 (drop r.1 bytes.now)) }
-    ensures none { IfNone result ((n : NamedOf) (rest : List ℕ) → BeginsWith bytes.now n rest → ⊥) }
+    ensures none { IfNone result (HasNoRecord bytes.now) }
 {
     match record_of(bytes) {
         None => None,
@@ -172,7 +171,7 @@ fn len_of(kind: u8) -> usize
 #[inline]
 pub fn record_len(bytes: &[u8]) -> Option<usize>
     ensures some { IfSome result (λ len. (1 ≤ len) × (len ≤ length bytes.now) × HasRecord bytes.now (drop len bytes.now)) }
-    ensures none { IfNone result ((n : NamedOf) (rest : List ℕ) → BeginsWith bytes.now n rest → ⊥) }
+    ensures none { IfNone result (HasNoRecord bytes.now) }
 {
     if bytes.len() < 15 {
         return None;

@@ -1,8 +1,11 @@
 use hg_model::event::{Access, Block, Event, Named};
-use hg_records::record::{put_record, read_record};
+use hg_records::record::{put_record, read_record, record_len};
 use std::alloc::{AllocError, Global};
 use std::process::Abort;
 use std::test::Fail;
+
+/// How many bytes a record has, by its kind.
+const LENGTHS: [usize; 10] = [0, 15, 15, 15, 15, 15, 22, 22, 23, 23];
 
 /// The record of `fork 0 1`, number 1 of source 3.
 const WORKED: [u8; 15] = [0, 3, 0, 0, 0, 0, 0, 0, 0, 1, 1, 0, 0, 0, 1];
@@ -26,6 +29,7 @@ fn puts_the_worked_record(rt: HostRuntime) -> Result<(), Fail> {
     put_record(&fork, &mut out)?;
     assert_eq!(rt; out.as_slice(), WORKED.as_slice());
     assert_eq!(rt; read_record(WORKED.as_slice()), Some((fork, 15)));
+    assert_eq!(rt; record_len(WORKED.as_slice()), Some(15));
     Ok(())
 }
 
@@ -44,12 +48,15 @@ fn expect_spelled(
     assert_eq!(rt; out.as_slice(), expected.as_slice());
     for len in 0..expected.len() {
         assert_eq!(rt; read_record(&expected.as_slice()[..len]), None);
+        assert_eq!(rt; record_len(&expected.as_slice()[..len]), None);
     }
+    assert_eq!(rt; record_len(expected.as_slice()), Some(expected.len()));
     out.extend_from_slice(b"more")?;
     assert_eq!(rt;
         read_record(out.as_slice()),
         Some((named(event), expected.len()))
     );
+    assert_eq!(rt; record_len(out.as_slice()), Some(expected.len()));
     Ok(())
 }
 
@@ -94,5 +101,7 @@ fn reads_no_other_kind(rt: HostRuntime) {
         bytes[10] = kind;
         let is_one = read_record(bytes.as_slice()).is_some();
         assert_eq!(rt; is_one, 1 <= kind && kind <= 9);
+        let len = record_len(bytes.as_slice()).unwrap_or(0);
+        assert_eq!(rt; len, LENGTHS.get(usize::from(kind)).copied().unwrap_or(0));
     }
 }
