@@ -10,7 +10,7 @@
  *   CALLS_INTERRUPT=N   each N-th read or write of a standard stream is interrupted, with EINTR, and does nothing
  *   CALLS_TICK=1        a signal comes each millisecond, and interrupts a call that waits
  *
- * Calls are counted from 1: open, mkdir, statx, flock, ftruncate, fsync, pread, pwrite, read, write.
+ * Calls are counted from 1: open, mkdir, unlink, statx, flock, ftruncate, fsync, pread, pwrite, read, write.
  */
 #define _GNU_SOURCE
 #include <dlfcn.h>
@@ -158,6 +158,13 @@ int mkdir(const char *path, mode_t mode)
 {
     int result = number("CALLS_READ_ONLY") ? (calls++, errno = EROFS, -1) : fails(0) ? -1 : REAL(mkdir)(path, mode);
     note("mkdir %s = %d", path, result);
+    return result;
+}
+
+int unlink(const char *path)
+{
+    int result = fails(0) ? -1 : REAL(unlink)(path);
+    note("unlink %s = %d", path, result);
     return result;
 }
 

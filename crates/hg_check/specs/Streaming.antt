@@ -9,7 +9,7 @@ use Rattle.hg_model.specs.Contents.{Content}
 use Rattle.hg_check.specs.declared.checker.Ending.{Ending}
 use Rattle.hg_check.specs.Written.{Took}
 use Rattle.hg_check.specs.Printing.{WroteFront, fault_text}
-use Rattle.hg_model.specs.declared.verdict.Refusal.TheVariants.{Damaged, FullSets, DeviceFault, OutOfMemory}
+use Rattle.hg_model.specs.declared.verdict.Refusal.TheVariants.{DeviceFault, OutOfMemory}
 
 -- A write or a flush failed.
 abbrev pub WriteFailed : List WriteCall → List WriteCall → Type 0
@@ -30,10 +30,6 @@ IsStreamFault r = (r ≡ OutOfMemory) ⊎ (r ≡ DeviceFault)
 -- the same of a call that only writes
 abbrev pub HasWriteCause : List WriteCall → List WriteCall → Refusal → Type 0
 HasWriteCause old new r = (r ≡ OutOfMemory) ⊎ ((r ≡ DeviceFault) × WriteFailed old new)
-
--- the refusals that end a command by a fault
-abbrev pub IsFault : Refusal → Type 0
-IsFault r = (r ≡ Damaged) ⊎ ((r ≡ FullSets) ⊎ ((r ≡ DeviceFault) ⊎ (r ≡ OutOfMemory)))
 
 -- The fault was told, or that failed too.
 abbrev pub IsTold : List WriteCall → List WriteCall → Refusal → Type 0

@@ -1,24 +1,27 @@
 -- A store that was fed a trace text.
-use Rattle.std.proofs.Common.{◌≡◌, ℕ, ◌+◌, ◌-◌, Bool, false, List, ◌++◌, IsTrue, codes, sym, ap, subst, ◌∙◌, inl, inr, arith}
-use Rattle.std.proofs.lemmas.Bool.{false≢true}
+use Rattle.std.proofs.Common.{◌≡◌, ℕ, ◌+◌, ◌-◌, Bool, true, false, List, ◌++◌, IsTrue, Option, Some, None, codes, sym, ap, subst, ◌∙◌, inl, inr, arith}
 use Rattle.std.proofs.lemmas.List.{append-nil}
 use Rattle.hg_streams.specs.declared.call.WriteCall.{WriteCall}
 use Rattle.hg_streams.specs.declared.call.ReadCall.{ReadCall}
 use Rattle.hg_check.specs.Printing.{Took}
 use Rattle.hg_model.specs.Contents.{Content}
-use Rattle.hg_detect.specs.declared.detector.Detector.{Detector}
-use Rattle.hg_detect.specs.declared.paged.PagedWords.{PagedWords}
+use Rattle.hg_sets.specs.Interning.{Table}
+use Rattle.hg_detect.specs.Shown as detect
 use Rattle.hg_disk.specs.declared.disk.Disk as disk
+use Rattle.hg_pool.specs.Maps as pools
+use Rattle.hg_pool.specs.Shown as pool
+use Rattle.hg_contents.specs.Choices.{Stands}
+use Rattle.hg_contents.specs.Images.{HasContent, Image}
+use Rattle.hg_contents.specs.Stores.{IsLeft}
 use Rattle.hg_store.specs.declared.devices.Devices.{Devices}
-use Rattle.hg_store.specs.Images.{HasContent, Image, IsLeft, failures_of, read_of}
-use Rattle.hg_store.specs.Recovering.{HasSets}
-use Rattle.hg_store.specs.Shown.{Shown}
-use Rattle.hg_detect.specs.Memory.{content_of}
-use Rattle.hg_store.specs.Store.{Backs, IsFresh, Stands}
+use Rattle.hg_store.specs.Images.{HasOpened, failures_of, read_of, states_of}
+use Rattle.hg_store.specs.Recovering.{HasTable}
+use Rattle.hg_store.specs.Shown.{Shown, live, saved}
+use Rattle.hg_store.specs.Store.{Backs, IsFresh}
 use Rattle.hg_check.specs.declared.checker.Ending.{Ending}
 use Rattle.hg_commands.specs.declared.feeding.Fed.{Fed}
-use Rattle.hg_commands.specs.Feeding.{ack_text, acks_text, feed_end_text, feed_text}
-use Rattle.hg_commands.specs.FeedRunning.{FeedDone, Feeds, GoesOn, IsBacked, IsPrinted, WasCommitted, WasFed, place}
+use Rattle.hg_commands.specs.Feeding.{ack_text, acks_text, checkpoint_text, feed_end_text, feed_text}
+use Rattle.hg_commands.specs.FeedRunning.{FeedDone, Feeds, GoesOn, IsPrinted, WasCheckpointed, WasCommitted, WasFed, WasMade, is_due, place}
 use Rattle.hg_commands.specs.Storing.{number_text}
 use Rattle.hg_streams.specs.Calls.{failed_writes}
 use Rattle.hg_commands.specs.Storing.{failed_calls}
@@ -28,58 +31,84 @@ use Rattle.hg_check.proofs.Printed.{appends_on, failed_on}
 pub took_intact : {text : List ℕ} (old new : List WriteCall) → Took old new text → failed_writes new ≡ failed_writes old
 took_intact old new t = ap failed_writes t.since ∙ omega (arith, failed_on t.later old, t.whole)
 
+-- an image that stands for one content
+stands_for_one : (durable live : Content) (doubt : Bool) (image : Image) → durable ≡ live → Stands durable live doubt image → HasContent image live
+stands_for_one durable live doubt image same (inl is) = subst (λ (c : Content). HasContent image c) same is
+stands_for_one durable live doubt image same (inr is) = is.1
+
 module _ {D : Type 0} (g : disk.Ghosts D) where
-  printed_in_all : (source : ℕ) (first last : Content) (accepted : ℕ) (end : Ending) (o q r v : List WriteCall) → last.events ≡ first.events + accepted
-      → Took o q (number_text (codes "resume ") (first.last source) ++ acks_text first.events accepted) → Took q r (ack_text last.events) → Took r v (feed_end_text last end)
-      → Took o v (feed_text source first last end)
-  printed_in_all source first last accepted end o q r v count a b d =
+  -- a checkpoint of one content
+  made_of_same : (b : Bool) (devices : Devices D) (c d : Content) (checkpoint : Option ℕ) → (IsTrue g.is_honest → d ≡ c) → WasMade g b devices c checkpoint → WasMade g b devices d checkpoint
+  made_of_same true devices c d (Some number) same made = λ honest. subst (λ (x : Content). HasOpened g devices number x) (sym (same honest)) (made honest)
+  made_of_same true devices c d None same made = made
+  made_of_same false devices c d checkpoint same made = made
+
+  feeds_to_same : (reads later : List ReadCall) (source : ℕ) (table : Table) (start c d : Content) (end : Ending) → (IsTrue g.is_honest → d ≡ c) → Feeds g reads later source table start c end → Feeds g reads later source table start d end
+  feeds_to_same reads later source table start c d end same f = record {
+    later = f.later;
+    since = f.since;
+    whole = f.whole;
+    needed = f.needed;
+    leads = λ honest. rw (same honest) (f.leads honest);
+  }
+
+  printed_in_all : (source : ℕ) (first last : Content) (accepted : ℕ) (checkpoint : Option ℕ) (end : Ending) (o q r v x : List WriteCall) → last.events ≡ first.events + accepted
+      → Took o q (number_text (codes "resume ") (first.last source) ++ acks_text first.events accepted) → Took q r (ack_text last.events) → Took r v (checkpoint_text checkpoint) → Took v x (feed_end_text last end)
+      → Took o x (feed_text source first last checkpoint end)
+  printed_in_all source first last accepted checkpoint end o q r v x count a b d e =
       let resume = number_text (codes "resume ") (first.last source) in
       let n : accepted ≡ last.events - first.events = omega (arith, count) in
-      subst (λ (k : ℕ). Took o v (((resume ++ acks_text first.events k) ++ ack_text last.events) ++ feed_end_text last end)) n
-      (appends_on o r v ((resume ++ acks_text first.events accepted) ++ ack_text last.events) (feed_end_text last end)
-      (appends_on o q r (resume ++ acks_text first.events accepted) (ack_text last.events) a b) d)
+      subst (λ (k : ℕ). Took o x ((((resume ++ acks_text first.events k) ++ ack_text last.events) ++ checkpoint_text checkpoint) ++ feed_end_text last end)) n
+      (appends_on o v x (((resume ++ acks_text first.events accepted) ++ ack_text last.events) ++ checkpoint_text checkpoint) (feed_end_text last end)
+      (appends_on o r v ((resume ++ acks_text first.events accepted) ++ ack_text last.events) (checkpoint_text checkpoint)
+      (appends_on o q r (resume ++ acks_text first.events accepted) (ack_text last.events) a b) d) e)
 
-  pub was_fed : (reads later : List ReadCall) (source : ℕ) (s t u : Shown D) (f i : Fed) (o p q r v : List WriteCall) (end : Ending) → f.accepted ≡ 0
-      → Took o p (number_text (codes "resume ") ((content_of s.detector).last source)) → GoesOn g (place s f p) (place t i q) → Feeds reads later source s.detector.sets (content_of s.detector) (content_of t.detector) end
-      → WasCommitted g t u → Took q r (ack_text (content_of t.detector).events) → Took r v (feed_end_text (content_of u.detector) end) → WasFed g reads later source s u o v end
-  was_fed reads later source s t u f i o p q r v end none resumed goes feeds committed acked ended =
-      let same : content_of u.detector ≡ content_of t.detector = ap (λ (d : Detector PagedWords). content_of d) committed.detector in
-      let resume = number_text (codes "resume ") ((content_of s.detector).last source) in
-      let start : IsPrinted o resume (content_of s.detector).events (place s f p) = record {
+  pub was_fed : (reads later : List ReadCall) (source : ℕ) (asked is_made : Bool) (s t u w : Shown D) (f i : Fed) (o p q r v x : List WriteCall) (end : Ending) → is_made ≡ is_due asked end → f.accepted ≡ 0
+      → Took o p (number_text (codes "resume ") ((live g s).last source)) → GoesOn g (place s f p) (place t i q) → Feeds g reads later source s.detector.sets (live g s) (live g t) end
+      → WasCommitted g t u → Took q r (ack_text (live g t).events) → WasCheckpointed g is_made u w r v → Took v x (feed_end_text (live g w) end) → (IsTrue g.is_honest → Backs g w) → WasFed g reads later source asked s w o x end
+  was_fed reads later source asked is_made s t u w f i o p q r v x end due none resumed goes feeds committed acked made ended backs =
+      let kept : live g u ≡ live g t = ap (λ (d : detect.Shown (pool.Shown D)). detect.content (pools.live g) d) committed.detector in
+      let same = λ (honest : IsTrue g.is_honest). made.live honest ∙ kept in
+      let resume = number_text (codes "resume ") ((live g s).last source) in
+      let start : IsPrinted g o resume (live g s).events (place s f p) = record {
         count = omega (arith, none);
-        printed = subst (λ (k : ℕ). Took o p (resume ++ acks_text (content_of s.detector).events k)) (sym none) (subst (λ (t : List ℕ). Took o p t) (sym (append-nil resume)) resumed);
+        printed = subst (λ (k : ℕ). Took o p (resume ++ acks_text (live g s).events k)) (sym none) (subst (λ (t : List ℕ). Took o p t) (sym (append-nil resume)) resumed);
       } in
-      let come = goes.printed o resume (content_of s.detector).events start in
       record {
-        feeds = subst (λ (c : Content). Feeds reads later source s.detector.sets (content_of s.detector) c end) (sym same) feeds;
-        printed = printed_in_all source (content_of s.detector) (content_of u.detector) i.accepted end o q r v (ap (λ (c : Content). c.events) same ∙ come.count) come.printed
-            (subst (λ (c : Content). Took q r (ack_text c.events)) (sym same) acked) ended;
-        failures = omega (arith, committed.failures, goes.failures, took_intact o p resumed, took_intact q r acked, took_intact r v ended);
-        works = committed.works;
-        backs = λ backed honest. subst (λ (c : Content). Backs g u c) (sym same) (committed.backs (goes.backed backed) honest);
+        checkpoint = made.checkpoint;
+        feeds = feeds_to_same reads later source s.detector.sets (live g s) (live g t) (live g w) end same feeds;
+        printed = λ honest.
+            let come = goes.printed honest o resume (live g s).events start in
+            printed_in_all source (live g s) (live g w) i.accepted made.checkpoint end o q r v x (ap (λ (c : Content). c.events) (same honest) ∙ come.count) come.printed
+            (subst (λ (c : Content). Took q r (ack_text c.events)) (sym (same honest)) acked) made.printed ended;
+        made = subst (λ (b : Bool). WasMade g b w.devices (live g w) made.checkpoint) due (made_of_same is_made w.devices (live g u) (live g w) made.checkpoint made.live made.made);
+        failures = omega (arith, made.failures, committed.failures, goes.failures, took_intact o p resumed, took_intact q r acked, took_intact r v made.printed, took_intact v x ended);
+        works = made.works;
+        durable = λ honest.
+            ap (λ (d : detect.Shown (pool.Shown D)). detect.content (pools.live g) d) (made.committed ∙ committed.committed) ∙ sym (same honest);
+        backs = backs;
       }
 
-  certain : (d live : Content) (broken : Bool) (image : Image) → broken ≡ false → Stands d live broken image → HasContent image d
-  certain d live broken image works (inl is) = is
-  certain d live broken image works (inr b) = absurd (false≢true (sym works ∙ b.0))
-
-  pub fresh_is_left : (s : Shown D) (c : Content) (new : Devices D) (image : Image) → IsFresh g s c → new ≡ s.devices → IsLeft g new image → HasContent image c
+  pub fresh_is_left : (s : Shown D) (c : Content) (new : Devices D) (image : Image) → IsFresh g s c → new ≡ s.devices → IsLeft (states_of g new) image → HasContent image c
   fresh_is_left s c new image fresh is left =
-      certain c (content_of s.detector) s.is_broken image fresh.works (fresh.backs.stands image (subst (λ (d : Devices D). IsLeft g d image) is left))
+      subst (λ (x : Content). HasContent image x) fresh.has
+      (stands_for_one (saved g s) (live g s) s.in_doubt image (fresh.durable ∙ sym fresh.has) (fresh.backs.stands image (subst (λ (d : Devices D). IsLeft (states_of g d) image) is left)))
 
-  pub feed_done : (reads later : List ReadCall) (source : ℕ) (old new : Devices D) (s u : Shown D) (o v : List WriteCall) (end : Ending)
-      → (IsTrue g.is_honest → (c : Content) × HasContent (read_of g old) c × IsFresh g s c) → (IsTrue g.is_honest → HasSets 262144 (g.state old.journal).contents (content_of s.detector) s.detector.sets) → failures_of g s.devices ≡ failures_of g old → WasFed g reads later source s u o v end → new ≡ u.devices
-      → FeedDone g reads later source old new o v end
-  feed_done reads later source old new s u o v end began sets failures was is = record {
+  pub feed_done : (reads later : List ReadCall) (source : ℕ) (asked : Bool) (old new : Devices D) (s u : Shown D) (o v : List WriteCall) (end : Ending)
+      → (IsTrue g.is_honest → (c : Content) × HasContent (read_of g old) c × IsFresh g s c) → (IsTrue g.is_honest → HasTable 262144 (read_of g old) (live g s) s.detector.sets) → failures_of g s.devices ≡ failures_of g old
+      → WasFed g reads later source asked s u o v end → new ≡ u.devices → FeedDone g reads later source asked old new o v end
+  feed_done reads later source asked old new s u o v end began sets failures was is = record {
     table = s.detector.sets;
-    first = content_of s.detector;
-    last = content_of u.detector;
+    first = live g s;
+    last = live g u;
+    checkpoint = was.checkpoint;
     feeds = was.feeds;
     printed = was.printed;
+    made = subst (λ (d : Devices D). WasMade g (is_due asked end) d (live g u) was.checkpoint) (sym is) was.made;
     failures = ap (λ (d : Devices D). failed_calls g d v) is ∙ (was.failures ∙ ap (λ (n : ℕ). n + failed_writes o) failures);
-    began = λ honest. (subst (λ (c : Content). HasContent (read_of g old) c) (sym (began honest).2.has) (began honest).1, sets honest);
+    began = λ honest.
+        let b = began honest in
+        (subst (λ (c : Content). HasContent (read_of g old) c) (sym b.2.has) b.1, sets honest);
     ended = λ honest image left.
-        let backed : IsBacked g s = λ h. ((began h).0, (began h).2.backs) in
-        certain (content_of u.detector) (content_of u.detector) u.is_broken image was.works
-        ((was.backs backed honest).stands image (subst (λ (d : Devices D). IsLeft g d image) is left));
+        stands_for_one (saved g u) (live g u) u.in_doubt image (was.durable honest) ((was.backs honest).stands image (subst (λ (d : Devices D). IsLeft (states_of g d) image) is left));
   }

@@ -1,5 +1,5 @@
 -- One line of a trace text that is fed to a store.
-use Rattle.std.proofs.Common.{◌≡◌, ◌⊎◌, ℕ, suc, ◌+◌, ◌-◌, ◌%◌, ◌<◌, ◌≤◌, Bool, true, false, cond, nat_eq, List, [], ◌∷◌, ◌++◌, length, Option, Some, None, Result, Ok, Err, refl, sym, ap, ◌∙◌, subst, inl, inr, ⊎_elim, arith, if◌then◌else◌}
+use Rattle.std.proofs.Common.{◌≡◌, ◌⊎◌, ℕ, suc, ◌+◌, ◌-◌, ◌%◌, ◌<◌, ◌≤◌, Bool, true, false, cond, nat_eq, List, [], ◌∷◌, ◌++◌, length, IsTrue, IfErr, Option, Some, None, Result, Ok, Err, refl, sym, ap, ◌∙◌, subst, inl, inr, ⊎_elim, arith, if◌then◌else◌}
 use Rattle.std.proofs.lemmas.Bool.{lt-leb}
 use Rattle.std.proofs.lemmas.List.{append-nil, append_assoc}
 use Rattle.hg_streams.specs.declared.call.WriteCall.{WriteCall}
@@ -15,27 +15,26 @@ use Rattle.hg_model.specs.Contents.{Content}
 use Rattle.hg_model.specs.Change.{after, followed, is_accept}
 use Rattle.hg_model.specs.Verdicts.{standing_of, verdict}
 use Rattle.hg_sets.specs.Interning.{Table}
-use Rattle.hg_sets.specs.declared.fault.SetFault.TheVariants.{Full}
 use Rattle.hg_detect.specs.Making.{Asks, sets_asked}
 use Rattle.hg_detect.specs.declared.detector.Answer.{Answer}
 use Rattle.hg_detect.specs.declared.detector.Answer.TheVariants as answer
-use Rattle.hg_detect.specs.declared.detector.Detector.{Detector}
-use Rattle.hg_detect.specs.declared.paged.PagedWords.{PagedWords}
+use Rattle.hg_detect.specs.Making.{AsksBy}
+use Rattle.hg_detect.specs.Shown as detect
 use Rattle.hg_disk.specs.declared.disk.Disk as disk
-use Rattle.hg_store.specs.declared.devices.Devices.{Devices}
-use Rattle.hg_store.specs.Offers.{ByVerdict, if_accepted}
-use Rattle.hg_store.specs.Shown.{Shown}
-use Rattle.hg_store.specs.Store.{Backs}
-use Rattle.hg_detect.specs.Memory.{content_of}
+use Rattle.hg_pool.specs.Maps as pools
+use Rattle.hg_pool.specs.OfWords.{MayRefuse}
+use Rattle.hg_pool.specs.Shown as pool
+use Rattle.hg_store.specs.Shown.{Shown, live}
+use Rattle.hg_store.specs.Steps.{ByVerdict, IsOfRoom, IsTaken, if_accepted}
 use Rattle.hg_wire.specs.declared.line.LineFault.{LineFault}
 use Rattle.hg_wire.specs.declared.reader.Reading.{Reading}
 use Rattle.hg_check.specs.declared.checker.Ending.{Ending}
 use Rattle.hg_check.specs.declared.checker.Ending.TheVariants.{Refused, Bad}
 use Rattle.hg_commands.specs.declared.feeding.Fed.{Fed}
-use Rattle.hg_commands.specs.Feeding.{Answers, FeedsTo, IsOffered, ack_text, acks_text, sent}
-use Rattle.hg_commands.specs.Storing.{failed_calls}
-use Rattle.hg_commands.specs.FeedRunning.{BreaksAt, EndsAt, GoesOn, IsBacked, IsPrinted, IsReady, Passes, Place, WasCounted, WasSent, content_at, place, table_at}
-use Rattle.hg_check.specs.Running.{Stops}
+use Rattle.hg_commands.specs.Feeding.{Answers, FeedsTo, HasRoom, IsOffered, ack_text, acks_text, sent}
+use Rattle.hg_commands.specs.Storing.{IsFeedFault, failed_calls}
+use Rattle.hg_commands.specs.FeedRunning.{BreaksAt, EndsAt, EndsLine, GoesOn, IsEventFault, IsPrinted, IsReady, Passes, Place, WasCounted, WasSent, content_at, place, table_at}
+use Rattle.hg_streams.specs.Told.{told, told_refusal}
 use Rattle.hg_check.proofs.Printed.{appends_on, front_more}
 use Rattle.hg_check.specs.Written.{TookFront}
 use Rattle.hg_commands.specs.Printed.{IsPrintedNow}
@@ -57,8 +56,8 @@ one_of_two : {A B C : Type 0} (b : Bool) → cond b A B → (A → C) → (B →
 one_of_two true h left right = left h
 one_of_two false h left right = right h
 
-never_full : (pending : ℕ) (r : Result Answer Refusal) → pending < 1024 → ByVerdict Accept pending r → (r ≡ Ok answer.Accepted) ⊎ ((r ≡ Err refusal.FullSets) ⊎ (r ≡ Err refusal.OutOfMemory))
-never_full pending r few h = subst (λ b. cond b (r ≡ Err refusal.FullPending) ((r ≡ Ok answer.Accepted) ⊎ ((r ≡ Err refusal.FullSets) ⊎ (r ≡ Err refusal.OutOfMemory)))) (lt-leb 1024 pending few) h
+never_full : (pending : ℕ) (r : Result Answer Refusal) → pending < 1024 → ByVerdict Accept pending r → (r ≡ Ok answer.Accepted) ⊎ ((x : Refusal) × (r ≡ Err x) × IsOfRoom x)
+never_full pending r few h = subst (λ b. cond b (r ≡ Err refusal.FullPending) ((r ≡ Ok answer.Accepted) ⊎ ((x : Refusal) × (r ≡ Err x) × IsOfRoom x))) (lt-leb 1024 pending few) h
 
 -- one accepted event is followed by the content after it
 one_after : (v : Verdict) (c d e : Content) → v ≡ Accept → option_and_then (λ x. Some x) (if is_accept v then Some e else None) ≡ Some d → d ≡ e
@@ -85,175 +84,233 @@ feeds_same later last end s t v w c d k l source table content number h =
     (subst (λ (x : ℕ). FeedsTo s later v c x last end) number h)))
 
 -- what an accepted event led to is what is led to from behind it
-accepted_back : (t new : Table) (c last : Content) (n : Named) (line : ℕ) (later : Table → Content → Type 0) (end : Ending) → Asks t (sets_asked c n.event) None new
+accepted_back : (t new : Table) (c last : Content) (n : Named) (line : ℕ) (later : Table → Content → Type 0) (end : Ending) → HasRoom end → Asks t (sets_asked c n.event) None new
     → Answers Accept t c n line later last end → later new (after c n)
-accepted_back t new c last n line later end sets h =
+accepted_back t new c last n line later end space sets h =
     ⊎_elim
-    (λ went. subst (λ (u : Table). later u (after c n)) (asks_same (sets_asked c n.event) t h.0 new went.0 sets) went.1)
-    (λ full. absurd (asks_not_both (sets_asked c n.event) t new h.0 sets full.0))
-    h.1
+    (λ room. ⊎_elim
+    (λ went. subst (λ (u : Table). later u (after c n)) (asks_same (sets_asked c n.event) t room.0 new went.0 sets) went.1)
+    (λ full. absurd (asks_not_both (sets_asked c n.event) t new room.0 sets full.0))
+    room.1)
+    (λ none. absurd (space line none.1))
+    h
 
 -- an event that was offered and accepted, and counted
 
-record IsAfter {D : Type 0} (old new : Place D) (n : Named) : Type 0 where
-  accept : verdict (standing_of (content_at old)) n ≡ Accept
-  content : content_at new ≡ after (content_at old) n
-  sets : Asks (table_at old) (sets_asked (content_at old) n.event) None (table_at new)
-  source : new.fed.source ≡ old.fed.source
-  number : new.fed.number ≡ old.fed.number + 1
-  accepted : new.fed.accepted ≡ old.fed.accepted + 1
+record IsAfter {D : Type 0} (g : disk.Ghosts D) (old new : Place D) (n : Named) : Type 0 where
+  accept : verdict (standing_of (content_at g old)) n ≡ Accept
+  content : content_at g new ≡ after (content_at g old) n
+  sets : Asks (table_at old) (sets_asked (content_at g old) n.event) None (table_at new)
+
+-- a refusal that ends feeding by a fault is one of the few
+pub fault_is_told : (line : ℕ) (r : Refusal) (given : Result (Option Ending) Refusal) → EndsLine line r given → IfErr given IsFeedFault
+fault_is_told line r given stops =
+    ⊎_elim
+    (λ fault. subst (λ x. IfErr x IsFeedFault) (sym fault.1) (as_feed_fault r fault.0))
+    (λ other. subst (λ x. IfErr x IsFeedFault) (sym other.1) tt)
+    stops
+  where
+    as_feed_fault : (r : Refusal) → IsEventFault r → IsFeedFault r
+    as_feed_fault r fault =
+        ⊎_elim
+        (λ memory. inl (inl memory))
+        (λ more. ⊎_elim
+        (λ device. inl (inr device))
+        (λ rest. ⊎_elim (λ damaged. inr (inl damaged)) (λ broken. inr (inr (inl broken))) rest)
+        more)
+        fault
 
 module _ {D : Type 0} (g : disk.Ghosts D) where
-  backed_by : (s m : Shown D) → ((d : Content) → Backs g s d → Backs g m d) → IsBacked g s → IsBacked g m
-  backed_by s m backs h = λ honest. ((h honest).0, backs (h honest).0 (h honest).1)
+  -- what was counted, whatever the content is
+  record IsCountedOn (f j : Fed) : Type 0 where
+    source : j.source ≡ f.source
+    number : j.number ≡ f.number + 1
+    accepted : j.accepted ≡ f.accepted + 1
 
-  is_after : (s m t : Shown D) (f i j : Fed) (e : Event) (o p : List WriteCall) → IsReady s f → WasSent g s m f i e (Ok answer.Accepted) → WasCounted g (place m i o) (place t j p)
-      → IsAfter (place s f o) (place t j p) (sent f.source f.number e)
-  is_after s m t f i j e o p ready was counted =
-      let c = content_of s.detector in
+  counted_on : (s m t : Shown D) (f i j : Fed) (e : Event) (o p : List WriteCall) (r : Result Answer Refusal) → WasSent g s m f i e r → WasCounted g (place m i o) (place t j p) → IsCountedOn f j
+  counted_on s m t f i j e o p r was counted = record {
+    source = ap (λ (x : Fed). x.source) counted.fed ∙ ap (λ (x : Fed). x.source) was.fed;
+    number = ap (λ (x : Fed). x.number) counted.fed ∙ ap (λ (x : Fed). x.number) was.fed;
+    accepted = ap (λ (x : Fed). x.accepted) counted.fed ∙ ap (λ (x : Fed). x.accepted + 1) was.fed;
+  }
+
+  is_after : IsTrue g.is_honest → (s m t : Shown D) (f i j : Fed) (e : Event) (o p : List WriteCall) → IsReady s f → length s.pending < 1024 → WasSent g s m f i e (Ok answer.Accepted) → WasCounted g (place m i o) (place t j p)
+      → IsAfter g (place s f o) (place t j p) (sent f.source f.number e)
+  is_after honest s m t f i j e o p ready few was counted =
+      let c = live g s in
       let n = sent f.source f.number e in
       let accept = accepted_verdict (verdict (standing_of c) n) (length s.pending) (by_verdict s.is_broken (verdict (standing_of c) n) (length s.pending) (Ok answer.Accepted) ready.works was.done.answer) in
+      let taken : IsTaken g s n = record { works = ready.works; accepted = accept; room = few } in
       record {
         accept = accept;
-        content = ap (λ (d : Detector PagedWords). content_of d) counted.detector ∙ one_after (verdict (standing_of c) n) c (content_of m.detector) (after c n) accept was.done.live;
-        sets = subst (λ (d : Detector PagedWords). Asks s.detector.sets (sets_asked c e) None d.sets) (sym counted.detector) (was.done.table.accepted refl);
-        source = ap (λ (x : Fed). x.source) counted.fed ∙ ap (λ (x : Fed). x.source) was.fed;
-        number = ap (λ (x : Fed). x.number) counted.fed ∙ ap (λ (x : Fed). x.number) was.fed;
-        accepted = ap (λ (x : Fed). x.accepted) counted.fed ∙ ap (λ (x : Fed). x.accepted + 1) was.fed;
+        content = ap (λ (d : detect.Shown (pool.Shown D)). detect.content (pools.live g) d) counted.detector ∙ one_after (verdict (standing_of c) n) c (live g m) (after c n) accept (was.content honest).leads;
+        sets = subst (λ (d : detect.Shown (pool.Shown D)). Asks s.detector.sets (sets_asked c e) None d.sets) (sym counted.detector) ((was.content honest).sets taken);
       }
 
-  prints_on : (s m t : Shown D) (f i j : Fed) (e : Event) (o p : List WriteCall) → WasSent g s m f i e (Ok answer.Accepted) → WasCounted g (place m i o) (place t j p) → IsAfter (place s f o) (place t j p) (sent f.source f.number e)
-      → (first : List WriteCall) (front : List ℕ) (events : ℕ) → IsPrinted first front events (place s f o) → IsPrinted first front events (place t j p)
+  prints_on : (s m t : Shown D) (f i j : Fed) (e : Event) (o p : List WriteCall) → WasSent g s m f i e (Ok answer.Accepted) → WasCounted g (place m i o) (place t j p) → IsAfter g (place s f o) (place t j p) (sent f.source f.number e)
+      → (first : List WriteCall) (front : List ℕ) (events : ℕ) → IsPrinted g first front events (place s f o) → IsPrinted g first front events (place t j p)
   prints_on s m t f i j e o p was counted is first front events h =
-      let total : (content_of t.detector).events ≡ (content_of s.detector).events + 1 = ap (λ (c : Content). c.events) is.content in
-      let sum : (content_of t.detector).events ≡ events + j.accepted = omega (arith, total, h.count, is.accepted) in
+      let on = counted_on s m t f i j e o p (Ok answer.Accepted) was counted in
+      let total : (live g t).events ≡ (live g s).events + 1 = ap (λ (c : Content). c.events) is.content in
+      let sum : (live g t).events ≡ events + j.accepted = omega (arith, total, h.count, on.accepted) in
       let same : i.accepted + 1 ≡ j.accepted = sym (ap (λ (x : Fed). x.accepted) counted.fed) in
       record {
         count = sum;
         printed = subst (λ (t : List ℕ). Took first p t)
-            (append_assoc front (acks_text events f.accepted) (if nat_eq (j.accepted % 256) 0 then ack_text (content_of t.detector).events else [])
-            ∙ ap (λ (t : List ℕ). front ++ t) (sym (acks_on events f.accepted j.accepted (content_of t.detector).events is.accepted sum)))
-            (appends_on first o p (front ++ acks_text events f.accepted) (if nat_eq (j.accepted % 256) 0 then ack_text (content_of t.detector).events else []) h.printed
-            (subst (λ (k : ℕ). Took o p (if nat_eq (k % 256) 0 then ack_text (content_of t.detector).events else [])) same
-            (subst (λ (k : ℕ). Took o p (if nat_eq ((i.accepted + 1) % 256) 0 then ack_text k else [])) (sym (ap (λ (d : Detector PagedWords). (content_of d).events) counted.detector)) counted.printed)));
-      }
-
-  pub passes_accepted : (s m t : Shown D) (f i j : Fed) (e : Event) (o p : List WriteCall) (reading : Reading) → reading.event ≡ Ok e → IsReady s f → WasSent g s m f i e (Ok answer.Accepted) → WasCounted g (place m i o) (place t j p)
-      → Passes g (place s f o) (place t j p) reading
-  passes_accepted s m t f i j e o p reading event ready was counted =
-      let is = is_after s m t f i j e o p ready was counted in
-      record {
-        goes = record {
-          source = is.source;
-          failures = counted.failures ∙ ap (λ (d : Devices D). failed_calls g d o) was.done.devices;
-          backed = λ h. counted.backed (backed_by s m was.backs h);
-          printed = prints_on s m t f i j e o p was counted is;
-          ready = record {
-            works = counted.works;
-            pending = counted.pending ∙ ap (λ (k : ℕ). k % 256) (sym (ap (λ (x : Fed). x.accepted) counted.fed));
-            few = omega (arith, ready.few, is.accepted, is.number);
-          };
-        };
-        number = is.number;
-        leads = λ later last end h.
-            subst (λ x. IsOffered x f.source s.detector.sets (content_of s.detector) f.number reading.line (λ t d. FeedsTo f.source later t d (f.number + 1) last end) last end) (sym event)
-            (subst (λ v. Answers v s.detector.sets (content_of s.detector) (sent f.source f.number e) reading.line (λ t d. FeedsTo f.source later t d (f.number + 1) last end) last end) (sym is.accept) (
-              t.detector.sets,
-              inl (
-                is.sets,
-                feeds_same later last end j.source f.source t.detector.sets t.detector.sets (content_of t.detector) (after (content_of s.detector) (sent f.source f.number e)) j.number (f.number + 1) is.source refl is.content is.number h,
-              ),
-            ));
-        back = λ later last end h.
-            feeds_same later last end f.source j.source t.detector.sets t.detector.sets (after (content_of s.detector) (sent f.source f.number e)) (content_of t.detector) (f.number + 1) j.number (sym is.source) refl (sym is.content) (sym is.number)
-            (accepted_back s.detector.sets t.detector.sets (content_of s.detector) last (sent f.source f.number e) reading.line (λ t d. FeedsTo f.source later t d (f.number + 1) last end) end is.sets
-            (subst (λ v. Answers v s.detector.sets (content_of s.detector) (sent f.source f.number e) reading.line (λ t d. FeedsTo f.source later t d (f.number + 1) last end) last end) is.accept
-            (subst (λ x. IsOffered x f.source s.detector.sets (content_of s.detector) f.number reading.line (λ t d. FeedsTo f.source later t d (f.number + 1) last end) last end) event h)));
-      }
-
-  -- an answer that accepts nothing changes no content
-  record IsUnchanged (s m : Shown D) (f i : Fed) : Type 0 where
-    content : content_of m.detector ≡ content_of s.detector
-    source : i.source ≡ f.source
-    number : i.number ≡ f.number + 1
-    accepted : i.accepted ≡ f.accepted
-
-  is_unchanged : (s m : Shown D) (f i : Fed) (e : Event) (r : Result Answer Refusal) → if_accepted (sent f.source f.number e) r ≡ [] → WasSent g s m f i e r → IsUnchanged s m f i
-  is_unchanged s m f i e r nothing was = record {
-    content = same_some (content_of s.detector) (content_of m.detector) (subst (λ (xs : List Named). followed (content_of s.detector) xs ≡ Some (content_of m.detector)) nothing was.done.live);
-    source = ap (λ (x : Fed). x.source) was.fed;
-    number = ap (λ (x : Fed). x.number) was.fed;
-    accepted = ap (λ (x : Fed). x.accepted) was.fed;
-  }
-
-  unchanged_goes : (s m : Shown D) (f i : Fed) (e : Event) (r : Result Answer Refusal) (o : List WriteCall) → if_accepted (sent f.source f.number e) r ≡ [] → IsReady s f → WasSent g s m f i e r
-      → GoesOn g (place s f o) (place m i o)
-  unchanged_goes s m f i e r o nothing ready was =
-      let is = is_unchanged s m f i e r nothing was in
-      record {
-        source = is.source;
-        failures = ap (λ (d : Devices D). failed_calls g d o) was.done.devices;
-        backed = backed_by s m was.backs;
-        printed = λ first front events h. record {
-          count = omega (arith, ap (λ (c : Content). c.events) is.content, h.count, is.accepted);
-          printed = subst (λ (k : ℕ). Took first o (front ++ acks_text events k)) (sym is.accepted) h.printed;
-        };
-        ready = record {
-          works = was.done.is_broken ∙ ready.works;
-          pending = ap (λ (xs : List Named). length xs) (was.done.pending ∙ ap (λ (xs : List Named). s.pending ++ xs) nothing ∙ append-nil s.pending) ∙ (ready.pending ∙ ap (λ (k : ℕ). k % 256) (sym is.accepted));
-          few = omega (arith, ready.few, is.accepted, is.number);
-        };
+            (append_assoc front (acks_text events f.accepted) (if nat_eq (j.accepted % 256) 0 then ack_text (live g t).events else [])
+            ∙ ap (λ (t : List ℕ). front ++ t) (sym (acks_on events f.accepted j.accepted (live g t).events on.accepted sum)))
+            (appends_on first o p (front ++ acks_text events f.accepted) (if nat_eq (j.accepted % 256) 0 then ack_text (live g t).events else []) h.printed
+            (subst (λ (k : ℕ). Took o p (if nat_eq (k % 256) 0 then ack_text (live g t).events else [])) same
+            (subst (λ (k : ℕ). Took o p (if nat_eq ((i.accepted + 1) % 256) 0 then ack_text k else [])) (sym (ap (λ (d : detect.Shown (pool.Shown D)). (detect.content (pools.live g) d).events) counted.detector)) counted.printed)));
       }
 
   few_pending : (s : Shown D) (f : Fed) → IsReady s f → length s.pending < 1024
   few_pending s f ready = omega (arith, ready.pending)
 
+  pub passes_accepted : (s m t : Shown D) (f i j : Fed) (e : Event) (o p : List WriteCall) (reading : Reading) → reading.event ≡ Ok e → IsReady s f → WasSent g s m f i e (Ok answer.Accepted) → WasCounted g (place m i o) (place t j p)
+      → Passes g (place s f o) (place t j p) reading
+  passes_accepted s m t f i j e o p reading event ready was counted =
+      let on = counted_on s m t f i j e o p (Ok answer.Accepted) was counted in
+      let few = few_pending s f ready in
+      let is = λ (honest : IsTrue g.is_honest). is_after honest s m t f i j e o p ready few was counted in
+      record {
+        goes = record {
+          source = on.source;
+          failures = omega (arith, counted.failures, was.failures);
+          printed = λ honest. prints_on s m t f i j e o p was counted (is honest);
+          ready = record {
+            works = counted.works;
+            pending = counted.pending ∙ ap (λ (k : ℕ). k % 256) (sym (ap (λ (x : Fed). x.accepted) counted.fed));
+            few = omega (arith, ready.few, on.accepted, on.number);
+          };
+        };
+        number = on.number;
+        leads = λ honest later last end h.
+            subst (λ x. IsOffered x f.source s.detector.sets (live g s) f.number reading.line (λ t d. FeedsTo f.source later t d (f.number + 1) last end) last end) (sym event)
+            (subst (λ v. Answers v s.detector.sets (live g s) (sent f.source f.number e) reading.line (λ t d. FeedsTo f.source later t d (f.number + 1) last end) last end) (sym (is honest).accept) (inl (
+              t.detector.sets,
+              inl (
+                (is honest).sets,
+                feeds_same later last end j.source f.source t.detector.sets t.detector.sets (live g t) (after (live g s) (sent f.source f.number e)) j.number (f.number + 1) on.source refl (is honest).content on.number h,
+              ),
+            )));
+        back = λ honest later last end room h.
+            feeds_same later last end f.source j.source t.detector.sets t.detector.sets (after (live g s) (sent f.source f.number e)) (live g t) (f.number + 1) j.number (sym on.source) refl (sym (is honest).content) (sym on.number)
+            (accepted_back s.detector.sets t.detector.sets (live g s) last (sent f.source f.number e) reading.line (λ t d. FeedsTo f.source later t d (f.number + 1) last end) end room (is honest).sets
+            (subst (λ v. Answers v s.detector.sets (live g s) (sent f.source f.number e) reading.line (λ t d. FeedsTo f.source later t d (f.number + 1) last end) last end) (is honest).accept
+            (subst (λ x. IsOffered x f.source s.detector.sets (live g s) f.number reading.line (λ t d. FeedsTo f.source later t d (f.number + 1) last end) last end) event h)));
+      }
+
+  -- an answer that accepts nothing changes no content
+  record IsUnchanged (f i : Fed) : Type 0 where
+    source : i.source ≡ f.source
+    number : i.number ≡ f.number + 1
+    accepted : i.accepted ≡ f.accepted
+
+  is_unchanged : (s m : Shown D) (f i : Fed) (e : Event) (r : Result Answer Refusal) → WasSent g s m f i e r → IsUnchanged f i
+  is_unchanged s m f i e r was = record {
+    source = ap (λ (x : Fed). x.source) was.fed;
+    number = ap (λ (x : Fed). x.number) was.fed;
+    accepted = ap (λ (x : Fed). x.accepted) was.fed;
+  }
+
+  same_content : IsTrue g.is_honest → (s m : Shown D) (f i : Fed) (e : Event) (r : Result Answer Refusal) → if_accepted (sent f.source f.number e) r ≡ [] → WasSent g s m f i e r → live g m ≡ live g s
+  same_content honest s m f i e r nothing was =
+      same_some (live g s) (live g m) (subst (λ (xs : List Named). followed (live g s) xs ≡ Some (live g m)) nothing (was.content honest).leads)
+
+  unchanged_goes : (s m : Shown D) (f i : Fed) (e : Event) (r : Result Answer Refusal) (o : List WriteCall) → if_accepted (sent f.source f.number e) r ≡ [] → told r ≡ 0 → m.is_broken ≡ s.is_broken → IsReady s f → WasSent g s m f i e r
+      → GoesOn g (place s f o) (place m i o)
+  unchanged_goes s m f i e r o nothing none works ready was =
+      let is = is_unchanged s m f i e r was in
+      record {
+        source = is.source;
+        failures = omega (arith, was.failures, none);
+        printed = λ honest first front events h. record {
+          count = omega (arith, ap (λ (c : Content). c.events) (same_content honest s m f i e r nothing was), h.count, is.accepted);
+          printed = subst (λ (k : ℕ). Took first o (front ++ acks_text events k)) (sym is.accepted) h.printed;
+        };
+        ready = record {
+          works = works ∙ ready.works;
+          pending = ap (λ (xs : List Named). length xs) (was.done.pending ∙ ap (λ (xs : List Named). s.pending ++ xs) nothing ∙ append-nil s.pending) ∙ (ready.pending ∙ ap (λ (k : ℕ). k % 256) (sym is.accepted));
+          few = omega (arith, ready.few, is.accepted, is.number);
+        };
+      }
+
+  not_err : (k : ℕ) (x : Refusal) → ◌≡◌ {A = Result Answer Refusal} (Ok (answer.Duplicate k)) (Err x) → ⊥
+  not_err k x h = absurd (cc)
+
   passed_over : (v : Verdict) (pending k line : ℕ) (table : Table) (c : Content) (n : Named) (later : Table → Content → Type 0) (last : Content) (end : Ending) → pending < 1024 → ByVerdict v pending (Ok (answer.Duplicate k))
       → later table c → Answers v table c n line later last end
   passed_over Accept pending k line table c n later last end few h on =
-      ⊎_elim (λ a. absurd (cc)) (λ b. ⊎_elim (λ x. absurd (cc)) (λ y. absurd (cc)) b) (never_full pending (Ok (answer.Duplicate k)) few h)
+      ⊎_elim (λ a. absurd (cc)) (λ b. absurd (not_err k b.0 b.1)) (never_full pending (Ok (answer.Duplicate k)) few h)
   passed_over (Duplicate j) pending k line table c n later last end few h on = on
   passed_over (Refuse r) pending k line table c n later last end few h on = absurd (cc)
 
   passed_back : (v : Verdict) (pending k line : ℕ) (table : Table) (c : Content) (n : Named) (later : Table → Content → Type 0) (last : Content) (end : Ending) → pending < 1024 → ByVerdict v pending (Ok (answer.Duplicate k))
       → Answers v table c n line later last end → later table c
   passed_back Accept pending k line table c n later last end few h on =
-      ⊎_elim (λ a. absurd (cc)) (λ b. ⊎_elim (λ x. absurd (cc)) (λ y. absurd (cc)) b) (never_full pending (Ok (answer.Duplicate k)) few h)
+      ⊎_elim (λ a. absurd (cc)) (λ b. absurd (not_err k b.0 b.1)) (never_full pending (Ok (answer.Duplicate k)) few h)
   passed_back (Duplicate j) pending k line table c n later last end few h on = on
   passed_back (Refuse r) pending k line table c n later last end few h on = absurd (cc)
+
+  -- an event that was sent before is not taken up
+  not_taken : (s : Shown D) (n : Named) (k : ℕ) → ByVerdict (verdict (standing_of (live g s)) n) (length s.pending) (Ok (answer.Duplicate k)) → length s.pending < 1024 → ¬ IsTaken g s n
+  not_taken s n k h few taken =
+      let accepted : ByVerdict Accept (length s.pending) (Ok (answer.Duplicate k)) = subst (λ v. ByVerdict v (length s.pending) (Ok (answer.Duplicate k))) taken.accepted h in
+      ⊎_elim (λ a. absurd (cc)) (λ b. absurd (not_err k b.0 b.1)) (never_full (length s.pending) (Ok (answer.Duplicate k)) few accepted)
 
   pub passes_duplicate : (s m : Shown D) (f i : Fed) (e : Event) (k : ℕ) (o : List WriteCall) (reading : Reading) → reading.event ≡ Ok e → IsReady s f → WasSent g s m f i e (Ok (answer.Duplicate k))
       → Passes g (place s f o) (place m i o) reading
   passes_duplicate s m f i e k o reading event ready was =
-      let is = is_unchanged s m f i e (Ok (answer.Duplicate k)) refl was in
-      let c = content_of s.detector in
+      let is = is_unchanged s m f i e (Ok (answer.Duplicate k)) was in
+      let c = live g s in
       let n = sent f.source f.number e in
+      let few = few_pending s f ready in
+      let told_so = by_verdict s.is_broken (verdict (standing_of c) n) (length s.pending) (Ok (answer.Duplicate k)) ready.works was.done.answer in
+      let same : m ≡ s = was.done.untouched (not_taken s n k told_so few) in
+      let sets : m.detector.sets ≡ s.detector.sets = ap (λ (x : Shown D). x.detector.sets) same in
+      let content : live g m ≡ c = ap (λ (x : Shown D). live g x) same in
       record {
-        goes = unchanged_goes s m f i e (Ok (answer.Duplicate k)) o refl ready was;
+        goes = unchanged_goes s m f i e (Ok (answer.Duplicate k)) o refl refl (ap (λ (x : Shown D). x.is_broken) same) ready was;
         number = is.number;
-        leads = λ later last end h.
+        leads = λ honest later last end h.
             subst (λ x. IsOffered x f.source s.detector.sets c f.number reading.line (λ t d. FeedsTo f.source later t d (f.number + 1) last end) last end) (sym event)
-            (passed_over (verdict (standing_of c) n) (length s.pending) k reading.line s.detector.sets c n (λ t d. FeedsTo f.source later t d (f.number + 1) last end) last end (few_pending s f ready)
-            (by_verdict s.is_broken (verdict (standing_of c) n) (length s.pending) (Ok (answer.Duplicate k)) ready.works was.done.answer)
-            (feeds_same later last end i.source f.source m.detector.sets s.detector.sets (content_of m.detector) c i.number (f.number + 1) is.source (ap (λ (x : Shown D). x.detector.sets) (was.done.table.same (λ is. absurd (cc)) (λ is. absurd (cc)) (λ is. absurd (cc)))) is.content is.number h));
-        back = λ later last end h.
-            feeds_same later last end f.source i.source s.detector.sets m.detector.sets c (content_of m.detector) (f.number + 1) i.number (sym is.source)
-            (sym (ap (λ (x : Shown D). x.detector.sets) (was.done.table.same (λ is. absurd (cc)) (λ is. absurd (cc)) (λ is. absurd (cc))))) (sym is.content) (sym is.number)
-            (passed_back (verdict (standing_of c) n) (length s.pending) k reading.line s.detector.sets c n (λ t d. FeedsTo f.source later t d (f.number + 1) last end) last end (few_pending s f ready)
-            (by_verdict s.is_broken (verdict (standing_of c) n) (length s.pending) (Ok (answer.Duplicate k)) ready.works was.done.answer)
+            (passed_over (verdict (standing_of c) n) (length s.pending) k reading.line s.detector.sets c n (λ t d. FeedsTo f.source later t d (f.number + 1) last end) last end few told_so
+            (feeds_same later last end i.source f.source m.detector.sets s.detector.sets (live g m) c i.number (f.number + 1) is.source sets content is.number h));
+        back = λ honest later last end room h.
+            feeds_same later last end f.source i.source s.detector.sets m.detector.sets c (live g m) (f.number + 1) i.number (sym is.source) (sym sets) (sym content) (sym is.number)
+            (passed_back (verdict (standing_of c) n) (length s.pending) k reading.line s.detector.sets c n (λ t d. FeedsTo f.source later t d (f.number + 1) last end) last end few told_so
             (subst (λ x. IsOffered x f.source s.detector.sets c f.number reading.line (λ t d. FeedsTo f.source later t d (f.number + 1) last end) last end) event h));
       }
 
   error_is : (y z : Refusal) → ◌≡◌ {A = Result Answer Refusal} (Err y) (Err z) → y ≡ z
   error_is y z h = cc
 
-  refused_by : (v : Verdict) (pending line : ℕ) (table left : Table) (c last : Content) (n : Named) (r : Refusal) (later : Table → Content → Type 0) → pending < 1024 → ByVerdict v pending (Err r) → (r ≡ refusal.OutOfMemory → ⊥)
-      → (v ≡ Accept → ◌≡◌ {A = Result Answer Refusal} (Err r) (Err refusal.FullSets) → Asks table (sets_asked c n.event) (Some Full) left) → last ≡ c → Answers v table c n line later last (Refused line r)
+  -- what the words are refused with is a fault, but for want of slots
+  by_slots : (r : Refusal) → MayRefuse r → (r ≡ refusal.FullSlots) ⊎ IsEventFault r
+  by_slots refusal.OutOfMemory may = inr (inl refl)
+  by_slots refusal.FullSlots may = inl refl
+  by_slots refusal.Damaged may = inr (inr (inr (inl refl)))
+  by_slots refusal.Broken may = inr (inr (inr (inr refl)))
+  by_slots refusal.DeviceFault may = inr (inr (inl refl))
+  by_slots _ may = absurd may
+
+  refused_by : (v : Verdict) (pending line : ℕ) (table left : Table) (c last : Content) (n : Named) (r : Refusal) (later : Table → Content → Type 0) → pending < 1024 → ByVerdict v pending (Err r) → (IsEventFault r → ⊥)
+      → (v ≡ Accept → AsksBy table (sets_asked c n.event) (Err r) left) → last ≡ c → Answers v table c n line later last (Refused line r)
   refused_by Accept pending line table left c last n r later few h enough fills same =
       ⊎_elim (λ a. absurd (cc))
-      (λ b. ⊎_elim
-      (λ full. (left, inr (fills refl full, (same, ap (λ x. Refused line x) (error_is r refusal.FullSets full)))))
-      (λ memory. absurd (enough (error_is r refusal.OutOfMemory memory))) b)
+      (λ b. let is = error_is r b.0 b.1 in
+      ⊎_elim
+      (λ full. let sets = is ∙ full in
+      inl (left, inr (subst (λ x. AsksBy table (sets_asked c n.event) (Err x) left) sets (fills refl), (same, ap (λ x. Refused line x) sets))))
+      (λ more. ⊎_elim
+      (λ memory. absurd (enough (inl (is ∙ memory))))
+      (λ may. ⊎_elim
+      (λ slots. inr (same, ap (λ x. Refused line x) (is ∙ slots)))
+      (λ fault. absurd (enough (subst IsEventFault (sym is) fault)))
+      (by_slots b.0 may))
+      more)
+      b.2)
       (never_full pending (Err r) few h)
   refused_by (Duplicate j) pending line table left c last n r later few h enough fills same = absurd (cc)
   refused_by (Refuse x) pending line table left c last n r later few h enough fills same = (same, ap (λ y. Refused line y) (error_is r x h))
@@ -261,33 +318,54 @@ module _ {D : Type 0} (g : disk.Ghosts D) where
   ended_is : {x y : Ending} → ◌≡◌ {A = Result (Option Ending) Refusal} (Ok (Some x)) (Ok (Some y)) → x ≡ y
   ended_is h = cc
 
+  never : (r : Refusal) (end : Ending) → ◌≡◌ {A = Result (Option Ending) Refusal} (Err r) (Ok (Some end)) → ⊥
+  never r end h = absurd (cc)
+
+  -- a refusal that is no fault tells of no failed call
+  none_told : (r : Refusal) → (IsEventFault r → ⊥) → told_refusal r ≡ 0
+  none_told refusal.DeviceFault not = absurd (not (inr (inl refl)))
+  none_told _ not = refl
+
   pub ends_refused : (s m : Shown D) (f i : Fed) (e : Event) (r : Refusal) (o : List WriteCall) (reading : Reading) (given : Result (Option Ending) Refusal) (end : Ending)
-      → reading.event ≡ Ok e → IsReady s f → WasSent g s m f i e (Err r) → Stops reading.line r given → given ≡ Ok (Some end) → EndsAt g (place s f o) (place m i o) reading end
-  ends_refused s m f i e r o reading given end event ready was stops given_end = record {
-    goes = unchanged_goes s m f i e (Err r) o refl ready was;
-    leads = λ later.
-        ⊎_elim
-        (λ memory. absurd (never (sym memory.1 ∙ given_end)))
-        (λ other. subst (λ x. IsOffered x f.source s.detector.sets (content_of s.detector) f.number reading.line (λ t d. FeedsTo f.source later t d (f.number + 1) (content_of m.detector) end) (content_of m.detector) end) (sym event)
-        (subst (λ x. Answers (verdict (standing_of (content_of s.detector)) (sent f.source f.number e)) s.detector.sets (content_of s.detector) (sent f.source f.number e) reading.line (λ t d. FeedsTo f.source later t d (f.number + 1) (content_of m.detector) x) (content_of m.detector) x)
-        (ended_is (sym other.1 ∙ given_end))
-        (refused_by (verdict (standing_of (content_of s.detector)) (sent f.source f.number e)) (length s.pending) reading.line s.detector.sets m.detector.sets (content_of s.detector) (content_of m.detector) (sent f.source f.number e) r
-        (λ t d. FeedsTo f.source later t d (f.number + 1) (content_of m.detector) (Refused reading.line r)) (few_pending s f ready)
-        (by_verdict s.is_broken (verdict (standing_of (content_of s.detector)) (sent f.source f.number e)) (length s.pending) (Err r) ready.works was.done.answer) other.0 was.done.table.full
-        (is_unchanged s m f i e (Err r) refl was).content)))
-        stops;
-  }
+      → reading.event ≡ Ok e → IsReady s f → WasSent g s m f i e (Err r) → EndsLine reading.line r given → given ≡ Ok (Some end) → EndsAt g (place s f o) (place m i o) reading end
+  ends_refused s m f i e r o reading given end event ready was stops given_end =
+      ⊎_elim
+      (λ fault. absurd (never r end (sym fault.1 ∙ given_end)))
+      (λ other. ends_so s m f i e r o reading end event ready was other.0 (ended_is (sym other.1 ∙ given_end)))
+      stops
     where
-      never : ◌≡◌ {A = Result (Option Ending) Refusal} (Err refusal.OutOfMemory) (Ok (Some end)) → ⊥
-      never h = absurd (cc)
+      ends_so : (s m : Shown D) (f i : Fed) (e : Event) (r : Refusal) (o : List WriteCall) (reading : Reading) (end : Ending)
+          → reading.event ≡ Ok e → IsReady s f → WasSent g s m f i e (Err r) → (IsEventFault r → ⊥) → Refused reading.line r ≡ end → EndsAt g (place s f o) (place m i o) reading end
+      ends_so s m f i e r o reading end event ready was not is =
+          let c = live g s in
+          let n = sent f.source f.number e in
+          let told_so = by_verdict s.is_broken (verdict (standing_of c) n) (length s.pending) (Err r) ready.works was.done.answer in
+          let few = few_pending s f ready in
+          record {
+            goes = unchanged_goes s m f i e (Err r) o refl (none_told r not) (was.done.breaks (λ h. not (inr (inl (error_is r refusal.DeviceFault h))))) ready was;
+            leads = λ honest later.
+                subst (λ x. IsOffered x f.source s.detector.sets c f.number reading.line (λ t d. FeedsTo f.source later t d (f.number + 1) (live g m) end) (live g m) end) (sym event)
+                (subst (λ x. Answers (verdict (standing_of c) n) s.detector.sets c n reading.line (λ t d. FeedsTo f.source later t d (f.number + 1) (live g m) x) (live g m) x) is
+                (refused_by (verdict (standing_of c) n) (length s.pending) reading.line s.detector.sets m.detector.sets c (live g m) n r
+                (λ t d. FeedsTo f.source later t d (f.number + 1) (live g m) (Refused reading.line r)) few told_so not
+                (λ accept. (was.content honest).sets (record { works = ready.works; accepted = accept; room = few })) (same_content honest s m f i e (Err r) refl was)));
+          }
+
+  -- what is told of a refusal that ends feeding by a fault
+  pub fault_counted : (s m : Shown D) (f i : Fed) (e : Event) (o : List WriteCall) (line : ℕ) (r : Refusal) (given : Result (Option Ending) Refusal) → WasSent g s m f i e (Err r) → EndsLine line r given
+      → failed_calls g m.devices o ≡ told given + failed_calls g s.devices o
+  fault_counted s m f i e o line r given was stops =
+      ⊎_elim
+      (λ fault. omega (arith, was.failures, ap told fault.1))
+      (λ other. omega (arith, was.failures, none_told r other.0, ap told other.1))
+      stops
 
   -- a place is as good as itself
   pub stays_there : (p : Place D) → IsReady p.store p.fed → GoesOn g p p
   stays_there p ready = record {
     source = refl;
     failures = refl;
-    backed = λ h. h;
-    printed = λ first front events h. h;
+    printed = λ honest first front events h. h;
     ready = ready;
   }
 
@@ -295,44 +373,44 @@ module _ {D : Type 0} (g : disk.Ghosts D) where
   goes_on p q r first second = record {
     source = second.source ∙ first.source;
     failures = second.failures ∙ first.failures;
-    backed = λ h. second.backed (first.backed h);
-    printed = λ start front events h. second.printed start front events (first.printed start front events h);
+    printed = λ honest start front events h. second.printed honest start front events (first.printed honest start front events h);
     ready = second.ready;
   }
 
   pub ends_bad : (s : Shown D) (f : Fed) (o : List WriteCall) (reading : Reading) (fault : LineFault) → reading.event ≡ Err fault → IsReady s f → EndsAt g (place s f o) (place s f o) reading (Bad reading.line)
   ends_bad s f o reading fault event ready = record {
     goes = stays_there (place s f o) ready;
-    leads = λ later.
-        subst (λ x. IsOffered x f.source s.detector.sets (content_of s.detector) f.number reading.line (λ t d. FeedsTo f.source later t d (f.number + 1) (content_of s.detector) (Bad reading.line)) (content_of s.detector) (Bad reading.line)) (sym event)
+    leads = λ honest later.
+        subst (λ x. IsOffered x f.source s.detector.sets (live g s) f.number reading.line (λ t d. FeedsTo f.source later t d (f.number + 1) (live g s) (Bad reading.line)) (live g s) (Bad reading.line)) (sym event)
         (refl, refl);
   }
 
   -- an event was accepted, and its commit or the line of it was broken off
   pub breaks_accepted : (s m : Shown D) (f i : Fed) (e : Event) (o p : List WriteCall) (reading : Reading) → reading.event ≡ Ok e → IsReady s f → WasSent g s m f i e (Ok answer.Accepted)
-      → IsPrintedNow o p (if nat_eq ((i.accepted + 1) % 256) 0 then ack_text (content_of m.detector).events else []) → BreaksAt (place s f o) reading p
-  breaks_accepted s m f i e o p reading event ready was now later last end l first front events h =
-      let c = content_of s.detector in
+      → IsPrintedNow o p (if nat_eq ((i.accepted + 1) % 256) 0 then ack_text (live g m).events else []) → BreaksAt g (place s f o) reading p
+  breaks_accepted s m f i e o p reading event ready was now honest later last end room l first front events h =
+      let c = live g s in
       let n = sent f.source f.number e in
       let accept = accepted_verdict (verdict (standing_of c) n) (length s.pending) (by_verdict s.is_broken (verdict (standing_of c) n) (length s.pending) (Ok answer.Accepted) ready.works was.done.answer) in
-      let content : content_of m.detector ≡ after c n = one_after (verdict (standing_of c) n) c (content_of m.detector) (after c n) accept was.done.live in
+      let taken : IsTaken g s n = record { works = ready.works; accepted = accept; room = few_pending s f ready } in
+      let content : live g m ≡ after c n = one_after (verdict (standing_of c) n) c (live g m) (after c n) accept (was.content honest).leads in
       let on : FeedsTo f.source later m.detector.sets (after c n) (f.number + 1) last end =
-      accepted_back s.detector.sets m.detector.sets c last n reading.line (λ t d. FeedsTo f.source later t d (f.number + 1) last end) end (was.done.table.accepted refl)
+      accepted_back s.detector.sets m.detector.sets c last n reading.line (λ t d. FeedsTo f.source later t d (f.number + 1) last end) end room ((was.content honest).sets taken)
       (subst (λ v. Answers v s.detector.sets c n reading.line (λ t d. FeedsTo f.source later t d (f.number + 1) last end) last end) accept
       (subst (λ x. IsOffered x f.source s.detector.sets c f.number reading.line (λ t d. FeedsTo f.source later t d (f.number + 1) last end) last end) event l)) in
       let grown : c.events + 1 ≤ last.events = feeds_grow f.source later m.detector.sets (after c n) (f.number + 1) last end on in
-      let total : (content_of m.detector).events ≡ c.events + 1 = ap (λ (d : Content). d.events) content in
+      let total : (live g m).events ≡ c.events + 1 = ap (λ (d : Content). d.events) content in
       let same : i.accepted ≡ f.accepted = ap (λ (x : Fed). x.accepted) was.fed in
-      let sum : (content_of m.detector).events ≡ events + (i.accepted + 1) = omega (arith, total, h.count, same) in
-      let line = if nat_eq ((i.accepted + 1) % 256) 0 then ack_text (content_of m.detector).events else [] in
+      let sum : (live g m).events ≡ events + (i.accepted + 1) = omega (arith, total, h.count, same) in
+      let line = if nat_eq ((i.accepted + 1) % 256) 0 then ack_text (live g m).events else [] in
       let more = acks_front events (i.accepted + 1) (last.events - events) (omega (arith, grown, total, sum)) in
       let next : i.accepted + 1 ≡ f.accepted + 1 = omega (arith, same) in
       front_more first p (front ++ acks_text events (i.accepted + 1)) more.0 (front ++ acks_text events (last.events - events))
       (append_assoc front (acks_text events (i.accepted + 1)) more.0 ∙ ap (λ (t : List ℕ). front ++ t) more.1)
       (subst (λ (t : List ℕ). TookFront first p t)
-      (append_assoc front (acks_text events f.accepted) line ∙ ap (λ (t : List ℕ). front ++ t) (sym (acks_on events f.accepted (i.accepted + 1) (content_of m.detector).events next sum)))
+      (append_assoc front (acks_text events f.accepted) line ∙ ap (λ (t : List ℕ). front ++ t) (sym (acks_on events f.accepted (i.accepted + 1) (live g m).events next sum)))
       (printed_front_on first o p (front ++ acks_text events f.accepted) line h.printed now))
 
   -- nothing was written since
-  pub breaks_still : (s : Shown D) (f : Fed) (o : List WriteCall) (reading : Reading) → BreaksAt (place s f o) reading o
-  breaks_still s f o reading later last end l = printed_grown (place s f o) last (feeds_grow f.source (reading ∷ later) s.detector.sets (content_of s.detector) f.number last end l)
+  pub breaks_still : (s : Shown D) (f : Fed) (o : List WriteCall) (reading : Reading) → BreaksAt g (place s f o) reading o
+  breaks_still s f o reading honest later last end room l = printed_grown g (place s f o) last (feeds_grow f.source (reading ∷ later) s.detector.sets (live g s) f.number last end l)

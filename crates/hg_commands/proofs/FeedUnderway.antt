@@ -1,5 +1,5 @@
 -- Feeding between two reads.
-use Rattle.std.proofs.Common.{◌≡◌, ℕ, ◌+◌, ◌*◌, ◌<◌, ◌≤◌, List, [], ◌∷◌, ◌++◌, length, refl, sym, ap, subst, ◌∙◌, inl, inr, arith}
+use Rattle.std.proofs.Common.{◌≡◌, ℕ, ◌+◌, ◌*◌, ◌<◌, ◌≤◌, List, [], ◌∷◌, ◌++◌, length, IsTrue, refl, sym, ap, subst, ◌∙◌, inl, inr, arith}
 use Rattle.std.proofs.lemmas.List.{append-nil, append_assoc}
 use Rattle.std.specs.declared.io.ErrorKind.TheVariants.{Interrupted}
 use Rattle.hg_streams.specs.declared.call.ReadCall.{ReadCall}
@@ -16,34 +16,34 @@ use Rattle.hg_commands.proofs.FeedSteps.{goes_on, stays_there}
 
 -- What holds between two reads.
 pub record IsFeeding {D : Type 0} (g : disk.Ghosts D) (first calls : List ReadCall) (old new : Place D) (p : Pending) (reads size : ℕ) : Type 0 where
-  pub leads : HasFed first calls old.fed.source (table_at old) (content_at old) p new
+  pub leads : HasFed g first calls old.fed.source (table_at old) (content_at g old) p new
   pub lines : p.lines ≤ 65536 * reads
   pub number : new.fed.number ≤ 65536 * reads
   pub goes : GoesOn g old new
   pub full : size ≡ 65536
 
-fed_at_first : {D : Type 0} (first : List ReadCall) (p : Pending) (place : Place D) → p ≡ at_start → place.fed.number ≡ 0 → HasFed first first place.fed.source (table_at place) (content_at place) p place
-fed_at_first first p place start none = record {
+fed_at_first : {D : Type 0} (g : disk.Ghosts D) (first : List ReadCall) (p : Pending) (place : Place D) → p ≡ at_start → place.fed.number ≡ 0 → HasFed g first first place.fed.source (table_at place) (content_at g place) p place
+fed_at_first g first p place start none = record {
   later = [];
   since = refl;
   intact = refl;
   underway = refl;
   none_left = ap (λ (q : Pending). ended_from q []) start;
-  back = λ more last end h.
-      subst (λ (q : Pending). LeadsOn place (readings_from q more) last end) (sym start)
-      (subst (λ (k : ℕ). FeedsTo place.fed.source (readings more) (table_at place) (content_at place) k last end) (sym none) h);
-  ended = λ more last end h.
-      subst (λ (k : ℕ). FeedsTo place.fed.source (ended_readings more) (table_at place) (content_at place) k last end) none
-      (subst (λ (q : Pending). LeadsOn place (ended_from q more) last end) start h);
-  leads = λ more last end h.
-      subst (λ (k : ℕ). FeedsTo place.fed.source (readings more) (table_at place) (content_at place) k last end) none
-      (subst (λ (q : Pending). LeadsOn place (readings_from q more) last end) start h);
+  back = λ honest more last end room h.
+      subst (λ (q : Pending). LeadsOn g place (readings_from q more) last end) (sym start)
+      (subst (λ (k : ℕ). FeedsTo place.fed.source (readings more) (table_at place) (content_at g place) k last end) (sym none) h);
+  ended = λ honest more last end h.
+      subst (λ (k : ℕ). FeedsTo place.fed.source (ended_readings more) (table_at place) (content_at g place) k last end) none
+      (subst (λ (q : Pending). LeadsOn g place (ended_from q more) last end) start h);
+  leads = λ honest more last end h.
+      subst (λ (k : ℕ). FeedsTo place.fed.source (readings more) (table_at place) (content_at g place) k last end) none
+      (subst (λ (q : Pending). LeadsOn g place (readings_from q more) last end) start h);
 }
 
 pub feeding_first : {D : Type 0} (g : disk.Ghosts D) (first : List ReadCall) (place : Place D) (p : Pending) (size : ℕ) → IsReady place.store place.fed → place.fed.number ≡ 0 → p ≡ at_start → size ≡ 65536
     → IsFeeding g first first place place p 0 size
 feeding_first g first place p size ready none start full = record {
-  leads = fed_at_first first p place start none;
+  leads = fed_at_first g first p place start none;
   lines = omega (arith, ap (λ (q : Pending). q.lines) start);
   number = omega (arith, none);
   goes = stays_there g place ready;
@@ -53,7 +53,7 @@ feeding_first g first place p size ready none start full = record {
 pub feeding_on : {D : Type 0} (g : disk.Ghosts D) (first calls later : List ReadCall) (a b c : Place D) (p q : Pending) (reads size resized : ℕ)
     → IsFeeding g first calls a b p reads size → FeedAdvances g calls later p b q c size → resized ≡ size → IsFeeding g first later a c q (reads + 1) resized
 feeding_on g first calls later a b c p q reads size resized h on same = record {
-  leads = on.leads first a.fed.source (table_at a) (content_at a) h.leads;
+  leads = on.leads first a.fed.source (table_at a) (content_at g a) h.leads;
   lines = omega (arith, h.lines, on.lines, h.full);
   number = omega (arith, h.number, on.number, h.full);
   goes = goes_on g a b c h.goes on.goes;
@@ -61,16 +61,18 @@ feeding_on g first calls later a b c p q reads size resized h on same = record {
 }
 
 -- one read more was needed
-needed : {D : Type 0} (first calls : List ReadCall) (source : ℕ) (table : Table) (start : Content) (p : Pending) (here : Place D) (call : ReadCall) (h : HasFed first calls source table start p here)
-    → EachIsNeeded source table start (call ∷ h.later)
-needed {D} first calls source table start p here call h = record {
+needed : {D : Type 0} (g : disk.Ghosts D) (first calls : List ReadCall) (source : ℕ) (table : Table) (start : Content) (p : Pending) (here : Place D) (call : ReadCall) (h : HasFed g first calls source table start p here)
+    → EachIsNeeded g source table start (call ∷ h.later)
+needed {D} g first calls source table start p here call h = record {
   last = call;
   earlier = h.later;
   newest = refl;
   underway = h.underway;
-  content = content_at here;
-  passed = subst (λ t. FeedsTo source (ended_readings t) table start 0 (content_at here) Ended) (append-nil (given h.later))
-      (h.ended [] (content_at here) Ended (subst (λ rs. LeadsOn here rs (content_at here) Ended) (sym h.none_left) (refl, refl)));
+  passed = λ honest. (
+    content_at g here,
+    subst (λ t. FeedsTo source (ended_readings t) table start 0 (content_at g here) Ended) (append-nil (given h.later))
+        (h.ended honest [] (content_at g here) Ended (subst (λ rs. LeadsOn g here rs (content_at g here) Ended) (sym h.none_left) (refl, refl))),
+  );
 }
 
 still_underway : (piece : List ℕ) (later : List ReadCall) → 0 < length piece → ends_met later ≡ 0 → ends_met (ReadCall.Gave piece ∷ later) ≡ 0
@@ -79,19 +81,19 @@ still_underway (b ∷ piece) later some h = h
 
 -- at the end of the input, its last line ends feeding
 pub feeds_at_end : {D : Type 0} (g : disk.Ghosts D) (first calls later : List ReadCall) (source : ℕ) (table : Table) (start : Content) (p q : Pending) (here there : Place D) (last : Content) (end : Ending)
-    → HasFed first calls source table start p here → FeedMeetsEnd g calls later p here q there → LeadsOn there (readings_from q []) last end → Feeds first later source table start last end
+    → HasFed g first calls source table start p here → FeedMeetsEnd g calls later p here q there → (IsTrue g.is_honest → LeadsOn g there (readings_from q []) last end) → Feeds g first later source table start last end
 feeds_at_end {D} g first calls later source table start p q here there last end h m l = record {
   later = ReadCall.Gave [] ∷ h.later;
   since = m.met ∙ ap (λ t. ReadCall.Gave [] ∷ t) h.since;
   whole = h.intact;
-  needed = needed first calls source table start p here (ReadCall.Gave []) h;
-  leads = inl (
+  needed = needed g first calls source table start p here (ReadCall.Gave []) h;
+  leads = λ honest. inl (
     h.later,
     refl,
     subst (λ t. FeedsTo source (readings t) table start 0 last end) (append-nil (given h.later))
-        (h.leads [] last end
-        (subst (λ (x : Pending). LeadsOn here (readings_from x []) last end) m.pending
-        (subst (λ (x : Place D). LeadsOn x (readings_from q []) last end) m.place l))),
+        (h.leads honest [] last end
+        (subst (λ (x : Pending). LeadsOn g here (readings_from x []) last end) m.pending
+        (subst (λ (x : Place D). LeadsOn g x (readings_from q []) last end) m.place (l honest)))),
   );
 }
 
@@ -101,8 +103,8 @@ failed_on (ReadCall.Gave bytes ∷ later) now = failed_on later now
 failed_on (ReadCall.Erred kind ∷ later) now = omega (arith, failed_on later now)
 
 -- no read of an input failed that was fed
-pub reads_intact : (first now : List ReadCall) (source : ℕ) (table : Table) (start last : Content) (end : Ending) → Feeds first now source table start last end → failed_reads now ≡ failed_reads first
-reads_intact first now source table start last end f = ap failed_reads f.since ∙ omega (arith, failed_on f.later first, f.whole)
+pub reads_intact : {D : Type 0} (g : disk.Ghosts D) (first now : List ReadCall) (source : ℕ) (table : Table) (start last : Content) (end : Ending) → Feeds g first now source table start last end → failed_reads now ≡ failed_reads first
+reads_intact g first now source table start last end f = ap failed_reads f.since ∙ omega (arith, failed_on f.later first, f.whole)
 
 -- a read that was interrupted changes nothing
 pub advances_nothing : {D : Type 0} (g : disk.Ghosts D) (calls later : List ReadCall) (p : Pending) (here : Place D) (room : ℕ) → IsReady here.store here.fed → later ≡ ReadCall.Erred Interrupted ∷ calls
@@ -134,14 +136,14 @@ advances_by_piece g calls later p q here there piece room is r none some within 
     intact = h.intact;
     underway = still_underway piece h.later some h.underway;
     none_left = none;
-    back = λ more last end l.
-        r.back more last end (h.back (piece ++ more) last end (subst (λ t. FeedsTo source (readings t) table start 0 last end) (append_assoc (given h.later) piece more) l));
-    ended = λ more last end l.
+    back = λ honest more last end room l.
+        r.back honest more last end room (h.back honest (piece ++ more) last end room (subst (λ t. FeedsTo source (readings t) table start 0 last end) (append_assoc (given h.later) piece more) l));
+    ended = λ honest more last end l.
         subst (λ t. FeedsTo source (ended_readings t) table start 0 last end) (sym (append_assoc (given h.later) piece more))
-        (h.ended (piece ++ more) last end (r.ended more last end l));
-    leads = λ more last end l.
+        (h.ended honest (piece ++ more) last end (r.ended honest more last end l));
+    leads = λ honest more last end l.
         subst (λ t. FeedsTo source (readings t) table start 0 last end) (sym (append_assoc (given h.later) piece more))
-        (h.leads (piece ++ more) last end (r.leads more last end l));
+        (h.leads honest (piece ++ more) last end (r.leads honest more last end l));
   };
   lines = omega (arith, r.lines, within);
   number = omega (arith, r.number, within);
@@ -156,9 +158,9 @@ stops_by_piece g calls later p here there piece end is r = record {
     later = ReadCall.Gave piece ∷ h.later;
     since = is ∙ ap (λ t. ReadCall.Gave piece ∷ t) h.since;
     whole = h.intact;
-    needed = needed first calls source table start p here (ReadCall.Gave piece) h;
-    leads = inr (λ more.
-        subst (λ t. FeedsTo source (readings t) table start 0 (content_at there) end) (sym (append_assoc (given h.later) piece more))
-        (h.leads (piece ++ more) (content_at there) end (r.leads more)));
+    needed = needed g first calls source table start p here (ReadCall.Gave piece) h;
+    leads = λ honest. inr (λ more.
+        subst (λ t. FeedsTo source (readings t) table start 0 (content_at g there) end) (sym (append_assoc (given h.later) piece more))
+        (h.leads honest (piece ++ more) (content_at g there) end (r.leads honest more)));
   };
 }

@@ -1,5 +1,5 @@
 -- What was written when a command was broken off.
-use Rattle.std.proofs.Common.{◌≡◌, ℕ, zero, suc, ◌+◌, ◌-◌, ◌%◌, ◌≤◌, nat_eq, Result, Ok, Err, OnErr, List, [], ◌∷◌, ◌++◌, refl, sym, ap, subst, ◌∙◌, ⊎_elim, arith, if◌then◌else◌}
+use Rattle.std.proofs.Common.{◌≡◌, ℕ, zero, suc, ◌+◌, ◌-◌, ◌%◌, ◌≤◌, nat_eq, Result, Ok, Err, OnErr, IfOk, List, [], ◌∷◌, ◌++◌, refl, sym, ap, subst, ◌∙◌, ⊎_elim, arith, if◌then◌else◌}
 use Rattle.std.proofs.lemmas.Bool.{cases_lt}
 use Rattle.std.proofs.lemmas.List.{append-nil, append_assoc}
 use Rattle.hg_streams.specs.declared.call.WriteCall.{WriteCall}
@@ -11,6 +11,7 @@ use Rattle.hg_model.specs.Change.{after}
 use Rattle.hg_model.specs.Contents.{Content}
 use Rattle.hg_model.specs.Verdicts.{standing_of, verdict}
 use Rattle.hg_sets.specs.Interning.{Table}
+use Rattle.hg_disk.specs.declared.disk.Disk as disk
 use Rattle.hg_wire.specs.declared.line.LineFault.{LineFault}
 use Rattle.hg_wire.specs.declared.reader.Reading.{Reading}
 use Rattle.hg_check.specs.declared.checker.Ending.{Ending}
@@ -40,6 +41,15 @@ printed_front old new text h =
 pub on_err_weaker : {T E P Q : Type 0} (r : Result T E) → (P → Q) → OnErr r P → OnErr r Q
 on_err_weaker (Ok x) f h = tt
 on_err_weaker (Err e) f h = f h
+
+pub on_err_given : {T E H P Q : Type 0} (r : Result T E) → ((H → P) → Q) → (H → OnErr r P) → OnErr r Q
+on_err_given (Ok x) f h = tt
+on_err_given (Err e) f h = f h
+
+-- what each value promises under a condition
+pub if_ok_given : {T E H : Type 0} (r : Result T E) (P Q : T → Type 0) → ((x : T) → (H → P x) → Q x) → (H → IfOk r P) → IfOk r Q
+if_ok_given (Ok x) P Q f h = f x h
+if_ok_given (Err e) P Q f h = tt
 
 -- a text that was written is due no more
 due_took : (first now : List WriteCall) (text : List ℕ) → Took first now text → IsDue first now [] [] text
@@ -85,9 +95,12 @@ answers_grow : (v : Verdict) (t : Table) (c last : Content) (n : Named) (line : 
     → ((u : Table) (d : Content) → later u d → d.events ≤ last.events) → Answers v t c n line later last end → c.events ≤ last.events
 answers_grow Accept t c last n line later end on h =
     ⊎_elim
-    (λ went. let more : c.events + 1 ≤ last.events = on h.0 (after c n) went.1 in omega (arith, more))
+    (λ room. ⊎_elim
+    (λ went. let more : c.events + 1 ≤ last.events = on room.0 (after c n) went.1 in omega (arith, more))
     (λ full. same_events c last full.1.0)
-    h.1
+    room.1)
+    (λ none. same_events c last none.0)
+    h
 answers_grow (Duplicate k) t c last n line later end on h = on t c h
 answers_grow (Refuse r) t c last n line later end on h = same_events c last h.0
 
@@ -103,8 +116,8 @@ feeds_grow source (r ∷ later) t c lines last end h =
     offered_grows r.event source t c last lines r.line (λ u d. FeedsTo source later u d (lines + 1) last end) end (λ u d l. feeds_grow source later u d (lines + 1) last end l) h
 
 -- what was printed is a front of what is due for a content that has as many events at least
-pub printed_grown : {D : Type 0} (p : Place D) (last : Content) → (content_at p).events ≤ last.events → FrontFor p p.output last
-printed_grown p last more first front events is =
+pub printed_grown : {D : Type 0} (g : disk.Ghosts D) (p : Place D) (last : Content) → (content_at g p).events ≤ last.events → FrontFor g p p.output last
+printed_grown g p last more first front events is =
     let on = acks_front events p.fed.accepted (last.events - events) (omega (arith, is.count, more)) in
     front_more first p.output (front ++ acks_text events p.fed.accepted) on.0 (front ++ acks_text events (last.events - events))
     (append_assoc front (acks_text events p.fed.accepted) on.0 ∙ ap (λ t. front ++ t) on.1)

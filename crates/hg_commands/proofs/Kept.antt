@@ -1,6 +1,5 @@
 -- What a store that is fed keeps.
-use Rattle.std.proofs.Common.{◌≡◌, ℕ, ◌≤◌, List, [], ◌∷◌, ◌++◌, length, Some, Result, Ok, Err, IsTrue, Bool, true, false, refl, sym, ap, subst, ◌∙◌, inl, inr, arith}
-use Rattle.std.proofs.lemmas.Bool.{false≢true}
+use Rattle.std.proofs.Common.{◌≡◌, ℕ, ◌≤◌, List, [], ◌∷◌, ◌++◌, Some, Result, Ok, Err, IsTrue, Bool, true, refl, sym, ap, subst, ◌∙◌, inl, inr, arith}
 use Rattle.hg_streams.specs.declared.call.WriteCall.{WriteCall}
 use Rattle.hg_model.specs.declared.event.Named.{Named}
 use Rattle.hg_model.specs.declared.verdict.Refusal.{Refusal}
@@ -8,15 +7,17 @@ use Rattle.hg_model.specs.Contents.{Content}
 use Rattle.hg_model.specs.Change.{empty_content, followed}
 use Rattle.hg_disk.specs.declared.disk.Disk as disk
 use Rattle.hg_detect.specs.declared.detector.Answer.{Answer}
-use Rattle.hg_detect.specs.declared.detector.Detector.{Detector}
-use Rattle.hg_detect.specs.declared.paged.PagedWords.{PagedWords}
-use Rattle.hg_detect.specs.Memory.{content_of}
+use Rattle.hg_detect.specs.Shown as detect
+use Rattle.hg_pool.specs.Maps as pools
+use Rattle.hg_pool.specs.Shown as pool
+use Rattle.hg_contents.specs.Choices.{Stands}
+use Rattle.hg_contents.specs.Images.{HasContent, Image}
+use Rattle.hg_contents.proofs.Following.{followed_append, followed_events}
 use Rattle.hg_store.specs.declared.devices.Devices.{Devices}
-use Rattle.hg_store.specs.Images.{EachImage, HasContent, Image, IsLeft, read_of}
-use Rattle.hg_store.specs.Offers.{CommitDone, OfferDone, if_accepted}
-use Rattle.hg_store.specs.Shown.{Shown}
-use Rattle.hg_store.specs.Store.{Backs, IsFresh, Stands}
-use Rattle.hg_store.proofs.Contents.{followed_append, followed_events}
+use Rattle.hg_store.specs.Images.{EachImage, Recovers, read_of}
+use Rattle.hg_store.specs.Shown.{Shown, live, saved}
+use Rattle.hg_store.specs.Steps.{CommitDone, ContentOffered, OfferDone, if_accepted}
+use Rattle.hg_store.specs.Store.{Backs, IsFresh}
 use Rattle.hg_store.proofs.Moments.{all_still}
 use Rattle.hg_commands.specs.Feeding.{ack_text}
 use Rattle.hg_commands.specs.Instants.{Instant, instant}
@@ -74,111 +75,102 @@ module _ {D : Type 0} (g : disk.Ghosts D) where
   pub keeps_then : (a b c : Shown D) (x y z : List WriteCall) (k l m : List (Instant D)) → KeepsOn g a x k b y l → KeepsOn g b y l c z m → KeepsOn g a x k c z m
   keeps_then a b c x y z k l m first second = λ start content honest h. second start content honest (first start content honest h)
 
-  -- an event was offered
-  pub keeps_offer : (s m : Shown D) (calls : List WriteCall) (moments : List (Instant D)) (n : Named) (r : Result Answer Refusal) → OfferDone s m n r → ((d : Content) → Backs g s d → Backs g m d)
-      → KeepsOn g s calls moments m calls moments
-  keeps_offer s m calls moments n r done backs = λ start first honest h. record {
-    durable = h.durable;
-    backs = backs h.durable h.backs;
-    front = h.front;
-    before = h.before;
-    acked = h.acked;
-    newest = h.newest;
-    earlier = h.earlier;
-    is = h.is;
-    still = λ works. done.devices ∙ h.still (sym done.is_broken ∙ works);
-    along = subst (λ (x : Devices D). IsKeptAlong g first (content_of m.detector) start (h.newest ∷ h.earlier) (instant x calls)) (sym done.devices)
-        (along_more first (content_of s.detector) (content_of m.detector) (if_accepted n r) start (h.newest ∷ h.earlier) (instant s.devices calls) done.live h.along);
-  }
-
-  -- what is kept from the newest moment on while a commit is made
-  committing : (s m : Shown D) (calls : List WriteCall) (moments : List (Instant D)) (start : Instant D) (first : Content) → s.is_broken ≡ false
-      → ((d : Content) → Backs g s d → EachImage g s.devices m.devices (Stands d (content_of s.detector) true)) → (h : IsKept g start first moments s calls)
-      → IsKeptBetween g first (content_of s.detector) start.calls h.newest (instant m.devices calls)
-  committing s m calls moments start first works images h =
-      let live = content_of s.detector in
-      record {
-        later = h.along.0.later;
-        since = h.along.0.since;
-        count = h.durable.events;
-        acked = h.acked;
-        each = subst (λ (d : Devices D). EachImage g d m.devices (HasAtLeast first live h.durable.events)) (h.still works)
-            (each_weaker s.devices m.devices (Stands h.durable live true) (HasAtLeast first live h.durable.events)
-            (λ image is. stands_on first h.durable live true h.front s.pending image h.before h.backs.live is) (images h.durable h.backs));
-      }
-
-  -- a commit failed
-  pub keeps_failed : (s m : Shown D) (calls : List WriteCall) (moments : List (Instant D)) (r : Refusal) → s.is_broken ≡ false → CommitDone s m (Err r)
-      → ((d : Content) → IsTrue g.is_honest → Backs g s d → Backs g m d)
-      → ((d : Content) → IsTrue g.is_honest → Backs g s d → EachImage g s.devices m.devices (Stands d (content_of s.detector) true)) → KeepsOn g s calls moments m calls moments
-  keeps_failed s m calls moments r works done backs images = λ start first honest h. record {
-    durable = h.durable;
-    backs = backs h.durable honest h.backs;
-    front = h.front;
-    before = h.before;
-    acked = h.acked;
-    newest = h.newest;
-    earlier = h.earlier;
-    is = h.is;
-    still = λ mended. absurd (false≢true (sym mended ∙ done.answer.broken));
-    along = subst (λ (d : Detector PagedWords). IsKeptAlong g first (content_of d) start (h.newest ∷ h.earlier) (instant m.devices calls)) (sym done.detector)
-        (committing s m calls moments start first works (λ d b. images d honest b) h, h.along.1);
-  }
-
   -- what is kept while the devices are not called, and nothing is written but what acknowledges durable events
-  standing : (s : Shown D) (calls : List WriteCall) (start newest : Instant D) (first durable : Content) (front : List Named) → Backs g s durable → followed first front ≡ Some durable → WereGiven (AcksAtMost durable.events) start.calls calls
-      → s.devices ≡ newest.devices → (later : List WriteCall) × (calls ≡ later ++ newest.calls) → IsKeptBetween g first (content_of s.detector) start.calls newest (instant s.devices calls)
-  standing s calls start newest first durable front backs before acked still goes =
-      let live = content_of s.detector in
+  standing : (s : Shown D) (calls : List WriteCall) (start newest : Instant D) (first : Content) (front : List Named) → Backs g s → followed first front ≡ Some (saved g s) → WereGiven (AcksAtMost (saved g s).events) start.calls calls
+      → s.devices ≡ newest.devices → (later : List WriteCall) × (calls ≡ later ++ newest.calls) → IsKeptBetween g first (live g s) start.calls newest (instant s.devices calls)
+  standing s calls start newest first front backs before acked still goes =
+      let c = live g s in
+      let d = saved g s in
       record {
         later = goes.0;
         since = goes.1;
-        count = durable.events;
+        count = d.events;
         acked = acked;
-        each = subst (λ (d : Devices D). EachImage g d s.devices (HasAtLeast first live durable.events)) still
-            (all_still g s.devices (HasAtLeast first live durable.events)
-            (λ image left. stands_on first durable live s.is_broken front s.pending image before backs.live (backs.stands image left)));
+        each = subst (λ (x : Devices D). EachImage g x s.devices (HasAtLeast first c d.events)) still
+            (all_still g s.devices (HasAtLeast first c d.events)
+            (λ image left. stands_on first d c s.in_doubt front s.pending image before backs.live (backs.stands image left)));
       }
 
-  -- a commit was made, and its moment was kept
-  pub keeps_commit : (s m : Shown D) (calls : List WriteCall) (moments later : List (Instant D)) (moment : Instant D) (count : ℕ) → s.is_broken ≡ false → CommitDone s m (Ok count)
-      → ((d : Content) → IsTrue g.is_honest → Backs g s d → Backs g m (content_of s.detector))
-      → ((d : Content) → IsTrue g.is_honest → Backs g s d → EachImage g s.devices m.devices (Stands d (content_of s.detector) true))
+  -- One step was made, and its moment was kept: the live content and the durable one were led on by events, and each image during the step stands for
+  -- those that the store had before it.
+  pub keeps_step : (s m : Shown D) (calls : List WriteCall) (moments later : List (Instant D)) (moment : Instant D) (doubt : Bool) (events more : List Named)
+      → (IsTrue g.is_honest → followed (live g s) events ≡ Some (live g m)) → (IsTrue g.is_honest → Backs g s → followed (saved g s) more ≡ Some (saved g m))
+      → (IsTrue g.is_honest → Backs g s → EachImage g s.devices m.devices (Stands (saved g s) (live g s) doubt)) → (IsTrue g.is_honest → Backs g m)
       → later ≡ moment ∷ moments → moment ≡ instant m.devices calls → KeepsOn g s calls moments m calls later
-  keeps_commit s m calls moments later moment count works done backs images pushed is = λ start first honest h.
-      let live = content_of s.detector in
-      let same : content_of m.detector ≡ live = ap (λ (d : Detector PagedWords). content_of d) done.detector in
+  keeps_step s m calls moments later moment doubt events more leads durable images backs pushed is = λ start first honest h.
       let mid = instant m.devices calls in
-      let front = h.front ++ s.pending in
-      let before : followed first front ≡ Some live = followed_append h.front s.pending first h.durable h.before ∙ h.backs.live in
+      let front = h.front ++ more in
+      let next = durable honest h.backs in
+      let before : followed first front ≡ Some (saved g m) = followed_append h.front more first (saved g s) h.before ∙ next in
       let acked =
-      given_weaker (AcksAtMost h.durable.events) (AcksAtMost live.events) start.calls calls (λ text. acks_more h.durable.events live.events text (omega (arith, followed_events s.pending h.durable live h.backs.live))) h.acked in
-      let backed = backs h.durable honest h.backs in
+      given_weaker (AcksAtMost (saved g s).events) (AcksAtMost (saved g m).events) start.calls calls (λ text. acks_more (saved g s).events (saved g m).events text (omega (arith, followed_events more (saved g s) (saved g m) next))) h.acked in
+      let between : IsKeptBetween g first (live g s) start.calls h.newest mid = record {
+        later = h.along.0.later;
+        since = h.along.0.since;
+        count = (saved g s).events;
+        acked = h.acked;
+        each = subst (λ (x : Devices D). EachImage g x m.devices (HasAtLeast first (live g s) (saved g s).events)) h.still
+            (each_weaker s.devices m.devices (Stands (saved g s) (live g s) doubt) (HasAtLeast first (live g s) (saved g s).events)
+            (λ image on. stands_on first (saved g s) (live g s) doubt h.front s.pending image h.before h.backs.live on) (images honest h.backs));
+      } in
       record {
-        durable = live;
-        backs = backed;
+        backs = backs honest;
         front = front;
         before = before;
         acked = acked;
         newest = mid;
         earlier = moments;
         is = pushed ∙ ap (λ x. x ∷ moments) is;
-        still = λ works. refl;
+        still = refl;
         along = (
-          standing m calls start mid first live front backed before acked refl ([], refl),
-          subst (λ (c : Content). IsKeptAlong g first c start moments mid) (sym same)
-              (subst (λ (t : List (Instant D)). IsKeptAlong g first live start t mid) (sym h.is)
-              (committing s m calls moments start first works (λ d b. images d honest b) h, h.along.1)),
+          standing m calls start mid first front (backs honest) before acked refl ([], refl),
+          along_more first (live g s) (live g m) events start moments mid (leads honest)
+              (subst (λ (t : List (Instant D)). IsKeptAlong g first (live g s) start t mid) (sym h.is) (between, h.along.1)),
         );
       }
 
+  -- an event was offered
+  pub keeps_offer : (s m : Shown D) (calls : List WriteCall) (moments later : List (Instant D)) (moment : Instant D) (n : Named) (r : Result Answer Refusal) → OfferDone g s m n r → (IsTrue g.is_honest → ContentOffered g s m n r)
+      → (IsTrue g.is_honest → EachImage g s.devices m.devices (Stands (saved g s) (live g s) s.in_doubt)) → (IsTrue g.is_honest → Backs g m) → later ≡ moment ∷ moments → moment ≡ instant m.devices calls
+      → KeepsOn g s calls moments m calls later
+  keeps_offer s m calls moments later moment n r done content images backs pushed is =
+      keeps_step s m calls moments later moment s.in_doubt (if_accepted n r) [] (λ honest. (content honest).leads)
+      (λ honest b. ap (λ (d : detect.Shown (pool.Shown D)). Some (detect.content (pools.live g) d)) (sym done.same.committed)) (λ honest b. images honest) backs pushed is
+
+  -- a commit was made, or failed
+  pub keeps_commit : (s m : Shown D) (calls : List WriteCall) (moments later : List (Instant D)) (moment : Instant D) (r : Result ℕ Refusal) → CommitDone g s m r
+      → (IsTrue g.is_honest → EachImage g s.devices m.devices (Stands (saved g s) (live g s) true)) → (IsTrue g.is_honest → Backs g m) → later ≡ moment ∷ moments → moment ≡ instant m.devices calls
+      → KeepsOn g s calls moments m calls later
+  keeps_commit s m calls moments later moment (Ok count) done images backs pushed is =
+      keeps_step s m calls moments later moment true [] s.pending (λ honest. ap (λ (d : detect.Shown (pool.Shown D)). Some (detect.content (pools.live g) d)) (sym done.detector))
+      (λ honest b. b.live ∙ ap (λ (d : detect.Shown (pool.Shown D)). Some (detect.content (pools.live g) d)) (sym done.answer.committed)) (λ honest b. images honest) backs pushed is
+  keeps_commit s m calls moments later moment (Err refusal) done images backs pushed is =
+      keeps_step s m calls moments later moment true [] [] (λ honest. ap (λ (d : detect.Shown (pool.Shown D)). Some (detect.content (pools.live g) d)) (sym done.detector))
+      (λ honest b. ap (λ (d : detect.Shown (pool.Shown D)). Some (detect.content (pools.live g) d)) (sym done.answer.committed)) (λ honest b. images honest) backs pushed is
+
+  -- a step of a checkpoint was made, or refused
+  pub keeps_checkpoint : (s m : Shown D) (calls : List WriteCall) (moments later : List (Instant D)) (moment : Instant D) (doubt : Bool) → (IsTrue g.is_honest → live g m ≡ live g s) → m.committed ≡ s.committed
+      → (IsTrue g.is_honest → EachImage g s.devices m.devices (Stands (saved g s) (live g s) doubt)) → (IsTrue g.is_honest → Backs g m) → later ≡ moment ∷ moments → moment ≡ instant m.devices calls
+      → KeepsOn g s calls moments m calls later
+  keeps_checkpoint s m calls moments later moment doubt same committed images backs pushed is =
+      keeps_step s m calls moments later moment doubt [] [] (λ honest. ap (λ (c : Content). Some c) (sym (same honest)))
+      (λ honest b. ap (λ (d : detect.Shown (pool.Shown D)). Some (detect.content (pools.live g) d)) (sym committed)) (λ honest b. images honest) backs pushed is
+
+  -- a step that called no device
+  pub keeps_still : (s m : Shown D) (calls : List WriteCall) (moments later : List (Instant D)) (moment : Instant D) → (IsTrue g.is_honest → live g m ≡ live g s) → m.committed ≡ s.committed → m.devices ≡ s.devices
+      → (IsTrue g.is_honest → Backs g m) → later ≡ moment ∷ moments → moment ≡ instant m.devices calls → KeepsOn g s calls moments m calls later
+  keeps_still s m calls moments later moment same committed still backs pushed is =
+      keeps_step s m calls moments later moment s.in_doubt [] [] (λ honest. ap (λ (c : Content). Some c) (sym (same honest)))
+      (λ honest b. ap (λ (d : detect.Shown (pool.Shown D)). Some (detect.content (pools.live g) d)) (sym committed))
+      (λ honest b. subst (λ (x : Devices D). EachImage g s.devices x (Stands (saved g s) (live g s) s.in_doubt)) (sym still)
+      (all_still g s.devices (Stands (saved g s) (live g s) s.in_doubt) b.stands)) backs pushed is
+
   -- a text was printed that acknowledges no more than what is durable
-  pub keeps_printed : (s : Shown D) (calls new : List WriteCall) (moments : List (Instant D)) (text : List ℕ) → s.is_broken ≡ false → IsPrintedNow calls new text
-      → ((d : Content) → Backs g s d → AcksAtMost d.events text) → KeepsOn g s calls moments s new moments
-  keeps_printed s calls new moments text works printed says = λ start first honest h.
-      let acked = given_printed (AcksAtMost h.durable.events) start.calls calls new text printed (says h.durable h.backs) (inr (inl refl)) h.acked in
+  pub keeps_printed : (s : Shown D) (calls new : List WriteCall) (moments : List (Instant D)) (text : List ℕ) → IsPrintedNow calls new text
+      → (IsTrue g.is_honest → Backs g s → AcksAtMost (saved g s).events text) → KeepsOn g s calls moments s new moments
+  keeps_printed s calls new moments text printed says = λ start first honest h.
+      let acked = given_printed (AcksAtMost (saved g s).events) start.calls calls new text printed (says honest h.backs) (inr (inl refl)) h.acked in
       record {
-        durable = h.durable;
         backs = h.backs;
         front = h.front;
         before = h.before;
@@ -188,39 +180,39 @@ module _ {D : Type 0} (g : disk.Ghosts D) where
         is = h.is;
         still = h.still;
         along = (
-          standing s new start h.newest first h.durable h.front h.backs h.before acked (h.still works) (grows h.newest.calls calls new text printed (h.along.0.later, h.along.0.since)),
+          standing s new start h.newest first h.front h.backs h.before acked h.still (grows h.newest.calls calls new text printed (h.along.0.later, h.along.0.since)),
           h.along.1,
         );
       }
 
   -- what a commit counts is durable
-  pub ack_enough : (s m : Shown D) (count : ℕ) → CommitDone s m (Ok count) → (d : Content) → Backs g m d → AcksAtMost d.events (ack_text count)
-  ack_enough s m count done d backs = inl (
+  pub ack_enough : (s m : Shown D) (count : ℕ) → CommitDone g s m (Ok count) → AcksAtMost (saved g m).events (ack_text count)
+  ack_enough s m count done = inl (
     count,
-    omega (arith, followed_events m.pending d (content_of m.detector) backs.live, ap length done.answer.pending, done.answer.answer, ap (λ (x : Detector PagedWords). (content_of x).events) done.detector),
+    omega (arith, done.answer.answer, ap (λ (d : detect.Shown (pool.Shown D)). (detect.content (pools.live g) d).events) done.answer.committed),
     refl,
   )
 
   -- a store that was just opened
-  fresh_kept : (old : Devices D) (s : Shown D) (first : Content) (calls : List WriteCall) → EachImage g old s.devices (IsLeft g old) → IsFresh g s first
+  fresh_kept : (old : Devices D) (s : Shown D) (first : Content) (calls : List WriteCall) → Recovers g old s.devices → IsFresh g s first
       → IsKept g (instant old calls) first (instant s.devices calls ∷ []) s calls
   fresh_kept old s first calls recovery fresh =
-      let none = given_none (AcksAtMost first.events) calls in
+      let none = given_none (AcksAtMost (saved g s).events) calls in
+      let before : followed first [] ≡ Some (saved g s) = ap (λ (c : Content). Some c) (sym fresh.durable) in
       record {
-        durable = first;
         backs = fresh.backs;
         front = [];
-        before = refl;
+        before = before;
         acked = none;
         newest = instant s.devices calls;
         earlier = [];
         is = refl;
-        still = λ works. refl;
-        along = (standing s calls (instant old calls) (instant s.devices calls) first first [] fresh.backs refl none refl ([], refl), (recovery, refl));
+        still = refl;
+        along = (standing s calls (instant old calls) (instant s.devices calls) first [] fresh.backs before none refl ([], refl), (recovery, refl));
       }
 
   -- a store was opened and fed
-  pub fed_is_kept : (old new : Devices D) (s u : Shown D) (before after : List WriteCall) (none opening moments : List (Instant D)) (moment : Instant D) → EachImage g old s.devices (IsLeft g old)
+  pub fed_is_kept : (old new : Devices D) (s u : Shown D) (before after : List WriteCall) (none opening moments : List (Instant D)) (moment : Instant D) → Recovers g old s.devices
       → ((c : Content) × HasContent (read_of g old) c × IsFresh g s c) → IsTrue g.is_honest → KeepsOn g s before opening u after moments → opening ≡ moment ∷ none → moment ≡ instant s.devices before → none ≡ [] → new ≡ u.devices
       → EachAckIsKept g (instant old before) moments (instant new after)
   fed_is_kept old new s u before after none opening moments moment recovery began honest keeps pushed first empty is =
@@ -228,14 +220,14 @@ module _ {D : Type 0} (g : disk.Ghosts D) where
       let h = keeps (instant old before) began.0 honest (subst (λ t. IsKept g (instant old before) began.0 t s before) (sym one) (fresh_kept old s began.0 before recovery began.2)) in
       record {
         first = began.0;
-        last = content_of u.detector;
+        last = live g u;
         opened = λ _. began.1;
-        along = subst (λ (d : Devices D). IsKeptAlong g began.0 (content_of u.detector) (instant old before) moments (instant d after)) (sym is)
-            (subst (λ (t : List (Instant D)). IsKeptAlong g began.0 (content_of u.detector) (instant old before) t (instant u.devices after)) (sym h.is) h.along);
+        along = subst (λ (d : Devices D). IsKeptAlong g began.0 (live g u) (instant old before) moments (instant d after)) (sym is)
+            (subst (λ (t : List (Instant D)). IsKeptAlong g began.0 (live g u) (instant old before) t (instant u.devices after)) (sym h.is) h.along);
       }
 
   -- no store was opened
-  pub none_is_kept : (old new : Devices D) (calls : List WriteCall) (moments : List (Instant D)) → moments ≡ [] → EachImage g old new (IsLeft g old) → EachAckIsKept g (instant old calls) moments (instant new calls)
+  pub none_is_kept : (old new : Devices D) (calls : List WriteCall) (moments : List (Instant D)) → moments ≡ [] → Recovers g old new → EachAckIsKept g (instant old calls) moments (instant new calls)
   none_is_kept old new calls moments none images = record {
     first = empty_content;
     last = empty_content;

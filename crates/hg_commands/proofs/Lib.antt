@@ -1,4 +1,5 @@
 mod Causes
+mod Checkpointed
 mod FeedDone
 mod FeedPieces
 mod FeedSteps

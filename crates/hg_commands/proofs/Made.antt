@@ -1,18 +1,22 @@
 -- What is kept of a store that is made.
-use Rattle.std.proofs.Common.{◌≡◌, ◌⊎◌, ◌<◌, List, [], ◌∷◌, refl, sym, ap, subst, ◌∙◌, inl, inr, ⊎_elim, codes}
+use Rattle.std.proofs.Common.{◌≡◌, ◌⊎◌, ◌<◌, Bool, false, List, [], ◌∷◌, refl, sym, ap, subst, ◌∙◌, inl, inr, ⊎_elim, codes}
+use Rattle.std.proofs.lemmas.Bool.{false≢true}
 use Rattle.hg_streams.specs.declared.call.WriteCall.{WriteCall}
 use Rattle.hg_streams.specs.Calls.{failed_writes}
 use Rattle.hg_model.specs.Change.{empty_content}
+use Rattle.hg_model.specs.Contents.{Content}
 use Rattle.hg_disk.specs.declared.disk.Disk as disk
+use Rattle.hg_contents.specs.Choices.{Stands}
+use Rattle.hg_contents.specs.Images.{HasContent, Image}
+use Rattle.hg_contents.specs.Stores.{IsLeft}
 use Rattle.hg_store.specs.declared.devices.Devices.{Devices}
-use Rattle.hg_store.specs.Images.{EachImage, HasContent}
-use Rattle.hg_store.specs.Shown.{Shown}
+use Rattle.hg_store.specs.Images.{EachImage, states_of}
+use Rattle.hg_store.specs.Shown.{Shown, live, saved}
 use Rattle.hg_store.specs.Store.{IsFresh}
 use Rattle.hg_store.proofs.Moments.{all_still}
 use Rattle.hg_commands.specs.Creating.{CreatedIsKept, IsMadeBetween, IsOfNone}
 use Rattle.hg_commands.specs.Instants.{Instant, instant}
 use Rattle.hg_commands.specs.Printed.{IsPrintedNow}
-use Rattle.hg_commands.proofs.FeedDone.{fresh_is_left}
 use Rattle.hg_commands.proofs.Given.{given_none, given_printed}
 
 module _ {D : Type 0} (g : disk.Ghosts D) where
@@ -26,11 +30,21 @@ module _ {D : Type 0} (g : disk.Ghosts D) where
       subst (λ t. CreatedIsKept g (instant old before) t (instant new after)) (sym empty)
       (inl (given_printed IsOfNone before before after (codes "not empty\n") printed (inr refl) (inl refl) (given_none IsOfNone before)))
 
+  certain : (d live : Content) (in_doubt : Bool) (image : Image) → in_doubt ≡ false → Stands d live in_doubt image → HasContent image d
+  certain d live in_doubt image sure (inl is) = is
+  certain d live in_doubt image sure (inr b) = absurd (false≢true (sym sure ∙ b.0))
+
+  -- each image of a fresh store has its content
+  pub fresh_is_left : (s : Shown D) (c : Content) (new : Devices D) (image : Image) → IsFresh g s c → new ≡ s.devices → IsLeft (states_of g new) image → HasContent image c
+  fresh_is_left s c new image fresh is left =
+      subst (λ (d : Content). HasContent image d) fresh.durable
+      (certain (saved g s) (live g s) s.in_doubt image fresh.idle.certain (fresh.backs.stands image (subst (λ (d : Devices D). IsLeft (states_of g d) image) is left)))
+
   -- the devices of a store that was just made were not called
   fresh_still : (s : Shown D) (new : Devices D) → IsFresh g s empty_content → new ≡ s.devices → EachImage g s.devices new (λ image. HasContent image empty_content)
   fresh_still s new fresh is =
       subst (λ d. EachImage g s.devices d (λ image. HasContent image empty_content)) (sym is)
-      (all_still g s.devices (λ image. HasContent image empty_content) (λ image left. fresh_is_left g s empty_content s.devices image fresh refl left))
+      (all_still g s.devices (λ image. HasContent image empty_content) (λ image left. fresh_is_left s empty_content s.devices image fresh refl left))
 
   -- a store was made; that was written, or its writing failed
   pub one_is_made : (old new : Devices D) (s : Shown D) (before after : List WriteCall) (none one two : List (Instant D)) (first second : Instant D) → IsFresh g s empty_content

@@ -89,14 +89,19 @@ module _ (source lines : ℕ) (r : Reading) (later : List Reading) (past : List 
       → Answers v t (summary past) (sent source lines e) r.line (λ u d. FeedsTo source later u d (lines + 1) c end) c end → IsOfFed source past lines (r ∷ later) c end
   answered Accept e t is v h =
       ⊎_elim
+      (λ room. ⊎_elim
       (λ next. went source lines r e later past c end is
       (subst (λ (p : List Named). IsOfFed source p (lines + 1) later c end) (sym (accepted_is_in_front source lines past e v))
-      (on h.0 (sent source lines e ∷ past) (ok, v)
-      (subst (λ (d : Content). FeedsTo source later h.0 d (lines + 1) c end) (sym (summary_step (sent source lines e) past (ok, v))) next.1))))
+      (on room.0 (sent source lines e ∷ past) (ok, v)
+      (subst (λ (d : Content). FeedsTo source later room.0 d (lines + 1) c end) (sym (summary_step (sent source lines e) past (ok, v))) next.1))))
       (λ full. stopped source lines r later past c end ok full.1.0
       (subst (λ (x : Result Event LineFault). StopsAt x source lines r.line c end) (sym is)
-      (inr (ap (λ d. verdict (standing_of d) (sent source lines e)) full.1.0 ∙ v, full.1.1))))
-      h.1
+      (inr (ap (λ d. verdict (standing_of d) (sent source lines e)) full.1.0 ∙ v, inl full.1.1))))
+      room.1)
+      (λ none. stopped source lines r later past c end ok none.0
+      (subst (λ (x : Result Event LineFault). StopsAt x source lines r.line c end) (sym is)
+      (inr (ap (λ d. verdict (standing_of d) (sent source lines e)) none.0 ∙ v, inr none.1))))
+      h
   answered (Duplicate k) e t is v h =
       went source lines r e later past c end is
       (subst (λ (p : List Named). IsOfFed source p (lines + 1) later c end) (sym (duplicate_is_left_out source lines k past e v)) (on t past ok h))

@@ -5,8 +5,9 @@ use Rattle.hg_model.specs.declared.verdict.Refusal.TheVariants.{DeviceFault, Out
 use Rattle.hg_disk.specs.declared.disk.Disk as disk
 use Rattle.hg_disk.specs.State.{settled}
 use Rattle.hg_model.specs.Change.{empty_content}
+use Rattle.hg_contents.specs.Images.{HasContent}
 use Rattle.hg_store.specs.declared.devices.Devices.{Devices}
-use Rattle.hg_store.specs.Images.{EachImage, HasContent}
+use Rattle.hg_store.specs.Images.{EachImage}
 use Rattle.hg_store.specs.Recovering.{IsEmpty}
 use Rattle.hg_streams.specs.declared.call.WriteCall.{WriteCall}
 use Rattle.hg_streams.specs.Calls.{failed_writes}

@@ -1,34 +1,39 @@
--- How far feeding has come.
-use Rattle.std.specs.Prelude.{◌≡◌, ◌⊎◌, ℕ, ◌+◌, ◌-◌, ◌≤◌, ◌%◌, ◌^◌, false, nat_eq, List, [], ◌∷◌, ◌++◌, length, Result, IsTrue, if◌then◌else◌}
+-- How far feeding has come. What is said of content is said of honest devices.
+use Rattle.std.specs.Prelude.{◌≡◌, ◌⊎◌, ℕ, ◌+◌, ◌-◌, ◌≤◌, ◌%◌, Bool, true, false, nat_eq, List, [], ◌∷◌, ◌++◌, length, Option, Some, None, Result, Ok, Err, IsTrue, if◌then◌else◌}
 use Rattle.hg_model.specs.declared.verdict.Refusal.{Refusal}
+use Rattle.hg_model.specs.declared.verdict.Refusal.TheVariants.{Broken, Damaged, DeviceFault, OutOfMemory}
 use Rattle.hg_model.specs.declared.event.Event.{Event}
-use Rattle.hg_model.specs.declared.verdict.Refusal.TheVariants.{DeviceFault}
+use Rattle.hg_model.specs.Contents.{Content}
 use Rattle.hg_sets.specs.Interning.{Table}
 use Rattle.hg_detect.specs.declared.detector.Answer.{Answer}
-use Rattle.hg_model.specs.Contents.{Content}
 use Rattle.hg_streams.specs.declared.call.ReadCall.{ReadCall}
 use Rattle.hg_streams.specs.declared.call.ReadCall.TheVariants.{Gave}
 use Rattle.hg_streams.specs.declared.call.WriteCall.{WriteCall}
 use Rattle.hg_streams.specs.Calls.{ends_met, failed_reads, given}
-use Rattle.hg_check.specs.Printing.{MayBe, Took}
-use Rattle.hg_check.specs.Written.{TookFront}
+use Rattle.hg_streams.specs.Told.{told}
 use Rattle.hg_disk.specs.declared.disk.Disk as disk
-use Rattle.hg_store.specs.Shown.{Shown}
-use Rattle.hg_detect.specs.Memory.{content_of}
-use Rattle.hg_store.specs.Store.{Backs}
+use Rattle.hg_contents.specs.Images.{HasContent, Image}
+use Rattle.hg_contents.specs.Stores.{IsLeft}
+use Rattle.hg_store.specs.Answers.{failed_in}
 use Rattle.hg_store.specs.declared.devices.Devices.{Devices}
-use Rattle.hg_store.specs.Images.{HasContent, Image, IsLeft, failures_of, read_of}
-use Rattle.hg_store.specs.Offers.{OfferDone}
-use Rattle.hg_store.specs.Recovering.{HasSets}
+use Rattle.hg_store.specs.declared.steps.StepFault.{StepFault}
+use Rattle.hg_store.specs.declared.steps.StepFault.TheVariants as step
+use Rattle.hg_store.specs.declared.steps.StepFault.TheVariants.{WrongPhase}
+use Rattle.hg_store.specs.Images.{HasOpened, failures_of, read_of, states_of}
+use Rattle.hg_store.specs.Recovering.{HasTable}
+use Rattle.hg_store.specs.Shown.{Shown, live, saved}
+use Rattle.hg_store.specs.Steps.{ContentOffered, OfferDone}
+use Rattle.hg_store.specs.Store.{Backs}
 use Rattle.hg_wire.specs.declared.reader.Reading.{Reading}
 use Rattle.hg_wire.specs.Streams.{Pending, ended_from, ended_readings, readings, readings_from}
 use Rattle.hg_check.specs.declared.checker.Ending.{Ending}
-use Rattle.hg_check.specs.declared.checker.Ending.TheVariants.{Ended}
+use Rattle.hg_check.specs.declared.checker.Ending.TheVariants.{Ended, Refused, Bad}
+use Rattle.hg_check.specs.Printing.{MayBe, Took}
+use Rattle.hg_check.specs.Streaming.{IsTold}
+use Rattle.hg_check.specs.Written.{TookFront}
 use Rattle.hg_commands.specs.declared.feeding.Fed.{Fed}
-use Rattle.hg_streams.specs.Told.{told_refusal}
-use Rattle.hg_check.specs.Streaming.{IsStreamFault, IsTold}
+use Rattle.hg_commands.specs.Feeding.{FeedsTo, HasRoom, ack_text, acks_text, checkpoint_text, feed_text, sent}
 use Rattle.hg_commands.specs.Storing.{HasFeedCause, failed_calls}
-use Rattle.hg_commands.specs.Feeding.{FeedsTo, ack_text, acks_text, feed_text, sent}
 
 -- a store, what was fed to it, and the output
 pub record Place (D : Type 0) : Type 0 where
@@ -40,8 +45,8 @@ abbrev pub place : {D : Type 0} → Shown D → Fed → List WriteCall → Place
 place store fed output = record { store = store; fed = fed; output = output }
 
 -- the content with all accepted events
-abbrev pub content_at : {D : Type 0} → Place D → Content
-content_at p = content_of p.store.detector
+abbrev pub content_at : {D : Type 0} → disk.Ghosts D → Place D → Content
+content_at g p = live g p.store
 
 -- its table of sets
 abbrev pub table_at : {D : Type 0} → Place D → Table
@@ -53,52 +58,13 @@ pub record IsReady {D : Type 0} (store : Shown D) (fed : Fed) : Type 0 where
   pub pending : length store.pending ≡ fed.accepted % 256
   pub few : fed.accepted ≤ fed.number
 
--- What the readings lead to from here.
-abbrev pub LeadsOn : {D : Type 0} → Place D → List Reading → Content → Ending → Type 0
-LeadsOn p readings last end = FeedsTo p.fed.source readings (table_at p) (content_at p) p.fed.number last end
+-- A refusal of an event that ends feeding by a fault. Any other one is told as the line's.
+abbrev pub IsEventFault : Refusal → Type 0
+IsEventFault r = (r ≡ OutOfMemory) ⊎ ((r ≡ DeviceFault) ⊎ ((r ≡ Damaged) ⊎ (r ≡ Broken)))
 
--- what was printed since the output was as it was at first: a front, and the lines of commits
-pub record IsPrinted {D : Type 0} (first : List WriteCall) (front : List ℕ) (events : ℕ) (p : Place D) : Type 0 where
-  pub count : (content_at p).events ≡ events + p.fed.accepted
-  pub printed : Took first p.output (front ++ acks_text events p.fed.accepted)
-
--- An honest disk's images have a content that leads to the store's.
-abbrev pub IsBacked : {D : Type 0} → disk.Ghosts D → Shown D → Type 0
-IsBacked g store = IsTrue g.is_honest → (d : Content) × Backs g store d
-
--- From one place to another no call of a device or of the output failed, and what held of the store and of the output still holds.
-pub record GoesOn {D : Type 0} (g : disk.Ghosts D) (old new : Place D) : Type 0 where
-  pub source : new.fed.source ≡ old.fed.source
-  pub failures : failed_calls g new.store.devices new.output ≡ failed_calls g old.store.devices old.output
-  pub backed : IsBacked g old.store → IsBacked g new.store
-  pub printed : (first : List WriteCall) (front : List ℕ) (events : ℕ) → IsPrinted first front events old → IsPrinted first front events new
-  pub ready : IsReady new.store new.fed
-
--- One reading was passed.
-pub record Passes {D : Type 0} (g : disk.Ghosts D) (old new : Place D) (reading : Reading) : Type 0 where
-  pub goes : GoesOn g old new
-  pub number : new.fed.number ≡ old.fed.number + 1
-  pub leads : (later : List Reading) (last : Content) (end : Ending) → LeadsOn new later last end → LeadsOn old (reading ∷ later) last end
-  pub back : (later : List Reading) (last : Content) (end : Ending) → LeadsOn old (reading ∷ later) last end → LeadsOn new later last end
-
--- A reading ended the feeding, whatever follows it.
-pub record EndsAt {D : Type 0} (g : disk.Ghosts D) (old new : Place D) (reading : Reading) (end : Ending) : Type 0 where
-  pub goes : GoesOn g old new
-  pub leads : (later : List Reading) → LeadsOn old (reading ∷ later) (content_at new) end
-
--- From a piece before the reader, feeding has come this far with the rest of it before the reader.
-pub record FeedReaches {D : Type 0} (g : disk.Ghosts D) (before : Pending) (old : Place D) (piece : List ℕ) (now : Pending) (new : Place D) (rest : List ℕ) : Type 0 where
-  pub goes : GoesOn g old new
-  pub leads : (more : List ℕ) (last : Content) (end : Ending) → LeadsOn new (readings_from now (rest ++ more)) last end → LeadsOn old (readings_from before (piece ++ more)) last end
-  pub back : (more : List ℕ) (last : Content) (end : Ending) → LeadsOn old (readings_from before (piece ++ more)) last end → LeadsOn new (readings_from now (rest ++ more)) last end
-  pub ended : (more : List ℕ) (last : Content) (end : Ending) → LeadsOn new (ended_from now (rest ++ more)) last end → LeadsOn old (ended_from before (piece ++ more)) last end
-  pub lines : now.lines + length rest ≤ before.lines + length piece
-  pub number : new.fed.number + length rest ≤ old.fed.number + length piece
-
--- Whatever follows the piece, feeding ends here.
-pub record FeedEndsIn {D : Type 0} (g : disk.Ghosts D) (before : Pending) (old : Place D) (piece : List ℕ) (new : Place D) (end : Ending) : Type 0 where
-  pub goes : GoesOn g old new
-  pub leads : (more : List ℕ) → LeadsOn old (readings_from before (piece ++ more)) (content_at new) end
+-- How the refusal of a line's event ends feeding.
+abbrev pub EndsLine : ℕ → Refusal → Result (Option Ending) Refusal → Type 0
+EndsLine line r result = (IsEventFault r × (result ≡ Err r)) ⊎ ((IsEventFault r → ⊥) × (result ≡ Ok (Some (Refused line r))))
 
 -- Reads of a source's input lead from a table and a content to the last content and the ending: the last of them met the end of the
 -- input, and all that they gave leads there; or what they gave leads there, whatever follows it.
@@ -107,144 +73,234 @@ FeedEndsBy source table first reads last end =
     ((earlier : List ReadCall) × (reads ≡ Gave [] ∷ earlier) × FeedsTo source (readings (given earlier)) table first 0 last end)
     ⊎ ((more : List ℕ) → FeedsTo source (readings (given reads ++ more)) table first 0 last end)
 
--- Each of these reads was needed: before the last of them none had met the end of the input, and each line that had come whole was passed: its event was accepted, or was sent before.
-pub record EachIsNeeded (source : ℕ) (table : Table) (start : Content) (reads : List ReadCall) : Type 0 where
-  pub last : ReadCall
-  pub earlier : List ReadCall
-  pub newest : reads ≡ last ∷ earlier
-  pub underway : ends_met earlier ≡ 0
-  pub content : Content
-  pub passed : FeedsTo source (ended_readings (given earlier)) table start 0 content Ended
-
--- From the first reads to those of now, none failed, each was needed, and what they gave leads from a table and a content to the last content and the ending.
-pub record Feeds (first now : List ReadCall) (source : ℕ) (table : Table) (start last : Content) (end : Ending) : Type 0 where
-  pub later : List ReadCall
-  pub since : now ≡ later ++ first
-  pub whole : failed_reads later ≡ 0
-  pub needed : EachIsNeeded source table start later
-  pub leads : FeedEndsBy source table start later last end
-
--- From the first reads to those of now none failed and none met the end, each line that a line feed ended was passed, and whatever follows what they gave, what that leads to from here is what all of it leads to.
-pub record HasFed {D : Type 0} (first now : List ReadCall) (source : ℕ) (table : Table) (start : Content) (p : Pending) (here : Place D) : Type 0 where
-  pub later : List ReadCall
-  pub since : now ≡ later ++ first
-  pub intact : failed_reads later ≡ 0
-  pub underway : ends_met later ≡ 0
-  pub none_left : ended_from p [] ≡ []
-  pub back : (more : List ℕ) (last : Content) (end : Ending) → FeedsTo source (readings (given later ++ more)) table start 0 last end → LeadsOn here (readings_from p more) last end
-  pub ended : (more : List ℕ) (last : Content) (end : Ending) → LeadsOn here (ended_from p more) last end → FeedsTo source (ended_readings (given later ++ more)) table start 0 last end
-  pub leads : (more : List ℕ) (last : Content) (end : Ending) → LeadsOn here (readings_from p more) last end → FeedsTo source (readings (given later ++ more)) table start 0 last end
-
--- What was written since the output was as it was at first is a front of what is due for this content: a front, and the lines of commits up to it.
-abbrev pub FrontFor : {D : Type 0} → Place D → List WriteCall → Content → Type 0
-FrontFor old now last = (first : List WriteCall) (front : List ℕ) (events : ℕ) → IsPrinted first front events old → TookFront first now (front ++ acks_text events (last.events - events))
-
--- Feeding was broken off at a reading: whatever follows it, what was written is a front of what is due for that.
-abbrev pub BreaksAt : {D : Type 0} → Place D → Reading → List WriteCall → Type 0
-BreaksAt old reading now = (later : List Reading) (last : Content) (end : Ending) → LeadsOn old (reading ∷ later) last end → FrontFor old now last
-
--- the same in a piece
-abbrev pub BreaksIn : {D : Type 0} → Pending → Place D → List ℕ → List WriteCall → Type 0
-BreaksIn before old piece now = (more : List ℕ) (last : Content) (end : Ending) → LeadsOn old (readings_from before (piece ++ more)) last end → FrontFor old now last
-
--- the same at the end of the input
-abbrev pub BreaksLast : {D : Type 0} → Pending → Place D → List WriteCall → Type 0
-BreaksLast before old now = (last : Content) (end : Ending) → LeadsOn old (readings_from before []) last end → FrontFor old now last
-
--- Whatever the whole input may be by the reads that were made, what was written is a front of what is due for it.
-pub record HasFront {D : Type 0} (first reads : List ReadCall) (source : ℕ) (table : Table) (start : Content) (old : Place D) (now : List WriteCall) : Type 0 where
-  pub later : List ReadCall
-  pub since : reads ≡ later ++ first
-  pub front : (input : List ℕ) (last : Content) (end : Ending) → MayBe later input → FeedsTo source (readings input) table start 0 last end → FrontFor old now last
-
--- Feeding was broken off by a read or behind it.
-abbrev pub FeedBreaks : {D : Type 0} → List ReadCall → List ReadCall → Pending → Place D → List WriteCall → Type 0
-FeedBreaks reads later before old now =
-    (first : List ReadCall) (source : ℕ) (table : Table) (start : Content) → HasFed first reads source table start before old → HasFront first later source table start old now
-
 -- Whatever the whole input may be by the reads that were made, what was written is a front of the text for it, from a table and a content.
-pub record WroteFrontFrom (source : ℕ) (table : Table) (start : Content) (reads_old reads_new : List ReadCall) (old new : List WriteCall) : Type 0 where
+pub record WroteFrontOfAny (source : ℕ) (table : Table) (start : Content) (reads_old reads_new : List ReadCall) (old new : List WriteCall) : Type 0 where
   pub later : List ReadCall
   pub since : reads_new ≡ later ++ reads_old
-  pub front : (input : List ℕ) (last : Content) (end : Ending) → MayBe later input → FeedsTo source (readings input) table start 0 last end → TookFront old new (feed_text source start last end)
+  pub front : (input : List ℕ) (last : Content) (checkpoint : Option ℕ) (end : Ending) → HasRoom end → MayBe later input → FeedsTo source (readings input) table start 0 last end
+      → TookFront old new (feed_text source start last checkpoint end)
 
--- What was written is a front of what is due from a table and a content, which honest devices have; or nothing was written.
-abbrev pub WroteFeedFront : {D : Type 0} → disk.Ghosts D → ℕ → Devices D → List ReadCall → List ReadCall → List WriteCall → List WriteCall → Type 0
-WroteFeedFront g source old reads_old reads_new calls_old calls_new =
-    (calls_new ≡ calls_old)
-    ⊎ ((table : Table) × ((first : Content) × ((IsTrue g.is_honest → HasContent (read_of g old) first × HasSets 262144 (g.state old.journal).contents first table)
-    × WroteFrontFrom source table first reads_old reads_new calls_old calls_new)))
-
--- A feeding that ended by a fault: it had a cause, it was told, or that failed too, and what was written before is a front of what was due.
-abbrev pub EndsByFeedFault : {D : Type 0} → disk.Ghosts D → ℕ → Devices D → Devices D → List ReadCall → List ReadCall → List WriteCall → List WriteCall → List WriteCall → List WriteCall → Type 0
-EndsByFeedFault g source old new reads_old reads_new calls_old calls_new faults_old faults_new =
-    (r : Refusal) × (HasFeedCause g old new reads_old reads_new calls_old calls_new r × (IsTold faults_old faults_new r × WroteFeedFront g source old reads_old reads_new calls_old calls_new))
-
--- A read of at most so many bytes brought feeding from here to there.
-pub record FeedAdvances {D : Type 0} (g : disk.Ghosts D) (reads later : List ReadCall) (before : Pending) (old : Place D) (now : Pending) (new : Place D) (room : ℕ) : Type 0 where
-  pub goes : GoesOn g old new
-  pub leads : (first : List ReadCall) (source : ℕ) (table : Table) (start : Content) → HasFed first reads source table start before old → HasFed first later source table start now new
-  pub lines : now.lines ≤ before.lines + room
-  pub number : new.fed.number ≤ old.fed.number + room
-
--- A read met the end of the input, and left feeding as it was.
-pub record FeedMeetsEnd {D : Type 0} (g : disk.Ghosts D) (reads later : List ReadCall) (before : Pending) (old : Place D) (now : Pending) (new : Place D) : Type 0 where
-  pub met : later ≡ Gave [] ∷ reads
-  pub pending : now ≡ before
-  pub place : new ≡ old
-
--- A read came upon the line that ends feeding.
-pub record FeedStops {D : Type 0} (g : disk.Ghosts D) (reads later : List ReadCall) (before : Pending) (old new : Place D) (end : Ending) : Type 0 where
-  pub goes : GoesOn g old new
-  pub leads : (first : List ReadCall) (source : ℕ) (table : Table) (start : Content) → HasFed first reads source table start before old → Feeds first later source table start (content_at new) end
-
--- A commit was answered Ok.
-pub record WasCommitted {D : Type 0} (g : disk.Ghosts D) (old new : Shown D) : Type 0 where
-  pub works : new.is_broken ≡ false
-  pub none : new.pending ≡ []
-  pub detector : new.detector ≡ old.detector
-  pub failures : failures_of g new.devices ≡ failures_of g old.devices
-  pub backs : IsBacked g old → IsTrue g.is_honest → Backs g new (content_of old.detector)
-
--- An event was sent to a store.
-pub record WasSent {D : Type 0} (g : disk.Ghosts D) (old new : Shown D) (before now : Fed) (e : Event) (r : Result Answer Refusal) : Type 0 where
-  pub done : OfferDone old new (sent before.source before.number e) r
-  pub fed : now ≡ record before { number = before.number + 1 }
-  pub backs : (d : Content) → Backs g old d → Backs g new d
-
--- An accepted event was counted, and committed with those before it where it was the last of 256.
-pub record WasCounted {D : Type 0} (g : disk.Ghosts D) (old new : Place D) : Type 0 where
-  pub fed : new.fed ≡ record old.fed { accepted = old.fed.accepted + 1 }
-  pub works : new.store.is_broken ≡ false
-  pub pending : length new.store.pending ≡ (old.fed.accepted + 1) % 256
-  pub detector : new.store.detector ≡ old.store.detector
-  pub failures : failed_calls g new.store.devices new.output ≡ failed_calls g old.store.devices old.output
-  pub backed : IsBacked g old.store → IsBacked g new.store
-  pub printed : Took old.output new.output (if nat_eq ((old.fed.accepted + 1) % 256) 0 then ack_text (content_at old).events else [])
-
--- Why feeding a store ended: memory was refused, and nothing failed; or one call of a device or a stream failed; or 2^32 reads were made.
-pub record FeedFails {D : Type 0} (g : disk.Ghosts D) (old new : Shown D) (reads_old reads_new : List ReadCall) (calls_old calls_new : List WriteCall) (r : Refusal) : Type 0 where
-  pub is : IsStreamFault r
-  pub failed : (failed_reads reads_new + failed_calls g new.devices calls_new ≡ told_refusal r + (failed_reads reads_old + failed_calls g old.devices calls_old))
-      ⊎ ((r ≡ DeviceFault) × (2 ^ 32 + length reads_old ≤ length reads_new))
-
--- A store was fed all of an input, or up to the line that ended it.
-pub record WasFed {D : Type 0} (g : disk.Ghosts D) (reads later : List ReadCall) (source : ℕ) (old new : Shown D) (before after : List WriteCall) (end : Ending) : Type 0 where
-  pub feeds : Feeds reads later source old.detector.sets (content_of old.detector) (content_of new.detector) end
-  pub printed : Took before after (feed_text source (content_of old.detector) (content_of new.detector) end)
-  pub failures : failed_calls g new.devices after ≡ failed_calls g old.devices before
-  pub works : new.is_broken ≡ false
-  pub backs : IsBacked g old → IsTrue g.is_honest → Backs g new (content_of new.detector)
-
--- What feeding the store on these devices did: the events of what was read led from a table and a content to
--- the last content, and that was printed and nothing else. Of honest devices, the first content is what they read, the table has
--- the sets of their journal, and any crash from now on leaves the last content.
-pub record FeedDone {D : Type 0} (g : disk.Ghosts D) (reads later : List ReadCall) (source : ℕ) (old new : Devices D) (before after : List WriteCall) (end : Ending) : Type 0 where
-  pub table : Table
-  pub first : Content
+-- The reads that were made lead to an end, and what was written is a front of the text for it.
+pub record WroteFrontOfOne (source : ℕ) (table : Table) (start : Content) (reads_old reads_new : List ReadCall) (old new : List WriteCall) : Type 0 where
+  pub later : List ReadCall
+  pub since : reads_new ≡ later ++ reads_old
   pub last : Content
-  pub feeds : Feeds reads later source table first last end
-  pub printed : Took before after (feed_text source first last end)
-  pub failures : failed_calls g new after ≡ failed_calls g old before
-  pub began : IsTrue g.is_honest → HasContent (read_of g old) first × HasSets 262144 (g.state old.journal).contents first table
-  pub ended : IsTrue g.is_honest → (image : Image) → IsLeft g new image → HasContent image last
+  pub checkpoint : Option ℕ
+  pub end : Ending
+  pub leads : FeedEndsBy source table start later last end
+  pub front : TookFront old new (feed_text source start last checkpoint end)
+
+abbrev pub WroteFrontFrom : ℕ → Table → Content → List ReadCall → List ReadCall → List WriteCall → List WriteCall → Type 0
+WroteFrontFrom source table start reads_old reads_new old new = WroteFrontOfAny source table start reads_old reads_new old new ⊎ WroteFrontOfOne source table start reads_old reads_new old new
+
+-- how many device calls failed in a step of a checkpoint that was not made
+abbrev pub failed_of : StepFault → ℕ
+failed_of (WrongPhase phase) = 0
+failed_of (step.Refused refusal) = failed_in refusal
+
+-- whether a checkpoint is made at an end, where one is asked for
+abbrev pub is_due : Bool → Ending → Bool
+is_due asked Ended = asked
+is_due asked (Refused line refusal) = false
+is_due asked (Bad line) = false
+
+module _ {D : Type 0} (g : disk.Ghosts D) where
+  -- What the readings lead to from here.
+  abbrev pub LeadsOn : Place D → List Reading → Content → Ending → Type 0
+  LeadsOn p readings last end = FeedsTo p.fed.source readings (table_at p) (content_at g p) p.fed.number last end
+
+  -- what was printed since the output was as it was at first: a front, and the lines of commits
+  pub record IsPrinted (first : List WriteCall) (front : List ℕ) (events : ℕ) (p : Place D) : Type 0 where
+    pub count : (content_at g p).events ≡ events + p.fed.accepted
+    pub printed : Took first p.output (front ++ acks_text events p.fed.accepted)
+
+  -- From one place to another no call of a device or of the output failed, and what held of the output still holds.
+  pub record GoesOn (old new : Place D) : Type 0 where
+    pub source : new.fed.source ≡ old.fed.source
+    pub failures : failed_calls g new.store.devices new.output ≡ failed_calls g old.store.devices old.output
+    pub printed : IsTrue g.is_honest → (first : List WriteCall) (front : List ℕ) (events : ℕ) → IsPrinted first front events old → IsPrinted first front events new
+    pub ready : IsReady new.store new.fed
+
+  -- One reading was passed.
+  pub record Passes (old new : Place D) (reading : Reading) : Type 0 where
+    pub goes : GoesOn old new
+    pub number : new.fed.number ≡ old.fed.number + 1
+    pub leads : IsTrue g.is_honest → (later : List Reading) (last : Content) (end : Ending) → LeadsOn new later last end → LeadsOn old (reading ∷ later) last end
+    pub back : IsTrue g.is_honest → (later : List Reading) (last : Content) (end : Ending) → HasRoom end → LeadsOn old (reading ∷ later) last end → LeadsOn new later last end
+
+  -- A reading ended the feeding, whatever follows it.
+  pub record EndsAt (old new : Place D) (reading : Reading) (end : Ending) : Type 0 where
+    pub goes : GoesOn old new
+    pub leads : IsTrue g.is_honest → (later : List Reading) → LeadsOn old (reading ∷ later) (content_at g new) end
+
+  -- From a piece before the reader, feeding has come this far with the rest of it before the reader.
+  pub record FeedReaches (before : Pending) (old : Place D) (piece : List ℕ) (now : Pending) (new : Place D) (rest : List ℕ) : Type 0 where
+    pub goes : GoesOn old new
+    pub leads : IsTrue g.is_honest → (more : List ℕ) (last : Content) (end : Ending) → LeadsOn new (readings_from now (rest ++ more)) last end → LeadsOn old (readings_from before (piece ++ more)) last end
+    pub back : IsTrue g.is_honest → (more : List ℕ) (last : Content) (end : Ending) → HasRoom end → LeadsOn old (readings_from before (piece ++ more)) last end → LeadsOn new (readings_from now (rest ++ more)) last end
+    pub ended : IsTrue g.is_honest → (more : List ℕ) (last : Content) (end : Ending) → LeadsOn new (ended_from now (rest ++ more)) last end → LeadsOn old (ended_from before (piece ++ more)) last end
+    pub lines : now.lines + length rest ≤ before.lines + length piece
+    pub number : new.fed.number + length rest ≤ old.fed.number + length piece
+
+  -- Whatever follows the piece, feeding ends here.
+  pub record FeedEndsIn (before : Pending) (old : Place D) (piece : List ℕ) (new : Place D) (end : Ending) : Type 0 where
+    pub goes : GoesOn old new
+    pub leads : IsTrue g.is_honest → (more : List ℕ) → LeadsOn old (readings_from before (piece ++ more)) (content_at g new) end
+
+  -- Each of these reads was needed: before the last of them none had met the end of the input, and each line that had come whole was passed: its event was accepted, or was sent before.
+  pub record EachIsNeeded (source : ℕ) (table : Table) (start : Content) (reads : List ReadCall) : Type 0 where
+    pub last : ReadCall
+    pub earlier : List ReadCall
+    pub newest : reads ≡ last ∷ earlier
+    pub underway : ends_met earlier ≡ 0
+    pub passed : IsTrue g.is_honest → (content : Content) × FeedsTo source (ended_readings (given earlier)) table start 0 content Ended
+
+  -- From the first reads to those of now, none failed, each was needed, and what they gave leads from a table and a content to the last content and the ending.
+  pub record Feeds (first now : List ReadCall) (source : ℕ) (table : Table) (start last : Content) (end : Ending) : Type 0 where
+    pub later : List ReadCall
+    pub since : now ≡ later ++ first
+    pub whole : failed_reads later ≡ 0
+    pub needed : EachIsNeeded source table start later
+    pub leads : IsTrue g.is_honest → FeedEndsBy source table start later last end
+
+  -- From the first reads to those of now none failed and none met the end, each line that a line feed ended was passed, and whatever follows what they gave, what that leads to from here is what all of it leads to.
+  pub record HasFed (first now : List ReadCall) (source : ℕ) (table : Table) (start : Content) (p : Pending) (here : Place D) : Type 0 where
+    pub later : List ReadCall
+    pub since : now ≡ later ++ first
+    pub intact : failed_reads later ≡ 0
+    pub underway : ends_met later ≡ 0
+    pub none_left : ended_from p [] ≡ []
+    pub back : IsTrue g.is_honest → (more : List ℕ) (last : Content) (end : Ending) → HasRoom end → FeedsTo source (readings (given later ++ more)) table start 0 last end → LeadsOn here (readings_from p more) last end
+    pub ended : IsTrue g.is_honest → (more : List ℕ) (last : Content) (end : Ending) → LeadsOn here (ended_from p more) last end → FeedsTo source (ended_readings (given later ++ more)) table start 0 last end
+    pub leads : IsTrue g.is_honest → (more : List ℕ) (last : Content) (end : Ending) → LeadsOn here (readings_from p more) last end → FeedsTo source (readings (given later ++ more)) table start 0 last end
+
+  -- What was written since the output was as it was at first is a front of what is due for this content: a front, and the lines of commits up to it.
+  abbrev pub FrontFor : Place D → List WriteCall → Content → Type 0
+  FrontFor old now last = (first : List WriteCall) (front : List ℕ) (events : ℕ) → IsPrinted first front events old → TookFront first now (front ++ acks_text events (last.events - events))
+
+  -- Feeding was broken off at a reading: whatever follows it, what was written is a front of what is due for that.
+  abbrev pub BreaksAt : Place D → Reading → List WriteCall → Type 0
+  BreaksAt old reading now = IsTrue g.is_honest → (later : List Reading) (last : Content) (end : Ending) → HasRoom end → LeadsOn old (reading ∷ later) last end → FrontFor old now last
+
+  -- the same in a piece
+  abbrev pub BreaksIn : Pending → Place D → List ℕ → List WriteCall → Type 0
+  BreaksIn before old piece now = IsTrue g.is_honest → (more : List ℕ) (last : Content) (end : Ending) → HasRoom end → LeadsOn old (readings_from before (piece ++ more)) last end → FrontFor old now last
+
+  -- the same at the end of the input
+  abbrev pub BreaksLast : Pending → Place D → List WriteCall → Type 0
+  BreaksLast before old now = IsTrue g.is_honest → (last : Content) (end : Ending) → HasRoom end → LeadsOn old (readings_from before []) last end → FrontFor old now last
+
+  -- Whatever the whole input may be by the reads that were made, what was written is a front of what is due for it.
+  pub record HasFront (first reads : List ReadCall) (source : ℕ) (table : Table) (start : Content) (old : Place D) (now : List WriteCall) : Type 0 where
+    pub later : List ReadCall
+    pub since : reads ≡ later ++ first
+    pub front : IsTrue g.is_honest → (input : List ℕ) (last : Content) (end : Ending) → HasRoom end → MayBe later input → FeedsTo source (readings input) table start 0 last end → FrontFor old now last
+
+  -- Feeding was broken off by a read or behind it.
+  abbrev pub FeedBreaks : List ReadCall → List ReadCall → Pending → Place D → List WriteCall → Type 0
+  FeedBreaks reads later before old now =
+      (first : List ReadCall) (source : ℕ) (table : Table) (start : Content) → HasFed first reads source table start before old → HasFront first later source table start old now
+
+  -- What was written is a front of what is due from the content and the table of the devices; or nothing was written.
+  abbrev pub WroteFeedFront : ℕ → Devices D → List ReadCall → List ReadCall → List WriteCall → List WriteCall → Type 0
+  WroteFeedFront source old reads_old reads_new calls_old calls_new =
+      (calls_new ≡ calls_old)
+      ⊎ (IsTrue g.is_honest → (table : Table) × ((first : Content) × (HasContent (read_of g old) first × (HasTable 262144 (read_of g old) first table
+      × WroteFrontFrom source table first reads_old reads_new calls_old calls_new))))
+
+  -- A feeding that ended by a fault: it had a cause, it was told, or that failed too, and what was written before is a front of what was due.
+  abbrev pub EndsByFeedFault : ℕ → Devices D → Devices D → List ReadCall → List ReadCall → List WriteCall → List WriteCall → List WriteCall → List WriteCall → Type 0
+  EndsByFeedFault source old new reads_old reads_new calls_old calls_new faults_old faults_new =
+      (r : Refusal) × (HasFeedCause g old new reads_old reads_new calls_old calls_new r × (IsTold faults_old faults_new r × WroteFeedFront source old reads_old reads_new calls_old calls_new))
+
+  -- A read of at most so many bytes brought feeding from here to there.
+  pub record FeedAdvances (reads later : List ReadCall) (before : Pending) (old : Place D) (now : Pending) (new : Place D) (room : ℕ) : Type 0 where
+    pub goes : GoesOn old new
+    pub leads : (first : List ReadCall) (source : ℕ) (table : Table) (start : Content) → HasFed first reads source table start before old → HasFed first later source table start now new
+    pub lines : now.lines ≤ before.lines + room
+    pub number : new.fed.number ≤ old.fed.number + room
+
+  -- A read met the end of the input, and left feeding as it was.
+  pub record FeedMeetsEnd (reads later : List ReadCall) (before : Pending) (old : Place D) (now : Pending) (new : Place D) : Type 0 where
+    pub met : later ≡ Gave [] ∷ reads
+    pub pending : now ≡ before
+    pub place : new ≡ old
+
+  -- A read came upon the line that ends feeding.
+  pub record FeedStops (reads later : List ReadCall) (before : Pending) (old new : Place D) (end : Ending) : Type 0 where
+    pub goes : GoesOn old new
+    pub leads : (first : List ReadCall) (source : ℕ) (table : Table) (start : Content) → HasFed first reads source table start before old → Feeds first later source table start (content_at g new) end
+
+  -- A commit was answered Ok.
+  pub record WasCommitted (old new : Shown D) : Type 0 where
+    pub works : new.is_broken ≡ false
+    pub none : new.pending ≡ []
+    pub detector : new.detector ≡ old.detector
+    pub committed : new.committed ≡ old.detector
+    pub failures : failures_of g new.devices ≡ failures_of g old.devices
+
+  -- An event was sent to a store.
+  pub record WasSent (old new : Shown D) (before now : Fed) (e : Event) (r : Result Answer Refusal) : Type 0 where
+    pub done : OfferDone g old new (sent before.source before.number e) r
+    pub content : IsTrue g.is_honest → ContentOffered g old new (sent before.source before.number e) r
+    pub fed : now ≡ record before { number = before.number + 1 }
+    pub failures : failures_of g new.devices ≡ told r + failures_of g old.devices
+
+  -- An accepted event was counted, and committed with those before it where it was the last of 256.
+  pub record WasCounted (old new : Place D) : Type 0 where
+    pub fed : new.fed ≡ record old.fed { accepted = old.fed.accepted + 1 }
+    pub works : new.store.is_broken ≡ false
+    pub pending : length new.store.pending ≡ (old.fed.accepted + 1) % 256
+    pub detector : new.store.detector ≡ old.store.detector
+    pub failures : failed_calls g new.store.devices new.output ≡ failed_calls g old.store.devices old.output
+    pub printed : Took old.output new.output (if nat_eq ((old.fed.accepted + 1) % 256) 0 then ack_text (content_at g old).events else [])
+
+  -- One step of a checkpoint was made, or refused: the events stay, and a call failed where that is told.
+  pub record StaysFed {T : Type 0} (old new : Shown D) (result : Result T Refusal) : Type 0 where
+    pub live : IsTrue g.is_honest → live g new ≡ live g old
+    pub committed : new.committed ≡ old.committed
+    pub pending : new.pending ≡ old.pending
+    pub failures : failures_of g new.devices ≡ told result + failures_of g old.devices
+
+  -- Where a checkpoint was due, each image has it as its newest one, of this number and this content.
+  abbrev pub WasMade : Bool → Devices D → Content → Option ℕ → Type 0
+  WasMade true devices c (Some number) = IsTrue g.is_honest → HasOpened g devices number c
+  WasMade true devices c None = ⊥
+  WasMade false devices c checkpoint = checkpoint ≡ None
+
+  -- The checkpoint that was due was made, and told; or none was due.
+  pub record WasCheckpointed (is_made : Bool) (old new : Shown D) (before after : List WriteCall) : Type 0 where
+    pub checkpoint : Option ℕ
+    pub made : WasMade is_made new.devices (live g old) checkpoint
+    pub printed : Took before after (checkpoint_text checkpoint)
+    pub live : IsTrue g.is_honest → live g new ≡ live g old
+    pub committed : new.committed ≡ old.committed
+    pub works : new.is_broken ≡ false
+    pub failures : failures_of g new.devices ≡ failures_of g old.devices
+
+  -- A store was fed all of an input, or up to the line that ended it.
+  pub record WasFed (reads later : List ReadCall) (source : ℕ) (asked : Bool) (old new : Shown D) (before after : List WriteCall) (end : Ending) : Type 0 where
+    pub checkpoint : Option ℕ
+    pub feeds : Feeds reads later source old.detector.sets (live g old) (live g new) end
+    pub printed : IsTrue g.is_honest → Took before after (feed_text source (live g old) (live g new) checkpoint end)
+    pub made : WasMade (is_due asked end) new.devices (live g new) checkpoint
+    pub failures : failed_calls g new.devices after ≡ failed_calls g old.devices before
+    pub works : new.is_broken ≡ false
+    pub durable : IsTrue g.is_honest → saved g new ≡ live g new
+    pub backs : IsTrue g.is_honest → Backs g new
+
+  -- What feeding the store on these devices did: the events of what was read led from a table and a content to
+  -- the last content, and that was printed and nothing else. Of honest devices, the first content is what they read, the table has
+  -- the sets of that, and any crash from now on leaves the last content; and where a checkpoint was asked for, and the input came to its end,
+  -- each image has it as its newest one.
+  pub record FeedDone (reads later : List ReadCall) (source : ℕ) (asked : Bool) (old new : Devices D) (before after : List WriteCall) (end : Ending) : Type 0 where
+    pub table : Table
+    pub first : Content
+    pub last : Content
+    pub checkpoint : Option ℕ
+    pub feeds : Feeds reads later source table first last end
+    pub printed : IsTrue g.is_honest → Took before after (feed_text source first last checkpoint end)
+    pub made : WasMade (is_due asked end) new last checkpoint
+    pub failures : failed_calls g new after ≡ failed_calls g old before
+    pub began : IsTrue g.is_honest → HasContent (read_of g old) first × HasTable 262144 (read_of g old) first table
+    pub ended : IsTrue g.is_honest → (image : Image) → IsLeft (states_of g new) image → HasContent image last

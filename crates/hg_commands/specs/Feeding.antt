@@ -1,8 +1,8 @@
 -- What feeding a trace text to a store leads to, and what is printed of it.
-use Rattle.std.specs.Prelude.{◌≡◌, ◌⊎◌, ℕ, zero, suc, ◌+◌, ◌-◌, ◌%◌, nat_eq, List, [], ◌∷◌, ◌++◌, Some, None, Result, Ok, Err, codes, if◌then◌else◌}
+use Rattle.std.specs.Prelude.{◌≡◌, ◌⊎◌, ℕ, zero, suc, ◌+◌, ◌-◌, ◌%◌, nat_eq, List, [], ◌∷◌, ◌++◌, Option, Some, None, Result, Ok, Err, codes, if◌then◌else◌}
 use Rattle.hg_model.specs.declared.event.Event.{Event}
 use Rattle.hg_model.specs.declared.event.Named.{Named}
-use Rattle.hg_model.specs.declared.verdict.Refusal.TheVariants.{FullSets}
+use Rattle.hg_model.specs.declared.verdict.Refusal.TheVariants.{FullSets, FullSlots}
 use Rattle.hg_model.specs.declared.verdict.Verdict.{Verdict}
 use Rattle.hg_model.specs.declared.verdict.Verdict.TheVariants.{Accept, Duplicate, Refuse}
 use Rattle.hg_model.specs.Contents.{Content}
@@ -23,11 +23,12 @@ abbrev pub sent : ℕ → ℕ → Event → Named
 sent source lines e = record { source = source; number = lines + 1; event = e }
 
 -- An event that is accepted leads on (`later`) from the table with the sets that it asks for and from the content after it,
--- unless the table has no room for them, which ends the feeding; one that was sent before is passed over; and one that the
--- rules refuse ends the feeding.
+-- unless the table has no room for them, or no slot is free for a page, which ends the feeding; one that was sent before is passed
+-- over; and one that the rules refuse ends the feeding.
 abbrev pub Answers : Verdict → Table → Content → Named → ℕ → (Table → Content → Type 0) → Content → Ending → Type 0
 Answers Accept table c n line later last end =
-    (new : Table) × ((Asks table (sets_asked c n.event) None new × later new (after c n)) ⊎ (Asks table (sets_asked c n.event) (Some Full) new × ((last ≡ c) × (end ≡ Refused line FullSets))))
+    ((new : Table) × ((Asks table (sets_asked c n.event) None new × later new (after c n)) ⊎ (Asks table (sets_asked c n.event) (Some Full) new × ((last ≡ c) × (end ≡ Refused line FullSets)))))
+    ⊎ ((last ≡ c) × (end ≡ Refused line FullSlots))
 Answers (Duplicate k) table c n line later last end = later table c
 Answers (Refuse r) table c n line later last end = (last ≡ c) × (end ≡ Refused line r)
 
@@ -39,6 +40,10 @@ IsOffered (Ok e) source table c lines line later last end = Answers (verdict (st
 abbrev pub FeedsTo : ℕ → List Reading → Table → Content → ℕ → Content → Ending → Type 0
 FeedsTo source [] table c lines last end = (last ≡ c) × (end ≡ Ended)
 FeedsTo source (r ∷ later) table c lines last end = IsOffered r.event source table c lines r.line (λ t d. FeedsTo source later t d (lines + 1) last end) last end
+
+-- It did not end because no slot was free. All other ends are settled by the text, the table and the content.
+abbrev pub HasRoom : Ending → Type 0
+HasRoom end = (line : ℕ) → end ≡ Refused line FullSlots → ⊥
 
 -- the line of a commit that made so many events durable
 abbrev pub ack_text : ℕ → List ℕ
@@ -55,7 +60,12 @@ feed_end_text last Ended = line_text (store_end_line last)
 feed_end_text last (Refused line refusal) = stop_text (Refused line refusal)
 feed_end_text last (Bad line) = stop_text (Bad line)
 
--- What `feed` prints from the content that it recovered to its last one.
-abbrev pub feed_text : ℕ → Content → Content → Ending → List ℕ
-feed_text source first last end =
-    ((number_text (codes "resume ") (first.last source) ++ acks_text first.events (last.events - first.events)) ++ ack_text last.events) ++ feed_end_text last end
+-- the line of a checkpoint that was made, and none where none was
+abbrev pub checkpoint_text : Option ℕ → List ℕ
+checkpoint_text None = []
+checkpoint_text (Some number) = number_text (codes "checkpoint ") number
+
+-- What `feed` prints from the content that it recovered to its last one: the line of the last number, those of the commits, that of a checkpoint, and the last one.
+abbrev pub feed_text : ℕ → Content → Content → Option ℕ → Ending → List ℕ
+feed_text source first last checkpoint end =
+    (((number_text (codes "resume ") (first.last source) ++ acks_text first.events (last.events - first.events)) ++ ack_text last.events) ++ checkpoint_text checkpoint) ++ feed_end_text last end

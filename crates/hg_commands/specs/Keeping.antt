@@ -1,13 +1,13 @@
 -- What is kept of a store's events while it is fed, whatever fails meanwhile.
-use Rattle.std.specs.Prelude.{◌≡◌, ◌⊎◌, ℕ, ◌≤◌, List, [], ◌∷◌, ◌++◌, Some, IsTrue, false, codes}
+use Rattle.std.specs.Prelude.{◌≡◌, ◌⊎◌, ℕ, ◌≤◌, List, [], ◌∷◌, ◌++◌, Some, IsTrue, codes}
 use Rattle.hg_streams.specs.declared.call.WriteCall.{WriteCall}
 use Rattle.hg_model.specs.declared.event.Named.{Named}
 use Rattle.hg_model.specs.Contents.{Content}
 use Rattle.hg_model.specs.Change.{followed}
 use Rattle.hg_disk.specs.declared.disk.Disk as disk
-use Rattle.hg_detect.specs.Memory.{content_of}
-use Rattle.hg_store.specs.Images.{EachImage, HasContent, Image, IsLeft, IsOn, read_of}
-use Rattle.hg_store.specs.Shown.{Shown}
+use Rattle.hg_contents.specs.Images.{HasContent, Image}
+use Rattle.hg_store.specs.Images.{EachImage, IsOn, Recovers, read_of}
+use Rattle.hg_store.specs.Shown.{Shown, live, saved}
 use Rattle.hg_store.specs.Store.{Backs}
 use Rattle.hg_check.specs.declared.checker.Ending.{Ending}
 use Rattle.hg_commands.specs.Feeding.{ack_text, feed_end_text}
@@ -15,9 +15,11 @@ use Rattle.hg_commands.specs.Instants.{Instant, instant}
 use Rattle.hg_commands.specs.Printed.{WereGiven}
 use Rattle.hg_commands.specs.Storing.{number_text}
 
--- A text that acknowledges nothing: none, the line of `resume`, or the last line.
+-- A text that acknowledges nothing: none, the line of `resume` or of a checkpoint, or the last line.
 abbrev pub IsOther : List ℕ → Type 0
-IsOther text = (text ≡ []) ⊎ (((k : ℕ) × (text ≡ number_text (codes "resume ") k)) ⊎ ((c : Content) × (end : Ending) × (text ≡ feed_end_text c end)))
+IsOther text =
+    (text ≡ []) ⊎ (((k : ℕ) × (text ≡ number_text (codes "resume ") k))
+    ⊎ (((k : ℕ) × (text ≡ number_text (codes "checkpoint ") k)) ⊎ ((c : Content) × (end : Ending) × (text ≡ feed_end_text c end))))
 
 -- A text that acknowledges so many events at most: an `ack` of no more, or one that acknowledges nothing.
 abbrev pub AcksAtMost : ℕ → List ℕ → Type 0
@@ -38,9 +40,9 @@ module _ {D : Type 0} (g : disk.Ghosts D) where
     pub each : EachImage g old.devices new.devices (HasAtLeast first last count)
 
   -- From the start of a feeding to now, over the moments between, the newest first. Up to the oldest of them, at which the store is open,
-  -- nothing is written, and each image is one that there was at the start; and so it is all along where there is none.
+  -- nothing is written, and each image has the content of one that there was at the start; and so it is all along where there is none.
   abbrev pub IsKeptAlong : Content → Content → Instant D → List (Instant D) → Instant D → Type 0
-  IsKeptAlong first last start [] now = EachImage g start.devices now.devices (IsLeft g start.devices) × (now.calls ≡ start.calls)
+  IsKeptAlong first last start [] now = Recovers g start.devices now.devices × (now.calls ≡ start.calls)
   IsKeptAlong first last start (mid ∷ earlier) now = IsKeptBetween first last start.calls mid now × IsKeptAlong first last start earlier mid
 
   -- At each moment of a feeding, whatever ends it, each image of the devices has each event that is counted by an `ack` that was written by then,
@@ -52,19 +54,18 @@ module _ {D : Type 0} (g : disk.Ghosts D) where
     pub opened : (moments ≡ [] → ⊥) → HasContent (read_of g start.devices) first
     pub along : IsKeptAlong first last start moments now
 
-  -- While a store that was opened on devices with the first content is fed: it stands for a durable content, which leads from the first one by
-  -- accepted events and has each acknowledged one; while it works, the devices are those of the newest moment; and all is kept so far.
+  -- While a store that was opened on devices with the first content is fed: its durable content follows from the first one by
+  -- accepted events and has each acknowledged one; the devices are those of the newest moment; and all is kept so far.
   pub record IsKept (start : Instant D) (first : Content) (moments : List (Instant D)) (s : Shown D) (now : List WriteCall) : Type 0 where
-    pub durable : Content
-    pub backs : Backs g s durable
+    pub backs : Backs g s
     pub front : List Named
-    pub before : followed first front ≡ Some durable
-    pub acked : WereGiven (AcksAtMost durable.events) start.calls now
+    pub before : followed first front ≡ Some (saved g s)
+    pub acked : WereGiven (AcksAtMost (saved g s).events) start.calls now
     pub newest : Instant D
     pub earlier : List (Instant D)
     pub is : moments ≡ newest ∷ earlier
-    pub still : s.is_broken ≡ false → s.devices ≡ newest.devices
-    pub along : IsKeptAlong first (content_of s.detector) start (newest ∷ earlier) (instant s.devices now)
+    pub still : s.devices ≡ newest.devices
+    pub along : IsKeptAlong first (live g s) start (newest ∷ earlier) (instant s.devices now)
 
   -- What is kept stays kept from one moment to another.
   abbrev pub KeepsOn : Shown D → List WriteCall → List (Instant D) → Shown D → List WriteCall → List (Instant D) → Type 0

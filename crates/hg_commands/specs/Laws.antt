@@ -3,7 +3,7 @@ use Rattle.std.specs.Prelude.{◌≡◌, ◌⊎◌, ℕ, ◌+◌, ◌≤◌, nat
 use Rattle.hg_model.specs.declared.event.Event.{Event}
 use Rattle.hg_model.specs.declared.event.Named.{Named}
 use Rattle.hg_model.specs.declared.verdict.Refusal.{Refusal}
-use Rattle.hg_model.specs.declared.verdict.Refusal.TheVariants.{FullSets}
+use Rattle.hg_model.specs.declared.verdict.Refusal.TheVariants.{FullSets, FullSlots}
 use Rattle.hg_model.specs.declared.verdict.Verdict.TheVariants.{Accept, Refuse}
 use Rattle.hg_model.specs.Contents.{Content, last_of_source, summary}
 use Rattle.hg_model.specs.Verdicts.{IsAccepted, verdict, standing_of}
@@ -13,18 +13,18 @@ use Rattle.hg_wire.specs.declared.reader.Reading.{Reading}
 use Rattle.hg_wire.specs.Streams.{readings}
 use Rattle.hg_check.specs.declared.checker.Ending.{Ending}
 use Rattle.hg_check.specs.declared.checker.Ending.TheVariants.{Ended, Refused, Bad}
-use Rattle.hg_commands.specs.Feeding.{FeedsTo, sent}
+use Rattle.hg_commands.specs.Feeding.{FeedsTo, HasRoom, sent}
 
--- From one table of sets and content, feeding a text of a source leads to one content and ends in one way.
+-- From one table of sets and content, feeding a text of a source leads to one content and ends in one way, while slots are free.
 abbrev pub FeedingIsUnique : Type 0
 FeedingIsUnique = (source : ℕ) (bytes : List ℕ) (table : Table) (start c d : Content) (first second : Ending)
-    → FeedsTo source (readings bytes) table start 0 c first → FeedsTo source (readings bytes) table start 0 d second → (c ≡ d) × (first ≡ second)
+    → HasRoom first → HasRoom second → FeedsTo source (readings bytes) table start 0 c first → FeedsTo source (readings bytes) table start 0 d second → (c ≡ d) × (first ≡ second)
 
 -- From a content, and a table that has no more sets than its limit, feeding a text of a source leads to some content, and ends in some
--- way. The table of every store is such a one (`within` of `AreSets`).
+-- way, while slots are free. The table of every store is such a one (`within` of `AreSets`).
 abbrev pub EveryTextFedHasAnOutcome : Type 0
 EveryTextFedHasAnOutcome = (source : ℕ) (bytes : List ℕ) (table : Table) (start : Content) → length table.sets ≤ table.limit
-    → (c : Content) × ((end : Ending) × FeedsTo source (readings bytes) table start 0 c end)
+    → (c : Content) × ((end : Ending) × (HasRoom end × FeedsTo source (readings bytes) table start 0 c end))
 
 -- The trace, newest event first, with the event of the line that follows so many others of its source. An event that the trace
 -- has already, by its number, is passed over.
@@ -36,12 +36,12 @@ abbrev pub with_fed : ℕ → List Named → ℕ → List Event → List Named
 with_fed source past lines [] = past
 with_fed source past lines (e ∷ events) = with_fed source (with_sent source past lines e) (lines + 1) events
 
--- How feeding ends at a line after so many others: it is bad, or the rules refuse its event, or they accept it and the table of sets is full.
+-- How feeding ends at a line after so many others: it is bad, or the rules refuse its event, or they accept it and the table of sets is full or no slot is free.
 abbrev pub StopsAt : Result Event LineFault → ℕ → ℕ → ℕ → Content → Ending → Type 0
 StopsAt (Err fault) source lines line c end = end ≡ Bad line
 StopsAt (Ok e) source lines line c end =
     ((r : Refusal) × (verdict (standing_of c) (sent source lines e) ≡ Refuse r) × (end ≡ Refused line r))
-    ⊎ ((verdict (standing_of c) (sent source lines e) ≡ Accept) × (end ≡ Refused line FullSets))
+    ⊎ ((verdict (standing_of c) (sent source lines e) ≡ Accept) × ((end ≡ Refused line FullSets) ⊎ (end ≡ Refused line FullSlots)))
 
 -- how feeding ends with these lines left, after so many others
 abbrev pub EndsWith : ℕ → ℕ → List Reading → Content → Ending → Type 0

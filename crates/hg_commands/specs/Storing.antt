@@ -2,12 +2,13 @@
 use Rattle.std.specs.Prelude.{◌≡◌, ◌⊎◌, ℕ, ◌+◌, ◌≤◌, ◌^◌, List, [], ◌∷◌, ◌++◌, length, IsTrue}
 use Rattle.std.specs.Fmt.{decimal}
 use Rattle.hg_model.specs.declared.verdict.Refusal.{Refusal}
-use Rattle.hg_model.specs.declared.verdict.Refusal.TheVariants.{Damaged, FullSets, DeviceFault, OutOfMemory}
+use Rattle.hg_model.specs.declared.verdict.Refusal.TheVariants.{Broken, Damaged, FullEvents, FullSets, FullSlots, DeviceFault, OutOfMemory}
 use Rattle.hg_model.specs.Contents.{Content}
 use Rattle.hg_disk.specs.declared.disk.Disk as disk
+use Rattle.hg_contents.specs.Images.{HasContent}
 use Rattle.hg_store.specs.declared.devices.Devices.{Devices}
-use Rattle.hg_store.specs.Images.{HasContent, failures_of, read_of}
-use Rattle.hg_store.specs.Recovering.{IsTooSmall}
+use Rattle.hg_store.specs.Images.{failures_of, read_of}
+use Rattle.hg_store.specs.Recovering.{HasFewSets}
 use Rattle.hg_streams.specs.declared.call.ReadCall.{ReadCall}
 use Rattle.hg_streams.specs.declared.call.WriteCall.{WriteCall}
 use Rattle.hg_streams.specs.Calls.{failed_reads, failed_writes}
@@ -16,7 +17,7 @@ use Rattle.hg_wire.specs.Reports.{end_line}
 use Rattle.hg_commands.specs.declared.listing.Listing.{Listing}
 use Rattle.hg_commands.specs.declared.listing.Listing.TheVariants.{Reports, Segments}
 use Rattle.hg_check.specs.Printing.{line_text, reports_text, segments_text}
-use Rattle.hg_check.specs.Streaming.{IsTold}
+use Rattle.hg_check.specs.Streaming.{IsStreamFault, IsTold}
 use Rattle.hg_check.specs.Written.{TookFront}
 
 -- a line of a word and a number
@@ -32,29 +33,52 @@ abbrev pub listing_text : Listing → Content → List ℕ
 listing_text Reports c = reports_text 1 c.reports ++ line_text (store_end_line c)
 listing_text Segments c = segments_text 0 c.segments
 
+-- How many calls have failed, of so many before, where this is told: one more for a device fault, and else no more. A device fault is told without
+-- a failed call too, where a page that was read before reads otherwise now.
+abbrev pub IsCounted : Refusal → ℕ → ℕ → Type 0
+IsCounted r old new = (new ≡ told_refusal r + old) ⊎ ((r ≡ DeviceFault) × (new ≡ old))
+
+-- What ends the feeding of a store that works: a device or a stream failed, or memory was refused; or bytes of a page are outside the formats; or, in a
+-- checkpoint, there is no slot for a page, or no number for a root.
+abbrev pub IsFeedFault : Refusal → Type 0
+IsFeedFault r = IsStreamFault r ⊎ ((r ≡ Damaged) ⊎ ((r ≡ Broken) ⊎ ((r ≡ FullSlots) ⊎ (r ≡ FullEvents))))
+
 module _ {D : Type 0} (g : disk.Ghosts D) where
   -- A refusal of a store's devices that is true: the bytes of honest devices have no content, or the table of sets is too
-  -- small for it. The other two say what failed.
+  -- small for it. The others say what failed, or that pages were changed for which there is no slot.
   abbrev pub IsTrueOf : Devices D → Refusal → Type 0
   IsTrueOf old r =
       ((r ≡ Damaged) × (IsTrue g.is_honest → (c : Content) → ¬ HasContent (read_of g old) c))
-      ⊎ (((r ≡ FullSets) × (IsTrue g.is_honest → IsTooSmall 262144 (g.state old.journal).contents))
-      ⊎ ((r ≡ DeviceFault) ⊎ (r ≡ OutOfMemory)))
+      ⊎ (((r ≡ FullSets) × (IsTrue g.is_honest → HasFewSets 262144 (read_of g old)))
+      ⊎ ((r ≡ FullSlots) ⊎ ((r ≡ DeviceFault) ⊎ (r ≡ OutOfMemory))))
 
   -- how many calls of the devices and of the output have failed
   abbrev pub failed_calls : Devices D → List WriteCall → ℕ
   failed_calls devices calls = failures_of g devices + failed_writes calls
 
-  -- Why a command over a store ended by a fault. One call of a device or of the output failed where that is told, and none where another cause is.
+  -- Why a command over a store ended by a fault: it is true of the devices, and the calls that failed are told.
   pub record HasStoreCause (old new : Devices D) (calls_old calls_new : List WriteCall) (r : Refusal) : Type 0 where
     pub is_true : IsTrueOf old r
-    pub failed : failed_calls new calls_new ≡ told_refusal r + failed_calls old calls_old
+    pub failed : IsCounted r (failed_calls old calls_old) (failed_calls new calls_new)
 
-  -- The same of a command that reads: a call of a device or a stream failed, or 2^32 reads were made.
-  pub record HasFeedCause (old new : Devices D) (reads_old reads_new : List ReadCall) (calls_old calls_new : List WriteCall) (r : Refusal) : Type 0 where
+  -- Why a store was not opened. Nothing was read or written.
+  pub record FailsToOpen (old new : Devices D) (reads_old reads_new : List ReadCall) (calls_old calls_new : List WriteCall) (r : Refusal) : Type 0 where
     pub is_true : IsTrueOf old r
+    pub failed : IsCounted r (failures_of g old) (failures_of g new)
+    pub unread : reads_new ≡ reads_old
+    pub unwritten : calls_new ≡ calls_old
+
+  -- Why feeding a store ended: one call of a device or a stream failed where that is told, and none where another cause is; or 2^32 reads were made.
+  pub record FeedFails (old new : Devices D) (reads_old reads_new : List ReadCall) (calls_old calls_new : List WriteCall) (r : Refusal) : Type 0 where
+    pub is : IsFeedFault r
     pub failed : (failed_reads reads_new + failed_calls new calls_new ≡ told_refusal r + (failed_reads reads_old + failed_calls old calls_old))
         ⊎ ((r ≡ DeviceFault) × (2 ^ 32 + length reads_old ≤ length reads_new))
+
+  -- Why a command that feeds a store ended by a fault: the store was not opened, or feeding it failed then.
+  abbrev pub HasFeedCause : Devices D → Devices D → List ReadCall → List ReadCall → List WriteCall → List WriteCall → Refusal → Type 0
+  HasFeedCause old new reads_old reads_new calls_old calls_new r =
+      FailsToOpen old new reads_old reads_new calls_old calls_new r
+      ⊎ ((opened : Devices D) × ((failures_of g opened ≡ failures_of g old) × FeedFails opened new reads_old reads_new calls_old calls_new r))
 
   -- What was written is a front of the listing of a content, which honest devices have; or nothing was written.
   abbrev pub WroteListing : Listing → Devices D → List WriteCall → List WriteCall → Type 0

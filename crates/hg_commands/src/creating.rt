@@ -4,7 +4,9 @@ ghost use Rattle.std.specs.Prelude.{◌≡◌, ◌⊎◌, [], Ok, Err, OnErr, On
 ghost use Rattle.hg_check.specs.Printing.{Took};
 ghost use Rattle.hg_disk.specs.State.{counted, settled};
 ghost use Rattle.hg_model.specs.Change.{empty_content};
-ghost use Rattle.hg_store.specs.Images.{HasContent, Image, IsLeft, failures_of, read_of};
+ghost use Rattle.hg_contents.specs.Images.{HasContent, Image};
+ghost use Rattle.hg_contents.specs.Stores.{IsLeft};
+ghost use Rattle.hg_store.specs.Images.{failures_of, read_of, states_of};
 ghost use Rattle.hg_store.specs.Recovering.{IsEmpty, empty_image};
 ghost use Rattle.hg_commands.specs.Creating.{CreatedIsKept, EndsByCreateFault, HasCreateCause, IsCleared, WroteAnswer};
 ghost use Rattle.hg_commands.specs.Instants.{instant};
@@ -52,7 +54,7 @@ fn make_and_print<D: Disk, W: Write>(
 ) -> (Result<u8, Refusal>, Devices<D>)
     requires none { moments.old ≡ [] }
     ensures status { IfOk result.0 (λ s. (s ≡ 0) ⊎ (s ≡ 2)) }
-    ensures durable { result.0 ≡ Ok 0 → (image : Image) → IsLeft ⟦<D as Disk>⟧ result.1 image → HasContent image empty_content }
+    ensures durable { result.0 ≡ Ok 0 → (image : Image) → IsLeft (states_of ⟦<D as Disk>⟧ result.1) image → HasContent image empty_content }
     ensures created { result.0 ≡ Ok 0 → IsEmpty ⟦<D as Disk>⟧ devices × (read_of ⟦<D as Disk>⟧ result.1 ≡ empty_image)
         × Took output.old.calls output.new.calls (codes "created\n") }
     ensures not_empty { result.0 ≡ Ok 2 → ¬ IsEmpty ⟦<D as Disk>⟧ devices × (result.1 ≡ devices)
@@ -94,7 +96,7 @@ pub fn create_store<D: Disk, W: Write, V: Write>(
     faults: &mut Output<V>,
 ) -> Outcome<D, W>
     ensures status { (result.status ≡ 0) ⊎ ((result.status ≡ 2) ⊎ (result.status ≡ 3)) }
-    ensures durable { result.status ≡ 0 → (image : Image) → IsLeft ⟦<D as Disk>⟧ result.devices image → HasContent image empty_content }
+    ensures durable { result.status ≡ 0 → (image : Image) → IsLeft (states_of ⟦<D as Disk>⟧ result.devices) image → HasContent image empty_content }
     ensures created { result.status ≡ 0 → IsEmpty ⟦<D as Disk>⟧ devices × (read_of ⟦<D as Disk>⟧ result.devices ≡ empty_image)
         × Took output.old.calls output.new.calls (codes "created\n") }
     ensures not_empty { result.status ≡ 2 → ¬ IsEmpty ⟦<D as Disk>⟧ devices × (result.devices ≡ devices)

@@ -1,6 +1,7 @@
 //! The commands over a store: making one, printing what it holds, and feeding it a trace text.
 #![tactic(auto)]
 
+pub mod checkpointing;
 pub mod creating;
 pub mod feeding;
 pub mod laws;

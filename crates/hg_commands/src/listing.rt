@@ -5,8 +5,9 @@ ghost use Rattle.hg_streams.specs.Calls.{failed_writes};
 ghost use Rattle.hg_streams.specs.Told.{told};
 ghost use Rattle.hg_streams.specs.declared.call.WriteCall.{WriteCall};
 ghost use Rattle.hg_model.specs.Contents.{Content};
-ghost use Rattle.hg_store.specs.Images.{EachImage, HasContent, IsLeft, failures_of, read_of};
-ghost use Rattle.hg_detect.specs.Memory.{content_of};
+ghost use Rattle.hg_contents.specs.Images.{HasContent};
+ghost use Rattle.hg_store.specs.Images.{Recovers, failures_of, read_of};
+ghost use Rattle.hg_store.specs.Shown.{live};
 ghost use Rattle.hg_check.specs.Printing.{IsDue, Took, line_text, reports_text, segments_text};
 ghost use Rattle.hg_commands.specs.Storing.{EndsByStoreFault, HasStoreCause, WroteListing, listing_text, store_end_line};
 ghost use Rattle.hg_check.specs.Written.{TookFront};
@@ -38,7 +39,7 @@ pub enum Listing {
 /// Holds the end line of a store that works: the counts of its accepted events, its reports and its segments.
 pub fn hold_end_line<D: Disk>(store: &Store<D>, held: &mut Vec<u8>) -> Result<(), Refusal>
     requires works { store.now.is_broken ≡ false }
-    ensures ok { OnOk result (held.new.items ≡ held.old.items ++ line_text (store_end_line (content_of store.now.detector))) }
+    ensures ok { OnOk result (held.new.items ≡ held.old.items ++ line_text (store_end_line (live ⟦<D as Disk>⟧ store.now))) }
     ensures cause { IfErr result (λ r. r ≡ Refusal.OutOfMemory) }
 {
     let events = store.events()?;
@@ -82,8 +83,8 @@ fn print_most<D: Disk, W: Write>(
 ) -> Result<(), Refusal>
     requires works { store.now.is_broken ≡ false }
     requires none { held.old.items ≡ [] }
-    ensures printed { OnOk result (IsDue output.old.calls output.new.calls held.new.items [] (listing_text listing (content_of store.now.detector))) }
-    ensures front { OnErr result (TookFront output.old.calls output.new.calls (listing_text listing (content_of store.now.detector))) }
+    ensures printed { OnOk result (IsDue output.old.calls output.new.calls held.new.items [] (listing_text listing (live ⟦<D as Disk>⟧ store.now))) }
+    ensures front { OnErr result (TookFront output.old.calls output.new.calls (listing_text listing (live ⟦<D as Disk>⟧ store.now))) }
     ensures cause { IfErr result IsStreamFault }
     ensures fault { failed_writes output.new.calls ≡ told result + failed_writes output.old.calls }
 {
@@ -105,8 +106,8 @@ fn print_store<D: Disk, W: Write>(
     output: &mut Output<W>,
 ) -> Result<(), Refusal>
     requires works { store.now.is_broken ≡ false }
-    ensures printed { OnOk result (Took output.old.calls output.new.calls (listing_text listing (content_of store.now.detector))) }
-    ensures front { OnErr result (TookFront output.old.calls output.new.calls (listing_text listing (content_of store.now.detector))) }
+    ensures printed { OnOk result (Took output.old.calls output.new.calls (listing_text listing (live ⟦<D as Disk>⟧ store.now))) }
+    ensures front { OnErr result (TookFront output.old.calls output.new.calls (listing_text listing (live ⟦<D as Disk>⟧ store.now))) }
     ensures cause { IfErr result IsStreamFault }
     ensures fault { failed_writes output.new.calls ≡ told result + failed_writes output.old.calls }
 {
@@ -131,7 +132,7 @@ fn recover_and_print<D: Disk, W: Write>(
     ensures front { OnErr result.0 (WroteListing ⟦<D as Disk>⟧ listing devices output.old.calls output.new.calls) }
     ensures device { OnOk result.0 (failures_of ⟦<D as Disk>⟧ result.1 ≡ failures_of ⟦<D as Disk>⟧ devices) }
     ensures cause { IfErr result.0 (λ r. HasStoreCause ⟦<D as Disk>⟧ devices result.1 output.old.calls output.new.calls r) }
-    ensures images { EachImage ⟦<D as Disk>⟧ devices result.1 (IsLeft ⟦<D as Disk>⟧ devices) }
+    ensures images { IsTrue D.is_honest → Recovers ⟦<D as Disk>⟧ devices result.1 }
 {
     match open_store(alloc, devices, frames) {
         Ok(store) => {
@@ -158,7 +159,7 @@ fn list_store<D: Disk, W: Write, V: Write>(
     ensures device { result.0 ≡ 0 → failures_of ⟦<D as Disk>⟧ result.1 ≡ failures_of ⟦<D as Disk>⟧ devices }
     ensures quiet { result.0 ≡ 0 → Took faults.old.calls faults.new.calls [] }
     ensures fault { result.0 ≡ 3 → EndsByStoreFault ⟦<D as Disk>⟧ listing devices result.1 output.old.calls output.new.calls faults.old.calls faults.new.calls }
-    ensures images { EachImage ⟦<D as Disk>⟧ devices result.1 (IsLeft ⟦<D as Disk>⟧ devices) }
+    ensures images { IsTrue D.is_honest → Recovers ⟦<D as Disk>⟧ devices result.1 }
 {
     let (printed, devices) = recover_and_print(alloc, devices, frames, listing, output);
     match printed {
@@ -172,7 +173,8 @@ fn list_store<D: Disk, W: Write, V: Write>(
 
 /// Recovers the store that the devices hold, and prints its kept reports and the end line. Answers the status and the
 /// devices: 0, or 3 where they hold no store, a device or the output failed, or memory or room was refused, which is
-/// told on `faults`. What was printed before that is a front of what was due. A crash at any moment leaves images that there were before.
+/// told on `faults`. What was printed before that is a front of what was due. A recovery may write pages: a crash at any moment leaves an
+/// image with the content of one that there was before.
 pub fn store_reports<D: Disk, W: Write, V: Write>(
     alloc: Global,
     devices: Devices<D>,
@@ -187,7 +189,7 @@ pub fn store_reports<D: Disk, W: Write, V: Write>(
     ensures device { result.0 ≡ 0 → failures_of ⟦<D as Disk>⟧ result.1 ≡ failures_of ⟦<D as Disk>⟧ devices }
     ensures quiet { result.0 ≡ 0 → Took faults.old.calls faults.new.calls [] }
     ensures fault { result.0 ≡ 3 → EndsByStoreFault ⟦<D as Disk>⟧ Listing.Reports devices result.1 output.old.calls output.new.calls faults.old.calls faults.new.calls }
-    ensures images { EachImage ⟦<D as Disk>⟧ devices result.1 (IsLeft ⟦<D as Disk>⟧ devices) }
+    ensures images { IsTrue D.is_honest → Recovers ⟦<D as Disk>⟧ devices result.1 }
 {
     list_store(alloc, devices, frames, Listing::Reports, output, faults)
 }
@@ -207,7 +209,7 @@ pub fn store_graph<D: Disk, W: Write, V: Write>(
     ensures device { result.0 ≡ 0 → failures_of ⟦<D as Disk>⟧ result.1 ≡ failures_of ⟦<D as Disk>⟧ devices }
     ensures quiet { result.0 ≡ 0 → Took faults.old.calls faults.new.calls [] }
     ensures fault { result.0 ≡ 3 → EndsByStoreFault ⟦<D as Disk>⟧ Listing.Segments devices result.1 output.old.calls output.new.calls faults.old.calls faults.new.calls }
-    ensures images { EachImage ⟦<D as Disk>⟧ devices result.1 (IsLeft ⟦<D as Disk>⟧ devices) }
+    ensures images { IsTrue D.is_honest → Recovers ⟦<D as Disk>⟧ devices result.1 }
 {
     list_store(alloc, devices, frames, Listing::Segments, output, faults)
 }

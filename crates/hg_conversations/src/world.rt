@@ -1,12 +1,10 @@
 //! A store, and the conversation with it that is under way.
 
-ghost use Rattle.std.specs.Prelude.{◌≡◌, IfSome, IsTrue};
+ghost use Rattle.std.specs.Prelude.{◌≡◌, IfSome};
 ghost use Rattle.hg_model.specs.Change.{empty_content};
-ghost use Rattle.hg_model.specs.Contents.{Content};
-ghost use Rattle.hg_model.specs.ThreadSets.{HasThreadSets};
-ghost use Rattle.hg_detect.specs.Memory.{content_of};
-ghost use Rattle.hg_desk.specs.Going.{seen};
-ghost use Rattle.hg_store.specs.Store.{Backs, IsFresh};
+ghost use Rattle.hg_desk.specs.Going.{began};
+ghost use Rattle.hg_store.specs.Shown.{live};
+ghost use Rattle.hg_store.specs.Store.{IsFresh};
 
 use crate::load::load;
 use crate::text::{Text, bytes_of, front};
@@ -191,10 +189,8 @@ fn run_over<A: Opening, B: Column>(
 )
     requires accepted { (accepted.name ≡ A.name) × (accepted.parts ≡ A.parts) × (accepted.parts ≡ 1) }
     requires durable { (durable.name ≡ B.name) × (durable.parts ≡ B.parts) × (durable.parts ≡ 1) }
-    requires opening { ((content_of store.detector).events ≡ A.opening) × (store.durable ≡ B.opening) }
-    requires start { IfSome A.start (λ start. start ≡ seen ⟦<MemDisk as Disk>⟧ store) }
-    requires backs { IsTrue ⟦<MemDisk as Disk>⟧.is_honest → (d : Content) × Backs ⟦<MemDisk as Disk>⟧ store d }
-    requires small { HasThreadSets (content_of store.detector) }
+    requires opening { ((live ⟦<MemDisk as Disk>⟧ store).events ≡ A.opening) × (store.durable ≡ B.opening) }
+    requires start { IfSome A.start (λ start. start ≡ began ⟦<MemDisk as Disk>⟧ store) }
 {
     let Ok((core, mut shares)) = Core::<MemDisk, A, B>::open(alloc, store, accepted, durable, 1)
     else {

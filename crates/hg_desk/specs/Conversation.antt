@@ -1,10 +1,9 @@
 -- What a frame is answered, and what it does to the store.
-use Rattle.std.specs.Prelude.{◌≡◌, ◌⊎◌, ℕ, nat_lt, Bool, List, [], ◌∷◌, length, cond, Result, Ok, Err}
+use Rattle.std.specs.Prelude.{◌≡◌, ◌⊎◌, ◌+◌, ◌≤◌, ℕ, nat_lt, Bool, List, [], ◌∷◌, length, cond, Result, Ok, Err, IsTrue}
 use Rattle.hg_model.specs.Contents.{Content}
 use Rattle.hg_model.specs.Codes.{code_of}
 use Rattle.hg_model.specs.declared.verdict.Refusal.{Refusal}
-use Rattle.hg_model.specs.declared.verdict.Refusal.TheVariants.{Gap, BadNumber, Broken, OutOfMemory}
-use Rattle.hg_detect.specs.Memory.{content_of}
+use Rattle.hg_model.specs.declared.verdict.Refusal.TheVariants.{Gap, BadNumber, Broken, Damaged, OutOfMemory}
 use Rattle.hg_detect.specs.declared.detector.Answer.{Answer}
 use Rattle.hg_detect.specs.declared.detector.Answer.TheVariants.{Accepted as IsAccepted, Duplicate as IsDuplicate}
 use Rattle.hg_disk.specs.declared.disk.Disk as disk
@@ -15,7 +14,7 @@ use Rattle.hg_frames.specs.declared.reply.Reply.TheVariants.{Welcome, Accepted, 
 use Rattle.hg_frames.specs.declared.lines.ReportLines.{ReportLines}
 use Rattle.hg_store.specs.declared.steps.Step.TheVariants.{Offer, Commit}
 use Rattle.hg_store.specs.declared.steps.StepResult.TheVariants.{Offered, Committed}
-use Rattle.hg_store.specs.Shown.{Shown}
+use Rattle.hg_store.specs.Shown.{Shown, live}
 use Rattle.hg_desk.specs.declared.desk.Stage.{Stage}
 use Rattle.hg_desk.specs.declared.desk.Stage.TheVariants.{Greeting, Talking, Over}
 use Rattle.hg_desk.specs.Told.{Told, StepKept}
@@ -41,9 +40,10 @@ commit_reply last (Err refusal) = refused 0 refusal
 abbrev pub lines_of : Content → ReportLines
 lines_of c = record { reports = c.reports; events = c.events; races = c.total; segments = length c.segments }
 
--- Only memory can be wanting.
-abbrev pub ReportsAnswer : Bool → Content → Reply → Type 0
-ReportsAnswer is_broken c reply = cond is_broken (reply ≡ refused 0 Broken) ((reply ≡ Lines (lines_of c)) ⊎ (reply ≡ refused 0 OutOfMemory))
+-- Only memory can be wanting. Devices that are not honest may have reports whose threads are no set of threads.
+abbrev pub ReportsAnswer : (is_honest is_broken : Bool) → Content → Reply → Type 0
+ReportsAnswer is_honest is_broken c reply =
+    cond is_broken (reply ≡ refused 0 Broken) ((reply ≡ Lines (lines_of c)) ⊎ ((reply ≡ refused 0 OutOfMemory) ⊎ ((reply ≡ refused 0 Damaged) × ¬ IsTrue is_honest)))
 
 -- The answer to a Hello: a source above 1023 is refused before the store is asked.
 abbrev pub hello_reply : ℕ → Bool → Content → Reply
@@ -60,12 +60,12 @@ abbrev pub Leads : Stage → Reply → Stage → Reply → Type 0
 Leads stage reply to said = (stage ≡ to) × (reply ≡ said)
 
 -- before the Welcome
-abbrev pub Greets : {D : Type 0} → (old new : Shown D) → (told told_after : Told) → Frame → Stage → Reply → Type 0
-Greets old new told told_after (Hello source) stage reply = Still old new told told_after × Leads stage reply (stage_after_hello source old.is_broken) (hello_reply source old.is_broken (content_of old.detector))
-Greets old new told told_after (Numbered number event) stage reply = Still old new told told_after × Leads stage reply Over (Fault 2)
-Greets old new told told_after Ask stage reply = Still old new told told_after × Leads stage reply Over (Fault 2)
-Greets old new told told_after Reports stage reply = Still old new told told_after × Leads stage reply Over (Fault 2)
-Greets old new told told_after Bye stage reply = Still old new told told_after × Leads stage reply Over (Fault 2)
+abbrev pub Greets : {D : Type 0} → disk.Ghosts D → (old new : Shown D) → (told told_after : Told) → Frame → Stage → Reply → Type 0
+Greets g old new told told_after (Hello source) stage reply = Still old new told told_after × Leads stage reply (stage_after_hello source old.is_broken) (hello_reply source old.is_broken (live g old))
+Greets g old new told told_after (Numbered number event) stage reply = Still old new told told_after × Leads stage reply Over (Fault 2)
+Greets g old new told told_after Ask stage reply = Still old new told told_after × Leads stage reply Over (Fault 2)
+Greets g old new told told_after Reports stage reply = Still old new told told_after × Leads stage reply Over (Fault 2)
+Greets g old new told told_after Bye stage reply = Still old new told told_after × Leads stage reply Over (Fault 2)
 
 -- between the Welcome and the end: one offer for an Event, one commit for an Ask, and no other step
 abbrev pub Talks : {D : Type 0} → disk.Ghosts D → ℕ → (old new : Shown D) → (told told_after : Told) → Frame → Stage → Reply → Type 0
@@ -75,13 +75,13 @@ Talks g source old new told told_after (Numbered number event) stage reply =
     × Leads stage reply (Talking source) (offer_reply number result)
 Talks g source old new told told_after Ask stage reply =
     (result : Result ℕ Refusal) × StepKept g old new told told_after Commit (Committed result)
-    × Leads stage reply (Talking source) (commit_reply ((content_of new.detector).last source) result)
-Talks g source old new told told_after Reports stage reply = Still old new told told_after × (stage ≡ Talking source) × ReportsAnswer old.is_broken (content_of old.detector) reply
+    × Leads stage reply (Talking source) (commit_reply ((live g new).last source) result)
+Talks g source old new told told_after Reports stage reply = Still old new told told_after × (stage ≡ Talking source) × ReportsAnswer g.is_honest old.is_broken (live g old) reply
 Talks g source old new told told_after Bye stage reply = Still old new told told_after × Leads stage reply Over Nothing
 
 -- The answer to a frame at a stage of a conversation.
 abbrev pub Answers : {D : Type 0} → disk.Ghosts D → Stage → (old new : Shown D) → (told told_after : Told) → Frame → Stage → Reply → Type 0
-Answers g Greeting old new told told_after frame stage reply = Greets old new told told_after frame stage reply
+Answers g Greeting old new told told_after frame stage reply = Greets g old new told told_after frame stage reply
 Answers g (Talking source) old new told told_after frame stage reply = Talks g source old new told told_after frame stage reply
 Answers g Over old new told told_after frame stage reply = Still old new told told_after × Leads stage reply Over (Fault 4)
 
@@ -96,6 +96,13 @@ accepted_by (Line line) = 0
 accepted_by (Fault code) = 0
 accepted_by (Lines lines) = 0
 accepted_by Nothing = 0
+
+-- So a share never counts less than before, and over honest devices each Accepted.
+pub record AskTold (is_honest : Bool) (told new : Told) (reply : Reply) : Type 0 where
+  pub accepted : IsTrue is_honest → new.accepted ≡ told.accepted + accepted_by reply
+  pub at_most : new.accepted ≤ told.accepted + accepted_by reply
+  pub at_least : told.accepted ≤ new.accepted
+  pub durable : told.durable ≤ new.durable
 
 -- Frames are answered one after another, each as the conversation and the store stand by then.
 abbrev pub Converses : {D : Type 0} → disk.Ghosts D → Stage → (old new : Shown D) → (told told_after : Told) → List Frame → Stage → List Reply → Type 0

@@ -1,14 +1,13 @@
 -- How a store that threads share has gone on since the lock was opened over it.
-use Rattle.std.specs.Prelude.{◌≡◌, ◌+◌, ℕ, List, Bool, true, false, Option, Some, IsTrue}
+use Rattle.std.specs.Prelude.{◌≡◌, ◌≤◌, ◌<◌, ℕ, List, [], ◌∷◌, map, Bool, Option, Some, IsTrue}
 use Rattle.hg_model.specs.declared.event.Named.{Named}
 use Rattle.hg_model.specs.Contents.{Content}
 use Rattle.hg_model.specs.Change.{followed}
 use Rattle.hg_disk.specs.State.{DiskState}
 use Rattle.hg_disk.specs.declared.disk.Disk as disk
 use Rattle.hg_store.specs.declared.devices.Devices.{Devices}
-use Rattle.hg_store.specs.Images.{EachImage, IsOn, failures_of}
-use Rattle.hg_store.specs.Shown.{Shown}
-use Rattle.hg_store.specs.Store.{Backs, live}
+use Rattle.hg_store.specs.Images.{EachImageAlong, IsOn, failures_of}
+use Rattle.hg_store.specs.Shown.{Shown, live, saved}
 
 -- Events, each accepted after those before it, lead from one content to another.
 abbrev pub LeadsTo : Content → Content → Type 0
@@ -25,10 +24,16 @@ pub record Point : Type 0 where
 abbrev pub of_points : Bool → disk.Ghosts Point
 of_points is_honest = record { is_honest = is_honest; state = λ p. p.state; past = λ p. p.past; failures = λ p. p.failures }
 
--- one for a store that a failed call broke
-abbrev pub broken_calls : Bool → ℕ
-broken_calls true = 1
-broken_calls false = 0
+-- What is kept of a store at the opening of the lock.
+pub record Began : Type 0 where
+  pub devices : Devices Point
+  pub live : Content
+  pub saved : Content
+
+-- the oldest of these, the newest first, where the newest of all is apart
+abbrev pub oldest : {X : Type 0} → X → List X → X
+oldest now [] = now
+oldest now (mid ∷ earlier) = oldest mid earlier
 
 module _ {D : Type 0} (g : disk.Ghosts D) where
   abbrev pub point_of : D → Point
@@ -37,37 +42,23 @@ module _ {D : Type 0} (g : disk.Ghosts D) where
   abbrev pub points_of : Devices D → Devices Point
   points_of devices = record { journal = point_of devices.journal; slots = point_of devices.slots; root0 = point_of devices.root0; root1 = point_of devices.root1 }
 
-  -- a store with the points of its devices
-  abbrev pub seen : Shown D → Shown Point
-  seen s = record { devices = points_of s.devices; detector = s.detector; pending = s.pending; durable = s.durable; is_broken = s.is_broken }
+  abbrev pub began : Shown D → Began
+  began s = record { devices = points_of s.devices; live = live g s; saved = saved g s }
 
-  -- No call was made of the device.
-  pub record IsStill (old new : D) : Type 0 where
-    pub state : g.state new ≡ g.state old
-    pub past : g.past new ≡ g.past old
+  -- A store goes on from what it was at the opening: more events may be accepted, and become durable, and no event is lost, in memory or in an
+  -- image. The devices went through these moments, the newest first, of which the oldest is the opening. Over honest devices each image between each
+  -- two of them has the content after a front of the accepted events, with those at least that were durable at the opening.
+  pub record WentOn (start : Began) (moments : List (Devices D)) (now : Shown D) : Type 0 where
+    pub follows : IsTrue g.is_honest → LeadsTo start.live (live g now)
+    pub durable : IsTrue g.is_honest → LeadsTo start.saved (saved g now)
+    pub failed : failures_of (of_points g.is_honest) start.devices ≤ failures_of g now.devices
+    pub opening : oldest (points_of now.devices) (map points_of moments) ≡ start.devices
+    pub images : IsTrue g.is_honest → EachImageAlong (of_points g.is_honest) start.devices (map points_of moments) (points_of now.devices) (IsOn start.saved (live g now))
 
-  -- No call was made of any device but the journal.
-  pub record SameOthers (old new : Devices D) : Type 0 where
-    pub slots : IsStill old.slots new.slots
-    pub root0 : IsStill old.root0 new.root0
-    pub root1 : IsStill old.root1 new.root1
+  -- The store went on from what it was at the opening of the lock, where that is known.
+  abbrev pub WentOnSince : Option Began → List (Devices D) → Shown D → Type 0
+  WentOnSince opening moments now = (start : Began) → opening ≡ Some start → WentOn start moments now
 
-  -- Of a store that was `start` when this content was durable: there is a durable content that follows it, and each image at each moment since
-  -- has the content after a front of the accepted events, with those at least that were durable then.
-  pub record StillHas (start now : Shown D) (durable : Content) : Type 0 where
-    pub content : Content
-    pub backs : Backs g now content
-    pub follows : LeadsTo durable content
-    pub images : EachImage g start.devices now.devices (IsOn durable (live now))
-
-  -- A store goes on from what it was: more events may be accepted, no event is lost, in memory or in an image, and the one call of a device
-  -- that fails is the one that breaks it.
-  pub record WentOn (start now : Shown D) : Type 0 where
-    pub follows : LeadsTo (live start) (live now)
-    pub failed : failures_of g now.devices + broken_calls start.is_broken ≡ failures_of g start.devices + broken_calls now.is_broken
-    pub others : SameOthers start.devices now.devices
-    pub images : IsTrue g.is_honest → (durable : Content) → Backs g start durable → StillHas start now durable
-
--- The store went on from what it was at the opening of the lock, where that is known.
-abbrev pub WentOnSince : {D : Type 0} → disk.Ghosts D → Option (Shown Point) → Shown D → Type 0
-WentOnSince g opening now = (start : Shown Point) → opening ≡ Some start → WentOn (of_points g.is_honest) start (seen g now)
+  -- A call of a device failed since the opening of the lock, where that is known.
+  abbrev pub FailedSince : Option Began → Shown D → Type 0
+  FailedSince opening now = (start : Began) → opening ≡ Some start → failures_of (of_points g.is_honest) start.devices < failures_of g now.devices

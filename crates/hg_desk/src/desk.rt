@@ -2,11 +2,11 @@
 
 ghost use Rattle.std.specs.Prelude.{◌≡◌, ℕ, Result, IfOk, OnErr};
 ghost use Rattle.hg_model.specs.declared.verdict.Refusal.{Refusal as RefusalOf};
-ghost use Rattle.hg_detect.specs.Memory.{content_of};
 ghost use Rattle.hg_frames.specs.Spelling.{FitsFrames};
 ghost use Rattle.hg_detect.specs.declared.detector.Answer.{Answer as AnswerOf};
 ghost use Rattle.hg_store.specs.declared.steps.Step.TheVariants.{Offer, Commit};
 ghost use Rattle.hg_store.specs.declared.steps.StepResult.TheVariants.{Offered, Committed};
+ghost use Rattle.hg_store.specs.Shown.{live};
 ghost use Rattle.hg_desk.specs.Conversation.{Answers, Converses, Greets, Talks, commit_reply, expected_of, hello_reply, offer_reply, refused as refused_reply, stage_after_hello};
 ghost use Rattle.hg_desk.specs.Told.{Told, StepKept};
 
@@ -127,7 +127,7 @@ impl Desk {
 
 /// Before the Welcome.
 fn greet<D: Disk, A: Opening, B: Column>(core: &Core<D, A, B>, frame: &Frame) -> (Stage, Reply)
-    ensures answer { (told : Told) → Greets core.now core.now told told frame.now result.0 result.1 }
+    ensures answer { (told : Told) → Greets ⟦<D as Disk>⟧ core.now core.now told told frame.now result.0 result.1 }
     ensures fits { FitsFrames result.1 }
 {
     match frame {
@@ -142,7 +142,7 @@ fn greet<D: Disk, A: Opening, B: Column>(core: &Core<D, A, B>, frame: &Frame) ->
 /// The answer to the first Hello.
 fn welcome<D: Disk, A: Opening, B: Column>(core: &Core<D, A, B>, source: u16) -> (Stage, Reply)
     ensures stage { result.0 ≡ stage_after_hello source core.now.is_broken }
-    ensures reply { result.1 ≡ hello_reply source core.now.is_broken (content_of core.now.detector) }
+    ensures reply { result.1 ≡ hello_reply source core.now.is_broken (live ⟦<D as Disk>⟧ core.now) }
     ensures fits { FitsFrames result.1 }
 {
     if source > MOST_SOURCE {
@@ -173,11 +173,11 @@ fn talk<D: Disk, A: Opening, B: Column>(
                 number: *number,
                 event: *event,
             };
-            let reply = offer(core, share, &named);
+            let reply = offer(alloc, core, share, &named);
             (Stage::Talking { source }, reply)
         }
         Frame::Ask => {
-            let reply = commit(core, share, source);
+            let reply = commit(alloc, core, share, source);
             (Stage::Talking { source }, reply)
         }
         Frame::Reports => (Stage::Talking { source }, core.report_lines(alloc)),
@@ -186,6 +186,7 @@ fn talk<D: Disk, A: Opening, B: Column>(
 }
 
 fn offer<D: Disk, A: Opening, B: Column>(
+    alloc: Global,
     core: &mut Core<D, A, B>,
     share: &mut Share<A, B>,
     named: &Named,
@@ -193,29 +194,30 @@ fn offer<D: Disk, A: Opening, B: Column>(
     ensures answer { (r : Result AnswerOf RefusalOf) × StepKept ⟦<D as Disk>⟧ core.old core.new share.old share.new (Offer named.now) (Offered r) × (result ≡ offer_reply named.now.number r) }
     ensures fits { FitsFrames result }
 {
-    match core.step(share, &Step::Offer(*named)) {
+    match core.step(alloc, share, &Step::Offer(*named)) {
         StepResult::Offered(Ok(Answer::Accepted)) => Reply::Accepted {
             number: named.number,
         },
         StepResult::Offered(Ok(Answer::Duplicate(last))) => Reply::Duplicate { last },
         StepResult::Offered(Err(refusal)) => refused(named.number, refusal),
-        StepResult::Committed(_) => Reply::Nothing,
+        _ => Reply::Nothing,
     }
 }
 
 fn commit<D: Disk, A: Opening, B: Column>(
+    alloc: Global,
     core: &mut Core<D, A, B>,
     share: &mut Share<A, B>,
     source: u16,
 ) -> Reply
-    ensures answer { (r : Result ℕ RefusalOf) × StepKept ⟦<D as Disk>⟧ core.old core.new share.old share.new Commit (Committed r) × (result ≡ commit_reply ((content_of core.new.detector).last source) r) }
+    ensures answer { (r : Result ℕ RefusalOf) × StepKept ⟦<D as Disk>⟧ core.old core.new share.old share.new Commit (Committed r) × (result ≡ commit_reply ((live ⟦<D as Disk>⟧ core.new).last source) r) }
     ensures fits { FitsFrames result }
 {
-    match core.step(share, &Step::Commit) {
+    match core.step(alloc, share, &Step::Commit) {
         StepResult::Committed(Ok(_)) => Reply::Ack {
             number: core.last(source).unwrap_or(0),
         },
         StepResult::Committed(Err(refusal)) => refused(0, refusal),
-        StepResult::Offered(_) => Reply::Nothing,
+        _ => Reply::Nothing,
     }
 }

@@ -3,6 +3,8 @@
 
 pub mod desk;
 pub mod locked;
+pub mod moment;
+mod sets;
 pub mod share;
 pub mod shared;
 pub mod tasks;

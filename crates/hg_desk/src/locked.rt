@@ -1,31 +1,32 @@
 //! The value behind the lock.
 
-ghost use Rattle.std.specs.Prelude.{◌≡◌, ◌+◌, ◌<◌, ◌≤◌, ◌^◌, Ok, Err, cond, vec_len, All, IfOk, IfSome, IfErr, IsTrue};
-ghost use Rattle.hg_model.specs.Contents.{Content};
+ghost use Rattle.std.specs.Prelude.{◌≡◌, ◌+◌, ◌<◌, ◌≤◌, ℕ, Ok, Err, cond, vec_len, All, IfOk, IfSome, IfErr, IsTrue};
 ghost use Rattle.hg_model.specs.declared.verdict.Refusal.TheVariants.{Broken};
-ghost use Rattle.hg_model.specs.ThreadSets.{HasThreadSets};
-ghost use Rattle.hg_detect.specs.Memory.{content_of};
 ghost use Rattle.hg_frames.specs.Spelling.{FitsFrames};
+ghost use Rattle.hg_store.specs.Doing.{fails_by};
+ghost use Rattle.hg_store.specs.Shown.{live};
 ghost use Rattle.hg_desk.specs.Conversation.{ReportsAnswer};
-ghost use Rattle.hg_desk.specs.Going.{seen};
-ghost use Rattle.hg_desk.specs.Told.{StepKept, nothing_told};
-ghost use Rattle.hg_store.specs.Store.{Backs};
+ghost use Rattle.hg_desk.specs.Going.{began};
+ghost use Rattle.hg_desk.specs.Told.{StepKept, fitting, made_durable, nothing_told, taken};
 
 use crate::desk::refused;
+use crate::moment::Moment;
+use crate::sets::are_thread_sets;
 use crate::share::{Column, Opening, Share};
 use hg_detect::detector::Answer;
 use hg_disk::Disk;
 use hg_frames::lines::{ReportLines, ReportList};
 use hg_frames::reply::Reply;
 use hg_model::verdict::Refusal;
-use hg_store::steps::{Step, StepResult};
+use hg_store::steps::{Step, StepFault, StepResult};
 use hg_store::store::Store;
+use hg_streams::trail::Trail;
 use std::alloc::Global;
 use std::marker::Model;
 use std::sync::ledger::{Blank, Book};
 
 /// A store, and the books: how many events were accepted and made durable since the opening. The books have no bytes, so
-/// the counts stand beside them.
+/// the counts stand beside them. The moments are those at which the steps since the opening began, which contracts alone see.
 #[derive(Drop)]
 pub struct Core<D: Disk, A: Opening, B: Column> {
     pub(crate) store: Store<D>,
@@ -33,21 +34,20 @@ pub struct Core<D: Disk, A: Opening, B: Column> {
     pub(crate) durable: Book<B>,
     pub(crate) accepted_count: u64,
     pub(crate) durable_count: u64,
+    pub(crate) moments: Trail<Moment<D>>,
+    /// Whether a step was answered that a device failed.
+    pub(crate) has_failed: bool,
 }
 
 impl<D: Disk, A: Opening, B: Column> Model for Core<D, A, B> {
     ghost use Rattle.hg_store.specs.Shown.{Shown};
     ghost use Rattle.hg_desk.specs.Told.{IsCore};
-    ghost use Rattle.hg_detect.specs.contracts.paged.PagedWords as words;
-    ghost use Rattle.std.specs.Coded.{codes};
 
     ghost Value = { Shown D };
 
-    ghost coded = { Prim.hlevel (codes, words.the_row.coded) };
-
     ghost view = { λ c. c.store };
 
-    ghost invariant = { λ c. IsCore ⟦<D as Disk>⟧ A.start A.opening B.opening c.store c.accepted.total c.durable.total c.accepted_count c.durable_count };
+    ghost invariant = { λ c. IsCore ⟦<D as Disk>⟧ A.start A.opening B.opening c.store c.accepted.total c.durable.total c.accepted_count c.durable_count c.moments c.has_failed };
 }
 
 /// How many events were accepted and made durable since the opening.
@@ -57,18 +57,25 @@ pub struct Counts {
     pub durable: u64,
 }
 
-/// Counts an accepted event.
-fn note_accepted<A: Column, B: Column>(book: &mut Book<A>, count: &mut u64, share: &mut Share<A, B>)
+/// Counts accepted events.
+fn note_accepted<A: Column, B: Column>(
+    book: &mut Book<A>,
+    count: &mut u64,
+    share: &mut Share<A, B>,
+    more: u64,
+)
     requires counted { count.old ≡ book.old.total }
-    requires fits { book.old.total + 1 < 2 ^ 64 }
-    ensures book { book.new.total ≡ book.old.total + 1 }
+    ensures book { book.new.total ≡ book.old.total + fitting book.old.total more }
     ensures count { count.new ≡ book.new.total }
-    ensures share { share.new ≡ record { accepted = share.old.accepted + 1; durable = share.old.durable } }
+    ensures share { share.new ≡ record { accepted = share.old.accepted + fitting book.old.total more; durable = share.old.durable } }
 {
     book.audit(&mut share.accepted_part);
-    book.add(&mut share.accepted_part, 1);
-    *count += 1;
-    share.accepted += 1;
+    let Some(total) = count.checked_add(more) else {
+        return;
+    };
+    book.add(&mut share.accepted_part, more);
+    *count = total;
+    share.accepted += more;
 }
 
 /// Counts events that a commit made durable.
@@ -79,15 +86,56 @@ fn note_durable<A: Column, B: Column>(
     more: u64,
 )
     requires counted { count.old ≡ book.old.total }
-    requires fits { book.old.total + more < 2 ^ 64 }
-    ensures book { book.new.total ≡ book.old.total + more }
+    ensures book { book.new.total ≡ book.old.total + fitting book.old.total more }
     ensures count { count.new ≡ book.new.total }
-    ensures share { share.new ≡ record { accepted = share.old.accepted; durable = share.old.durable + more } }
+    ensures share { share.new ≡ record { accepted = share.old.accepted; durable = share.old.durable + fitting book.old.total more } }
 {
     book.audit(&mut share.durable_part);
+    let Some(total) = count.checked_add(more) else {
+        return;
+    };
     book.add(&mut share.durable_part, more);
-    *count += more;
+    *count = total;
     share.durable += more;
+}
+
+/// How many events a step accepted.
+fn accepted_by(answer: &StepResult) -> u64
+    ensures { result ≡ taken answer.now }
+{
+    match answer {
+        StepResult::Offered(Ok(Answer::Accepted)) => 1,
+        StepResult::Offered(Ok(Answer::Duplicate(_))) => 0,
+        StepResult::Offered(Err(_)) => 0,
+        _ => 0,
+    }
+}
+
+/// How many events a step made durable, of which so many were before.
+fn durable_by(before: u64, answer: &StepResult) -> u64
+    ensures { result ≡ made_durable before answer.now }
+{
+    match answer {
+        StepResult::Committed(Ok(count)) => count.saturating_sub(before),
+        StepResult::Committed(Err(_)) => 0,
+        _ => 0,
+    }
+}
+
+/// Whether a step was answered that a device failed.
+fn tells_failure(answer: &StepResult) -> bool
+    ensures { IsTrue result → (n : ℕ) → n < fails_by answer.now n }
+{
+    match answer {
+        StepResult::Offered(Err(Refusal::DeviceFault)) => true,
+        StepResult::Committed(Err(Refusal::DeviceFault)) => true,
+        StepResult::Put(Err(StepFault::Refused(Refusal::DeviceFault))) => true,
+        StepResult::Sealed(Err(StepFault::Refused(Refusal::DeviceFault))) => true,
+        StepResult::Prepared(Err(StepFault::Refused(Refusal::DeviceFault))) => true,
+        StepResult::Written(Err(StepFault::Refused(Refusal::DeviceFault))) => true,
+        StepResult::Opened(Err(StepFault::Refused(Refusal::DeviceFault))) => true,
+        _ => false,
+    }
 }
 
 impl<D: Disk, A: Opening, B: Column> Core<D, A, B> {
@@ -101,10 +149,8 @@ impl<D: Disk, A: Opening, B: Column> Core<D, A, B> {
     ) -> Result<(Self, Vec<Share<A, B>>), (Store<D>, Blank, Blank)>
         requires accepted { (accepted.name ≡ A.name) × (accepted.parts ≡ A.parts) × (accepted.parts ≡ shares) }
         requires durable { (durable.name ≡ B.name) × (durable.parts ≡ B.parts) × (durable.parts ≡ shares) }
-        requires opening { ((content_of store.detector).events ≡ A.opening) × (store.durable ≡ B.opening) }
-        requires start { IfSome A.start (λ start. start ≡ seen ⟦<D as Disk>⟧ store) }
-        requires backs { IsTrue D.is_honest → (d : Content) × Backs ⟦<D as Disk>⟧ store d }
-        requires small { HasThreadSets (content_of store.detector) }
+        requires opening { ((live ⟦<D as Disk>⟧ store).events ≡ A.opening) × (store.durable ≡ B.opening) }
+        requires start { IfSome A.start (λ start. start ≡ began ⟦<D as Disk>⟧ store) }
         ensures core { IfOk result (λ r. r.0 ≡ store) }
         ensures shares { IfOk result (λ r. (vec_len r.1 ≡ shares) × All (λ s. s ≡ nothing_told) r.1.items) }
         ensures err { IfErr result (λ e. (e.0 ≡ store) × (e.1 ≡ accepted) × (e.2 ≡ durable)) }
@@ -112,6 +158,7 @@ impl<D: Disk, A: Opening, B: Column> Core<D, A, B> {
         let Ok(mut all) = Vec::with_capacity(alloc, shares) else {
             return Err((store, accepted, durable));
         };
+        store.stands();
         let (accepted, mut accepted_rest) = accepted.open::<A>();
         let (durable, mut durable_rest) = durable.open::<B>();
         for _i in 0..shares {
@@ -126,41 +173,42 @@ impl<D: Disk, A: Opening, B: Column> Core<D, A, B> {
             durable,
             accepted_count: 0,
             durable_count: 0,
+            moments: Trail::new(),
+            has_failed: false,
         };
         Ok((core, all))
     }
 
-    /// One step of the store, which the books and the share count.
-    pub fn step(&mut self, share: &mut Share<A, B>, step: &Step) -> StepResult
+    /// One step of the store, which the books and the share count. `Freeze` and `WriteRoot` take memory.
+    pub fn step(&mut self, alloc: Global, share: &mut Share<A, B>, step: &Step) -> StepResult
         ensures { StepKept ⟦<D as Disk>⟧ self.old self.new share.old share.new step.now result }
     {
-        let _events = self.store.events();
+        self.moments.push(Moment::of(&self.store));
+        self.store.stands();
+        let _all = self.store.events();
         let before = self.store.durable().unwrap_or(0);
-        let result = self.store.step(step);
-        match result {
-            StepResult::Offered(Ok(Answer::Accepted)) => {
-                let _events = self.store.events();
-                note_accepted(&mut self.accepted, &mut self.accepted_count, share);
-            }
-            StepResult::Offered(Ok(Answer::Duplicate(_))) => {}
-            StepResult::Offered(Err(_)) => {}
-            StepResult::Committed(Ok(count)) => {
-                note_durable(
-                    &mut self.durable,
-                    &mut self.durable_count,
-                    share,
-                    count - before,
-                );
-            }
-            StepResult::Committed(Err(_)) => {}
-        }
+        let result = self.store.step(alloc, step);
+        let _more = self.store.events();
+        self.has_failed = self.has_failed || tells_failure(&result);
+        note_accepted(
+            &mut self.accepted,
+            &mut self.accepted_count,
+            share,
+            accepted_by(&result),
+        );
+        note_durable(
+            &mut self.durable,
+            &mut self.durable_count,
+            share,
+            durable_by(before, &result),
+        );
         result
     }
 
     /// How many events were accepted and made durable since the opening, by whomever: at least as many as this share was told of.
     pub fn counts(&mut self, share: &mut Share<A, B>) -> Counts
-        ensures events { (content_of self.old.detector).events ≡ A.opening + result.accepted }
-        ensures durable { self.old.durable ≡ B.opening + result.durable }
+        ensures events { IsTrue D.is_honest → (live ⟦<D as Disk>⟧ self.old).events ≡ A.opening + result.accepted }
+        ensures durable { IsTrue D.is_honest → self.old.durable ≡ B.opening + result.durable }
         ensures told { (share.old.accepted ≤ result.accepted) × (share.old.durable ≤ result.durable) }
         ensures same { self.new ≡ self.old }
         ensures share { share.new ≡ share.old }
@@ -175,20 +223,24 @@ impl<D: Disk, A: Opening, B: Column> Core<D, A, B> {
 
     /// The last accepted number of a source, 0 where it sent nothing.
     pub fn last(&self, source: u16) -> Result<u64, Refusal>
-        ensures { result ≡ cond self.now.is_broken (Err Broken) (Ok ((content_of self.now.detector).last source)) }
+        ensures { result ≡ cond self.now.is_broken (Err Broken) (Ok ((live ⟦<D as Disk>⟧ self.now).last source)) }
     {
         self.store.last(source)
     }
 
-    /// The answer to a Reports.
+    /// The answer to a Reports. `Damaged` where the devices lie, so that the threads of a report are no set of threads.
     pub fn report_lines(&self, alloc: Global) -> Reply
-        ensures answer { ReportsAnswer self.now.is_broken (content_of self.now.detector) result }
+        ensures answer { ReportsAnswer D.is_honest self.now.is_broken (live ⟦<D as Disk>⟧ self.now) result }
         ensures fits { FitsFrames result }
     {
         let reports = match self.store.reports(alloc) {
             Ok(reports) => reports,
             Err(refusal) => return refused(0, refusal),
         };
+        self.store.stands();
+        if !are_thread_sets(reports.as_slice()) {
+            return refused(0, Refusal::Damaged);
+        }
         let (Ok(events), Ok(races), Ok(segments)) = (
             self.store.events(),
             self.store.total(),

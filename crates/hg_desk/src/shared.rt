@@ -2,18 +2,20 @@
 
 ghost use Rattle.std.specs.Prelude.{◌≡◌, ◌+◌, ◌≤◌, ◌⊎◌, ◌≢◌, length, map, sum, vec_len, All, IfOk, IfSome, IfErr, IsTrue};
 ghost use Rattle.hg_model.specs.Contents.{Content};
-ghost use Rattle.hg_detect.specs.Memory.{content_of};
-ghost use Rattle.hg_store.specs.Images.{HasContent, Image, IsLeft};
-ghost use Rattle.hg_model.specs.ThreadSets.{HasThreadSets};
-ghost use Rattle.hg_store.specs.Store.{Backs};
-ghost use Rattle.hg_desk.specs.Going.{WentOnSince, seen};
+ghost use Rattle.hg_contents.specs.Images.{HasContent, Image};
+ghost use Rattle.hg_contents.specs.Stores.{IsLeft};
+ghost use Rattle.hg_store.specs.Images.{states_of};
+ghost use Rattle.hg_store.specs.Shown.{live};
+ghost use Rattle.hg_desk.specs.Going.{FailedSince, WentOnSince, began};
 ghost use Rattle.hg_desk.specs.Told.{nothing_told};
 
 use crate::locked::Core;
+use crate::moment::Moment;
 use crate::share::{Column, Opening, Share};
 use crate::tasks::Task;
 use hg_disk::Disk;
 use hg_store::store::Store;
+use hg_streams::trail::Trail;
 use std::alloc::Global;
 use std::sync::ledger::{Blank, Book, Share as Part};
 use std::sync::{Mutex, Wait};
@@ -22,6 +24,16 @@ use std::sync::{Mutex, Wait};
 #[derive(Drop)]
 pub struct Shared<D: Disk, A: Opening, B: Column> {
     core: Mutex<Core<D, A, B>>,
+}
+
+/// A store that was taken in.
+#[derive(Drop)]
+pub struct TakenIn<D: Disk> {
+    pub store: Store<D>,
+    /// The moments at which the steps since the opening began, the newest first, which contracts alone see.
+    pub moments: Trail<Moment<D>>,
+    /// Whether a step was answered that a device failed.
+    pub has_failed: bool,
 }
 
 /// What the shares were told, and what the books have.
@@ -52,10 +64,8 @@ impl<D: Disk, A: Opening, B: Column> Shared<D, A, B> {
     ) -> Result<(Self, Vec<Share<A, B>>), (Store<D>, Blank, Blank)>
         requires accepted { (accepted.name ≡ A.name) × (accepted.parts ≡ A.parts) × (accepted.parts ≡ shares) }
         requires durable { (durable.name ≡ B.name) × (durable.parts ≡ B.parts) × (durable.parts ≡ shares) }
-        requires opening { ((content_of store.detector).events ≡ A.opening) × (store.durable ≡ B.opening) }
-        requires start { IfSome A.start (λ start. start ≡ seen ⟦<D as Disk>⟧ store) }
-        requires backs { IsTrue D.is_honest → (d : Content) × Backs ⟦<D as Disk>⟧ store d }
-        requires small { HasThreadSets (content_of store.detector) }
+        requires opening { ((live ⟦<D as Disk>⟧ store).events ≡ A.opening) × (store.durable ≡ B.opening) }
+        requires start { IfSome A.start (λ start. start ≡ began ⟦<D as Disk>⟧ store) }
         ensures shares { IfOk result (λ r. (vec_len r.1 ≡ shares) × All (λ s. s ≡ nothing_told) r.1.items) }
         ensures err { IfErr result (λ e. (e.0 ≡ store) × (e.1 ≡ accepted) × (e.2 ≡ durable)) }
     {
@@ -69,9 +79,9 @@ impl<D: Disk, A: Opening, B: Column> Shared<D, A, B> {
     }
 
     /// Takes the store back, where shares are lost that could be held against the books.
-    pub fn into_store(self) -> Store<D>
-        ensures backs { IsTrue D.is_honest → (d : Content) × Backs ⟦<D as Disk>⟧ result d }
-        ensures since { WentOnSince ⟦<D as Disk>⟧ A.start result }
+    pub fn into_store(self) -> TakenIn<D>
+        ensures since { WentOnSince ⟦<D as Disk>⟧ A.start result.moments result.store }
+        ensures failed { IsTrue result.has_failed → FailedSince ⟦<D as Disk>⟧ A.start result.store }
     {
         self.core.into_inner().into_store()
     }
@@ -92,14 +102,19 @@ fn told<A: Column, B: Column>(shares: &[Share<A, B>]) -> (u128, u128)
 }
 
 impl<D: Disk, A: Opening, B: Column> Core<D, A, B> {
-    /// What the shares were told, and what the books have.
-    fn tally(&self, shares: &[Share<A, B>]) -> Tally
-        ensures accepted_told { result.accepted_told ≡ sum (map (λ s. s.accepted) shares.now) }
-        ensures durable_told { result.durable_told ≡ sum (map (λ s. s.durable) shares.now) }
-        ensures accepted_book { (content_of self.now.detector).events ≡ A.opening + result.accepted_book }
-        ensures durable_book { self.now.durable ≡ B.opening + result.durable_book }
+    /// Holds the books against the shares, and tells what both have.
+    fn tally(&mut self, shares: &mut [Share<A, B>]) -> Tally
+        ensures accepted_told { result.accepted_told ≡ sum (map (λ s. s.accepted) shares.old) }
+        ensures durable_told { result.durable_told ≡ sum (map (λ s. s.durable) shares.old) }
+        ensures accepted_book { IsTrue D.is_honest → (live ⟦<D as Disk>⟧ self.old).events ≡ A.opening + result.accepted_book }
+        ensures durable_book { IsTrue D.is_honest → self.old.durable ≡ B.opening + result.durable_book }
+        ensures accepted { 1 ≤ length shares.old → length shares.old ≡ A.parts → result.accepted_told ≡ result.accepted_book }
+        ensures durable { 1 ≤ length shares.old → length shares.old ≡ B.parts → result.durable_told ≡ result.durable_book }
+        ensures same { self.new ≡ self.old }
+        ensures shares { shares.new ≡ shares.old }
     {
         let (accepted_told, durable_told) = told(shares);
+        audit(&mut self.accepted, &mut self.durable, shares);
         Tally {
             accepted_told,
             accepted_book: u128::from(self.accepted_count),
@@ -108,26 +123,10 @@ impl<D: Disk, A: Opening, B: Column> Core<D, A, B> {
         }
     }
 
-    /// Holds the books against the shares.
-    fn audit(&mut self, shares: &mut [Share<A, B>])
-        ensures accepted { 1 ≤ length shares.old → length shares.old ≡ A.parts → (content_of self.old.detector).events ≡ A.opening + sum (map (λ s. s.accepted) shares.old) }
-        ensures durable { 1 ≤ length shares.old → length shares.old ≡ B.parts → self.old.durable ≡ B.opening + sum (map (λ s. s.durable) shares.old) }
-        ensures same { self.new ≡ self.old }
-        ensures shares { shares.new ≡ shares.old }
-    {
-        let Some(first) = shares.first_mut() else {
-            return;
-        };
-        let mut seen_accepted = first.accepted_part.empty();
-        let mut seen_durable = first.durable_part.empty();
-        audit_accepted(&mut self.accepted, shares, &mut seen_accepted);
-        audit_durable(&mut self.durable, shares, &mut seen_durable);
-    }
-
-    fn into_store(self) -> Store<D>
-        ensures store { result ≡ self }
-        ensures backs { IsTrue D.is_honest → (d : Content) × Backs ⟦<D as Disk>⟧ result d }
-        ensures since { WentOnSince ⟦<D as Disk>⟧ A.start result }
+    fn into_store(self) -> TakenIn<D>
+        ensures store { result.store ≡ self }
+        ensures since { WentOnSince ⟦<D as Disk>⟧ A.start result.moments result.store }
+        ensures failed { IsTrue result.has_failed → FailedSince ⟦<D as Disk>⟧ A.start result.store }
     {
         let Core {
             store,
@@ -135,9 +134,35 @@ impl<D: Disk, A: Opening, B: Column> Core<D, A, B> {
             durable: _,
             accepted_count: _,
             durable_count: _,
+            moments,
+            has_failed,
         } = self;
-        store
+        TakenIn {
+            store,
+            moments,
+            has_failed,
+        }
     }
+}
+
+/// Holds the books against the shares.
+fn audit<A: Column, B: Column>(
+    accepted: &mut Book<A>,
+    durable: &mut Book<B>,
+    shares: &mut [Share<A, B>],
+)
+    ensures accepted { 1 ≤ length shares.old → length shares.old ≡ A.parts → accepted.old.total ≡ sum (map (λ s. s.accepted) shares.old) }
+    ensures durable { 1 ≤ length shares.old → length shares.old ≡ B.parts → durable.old.total ≡ sum (map (λ s. s.durable) shares.old) }
+    ensures books { (accepted.new.total ≡ accepted.old.total) × (durable.new.total ≡ durable.old.total) }
+    ensures shares { shares.new ≡ shares.old }
+{
+    let Some(first) = shares.first_mut() else {
+        return;
+    };
+    let mut seen_accepted = first.accepted_part.empty();
+    let mut seen_durable = first.durable_part.empty();
+    audit_accepted(accepted, shares, &mut seen_accepted);
+    audit_durable(durable, shares, &mut seen_durable);
 }
 
 /// Lends the parts of these shares to one, which then stands for all of them, and takes them back. No byte is changed: it is the
@@ -189,12 +214,12 @@ fn audit_durable<A: Column, B: Column>(
 pub fn gather<D: Disk, A: Opening, B: Column>(
     shares: Vec<Share<A, B>>,
     shared: Shared<D, A, B>,
-) -> Result<Store<D>, (Vec<Share<A, B>>, Shared<D, A, B>, Tally)>
-    ensures events { IfOk result (λ store. (content_of store.detector).events ≡ A.opening + sum (map (λ s. s.accepted) shares.items)) }
-    ensures durable { IfOk result (λ store. store.durable ≡ B.opening + sum (map (λ s. s.durable) shares.items)) }
-    ensures backs { IfOk result (λ store. IsTrue D.is_honest → (d : Content) × Backs ⟦<D as Disk>⟧ store d) }
-    ensures since { IfOk result (λ store. WentOnSince ⟦<D as Disk>⟧ A.start store) }
-    ensures images { IfOk result (λ store. IsTrue D.is_honest → (image : Image) → IsLeft ⟦<D as Disk>⟧ store.devices image
+) -> Result<TakenIn<D>, (Vec<Share<A, B>>, Shared<D, A, B>, Tally)>
+    ensures events { IsTrue D.is_honest → IfOk result (λ r. (live ⟦<D as Disk>⟧ r.store).events ≡ A.opening + sum (map (λ s. s.accepted) shares.items)) }
+    ensures durable { IsTrue D.is_honest → IfOk result (λ r. r.store.durable ≡ B.opening + sum (map (λ s. s.durable) shares.items)) }
+    ensures since { IfOk result (λ r. WentOnSince ⟦<D as Disk>⟧ A.start r.moments r.store) }
+    ensures failed { IfOk result (λ r. IsTrue r.has_failed → FailedSince ⟦<D as Disk>⟧ A.start r.store) }
+    ensures images { IsTrue D.is_honest → IfOk result (λ r. (image : Image) → IsLeft (states_of ⟦<D as Disk>⟧ r.store.devices) image
         → (k : Content) × HasContent image k × (B.opening + sum (map (λ s. s.durable) shares.items) ≤ k.events)) }
     // Where all shares come back, they agree with the books.
     ensures whole { 1 ≤ vec_len shares → vec_len shares ≡ A.parts → vec_len shares ≡ B.parts → IfErr result (λ e. ⊥) }
@@ -203,16 +228,16 @@ pub fn gather<D: Disk, A: Opening, B: Column>(
         × ((e.2.accepted_told ≢ e.2.accepted_book) ⊎ (e.2.durable_told ≢ e.2.durable_book))) }
 {
     let Shared { core } = shared;
-    let core = core.into_inner();
-    let tally = core.tally(shares.as_slice());
+    let mut core = core.into_inner();
+    let mut shares = shares;
+    let tally = core.tally(shares.as_mut_slice());
     if tally.accepted_told != tally.accepted_book || tally.durable_told != tally.durable_book {
-        let mut core = core;
-        let mut shares = shares;
-        core.audit(shares.as_mut_slice());
         let shared = Shared {
             core: Mutex::new(core),
         };
         return Err((shares, shared, tally));
     }
-    Ok(core.into_store())
+    let taken_in = core.into_store();
+    taken_in.store.stands();
+    Ok(taken_in)
 }

@@ -1,9 +1,9 @@
 //! What is run under the lock.
 
-ghost use Rattle.std.specs.Prelude.{◌≡◌, ◌+◌, ◌≤◌};
-ghost use Rattle.hg_detect.specs.Memory.{content_of};
+ghost use Rattle.std.specs.Prelude.{◌≡◌, ◌+◌, ◌≤◌, IsTrue};
 ghost use Rattle.hg_frames.specs.Spelling.{FitsFrames};
-ghost use Rattle.hg_desk.specs.Conversation.{Answers, accepted_by};
+ghost use Rattle.hg_store.specs.Shown.{live};
+ghost use Rattle.hg_desk.specs.Conversation.{Answers, AskTold};
 ghost use Rattle.hg_desk.specs.Told.{Told, StepKept, StepTold};
 
 use crate::desk::Desk;
@@ -30,18 +30,21 @@ pub trait Task<D: Disk, A: Opening, B: Column> {
 
 /// One step.
 #[derive(Drop)]
-pub struct StepTask(pub Step);
+pub struct StepTask {
+    pub alloc: Global,
+    pub step: Step,
+}
 
 impl<D: Disk, A: Opening, B: Column> Task<D, A, B> for StepTask {
     type Out = StepResult;
 
-    ghost promise = { λ t old new res. StepTold old new res };
+    ghost promise = { λ t old new res. StepTold D.is_honest old new res };
 
     fn run(self, core: &mut Core<D, A, B>, share: &mut Share<A, B>) -> StepResult
-        ensures promise { StepTold share.old share.new result }
-        ensures step { StepKept ⟦<D as Disk>⟧ core.old core.new share.old share.new self.0 result }
+        ensures promise { StepTold D.is_honest share.old share.new result }
+        ensures step { StepKept ⟦<D as Disk>⟧ core.old core.new share.old share.new self.step result }
     {
-        core.step(share, &self.0)
+        core.step(self.alloc, share, &self.step)
     }
 }
 
@@ -56,10 +59,10 @@ pub struct AskTask {
 impl<D: Disk, A: Opening, B: Column> Task<D, A, B> for AskTask {
     type Out = (Desk, Reply);
 
-    ghost promise = { λ t old new res. (new.accepted ≡ old.accepted + accepted_by res.1) × (old.durable ≤ new.durable) × FitsFrames res.1 };
+    ghost promise = { λ t old new res. AskTold D.is_honest old new res.1 × FitsFrames res.1 };
 
     fn run(self, core: &mut Core<D, A, B>, share: &mut Share<A, B>) -> (Desk, Reply)
-        ensures promise { (share.new.accepted ≡ share.old.accepted + accepted_by result.1) × (share.old.durable ≤ share.new.durable) × FitsFrames result.1 }
+        ensures promise { AskTold D.is_honest share.old share.new result.1 × FitsFrames result.1 }
         ensures answer { Answers ⟦<D as Disk>⟧ self.desk core.old core.new share.old share.new self.frame result.0 result.1 }
         ensures fits { FitsFrames result.1 }
     {
@@ -84,7 +87,7 @@ impl<D: Disk, A: Opening, B: Column> Task<D, A, B> for CountTask {
 
     fn run(self, core: &mut Core<D, A, B>, share: &mut Share<A, B>) -> Counts
         ensures promise { (share.new ≡ share.old) × (share.old.accepted ≤ result.accepted) × (share.old.durable ≤ result.durable) }
-        ensures counts { ((content_of core.old.detector).events ≡ A.opening + result.accepted) × (core.old.durable ≡ B.opening + result.durable) }
+        ensures counts { IsTrue D.is_honest → ((live ⟦<D as Disk>⟧ core.old).events ≡ A.opening + result.accepted) × (core.old.durable ≡ B.opening + result.durable) }
         ensures same { core.new ≡ core.old }
     {
         core.counts(share)

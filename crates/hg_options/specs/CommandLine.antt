@@ -19,6 +19,13 @@ source = record (new_rule (codes "SOURCE")) {
   parser = Some (parser.Signed (pos 0) (pos 1023));
 }
 
+-- that a checkpoint is made at the end
+abbrev pub checkpoint : Rule
+checkpoint = record (new_rule (codes "checkpoint")) {
+  long = Some (codes "checkpoint");
+  action = Some SetTrue;
+}
+
 -- how many pages of words may be in memory: 4 to 4,096, and 64 where nothing is said
 abbrev pub frames : Rule
 frames = record (new_rule (codes "frames")) {
@@ -105,8 +112,11 @@ create = (with_rule (new_app (codes "create")) (directory true)).top
 abbrev pub reports : Shape
 reports = (with_rule (with_rule (with_rule (new_app (codes "reports")) (directory true)) frames) verbose).top
 
+abbrev pub feed_arguments : App
+feed_arguments = with_rule (with_rule (new_app (codes "feed")) (directory true)) source
+
 abbrev pub feed : Shape
-feed = (with_rule (with_rule (with_rule (with_rule (new_app (codes "feed")) (directory true)) source) frames) verbose).top
+feed = (with_rule (with_rule (with_rule feed_arguments checkpoint) frames) verbose).top
 
 abbrev pub serve_arguments : App
 serve_arguments = with_rule (with_rule (with_rule (new_app (codes "serve")) (directory true)) port) connections

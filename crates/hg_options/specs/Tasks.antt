@@ -61,8 +61,8 @@ IsStoreTask name rows store.Create = name ≡ codes "create"
 IsStoreTask name rows (store.Graph verbose) = (name ≡ codes "graph") × IsFlag (codes "verbose") rows verbose
 IsStoreTask name rows (store.Explain explaining) = (name ≡ codes "explain") × IsExplaining rows explaining
 IsStoreTask name rows (store.Reports frames verbose) = (name ≡ codes "reports") × AreFrames rows frames × IsFlag (codes "verbose") rows verbose
-IsStoreTask name rows (store.Feed source frames verbose) =
-    (name ≡ codes "feed") × IsSource rows source × AreFrames rows frames × IsFlag (codes "verbose") rows verbose
+IsStoreTask name rows (store.Feed source frames checkpoint verbose) = (name ≡ codes "feed") × IsSource rows source × AreFrames rows frames
+    × IsFlag (codes "checkpoint") rows checkpoint × IsFlag (codes "verbose") rows verbose
 IsStoreTask name rows (store.Serve serving) = (name ≡ codes "serve") × AreServing rows serving
 
 -- what the command `name` with these arguments asks for

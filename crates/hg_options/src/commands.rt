@@ -16,6 +16,9 @@ pub const DIRECTORY: &str = "DIR";
 /// The name of the argument that is a source.
 pub const SOURCE: &str = "SOURCE";
 
+/// The name of the flag that asks for a checkpoint.
+pub const CHECKPOINT: &str = "checkpoint";
+
 /// The name of the option that is a number of pages in memory.
 pub const FRAMES: &str = "frames";
 
@@ -65,6 +68,17 @@ fn source<'a>(alloc: Global) -> Arg<'a>
         .help("The source whose events these are")
 }
 
+/// That a checkpoint is made.
+fn checkpoint<'a>(alloc: Global) -> Arg<'a>
+    ensures rule { rule_of result ≡ spec.checkpoint }
+    ensures local { result.global ≡ false }
+{
+    Arg::new(alloc, CHECKPOINT)
+        .long(CHECKPOINT)
+        .action(ArgAction::SetTrue)
+        .help("At the end make a checkpoint, so that the store opens faster")
+}
+
 /// How many pages a store may have in memory.
 fn frames<'a>(alloc: Global) -> Arg<'a>
     ensures rule { rule_of result ≡ spec.frames }
@@ -75,7 +89,7 @@ fn frames<'a>(alloc: Global) -> Arg<'a>
         .value_name("F")
         .value_parser(value_parser!(u16).range(4..=4096))
         .default_value("64")
-        .help("How many pages of words may be in memory (without effect yet)")
+        .help("How many pages of words may be in memory")
 }
 
 /// The port that a server listens on.
@@ -232,17 +246,26 @@ fn reports<'a>(alloc: Global) -> Result<Command<'a>, AllocError>
     with_frames.arg(verbose(alloc))
 }
 
-/// `feed DIR SOURCE [--frames F] [--verbose]`.
-fn feed<'a>(alloc: Global) -> Result<Command<'a>, AllocError>
-    ensures app { IfOk result (λ c. shape_of c ≡ spec.feed) }
+/// `feed DIR SOURCE [--checkpoint] [--frames F] [--verbose]`, without its options.
+fn feed_arguments<'a>(alloc: Global) -> Result<Command<'a>, AllocError>
+    ensures app { IfOk result (λ c. app_of c ≡ spec.feed_arguments) }
     ensures local { IfOk result HasNoGlobals }
 {
     let begun = Command::new(alloc, "feed")
         .about("Reads a trace on standard input, and has a store accept its events")
         .after_help(LANGUAGE);
     let of_store = begun.arg(directory(alloc, true))?;
-    let of_source = of_store.arg(source(alloc))?;
-    let with_frames = of_source.arg(frames(alloc))?;
+    of_store.arg(source(alloc))
+}
+
+/// `feed`, with its options.
+fn feed<'a>(alloc: Global) -> Result<Command<'a>, AllocError>
+    ensures app { IfOk result (λ c. shape_of c ≡ spec.feed) }
+    ensures local { IfOk result HasNoGlobals }
+{
+    let begun = feed_arguments(alloc)?;
+    let with_checkpoint = begun.arg(checkpoint(alloc))?;
+    let with_frames = with_checkpoint.arg(frames(alloc))?;
     with_frames.arg(verbose(alloc))
 }
 

@@ -29,6 +29,6 @@ Codes of refused lines, of which the first that applies is told:
   8  the joined thread is not alive       17  2^58 events were accepted
                                           19  262144 sets of threads and locks are in use
 Codes of faults:
- 10  a commit of `serve` had failed       19  the sets of the store have no room
+ 10  a commit of `serve` had failed       20  the pages of the store have no room
  11  the files are not a store's          21  a stream, a file or a listener failed
-                                          22  memory was refused";
+ 19  the sets of the store have no room   22  memory was refused";

@@ -5,7 +5,8 @@ ghost use Rattle.clap.specs.Words.{first_of, found_of, rows_of};
 ghost use Rattle.hg_options.specs.Tasks.{AreFrames, AreServing, IsExplaining, IsFlag, IsNumber, IsSource, IsStoreTask, IsTask, IsUnasked};
 
 use crate::commands::{
-    ADDRESS, ALL, CONNECTIONS, DIRECTORY, EVERY, FRAMES, PORT, SILENCE, SOURCE, VERBOSE, WORKERS,
+    ADDRESS, ALL, CHECKPOINT, CONNECTIONS, DIRECTORY, EVERY, FRAMES, PORT, SILENCE, SOURCE,
+    VERBOSE, WORKERS,
 };
 use crate::task::{Explaining, Frames, Misread, Serving, Source, StoreTask, Task};
 use clap::ArgMatches;
@@ -121,6 +122,7 @@ fn store_task(name: &str, given: &ArgMatches<'_>) -> Result<StoreTask, Misread>
         "feed" => Ok(StoreTask::Feed {
             source: source(given),
             frames: frames(given),
+            checkpoint: is_set(given, CHECKPOINT),
             verbose: is_set(given, VERBOSE),
         }),
         "serve" => Ok(StoreTask::Serve {

@@ -35,10 +35,12 @@ pub enum StoreTask {
         frames: Frames,
         verbose: bool,
     },
-    /// That it accepts the events of the trace on standard input, as those of a source.
+    /// That it accepts the events of the trace on standard input, as those of a source; and, where `checkpoint` is set, that it makes a
+    /// checkpoint at their end.
     Feed {
         source: Source,
         frames: Frames,
+        checkpoint: bool,
         verbose: bool,
     },
     /// That it accepts the events of clients that connect.

@@ -4,10 +4,10 @@ use crate::shelf::Held;
 use hg_detect::detector::Answer;
 use hg_model::event::Named;
 use hg_model::verdict::Refusal;
-use hg_paged_store::steps::{Step, StepFault, StepResult, StorePhase};
-use hg_paged_store::store::Store;
 use hg_pages::EncodedPage;
 use hg_pool::{Job, Put};
+use hg_store::steps::{Step, StepFault, StepResult, StorePhase};
+use hg_store::store::Store;
 use std::alloc::{AllocError, Global};
 
 /// A step of a store. `Put` hands in the page of the job that was taken last.

@@ -17,10 +17,10 @@ use crate::words::{Halt, after, front, number, short_number};
 use hg_detect::detector::Answer;
 use hg_disk::Tear;
 use hg_model::event::Named;
-use hg_paged_store::create::CreateFault;
-use hg_paged_store::devices::{Caps, Devices};
-use hg_paged_store::drive::StepAnswer;
-use hg_paged_store::steps::Step;
+use hg_store::create::CreateFault;
+use hg_store::devices::{Caps, Devices};
+use hg_store::drive::StepAnswer;
+use hg_store::steps::Step;
 use std::alloc::{AllocError, Global};
 
 /// A store, if one is open, and its run so far.

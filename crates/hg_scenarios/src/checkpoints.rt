@@ -2,8 +2,8 @@
 
 use crate::actions::{Action, Desk, Told, note_and_make};
 use crate::shelf::Held;
-use hg_paged_store::store::Store;
 use hg_pool::Put;
+use hg_store::store::Store;
 use std::alloc::Global;
 
 /// The root that a checkpoint opened, and how many pages were handed in for it.

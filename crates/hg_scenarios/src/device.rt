@@ -1,7 +1,7 @@
 //! The four devices by name.
 
 use crate::words::{Halt, front};
-use hg_paged_store::devices::Devices;
+use hg_store::devices::Devices;
 
 #[derive(Clone, Copy)]
 pub enum Device {

@@ -12,7 +12,7 @@ use crate::words::Halt;
 use hg_detect::detector::Answer;
 use hg_model::event::Named;
 use hg_model::verdict::Refusal;
-use hg_paged_store::store::Store;
+use hg_store::store::Store;
 use std::alloc::{AllocError, Global};
 
 /// How a store came to be, and what was done to it since then.

@@ -6,7 +6,7 @@ use crate::stores::Memories;
 use crate::tears::{Tears, tear};
 use crate::words::{Halt, after, number};
 use hg_disk::{FuseDisk, MemDisk, Tear};
-use hg_paged_store::devices::Devices;
+use hg_store::devices::Devices;
 use std::alloc::{AllocError, Global};
 
 /// A disk of a scenario.

@@ -8,7 +8,7 @@ use crate::stores::{Memories, Opening};
 use crate::tears::{Tears, tears_of};
 use crate::words::Halt;
 use hg_disk::{Answer, Call, MemDisk, Tear};
-use hg_paged_store::devices::Devices;
+use hg_store::devices::Devices;
 use std::alloc::{AllocError, Global};
 
 /// How many stops were gone on from, and how often the commit that was under way was found.

@@ -7,9 +7,9 @@ ghost use Rattle.std.specs.Prelude.{◌≤◌};
 
 use crate::shelf::{Fuse, Held, Image, NO_FUSES, disk_with};
 use hg_disk::MemDisk;
-use hg_paged_store::create::CreateFault;
-use hg_paged_store::devices::{Caps, Devices};
-use hg_paged_store::store::Store;
+use hg_store::create::CreateFault;
+use hg_store::devices::{Caps, Devices};
+use hg_store::store::Store;
 use std::alloc::{AllocError, Global};
 
 /// How much a store may have.

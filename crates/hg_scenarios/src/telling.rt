@@ -4,7 +4,7 @@ use crate::answers::{Text, put_count, put_named, put_number, put_phase_name};
 use crate::shelf::Held;
 use crate::words::{Halt, front, number, short_number};
 use hg_model::verdict::Refusal;
-use hg_paged_store::store::Store;
+use hg_store::store::Store;
 use std::alloc::Global;
 
 fn put_phase(store: &Store<Held>, out: &mut Text) -> Result<(), Halt> {

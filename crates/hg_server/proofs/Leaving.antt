@@ -1,32 +1,66 @@
 -- What a server leaves of its devices.
-use Rattle.std.proofs.Common.{◌≡◌, ◌+◌, ℕ, IsTrue, Bool, true, false, ap, arith, subst}
+use Rattle.std.proofs.Common.{◌≡◌, ◌⊎◌, inl, inr, ◌<◌, ◌≤◌, ◌∙◌, List, map, Result, Ok, Err, IfErr, IsTrue, Bool, arith, refl, sym, subst}
 use Rattle.hg_model.specs.Contents.{Content}
+use Rattle.hg_model.specs.declared.verdict.Refusal.{Refusal}
+use Rattle.hg_model.specs.declared.verdict.Refusal.TheVariants.{Broken, DeviceFault, OutOfMemory}
 use Rattle.hg_disk.specs.declared.disk.Disk as disk
+use Rattle.hg_contents.specs.Images.{HasContent}
 use Rattle.hg_store.specs.declared.devices.Devices.{Devices}
-use Rattle.hg_store.specs.Images.{EachImage, HasContent, IsLeft, failures_of, read_of}
-use Rattle.hg_store.specs.Shown.{Shown}
-use Rattle.hg_store.specs.Store.{IsFresh, live}
-use Rattle.hg_desk.specs.Going.{LeadsTo, WentOn, broken_calls}
-use Rattle.hg_server.specs.Serving.{Served}
+use Rattle.hg_store.specs.Images.{EachImage, EachImageAlong, HasContentOfOne, IsOn, Recovers, failures_of, read_of}
+use Rattle.hg_store.specs.Shown.{Shown, live}
+use Rattle.hg_store.specs.Store.{IsFresh}
+use Rattle.hg_desk.specs.Going.{LeadsTo, Point, WentOn, began, of_points, oldest, points_of}
+use Rattle.hg_desk.proofs.Going.{along_of_points, each_of_points, each_to_points, oldest_point}
+use Rattle.hg_server.specs.Serving.{HasServeCause, IsServingFault, Served}
 
-module _ {D : Type 0} (g : disk.Ghosts D) (old : Devices D) (start now : Shown D) (went : WentOn g start now) where
-  -- a store that was opened, and went on
-  pub served : (IsTrue g.is_honest → (c : Content) × HasContent (read_of g old) c × IsFresh g start c) → EachImage g old start.devices (IsLeft g old)
-      → IsTrue g.is_honest → Served g old now.devices (live now)
-  served content looked honest =
-      let opened = content honest in
-      record {
-        first = opened.0;
-        had = opened.1;
-        follows = subst (λ c. LeadsTo c (live now)) opened.2.has went.follows;
-        opened = start.devices;
-        looked = looked;
-        kept = (went.images honest opened.0 opened.2.backs).images;
-      }
+-- what holds of an Err, and what follows from it
+pub if_err_weaker : {T E : Type 0} (P Q : E → Type 0) (result : Result T E) → ((e : E) → P e → Q e) → IfErr result P → IfErr result Q
+if_err_weaker P Q (Ok value) more is = tt
+if_err_weaker P Q (Err e) more is = more e is
 
-  -- how many calls failed
-  pub none_failed : start.is_broken ≡ false → now.is_broken ≡ false → failures_of g start.devices ≡ failures_of g old → failures_of g now.devices ≡ failures_of g old
-  none_failed worked works same = omega (arith, went.failed, ap broken_calls worked, ap broken_calls works, same)
+-- what settling a store answers
+abbrev pub IsSettlingFault : Bool → Refusal → Type 0
+IsSettlingFault has_failed r = ((r ≡ Broken) × IsTrue has_failed) ⊎ ((r ≡ DeviceFault) ⊎ (r ≡ OutOfMemory))
 
-  pub one_failed : start.is_broken ≡ false → now.is_broken ≡ true → failures_of g start.devices ≡ failures_of g old → failures_of g now.devices ≡ failures_of g old + 1
-  one_failed worked broken same = omega (arith, went.failed, ap broken_calls worked, ap broken_calls broken, same)
+module _ {D : Type 0} (g : disk.Ghosts D) where
+  -- a call that failed before settling, and what settling answers
+  pub serving_fault : (old mid new : Devices D) (has_failed : Bool) (r : Refusal) → (IsTrue has_failed → failures_of g old < failures_of g mid) → failures_of g mid ≤ failures_of g new
+      → IsSettlingFault has_failed r → IsServingFault g old new r
+  serving_fault old mid new has_failed r failed more (inl is) = let less = failed is.1 in inl (is.0, omega (arith, less, more))
+  serving_fault old mid new has_failed r failed more (inr is) = inr is
+
+  -- the same of the devices before the store was opened, of which no call failed meanwhile
+  pub serve_cause : (old start new : Devices D) (r : Refusal) → failures_of g start ≡ failures_of g old → IsServingFault g start new r → HasServeCause g old new r
+  serve_cause old start new r same (inl is) = let less = is.1 in inr (inl (is.0, omega (arith, same, less)))
+  serve_cause old start new r same (inr is) = inr (inr is)
+
+  module _ (old : Devices D) (start now : Shown D) (moments : List (Devices D)) (went : WentOn g (began g start) moments now) where
+    abbrev opened : Devices D
+    opened = oldest now.devices moments
+
+    is_opening : points_of g opened ≡ points_of g start.devices
+    is_opening = oldest_point g moments now.devices ∙ went.opening
+
+    -- a store that was opened, and went on
+    pub served : (IsTrue g.is_honest → (c : Content) × HasContent (read_of g old) c × IsFresh g start c) → (IsTrue g.is_honest → Recovers g old start.devices)
+        → IsTrue g.is_honest → Served g old moments now.devices (live g now)
+    served content looked honest =
+        let has = content honest in
+        let recovers = looked honest in
+        let behind : EachImage (of_points g.is_honest) (points_of g recovers.synced) (points_of g start.devices) (HasContentOfOne g old) = each_to_points g recovers.synced start.devices (HasContentOfOne g old) recovers.behind in
+        let images : EachImageAlong (of_points g.is_honest) (points_of g start.devices) (map (points_of g) moments) (points_of g now.devices) (IsOn has.0 (live g now)) =
+        subst (λ (c : Content). EachImageAlong (of_points g.is_honest) (points_of g start.devices) (map (points_of g) moments) (points_of g now.devices) (IsOn c (live g now))) has.2.durable (went.images honest) in
+        record {
+          first = has.0;
+          had = has.1;
+          follows = subst (λ (c : Content). LeadsTo c (live g now)) has.2.has (went.follows honest);
+          opened = opened;
+          is_oldest = refl;
+          looked = record {
+            synced = recovers.synced;
+            before = recovers.before;
+            behind = each_of_points g recovers.synced opened (HasContentOfOne g old) (subst (λ (d : Devices Point). EachImage (of_points g.is_honest) (points_of g recovers.synced) d (HasContentOfOne g old)) (sym is_opening) behind);
+          };
+          kept = along_of_points g opened moments now.devices (IsOn has.0 (live g now))
+              (subst (λ (d : Devices Point). EachImageAlong (of_points g.is_honest) d (map (points_of g) moments) (points_of g now.devices) (IsOn has.0 (live g now))) (sym is_opening) images);
+        }

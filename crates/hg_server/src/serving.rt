@@ -1,16 +1,14 @@
 //! The server: a listener, and workers in threads of their own.
 
 ghost use Rattle.std.specs.Prelude.{◌≡◌, ◌⊎◌, ◌≤◌, ◌++◌, ℕ, List, [], Some, IfErr, IfOk, IsTrue, OnErr, OnOk, false};
-ghost use Rattle.hg_model.specs.Contents.{Content};
-ghost use Rattle.hg_model.specs.ThreadSets.{HasThreadSets};
-ghost use Rattle.hg_detect.specs.Memory.{content_of};
-ghost use Rattle.hg_store.specs.Store.{Backs, live};
+ghost use Rattle.hg_store.specs.Images.{failures_of};
+ghost use Rattle.hg_store.specs.Shown.{live};
 ghost use Rattle.hg_streams.specs.declared.call.WriteCall.{WriteCall};
 ghost use Rattle.hg_check.specs.Printing.{Took};
-ghost use Rattle.hg_check.specs.Streaming.{IsFault, IsStreamFault, IsTold};
+ghost use Rattle.hg_check.specs.Streaming.{IsStreamFault};
 ghost use Rattle.hg_check.specs.Written.{TookFront};
-ghost use Rattle.hg_desk.specs.Going.{WentOn, WentOnSince, seen};
-ghost use Rattle.hg_server.specs.Serving.{EndsEarly, EndsWell, HasServeCause, IsServingFault, IsStatusOf, WroteServing, served_text, serving_text};
+ghost use Rattle.hg_desk.specs.Going.{Began, FailedSince, WentOn, WentOnSince, began};
+ghost use Rattle.hg_server.specs.Serving.{EndsEarly, EndsWell, HasServeCause, IsServingFault, IsSettled, IsStatusOf, WroteServing, served_text, serving_text};
 
 use crate::worker::{Gate, worker};
 use crossbeam_channel::Sender;
@@ -18,13 +16,15 @@ use hg_check::telling::tell;
 use hg_commands::listing::hold_end_line;
 use hg_commands::opening::open_store;
 use hg_commands::printing::{print_now, print_number};
+use hg_desk::moment::Moment;
 use hg_desk::share::{Column, Opening, Share};
-use hg_desk::shared::{Shared, gather};
+use hg_desk::shared::{Shared, TakenIn, gather};
 use hg_disk::Disk;
 use hg_model::verdict::Refusal;
 use hg_store::devices::Devices;
 use hg_store::store::Store;
 use hg_streams::output::Output;
+use hg_streams::trail::Trail;
 use std::alloc::{AllocError, Global};
 use std::io::{ErrorKind, Write};
 use std::marker::Brand;
@@ -139,42 +139,87 @@ fn run_workers<
 fn take_in<D: Disk, A: Opening, B: Column>(
     back: Result<Vec<Share<A, B>>, AllocError>,
     shared: Shared<D, A, B>,
-) -> (Store<D>, Result<(), Refusal>)
-    ensures since { WentOnSince ⟦<D as Disk>⟧ A.start result.0 }
-    ensures backs { IsTrue D.is_honest → (d : Content) × Backs ⟦<D as Disk>⟧ result.0 d }
+) -> (TakenIn<D>, Result<(), Refusal>)
+    ensures since { WentOnSince ⟦<D as Disk>⟧ A.start result.0.moments result.0.store }
+    ensures failed { IsTrue result.0.has_failed → FailedSince ⟦<D as Disk>⟧ A.start result.0.store }
     ensures cause { IfErr result.1 (λ r. r ≡ Refusal.OutOfMemory) }
 {
     let Ok(shares) = back else {
         return (shared.into_store(), Err(Refusal::OutOfMemory));
     };
     match gather(shares, shared) {
-        Ok(store) => (store, Ok(())),
+        Ok(taken_in) => (taken_in, Ok(())),
         Err((_, shared, _)) => (shared.into_store(), Err(Refusal::OutOfMemory)),
+    }
+}
+
+/// How a commit that failed is told: `Broken` where a client was told before that a device failed.
+fn commit_fault(refusal: Refusal, has_failed: bool) -> Refusal
+    requires { (refusal ≡ Refusal.Broken) ⊎ (refusal ≡ Refusal.DeviceFault) }
+    ensures { ((result ≡ Refusal.Broken) × IsTrue has_failed) ⊎ (result ≡ Refusal.DeviceFault) }
+{
+    match refusal {
+        Refusal::Broken if has_failed => Refusal::Broken,
+        _ => Refusal::DeviceFault,
+    }
+}
+
+/// Makes all accepted events of a store durable.
+fn commit_all<D: Disk>(
+    store: &mut Store<D>,
+    moments: &mut Trail<Moment<D>>,
+    has_failed: bool,
+) -> Result<(), Refusal>
+    ensures went { (start : Began) → WentOn ⟦<D as Disk>⟧ start moments.old store.old → WentOn ⟦<D as Disk>⟧ start moments.new store.new }
+    ensures device { failures_of ⟦<D as Disk>⟧ store.old.devices ≤ failures_of ⟦<D as Disk>⟧ store.new.devices }
+    ensures works { OnOk result (store.new.is_broken ≡ false) }
+    ensures settled { OnOk result (IsTrue D.is_honest → IsSettled ⟦<D as Disk>⟧ store.new) }
+    ensures cause { IfErr result (λ r. ((r ≡ Refusal.Broken) × IsTrue has_failed) ⊎ (r ≡ Refusal.DeviceFault)) }
+{
+    store.stands();
+    moments.push(Moment::of(&*store));
+    let committed = store.commit();
+    store.stands();
+    match committed {
+        Ok(_) => Ok(()),
+        Err(refusal) => Err(commit_fault(refusal, has_failed)),
     }
 }
 
 /// Makes all accepted events of a store durable, where the workers were taken in. `are_all_taken` is false where the listener failed.
 fn settle<D: Disk>(
     store: &mut Store<D>,
+    moments: &mut Trail<Moment<D>>,
+    has_failed: bool,
     taken_in: Result<(), Refusal>,
     are_all_taken: bool,
 ) -> Result<(), Refusal>
     requires cause { IfErr taken_in (λ r. r ≡ Refusal.OutOfMemory) }
-    ensures went { WentOn ⟦<D as Disk>⟧ store.old store.new }
+    ensures went { (start : Began) → WentOn ⟦<D as Disk>⟧ start moments.old store.old → WentOn ⟦<D as Disk>⟧ start moments.new store.new }
+    ensures device { failures_of ⟦<D as Disk>⟧ store.old.devices ≤ failures_of ⟦<D as Disk>⟧ store.new.devices }
     ensures works { OnOk result (store.new.is_broken ≡ false) }
-    ensures backs { OnOk result ((d : Content) → IsTrue D.is_honest → Backs ⟦<D as Disk>⟧ store.old d → Backs ⟦<D as Disk>⟧ store.new (live store.new)) }
-    ensures cause { IfErr result (λ r. IsServingFault store.new r) }
+    ensures settled { OnOk result (IsTrue D.is_honest → IsSettled ⟦<D as Disk>⟧ store.new) }
+    ensures cause { IfErr result (λ r. ((r ≡ Refusal.Broken) × IsTrue has_failed) ⊎ ((r ≡ Refusal.DeviceFault) ⊎ (r ≡ Refusal.OutOfMemory))) }
 {
     taken_in?;
-    store.commit()?;
+    commit_all(store, moments, has_failed)?;
     match are_all_taken {
         true => Ok(()),
         false => Err(Refusal::DeviceFault),
     }
 }
 
+/// A store that was served, and how that ended.
+#[derive(Drop)]
+struct Service<D: Disk> {
+    store: Store<D>,
+    /// The moments since the opening, the newest first, which contracts alone see.
+    moments: Trail<Moment<D>>,
+    ended: Result<(), Refusal>,
+}
+
 /// Opens the lock over a store, runs the workers until the connections are served, and takes them in. At `Ok` all accepted events are
-/// durable. `DeviceFault` says that the listener or a device failed, `Broken` that a commit failed for a client before, and
+/// durable. `DeviceFault` says that the listener or a device failed, `Broken` that a device failed for a client before, and
 /// `OutOfMemory` that memory was refused.
 ///
 /// It waits until so many connections were served.
@@ -193,27 +238,47 @@ fn serve_by<
     listener: &TcpListener,
     plan: Plan,
     gate: &G,
-) -> (Store<D>, Result<(), Refusal>)
+) -> Service<D>
     requires accepted { (accepted.name ≡ A.name) × (accepted.parts ≡ A.parts) × (accepted.parts ≡ plan.workers) }
     requires durable { (durable.name ≡ B.name) × (durable.parts ≡ B.parts) × (durable.parts ≡ plan.workers) }
-    requires opening { ((content_of store.detector).events ≡ A.opening) × (store.durable ≡ B.opening) }
-    requires start { A.start ≡ Some (seen ⟦<D as Disk>⟧ store) }
-    requires backs { IsTrue D.is_honest → (d : Content) × Backs ⟦<D as Disk>⟧ store d }
-    requires small { HasThreadSets (content_of store.detector) }
-    ensures went { WentOn ⟦<D as Disk>⟧ store result.0 }
-    ensures works { OnOk result.1 (result.0.is_broken ≡ false) }
-    ensures backs { OnOk result.1 (IsTrue D.is_honest → Backs ⟦<D as Disk>⟧ result.0 (live result.0)) }
-    ensures cause { IfErr result.1 (λ r. IsServingFault result.0 r) }
+    requires opening { ((live ⟦<D as Disk>⟧ store).events ≡ A.opening) × (store.durable ≡ B.opening) }
+    requires start { A.start ≡ Some (began ⟦<D as Disk>⟧ store) }
+    ensures went { WentOn ⟦<D as Disk>⟧ (began ⟦<D as Disk>⟧ store) result.moments result.store }
+    ensures works { OnOk result.ended (result.store.is_broken ≡ false) }
+    ensures settled { OnOk result.ended (IsTrue D.is_honest → IsSettled ⟦<D as Disk>⟧ result.store) }
+    ensures cause { IfErr result.ended (λ r. IsServingFault ⟦<D as Disk>⟧ store.devices result.store.devices r) }
 {
     let count = usize::from(plan.workers);
+    store.stands();
     let (shared, shares) = match Shared::<D, A, B>::new(alloc, store, accepted, durable, count) {
         Ok(opened) => opened,
-        Err((store, _, _)) => return (store, Err(Refusal::OutOfMemory)),
+        Err((store, _, _)) => {
+            return Service {
+                store,
+                moments: Trail::new(),
+                ended: Err(Refusal::OutOfMemory),
+            };
+        }
     };
     let (back, are_all_taken) = run_workers(rt, alloc, &shared, shares, listener, plan, gate);
-    let (mut store, taken_in) = take_in(back, shared);
-    let ended = settle(&mut store, taken_in, are_all_taken);
-    (store, ended)
+    let (back, taken_in) = take_in(back, shared);
+    let TakenIn {
+        mut store,
+        mut moments,
+        has_failed,
+    } = back;
+    let ended = settle(
+        &mut store,
+        &mut moments,
+        has_failed,
+        taken_in,
+        are_all_taken,
+    );
+    Service {
+        store,
+        moments,
+        ended,
+    }
 }
 
 /// The same with books that are opened here.
@@ -224,13 +289,11 @@ fn serve_over<D: Disk + Send + Drop, G: Gate + Sync, R: Threads + Wait + Clock +
     listener: &TcpListener,
     plan: Plan,
     gate: &G,
-) -> (Store<D>, Result<(), Refusal>)
-    requires backs { IsTrue D.is_honest → (d : Content) × Backs ⟦<D as Disk>⟧ store d }
-    requires small { HasThreadSets (content_of store.detector) }
-    ensures went { WentOn ⟦<D as Disk>⟧ store result.0 }
-    ensures works { OnOk result.1 (result.0.is_broken ≡ false) }
-    ensures backs { OnOk result.1 (IsTrue D.is_honest → Backs ⟦<D as Disk>⟧ result.0 (live result.0)) }
-    ensures cause { IfErr result.1 (λ r. IsServingFault result.0 r) }
+) -> Service<D>
+    ensures went { WentOn ⟦<D as Disk>⟧ (began ⟦<D as Disk>⟧ store) result.moments result.store }
+    ensures works { OnOk result.ended (result.store.is_broken ≡ false) }
+    ensures settled { OnOk result.ended (IsTrue D.is_honest → IsSettled ⟦<D as Disk>⟧ result.store) }
+    ensures cause { IfErr result.ended (λ r. IsServingFault ⟦<D as Disk>⟧ store.devices result.store.devices r) }
 {
     let parts = u64::from(plan.workers);
     serve_by::<D, Brand, Brand, G, R>(
@@ -254,9 +317,9 @@ fn print_end<D: Disk, W: Write>(
 ) -> Result<(), Refusal>
     requires works { store.now.is_broken ≡ false }
     requires none { held.old.items ≡ [] }
-    ensures printed { OnOk result (Took output.old.calls output.new.calls (served_text plan.connections (live store.now))) }
+    ensures printed { OnOk result (Took output.old.calls output.new.calls (served_text plan.connections (live ⟦<D as Disk>⟧ store.now))) }
     ensures front { (first : List WriteCall) (before : List ℕ) → Took first output.old.calls before
-        → OnErr result (TookFront first output.new.calls (before ++ served_text plan.connections (live store.now))) }
+        → OnErr result (TookFront first output.new.calls (before ++ served_text plan.connections (live ⟦<D as Disk>⟧ store.now))) }
     ensures cause { IfErr result IsStreamFault }
 {
     print_number(b"served ", u64::from(plan.connections), held, output)?;
@@ -279,29 +342,44 @@ fn serve_and_print<
     plan: Plan,
     gate: &G,
     output: &mut Output<W>,
-) -> (Store<D>, Result<(), Refusal>)
-    requires backs { IsTrue D.is_honest → (d : Content) × Backs ⟦<D as Disk>⟧ store d }
-    requires small { HasThreadSets (content_of store.detector) }
-    ensures went { WentOn ⟦<D as Disk>⟧ store result.0 }
-    ensures works { OnOk result.1 (result.0.is_broken ≡ false) }
-    ensures backs { OnOk result.1 (IsTrue D.is_honest → Backs ⟦<D as Disk>⟧ result.0 (live result.0)) }
-    ensures printed { OnOk result.1 (Took output.old.calls output.new.calls (serving_text plan (live result.0))) }
-    ensures front { OnErr result.1 (TookFront output.old.calls output.new.calls (serving_text plan (live result.0))) }
-    ensures cause { IfErr result.1 (λ r. IsServingFault result.0 r) }
+) -> Service<D>
+    ensures went { WentOn ⟦<D as Disk>⟧ (began ⟦<D as Disk>⟧ store) result.moments result.store }
+    ensures works { OnOk result.ended (result.store.is_broken ≡ false) }
+    ensures settled { OnOk result.ended (IsTrue D.is_honest → IsSettled ⟦<D as Disk>⟧ result.store) }
+    ensures printed { OnOk result.ended (Took output.old.calls output.new.calls (serving_text plan (live ⟦<D as Disk>⟧ result.store))) }
+    ensures front { OnErr result.ended (TookFront output.old.calls output.new.calls (serving_text plan (live ⟦<D as Disk>⟧ result.store))) }
+    ensures cause { IfErr result.ended (λ r. IsServingFault ⟦<D as Disk>⟧ store.devices result.store.devices r) }
 {
     let mut held = Vec::new(alloc);
+    store.stands();
     if let Err(refusal) = print_number(b"ready ", u64::from(plan.port), &mut held, output) {
-        return (store, Err(refusal));
+        return Service {
+            store,
+            moments: Trail::new(),
+            ended: Err(refusal),
+        };
     }
-    let (store, served) = serve_over(rt, alloc, store, listener, plan, gate);
-    if let Err(refusal) = served {
-        return (store, Err(refusal));
+    let Service {
+        store,
+        moments,
+        ended,
+    } = serve_over(rt, alloc, store, listener, plan, gate);
+    if let Err(refusal) = ended {
+        return Service {
+            store,
+            moments,
+            ended: Err(refusal),
+        };
     }
-    let printed = print_end(&store, plan, &mut held, output);
-    (store, printed)
+    let ended = print_end(&store, plan, &mut held, output);
+    Service {
+        store,
+        moments,
+        ended,
+    }
 }
 
-/// Recovers the store, serves the connections, and prints what is due.
+/// Recovers the store, serves the connections, and prints what is due. Gives the moments since the opening too, which contracts alone see.
 fn recover_and_serve<
     D: Disk + Send + Drop,
     G: Gate + Sync,
@@ -315,39 +393,43 @@ fn recover_and_serve<
     plan: Plan,
     gate: &G,
     output: &mut Output<W>,
-) -> Result<Store<D>, (Refusal, Devices<D>)>
+) -> (Result<Store<D>, (Refusal, Devices<D>)>, Trail<Moment<D>>)
     requires frames { (4 ≤ plan.frames) × (plan.frames ≤ 4096) }
-    ensures well { IfOk result (λ s. EndsWell ⟦<D as Disk>⟧ plan devices s output.old.calls output.new.calls) }
-    ensures cause { IfErr result (λ e. HasServeCause ⟦<D as Disk>⟧ devices e.1 e.0) }
-    ensures wrote { IfErr result (λ e. WroteServing ⟦<D as Disk>⟧ plan devices e.1 output.old.calls output.new.calls) }
+    ensures well { IfOk result.0 (λ s. EndsWell ⟦<D as Disk>⟧ plan devices result.1 s output.old.calls output.new.calls) }
+    ensures cause { IfErr result.0 (λ e. HasServeCause ⟦<D as Disk>⟧ devices e.1 e.0) }
+    ensures wrote { IfErr result.0 (λ e. WroteServing ⟦<D as Disk>⟧ plan devices result.1 e.1 output.old.calls output.new.calls) }
 {
-    let store = open_store(alloc, devices, plan.frames)?;
-    let (store, ended) = serve_and_print(rt, alloc, store, listener, plan, gate, output);
+    let store = match open_store(alloc, devices, plan.frames) {
+        Ok(store) => store,
+        Err(refused) => return (Err(refused), Trail::new()),
+    };
+    let Service {
+        store,
+        moments,
+        ended,
+    } = serve_and_print(rt, alloc, store, listener, plan, gate, output);
     match ended {
-        Ok(()) => Ok(store),
-        Err(refusal) => Err((refusal, store.into_devices())),
+        Ok(()) => (Ok(store), moments),
+        Err(refusal) => (Err((refusal, store.into_devices())), moments),
     }
 }
 
-/// Tells a fault.
-fn tell_fault<V: Write>(refusal: Refusal, faults: &mut Output<V>)
-    requires { (refusal ≡ Refusal.Broken) ⊎ IsFault refusal }
-    ensures { IsTold faults.old.calls faults.new.calls refusal }
-{
-    match refusal {
-        Refusal::Broken => match faults.write(b"fault 10\n") {
-            Ok(()) => {}
-            Err(_) => {}
-        },
-        _ => tell(refusal, faults),
-    }
+/// What serving comes to.
+#[derive(Drop)]
+pub struct Outcome<D: Disk> {
+    /// The exit status.
+    pub status: u8,
+    /// The store, or the devices where there is none.
+    pub ended: Result<Store<D>, Devices<D>>,
+    /// The moments since the opening of the store, the newest first, which contracts alone see.
+    pub moments: Trail<Moment<D>>,
 }
 
 /// Recovers the store that the devices hold, prints `ready` and the port, takes the connections, holds their conversations, and prints
 /// `served`, how many were taken, and the end line. All accepted events are durable then. Answers the status, 0 with the store, or 3
 /// with the devices where they hold no store, the listener, a device or the output failed, or memory or room was refused,
-/// which is told on `faults`. A connection that fails ends alone. Whatever ends it, no event that was durable is lost, and each image at
-/// each moment has a front of the accepted events.
+/// which is told on `faults`. A connection that fails ends alone. Whatever ends it, no event that was durable is lost, and each image between
+/// each two moments has a front of the accepted events.
 ///
 /// It waits until so many connections were served.
 pub fn serve<
@@ -365,18 +447,27 @@ pub fn serve<
     gate: &G,
     output: &mut Output<W>,
     faults: &mut Output<V>,
-) -> (u8, Result<Store<D>, Devices<D>>)
+) -> Outcome<D>
     requires frames { (4 ≤ plan.frames) × (plan.frames ≤ 4096) }
-    ensures status { IsStatusOf result.1 result.0 }
-    ensures well { IfOk result.1 (λ s. EndsWell ⟦<D as Disk>⟧ plan devices s output.old.calls output.new.calls) }
-    ensures quiet { OnOk result.1 (faults.new.calls ≡ faults.old.calls) }
-    ensures early { IfErr result.1 (λ e. EndsEarly ⟦<D as Disk>⟧ plan devices e output.old.calls output.new.calls faults.old.calls faults.new.calls) }
+    ensures status { IsStatusOf result.ended result.status }
+    ensures well { IfOk result.ended (λ s. EndsWell ⟦<D as Disk>⟧ plan devices result.moments s output.old.calls output.new.calls) }
+    ensures quiet { OnOk result.ended (faults.new.calls ≡ faults.old.calls) }
+    ensures early { IfErr result.ended (λ e. EndsEarly ⟦<D as Disk>⟧ plan devices result.moments e output.old.calls output.new.calls faults.old.calls faults.new.calls) }
 {
-    match recover_and_serve(rt, alloc, devices, listener, plan, gate, output) {
-        Ok(store) => (0, Ok(store)),
+    let (ended, moments) = recover_and_serve(rt, alloc, devices, listener, plan, gate, output);
+    match ended {
+        Ok(store) => Outcome {
+            status: 0,
+            ended: Ok(store),
+            moments,
+        },
         Err((refusal, devices)) => {
-            tell_fault(refusal, faults);
-            (3, Err(devices))
+            tell(refusal, faults);
+            Outcome {
+                status: 3,
+                ended: Err(devices),
+                moments,
+            }
         }
     }
 }

@@ -1,14 +1,13 @@
 //! Two workers, each with a conversation in memory, over one store.
 
-ghost use Rattle.std.specs.Prelude.{◌≡◌, ◌≤◌, IfSome, IsTrue};
+ghost use Rattle.std.specs.Prelude.{◌≡◌, IfSome};
 ghost use Rattle.hg_model.specs.Change.{empty_content};
-ghost use Rattle.hg_model.specs.Contents.{Content};
-ghost use Rattle.hg_model.specs.ThreadSets.{HasThreadSets};
-ghost use Rattle.hg_detect.specs.Memory.{content_of};
-ghost use Rattle.hg_desk.specs.Going.{seen};
-ghost use Rattle.hg_store.specs.Store.{Backs, IsFresh};
+ghost use Rattle.hg_desk.specs.Going.{began};
+ghost use Rattle.hg_store.specs.Shown.{live};
+ghost use Rattle.hg_store.specs.Store.{IsFresh};
 
-use hg_desk::share::{Column, Opening};
+use crossbeam_channel::Receiver;
+use hg_desk::share::{Column, Opening, Share};
 use hg_desk::shared::{Shared, gather};
 use hg_disk::{Disk, MemDisk};
 use hg_frames::frame::Frame;
@@ -18,7 +17,7 @@ use hg_server::worker::{Gate, Pass, Point, worker};
 use hg_store::devices::{Caps, Devices};
 use hg_store::store::Store;
 use std::alloc::{AllocError, Global};
-use std::io::Cursor;
+use std::io::{Cursor, Read, Write};
 use std::marker::Brand;
 use std::sync::Wait;
 use std::sync::atomic::{AtomicU64, Ordering};
@@ -116,6 +115,30 @@ fn count(alloc: Global, store: &mut Store<MemDisk>, late: u64, told: u64) -> Opt
     })
 }
 
+/// Has two workers hold the conversations over a store.
+fn work_both<
+    D: Disk + Send,
+    A: Opening + Send + Sync,
+    B: Column + Send + Sync,
+    S: Read + Write + Send + Drop,
+    G: Gate + Sync,
+    R: Threads + Wait + Sync,
+>(
+    rt: &R,
+    alloc: Global,
+    shared: &Shared<D, A, B>,
+    one: Share<A, B>,
+    other: Share<A, B>,
+    connections: &Receiver<S>,
+    gate: &G,
+) -> (Share<A, B>, Share<A, B>) {
+    thread::join(
+        rt,
+        move || worker(rt, alloc, shared, one, connections, gate),
+        move || worker(rt, alloc, shared, other, connections, gate),
+    )
+}
+
 /// Has two workers hold the two conversations over a store, and takes them in.
 fn run_both<A: Opening + Send + Sync, B: Column + Send + Sync, R: Threads + Wait + Sync>(
     rt: &R,
@@ -128,10 +151,8 @@ fn run_both<A: Opening + Send + Sync, B: Column + Send + Sync, R: Threads + Wait
 ) -> Option<Outcome>
     requires accepted { (accepted.name ≡ A.name) × (accepted.parts ≡ A.parts) × (accepted.parts ≡ 2) }
     requires durable { (durable.name ≡ B.name) × (durable.parts ≡ B.parts) × (durable.parts ≡ 2) }
-    requires opening { ((content_of store.detector).events ≡ A.opening) × (store.durable ≡ B.opening) }
-    requires start { IfSome A.start (λ start. start ≡ seen ⟦<MemDisk as Disk>⟧ store) }
-    requires backs { IsTrue ⟦<MemDisk as Disk>⟧.is_honest → (d : Content) × Backs ⟦<MemDisk as Disk>⟧ store d }
-    requires small { HasThreadSets (content_of store.detector) }
+    requires opening { ((live ⟦<MemDisk as Disk>⟧ store).events ≡ A.opening) × (store.durable ≡ B.opening) }
+    requires start { IfSome A.start (λ start. start ≡ began ⟦<MemDisk as Disk>⟧ store) }
 {
     let (shared, mut shares) = Shared::<MemDisk, A, B>::new(
         alloc, store, accepted, durable, 2,
@@ -146,20 +167,13 @@ fn run_both<A: Opening + Send + Sync, B: Column + Send + Sync, R: Threads + Wait
         seen: AtomicU64::new(0),
         late: AtomicU64::new(0),
     };
-    let lent = &shared;
-    let queue = &from;
-    let watched = &gate;
-    let (one, other) = thread::join(
-        rt,
-        move || worker(rt, alloc, lent, one, queue, watched),
-        move || worker(rt, alloc, lent, other, queue, watched),
-    );
+    let (one, other) = work_both(rt, alloc, &shared, one, other, &from, &gate);
     let told = one.accepted().saturating_add(other.accepted());
     let late = gate.late.load(Ordering::SeqCst);
     let mut back = Vec::new(alloc);
     back.push(one).ok()?;
     back.push(other).ok()?;
-    let mut store = gather(back, shared).ok()?;
+    let mut store = gather(back, shared).ok()?.store;
     count(alloc, &mut store, late, told)
 }
 

@@ -1,27 +1,132 @@
 -- How far a journal was followed.
-use Rattle.std.proofs.Common.{◌≡◌, ℕ, List, [], ◌∷◌, ◌++◌, Some, None, refl, sym, ap, ◌∙◌, subst, append_assoc}
+use Rattle.std.proofs.Common.{◌≡◌, ◌⊎◌, inl, inr, ℕ, ◌+◌, ◌<◌, ◌≤◌, List, [], ◌∷◌, ◌++◌, length, drop, All, Some, None, if◌then◌else◌, OnOk, Result, Ok, Err, refl, sym, ap, ◌∙◌, subst, arith, append_assoc}
+use Rattle.std.specs.List.{AllByRecursion}
+use Rattle.std.proofs.lemmas.List.Elements.{All-drop, All-from_recursion, recursion_from_All}
+use Rattle.hg_records.specs.Records.{RecordFits}
+use Rattle.hg_root.specs.Grammar.{SetFits}
+use Rattle.hg_contents.specs.States.{IsLawfulState}
+use Rattle.hg_contents.proofs.lawful.Staying.{one_stays}
+use Rattle.hg_contents.proofs.lawful.Tables.{tables}
+use Rattle.std.proofs.lemmas.List.{append-nil, drop-append-le, drop_at, length-append}
+use Rattle.std.specs.Option.{option_and_then}
 use Rattle.hg_model.specs.declared.event.Named.{Named}
-use Rattle.hg_model.specs.ThreadSets.{HasThreadSets}
-use Rattle.hg_model.proofs.ThreadSets.{kept}
+use Rattle.hg_model.specs.declared.verdict.Refusal.{Refusal}
+use Rattle.hg_model.specs.declared.verdict.Refusal.TheVariants as refusal
+use Rattle.hg_model.specs.declared.verdict.Verdict.{Verdict}
+use Rattle.hg_model.specs.declared.verdict.Verdict.TheVariants.{Accept, Duplicate, Refuse}
 use Rattle.hg_model.specs.Contents.{Content}
 use Rattle.hg_model.specs.Verdicts.{verdict, standing_of}
-use Rattle.hg_model.specs.Change.{after, empty_content, followed}
+use Rattle.hg_model.specs.Change.{after, followed, is_accept}
 use Rattle.hg_sets.specs.Interning.{Table}
 use Rattle.hg_sets.specs.declared.fault.SetFault.TheVariants.{Full}
+use Rattle.hg_detect.specs.Engine.{AtPresent}
 use Rattle.hg_detect.specs.Making.{Asks, sets_asked}
-use Rattle.hg_detect.specs.declared.detector.Detector.{Detector}
-use Rattle.hg_detect.specs.declared.paged.PagedWords.{PagedWords}
+use Rattle.hg_detect.specs.Shown as detect
+use Rattle.hg_detect.specs.Words as words
 use Rattle.hg_disk.specs.declared.disk.Disk as disk
 use Rattle.hg_journal.specs.declared.journal.Journal.{Journal}
 use Rattle.hg_journal.specs.declared.journal.JournalReader.{JournalReader}
+use Rattle.hg_journal.specs.Journal as journals
 use Rattle.hg_journal.specs.Journal.{IsJournal}
 use Rattle.hg_journal.specs.Reading.{IsAt, disk_of}
-use Rattle.hg_store.specs.Recovering.{Fills, IsAccepted, IsTooSmall}
-use Rattle.hg_detect.specs.Memory.{content_of}
-use Rattle.hg_sets.specs.Interning.{first_table}
-use Rattle.hg_store.proofs.Contents.{followed_append, followed_one}
 use Rattle.hg_journal.proofs.Journaling.{more}
-use Rattle.hg_store.proofs.Remaining.{one}
+use Rattle.hg_pool.specs.Kept.{IsFaithful}
+use Rattle.hg_pool.specs.Maps.{live}
+use Rattle.hg_pool.specs.Shown as pool
+use Rattle.hg_contents.specs.Images.{LeadFrom}
+use Rattle.hg_contents.proofs.Following.{followed_append, followed_events}
+use Rattle.hg_store.specs.Answers.{failed_in}
+use Rattle.hg_store.specs.Recovering.{CountsFailures, Fills, HasSets, IsAccepted, IsTooSmall}
+
+-- a refusal tells how many calls failed
+pub journal_failed : (r : Refusal) (n : ℕ) → journals.after_refusal r n ≡ failed_in r + n
+journal_failed (refusal.Gap k) n = omega arith
+journal_failed refusal.BadNumber n = omega arith
+journal_failed refusal.BadLength n = omega arith
+journal_failed refusal.AddressEnd n = omega arith
+journal_failed refusal.NoThread n = omega arith
+journal_failed refusal.ChildUsed n = omega arith
+journal_failed refusal.SelfJoin n = omega arith
+journal_failed refusal.ChildNotAlive n = omega arith
+journal_failed refusal.ChildHoldsLocks n = omega arith
+journal_failed refusal.Broken n = omega arith
+journal_failed refusal.Damaged n = omega arith
+journal_failed refusal.AlreadyHeld n = omega arith
+journal_failed refusal.LockBusy n = omega arith
+journal_failed refusal.NotHeld n = omega arith
+journal_failed refusal.FullHeld n = omega arith
+journal_failed refusal.FullSegments n = omega arith
+journal_failed refusal.FullEvents n = omega arith
+journal_failed refusal.FullPending n = omega arith
+journal_failed refusal.FullSets n = omega arith
+journal_failed refusal.FullSlots n = omega arith
+journal_failed refusal.DeviceFault n = omega arith
+journal_failed refusal.OutOfMemory n = omega arith
+
+pub words_failed : (r : Refusal) (n : ℕ) → words.after_refusal r n ≡ failed_in r + n
+words_failed (refusal.Gap k) n = omega arith
+words_failed refusal.BadNumber n = omega arith
+words_failed refusal.BadLength n = omega arith
+words_failed refusal.AddressEnd n = omega arith
+words_failed refusal.NoThread n = omega arith
+words_failed refusal.ChildUsed n = omega arith
+words_failed refusal.SelfJoin n = omega arith
+words_failed refusal.ChildNotAlive n = omega arith
+words_failed refusal.ChildHoldsLocks n = omega arith
+words_failed refusal.Broken n = omega arith
+words_failed refusal.Damaged n = omega arith
+words_failed refusal.AlreadyHeld n = omega arith
+words_failed refusal.LockBusy n = omega arith
+words_failed refusal.NotHeld n = omega arith
+words_failed refusal.FullHeld n = omega arith
+words_failed refusal.FullSegments n = omega arith
+words_failed refusal.FullEvents n = omega arith
+words_failed refusal.FullPending n = omega arith
+words_failed refusal.FullSets n = omega arith
+words_failed refusal.FullSlots n = omega arith
+words_failed refusal.DeviceFault n = omega arith
+words_failed refusal.OutOfMemory n = omega arith
+
+pub none_failed : (r : Refusal) → (r ≡ refusal.DeviceFault → ⊥) → failed_in r ≡ 0
+none_failed (refusal.Gap k) other = refl
+none_failed refusal.BadNumber other = refl
+none_failed refusal.BadLength other = refl
+none_failed refusal.AddressEnd other = refl
+none_failed refusal.NoThread other = refl
+none_failed refusal.ChildUsed other = refl
+none_failed refusal.SelfJoin other = refl
+none_failed refusal.ChildNotAlive other = refl
+none_failed refusal.ChildHoldsLocks other = refl
+none_failed refusal.Broken other = refl
+none_failed refusal.Damaged other = refl
+none_failed refusal.AlreadyHeld other = refl
+none_failed refusal.LockBusy other = refl
+none_failed refusal.NotHeld other = refl
+none_failed refusal.FullHeld other = refl
+none_failed refusal.FullSegments other = refl
+none_failed refusal.FullEvents other = refl
+none_failed refusal.FullPending other = refl
+none_failed refusal.FullSets other = refl
+none_failed refusal.FullSlots other = refl
+none_failed refusal.DeviceFault other = absurd (other refl)
+none_failed refusal.OutOfMemory other = refl
+
+-- a call of the journal, with any other failures
+pub journal_counted : {T : Type 0} (result : Result T Refusal) (r : Refusal) (old new : ℕ) → result ≡ Err r → new ≡ journals.failed_after result old → new ≡ failed_in r + old
+journal_counted result r old new is count = count ∙ ap (λ (x : Result _ Refusal). journals.failed_after x old) is ∙ journal_failed r old
+
+-- an accepted event leads to what is after it
+pub followed_one : (c : Content) (n : Named) → IsAccepted c n → followed c (n ∷ []) ≡ Some (after c n)
+followed_one c n accepted = ap (λ (v : Verdict). option_and_then (λ (d : Content). Some d) (if is_accept v then Some (after c n) else None)) accepted
+
+one_by : (c d : Content) (n : Named) (rest : List Named) (v : Verdict) → option_and_then (λ (e : Content). followed e rest) (if is_accept v then Some (after c n) else None) ≡ Some d → v ≡ Accept
+one_by c d n rest Accept is = refl
+one_by c d n rest (Duplicate last) is = absurd (cc)
+one_by c d n rest (Refuse r) is = absurd (cc)
+
+-- the first of events that lead on is accepted
+pub first_accepted : (c d : Content) (n : Named) (rest : List Named) → followed c (n ∷ rest) ≡ Some d → IsAccepted c n
+first_accepted c d n rest is = one_by c d n rest (verdict (standing_of c) n) is
 
 fills_more : (seen : List Named) (c : Content) (t : Table) (d : Content) (u : Table) (n : Named) (v : Table) → Fills seen c t d u → IsAccepted d n → Asks u (sets_asked d n.event) None v → Fills (seen ++ n ∷ []) c t (after d n) v
 fills_more [] c t d u n v (same, filled) accepted asks =
@@ -29,59 +134,103 @@ fills_more [] c t d u n v (same, filled) accepted asks =
     (subst (λ (x : Table). Fills (n ∷ []) d x (after d n) v) filled (accepted, v, asks, (refl, refl)))
 fills_more (x ∷ seen) c t d u n v (first, mid, asked, rest) accepted asks = (first, mid, asked, fills_more seen (after c x) mid d u n v rest accepted asks)
 
--- The detector followed the events that were read, from the first table on where it began with that.
-pub record HasRead {D : Type 0} {g : disk.Ghosts D} (j : Journal D g) (r : JournalReader) (first now : Detector PagedWords) : Type 0 where
-  pub seen : List Named
-  pub at : IsAt j r seen
-  pub gives : followed empty_content seen ≡ Some (content_of now)
-  pub fills : (limit : ℕ) → first.sets ≡ first_table limit → Fills seen empty_content (first_table limit) (content_of now) now.sets
+-- one more event
+pub counted : (c d : Content) (n : Named) (start i : ℕ) → c.events ≡ start + i → IsAccepted c n → d ≡ after c n → d.events ≡ start + (i + 1)
+counted c d n start i count accepted is =
+    let one = followed_events (n ∷ []) c (after c n) (followed_one c n accepted) in
+    let same = ap (λ (e : Content). e.events) is in
+    omega (arith, count, one, same)
+
+pub on_ok : {T E P Q : Type 0} (result : Result T E) → (P → Q) → OnOk result P → OnOk result Q
+on_ok (Ok value) from holds = from holds
+on_ok (Err error) from holds = tt
+
+-- behind those that were counted
+pub behind_seen : (seen rest : List Named) (n : ℕ) → length seen ≡ n → drop n (seen ++ rest) ≡ rest
+behind_seen seen rest n is = drop_at seen rest n is
 
 module _ {D : Type 0} (g : disk.Ghosts D) where
-  pub read_none : (j : Journal D g) (r : JournalReader) (d : Detector PagedWords) → IsAt j r [] → content_of d ≡ empty_content → HasRead j r d d
-  read_none j r d at empty = record {
-    seen = [];
-    at = at;
-    gives = ap (λ (c : Content). Some c) (sym empty);
-    fills = λ limit is. (empty, is);
+  abbrev pub content_in : detect.Shown (pool.Shown D) → Content
+  content_in d = detect.content (live g) d
+
+  -- The detector followed the events that were read behind those that were skipped.
+  pub record HasRead (j : Journal D g) (r : JournalReader) (seen : List Named) (first now : detect.Shown (pool.Shown D)) : Type 0 where
+    pub since : List Named
+    pub at : IsAt j r (seen ++ since)
+    pub gives : followed (content_in first) since ≡ Some (content_in now)
+    pub fills : Fills since (content_in first) first.sets (content_in now) now.sets
+    pub faithful : AtPresent (IsFaithful g) now
+
+  pub read_none : (j : Journal D g) (r : JournalReader) (seen : List Named) (d : detect.Shown (pool.Shown D)) → IsAt j r seen → AtPresent (IsFaithful g) d → HasRead j r seen d d
+  read_none j r seen d at faithful = record {
+    since = [];
+    at = subst (λ (events : List Named). IsAt j r events) (sym (append-nil seen)) at;
+    gives = refl;
+    fills = (refl, refl);
+    faithful = faithful;
   }
 
-  module _ (old : Journal D g) (r : JournalReader) (first was : Detector PagedWords) (read : HasRead old r first was) (new : Journal D g) (s : JournalReader) (n : Named) (at : IsAt new s (read.seen ++ n ∷ [])) where
-    pub read_more : (now : Detector PagedWords) → IsAccepted (content_of was) n → content_of now ≡ after (content_of was) n → Asks was.sets (sets_asked (content_of was) n.event) None now.sets → HasRead new s first now
-    read_more now accepted is asks = record {
-      seen = read.seen ++ n ∷ [];
-      at = at;
-      gives = followed_append read.seen (n ∷ []) empty_content (content_of was) read.gives ∙ followed_one (content_of was) n accepted ∙ ap (λ (c : Content). Some c) (sym is);
-      fills = λ limit table. subst (λ (c : Content). Fills (read.seen ++ n ∷ []) empty_content (first_table limit) c now.sets) (sym is)
-          (fills_more read.seen empty_content (first_table limit) (content_of was) was.sets n now.sets (read.fills limit table) accepted asks);
+  module _ (old : Journal D g) (r : JournalReader) (seen : List Named) (first was : detect.Shown (pool.Shown D)) (read : HasRead old r seen first was) (new : Journal D g) (s : JournalReader) (n : Named) (at : IsAt new s ((seen ++ read.since) ++ n ∷ [])) where
+    pub read_more : (now : detect.Shown (pool.Shown D)) → IsAccepted (content_in was) n → content_in now ≡ after (content_in was) n → Asks was.sets (sets_asked (content_in was) n.event) None now.sets → AtPresent (IsFaithful g) now → HasRead new s seen first now
+    read_more now accepted is asks faithful = record {
+      since = read.since ++ n ∷ [];
+      at = subst (λ (events : List Named). IsAt new s events) (append_assoc seen read.since (n ∷ [])) at;
+      gives = followed_append read.since (n ∷ []) (content_in first) (content_in was) read.gives ∙ followed_one (content_in was) n accepted ∙ ap (λ (c : Content). Some c) (sym is);
+      fills = subst (λ (c : Content). Fills (read.since ++ n ∷ []) (content_in first) first.sets c now.sets) (sym is)
+          (fills_more read.since (content_in first) first.sets (content_in was) was.sets n now.sets read.fills accepted asks);
+      faithful = faithful;
     }
 
-    begins : (events : List Named) → IsJournal (g.state (disk_of new)).contents events → (rest : List Named) × (events ≡ read.seen ++ n ∷ rest)
+    begins : (events : List Named) → IsJournal (g.state (disk_of new)).contents events → (rest : List Named) × (events ≡ seen ++ (read.since ++ n ∷ rest))
     begins events is =
-        let left = more g new s (read.seen ++ n ∷ []) at events is in
-        (left.0, left.1 ∙ append_assoc read.seen (n ∷ []) left.0)
+        let left = more g new s ((seen ++ read.since) ++ n ∷ []) at events is in
+        (left.0, left.1 ∙ append_assoc (seen ++ read.since) (n ∷ []) left.0 ∙ append_assoc seen read.since (n ∷ left.0))
+
+    behind : length seen ≡ (content_in first).events → (events : List Named) → IsJournal (g.state (disk_of new)).contents events → (rest : List Named) × (drop (content_in first).events events ≡ read.since ++ n ∷ rest)
+    behind count events is =
+        let whole = begins events is in
+        (whole.0, ap (λ (l : List Named). drop (content_in first).events l) whole.1 ∙ behind_seen seen (read.since ++ n ∷ whole.0) (content_in first).events count)
 
     -- an event that is not accepted
-    pub no_content : ¬ IsAccepted (content_of was) n → (events : List Named) (c : Content) → IsJournal (g.state (disk_of new)).contents events → ¬ (followed empty_content events ≡ Some c)
-    no_content refused events c is gives =
-        let whole = begins events is in
-        let from : followed (content_of was) (n ∷ whole.0) ≡ Some c =
-        sym (followed_append read.seen (n ∷ whole.0) empty_content (content_of was) read.gives) ∙ ap (λ (es : List Named). followed empty_content es) (sym whole.1) ∙ gives in
-        refused (one (content_of was) c n whole.0 (verdict (standing_of (content_of was)) n) from).0
+    pub no_content : length seen ≡ (content_in first).events → ¬ IsAccepted (content_in was) n → (events : List Named) (c : Content) → IsJournal (g.state (disk_of new)).contents events → ¬ LeadFrom (content_in first) events c
+    no_content count refused events c is lead =
+        let left = behind count events is in
+        let from : followed (content_in was) (n ∷ left.0) ≡ Some c =
+        sym (followed_append read.since (n ∷ left.0) (content_in first) (content_in was) read.gives) ∙ ap (λ (es : List Named). followed (content_in first) es) (sym left.1) ∙ lead.leads in
+        refused (first_accepted (content_in was) c n left.0 from)
 
     -- a table that has no room
-    pub too_small : (limit : ℕ) (left : Table) → first.sets ≡ first_table limit → IsAccepted (content_of was) n → Asks was.sets (sets_asked (content_of was) n.event) (Some Full) left → IsTooSmall limit (g.state (disk_of new)).contents
-    too_small limit left table accepted full = record {
-      front = read.seen;
+    pub too_small : length seen ≡ (content_in first).events → (left : Table) → IsAccepted (content_in was) n → Asks was.sets (sets_asked (content_in was) n.event) (Some Full) left → IsTooSmall (content_in first) first.sets (g.state (disk_of new)).contents
+    too_small count left accepted full = record {
+      front = read.since;
       next = n;
-      begins = begins;
-      c = content_of was;
+      begins = behind count;
+      c = content_in was;
       table = was.sets;
-      fills = read.fills limit table;
+      fills = read.fills;
       accepted = accepted;
       left = left;
       full = full;
     }
 
--- an accepted event keeps the sets of threads small
-pub small_after : (c : Content) (n : Named) → IsAccepted c n → HasThreadSets c → HasThreadSets (after c n)
-small_after c n accepted has = kept c (after c n) (n ∷ []) (followed_one c n accepted) has
+  -- a journal with fewer events than were to be skipped
+  pub too_few : (seen events : List Named) (count : ℕ) → length seen < count → events ≡ seen → ¬ (count ≤ length events)
+  too_few seen events count few is enough = omega (arith, few, ap (λ (l : List Named). length l) is, enough)
+
+  -- all of it was followed
+  pub all_led : (seen since : List Named) (start last : Content) → length seen ≡ start.events → followed start since ≡ Some last → LeadFrom start (seen ++ since) last
+  all_led seen since start last count gives = record {
+    enough = omega (arith, count, length-append seen since);
+    leads = ap (λ (l : List Named). followed start l) (behind_seen seen since start.events count) ∙ gives;
+  }
+
+-- A table keeps to sets that have a spelling as events are accepted one after another.
+pub fills_spelled : (events : List Named) (c : Content) (t : Table) (last : Content) (filled : Table) → IsLawfulState c → AllByRecursion RecordFits events → All SetFits t.sets → Fills events c t last filled → All SetFits filled.sets
+fills_spelled [] c t last filled state fits all (same, is) = subst (λ (x : Table). All SetFits x.sets) (sym is) all
+fills_spelled (n ∷ events) c t last filled state fits all (accepted, mid, asks, rest) =
+    let next = one_stays c n state fits.0 accepted in
+    fills_spelled events (after c n) mid last filled next fits.1 (tables c n t mid None next.spelled asks all) rest
+
+-- those of a journal behind some have records too
+pub fits_behind : (n : ℕ) (events : List Named) → AllByRecursion RecordFits events → AllByRecursion RecordFits (drop n events)
+fits_behind n events fits = recursion_from_All RecordFits (drop n events) (All-drop RecordFits n events (All-from_recursion RecordFits events fits))

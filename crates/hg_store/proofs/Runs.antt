@@ -1,24 +1,34 @@
 -- A run goes on by one step.
-use Rattle.std.proofs.Common.{◌≡◌, inl, inr, List, [], ◌∷◌, ◌++◌, Bool, true, false, Some, Ok, Err, refl, sym, ap, ◌∙◌, subst, map, cond, ◌||◌, append_assoc}
+use Rattle.std.proofs.Common.{◌≡◌, inl, inr, ◌∷◌, [], ◌++◌, ◌||◌, ◌∙◌, ℕ, List, Bool, true, false, Some, Ok, Err, Result, cond, map, refl, sym, ap, subst, append_assoc}
 use Rattle.std.proofs.lemmas.List.{append-nil, map-append}
 use Rattle.hg_model.specs.declared.event.Named.{Named}
 use Rattle.hg_model.specs.declared.verdict.Refusal.{Refusal}
 use Rattle.hg_model.specs.declared.verdict.Refusal.TheVariants.{Broken, DeviceFault}
 use Rattle.hg_model.specs.Contents.{Content}
 use Rattle.hg_model.specs.Change.{followed}
+use Rattle.hg_detect.specs.Shown as detect
+use Rattle.hg_detect.specs.declared.detector.Answer.{Answer}
 use Rattle.hg_disk.specs.declared.disk.Disk as disk
+use Rattle.hg_pool.specs.Maps as pools
+use Rattle.hg_pool.specs.Shown as pool
+use Rattle.hg_contents.specs.Choices.{Stands}
+use Rattle.hg_contents.specs.Images.{Image}
+use Rattle.hg_contents.specs.Runs.{Run, StandsFor, accepted}
+use Rattle.hg_contents.proofs.Following.{followed_append}
 use Rattle.hg_store.specs.declared.devices.Devices.{Devices}
 use Rattle.hg_store.specs.declared.steps.Step.{Step}
-use Rattle.hg_store.specs.declared.steps.Step.TheVariants.{Offer, Commit}
+use Rattle.hg_store.specs.declared.steps.Step.TheVariants as step
+use Rattle.hg_store.specs.declared.steps.StepFault.{StepFault}
+use Rattle.hg_store.specs.declared.steps.StepFault.TheVariants.{Refused, WrongPhase}
 use Rattle.hg_store.specs.declared.steps.StepResult.{StepResult}
-use Rattle.hg_store.specs.declared.steps.StepResult.TheVariants.{Offered, Committed}
-use Rattle.hg_store.specs.Images.{EachImage, Image}
-use Rattle.hg_store.specs.Offers.{StepDone, durable_by, if_accepted, in_doubt_during}
-use Rattle.hg_store.specs.Runs.{Covered, DriveDone, IsAt, Lawful, Run, StandsFor, Told, accepted, before, begins, is_device_fault, run_after, run_of}
-use Rattle.hg_store.specs.Shown.{Shown}
-use Rattle.hg_detect.specs.Memory.{content_of}
-use Rattle.hg_store.specs.Store.{Backs, Stands}
-use Rattle.hg_store.proofs.Contents.{followed_append}
+use Rattle.hg_store.specs.declared.steps.StepResult.TheVariants as told
+use Rattle.hg_store.specs.Answers.{IsAllowed}
+use Rattle.hg_store.specs.Doing.{ContentDone, StepDone, in_doubt_during}
+use Rattle.hg_store.specs.Images.{EachImage}
+use Rattle.hg_store.specs.Runs.{CommitAnswers, Covered, DriveDone, IfBroken, IsAt, Lawful, Told, before, begins, is_device_fault, run_after, run_of}
+use Rattle.hg_store.specs.Shown.{Shown, live, saved}
+use Rattle.hg_store.specs.Steps.{CommitDone, ContentOffered, OfferDone, if_accepted}
+use Rattle.hg_store.specs.Store.{Backs}
 
 -- an image that stands for the contents of a store stands for the run
 stands_for : (start durable live : Content) (run : Run) (in_doubt : Bool) (image : Image) → followed start run.acknowledged ≡ Some durable → followed start (accepted run) ≡ Some live
@@ -26,114 +36,165 @@ stands_for : (start durable live : Content) (run : Run) (in_doubt : Bool) (image
 stands_for start durable live run in_doubt image acked all (inl is) = (durable, is, inl acked)
 stands_for start durable live run in_doubt image acked all (inr is) = (live, is.1, inr (is.0, all))
 
-refused_doubts : (broken : Bool) (refusal : Refusal) → refusal ≡ cond broken Broken DeviceFault → (broken || is_device_fault refusal) ≡ true
-refused_doubts true refusal is = refl
-refused_doubts false refusal is = ap is_device_fault is
+-- a commit that is refused leaves doubt, but where the store was broken before
+refused_doubts : (broken doubt : Bool) (refusal : Refusal) → refusal ≡ cond broken Broken DeviceFault → (doubt || is_device_fault refusal) ≡ cond broken doubt true
+refused_doubts true true refusal is = refl
+refused_doubts true false refusal is = ap is_device_fault is
+refused_doubts false true refusal is = refl
+refused_doubts false false refusal is = ap is_device_fault is
+
+-- a broken store refuses a step of a checkpoint so
+refuses : {D X : Type 0} (s : Shown D) (Allowed : Type 0) (result : Result X StepFault) → IsAllowed s Allowed result → IfBroken s.is_broken result
+refuses s Allowed (Ok value) is broken = absurd (cc (sym is.0 ∙ broken))
+refuses s Allowed (Err (WrongPhase p)) is broken = absurd (cc (sym is.0 ∙ broken))
+refuses s Allowed (Err (Refused r)) (inl is) broken = ap (λ (x : Refusal). Err (Refused x)) is.1
+refuses s Allowed (Err (Refused r)) (inr is) broken = absurd (cc (sym is.0 ∙ broken))
 
 module _ {D : Type 0} (g : disk.Ghosts D) where
   weaker : (old new : Devices D) (P Q : Image → Type 0) → ((image : Image) → P image → Q image) → EachImage g old new P → EachImage g old new Q
   weaker old new P Q more all = record { journal = all.journal; slots = all.slots; root0 = all.root0; root1 = all.root1; each = λ image may. more image (all.each image may) }
 
-  module _ (start : Content) where
-    is_lawful : (run : Run) (s new : Shown D) (step : Step) (result : StepResult) → IsAt g start run s → StepDone s new step result → Lawful start run step result
-    is_lawful run s new (Offer n) (Offered result) at done = (content_of s.detector, at.accepted_is, rw (at.in_doubt, at.pending) done.answer)
-    is_lawful run s new Commit (Committed (Ok count)) at done = (content_of s.detector, at.accepted_is, at.in_doubt ∙ done.answer.worked, done.answer.answer)
-    is_lawful run s new Commit (Committed (Err refusal)) at done = rw at.in_doubt done.answer.answer
-    is_lawful run s new (Offer n) (Committed result) at done = absurd done
-    is_lawful run s new Commit (Offered result) at done = absurd done
+  commit_lawful : (s new : Shown D) (result : Result ℕ Refusal) → CommitDone g s new result → CommitAnswers (live g s) s.is_broken result
+  commit_lawful s new (Ok count) done = (done.answer.worked, done.answer.answer)
+  commit_lawful s new (Err refusal) done = done.answer.answer
 
-    is_after : (run : Run) (s new : Shown D) (step : Step) (result : StepResult) (at : IsAt g start run s) → StepDone s new step result
-        → Backs g new (durable_by result at.durable (content_of s.detector)) → IsAt g start (run_after run step result) new
-    is_after run s new (Offer n) (Offered result) at done backed = record {
-      durable = at.durable;
-      acknowledged = at.acknowledged;
+  module _ (start : Content) where
+    is_lawful : (run : Run) (s new : Shown D) (step : Step) (result : StepResult) → IsAt g start run s → StepDone g s new step result → Lawful start run s.is_broken step result
+    is_lawful run s new (step.Offer n) result at done = (done.0, done.1, (live g s, at.accepted_is, rw at.pending done.2.answer))
+    is_lawful run s new step.Commit result at done = (done.0, done.1, (live g s, at.accepted_is, commit_lawful s new done.0 done.2))
+    is_lawful run s new step.Freeze result at done = (done.0, done.1, refuses s _ done.0 done.2.done.allowed)
+    is_lawful run s new step.TakeJob result at done = (done.0, done.1, refuses s _ done.0 done.2.allowed)
+    is_lawful run s new (step.Put page) result at done = (done.0, done.1, refuses s _ done.0 done.2.done.allowed)
+    is_lawful run s new step.SealPages result at done = (done.0, done.1, refuses s _ done.0 done.2.done.allowed)
+    is_lawful run s new step.PrepareRoot result at done = (done.0, done.1, refuses s _ done.0 done.2.done.allowed)
+    is_lawful run s new step.WriteRoot result at done = (done.0, done.1, refuses s _ done.0 done.2.done.allowed)
+    is_lawful run s new step.OpenRoot result at done = (done.0, done.1, refuses s _ done.0 done.2.done.allowed)
+
+    -- the content of a detector that did not change
+    saved_same : (s new : Shown D) → new.committed ≡ s.committed → saved g s ≡ saved g new
+    saved_same s new same = ap (λ (d : detect.Shown (pool.Shown D)). detect.content (pools.live g) d) (sym same)
+
+    -- a step that leaves the events
+    at_same : (run : Run) (s new : Shown D) → IsAt g start run s → new.committed ≡ s.committed → live g new ≡ live g s → new.pending ≡ s.pending → new.in_doubt ≡ s.in_doubt → Backs g new → IsAt g start run new
+    at_same run s new at committed content pending doubt backed = record {
+      acknowledged = at.acknowledged ∙ ap (λ (c : Content). Some c) (saved_same s new committed);
+      accepted_is = at.accepted_is ∙ ap (λ (c : Content). Some c) (sym content);
+      pending = at.pending ∙ sym pending;
+      in_doubt = at.in_doubt ∙ sym doubt;
       backed = backed;
+    }
+
+    after_offer : (run : Run) (s new : Shown D) (n : Named) (result : Result Answer Refusal) → IsAt g start run s → OfferDone g s new n result → ContentOffered g s new n result → Backs g new
+        → IsAt g start (run_after run (step.Offer n) (told.Offered result)) new
+    after_offer run s new n result at done content backed = record {
+      acknowledged = at.acknowledged ∙ ap (λ (c : Content). Some c) (saved_same s new done.same.committed);
       accepted_is = ap (λ (es : List Named). followed start es) (sym (append_assoc run.acknowledged run.pending (if_accepted n result)))
-          ∙ followed_append (accepted run) (if_accepted n result) start (content_of s.detector) at.accepted_is ∙ done.live;
+          ∙ followed_append (accepted run) (if_accepted n result) start (live g s) at.accepted_is ∙ content.leads;
       pending = ap (λ (es : List Named). es ++ if_accepted n result) at.pending ∙ sym done.pending;
-      in_doubt = at.in_doubt ∙ sym done.is_broken;
-    }
-    is_after run s new Commit (Committed (Ok count)) at done backed = record {
-      durable = content_of s.detector;
-      acknowledged = at.accepted_is;
+      in_doubt = at.in_doubt ∙ sym done.same.in_doubt;
       backed = backed;
-      accepted_is = ap (λ (es : List Named). followed start es) (append-nil (accepted run)) ∙ at.accepted_is ∙ ap (λ d. Some (content_of d)) (sym done.detector);
+    }
+
+    after_commit : (run : Run) (s new : Shown D) (result : Result ℕ Refusal) → IsAt g start run s → CommitDone g s new result → live g new ≡ live g s → Backs g new
+        → IsAt g start (run_after run step.Commit (told.Committed result)) new
+    after_commit run s new (Ok count) at done content backed = record {
+      acknowledged = at.accepted_is ∙ ap (λ (d : detect.Shown (pool.Shown D)). Some (detect.content (pools.live g) d)) (sym done.answer.committed);
+      accepted_is = ap (λ (es : List Named). followed start es) (append-nil (accepted run)) ∙ at.accepted_is ∙ ap (λ (c : Content). Some c) (sym content);
       pending = sym done.answer.pending;
-      in_doubt = at.in_doubt ∙ done.answer.worked ∙ sym done.answer.works;
-    }
-    is_after run s new Commit (Committed (Err refusal)) at done backed = record {
-      durable = at.durable;
-      acknowledged = at.acknowledged;
+      in_doubt = at.in_doubt ∙ sym done.answer.certain;
       backed = backed;
-      accepted_is = at.accepted_is ∙ ap (λ d. Some (content_of d)) (sym done.detector);
-      pending = at.pending ∙ sym done.answer.pending;
-      in_doubt = ap (λ (b : Bool). b || is_device_fault refusal) at.in_doubt ∙ refused_doubts s.is_broken refusal done.answer.answer ∙ sym done.answer.broken;
     }
-    is_after run s new (Offer n) (Committed result) at done backed = absurd done
-    is_after run s new Commit (Offered result) at done backed = absurd done
+    after_commit run s new (Err refusal) at done content backed = record {
+      acknowledged = at.acknowledged ∙ ap (λ (c : Content). Some c) (saved_same s new done.answer.committed);
+      accepted_is = at.accepted_is ∙ ap (λ (c : Content). Some c) (sym content);
+      pending = at.pending ∙ sym done.answer.pending;
+      in_doubt = ap (λ (b : Bool). b || is_device_fault refusal) at.in_doubt ∙ refused_doubts s.is_broken s.in_doubt refusal done.answer.answer ∙ sym done.answer.doubt;
+      backed = backed;
+    }
+
+    -- what was offered, by the one answer that there is
+    offered_is : (s new : Shown D) (n : Named) (result : StepResult) (r : Result Answer Refusal) → result ≡ told.Offered r → ContentDone g s new (step.Offer n) result → ContentOffered g s new n r
+    offered_is s new n result r is content =
+        let same : told.Offered r ≡ told.Offered content.0 = sym is ∙ content.1 in
+        let equal : r ≡ content.0 = cc in
+        subst (λ (x : Result Answer Refusal). ContentOffered g s new n x) (sym equal) content.2
+
+    is_after : (run : Run) (s new : Shown D) (step : Step) (result : StepResult) → IsAt g start run s → StepDone g s new step result → ContentDone g s new step result → Backs g new → IsAt g start (run_after run step result) new
+    is_after run s new (step.Offer n) result at done content backed =
+        subst (λ (r : StepResult). IsAt g start (run_after run (step.Offer n) r) new) (sym done.1) (after_offer run s new n done.0 at done.2 (offered_is s new n result done.0 done.1 content) backed)
+    is_after run s new step.Commit result at done content backed =
+        subst (λ (r : StepResult). IsAt g start (run_after run step.Commit r) new) (sym done.1) (after_commit run s new done.0 at done.2 content backed)
+    is_after run s new step.Freeze result at done content backed = at_same run s new at done.2.done.committed content done.2.done.pending done.2.done.in_doubt backed
+    is_after run s new step.TakeJob result at done content backed = subst (λ (x : Shown D). IsAt g start run x) (sym done.2.same) at
+    is_after run s new (step.Put page) result at done content backed = at_same run s new at done.2.done.committed content done.2.done.pending done.2.done.in_doubt backed
+    is_after run s new step.SealPages result at done content backed = at_same run s new at done.2.done.committed content done.2.done.pending done.2.done.in_doubt backed
+    is_after run s new step.PrepareRoot result at done content backed = at_same run s new at done.2.done.committed content done.2.done.pending done.2.done.in_doubt backed
+    is_after run s new step.WriteRoot result at done content backed = at_same run s new at done.2.done.committed content done.2.done.pending done.2.done.in_doubt backed
+    is_after run s new step.OpenRoot result at done content backed = at_same run s new at done.2.done.committed content.2.live done.2.done.pending done.2.done.in_doubt backed
 
     module _ (s new : Shown D) (step : Step) (result : StepResult) where
       begins_more : (told : Told D) → begins (told ++ (s, result) ∷ []) new ≡ begins told s
       begins_more [] = refl
       begins_more (a ∷ told) = refl
 
-      covered_more : (run : Run) (steps : List Step) (told : Told D) → Covered g start run steps told s → Lawful start (run_of run steps told) step result → StepDone s new step result
+      covered_more : (run : Run) (steps : List Step) (told : Told D) → Covered g start run steps told s → Lawful start (run_of run steps told) s.is_broken step result → StepDone g s new step result → ContentDone g s new step result
           → EachImage g s.devices new.devices (StandsFor start (run_of run steps told) (in_doubt_during step (run_of run steps told).in_doubt))
           → Covered g start run (steps ++ step ∷ []) (told ++ (s, result) ∷ []) new
-      covered_more run [] [] cov lawful done images = (lawful, done, images, tt)
-      covered_more run [] (a ∷ told) cov lawful done images = absurd cov
-      covered_more run (x ∷ steps) [] cov lawful done images = absurd cov
-      covered_more run (x ∷ steps) (a ∷ told) cov lawful done images = (
+      covered_more run [] [] cov lawful done content images = (lawful, done, content, images, tt)
+      covered_more run [] (a ∷ told) cov lawful done content images = absurd cov
+      covered_more run (x ∷ steps) [] cov lawful done content images = absurd cov
+      covered_more run (x ∷ steps) (a ∷ told) cov lawful done content images = (
         cov.0,
-        subst (λ (end : Shown D). StepDone a.0 end x a.1) (sym (begins_more told)) cov.1,
-        subst (λ (end : Shown D). EachImage g a.0.devices end.devices (StandsFor start run (in_doubt_during x run.in_doubt))) (sym (begins_more told)) cov.2,
-        covered_more (run_after run x a.1) steps told cov.3 lawful done images,
+        subst (λ (end : Shown D). StepDone g a.0 end x a.1) (sym (begins_more told)) cov.1,
+        subst (λ (end : Shown D). ContentDone g a.0 end x a.1) (sym (begins_more told)) cov.2,
+        subst (λ (end : Shown D). EachImage g a.0.devices end.devices (StandsFor start run (in_doubt_during x run.in_doubt))) (sym (begins_more told)) cov.3,
+        covered_more (run_after run x a.1) steps told cov.4 lawful done content images,
       )
 
       run_more : (run : Run) (steps : List Step) (told : Told D) → Covered g start run steps told s → run_of run (steps ++ step ∷ []) (told ++ (s, result) ∷ []) ≡ run_after (run_of run steps told) step result
       run_more run [] [] cov = refl
       run_more run [] (a ∷ told) cov = absurd cov
       run_more run (x ∷ steps) [] cov = absurd cov
-      run_more run (x ∷ steps) (a ∷ told) cov = run_more (run_after run x a.1) steps told cov.3
+      run_more run (x ∷ steps) (a ∷ told) cov = run_more (run_after run x a.1) steps told cov.4
 
-      abbrev pub Keeps : Type 0
-      Keeps = (d : Content) → Backs g s d → Backs g new (durable_by result d (content_of s.detector))
+  module _ (s new : Shown D) (step : Step) (result : StepResult) where
+    -- what the images have while the step is made
+    abbrev pub Leaves : Type 0
+    Leaves = EachImage g s.devices new.devices (Stands (saved g s) (live g s) (in_doubt_during step s.in_doubt))
 
-      abbrev pub Leaves : Type 0
-      Leaves = (d : Content) → Backs g s d → EachImage g s.devices new.devices (Stands d (content_of s.detector) (in_doubt_during step s.is_broken))
+    drive_more : (old : Shown D) (steps : List Step) (told : Told D) → DriveDone g old s steps told → StepDone g s new step result → ContentDone g s new step result → Backs g new → Leaves
+        → DriveDone g old new (steps ++ step ∷ []) (told ++ (s, result) ∷ [])
+    drive_more old steps told so_far done content backed leaves =
+        let start : Content = saved g old in
+        let run : Run = run_of (before old) steps told in
+        let at : IsAt g start run s = so_far.run in
+        let then : IsAt g start (run_after run step result) new = is_after start run s new step result at done content backed in
+        let images : EachImage g s.devices new.devices (StandsFor start run (in_doubt_during step run.in_doubt)) =
+        weaker s.devices new.devices (Stands (saved g s) (live g s) (in_doubt_during step s.in_doubt)) (StandsFor start run (in_doubt_during step run.in_doubt))
+        (λ image is. rw at.in_doubt (stands_for start (saved g s) (live g s) run (in_doubt_during step s.in_doubt) image at.acknowledged at.accepted_is is))
+        leaves in
+        record {
+          run = subst (λ (r : Run). IsAt g start r new) (sym (run_more start s new step result (before old) steps told so_far.covered)) then;
+          first = begins_more start s new step result told ∙ so_far.first;
+          covered = covered_more start s new step result (before old) steps told so_far.covered (is_lawful start run s new step result at done) done content images;
+        }
 
-      drive_more : (old : Shown D) (steps : List Step) (told : Told D) → DriveDone g start old s steps told → StepDone s new step result → Keeps → Leaves
-          → DriveDone g start old new (steps ++ step ∷ []) (told ++ (s, result) ∷ [])
-      drive_more old steps told so_far done keeps leaves =
-          let run : Run = run_of (before old) steps told in
-          let at : IsAt g start run s = so_far.run in
-          let then : IsAt g start (run_after run step result) new = is_after run s new step result at done (keeps at.durable at.backed) in
-          let images : EachImage g s.devices new.devices (StandsFor start run (in_doubt_during step run.in_doubt)) =
-          weaker s.devices new.devices (Stands at.durable (content_of s.detector) (in_doubt_during step s.is_broken)) (StandsFor start run (in_doubt_during step run.in_doubt))
-          (λ image is. rw at.in_doubt (stands_for start at.durable (content_of s.detector) run (in_doubt_during step s.is_broken) image at.acknowledged at.accepted_is is))
-          (leaves at.durable at.backed) in
-          record {
-            run = subst (λ (r : Run). IsAt g start r new) (sym (run_more (before old) steps told so_far.covered)) then;
-            first = begins_more told ∙ so_far.first;
-            covered = covered_more (before old) steps told so_far.covered (is_lawful run s new step result at done) done images;
-          }
-
-      -- the same, of answers that are pushed
-      pub drive_turn : {A : Type 0} (began : A → Shown D) (answered : A → StepResult) (old : Shown D) (steps more : List Step) (answers new_answers : List A) (a : A)
-          → more ≡ steps ++ step ∷ [] → new_answers ≡ answers ++ a ∷ [] → began a ≡ s → answered a ≡ result
-          → DriveDone g start old s steps (map (λ (x : A). (began x, answered x)) answers) → StepDone s new step result → Keeps → Leaves
-          → DriveDone g start old new more (map (λ (x : A). (began x, answered x)) new_answers)
-      drive_turn {A} began answered old steps more answers new_answers a is pushed then told so_far done keeps leaves =
-          let tell : A → Shown D × StepResult = λ x. (began x, answered x) in
-          let all : map tell new_answers ≡ map tell answers ++ (s, result) ∷ [] =
-          ap (λ (xs : List A). map tell xs) pushed ∙ map-append tell answers (a ∷ []) ∙ ap (λ (x : Shown D × StepResult). map tell answers ++ x ∷ []) (cc) in
-          subst (λ (xs : List Step). DriveDone g start old new xs (map tell new_answers)) (sym is)
-          (subst (λ (xs : Told D). DriveDone g start old new (steps ++ step ∷ []) xs) (sym all) (drive_more old steps (map tell answers) so_far done keeps leaves))
+    -- the same, of answers that are pushed
+    pub drive_turn : {A : Type 0} (began : A → Shown D) (answered : A → StepResult) (old : Shown D) (steps more : List Step) (answers new_answers : List A) (a : A)
+        → more ≡ steps ++ step ∷ [] → new_answers ≡ answers ++ a ∷ [] → began a ≡ s → answered a ≡ result
+        → DriveDone g old s steps (map (λ (x : A). (began x, answered x)) answers) → StepDone g s new step result → ContentDone g s new step result → Backs g new → Leaves
+        → DriveDone g old new more (map (λ (x : A). (began x, answered x)) new_answers)
+    drive_turn {A} began answered old steps more answers new_answers a is pushed then told so_far done content backed leaves =
+        let tell : A → Shown D × StepResult = λ x. (began x, answered x) in
+        let all : map tell new_answers ≡ map tell answers ++ (s, result) ∷ [] =
+        ap (λ (xs : List A). map tell xs) pushed ∙ map-append tell answers (a ∷ []) ∙ ap (λ (x : Shown D × StepResult). map tell answers ++ x ∷ []) (cc) in
+        subst (λ (xs : List Step). DriveDone g old new xs (map tell new_answers)) (sym is)
+        (subst (λ (xs : Told D). DriveDone g old new (steps ++ step ∷ []) xs) (sym all) (drive_more old steps (map tell answers) so_far done content backed leaves))
 
   -- before the first step
-  pub drive_none : (start : Content) (s : Shown D) → Backs g s start → DriveDone g start s s [] []
-  drive_none start s backs = record {
-    run = record { durable = start; acknowledged = refl; backed = backs; accepted_is = backs.live; pending = refl; in_doubt = refl };
+  pub drive_none : (s : Shown D) → Backs g s → DriveDone g s s [] []
+  drive_none s backs = record {
+    run = record { acknowledged = refl; accepted_is = backs.live; pending = refl; in_doubt = refl; backed = backs };
     first = refl;
     covered = tt;
   }

@@ -1,40 +1,19 @@
--- What a crash may leave of the four devices of a store, and the content that it gives.
-use Rattle.std.specs.Prelude.{◌≡◌, ◌+◌, ℕ, List, Some}
+-- What a crash may leave of the devices of a store, from one moment to another.
+use Rattle.std.specs.Prelude.{◌≡◌, ◌+◌, ℕ, List, [], ◌∷◌, Some}
 use Rattle.hg_model.specs.declared.event.Named.{Named}
 use Rattle.hg_model.specs.Contents.{Content}
-use Rattle.hg_model.specs.Change.{followed, empty_content}
-use Rattle.hg_disk.specs.State.{IsImage}
+use Rattle.hg_model.specs.Change.{followed}
 use Rattle.hg_disk.specs.Moments.{GoesOn, MayLeave}
 use Rattle.hg_disk.specs.declared.disk.Disk as disk
-use Rattle.hg_gate.specs.Batches.{IsClosed}
-use Rattle.hg_journal.specs.Journal.{IsJournal}
+use Rattle.hg_root.specs.Checkpoints.{Checkpoint, HasCheckpoint}
+use Rattle.hg_contents.specs.Images.{HasContent, Image, content_of}
+use Rattle.hg_contents.specs.Stores.{IsLeft, States}
 use Rattle.hg_store.specs.declared.devices.Devices.{Devices}
 
--- the bytes of each device
-pub record Image : Type 0 where
-  pub journal : List ℕ
-  pub slots : List ℕ
-  pub root0 : List ℕ
-  pub root1 : List ℕ
-
--- The image has this content: both roots are closed, and the events of the journal, each accepted after those before it, give it.
-pub record HasContent (image : Image) (c : Content) : Type 0 where
-  pub first_root : IsClosed image.root0
-  pub second_root : IsClosed image.root1
-  pub events : List Named
-  pub journal : IsJournal image.journal events
-  pub gives : followed empty_content events ≡ Some c
-
--- The image has the content after a front of the events that lead from the first content to the last.
-pub record IsOn (first last : Content) (image : Image) : Type 0 where
-  pub content : Content
-  pub has : HasContent image content
-  pub front : List Named
-  pub back : List Named
-  pub before : followed first front ≡ Some content
-  pub behind : followed content back ≡ Some last
-
 module _ {D : Type 0} (g : disk.Ghosts D) where
+  abbrev pub states_of : Devices D → States
+  states_of devices = record { journal = g.state devices.journal; slots = g.state devices.slots; root0 = g.state devices.root0; root1 = g.state devices.root1 }
+
   -- what a crash may leave of the devices from one moment of each to another, each device by itself
   pub record MayLeaveAll (old new : Devices D) (image : Image) : Type 0 where
     pub journal : MayLeave g old.journal new.journal image.journal
@@ -50,12 +29,13 @@ module _ {D : Type 0} (g : disk.Ghosts D) where
     pub root1 : GoesOn g old.root1 new.root1
     pub each : (image : Image) → MayLeaveAll old new image → P image
 
-  -- what a crash may leave of the devices as they are
-  pub record IsLeft (devices : Devices D) (image : Image) : Type 0 where
-    pub journal : IsImage (g.state devices.journal) image.journal
-    pub slots : IsImage (g.state devices.slots) image.slots
-    pub root0 : IsImage (g.state devices.root0) image.root0
-    pub root1 : IsImage (g.state devices.root1) image.root1
+  -- Each image of the devices has a checkpoint of this number and this content, and its root is the newest open one.
+  pub record HasOpened (devices : Devices D) (number : ℕ) (c : Content) : Type 0 where
+    pub checkpoint : Checkpoint
+    pub is_number : checkpoint.root.number ≡ number
+    pub events : checkpoint.root.events ≡ c.events
+    pub is_content : content_of checkpoint ≡ c
+    pub newest : (image : Image) → IsLeft (states_of devices) image → HasCheckpoint (Some checkpoint) image.root0 image.root1 image.slots
 
   -- what the devices read
   abbrev pub read_of : Devices D → Image
@@ -69,3 +49,32 @@ module _ {D : Type 0} (g : disk.Ghosts D) where
   -- how many calls of the devices have failed
   abbrev pub failures_of : Devices D → ℕ
   failures_of devices = g.failures devices.journal + g.failures devices.slots + g.failures devices.root0 + g.failures devices.root1
+
+-- The image has what content another one has, if any.
+abbrev pub HasContentOf : Image → Image → Type 0
+HasContentOf before image = (c : Content) → HasContent before c → HasContent image c
+
+module _ {D : Type 0} (g : disk.Ghosts D) where
+  -- The image has the content of one that the devices left.
+  abbrev pub HasContentOfOne : Devices D → Image → Type 0
+  HasContentOfOne devices image = (before : Image) × IsLeft (states_of g devices) before × HasContentOf before image
+
+  -- Up to a moment, and from there on, each image of the devices has the content of one that they left at first.
+  pub record Recovers (old new : Devices D) : Type 0 where
+    pub synced : Devices D
+    pub before : EachImage g old synced (HasContentOfOne old)
+    pub behind : EachImage g synced new (HasContentOfOne old)
+
+-- The image has the content after a front of the events that lead from the first content to the last.
+pub record IsOn (first last : Content) (image : Image) : Type 0 where
+  pub content : Content
+  pub has : HasContent image content
+  pub front : List Named
+  pub back : List Named
+  pub before : followed first front ≡ Some content
+  pub behind : followed content back ≡ Some last
+
+-- Between each two neighbours of these moments, the newest first, and from the newest one to now, each image has P.
+abbrev pub EachImageAlong : {D : Type 0} → disk.Ghosts D → (start : Devices D) → List (Devices D) → (now : Devices D) → (Image → Type 0) → Type 0
+EachImageAlong g start [] now P = EachImage g start now P
+EachImageAlong g start (mid ∷ earlier) now P = EachImage g mid now P × EachImageAlong g start earlier mid P

@@ -1,19 +1,132 @@
 -- What the parts of a store keep.
-use Rattle.std.specs.Prelude.{◌≡◌, ◌≤◌, ◌+◌, ℕ, List, Bool, false, IsTrue, length, vec_capacity, Vec}
+use Rattle.std.specs.Prelude.{◌≡◌, ◌≤◌, ◌++◌, ℕ, List, Bool, true, false, IsTrue, Vec, length, vec_capacity, All, Option, None, Some}
 use Rattle.std.specs.declared.alloc.Global.{Global}
 use Rattle.hg_model.specs.declared.event.Named.{Named}
-use Rattle.hg_detect.specs.declared.detector.Detector.{Detector}
-use Rattle.hg_detect.specs.declared.paged.PagedWords.{PagedWords}
+use Rattle.hg_model.specs.Contents.{Content}
+use Rattle.hg_cells.specs.declared.cell.Cell.{Cell}
+use Rattle.hg_detect.specs.Engine.{AtPresent}
+use Rattle.hg_detect.specs.Shown as detect
 use Rattle.hg_disk.specs.declared.disk.Disk as disk
 use Rattle.hg_journal.specs.declared.journal.Journal.{Journal}
-use Rattle.hg_journal.specs.Reading.{Keeps, is_broken}
-use Rattle.hg_detect.specs.Memory.{IsWhole, content_of}
+use Rattle.hg_journal.specs.Reading as journals
+use Rattle.hg_pool.specs.Kept.{IsFaithful}
+use Rattle.hg_pool.specs.Maps as pools
+use Rattle.hg_pool.specs.OfWords.{MayBring}
+use Rattle.hg_pool.specs.Shown as pool
+use Rattle.hg_root.specs.Checkpoints.{Checkpoint, root_of}
+use Rattle.hg_root.specs.Finding.{number_in}
+use Rattle.hg_root.specs.Grammar.{SetFits}
+use Rattle.hg_root.specs.Pairs.{first_of, second_of}
+use Rattle.hg_contents.specs.Choices.{Basis}
+use Rattle.hg_contents.specs.Images.{Gives, content_of}
+use Rattle.hg_contents.specs.States.{IsLawfulState}
+use Rattle.hg_contents.specs.Stores.{Keeps}
+use Rattle.hg_recovery.specs.Capturing.{parts_with}
+use Rattle.hg_checkpointer.specs.declared.checkpointer.Checkpointer.{Checkpointer}
+use Rattle.hg_checkpointer.specs.declared.phase.Phase.{Phase}
+use Rattle.hg_checkpointer.specs.declared.phase.Phase.TheVariants as phase
+use Rattle.hg_checkpointer.specs.Standing.{IsDraft, IsNext, Stands}
+use Rattle.hg_store.specs.declared.devices.Devices.{Devices}
+use Rattle.hg_store.specs.Shown.{Shown, captured, live, saved}
+use Rattle.hg_store.specs.Store.{view_of}
 
--- The detector may be asked, what is pending is not durable yet, there is room for all that may be pending, and a store that works has a journal that does.
-pub record IsSound {D : Type 0} (g : disk.Ghosts D) (journal : Journal D g) (detector : Detector PagedWords) (pending : Vec Named Global) (durable : ℕ) (broken : Bool) : Type 0 where
-  pub whole : IsWhole detector
-  pub few : length pending.items ≤ 1024
-  pub room : 1024 ≤ vec_capacity pending
-  pub count : (content_of detector).events ≡ durable + length pending.items
-  pub works : broken ≡ false → is_broken journal ≡ false
-  pub keeps : IsTrue g.is_honest → broken ≡ false → (events : List Named) × Keeps journal events × (length events ≡ durable)
+-- the parts of a store
+pub record Parts (D : Type 0) (g : disk.Ghosts D) : Type 0 where
+  pub journal : Journal D g
+  pub detector : detect.Shown (pool.Shown D)
+  pub checkpointer : Checkpointer D g
+  pub committed : detect.Shown (pool.Shown D)
+  pub frozen : detect.Shown (pool.Shown D)
+  pub pending : List Named
+  pub durable : ℕ
+  pub is_broken : Bool
+  pub in_doubt : Bool
+
+-- The durable events at the freeze lead to this content, and others may have come since.
+pub record IsFront (basis : Basis) (c : Content) : Type 0 where
+  pub front : List Named
+  pub since : List Named
+  pub split : front ++ since ≡ basis.events
+  pub gives : Gives basis.now.checkpoint front c
+
+-- from Sealed on
+abbrev pub is_rooting : Phase → Bool
+is_rooting phase.Idle = false
+is_rooting phase.Flushing = false
+is_rooting phase.Sealed = true
+is_rooting phase.Prepared = true
+is_rooting phase.Written = true
+
+module _ {D : Type 0} (g : disk.Ghosts D) where
+  abbrev pub devices_of : Journal D g → pool.Shown D → Checkpointer D g → Devices D
+  devices_of journal words checkpointer = record {
+    journal = journals.disk_of journal;
+    slots = pools.disk_of words;
+    root0 = first_of checkpointer.roots;
+    root1 = second_of checkpointer.roots;
+  }
+
+  -- what contracts see
+  abbrev pub shown_of : Parts D g → Shown D
+  shown_of s = record {
+    devices = devices_of s.journal s.detector.words s.checkpointer;
+    detector = s.detector;
+    committed = s.committed;
+    frozen = s.frozen;
+    pending = s.pending;
+    durable = s.durable;
+    progress = record { phase = s.checkpointer.phase; number = s.checkpointer.number; next = s.checkpointer.next; head = s.checkpointer.head };
+    is_broken = s.is_broken;
+    in_doubt = s.in_doubt;
+  }
+
+  -- A checkpoint is in progress, of what the detector showed at the freeze, with its words as the frozen map has them.
+  pub record IsFreezing (s : Parts D g) (basis : Basis) : Type 0 where
+    pub was : detect.Shown (ℕ → Cell)
+    pub content : detect.content (λ map. map) was ≡ captured g (shown_of s)
+    pub state : IsLawfulState (detect.content (λ map. map) was)
+    pub front : IsFront basis (detect.content (λ map. map) was)
+    pub draft : IsDraft g s.checkpointer s.detector.words basis.now.checkpoint (parts_with s.checkpointer.next was) was.words
+
+  -- The same, and its pages are durable.
+  pub record IsRooting (s : Parts D g) (basis : Basis) : Type 0 where
+    pub freezing : IsFreezing s basis
+    pub next : Checkpoint
+    pub is_next : IsNext g s.checkpointer s.detector.words basis.now.checkpoint next
+    pub content : content_of next ≡ detect.content (λ map. map) freezing.was
+
+  abbrev pub IsInProgress : Phase → Parts D g → Basis → Type 0
+  IsInProgress phase.Idle s basis = Unit {0}
+  IsInProgress phase.Flushing s basis = IsFreezing s basis
+  IsInProgress phase.Sealed s basis = IsRooting s basis
+  IsInProgress phase.Prepared s basis = IsRooting s basis
+  IsInProgress phase.Written s basis = IsRooting s basis
+
+  -- What a store keeps that is not broken: its journal has the durable events, its roots and slots the checkpoint that counts.
+  pub record IsWorking (s : Parts D g) (basis : Basis) : Type 0 where
+    pub certain : s.in_doubt ≡ false
+    pub one : basis.next ≡ basis.now
+    pub journal : journals.Keeps s.journal basis.events
+    pub stands : Stands g s.checkpointer s.detector.words basis.now.checkpoint basis.now.former
+    pub number : s.checkpointer.number ≡ number_in (root_of basis.now.checkpoint)
+    pub progress : IsInProgress s.checkpointer.phase s basis
+
+  -- One fact on each kind of device, for the durable content.
+  pub record Standing (s : Parts D g) (basis : Basis) : Type 0 where
+    pub keeps : Keeps basis (view_of g (shown_of s)) (saved g (shown_of s))
+    pub faithful : AtPresent (IsFaithful g) s.detector
+    pub state : IsLawfulState (live g (shown_of s))
+    pub spelled : All SetFits s.detector.sets.sets
+    pub works : s.is_broken ≡ false → IsWorking s basis
+
+  -- The detector may be asked, there is room for all that may be pending, a store that works has parts that do; and over honest devices the
+  -- store stands for a durable content.
+  pub record IsSound (s : Parts D g) (pending_room : ℕ) : Type 0 where
+    pub lawful : AtPresent MayBring s.detector
+    pub few : length s.pending ≤ 1024
+    pub room : 1024 ≤ pending_room
+    pub journal : s.is_broken ≡ false → journals.is_broken s.journal ≡ false
+    pub words : s.is_broken ≡ false → pools.is_broken s.detector.words ≡ false
+    pub checkpointer : s.is_broken ≡ false → s.checkpointer.is_broken ≡ false
+    pub sealed : is_rooting s.checkpointer.phase ≡ true → IsTrue s.detector.words.is_sealed
+    pub stands : IsTrue g.is_honest → (basis : Basis) × Standing s basis

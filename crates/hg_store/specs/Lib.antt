@@ -1,8 +1,9 @@
-pub mod Images
 pub mod Shown
+pub mod Images
 pub mod Store
 pub mod Kept
-pub mod Offers
-pub mod Recovering
+pub mod Answers
+pub mod Steps
+pub mod Doing
 pub mod Runs
-pub mod Laws
+pub mod Recovering

@@ -1,40 +1,32 @@
 -- Runs of steps with their answers.
-use Rattle.std.specs.Prelude.{◌≡◌, ◌⊎◌, ◌++◌, ◌||◌, List, [], ◌∷◌, length, Bool, true, false, Some, Ok, Err, cond}
-use Rattle.hg_model.specs.declared.event.Named.{Named}
+use Rattle.std.specs.Prelude.{◌≡◌, ◌++◌, ◌||◌, ℕ, List, [], ◌∷◌, length, Bool, true, false, Some, Ok, Err, Result, cond}
 use Rattle.hg_model.specs.declared.verdict.Refusal.{Refusal}
 use Rattle.hg_model.specs.declared.verdict.Refusal.TheVariants.{Broken, DeviceFault}
 use Rattle.hg_model.specs.Contents.{Content}
 use Rattle.hg_model.specs.Change.{followed}
 use Rattle.hg_disk.specs.declared.disk.Disk as disk
-use Rattle.hg_store.specs.declared.steps.Step.{Step}
-use Rattle.hg_store.specs.declared.steps.Step.TheVariants.{Offer, Commit}
-use Rattle.hg_store.specs.declared.steps.StepResult.{StepResult}
-use Rattle.hg_store.specs.declared.steps.StepResult.TheVariants.{Offered, Committed}
-use Rattle.hg_store.specs.Images.{Image, HasContent, EachImage, failures_of}
-use Rattle.hg_store.specs.Shown.{Shown}
-use Rattle.hg_detect.specs.Memory.{content_of}
+use Rattle.hg_contents.specs.Runs.{Run, StandsFor, accepted}
+use Rattle.hg_store.specs.Doing.{ContentDone, StepDone, Tells, fails_by, in_doubt_during}
+use Rattle.hg_store.specs.Images.{EachImage, failures_of}
+use Rattle.hg_store.specs.Shown.{Shown, live, saved}
+use Rattle.hg_store.specs.Steps.{OfferAnswers, if_accepted}
 use Rattle.hg_store.specs.Store.{Backs}
-use Rattle.hg_store.specs.Offers.{OfferAnswers, StepDone, failed_by, if_accepted, in_doubt_during}
-
--- The events of the offers answered Accepted: those before the last commit answered Ok, and those since.
--- In doubt: a commit was answered by a fault of a device.
-pub record Run : Type 0 where
-  pub acknowledged : List Named
-  pub pending : List Named
-  pub in_doubt : Bool
-
-abbrev pub accepted : Run → List Named
-accepted run = run.acknowledged ++ run.pending
+use Rattle.hg_store.specs.declared.steps.Step.{Step}
+use Rattle.hg_store.specs.declared.steps.Step.TheVariants as step
+use Rattle.hg_store.specs.declared.steps.StepFault.{StepFault}
+use Rattle.hg_store.specs.declared.steps.StepFault.TheVariants.{Refused}
+use Rattle.hg_store.specs.declared.steps.StepResult.{StepResult}
+use Rattle.hg_store.specs.declared.steps.StepResult.TheVariants as told
 
 abbrev pub is_device_fault : Refusal → Bool
 is_device_fault DeviceFault = true
 is_device_fault _ = false
 
--- the run with one step more
+-- The run with one answer more. The steps of a checkpoint leave it.
 abbrev pub run_after : Run → Step → StepResult → Run
-run_after run (Offer n) (Offered result) = record { acknowledged = run.acknowledged; pending = run.pending ++ if_accepted n result; in_doubt = run.in_doubt }
-run_after run Commit (Committed (Ok count)) = record { acknowledged = accepted run; pending = []; in_doubt = run.in_doubt }
-run_after run Commit (Committed (Err refusal)) = record { acknowledged = run.acknowledged; pending = run.pending; in_doubt = run.in_doubt || is_device_fault refusal }
+run_after run (step.Offer n) (told.Offered result) = record { acknowledged = run.acknowledged; pending = run.pending ++ if_accepted n result; in_doubt = run.in_doubt }
+run_after run step.Commit (told.Committed (Ok count)) = record { acknowledged = accepted run; pending = []; in_doubt = run.in_doubt }
+run_after run step.Commit (told.Committed (Err refusal)) = record { acknowledged = run.acknowledged; pending = run.pending; in_doubt = run.in_doubt || is_device_fault refusal }
 run_after run _ _ = run
 
 -- of each step, the store as it began, and what it was answered
@@ -46,18 +38,26 @@ run_of run [] told = run
 run_of run (step ∷ steps) [] = run
 run_of run (step ∷ steps) (a ∷ told) = run_of (run_after run step a.1) steps told
 
--- The image has the content at the acknowledged events or, where in doubt, at all accepted ones.
-abbrev pub StandsFor : Content → Run → Bool → Image → Type 0
-StandsFor start run in_doubt image =
-    (c : Content) × HasContent image c × ((followed start run.acknowledged ≡ Some c) ⊎ ((in_doubt ≡ true) × (followed start (accepted run) ≡ Some c)))
+-- a commit of a run whose accepted events lead to this content, by a store that was broken or not
+abbrev pub CommitAnswers : Content → Bool → Result ℕ Refusal → Type 0
+CommitAnswers c is_broken (Ok count) = (is_broken ≡ false) × (count ≡ c.events)
+CommitAnswers c is_broken (Err refusal) = refusal ≡ cond is_broken Broken DeviceFault
 
--- What a step may be answered after this run.
-abbrev pub Lawful : Content → Run → Step → StepResult → Type 0
-Lawful start run (Offer n) (Offered result) = (c : Content) × (followed start (accepted run) ≡ Some c) × OfferAnswers c run.in_doubt (length run.pending) n result
-Lawful start run Commit (Committed (Ok count)) = (c : Content) × (followed start (accepted run) ≡ Some c) × (run.in_doubt ≡ false) × (count ≡ c.events)
-Lawful start run Commit (Committed (Err refusal)) = refusal ≡ cond run.in_doubt Broken DeviceFault
-Lawful start run (Offer n) (Committed result) = ⊥
-Lawful start run Commit (Offered result) = ⊥
+-- a broken store refuses so
+abbrev pub IfBroken : {X : Type 0} → Bool → Result X StepFault → Type 0
+IfBroken is_broken result = is_broken ≡ true → result ≡ Err (Refused Broken)
+
+-- What a step may be answered after this run, by a store that was broken or not.
+abbrev pub Lawful : Content → Run → Bool → Step → StepResult → Type 0
+Lawful start run is_broken (step.Offer n) result = Tells told.Offered result (λ r. (c : Content) × (followed start (accepted run) ≡ Some c) × OfferAnswers c is_broken (length run.pending) n r)
+Lawful start run is_broken step.Commit result = Tells told.Committed result (λ r. (c : Content) × (followed start (accepted run) ≡ Some c) × CommitAnswers c is_broken r)
+Lawful start run is_broken step.Freeze result = Tells told.Frozen result (IfBroken is_broken)
+Lawful start run is_broken step.TakeJob result = Tells told.Taken result (IfBroken is_broken)
+Lawful start run is_broken (step.Put page) result = Tells told.Put result (IfBroken is_broken)
+Lawful start run is_broken step.SealPages result = Tells told.Sealed result (IfBroken is_broken)
+Lawful start run is_broken step.PrepareRoot result = Tells told.Prepared result (IfBroken is_broken)
+Lawful start run is_broken step.WriteRoot result = Tells told.Written result (IfBroken is_broken)
+Lawful start run is_broken step.OpenRoot result = Tells told.Opened result (IfBroken is_broken)
 
 -- the store as the first of these steps began; where there is none, at the end
 abbrev pub begins : {D : Type 0} → Told D → Shown D → Shown D
@@ -69,7 +69,7 @@ begins (a ∷ told) end = a.0
 abbrev pub LeadsOn : {D : Type 0} → disk.Ghosts D → List Step → Told D → Shown D → Type 0
 LeadsOn g [] [] end = Unit {0}
 LeadsOn g (step ∷ steps) (a ∷ told) end =
-    StepDone a.0 (begins told end) step a.1 × (failures_of g (begins told end).devices ≡ failed_by a.1 (failures_of g a.0.devices)) × LeadsOn g steps told end
+    StepDone g a.0 (begins told end) step a.1 × (failures_of g (begins told end).devices ≡ fails_by a.1 (failures_of g a.0.devices)) × LeadsOn g steps told end
 LeadsOn g [] (a ∷ told) end = ⊥
 LeadsOn g (step ∷ steps) [] end = ⊥
 
@@ -84,28 +84,27 @@ pub record StepsDone {D : Type 0} (g : disk.Ghosts D) (old new : Shown D) (steps
 abbrev pub Covered : {D : Type 0} → disk.Ghosts D → Content → Run → List Step → Told D → Shown D → Type 0
 Covered g start run [] [] end = Unit {0}
 Covered g start run (step ∷ steps) (a ∷ told) end =
-    Lawful start run step a.1 × StepDone a.0 (begins told end) step a.1 × EachImage g a.0.devices (begins told end).devices (StandsFor start run (in_doubt_during step run.in_doubt))
-    × Covered g start (run_after run step a.1) steps told end
+    Lawful start run a.0.is_broken step a.1 × StepDone g a.0 (begins told end) step a.1 × ContentDone g a.0 (begins told end) step a.1
+    × EachImage g a.0.devices (begins told end).devices (StandsFor start run (in_doubt_during step run.in_doubt)) × Covered g start (run_after run step a.1) steps told end
 Covered g start run [] (a ∷ told) end = ⊥
 Covered g start run (step ∷ steps) [] end = ⊥
 
 -- The run has the contents of the store.
 pub record IsAt {D : Type 0} (g : disk.Ghosts D) (start : Content) (run : Run) (s : Shown D) : Type 0 where
-  pub durable : Content
-  pub acknowledged : followed start run.acknowledged ≡ Some durable
-  pub backed : Backs g s durable
-  pub accepted_is : followed start (accepted run) ≡ Some (content_of s.detector)
+  pub acknowledged : followed start run.acknowledged ≡ Some (saved g s)
+  pub accepted_is : followed start (accepted run) ≡ Some (live g s)
   pub pending : run.pending ≡ s.pending
-  pub in_doubt : run.in_doubt ≡ s.is_broken
+  pub in_doubt : run.in_doubt ≡ s.in_doubt
+  pub backed : Backs g s
 
 -- the run before the first step
 abbrev pub before : {D : Type 0} → Shown D → Run
-before s = record { acknowledged = []; pending = s.pending; in_doubt = s.is_broken }
+before s = record { acknowledged = []; pending = s.pending; in_doubt = s.in_doubt }
 
--- A list of steps was run on the store, from the durable content `start` on.
-pub record DriveDone {D : Type 0} (g : disk.Ghosts D) (start : Content) (old new : Shown D) (steps : List Step) (told : Told D) : Type 0 where
+-- A list of steps was run on the store, from its durable content on.
+pub record DriveDone {D : Type 0} (g : disk.Ghosts D) (old new : Shown D) (steps : List Step) (told : Told D) : Type 0 where
   -- the store has the content of the run
-  pub run : IsAt g start (run_of (before old) steps told) new
+  pub run : IsAt g (saved g old) (run_of (before old) steps told) new
   -- the first step began where the list did
   pub first : begins told new ≡ old
-  pub covered : Covered g start (before old) steps told new
+  pub covered : Covered g (saved g old) (before old) steps told new

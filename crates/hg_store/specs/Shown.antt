@@ -1,15 +1,66 @@
 -- What contracts see of a store.
-use Rattle.std.specs.Prelude.{ℕ, List, Bool}
+use Rattle.std.specs.Prelude.{ℕ, List, [], ◌∷◌, Bool, Option}
 use Rattle.hg_model.specs.declared.event.Named.{Named}
-use Rattle.hg_detect.specs.declared.detector.Detector.{Detector}
-use Rattle.hg_detect.specs.declared.paged.PagedWords.{PagedWords}
+use Rattle.hg_model.specs.Contents.{Content}
+use Rattle.hg_detect.specs.Shown as detect
+use Rattle.hg_disk.specs.declared.disk.Disk as disk
+use Rattle.hg_pool.specs.Maps as pools
+use Rattle.hg_pool.specs.Shown as pool
+use Rattle.hg_checkpointer.specs.declared.phase.Phase.{Phase}
+use Rattle.hg_checkpointer.specs.declared.phase.Phase.TheVariants as phase
 use Rattle.hg_store.specs.declared.devices.Devices.{Devices}
+use Rattle.hg_store.specs.declared.steps.StorePhase.{StorePhase}
+use Rattle.hg_store.specs.declared.steps.StorePhase.TheVariants as store
 
--- The detector has all accepted events, `pending` are those of them that are not committed, `durable` is the count of
--- the others. `is_broken`: a call of a device failed that was to change it.
+-- How far the next checkpoint is: its phase, the number of the newest root, that of the next one, and the head of that.
+pub record Progress : Type 0 where
+  pub phase : Phase
+  pub number : ℕ
+  pub next : ℕ
+  pub head : Option (List ℕ)
+
+-- The detector has all accepted events, and its map of words is a pool over the file of slots. `pending` are those of the accepted events that
+-- are not committed, `committed` is the detector as it was with the others alone, and `durable` is their count. `frozen` is the detector as it
+-- was at the last freeze. `is_broken`: a call of a device failed that was to change it. `in_doubt`: it was one
+-- of a commit.
 pub record Shown (D : Type 0) : Type 0 where
   pub devices : Devices D
-  pub detector : Detector PagedWords
+  pub detector : detect.Shown (pool.Shown D)
+  pub committed : detect.Shown (pool.Shown D)
+  pub frozen : detect.Shown (pool.Shown D)
   pub pending : List Named
   pub durable : ℕ
+  pub progress : Progress
   pub is_broken : Bool
+  pub in_doubt : Bool
+
+-- The content with all accepted events.
+abbrev pub live : {D : Type 0} → disk.Ghosts D → Shown D → Content
+live g s = detect.content (pools.live g) s.detector
+
+-- The durable content: that with the committed events.
+abbrev pub saved : {D : Type 0} → disk.Ghosts D → Shown D → Content
+saved g s = detect.content (pools.live g) s.committed
+
+-- The content at the last freeze.
+abbrev pub captured : {D : Type 0} → disk.Ghosts D → Shown D → Content
+captured g s = detect.content (pools.live g) s.frozen
+
+-- the pool, which has the words and the frozen words
+abbrev pub words : {D : Type 0} → Shown D → pool.Shown D
+words s = s.detector.words
+
+-- the phase where no checkpoint is in progress
+abbrev pub resting : List Named → StorePhase
+resting [] = store.Idle
+resting (n ∷ pending) = store.Pending
+
+abbrev pub phase_by : Phase → List Named → StorePhase
+phase_by phase.Idle pending = resting pending
+phase_by phase.Flushing pending = store.Flushing
+phase_by phase.Sealed pending = store.Sealed
+phase_by phase.Prepared pending = store.Prepared
+phase_by phase.Written pending = store.Written
+
+abbrev pub phase_of : {D : Type 0} → Shown D → StorePhase
+phase_of s = phase_by s.progress.phase s.pending

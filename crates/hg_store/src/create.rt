@@ -1,24 +1,39 @@
 //! Making a store.
 
-ghost use Rattle.std.specs.Prelude.{◌≡◌, ◌⊎◌, ◌+◌, ◌≤◌, ◌∷◌, [], vec_capacity, IsTrue, IfOk, IfErr, OnOk};
+ghost use Rattle.std.specs.Prelude.{◌≡◌, ◌⊎◌, ◌+◌, ◌≤◌, ◌∷◌, [], vec_capacity, false, IsTrue, IfOk, IfErr, OnOk};
 ghost use Rattle.hg_model.specs.Change.{empty_content};
+ghost use Rattle.hg_detect.specs.Engine.{AtPresent};
+ghost use Rattle.hg_detect.specs.Shown.{content};
 ghost use Rattle.hg_disk.specs.Calls.{CallsAtMost};
 ghost use Rattle.hg_disk.specs.State.{counted, settled};
 ghost use Rattle.hg_gate.specs.Batches.{closed_gate};
-ghost use Rattle.hg_store.specs.Images.{failures_of, read_of};
-ghost use Rattle.hg_store.specs.Recovering.{IsEmpty, empty_image};
+ghost use Rattle.hg_pool.specs.Kept.{IsFaithful};
+ghost use Rattle.hg_journal.specs.Reading as journals;
+ghost use Rattle.hg_pool.specs.Maps as pools;
+ghost use Rattle.hg_pool.specs.Maps.{live};
+ghost use Rattle.hg_pool.specs.OfWords.{MayBring};
 ghost use Rattle.hg_sets.specs.Interning.{first_table};
-ghost use Rattle.hg_store.specs.Store.{IsFresh};
+ghost use Rattle.hg_checkpointer.specs.declared.phase.Phase.TheVariants.{Idle};
+ghost use Rattle.hg_contents.specs.Choices.{Basis};
+ghost use Rattle.hg_store.specs.Kept.{devices_of};
+ghost use Rattle.hg_store.specs.Images.{failures_of, read_of};
+ghost use Rattle.hg_store.specs.Recovering.{IsBased, IsEmpty, IsReady, MakingCalls, empty_image, made_of, tells_create};
+ghost use Rattle.hg_store.specs.Store.{IsFresh, IsIdle};
 
 use crate::devices::{Caps, Devices};
 use crate::store::{MOST_PENDING, Store};
-use hg_detect::memory::new_detector;
+use hg_checkpointer::Checkpointer;
+use hg_detect::detector::Detector;
 use hg_disk::{Disk, DiskFault, write_through};
 use hg_gate::CLOSED;
 use hg_journal::journal::{Journal, JournalRoom};
 use hg_model::event::Named;
 use hg_model::verdict::Refusal;
+use hg_pages::{SlotFile, Table};
+use hg_pool::Pool;
+use hg_root::RootPair;
 use std::alloc::{AllocError, Global};
+use std::snapshot::Snapshot;
 
 /// Why a store was not made.
 #[derive(Clone, Copy, Debug, PartialEq, Eq)]
@@ -51,6 +66,37 @@ fn journal_room(alloc: Global) -> Result<JournalRoom, Refusal>
     }
 }
 
+/// The detector of no events, over a file of slots of which none is named. Where memory runs out, the file is handed back.
+pub(crate) fn empty_detector<D: Disk>(
+    alloc: Global,
+    file: SlotFile<D>,
+    frames: u16,
+    caps: Caps,
+) -> Result<Detector<Pool<D>>, SlotFile<D>>
+    requires frames { (4 ≤ frames) × (frames ≤ 4096) }
+    requires sets { (1 ≤ caps.sets) × (caps.sets ≤ 262144) }
+    requires slots { (1 ≤ caps.slots) × (caps.slots ≤ 1048576) }
+    ensures content { IfOk result (λ d. content (live ⟦<D as Disk>⟧) d ≡ empty_content) }
+    ensures sets { IfOk result (λ d. d.sets ≡ first_table caps.sets) }
+    ensures file { IfOk result (λ d. d.words.file ≡ file) }
+    ensures root { IfOk result (λ d. d.words.root ≡ []) }
+    ensures lawful { IfOk result (AtPresent MayBring) }
+    ensures faithful { IsTrue D.is_honest → IfOk result (AtPresent (IsFaithful ⟦<D as Disk>⟧)) }
+    ensures handed_back { IfErr result (λ f. f ≡ file) }
+{
+    let pool = Pool::new(
+        alloc,
+        file,
+        Table::new(alloc),
+        usize::from(frames),
+        caps.slots,
+    )?;
+    match Detector::new(alloc, pool, caps.sets) {
+        Ok(detector) => Ok(detector),
+        Err(pool) => Err(pool.into_disks()),
+    }
+}
+
 /// Whether no device has a byte.
 fn is_empty<D: Disk>(devices: &Devices<D>) -> bool
     ensures yes { IsTrue result → IsEmpty ⟦<D as Disk>⟧ devices.now }
@@ -68,30 +114,117 @@ fn is_empty<D: Disk>(devices: &Devices<D>) -> bool
     devices.root1.len() == 0
 }
 
-/// Leaves the empty slots as they are, and closes the empty roots, durably.
-fn close_roots<D: Disk>(slots: &mut D, root0: &mut D, root1: &mut D) -> Result<(), DiskFault>
-    ensures slots { OnOk result (D.state slots.new ≡ settled (D.state slots.old).contents) }
+/// Closes the empty roots, durably.
+fn close_roots<D: Disk>(root0: &mut D, root1: &mut D) -> Result<(), DiskFault>
     ensures first { (D.state root0.old).contents ≡ [] → OnOk result (D.state root0.new ≡ settled (closed_gate ∷ [])) }
     ensures second { (D.state root1.old).contents ≡ [] → OnOk result (D.state root1.new ≡ settled (closed_gate ∷ [])) }
-    ensures slots_calls { CallsAtMost ⟦<D as Disk>⟧ 1 slots.old slots.new }
     ensures first_calls { CallsAtMost ⟦<D as Disk>⟧ 2 root0.old root0.new }
     ensures second_calls { CallsAtMost ⟦<D as Disk>⟧ 2 root1.old root1.new }
-    ensures failures { D.failures slots.new + D.failures root0.new + D.failures root1.new ≡ counted result (D.failures slots.old + D.failures root0.old + D.failures root1.old) }
+    ensures failures { D.failures root0.new + D.failures root1.new ≡ counted result (D.failures root0.old + D.failures root1.old) }
 {
-    slots.sync()?;
     write_through(root0, 0, &[CLOSED])?;
     write_through(root1, 0, &[CLOSED])
 }
 
-impl<D: Disk> Store<D> {
-    ghost use Rattle.hg_store.specs.Recovering.{MakingCalls, made_of, tells_create};
+/// The store of these parts, with nothing pending and no checkpoint in progress.
+pub(crate) fn made<D: Disk>(
+    journal: Journal<D>,
+    detector: Detector<Pool<D>>,
+    checkpointer: Checkpointer<D>,
+    pending: Vec<Named>,
+) -> Store<D>
+    requires none { pending.items ≡ [] }
+    requires room { 1024 ≤ vec_capacity pending }
+    requires lawful { AtPresent MayBring detector }
+    requires journal { journals.is_broken journal ≡ false }
+    requires words { pools.is_broken detector.words ≡ false }
+    requires checkpointer { checkpointer.is_broken ≡ false }
+    requires idle { checkpointer.phase ≡ Idle }
+    requires stands { IsTrue D.is_honest → (basis : Basis) × IsBased ⟦<D as Disk>⟧ journal detector checkpointer basis × IsReady ⟦<D as Disk>⟧ detector }
+    ensures fresh { (basis : Basis) → IsBased ⟦<D as Disk>⟧ journal detector checkpointer basis → IsFresh ⟦<D as Disk>⟧ result (content (live ⟦<D as Disk>⟧) detector) }
+    ensures idle { IsIdle result }
+    ensures devices { result.devices ≡ devices_of ⟦<D as Disk>⟧ journal detector.words checkpointer }
+    ensures detector { result.detector ≡ detector }
+{
+    let durable = detector.state().events();
+    let committed = Snapshot::of(&detector);
+    let frozen = Snapshot::of(&detector);
+    Store {
+        journal,
+        detector,
+        checkpointer,
+        committed,
+        frozen,
+        pending,
+        durable,
+        is_broken: false,
+        in_doubt: false,
+    }
+}
 
+/// The store of a detector of no events on an empty journal and two empty roots.
+fn on_closed_roots<D: Disk>(
+    alloc: Global,
+    journal: D,
+    room: JournalRoom,
+    detector: Detector<Pool<D>>,
+    root0: D,
+    root1: D,
+    pending: Vec<Named>,
+) -> Result<Store<D>, (CreateFault, Devices<D>)>
+    requires none { pending.items ≡ [] }
+    requires room { 1024 ≤ vec_capacity pending }
+    requires journal { (D.state journal).contents ≡ [] }
+    requires first { (D.state root0).contents ≡ [] }
+    requires second { (D.state root1).contents ≡ [] }
+    requires lawful { AtPresent MayBring detector }
+    requires words { pools.is_broken detector.words ≡ false }
+    requires unnamed { detector.words.root ≡ [] }
+    requires content { content (live ⟦<D as Disk>⟧) detector ≡ empty_content }
+    requires ready { IsTrue D.is_honest → IsReady ⟦<D as Disk>⟧ detector }
+    ensures fresh { IfOk result (λ store. IsFresh ⟦<D as Disk>⟧ store empty_content) }
+    ensures idle { IfOk result IsIdle }
+    ensures detector { IfOk result (λ store. store.detector ≡ detector) }
+    ensures bytes { IfOk result (λ store. read_of ⟦<D as Disk>⟧ store.devices ≡ record empty_image { slots = (D.state (pools.disk_of detector.words)).contents }) }
+    ensures calls { MakingCalls ⟦<D as Disk>⟧ (record { journal = journal; slots = pools.disk_of detector.words; root0 = root0; root1 = root1 }) (made_of result) }
+    ensures refusal { IfErr result (λ e. e.0 ≡ CreateFault.Refused Refusal.DeviceFault) }
+    ensures device { failures_of ⟦<D as Disk>⟧ (made_of result) ≡ tells_create result (D.failures journal + D.failures (pools.disk_of detector.words) + D.failures root0 + D.failures root1) }
+{
+    let mut root0 = root0;
+    let mut root1 = root1;
+    if close_roots(&mut root0, &mut root1).is_err() {
+        let devices = Devices {
+            journal,
+            slots: detector.into_words().into_disks().into_disks(),
+            root0,
+            root1,
+        };
+        return Err((CreateFault::Refused(Refusal::DeviceFault), devices));
+    }
+    match Journal::create_in(room, journal) {
+        Ok(journal) => {
+            let roots = RootPair::of_closed(root0, root1);
+            let checkpointer = Checkpointer::new(alloc, roots, 0);
+            Ok(made(journal, detector, checkpointer, pending))
+        }
+        Err((refusal, journal)) => {
+            let devices = Devices {
+                journal,
+                slots: detector.into_words().into_disks().into_disks(),
+                root0,
+                root1,
+            };
+            Err((CreateFault::Refused(refusal), devices))
+        }
+    }
+}
+
+impl<D: Disk> Store<D> {
     /// Makes a store of no events on four devices without a byte. A refusal hands the devices back: `NotEmpty` or
     /// `OutOfMemory`, with nothing changed, or `DeviceFault`. All memory is taken before the first device is called, and then
-    /// seven calls are made at most. Of a stop inside it nothing is promised.
+    /// six calls are made at most, none of them of the slots. Of a stop inside it nothing is promised.
     ///
-    /// All words stand in memory, so `frames`, the number of pages that a store with a file of pages may have in memory,
-    /// changes nothing yet. It is 4 to 4,096.
+    /// `frames` is how many pages stand in memory at most, 4 to 4,096.
     pub fn create(
         alloc: Global,
         devices: Devices<D>,
@@ -102,6 +235,7 @@ impl<D: Disk> Store<D> {
         requires sets { (1 ≤ caps.sets) × (caps.sets ≤ 262144) }
         requires slots { (1 ≤ caps.slots) × (caps.slots ≤ 1048576) }
         ensures fresh { IfOk result (λ store. IsFresh ⟦<D as Disk>⟧ store empty_content) }
+        ensures idle { IfOk result IsIdle }
         ensures sets { IfOk result (λ store. store.detector.sets ≡ first_table caps.sets) }
         ensures bytes { IfOk result (λ store. read_of ⟦<D as Disk>⟧ store.devices ≡ empty_image) }
         ensures empty { IfOk result (λ _. IsEmpty ⟦<D as Disk>⟧ devices) }
@@ -115,10 +249,6 @@ impl<D: Disk> Store<D> {
         if !is_empty(&devices) {
             return Err((CreateFault::NotEmpty, devices));
         }
-        let detector = match new_detector(alloc, caps.sets) {
-            Ok(detector) => detector,
-            Err(refusal) => return Err((CreateFault::Refused(refusal), devices)),
-        };
         let pending = match pending_room(alloc) {
             Ok(pending) => pending,
             Err(refusal) => return Err((CreateFault::Refused(refusal), devices)),
@@ -127,36 +257,24 @@ impl<D: Disk> Store<D> {
             Ok(room) => room,
             Err(refusal) => return Err((CreateFault::Refused(refusal), devices)),
         };
-        let mut devices = devices;
-        if close_roots(&mut devices.slots, &mut devices.root0, &mut devices.root1).is_err() {
-            return Err((CreateFault::Refused(Refusal::DeviceFault), devices));
-        }
         let Devices {
             journal,
             slots,
             root0,
             root1,
         } = devices;
-        match Journal::create_in(room, journal) {
-            Ok(journal) => Ok(Store {
-                journal,
-                slots,
-                root0,
-                root1,
-                detector,
-                pending,
-                durable: 0,
-                is_broken: false,
-            }),
-            Err((refusal, journal)) => Err((
-                CreateFault::Refused(refusal),
-                Devices {
+        let detector = match empty_detector(alloc, SlotFile::attach(slots), frames, caps) {
+            Ok(detector) => detector,
+            Err(file) => {
+                let devices = Devices {
                     journal,
-                    slots,
+                    slots: file.into_disks(),
                     root0,
                     root1,
-                },
-            )),
-        }
+                };
+                return Err((CreateFault::Refused(Refusal::OutOfMemory), devices));
+            }
+        };
+        on_closed_roots(alloc, journal, room, detector, root0, root1, pending)
     }
 }

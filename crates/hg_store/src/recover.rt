@@ -1,33 +1,47 @@
 //! Recovering a store.
 
-ghost use Rattle.std.specs.Prelude.{◌≡◌, ◌⊎◌, ◌<◌, ◌≤◌, ◌+◌, ◌*◌, ◌^◌, [], ℕ, List, Ok, Err, Some, None, IsTrue, IfOk, IfErr, OnErr, OnOk, false, length};
+ghost use Rattle.std.specs.Prelude.{◌≡◌, ◌↔◌, ◌⊎◌, ◌+◌, ◌≤◌, ◌<◌, ℕ, List, [], Err, Option, Some, None, All, length, vec_capacity, false, IsTrue, IfOk, IfErr, IfSome, OnErr, OnOk};
 ghost use Rattle.hg_model.specs.Contents.{Content};
-ghost use Rattle.hg_model.specs.ThreadSets.{HasThreadSets};
-ghost use Rattle.hg_model.specs.Change.{after, empty_content, followed};
 ghost use Rattle.hg_model.specs.declared.event.Named.{Named as NamedOf};
-ghost use Rattle.hg_sets.specs.declared.fault.SetFault.TheVariants as SetFault;
-ghost use Rattle.hg_detect.specs.Making.{Asks, sets_asked};
+ghost use Rattle.hg_detect.specs.Engine.{AtPresent};
+ghost use Rattle.hg_detect.specs.Shown.{content};
 ghost use Rattle.hg_disk.specs.Calls.{CallsAtMost};
-ghost use Rattle.hg_disk.specs.State.{IsImage, counted, settled};
 ghost use Rattle.hg_disk.specs.Moments.{LeavesOnly};
-ghost use Rattle.hg_gate.specs.Batches.{IsClosed, IsLog};
-ghost use Rattle.hg_store.specs.Images.{EachImage, HasContent, IsLeft, failures_of, read_of};
-ghost use Rattle.hg_journal.specs.Journal.{IsJournal, failed_after};
-ghost use Rattle.hg_store.specs.Recovering.{HasSets, IsAccepted, IsOfRecovery, IsTooSmall, Settled, Stay};
-ghost use Rattle.hg_journal.specs.Reading.{Keeps, Opens, disk_of, is_broken};
-ghost use Rattle.hg_detect.specs.Memory.{IsWhole, content_of};
-ghost use Rattle.hg_sets.specs.Interning.{first_table};
-ghost use Rattle.hg_store.specs.Store.{IsFresh};
+ghost use Rattle.hg_disk.specs.State.{IsImage, counted, settled};
+ghost use Rattle.hg_journal.specs.Journal.{IsJournal};
+ghost use Rattle.hg_journal.specs.Reading as journals;
+ghost use Rattle.hg_pages.specs.Files as files;
+ghost use Rattle.hg_pool.specs.Kept.{IsFaithful, Went};
+ghost use Rattle.hg_pool.specs.Maps as pools;
+ghost use Rattle.hg_pool.specs.Maps.{live};
+ghost use Rattle.hg_pool.specs.OfWords.{MayBring};
+ghost use Rattle.hg_root.specs.Checkpoints.{Checkpoint, HasCheckpoint, HasPages, LieWithin, root_of};
+ghost use Rattle.hg_root.specs.Finding.{AreWhole, HasNoNewest, IsNewestOf, IsOnlyOf, IsWholeIn, StandsWith, WasRead, number_in, root_in};
+ghost use Rattle.hg_root.specs.Newest.{IsNewest};
+ghost use Rattle.hg_root.specs.Pairs.{IsWorking, Stands, failures, first_bytes, first_of, second_bytes, second_of};
+ghost use Rattle.hg_root.specs.Parts.{Parts};
+ghost use Rattle.hg_contents.specs.Choices.{Choice};
+ghost use Rattle.hg_contents.specs.Images.{Gives, HasContent, start_of};
+ghost use Rattle.hg_recovery.specs.Restoring.{failures_after, file_in};
+ghost use Rattle.hg_checkpointer.specs.Tables.{NamesOf};
+ghost use Rattle.hg_store.specs.Images.{EachImage, HasContentOf, Recovers, failures_of, read_of};
+ghost use Rattle.hg_store.specs.Recovering.{CountsCaught, CountsFailures, CountsRecovered, CountsRooted, HasFewSets, HasNoRoom, HasSets, HasTable, IsOfRecovery, IsReady, IsRooted, IsStarted, IsTooFew, IsTooSmall, Settled, Stay, first_after, journal_after, made_of, roots_of, second_after, slots_of, table_at, words_after};
+ghost use Rattle.hg_store.specs.Store.{IsFresh, IsIdle};
 
-use crate::create::pending_room;
+use crate::create::{empty_detector, made, pending_room};
 use crate::devices::{Caps, Devices};
+use crate::replay::replay;
 use crate::store::Store;
-use hg_detect::memory::{MemoryDetector, new_detector};
+use hg_checkpointer::Checkpointer;
+use hg_detect::detector::Detector;
 use hg_disk::{Disk, DiskFault};
-use hg_gate::OPEN;
 use hg_journal::journal::Journal;
 use hg_model::event::Named;
-use hg_model::verdict::{Refusal, Verdict};
+use hg_model::verdict::Refusal;
+use hg_pages::SlotFile;
+use hg_pool::Pool;
+use hg_recovery::{lies_within, restored};
+use hg_root::{Newest, Root, RootFault, RootPair};
 use std::alloc::Global;
 
 /// Makes what each device reads durable.
@@ -46,114 +60,278 @@ fn sync_all<D: Disk>(devices: &mut Devices<D>) -> Result<(), DiskFault>
     devices.root1.sync()
 }
 
-/// Sees that a root is closed.
-fn check_closed<D: Disk>(root: &mut D) -> Result<(), Refusal>
-    ensures closed { IsTrue D.is_honest → OnOk result (IsClosed (D.state root.old).contents) }
-    ensures damaged { IsTrue D.is_honest → result ≡ Err Refusal.Damaged → ¬ IsClosed (D.state root.old).contents }
-    ensures refusal { IfErr result (λ refusal. (refusal ≡ Refusal.Damaged) ⊎ (refusal ≡ Refusal.DeviceFault)) }
-    ensures calls { CallsAtMost ⟦<D as Disk>⟧ 1 root.old root.new }
-    ensures device { D.failures root.new ≡ failed_after result (D.failures root.old) }
-    ensures state { D.state root.new ≡ D.state root.old }
-    ensures any_moment { LeavesOnly ⟦<D as Disk>⟧ root.old root.new (IsImage (D.state root.old)) }
+/// The two roots of two files that can be used.
+fn newest<D: Disk>(alloc: Global, roots: &mut RootPair<D>) -> Result<Newest, Refusal>
+    requires works { IsWorking roots.old }
+    ensures found { IsTrue D.is_honest → IfOk result (IsNewestOf ⟦<D as Disk>⟧ roots.old) }
+    ensures only { IsTrue D.is_honest → IfOk result (IsOnlyOf ⟦<D as Disk>⟧ roots.old) }
+    ensures whole { IfOk result AreWhole }
+    ensures stands { IsTrue D.is_honest → (one other : List ℕ) → D.state (first_of roots.old) ≡ settled one → D.state (second_of roots.old) ≡ settled other
+        → IfOk result (StandsWith ⟦<D as Disk>⟧ roots.new) }
+    ensures damaged { IsTrue D.is_honest → result ≡ Err Refusal.Damaged → HasNoNewest ⟦<D as Disk>⟧ roots.old }
+    ensures refusal { IfErr result (λ r. (r ≡ Refusal.Damaged) ⊎ ((r ≡ Refusal.DeviceFault) ⊎ (r ≡ Refusal.OutOfMemory))) }
+    ensures first { WasRead ⟦<D as Disk>⟧ (first_of roots.old) (first_of roots.new) }
+    ensures second { WasRead ⟦<D as Disk>⟧ (second_of roots.old) (second_of roots.new) }
+    ensures device { CountsFailures result (failures ⟦<D as Disk>⟧ roots.old) (failures ⟦<D as Disk>⟧ roots.new) }
 {
-    if root.len() == 0 {
+    match roots.newest(alloc) {
+        Ok(found) => Ok(found),
+        Err(RootFault::DeviceFault) => Err(Refusal::DeviceFault),
+        Err(RootFault::OutOfMemory) => Err(Refusal::OutOfMemory),
+        Err(RootFault::Damaged) => Err(Refusal::Damaged),
+        Err(RootFault::Broken) => Err(Refusal::Damaged),
+    }
+}
+
+/// Whether the slots that a root names lie within the file, if there is a root.
+fn lie_within<D: Disk>(root: &Option<Root>, file: &SlotFile<D>) -> bool
+    ensures { IsTrue result ↔ IfSome (root_in root.now) (LieWithin (D.state (files.disk_of file.now)).contents) }
+{
+    match root {
+        Some(root) => lies_within(root, file),
+        None => true,
+    }
+}
+
+/// The newest root of two files, or none, where the slots of the other root lie within the file of slots.
+fn standing<D: Disk>(
+    alloc: Global,
+    roots: &mut RootPair<D>,
+    file: &SlotFile<D>,
+) -> Result<Option<Root>, Refusal>
+    requires works { IsWorking roots.old }
+    ensures found { IsTrue D.is_honest → IfOk result (λ found. (former : Option Parts) × IsNewest (root_in found) former (first_bytes ⟦<D as Disk>⟧ roots.old) (second_bytes ⟦<D as Disk>⟧ roots.old)) }
+    ensures only { IsTrue D.is_honest → IfOk result (λ found. (root former : Option Parts) → IsNewest root former (first_bytes ⟦<D as Disk>⟧ roots.old) (second_bytes ⟦<D as Disk>⟧ roots.old) → root ≡ root_in found) }
+    ensures whole { IfOk result IsWholeIn }
+    ensures stands { IsTrue D.is_honest → (one other : List ℕ) → D.state (first_of roots.old) ≡ settled one → D.state (second_of roots.old) ≡ settled other
+        → IfOk result (λ found. (former : Option Parts) × Stands ⟦<D as Disk>⟧ roots.new (root_in found) former × IsNewest (root_in found) former one other × IfSome former (LieWithin (D.state (files.disk_of file.now)).contents)) }
+    ensures damaged { IsTrue D.is_honest → result ≡ Err Refusal.Damaged → (c : Option Checkpoint) → ¬ HasCheckpoint c (first_bytes ⟦<D as Disk>⟧ roots.old) (second_bytes ⟦<D as Disk>⟧ roots.old) (D.state (files.disk_of file.now)).contents }
+    ensures refusal { IfErr result (λ r. (r ≡ Refusal.Damaged) ⊎ ((r ≡ Refusal.DeviceFault) ⊎ (r ≡ Refusal.OutOfMemory))) }
+    ensures first { WasRead ⟦<D as Disk>⟧ (first_of roots.old) (first_of roots.new) }
+    ensures second { WasRead ⟦<D as Disk>⟧ (second_of roots.old) (second_of roots.new) }
+    ensures device { CountsFailures result (failures ⟦<D as Disk>⟧ roots.old) (failures ⟦<D as Disk>⟧ roots.new) }
+{
+    let Newest { root, former } = newest(alloc, roots)?;
+    if !lie_within(&former, file) {
         return Err(Refusal::Damaged);
     }
-    let mut gate = [0; 1];
-    if root.read_at(0, &mut gate).is_err() {
-        return Err(Refusal::DeviceFault);
-    }
-    if gate[0] == OPEN {
-        return Err(Refusal::Damaged);
-    }
-    Ok(())
+    Ok(root)
 }
 
-/// Syncs the devices, and sees that both roots are closed.
-fn settle<D: Disk>(devices: &mut Devices<D>) -> Result<(), Refusal>
-    ensures settled { OnOk result (Settled ⟦<D as Disk>⟧ devices.old devices.new) }
-    ensures first { IsTrue D.is_honest → OnOk result (IsClosed (D.state devices.old.root0).contents) }
-    ensures second { IsTrue D.is_honest → OnOk result (IsClosed (D.state devices.old.root1).contents) }
-    ensures damaged { IsTrue D.is_honest → result ≡ Err Refusal.Damaged → (c : Content) → ¬ HasContent (read_of ⟦<D as Disk>⟧ devices.old) c }
-    ensures refusal { IfErr result (λ refusal. (refusal ≡ Refusal.Damaged) ⊎ (refusal ≡ Refusal.DeviceFault)) }
-    ensures device { failures_of ⟦<D as Disk>⟧ devices.new ≡ failed_after result (failures_of ⟦<D as Disk>⟧ devices.old) }
-    ensures journal_calls { CallsAtMost ⟦<D as Disk>⟧ 1 devices.old.journal devices.new.journal }
-    ensures slots_calls { CallsAtMost ⟦<D as Disk>⟧ 1 devices.old.slots devices.new.slots }
-    ensures first_calls { CallsAtMost ⟦<D as Disk>⟧ 2 devices.old.root0 devices.new.root0 }
-    ensures second_calls { CallsAtMost ⟦<D as Disk>⟧ 2 devices.old.root1 devices.new.root1 }
-    ensures stay { Stay ⟦<D as Disk>⟧ devices.old devices.new }
+/// The caps of the detector that a root makes.
+fn caps_of(frames: u16, caps: Caps) -> hg_recovery::Caps
+    ensures { (result.sets ≡ caps.sets) × (result.slots ≡ caps.slots) × (result.frames ≡ frames) }
 {
-    if sync_all(devices).is_err() {
-        return Err(Refusal::DeviceFault);
+    hg_recovery::Caps {
+        sets: caps.sets,
+        slots: caps.slots,
+        frames: usize::from(frames),
     }
-    check_closed(&mut devices.root0)?;
-    check_closed(&mut devices.root1)
 }
 
-/// Has the detector follow an event of the journal. One that the rules do not accept is no journal's.
-fn follow(detector: &mut MemoryDetector, named: &Named) -> Result<(), Refusal>
-    requires whole { IsWhole detector.old }
-    ensures accepted { OnOk result (IsAccepted (content_of detector.old) named.now × (content_of detector.new ≡ after (content_of detector.old) named.now)) }
-    ensures unchanged { OnErr result (content_of detector.new ≡ content_of detector.old) }
-    ensures asked { OnOk result (Asks detector.old.sets (sets_asked (content_of detector.old) named.now.event) None detector.new.sets) }
-    ensures few { OnOk result ((content_of detector.old).events < 2 ^ 58) }
-    ensures damaged { result ≡ Err Refusal.Damaged → ¬ IsAccepted (content_of detector.old) named.now }
-    ensures full { result ≡ Err Refusal.FullSets → IsAccepted (content_of detector.old) named.now × Asks detector.old.sets (sets_asked (content_of detector.old) named.now.event) (Some SetFault.Full) detector.new.sets }
-    ensures whole { IsWhole detector.new }
-    ensures refusal { IfErr result (λ refusal. (refusal ≡ Refusal.Damaged) ⊎ ((refusal ≡ Refusal.FullSets) ⊎ (refusal ≡ Refusal.OutOfMemory))) }
+/// The detector of a root, or of no events where there is none.
+fn detector_of<D: Disk>(
+    alloc: Global,
+    found: Option<Root>,
+    file: SlotFile<D>,
+    frames: u16,
+    caps: Caps,
+) -> Result<Detector<Pool<D>>, (Refusal, SlotFile<D>)>
+    requires frames { (4 ≤ frames) × (frames ≤ 4096) }
+    requires sets { (1 ≤ caps.sets) × (caps.sets ≤ 262144) }
+    requires slots { (1 ≤ caps.slots) × (caps.slots ≤ 1048576) }
+    requires whole { IsWholeIn found }
+    requires works { files.is_broken file ≡ false }
+    ensures sets { IfOk result (λ d. d.sets ≡ table_at caps.sets (root_in found)) }
+    ensures content { IsTrue D.is_honest → (c : Option Checkpoint) → root_of c ≡ root_in found → IfSome c (HasPages (files.known ⟦<D as Disk>⟧ file))
+        → IfOk result (λ d. content (live ⟦<D as Disk>⟧) d ≡ start_of c) }
+    ensures stands { IsTrue D.is_honest → OnOk result ((c : Option Checkpoint) × (root_of c ≡ root_in found) × IfSome c (HasPages (files.known ⟦<D as Disk>⟧ file))) }
+    ensures damaged { IsTrue D.is_honest → IfErr result (λ e. e.0 ≡ Refusal.Damaged → (c : Option Checkpoint) → root_of c ≡ root_in found → ¬ IfSome c (HasPages (files.known ⟦<D as Disk>⟧ file))) }
+    ensures lawful { IfOk result (AtPresent MayBring) }
+    ensures faithful { IsTrue D.is_honest → IfOk result (AtPresent (IsFaithful ⟦<D as Disk>⟧)) }
+    ensures ready { IsTrue D.is_honest → IfOk result (IsReady ⟦<D as Disk>⟧) }
+    ensures names { (c : Option Checkpoint) → root_of c ≡ root_in found → IfOk result (λ d. NamesOf d.words.root c) }
+    ensures state { D.state (files.disk_of (file_in result)) ≡ D.state (files.disk_of file) }
+    ensures any_moment { LeavesOnly ⟦<D as Disk>⟧ (files.disk_of file) (files.disk_of (file_in result)) (IsImage (D.state (files.disk_of file))) }
+    ensures unbroken { files.is_broken (file_in result) ≡ false }
+    ensures device { D.failures (files.disk_of (file_in result)) ≡ failures_after result (D.failures (files.disk_of file)) }
+    ensures full { IfErr result (λ e. IsTooFew caps.sets caps.slots (root_in found) e.0) }
+    ensures refusal { IfErr result (λ e. IsOfRecovery e.0) }
 {
-    match detector.verdict(named) {
-        Verdict::Accept => {}
-        Verdict::Duplicate(_) => return Err(Refusal::Damaged),
-        Verdict::Refuse(_) => return Err(Refusal::Damaged),
+    match found {
+        Some(root) => restored(alloc, root, file, caps_of(frames, caps)),
+        None => match empty_detector(alloc, file, frames, caps) {
+            Ok(detector) => Ok(detector),
+            Err(file) => Err((Refusal::OutOfMemory, file)),
+        },
     }
-    detector.accept(named)?;
-    Ok(())
 }
 
-/// Reads the journal from its first event on, and has the detector follow each.
-fn replay<D: Disk>(journal: &mut Journal<D>, detector: &mut MemoryDetector) -> Result<(), Refusal>
-    requires works { is_broken journal.old ≡ false }
-    requires whole { IsWhole detector.old }
-    requires content { content_of detector.old ≡ empty_content }
-    ensures replayed { (bodies : List (List ℕ)) → IsTrue D.is_honest → Opens journal.old bodies
-        → OnOk result ((events : List NamedOf) × Keeps journal.new events × (followed empty_content events ≡ Some (content_of detector.new))) }
-    ensures sets { (bodies : List (List ℕ)) (limit : ℕ) → IsTrue D.is_honest → Opens journal.old bodies → detector.old.sets ≡ first_table limit
-        → OnOk result (HasSets limit (D.state (disk_of journal.old)).contents (content_of detector.new) detector.new.sets) }
-    ensures damaged { (bodies : List (List ℕ)) → IsTrue D.is_honest → Opens journal.old bodies → result ≡ Err Refusal.Damaged
-        → (events : List NamedOf) (c : Content) → IsJournal (D.state (disk_of journal.old)).contents events → ¬ (followed empty_content events ≡ Some c) }
-    ensures full { (bodies : List (List ℕ)) (limit : ℕ) → IsTrue D.is_honest → Opens journal.old bodies → detector.old.sets ≡ first_table limit → result ≡ Err Refusal.FullSets
-        → IsTooSmall limit (D.state (disk_of journal.old)).contents }
-    ensures small { HasThreadSets (content_of detector.new) }
-    ensures whole { IsWhole detector.new }
-    ensures works { is_broken journal.new ≡ false }
-    ensures refusal { IfErr result IsOfRecovery }
-    ensures calls { CallsAtMost ⟦<D as Disk>⟧ (2 * (content_of detector.new).events + 2) (disk_of journal.old) (disk_of journal.new) }
-    ensures device { D.failures (disk_of journal.new) ≡ failed_after result (D.failures (disk_of journal.old)) }
-    ensures state { D.state (disk_of journal.new) ≡ D.state (disk_of journal.old) }
-    ensures any_moment { LeavesOnly ⟦<D as Disk>⟧ (disk_of journal.old) (disk_of journal.new) (IsImage (D.state (disk_of journal.old))) }
+/// The store of a journal and of a detector that stands at the newest root: the events behind it are followed. A refusal hands the
+/// parts back.
+fn caught_up<D: Disk>(
+    alloc: Global,
+    journal: Journal<D>,
+    detector: Detector<Pool<D>>,
+    roots: RootPair<D>,
+    number: u64,
+    pending: Vec<Named>,
+) -> Result<Store<D>, (Refusal, Journal<D>, Detector<Pool<D>>, RootPair<D>)>
+    requires none { pending.items ≡ [] }
+    requires room { 1024 ≤ vec_capacity pending }
+    requires works { journals.is_broken journal ≡ false }
+    requires lawful { AtPresent MayBring detector }
+    requires started { IsTrue D.is_honest → (bodies : List (List ℕ)) × (now : Choice) × journals.Opens journal bodies × IsStarted ⟦<D as Disk>⟧ detector roots number now }
+    ensures content { (now : Choice) → IsTrue D.is_honest → IsStarted ⟦<D as Disk>⟧ detector roots number now
+        → IfOk result (λ store. (c : Content) × (events : List NamedOf) × IsJournal (D.state (journals.disk_of journal)).contents events × Gives now.checkpoint events c × IsFresh ⟦<D as Disk>⟧ store c) }
+    ensures damaged { (now : Choice) → IsTrue D.is_honest → IsStarted ⟦<D as Disk>⟧ detector roots number now
+        → IfErr result (λ e. e.0 ≡ Refusal.Damaged → (events : List NamedOf) (c : Content) → IsJournal (D.state (journals.disk_of journal)).contents events → ¬ Gives now.checkpoint events c) }
+    ensures idle { IfOk result IsIdle }
+    ensures sets { IsTrue D.is_honest → IfOk result (λ store. HasSets (content (live ⟦<D as Disk>⟧) detector) detector.sets (D.state (journals.disk_of journal)).contents (content (live ⟦<D as Disk>⟧) store.detector) store.detector.sets) }
+    ensures full { IsTrue D.is_honest → IfErr result (λ e. e.0 ≡ Refusal.FullSets → IsTooSmall (content (live ⟦<D as Disk>⟧) detector) detector.sets (D.state (journals.disk_of journal)).contents) }
+    ensures refusal { IfErr result (λ e. IsOfRecovery e.0) }
+    ensures device { CountsCaught result (D.failures (journals.disk_of journal) + D.failures (pools.disk_of detector.words)) (D.failures (journal_after result) + D.failures (pools.disk_of (words_after result))) }
+    ensures journal { LeavesOnly ⟦<D as Disk>⟧ (journals.disk_of journal) (journal_after result) (IsImage (D.state (journals.disk_of journal))) }
+    ensures went { Went ⟦<D as Disk>⟧ detector.words (words_after result) }
+    ensures slots { IfOk result (λ store. store.devices.slots ≡ pools.disk_of store.detector.words) }
+    ensures first { first_after result ≡ first_of roots }
+    ensures second { second_after result ≡ second_of roots }
 {
-    let mut reader = journal.events()?;
-    loop {
-        match journal.next(&mut reader)? {
-            Some(named) => follow(detector, &named)?,
-            None => return Ok(()),
+    let mut journal = journal;
+    let mut detector = detector;
+    match replay(&mut journal, &mut detector) {
+        Ok(()) => {}
+        Err(refusal) => return Err((refusal, journal, detector, roots)),
+    }
+    if detector.words().is_broken() {
+        return Err((Refusal::DeviceFault, journal, detector, roots));
+    }
+    let checkpointer = Checkpointer::new(alloc, roots, number);
+    Ok(made(journal, detector, checkpointer, pending))
+}
+
+/// The detector that stands at the newest root of two files, or at none, over the file of slots; the two files; and the number of the
+/// root. Each page that the root names is read. A refusal hands the disks back.
+fn rooted<D: Disk>(
+    alloc: Global,
+    slots: D,
+    roots: RootPair<D>,
+    frames: u16,
+    caps: Caps,
+) -> Result<(Detector<Pool<D>>, RootPair<D>, u64), (Refusal, D, RootPair<D>)>
+    requires frames { (4 ≤ frames) × (frames ≤ 4096) }
+    requires sets { (1 ≤ caps.sets) × (caps.sets ≤ 262144) }
+    requires slots { (1 ≤ caps.slots) × (caps.slots ≤ 1048576) }
+    requires works { IsWorking roots }
+    ensures rooted { IsTrue D.is_honest → (one other bytes : List ℕ) → D.state (first_of roots) ≡ settled one → D.state (second_of roots) ≡ settled other → D.state slots ≡ settled bytes
+        → IfOk result (λ r. IsRooted ⟦<D as Disk>⟧ caps.sets one other bytes r.0 r.1 r.2) }
+    ensures lawful { IfOk result (λ r. AtPresent MayBring r.0) }
+    ensures damaged { IsTrue D.is_honest → IfErr result (λ e. e.0 ≡ Refusal.Damaged → (c : Option Checkpoint) → ¬ HasCheckpoint c (first_bytes ⟦<D as Disk>⟧ roots) (second_bytes ⟦<D as Disk>⟧ roots) (D.state slots).contents) }
+    ensures full { IsTrue D.is_honest → IfErr result (λ e. HasNoRoom caps.sets caps.slots (first_bytes ⟦<D as Disk>⟧ roots) (second_bytes ⟦<D as Disk>⟧ roots) e.0) }
+    ensures refusal { IfErr result (λ e. IsOfRecovery e.0) }
+    ensures state { D.state (slots_of result) ≡ D.state slots }
+    ensures any_moment { LeavesOnly ⟦<D as Disk>⟧ slots (slots_of result) (IsImage (D.state slots)) }
+    ensures first { WasRead ⟦<D as Disk>⟧ (first_of roots) (first_of (roots_of result)) }
+    ensures second { WasRead ⟦<D as Disk>⟧ (second_of roots) (second_of (roots_of result)) }
+    ensures device { CountsRooted result (failures ⟦<D as Disk>⟧ roots + D.failures slots) (failures ⟦<D as Disk>⟧ (roots_of result) + D.failures (slots_of result)) }
+{
+    let mut roots = roots;
+    let file = SlotFile::attach(slots);
+    let found = match standing(alloc, &mut roots, &file) {
+        Ok(found) => found,
+        Err(refusal) => return Err((refusal, file.into_disks(), roots)),
+    };
+    let number = number_of(&found);
+    match detector_of(alloc, found, file, frames, caps) {
+        Ok(detector) => Ok((detector, roots, number)),
+        Err((refusal, file)) => Err((refusal, file.into_disks(), roots)),
+    }
+}
+
+/// The number of a root, 0 where there is none.
+fn number_of(root: &Option<Root>) -> u64
+    ensures { result ≡ number_in (root_in root.now) }
+{
+    match root {
+        Some(root) => root.number,
+        None => 0,
+    }
+}
+
+/// The devices of a store that was not made.
+fn handed_back<D: Disk>(journal: D, slots: D, roots: RootPair<D>) -> Devices<D>
+    ensures { result ≡ record { journal = journal; slots = slots; root0 = first_of roots; root1 = second_of roots } }
+{
+    let (root0, root1) = roots.into_disks();
+    Devices {
+        journal,
+        slots,
+        root0,
+        root1,
+    }
+}
+
+/// The store that four devices hold of which each has on it what it reads. A refusal hands them back.
+fn recovered<D: Disk>(
+    alloc: Global,
+    devices: Devices<D>,
+    pending: Vec<Named>,
+    frames: u16,
+    caps: Caps,
+) -> Result<Store<D>, (Refusal, Devices<D>)>
+    requires frames { (4 ≤ frames) × (frames ≤ 4096) }
+    requires sets { (1 ≤ caps.sets) × (caps.sets ≤ 262144) }
+    requires slots { (1 ≤ caps.slots) × (caps.slots ≤ 1048576) }
+    requires none { pending.items ≡ [] }
+    requires room { 1024 ≤ vec_capacity pending }
+    requires settled { Settled ⟦<D as Disk>⟧ devices devices }
+    ensures content { IsTrue D.is_honest → IfOk result (λ store. (c : Content) × HasContent (read_of ⟦<D as Disk>⟧ devices) c × IsFresh ⟦<D as Disk>⟧ store c) }
+    ensures sets { IsTrue D.is_honest → IfOk result (λ store. HasTable caps.sets (read_of ⟦<D as Disk>⟧ devices) (content (live ⟦<D as Disk>⟧) store.detector) store.detector.sets) }
+    ensures idle { IfOk result IsIdle }
+    ensures damaged { IsTrue D.is_honest → IfErr result (λ e. e.0 ≡ Refusal.Damaged → (c : Content) → ¬ HasContent (read_of ⟦<D as Disk>⟧ devices) c) }
+    ensures full { IsTrue D.is_honest → IfErr result (λ e. e.0 ≡ Refusal.FullSets → HasFewSets caps.sets (read_of ⟦<D as Disk>⟧ devices)) }
+    ensures refusal { IfErr result (λ e. IsOfRecovery e.0) }
+    ensures device { CountsRecovered result (failures_of ⟦<D as Disk>⟧ devices) (failures_of ⟦<D as Disk>⟧ (made_of result)) }
+    ensures images { IsTrue D.is_honest → EachImage ⟦<D as Disk>⟧ devices (made_of result) (HasContentOf (read_of ⟦<D as Disk>⟧ devices)) }
+{
+    let Devices {
+        journal,
+        slots,
+        root0,
+        root1,
+    } = devices;
+    let roots = RootPair::attach(root0, root1);
+    let journal = match Journal::attach(alloc, journal) {
+        Ok(journal) => journal,
+        Err((refusal, journal)) => return Err((refusal, handed_back(journal, slots, roots))),
+    };
+    match rooted(alloc, slots, roots, frames, caps) {
+        Ok((detector, roots, number)) => {
+            match caught_up(alloc, journal, detector, roots, number, pending) {
+                Ok(store) => Ok(store),
+                Err((refusal, journal, detector, roots)) => {
+                    let slots = detector.into_words().into_disks().into_disks();
+                    Err((refusal, handed_back(journal.into_disk(), slots, roots)))
+                }
+            }
+        }
+        Err((refusal, slots, roots)) => {
+            Err((refusal, handed_back(journal.into_disk(), slots, roots)))
         }
     }
 }
 
 impl<D: Disk> Store<D> {
-    ghost use Rattle.hg_store.specs.Recovering.{RecoveryCalls, made_of, tells_recover};
-
-    /// The store that four devices hold, with nothing pending. First each device is synced, so that what it reads is durable;
-    /// then the journal is read in pieces, from its first event on. A refusal hands the devices back: `Damaged` where their
-    /// bytes have no content, `FullSets` where a table of `caps.sets` sets is too small for it, `DeviceFault` where a device
-    /// failed, `OutOfMemory`. A stop inside it leaves images that there were before.
+    /// The store that four devices hold, with nothing pending and no checkpoint in progress. First each device is synced, so that what it reads is durable. Then
+    /// the newest open root is read with its pages, and the events of the journal behind it are followed, from the empty trace where no root is
+    /// open.
     ///
-    /// It calls the slots once and each root twice, at most, and an honest journal once for each batch, twice for each event and
-    /// five times more.
+    /// A refusal hands the devices back: `Damaged` where their bytes have no content, `FullSets` where the sets of the root, or with those of the
+    /// events, are more than `caps.sets`, `FullSlots` where the root names a slot at `caps.slots` or above, or more pages were changed than
+    /// there is room for, `DeviceFault` where a device failed, or `OutOfMemory`. A stop inside it leaves images that have the content of one
+    /// that there was before.
     ///
-    /// `frames` changes nothing yet. It is 4 to 4,096.
+    /// `frames` is how many pages stand in memory at most, 4 to 4,096.
     pub fn recover(
         alloc: Global,
         devices: Devices<D>,
@@ -164,77 +342,24 @@ impl<D: Disk> Store<D> {
         requires sets { (1 ≤ caps.sets) × (caps.sets ≤ 262144) }
         requires slots { (1 ≤ caps.slots) × (caps.slots ≤ 1048576) }
         ensures content { IsTrue D.is_honest → IfOk result (λ store. (c : Content) × HasContent (read_of ⟦<D as Disk>⟧ devices) c × IsFresh ⟦<D as Disk>⟧ store c) }
-        ensures sets { IsTrue D.is_honest → IfOk result (λ store. HasSets caps.sets (D.state devices.journal).contents (content_of store.detector) store.detector.sets) }
-        ensures small { IfOk result (λ store. HasThreadSets (content_of store.detector)) }
-        ensures idle { IfOk result (λ store. (store.is_broken ≡ false) × (store.pending ≡ [])) }
+        ensures sets { IsTrue D.is_honest → IfOk result (λ store. HasTable caps.sets (read_of ⟦<D as Disk>⟧ devices) (content (live ⟦<D as Disk>⟧) store.detector) store.detector.sets) }
+        ensures idle { IfOk result IsIdle }
         ensures damaged { IsTrue D.is_honest → IfErr result (λ e. e.0 ≡ Refusal.Damaged → (c : Content) → ¬ HasContent (read_of ⟦<D as Disk>⟧ devices) c) }
-        ensures full { IsTrue D.is_honest → IfErr result (λ e. e.0 ≡ Refusal.FullSets → IsTooSmall caps.sets (D.state devices.journal).contents) }
+        ensures full { IsTrue D.is_honest → IfErr result (λ e. e.0 ≡ Refusal.FullSets → HasFewSets caps.sets (read_of ⟦<D as Disk>⟧ devices)) }
         ensures refusal { IfErr result (λ e. IsOfRecovery e.0) }
-        ensures device { failures_of ⟦<D as Disk>⟧ (made_of result) ≡ tells_recover result (failures_of ⟦<D as Disk>⟧ devices) }
+        ensures device { CountsRecovered result (failures_of ⟦<D as Disk>⟧ devices) (failures_of ⟦<D as Disk>⟧ (made_of result)) }
 
-        ensures calls { RecoveryCalls ⟦<D as Disk>⟧ devices (made_of result) }
-        ensures journal_calls { IsTrue D.is_honest → (bodies : List (List ℕ)) → IsLog (D.state devices.journal).contents bodies
-            → IfOk result (λ store. CallsAtMost ⟦<D as Disk>⟧ (length bodies + 2 * (content_of store.detector).events + 5) devices.journal store.devices.journal) }
-
-        // A crash at any moment leaves an image that there was before, and so it does afterwards.
-        ensures images { EachImage ⟦<D as Disk>⟧ devices (made_of result) (IsLeft ⟦<D as Disk>⟧ devices) }
+        // A crash at any moment leaves an image with the content of one that there was before, and so it does afterwards.
+        ensures images { IsTrue D.is_honest → Recovers ⟦<D as Disk>⟧ devices (made_of result) }
     {
         let mut devices = devices;
-        match settle(&mut devices) {
+        match sync_all(&mut devices) {
             Ok(()) => {}
-            Err(refusal) => return Err((refusal, devices)),
+            Err(_) => return Err((Refusal::DeviceFault, devices)),
         }
-        let mut detector = match new_detector(alloc, caps.sets) {
-            Ok(detector) => detector,
-            Err(refusal) => return Err((refusal, devices)),
-        };
-        let pending = match pending_room(alloc) {
-            Ok(pending) => pending,
-            Err(refusal) => return Err((refusal, devices)),
-        };
-        let Devices {
-            journal,
-            slots,
-            root0,
-            root1,
-        } = devices;
-        let mut journal = match Journal::attach(alloc, journal) {
-            Ok(journal) => journal,
-            Err((refusal, journal)) => {
-                return Err((
-                    refusal,
-                    Devices {
-                        journal,
-                        slots,
-                        root0,
-                        root1,
-                    },
-                ));
-            }
-        };
-        match replay(&mut journal, &mut detector) {
-            Ok(()) => {
-                let durable = detector.state().events();
-                Ok(Store {
-                    journal,
-                    slots,
-                    root0,
-                    root1,
-                    detector,
-                    pending,
-                    durable,
-                    is_broken: false,
-                })
-            }
-            Err(refusal) => Err((
-                refusal,
-                Devices {
-                    journal: journal.into_disk(),
-                    slots,
-                    root0,
-                    root1,
-                },
-            )),
+        match pending_room(alloc) {
+            Ok(pending) => recovered(alloc, devices, pending, frames, caps),
+            Err(refusal) => Err((refusal, devices)),
         }
     }
 }

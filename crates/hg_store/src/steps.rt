@@ -3,30 +3,77 @@
 use hg_detect::detector::Answer;
 use hg_model::event::Named;
 use hg_model::verdict::Refusal;
+use hg_pages::EncodedPage;
+use hg_pool::{Job, Put};
+
+/// How far a store is with its events and with its next checkpoint.
+#[derive(Clone, Copy, Debug, PartialEq, Eq, Drop)]
+pub enum StorePhase {
+    /// All accepted events are durable, and no checkpoint is in progress.
+    Idle,
+    /// Some accepted events are not committed, and no checkpoint is in progress.
+    Pending,
+    /// The map of words is frozen, and its pages are being written.
+    Flushing,
+    /// The pages of the frozen map are durable.
+    Sealed,
+    /// The file that the root goes to is closed.
+    Prepared,
+    /// The root is durable behind its closed gate.
+    Written,
+}
+
+/// Why a step of a checkpoint was not made.
+#[derive(Clone, Copy, Debug, PartialEq, Eq, Drop)]
+pub enum StepFault {
+    /// It is not one of this phase. Nothing was changed.
+    WrongPhase(StorePhase),
+    /// It was refused, as other steps are.
+    Refused(Refusal),
+}
 
 /// A step.
-#[derive(Clone, Copy, Debug, PartialEq, Eq, Drop)]
+#[derive(Drop)]
 pub enum Step {
     /// Offers an event.
     Offer(Named),
     /// Makes all accepted events durable.
     Commit,
+    /// Begins a checkpoint of the durable events.
+    Freeze,
+    /// Asks for a page that is to be written for it.
+    TakeJob,
+    /// Writes a page that was encoded.
+    Put(EncodedPage),
+    /// Makes the pages durable.
+    SealPages,
+    /// Closes the file that the root goes to.
+    PrepareRoot,
+    /// Writes the root behind its closed gate.
+    WriteRoot,
+    /// Opens the root.
+    OpenRoot,
 }
 
 /// What a step was answered.
-#[derive(Clone, Copy, Debug, PartialEq, Eq, Drop)]
+#[derive(Drop)]
 pub enum StepResult {
     /// Of an offer.
     Offered(Result<Answer, Refusal>),
     /// Of a commit.
     Committed(Result<u64, Refusal>),
-}
-
-/// Whether events wait for a commit.
-#[derive(Clone, Copy, Debug, PartialEq, Eq, Drop)]
-pub enum Phase {
-    /// All accepted events are durable.
-    Idle,
-    /// Some accepted events are not committed.
-    Pending,
+    /// Of a freeze.
+    Frozen(Result<(), StepFault>),
+    /// The page with the least number of those that wait, or none.
+    Taken(Result<Option<Job>, StepFault>),
+    /// Whether the page was written.
+    Put(Result<Put, StepFault>),
+    /// Of the sealing of the pages.
+    Sealed(Result<(), StepFault>),
+    /// Of the closing of the root's file.
+    Prepared(Result<(), StepFault>),
+    /// Of the writing of the root.
+    Written(Result<(), StepFault>),
+    /// The number of the checkpoint that was opened.
+    Opened(Result<u64, StepFault>),
 }

@@ -34,6 +34,7 @@ pub fn put_fault(code: u64, sources: &[Source<'_>], text: &mut String) -> Result
         19 => text.push_str(
             "the store: its events need more than 262144 sets of threads and of locks",
         ),
+        20 => text.push_str("the store: its pages need more than 1048576 slots"),
         21 => put_failure(sources, text),
         22 => text.push_str("memory: a growth was refused"),
         _ => text.push_str("a cause that is not known"),
@@ -52,7 +53,7 @@ pub fn damage<D: Disk + Drop>(alloc: Global, journal: D, root0: D, root1: D) -> 
         return "journal: it is missing, or has no byte";
     }
     match Journal::attach(alloc, journal) {
-        Ok(_) => "journal, root0 and root1: what they hold is no store's",
+        Ok(_) => "journal, pages, root0 and root1: what they hold is no store's",
         Err(_) => "journal: what it holds is no journal's",
     }
 }

@@ -6,10 +6,15 @@ use hg_disk::FileDisk;
 use hg_model::verdict::Refusal;
 use hg_store::devices::Devices;
 use std::fs::{File, OpenOptions, TryLockError};
-use std::io::ErrorKind;
+use std::io::{ErrorKind, Read};
 use std::os::fd::AsRawFd;
+use std::os::unix::fs::OpenOptionsExt;
+use std::random::RandomSource;
 use std::string::String;
-use std::{fs, io};
+use std::{env, fs, io};
+
+/// The greatest length of a store's `pages`: that of 1,048,576 slots.
+const MAX_PAGES_LEN: u64 = 1_048_576 * 3_080;
 
 /// What a command does to a store.
 #[derive(Clone, Copy, Debug, PartialEq, Eq, Drop)]
@@ -62,6 +67,14 @@ fn path_of(rt: &HostRuntime, directory: &str, name: &'static str) -> Result<Stri
     }
 }
 
+/// The file, unless it got one of the descriptors 0 to 2. These belong to the standard streams, even where they are closed.
+fn beside_streams(file: File) -> io::Result<File> {
+    if file.as_raw_fd() <= 2 {
+        return Err(io::Error::other("it got the descriptor of a closed standard stream"));
+    }
+    Ok(file)
+}
+
 /// Opens a file. `None` says that there is none, in a directory that there is.
 fn open_file(
     rt: &HostRuntime,
@@ -78,16 +91,10 @@ fn open_file(
         .write(access != Access::Look)
         .create(access == Access::Make);
     match options.open(rt, path.as_str()) {
-        Ok(file) => {
-            // Descriptors 0 to 2 belong to the standard streams, even where they are closed.
-            if file.as_raw_fd() <= 2 {
-                return Err(failed(
-                    name,
-                    io::Error::other("it got the descriptor of a closed standard stream"),
-                ));
-            }
-            Ok(Some(file))
-        }
+        Ok(file) => match beside_streams(file) {
+            Ok(file) => Ok(Some(file)),
+            Err(error) => Err(failed(name, error)),
+        },
         Err(error) => {
             if error.kind() == ErrorKind::NotFound && fs::metadata(rt, directory).is_ok() {
                 return Ok(None);
@@ -139,8 +146,68 @@ fn open_journal(rt: &HostRuntime, directory: &str, access: Access) -> Result<Fil
     device("journal", file)
 }
 
-/// Opens another file than the journal.
-fn open_other(
+/// A new file without a byte, in the system's folder for temporary files, that no other user may open. Its name is removed at once, so that
+/// nothing of it stays behind when the program ends.
+fn scratch_file(rt: &HostRuntime) -> io::Result<File> {
+    let mut random = [0; 8];
+    rt.fill_bytes(&mut random)?;
+    let number = u64::from_be_bytes(random);
+    let folder = env::temp_dir(rt)?;
+    let path = format!(in rt.alloc(); "{}/hgd-{number:016x}", folder.as_str())?;
+    let file = OpenOptions::new()
+        .read(true)
+        .write(true)
+        .create_new(true)
+        .mode(0o600)
+        .open(rt, path.as_str())?;
+    fs::remove_file(rt, path.as_str())?;
+    beside_streams(file)
+}
+
+/// A scratch file with the bytes of `pages`, or without a byte where that is missing. One that is longer than a store's is not copied.
+fn scratch_copy(rt: &HostRuntime, pages: &Option<File>) -> io::Result<File> {
+    let mut copy = scratch_file(rt)?;
+    if let Some(file) = pages {
+        let len = file.metadata()?.len();
+        if len > MAX_PAGES_LEN {
+            return Err(ErrorKind::FileTooLarge.into());
+        }
+        io::copy(&mut file.take(len), &mut copy)?;
+    }
+    Ok(copy)
+}
+
+/// Makes a file's bytes durable, or a folder's names.
+fn sync(name: &'static str, file: &File) -> Result<(), OpenFault>
+    ensures { IfErr result (λ f. f.refusal ≡ Refusal.DeviceFault) }
+{
+    match file.sync_all() {
+        Ok(()) => Ok(()),
+        Err(error) => Err(failed(name, error)),
+    }
+}
+
+/// Opens `pages`. Who makes a store, which then has no page to write, has the empty file durable. Who only looks gets a scratch copy, since opening
+/// a store may write pages; where none can be made, `pages` itself, which is enough as long as all pages have room in memory.
+fn open_pages(rt: &HostRuntime, directory: &str, access: Access) -> Result<FileDisk, OpenFault>
+    ensures { IfErr result (λ f. (f.refusal ≡ Refusal.DeviceFault) ⊎ (f.refusal ≡ Refusal.OutOfMemory)) }
+{
+    let pages = open_file(rt, directory, "pages", access)?;
+    if access == Access::Look {
+        if let Ok(copy) = scratch_copy(rt, &pages) {
+            return device("pages", Some(copy));
+        }
+    }
+    if access == Access::Make {
+        if let Some(file) = &pages {
+            sync("pages", file)?;
+        }
+    }
+    device("pages", pages)
+}
+
+/// Opens one of the two roots.
+fn open_root(
     rt: &HostRuntime,
     directory: &str,
     name: &'static str,
@@ -161,16 +228,16 @@ fn open_files(
 {
     Ok(Devices {
         journal: open_journal(rt, directory, access)?,
-        slots: open_other(rt, directory, "pages", access)?,
-        root0: open_other(rt, directory, "root0", access)?,
-        root1: open_other(rt, directory, "root1", access)?,
+        slots: open_pages(rt, directory, access)?,
+        root0: open_root(rt, directory, "root0", access)?,
+        root1: open_root(rt, directory, "root1", access)?,
     })
 }
 
 /// Opens the files of a store's directory: `journal`, `pages`, `root0` and `root1`. Only `Access::Make` makes files; for
-/// another access a file that is missing is read as an empty one. The journal is locked, so that the store is used by one
-/// program that changes it, or by programs that look at it. `DeviceFault` says that a file can't be opened, or that another
-/// program uses the store.
+/// another access a file that is missing is read as an empty one. With `Access::Look` none of them is changed. The journal is
+/// locked, so that the store is used by one program that changes it, or by programs that look at it. `DeviceFault` says that a
+/// file can't be opened, or that another program uses the store.
 ///
 /// No file gets a descriptor of a standard stream that is closed: those are filled while the files are opened.
 pub fn open_directory(
@@ -192,12 +259,8 @@ pub fn open_directory(
 fn sync_directory(rt: &HostRuntime, path: &str) -> Result<(), OpenFault>
     ensures { IfErr result (λ f. f.refusal ≡ Refusal.DeviceFault) }
 {
-    let directory = match File::open(rt, path) {
-        Ok(directory) => directory,
-        Err(error) => return Err(failed("the folder", error)),
-    };
-    match directory.sync_all() {
-        Ok(()) => Ok(()),
+    match File::open(rt, path) {
+        Ok(directory) => sync("the folder", &directory),
         Err(error) => Err(failed("the folder", error)),
     }
 }

@@ -76,8 +76,9 @@ fn perform_on_store<'a>(rt: &HostRuntime, directory: &'a str, task: StoreTask) -
         StoreTask::Feed {
             source,
             frames,
+            checkpoint,
             verbose,
-        } => feed_in(rt, directory, source, frames, verbose),
+        } => feed_in(rt, directory, source, frames, checkpoint, verbose),
         StoreTask::Reports { frames, verbose } => reports_in(rt, directory, frames, verbose),
         StoreTask::Graph { verbose } => graph_in(rt, directory, verbose),
         StoreTask::Explain { explaining } => explain_in(rt, directory, explaining),
@@ -143,10 +144,10 @@ fn serve_on<
         workers: serving.workers,
         silence: silence_of(serving),
     };
-    let (status, _) = serve(
+    serve(
         rt, alloc, devices, &listener, plan, &OpenGate, output, faults,
-    );
-    status
+    )
+    .status
 }
 
 fn main(rt: HostRuntime) -> ExitCode {

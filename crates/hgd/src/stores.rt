@@ -35,6 +35,7 @@ fn feed_plainly(
     devices: Devices<FileDisk>,
     source: Source,
     frames: Frames,
+    checkpoint: bool,
 ) -> u8 {
     let mut input = Input::new(rt.stdin());
     let mut output = Output::new(rt.stdout());
@@ -44,6 +45,7 @@ fn feed_plainly(
         devices,
         source.number,
         frames.pages,
+        checkpoint,
         &mut input,
         &mut output,
         &mut faults,
@@ -57,6 +59,7 @@ fn feed_told(
     devices: Devices<FileDisk>,
     source: Source,
     frames: Frames,
+    checkpoint: bool,
     lines: Lines,
 ) -> u8 {
     let mut input = Input::new(NotedReader::new(rt.stdin(), lines));
@@ -67,6 +70,7 @@ fn feed_told(
         devices,
         source.number,
         frames.pages,
+        checkpoint,
         &mut input,
         &mut output,
         &mut faults,
@@ -76,12 +80,14 @@ fn feed_told(
     status
 }
 
-/// Feeds the trace on standard input to the store. Where there is no memory for a meaning it is left out.
+/// Feeds the trace on standard input to the store, with a checkpoint at its end where one is asked for. Where there is no memory for a meaning
+/// it is left out.
 pub fn feed_in(
     rt: &HostRuntime,
     directory: &str,
     source: Source,
     frames: Frames,
+    checkpoint: bool,
     verbose: bool,
 ) -> u8 {
     let devices = match open_directory(rt, directory, Access::Change) {
@@ -89,11 +95,11 @@ pub fn feed_in(
         Err(fault) => return fail_to_open(rt, &fault, verbose),
     };
     if !verbose {
-        return feed_plainly(rt, devices, source, frames);
+        return feed_plainly(rt, devices, source, frames, checkpoint);
     }
     match Lines::new(rt.alloc()) {
-        Ok(lines) => feed_told(rt, devices, source, frames, lines),
-        Err(_) => feed_plainly(rt, devices, source, frames),
+        Ok(lines) => feed_told(rt, devices, source, frames, checkpoint, lines),
+        Err(_) => feed_plainly(rt, devices, source, frames, checkpoint),
     }
 }
 

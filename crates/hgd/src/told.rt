@@ -92,19 +92,20 @@ where
     }
 }
 
-/// Tells a fault of a command on a store, whose input failed so, if at all.
+/// Tells a fault of a command on a store, whose input failed so, if at all. `pages` is what the slots of its pages are called.
 fn tell_fault_of_store(
     rt: &HostRuntime,
     code: u64,
     input: Option<io::Error>,
     output: Option<io::Error>,
+    pages: &str,
     devices: Devices<FileDisk>,
 ) {
     let sources = [
         source("standard input", input),
         source("standard output", output),
         source("journal", devices.journal.error()),
-        source("pages", devices.slots.error()),
+        source(pages, devices.slots.error()),
         source("root0", devices.root0.error()),
         source("root1", devices.root1.error()),
     ];
@@ -129,7 +130,8 @@ pub fn tell_of_listing<W, V>(
     devices: Devices<FileDisk>,
 ) {
     if let Some(Last::Fault { code }) = last_line(output, faults) {
-        tell_fault_of_store(rt, code, None, output.stream().error(), devices);
+        let output = output.stream().error();
+        tell_fault_of_store(rt, code, None, output, "pages, or its copy", devices);
     }
 }
 
@@ -162,7 +164,7 @@ where
     match last_line(output, faults) {
         Some(Last::Fault { code }) => {
             let (input, output) = (input.error(), output.stream().error());
-            tell_fault_of_store(rt, code, input, output, devices);
+            tell_fault_of_store(rt, code, input, output, "pages", devices);
         }
         Some(last) => {
             if let Some(past) = past_of(rt, devices) {

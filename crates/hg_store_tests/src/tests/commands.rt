@@ -118,10 +118,18 @@ const LISTED: &[u8] = b"resume 0\nack 3\nend events 3 races 1 segments 3\n\
     end events 3 races 1 segments 3\n\
     segment 0 thread 0 after -\nsegment 1 thread 1 after 0\nsegment 2 thread 0 after 0\n";
 
+/// The same, where a checkpoint was asked for: the listings begin with its root.
+const LISTED_FROM_A_ROOT: &[u8] =
+    b"resume 0\nack 3\ncheckpoint 1\nend events 3 races 1 segments 3\n\
+    race 1 event 3 write thread 1 word 0x0000000000001000 threads 0,1\n\
+    end events 3 races 1 segments 3\n\
+    segment 0 thread 0 after -\nsegment 1 thread 1 after 0\nsegment 2 thread 0 after 0\n";
+
 /// Feeds a trace to a new store, and lists what it has.
 fn feed_and_list(
     rt: &impl Abort,
     alloc: Global,
+    checkpoint: bool,
     output: &mut Output<Vec<u8>>,
     faults: &mut Output<Vec<u8>>,
 ) {
@@ -131,7 +139,9 @@ fn feed_and_list(
         status,
         devices,
         moments: _,
-    } = feed(alloc, devices, 3, 64, &mut input, output, faults);
+    } = feed(
+        alloc, devices, 3, 64, checkpoint, &mut input, output, faults,
+    );
     ended(rt, status, 0);
     let (status, devices) = store_reports(alloc, devices, 64, output, faults);
     ended(rt, status, 0);
@@ -143,8 +153,17 @@ fn feed_and_list(
 fn what_was_fed_is_listed(rt: HostRuntime) {
     let mut output = Output::new(Vec::new(rt.alloc()));
     let mut faults = Output::new(Vec::new(rt.alloc()));
-    feed_and_list(&rt, rt.alloc(), &mut output, &mut faults);
+    feed_and_list(&rt, rt.alloc(), false, &mut output, &mut faults);
     printed(&rt, &output, LISTED);
+    printed(&rt, &faults, b"");
+}
+
+#[test]
+fn what_was_fed_is_listed_from_a_root(rt: HostRuntime) {
+    let mut output = Output::new(Vec::new(rt.alloc()));
+    let mut faults = Output::new(Vec::new(rt.alloc()));
+    feed_and_list(&rt, rt.alloc(), true, &mut output, &mut faults);
+    printed(&rt, &output, LISTED_FROM_A_ROOT);
     printed(&rt, &faults, b"");
 }
 
@@ -206,7 +225,16 @@ fn feed_to(
         status,
         devices,
         moments: _,
-    } = feed(alloc, devices, 3, 64, &mut input, output, &mut faults);
+    } = feed(
+        alloc,
+        devices,
+        3,
+        64,
+        false,
+        &mut input,
+        output,
+        &mut faults,
+    );
     if status == 0 {
         printed(rt, &faults, b"");
     } else {
@@ -265,7 +293,16 @@ fn feed_to_full_output(rt: &impl Abort, alloc: Global, text: &[u8], room: usize)
         status,
         devices,
         moments: _,
-    } = feed(alloc, devices, 3, 64, &mut input, &mut output, &mut faults);
+    } = feed(
+        alloc,
+        devices,
+        3,
+        64,
+        false,
+        &mut input,
+        &mut output,
+        &mut faults,
+    );
     ended(rt, status, 3);
     printed(rt, &faults, b"fault 21\n");
     let told = acknowledged(rt, &output.stream().get_ref()[PAGE - room..]);

@@ -1,5 +1,5 @@
 //! A store where memory is refused. Each allocation in turn is refused by `rt try --test --fail-alloc N`; with ample memory
-//! this is a run of twelve events in three commits. All else that is tried of a store stands in tests/scenarios/.
+//! these are runs of twelve events in three commits, one with a checkpoint behind them. All else that is tried of a store stands in tests/scenarios/.
 ghost use Rattle.std.specs.Prelude.{◌≤◌};
 
 use crate::tests::disks::Disks;
@@ -7,7 +7,10 @@ use hg_detect::detector::Answer;
 use hg_disk::MemDisk;
 use hg_model::event::{Access, Event, Named};
 use hg_model::verdict::Refusal;
+use hg_pages::EncodedPage;
+use hg_pool::Job;
 use hg_store::devices::{Caps, Devices};
+use hg_store::steps::StepFault;
 use hg_store::store::Store;
 use std::alloc::{AllocError, Global};
 use std::process::Abort;
@@ -242,6 +245,111 @@ fn compare_twelve(rt: &impl Abort, store: &Store<MemDisk>) {
 fn keeps_going_without_memory(rt: HostRuntime) -> Result<(), Fail> {
     let alloc = rt.alloc();
     let kept = commit_twelve(&rt, alloc, create_again(alloc)?)?;
+    compare_twelve(&rt, &kept.store);
+    let kept = recover_again(alloc, &kept.into_disks())?;
+    compare_twelve(&rt, &kept.store);
+    Ok(())
+}
+
+/// The answer of a step of a checkpoint that is refused memory.
+const NO_MEMORY: StepFault = StepFault::Refused(Refusal::OutOfMemory);
+
+/// Begins a checkpoint. Where memory was refused, the store has to be as before, and it is asked again.
+fn freeze_again(
+    rt: &impl Abort,
+    alloc: Global,
+    store: &mut Store<MemDisk>,
+) -> Result<(), StepFault> {
+    let before = picture_of(store);
+    let frozen = store.freeze(alloc);
+    if frozen != Err(NO_MEMORY) {
+        return frozen;
+    }
+    assert_eq!(rt; picture_of(store), before);
+    store.freeze(alloc)
+}
+
+/// Encodes a page, again where memory was refused.
+fn encode_again(job: Job) -> Result<EncodedPage, StepFault> {
+    let job = match job.encode() {
+        Ok(page) => return Ok(page),
+        Err(job) => job,
+    };
+    match job.encode() {
+        Ok(page) => Ok(page),
+        Err(_job) => Err(NO_MEMORY),
+    }
+}
+
+/// Writes the first of the pages that wait. Says whether there was one.
+fn put_one(store: &mut Store<MemDisk>) -> Result<bool, StepFault> {
+    match store.take_job()? {
+        None => Ok(false),
+        Some(job) => {
+            store.put(&encode_again(job)?)?;
+            Ok(true)
+        }
+    }
+}
+
+/// Writes the pages that wait, of which there are no more than slots.
+fn put_all(store: &mut Store<MemDisk>) -> Result<(), StepFault> {
+    for _page in 0..16 {
+        if !put_one(store)? {
+            return Ok(());
+        }
+    }
+    Ok(())
+}
+
+/// Writes the root. Where memory was refused, the store has to be as before, and it is asked again.
+fn write_root_again(
+    rt: &impl Abort,
+    alloc: Global,
+    store: &mut Store<MemDisk>,
+) -> Result<(), StepFault> {
+    let before = picture_of(store);
+    let written = store.write_root(alloc);
+    if written != Err(NO_MEMORY) {
+        return written;
+    }
+    assert_eq!(rt; picture_of(store), before);
+    store.write_root(alloc)
+}
+
+/// Makes a checkpoint, and answers its number.
+fn checkpoint(
+    rt: &impl Abort,
+    alloc: Global,
+    store: &mut Store<MemDisk>,
+) -> Result<u64, StepFault> {
+    freeze_again(rt, alloc, store)?;
+    put_all(store)?;
+    store.seal_pages()?;
+    store.prepare_root()?;
+    write_root_again(rt, alloc, store)?;
+    store.open_root()
+}
+
+/// Makes a checkpoint. Where a disk was refused memory, it goes on with what the disks have, and makes one of that.
+fn checkpoint_again(rt: &impl Abort, alloc: Global, kept: Kept) -> Result<Kept, AllocError> {
+    let mut kept = kept;
+    let opened = checkpoint(rt, alloc, &mut kept.store);
+    if opened == Ok(1) {
+        return Ok(kept);
+    }
+    assert_eq!(rt; opened, Err(StepFault::Refused(Refusal::DeviceFault)));
+    let mut kept = recover_again(alloc, &kept.into_disks())?;
+    compare_twelve(rt, &kept.store);
+    assert!(rt; checkpoint(rt, alloc, &mut kept.store).is_ok());
+    Ok(kept)
+}
+
+#[test]
+fn makes_a_checkpoint_without_memory(rt: HostRuntime) -> Result<(), Fail> {
+    let alloc = rt.alloc();
+    let kept = commit_twelve(&rt, alloc, create_again(alloc)?)?;
+    let kept = checkpoint_again(&rt, alloc, kept)?;
     compare_twelve(&rt, &kept.store);
     let kept = recover_again(alloc, &kept.into_disks())?;
     compare_twelve(&rt, &kept.store);

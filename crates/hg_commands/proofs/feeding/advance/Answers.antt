@@ -42,10 +42,10 @@ returns-in-Some-2-clause-stopped g c end same =
 pub returns-in_err-count-clause-front : goal.returns-in_err-count-clause-front
 returns-in_err-count-clause-front g c =
     let failed = c.in_err-count.ensures.failed in
-    always_err _ (breaks_by_read c.args.input.now.calls c.read.new.self.calls failed.0 c.args.reader.now (place c.args.store.now c.args.fed.now c.args.output.now.calls) failed.1)
+    always_err _ (breaks_by_read g.D.Disk c.args.input.now.calls c.read.new.self.calls failed.0 c.args.reader.now (place c.args.store.now c.args.fed.now c.args.output.now.calls) failed.1)
 
 pub returns-in_err-feed_piece-clause-front : goal.returns-in_err-feed_piece-clause-front
 returns-in_err-feed_piece-clause-front g c =
-    always_err _ (breaks_by_piece c.args.input.now.calls c.read.new.self.calls c.args.reader.now (place c.args.store.now c.args.fed.now c.args.output.now.calls)
+    always_err _ (breaks_by_piece g.D.Disk c.args.input.now.calls c.read.new.self.calls c.args.reader.now (place c.args.store.now c.args.fed.now c.args.output.now.calls)
     (take c.in-Some.count c.read.new.buffer) c.feed_piece.new.output.calls
     (c.in_ok-count.ensures.calls ∙ ap (λ x. got_call x c.read.new.buffer ∷ c.args.input.now.calls) c.in-Some.is) c.in_err-feed_piece.ensures.front)

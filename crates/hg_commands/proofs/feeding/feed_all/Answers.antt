@@ -1,14 +1,14 @@
 use Rattle.std.proofs.Common.{◌≡◌, ℕ, ◌++◌, List, [], Ok, length, take, drop, refl, sym, ap, subst, ◌∙◌, arith}
 use Rattle.std.proofs.lemmas.List.{length-append, length-drop, length-take}
-use Rattle.std.proofs.lemmas.Result.{IfOk-weaker, on_ok_weaker}
-use Rattle.hg_detect.specs.Memory.{content_of}
+use Rattle.std.proofs.lemmas.Result.{on_ok_weaker}
+use Rattle.hg_store.specs.Shown.{live}
 use Rattle.hg_wire.specs.Streams.{readings_from}
 use Rattle.hg_commands.specs.FeedRunning.{FeedAdvances, Feeds, GoesOn, LeadsOn, place}
 use Rattle.hg_commands.proofs.FeedSteps.{goes_on}
 use Rattle.hg_commands.proofs.FeedUnderway.{feeding_first, feeding_on, feeds_at_end}
 use Rattle.hg_commands.proofs.Kept.{keeps_then}
 use Rattle.hg_check.proofs.Printed.{always_err}
-use Rattle.hg_commands.proofs.Fronts.{on_err_weaker}
+use Rattle.hg_commands.proofs.Fronts.{if_ok_given, on_err_weaker}
 use Rattle.hg_commands.proofs.FeedFronts.{front_at_end, front_at_first, front_from, front_so_far}
 use Rattle.hg_commands.proofs.feeding.feed_all.Goals as goal
 
@@ -65,19 +65,21 @@ pub returns-in-AtEnd-clause-feeds : goal.returns-in-AtEnd-clause-feeds
 returns-in-AtEnd-clause-feeds g c =
     let mid = place c.loop-reads.store c.loop-reads.fed c.loop-reads.output.calls in
     let last = place c.advance.new.store c.advance.new.fed c.advance.new.output.calls in
-    IfOk-weaker c.finish.result
-    (λ end. LeadsOn last (readings_from c.advance.new.reader []) (content_of c.finish.new.store.detector) end)
-    (λ end. Feeds c.args.input.now.calls c.advance.new.input.calls c.args.fed.now.source c.args.store.now.detector.sets (content_of c.args.store.now.detector) (content_of c.finish.new.store.detector) end)
-    (λ end l. feeds_at_end g.D.Disk c.args.input.now.calls c.loop-reads.input.calls c.advance.new.input.calls c.args.fed.now.source c.args.store.now.detector.sets (content_of c.args.store.now.detector)
-    c.loop-reads.reader c.advance.new.reader mid last (content_of c.finish.new.store.detector) end
+    let first = live g.D.Disk c.args.store.now in
+    let end_is = live g.D.Disk c.finish.new.store in
+    if_ok_given c.finish.result
+    (λ end. LeadsOn g.D.Disk last (readings_from c.advance.new.reader []) end_is end)
+    (λ end. Feeds g.D.Disk c.args.input.now.calls c.advance.new.input.calls c.args.fed.now.source c.args.store.now.detector.sets first end_is end)
+    (λ end l. feeds_at_end g.D.Disk c.args.input.now.calls c.loop-reads.input.calls c.advance.new.input.calls c.args.fed.now.source c.args.store.now.detector.sets first
+    c.loop-reads.reader c.advance.new.reader mid last end_is end
     c.loop-reads.invariant.run.leads (c.in_ok-progress.ensures.at_end (ap Ok c.in-AtEnd.is)) l)
     c.finish.ensures.leads
 
 pub returns-in_err-reader-clause-front : goal.returns-in_err-reader-clause-front
-returns-in_err-reader-clause-front g c = always_err _ (front_at_first (place c.args.store.now c.args.fed.now c.args.output.now.calls) c.args.input.now.calls)
+returns-in_err-reader-clause-front g c = always_err _ (front_at_first g.D.Disk (place c.args.store.now c.args.fed.now c.args.output.now.calls) c.args.input.now.calls)
 
 pub returns-in_err-buffer-clause-front : goal.returns-in_err-buffer-clause-front
-returns-in_err-buffer-clause-front g c = always_err _ (front_at_first (place c.args.store.now c.args.fed.now c.args.output.now.calls) c.args.input.now.calls)
+returns-in_err-buffer-clause-front g c = always_err _ (front_at_first g.D.Disk (place c.args.store.now c.args.fed.now c.args.output.now.calls) c.args.input.now.calls)
 
 pub returns-in_err-progress-clause-front : goal.returns-in_err-progress-clause-front
 returns-in_err-progress-clause-front g c =
@@ -85,8 +87,8 @@ returns-in_err-progress-clause-front g c =
     let s = c.args.store.now in
     let old = place s c.args.fed.now c.args.output.now.calls in
     let mid = place c.loop-reads.store c.loop-reads.fed c.loop-reads.output.calls in
-    always_err _ (front_from g.D.Disk reads c.advance.new.input.calls c.args.fed.now.source s.detector.sets (content_of s.detector) old mid c.advance.new.output.calls c.loop-reads.invariant.run.goes
-    (c.in_err-progress.ensures.front reads c.args.fed.now.source s.detector.sets (content_of s.detector) c.loop-reads.invariant.run.leads))
+    always_err _ (front_from g.D.Disk reads c.advance.new.input.calls c.args.fed.now.source s.detector.sets (live g.D.Disk s) old mid c.advance.new.output.calls c.loop-reads.invariant.run.goes
+    (c.in_err-progress.ensures.front reads c.args.fed.now.source s.detector.sets (live g.D.Disk s) c.loop-reads.invariant.run.leads))
 
 pub returns-in-AtEnd-clause-front : goal.returns-in-AtEnd-clause-front
 returns-in-AtEnd-clause-front g c =
@@ -95,7 +97,7 @@ returns-in-AtEnd-clause-front g c =
     let mid = place c.loop-reads.store c.loop-reads.fed c.loop-reads.output.calls in
     let last = place c.advance.new.store c.advance.new.fed c.advance.new.output.calls in
     on_err_weaker c.finish.result
-    (λ b. front_at_end g.D.Disk c.args.input.now.calls c.loop-reads.input.calls c.advance.new.input.calls c.args.fed.now.source s.detector.sets (content_of s.detector)
+    (λ b. front_at_end g.D.Disk c.args.input.now.calls c.loop-reads.input.calls c.advance.new.input.calls c.args.fed.now.source s.detector.sets (live g.D.Disk s)
     c.loop-reads.reader c.advance.new.reader old mid last c.finish.new.output.calls c.loop-reads.invariant.run.goes
     c.loop-reads.invariant.run.leads (c.in_ok-progress.ensures.at_end (ap Ok c.in-AtEnd.is)) b)
     c.finish.ensures.front
@@ -105,5 +107,5 @@ returns-clause-front g c =
     let s = c.args.store.now in
     let old = place s c.args.fed.now c.args.output.now.calls in
     let mid = place c.loop-reads.store c.loop-reads.fed c.loop-reads.output.calls in
-    front_so_far g.D.Disk c.args.input.now.calls c.loop-reads.input.calls c.args.fed.now.source s.detector.sets (content_of s.detector) c.loop-reads.reader old mid
+    front_so_far g.D.Disk c.args.input.now.calls c.loop-reads.input.calls c.args.fed.now.source s.detector.sets (live g.D.Disk s) c.loop-reads.reader old mid
     c.loop-reads.invariant.run.goes c.loop-reads.invariant.run.leads

@@ -1,12 +1,15 @@
-use Rattle.std.proofs.lemmas.Result.{IfOk-weaker}
+use Rattle.std.proofs.lemmas.Result.{IfErr-weaker, IfOk-weaker}
+use Rattle.std.proofs.Common.{inl, inr, refl, sym, subst}
 use Rattle.hg_check.specs.declared.checker.Ending.{Ending}
+use Rattle.hg_contents.specs.Images.{HasContent}
+use Rattle.hg_store.specs.declared.devices.Devices.{Devices}
+use Rattle.hg_store.specs.Images.{read_of}
+use Rattle.hg_store.specs.Shown.{live}
 use Rattle.hg_commands.specs.FeedRunning.{FeedDone, WasFed}
+use Rattle.hg_commands.specs.Storing.{FeedFails, HasFeedCause}
 use Rattle.hg_commands.proofs.FeedDone.{feed_done}
+use Rattle.hg_commands.proofs.Fronts.{on_err_given}
 use Rattle.hg_commands.proofs.Kept.{fed_is_kept, none_is_kept}
-use Rattle.std.proofs.Common.{inr, sym, subst}
-use Rattle.hg_detect.specs.Memory.{content_of}
-use Rattle.hg_store.specs.Images.{HasContent, read_of}
-use Rattle.hg_commands.proofs.Fronts.{on_err_weaker}
 use Rattle.hg_commands.proofs.feeding.recover_and_feed.Goals as goal
 
 pub returns-in-Ok-clause-fed : goal.returns-in-Ok-clause-fed
@@ -16,9 +19,9 @@ returns-in-Ok-clause-fed g c =
     let before = c.args.output.now.calls in
     let after = c.feed_store-end.new.output.calls in
     IfOk-weaker c.feed_store-end.result
-    (λ (end : Ending). WasFed g.D.Disk reads later c.args.source c.in-Ok.store c.feed_store-end.new.store before after end)
-    (λ (end : Ending). FeedDone g.D.Disk reads later c.args.source c.args.devices c.into_devices.result before after end)
-    (λ end was. feed_done g.D.Disk reads later c.args.source c.args.devices c.into_devices.result c.in-Ok.store c.feed_store-end.new.store
+    (λ (end : Ending). WasFed g.D.Disk reads later c.args.source c.args.checkpoint c.in-Ok.store c.feed_store-end.new.store before after end)
+    (λ (end : Ending). FeedDone g.D.Disk reads later c.args.source c.args.checkpoint c.args.devices c.into_devices.result before after end)
+    (λ end was. feed_done g.D.Disk reads later c.args.source c.args.checkpoint c.args.devices c.into_devices.result c.in-Ok.store c.feed_store-end.new.store
     before after end c.in-Ok.ensures.content c.in-Ok.ensures.sets c.in-Ok.ensures.device was c.into_devices.ensures)
     c.feed_store-end.ensures.fed
 
@@ -29,17 +32,33 @@ returns-in-Ok-clause-kept g c honest =
     let before = c.args.output.now.calls in
     let after = c.feed_store-end.new.output.calls in
     fed_is_kept g.D.Disk c.args.devices c.into_devices.result s u before after c.args.moments.now c.push.new.self c.feed_store-end.new.moments c.of.result
-    c.in-Ok.ensures.images (c.in-Ok.ensures.content honest) honest c.feed_store-end.ensures.kept c.push.ensures c.of.ensures c.requires.none c.into_devices.ensures
+    (c.in-Ok.ensures.images honest) (c.in-Ok.ensures.content honest) honest c.feed_store-end.ensures.kept c.push.ensures c.of.ensures c.requires.none c.into_devices.ensures
 
 pub returns-in-Err-clause-kept : goal.returns-in-Err-clause-kept
 returns-in-Err-clause-kept g c honest =
-    none_is_kept g.D.Disk c.args.devices c.in-Err.devices c.args.output.now.calls c.args.moments.now c.requires.none c.in-Err.ensures.images
+    none_is_kept g.D.Disk c.args.devices c.in-Err.devices c.args.output.now.calls c.args.moments.now c.requires.none (c.in-Err.ensures.images honest)
 
 pub returns-in-Ok-clause-front : goal.returns-in-Ok-clause-front
 returns-in-Ok-clause-front g c =
-    on_err_weaker c.feed_store-end.result
-    (λ w. inr (
+    on_err_given c.feed_store-end.result
+    (λ w. inr (λ honest.
+    let began = c.in-Ok.ensures.content honest in (
       c.in-Ok.store.detector.sets,
-      (content_of c.in-Ok.store.detector, (λ honest. let began = c.in-Ok.ensures.content honest in (subst (λ x. HasContent (read_of g.D.Disk c.args.devices) x) (sym began.2.has) began.1, c.in-Ok.ensures.sets honest), w)),
-    ))
+      (live g.D.Disk c.in-Ok.store, (subst (λ x. HasContent (read_of g.D.Disk c.args.devices) x) (sym began.2.has) began.1, (c.in-Ok.ensures.sets honest, w honest))),
+    )))
     c.feed_store-end.ensures.front
+
+pub returns-in-Ok-clause-cause : goal.returns-in-Ok-clause-cause
+returns-in-Ok-clause-cause g c =
+    let reads = c.args.input.now.calls in
+    let later = c.feed_store-end.new.input.calls in
+    let before = c.args.output.now.calls in
+    let after = c.feed_store-end.new.output.calls in
+    IfErr-weaker c.feed_store-end.result
+    (λ r. FeedFails g.D.Disk c.in-Ok.store.devices c.feed_store-end.new.store.devices reads later before after r)
+    (λ r. HasFeedCause g.D.Disk c.args.devices c.into_devices.result reads later before after r)
+    (λ r fails. inr (c.in-Ok.store.devices, (c.in-Ok.ensures.device, subst (λ (d : Devices g.row.D.Denot). FeedFails g.D.Disk c.in-Ok.store.devices d reads later before after r) (sym c.into_devices.ensures) fails)))
+    c.feed_store-end.ensures.cause
+
+pub returns-in-Err-clause-cause : goal.returns-in-Err-clause-cause
+returns-in-Err-clause-cause g c = inl (record { is_true = c.in-Err.ensures.cause; failed = c.in-Err.ensures.fault; unread = refl; unwritten = refl })

@@ -1,7 +1,7 @@
 use Rattle.std.proofs.Common.{◌≡◌, [], refl, sym, subst, ap, ◌∙◌}
 use Rattle.std.proofs.lemmas.List.{append-nil}
 use Rattle.std.proofs.lemmas.Result.{on_ok_weaker}
-use Rattle.hg_detect.specs.Memory.{content_of}
+use Rattle.hg_store.specs.Shown.{live}
 use Rattle.hg_check.specs.Printing.{IsDue, line_text, reports_text, segments_text}
 use Rattle.hg_commands.specs.declared.listing.Listing.TheVariants.{Reports}
 use Rattle.hg_commands.specs.Storing.{listing_text, store_end_line}
@@ -14,7 +14,7 @@ pub returns-in_ok-print_kept-in-Reports-clause-printed : goal.returns-in_ok-prin
 returns-in_ok-print_kept-in-Reports-clause-printed g c =
     let old = c.args.output.now.calls in
     let mid = c.print_kept.new.output.calls in
-    let content = content_of c.args.store.now.detector in
+    let content = live g.D.Disk c.args.store.now in
     let kept = reports_text 1 content.reports in
     let same : reports_text 1 c.as_slice.result.now ≡ kept = ap (λ xs. reports_text 1 xs) (c.as_slice.ensures.value ∙ c.in_ok-reports-in-Reports.ensures.reports) in
     on_ok_weaker c.hold_end_line.result
@@ -26,13 +26,13 @@ returns-in_ok-print_kept-in-Reports-clause-printed g c =
     c.hold_end_line.ensures.ok
 
 pub returns-in_err-reports-in-Reports-clause-front : goal.returns-in_err-reports-in-Reports-clause-front
-returns-in_err-reports-in-Reports-clause-front g c = always_err _ (front_none c.args.output.now.calls (listing_text c.args.listing (content_of c.args.store.now.detector)))
+returns-in_err-reports-in-Reports-clause-front g c = always_err _ (front_none c.args.output.now.calls (listing_text c.args.listing (live g.D.Disk c.args.store.now)))
 
 pub returns-in_err-print_kept-in-Reports-clause-front : goal.returns-in_err-print_kept-in-Reports-clause-front
 returns-in_err-print_kept-in-Reports-clause-front g c =
     let old = c.args.output.now.calls in
     let mid = c.print_kept.new.output.calls in
-    let content = content_of c.args.store.now.detector in
+    let content = live g.D.Disk c.args.store.now in
     let kept = reports_text 1 content.reports in
     let same : reports_text 1 c.as_slice.result.now ≡ kept = ap (λ xs. reports_text 1 xs) (c.as_slice.ensures.value ∙ c.in_ok-reports-in-Reports.ensures.reports) in
     always_err _ (subst (λ x. TookFront old mid (listing_text x content)) (sym c.in-Reports.is)
@@ -45,7 +45,7 @@ pub returns-in_ok-print_kept-in-Reports-clause-front : goal.returns-in_ok-print_
 returns-in_ok-print_kept-in-Reports-clause-front g c =
     let old = c.args.output.now.calls in
     let mid = c.print_kept.new.output.calls in
-    let content = content_of c.args.store.now.detector in
+    let content = live g.D.Disk c.args.store.now in
     let kept = reports_text 1 content.reports in
     let same : reports_text 1 c.as_slice.result.now ≡ kept = ap (λ xs. reports_text 1 xs) (c.as_slice.ensures.value ∙ c.in_ok-reports-in-Reports.ensures.reports) in
     always_err _ (subst (λ x. TookFront old mid (listing_text x content)) (sym c.in-Reports.is)
@@ -58,7 +58,7 @@ returns-in_ok-print_kept-in-Reports-clause-front g c =
 pub returns-in_ok-graph-in-Segments-clause-front : goal.returns-in_ok-graph-in-Segments-clause-front
 returns-in_ok-graph-in-Segments-clause-front g c =
     let old = c.args.output.now.calls in
-    let content = content_of c.args.store.now.detector in
+    let content = live g.D.Disk c.args.store.now in
     let text = segments_text 0 content.segments in
     let same : segments_text 0 c.in_ok-graph-in-Segments.field-0.now ≡ text = ap (λ xs. segments_text 0 xs) c.in_ok-graph-in-Segments.ensures.segments in
     on_err_weaker c.print_segments.result

@@ -1,5 +1,4 @@
-use Rattle.std.proofs.Common.{◌∙◌}
-use Rattle.hg_commands.proofs.Causes.{recovery_is_true, refusal_is_counted}
+use Rattle.hg_commands.proofs.Causes.{recovery_is_counted, recovery_is_true}
 use Rattle.hg_store.specs.Images.{failures_of}
 use Rattle.hg_commands.proofs.opening.open_store.Goals as goal
 
@@ -10,4 +9,4 @@ returns-in-Err-clause-cause g c =
 
 pub returns-in-Err-clause-fault : goal.returns-in-Err-clause-fault
 returns-in-Err-clause-fault g c =
-    c.in-Err.ensures.device ∙ refusal_is_counted c.in-Err.refused.0 (failures_of g.D.Disk c.args.devices)
+    recovery_is_counted c.in-Err.refused.0 (failures_of g.D.Disk c.args.devices) (failures_of g.D.Disk c.in-Err.refused.1) c.in-Err.ensures.device

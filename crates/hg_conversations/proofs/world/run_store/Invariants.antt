@@ -1,11 +1,10 @@
-use Rattle.hg_detect.specs.Memory.{content_of}
 use Rattle.hg_conversations.proofs.world.run_store.Given as goal
 
 abbrev pub ghosts-run_over-A-Ledger : goal.ghosts-run_over-A-Ledger
 ghosts-run_over-A-Ledger a = record { name = a.accepted.name; parts = a.accepted.parts }
 
 abbrev pub ghosts-run_over-A-Column : goal.ghosts-run_over-A-Column
-ghosts-run_over-A-Column a = record { opening = (content_of a.store.detector).events }
+ghosts-run_over-A-Column a = record { opening = 0 }
 
 abbrev pub ghosts-run_over-B-Ledger : goal.ghosts-run_over-B-Ledger
 ghosts-run_over-B-Ledger a = record { name = a.durable.name; parts = a.durable.parts }

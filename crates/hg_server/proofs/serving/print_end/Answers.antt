@@ -6,7 +6,7 @@ use Rattle.hg_check.specs.Written.{TookFront}
 use Rattle.hg_commands.proofs.Fronts.{printed_front_on, took_front}
 use Rattle.hg_commands.specs.Printed.{IsPrintedNow}
 use Rattle.hg_commands.specs.Storing.{number_text, store_end_line}
-use Rattle.hg_detect.specs.Memory.{content_of}
+use Rattle.hg_store.specs.Shown.{live}
 use Rattle.hg_server.proofs.serving.print_end.Goals as goal
 
 -- the line of connections, whatever came of it
@@ -18,7 +18,7 @@ took_line old new n m same = subst (λ (k : ℕ). Took old new (number_text (cod
 
 pub returns-clause-printed : goal.returns-clause-printed
 returns-clause-printed g c =
-    let end : List ℕ = line_text (store_end_line (content_of c.args.store.now.detector)) in
+    let end : List ℕ = line_text (store_end_line (live g.D.Disk c.args.store.now)) in
     let old = c.args.output.now.calls in
     let mid = c.print_number.new.output.calls in
     let held : c.hold_end_line.new.held.items ≡ end = c.in_ok-hold_end_line.ensures.ok ∙ ap (λ (l : List ℕ). l ++ end) c.in_ok-print_number.ensures.none in
@@ -28,7 +28,7 @@ returns-clause-printed g c =
 
 pub returns-in_err-print_number-clause-front : goal.returns-in_err-print_number-clause-front
 returns-in_err-print_number-clause-front g c first before t =
-    let end : List ℕ = line_text (store_end_line (content_of c.args.store.now.detector)) in
+    let end : List ℕ = line_text (store_end_line (live g.D.Disk c.args.store.now)) in
     let line : List ℕ = number_text (codes "served ") c.args.plan.connections in
     let old = c.args.output.now.calls in
     let new = c.print_number.new.output.calls in
@@ -37,7 +37,7 @@ returns-in_err-print_number-clause-front g c first before t =
 
 pub returns-in_err-hold_end_line-clause-front : goal.returns-in_err-hold_end_line-clause-front
 returns-in_err-hold_end_line-clause-front g c first before t =
-    let end : List ℕ = line_text (store_end_line (content_of c.args.store.now.detector)) in
+    let end : List ℕ = line_text (store_end_line (live g.D.Disk c.args.store.now)) in
     let line : List ℕ = number_text (codes "served ") c.args.plan.connections in
     let old = c.args.output.now.calls in
     let mid = c.print_number.new.output.calls in
@@ -47,7 +47,7 @@ returns-in_err-hold_end_line-clause-front g c first before t =
 
 pub returns-in_err-print_now-clause-front : goal.returns-in_err-print_now-clause-front
 returns-in_err-print_now-clause-front g c first before t =
-    let end : List ℕ = line_text (store_end_line (content_of c.args.store.now.detector)) in
+    let end : List ℕ = line_text (store_end_line (live g.D.Disk c.args.store.now)) in
     let line : List ℕ = number_text (codes "served ") c.args.plan.connections in
     let old = c.args.output.now.calls in
     let mid = c.print_number.new.output.calls in

@@ -1,34 +1,36 @@
-use Rattle.std.proofs.Common.{◌≡◌, false, inr, sym, subst, OnOk, OnErr, IsTrue, Result}
-use Rattle.hg_model.specs.declared.verdict.Refusal.{Refusal}
-use Rattle.hg_store.specs.Store.{Backs, live}
+use Rattle.std.proofs.Common.{◌≡◌, false, inl, inr, sym, subst, OnErr, OnOk, IsTrue}
+use Rattle.hg_store.specs.Shown.{live}
 use Rattle.hg_check.specs.Printing.{Took}
 use Rattle.hg_check.specs.Written.{TookFront}
-use Rattle.hg_server.specs.Serving.{Served, WroteServing, serving_text}
-use Rattle.hg_server.proofs.Leaving.{none_failed, served}
+use Rattle.hg_server.specs.Serving.{IsSettled, WroteServing, serving_text}
+use Rattle.hg_server.proofs.Leaving.{served}
 use Rattle.hg_server.proofs.serving.recover_and_serve.Goals as goal
 
-pub returns-in-Ok-clause-well : goal.returns-in-Ok-clause-well
-returns-in-Ok-clause-well g c =
-    let start = c.in_ok-store.store in
-    let now = c.serve_and_print-store.result.0 in
-    let works : now.is_broken ≡ false = subst (λ r. OnOk r (now.is_broken ≡ false)) c.in-Ok.is c.serve_and_print-store.ensures.works in
+pub returns-in-Err-clause-cause : goal.returns-in-Err-clause-cause
+returns-in-Err-clause-cause g c = inl (c.in-Err.ensures.cause, c.in-Err.ensures.fault)
+
+pub returns-in-Ok-ended-clause-well : goal.returns-in-Ok-ended-clause-well
+returns-in-Ok-ended-clause-well g c =
+    let start = c.in-Ok.store in
+    let now = c.serve_and_print-store.result.store in
+    let moments = c.serve_and_print-store.result.moments in
     record {
-      printed = subst (λ r. OnOk r (Took c.args.output.now.calls c.serve_and_print-store.new.output.calls (serving_text c.args.plan (live now)))) c.in-Ok.is c.serve_and_print-store.ensures.printed;
-      served = served g.D.Disk c.args.devices start now c.serve_and_print-store.ensures.went c.in_ok-store.ensures.content c.in_ok-store.ensures.images;
-      backs = subst (λ r. OnOk r (IsTrue g.D.Disk.is_honest → Backs g.D.Disk now (live now))) c.in-Ok.is c.serve_and_print-store.ensures.backs;
-      works = works;
-      failed = none_failed g.D.Disk c.args.devices start now c.serve_and_print-store.ensures.went c.in_ok-store.ensures.works works c.in_ok-store.ensures.device;
+      printed = subst (λ r. OnOk r (Took c.args.output.now.calls c.serve_and_print-store.new.output.calls (serving_text c.args.plan (live g.D.Disk now)))) c.in-Ok-ended.is c.serve_and_print-store.ensures.printed;
+      served = served g.D.Disk c.args.devices start now moments c.serve_and_print-store.ensures.went (λ honest. c.in-Ok.ensures.content honest) (λ honest. c.in-Ok.ensures.images honest);
+      settled = subst (λ r. OnOk r (IsTrue g.D.Disk.is_honest → IsSettled g.D.Disk now)) c.in-Ok-ended.is c.serve_and_print-store.ensures.settled;
+      works = subst (λ r. OnOk r (now.is_broken ≡ false)) c.in-Ok-ended.is c.serve_and_print-store.ensures.works;
     }
 
-pub returns-in-Err-clause-wrote : goal.returns-in-Err-clause-wrote
-returns-in-Err-clause-wrote g c =
-    let start = c.in_ok-store.store in
-    let now = c.serve_and_print-store.result.0 in
-    subst (λ d. WroteServing g.D.Disk c.args.plan c.args.devices d c.args.output.now.calls c.serve_and_print-store.new.output.calls) (sym c.into_devices.ensures)
+pub returns-in-Err-ended-clause-wrote : goal.returns-in-Err-ended-clause-wrote
+returns-in-Err-ended-clause-wrote g c =
+    let start = c.in-Ok.store in
+    let now = c.serve_and_print-store.result.store in
+    let moments = c.serve_and_print-store.result.moments in
+    subst (λ d. WroteServing g.D.Disk c.args.plan c.args.devices moments d c.args.output.now.calls c.serve_and_print-store.new.output.calls) (sym c.into_devices.ensures)
     (inr (
-      live now,
+      live g.D.Disk now,
       (
-        served g.D.Disk c.args.devices start now c.serve_and_print-store.ensures.went c.in_ok-store.ensures.content c.in_ok-store.ensures.images,
-        subst (λ r. OnErr r (TookFront c.args.output.now.calls c.serve_and_print-store.new.output.calls (serving_text c.args.plan (live now)))) c.in-Err.is c.serve_and_print-store.ensures.front,
+        served g.D.Disk c.args.devices start now moments c.serve_and_print-store.ensures.went (λ honest. c.in-Ok.ensures.content honest) (λ honest. c.in-Ok.ensures.images honest),
+        subst (λ r. OnErr r (TookFront c.args.output.now.calls c.serve_and_print-store.new.output.calls (serving_text c.args.plan (live g.D.Disk now)))) c.in-Err-ended.is c.serve_and_print-store.ensures.front,
       ),
     ))

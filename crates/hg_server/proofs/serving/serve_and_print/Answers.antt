@@ -1,12 +1,13 @@
-use Rattle.std.proofs.Common.{◌≡◌, ℕ, List, codes, refl, subst}
+use Rattle.std.proofs.Common.{◌≡◌, ℕ, List, codes, refl, sym, subst}
 use Rattle.std.proofs.lemmas.Result.{on_ok_weaker}
 use Rattle.hg_streams.specs.declared.call.WriteCall.{WriteCall}
-use Rattle.hg_store.specs.Store.{live}
+use Rattle.hg_store.specs.Shown.{live}
 use Rattle.hg_check.proofs.Printed.{appends_on, front_more}
 use Rattle.hg_check.specs.Printing.{Took}
 use Rattle.hg_commands.proofs.Fronts.{printed_front, took_front}
 use Rattle.hg_commands.specs.Printed.{IsPrintedNow}
 use Rattle.hg_commands.specs.Storing.{number_text}
+use Rattle.hg_desk.specs.Going.{WentOn, began}
 use Rattle.hg_desk.proofs.Going.{went_nowhere}
 use Rattle.hg_server.specs.Serving.{served_text, serving_text}
 use Rattle.hg_server.proofs.serving.serve_and_print.Goals as goal
@@ -15,7 +16,8 @@ took_ready : (old new : List WriteCall) (n m : ℕ) → n ≡ m → Took old new
 took_ready old new n m same = subst (λ (k : ℕ). Took old new (number_text (codes "ready ") k)) same
 
 pub returns-in-Err-clause-went : goal.returns-in-Err-clause-went
-returns-in-Err-clause-went g c = went_nowhere g.D.Disk c.args.store
+returns-in-Err-clause-went g c =
+    subst (λ ms. WentOn g.D.Disk (began g.D.Disk c.args.store) ms c.args.store) (sym c.new.ensures) (went_nowhere g.D.Disk c.args.store (λ honest. c.stands.ensures.backs honest))
 
 pub returns-in-Err-clause-front : goal.returns-in-Err-clause-front
 returns-in-Err-clause-front g c =
@@ -23,16 +25,16 @@ returns-in-Err-clause-front g c =
     let line : List ℕ = number_text (codes "ready ") plan.port in
     let old = c.args.output.now.calls in
     let new = c.print_number.new.output.calls in
-    front_more old new line (served_text plan.connections (live c.args.store)) (serving_text plan (live c.args.store)) refl
+    front_more old new line (served_text plan.connections (live g.D.Disk c.args.store)) (serving_text plan (live g.D.Disk c.args.store)) refl
     (printed_front old new line (subst (λ (k : ℕ). IsPrintedNow old new (number_text (codes "ready ") k)) c.from.ensures c.print_number.ensures.calls))
 
-pub returns-in-Err-served-clause-front : goal.returns-in-Err-served-clause-front
-returns-in-Err-served-clause-front g c =
+pub returns-in-Err-ended-clause-front : goal.returns-in-Err-ended-clause-front
+returns-in-Err-ended-clause-front g c =
     let plan = c.args.plan in
     let line : List ℕ = number_text (codes "ready ") plan.port in
     let old = c.args.output.now.calls in
     let mid = c.print_number.new.output.calls in
-    let last = live c.serve_over-store.result.0 in
+    let last = live g.D.Disk c.serve_over-store.result.store in
     front_more old mid line (served_text plan.connections last) (serving_text plan last) refl
     (took_front old mid line (took_ready old mid c.from.result plan.port c.from.ensures c.in_default.ensures.printed))
 
@@ -41,16 +43,16 @@ returns-clause-printed g c =
     let plan = c.args.plan in
     let old = c.args.output.now.calls in
     let mid = c.print_number.new.output.calls in
-    let last = live c.serve_over-store.result.0 in
-    on_ok_weaker c.print_end-printed.result
-    (λ printed. appends_on old mid c.print_end-printed.new.output.calls (number_text (codes "ready ") plan.port) (served_text plan.connections last)
+    let last = live g.D.Disk c.serve_over-store.result.store in
+    on_ok_weaker c.print_end-ended.result
+    (λ printed. appends_on old mid c.print_end-ended.new.output.calls (number_text (codes "ready ") plan.port) (served_text plan.connections last)
     (took_ready old mid c.from.result plan.port c.from.ensures c.in_default.ensures.printed) printed)
-    c.print_end-printed.ensures.printed
+    c.print_end-ended.ensures.printed
 
 pub returns-clause-front : goal.returns-clause-front
 returns-clause-front g c =
     let plan = c.args.plan in
     let old = c.args.output.now.calls in
     let mid = c.print_number.new.output.calls in
-    c.print_end-printed.ensures.front old (number_text (codes "ready ") plan.port)
+    c.print_end-ended.ensures.front old (number_text (codes "ready ") plan.port)
     (took_ready old mid c.from.result plan.port c.from.ensures c.in_default.ensures.printed)

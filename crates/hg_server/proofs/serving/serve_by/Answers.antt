@@ -1,22 +1,29 @@
-use Rattle.std.proofs.Common.{◌≡◌, sym, subst}
-use Rattle.std.proofs.lemmas.Result.{on_ok_weaker}
-use Rattle.hg_desk.specs.Going.{WentOn, seen}
-use Rattle.hg_desk.proofs.Going.{went_further, went_nowhere, went_of_points}
+use Rattle.std.proofs.Common.{◌<◌, IsTrue, sym, subst}
+use Rattle.hg_model.specs.declared.verdict.Refusal.{Refusal}
+use Rattle.hg_store.specs.Images.{failures_of}
+use Rattle.hg_desk.specs.Going.{WentOn, began}
+use Rattle.hg_desk.proofs.Going.{went_nowhere}
+use Rattle.hg_server.specs.Serving.{IsServingFault}
+use Rattle.hg_server.proofs.Leaving.{IsSettlingFault, if_err_weaker, serving_fault}
 use Rattle.hg_server.proofs.serving.serve_by.Goals as goal
 
 pub returns-in-Err-clause-went : goal.returns-in-Err-clause-went
 returns-in-Err-clause-went g c =
-    subst (λ s. WentOn g.D.Disk c.args.store s) (sym c.in-Err.ensures.err.0) (went_nowhere g.D.Disk c.args.store)
+    subst (λ s. WentOn g.D.Disk (began g.D.Disk c.args.store) c.new-in-Err.result s) (sym c.in-Err.ensures.err.0)
+    (subst (λ ms. WentOn g.D.Disk (began g.D.Disk c.args.store) ms c.args.store) (sym c.new-in-Err.ensures) (went_nowhere g.D.Disk c.args.store (λ honest. c.stands.ensures.backs honest)))
 
 pub returns-clause-went : goal.returns-clause-went
 returns-clause-went g c =
-    let start = c.args.store in
-    let mid = c.take_in-store.result.0 in
-    went_further g.D.Disk start mid c.settle-ended.new.store
-    (went_of_points g.D.Disk start mid (c.take_in-store.ensures.since (seen g.D.Disk start) c.requires.start))
-    c.settle-ended.ensures.went
+    let start = began g.D.Disk c.args.store in
+    c.settle-ended.ensures.went start (c.take_in-back.ensures.since start c.requires.start)
 
-pub returns-clause-backs : goal.returns-clause-backs
-returns-clause-backs g c = on_ok_weaker c.settle-ended.result
-    (λ works honest. let was = c.take_in-store.ensures.backs honest in works was.0 honest was.1)
-    c.settle-ended.ensures.backs
+pub returns-clause-cause : goal.returns-clause-cause
+returns-clause-cause g c =
+    let start = c.args.store in
+    let mid = c.take_in-back.result.0.store in
+    let new = c.settle-ended.new.store in
+    let has_failed = c.take_in-back.result.0.has_failed in
+    let failed : IsTrue has_failed → failures_of g.D.Disk start.devices < failures_of g.D.Disk mid.devices = λ is. c.take_in-back.ensures.failed is (began g.D.Disk start) c.requires.start in
+    if_err_weaker (IsSettlingFault has_failed) (IsServingFault g.D.Disk start.devices new.devices) c.settle-ended.result
+    (λ (r : Refusal). serving_fault g.D.Disk start.devices mid.devices new.devices has_failed r failed c.settle-ended.ensures.device)
+    c.settle-ended.ensures.cause

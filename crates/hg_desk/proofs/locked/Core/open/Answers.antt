@@ -1,8 +1,7 @@
 use Rattle.std.proofs.Common.{rules, ◌≡◌, [], ◌∷◌, Option, IfSome, sym, subst, arith}
 use Rattle.std.proofs.lemmas.List.Elements.{All-append, All-cons}
 use Rattle.hg_desk.specs.Told.{Told, nothing_told}
-use Rattle.hg_desk.specs.Going.{Point, WentOn, of_points, seen}
-use Rattle.hg_store.specs.Shown.{Shown}
+use Rattle.hg_desk.specs.Going.{Began, WentOn, began}
 use Rattle.hg_desk.proofs.Going.{went_nowhere}
 use Rattle.hg_desk.proofs.locked.Core.open.Goals as goal
 
@@ -22,13 +21,13 @@ loop-i-preserved g c = record {
 
 pub invariant_of-core : goal.invariant_of-core
 invariant_of-core g c = record {
-  events = search rules;
-  durable_is = search rules;
+  events = λ honest. search rules;
+  durable_is = λ honest. search rules;
   accepted_counted = search rules;
   durable_counted = search rules;
-  images = search rules;
-  small = search rules;
   since = λ start is.
-      let same : start ≡ seen g.D.Disk c.args.store = subst (λ (o : Option (Shown Point)). IfSome o (λ s. s ≡ seen g.D.Disk c.args.store)) is c.requires.start in
-      subst (λ s. WentOn (of_points g.D.Disk.is_honest) s (seen g.D.Disk c.args.store)) (sym same) (went_nowhere (of_points g.D.Disk.is_honest) (seen g.D.Disk c.args.store));
+      let same : start ≡ began g.D.Disk c.args.store = subst (λ (o : Option Began). IfSome o (λ s. s ≡ began g.D.Disk c.args.store)) is c.requires.start in
+      let here : WentOn g.D.Disk (began g.D.Disk c.args.store) [] c.args.store = went_nowhere g.D.Disk c.args.store c.stands.ensures.backs in
+      subst (λ s. WentOn g.D.Disk s c.new.result c.args.store) (sym same) (subst (λ ms. WentOn g.D.Disk (began g.D.Disk c.args.store) ms c.args.store) (sym c.new.ensures) here);
+  failed = λ no. absurd (cc no);
 }

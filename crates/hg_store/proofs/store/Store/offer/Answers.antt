@@ -1,51 +1,82 @@
-use Rattle.std.proofs.Common.{rules, ◌≡◌, arith, subst, Err, Some, refl, sym, ◌∙◌, ap}
+use Rattle.std.proofs.Common.{rules, Some, ap, sym, ◌∙◌}
 use Rattle.hg_model.specs.Contents.{Content}
-use Rattle.hg_model.specs.declared.verdict.Refusal.{Refusal}
-use Rattle.hg_model.specs.declared.verdict.Refusal.TheVariants.{OutOfMemory}
-use Rattle.hg_detect.specs.Making.{AsksBy, sets_asked}
-use Rattle.hg_store.specs.Shown.{Shown}
-use Rattle.hg_journal.specs.Reading.{disk_of}
-use Rattle.hg_detect.specs.Memory.{content_of}
-use Rattle.hg_store.proofs.Contents.{followed_one}
-use Rattle.hg_store.proofs.Stores.{kept_accepted}
+use Rattle.hg_model.specs.Verdicts.{standing_of}
+use Rattle.hg_detect.specs.Shown.{content}
+use Rattle.hg_pool.specs.Maps as pools
+use Rattle.hg_store.proofs.Backing.{parts_stand}
+use Rattle.hg_store.proofs.Going.{images}
+use Rattle.hg_store.proofs.Offering.{accepted, followed_one, refused}
+use Rattle.hg_store.proofs.Staying.{works_on}
+use Rattle.hg_store.proofs.Refusing.{rules_call_nothing}
 use Rattle.hg_store.proofs.store.Store.offer.Goals as goal
 
-pub returns-clause-done : goal.returns-clause-done
-returns-clause-done g c = rw (← c.self.view_is) (record {
-  answer = search rules;
-  live = followed_one (content_of c.self.inside.detector) c.args.named.now (search rules) ∙ ap (λ (d : Content). Some d) (sym (c.in_ok-accept.ensures.content c.self.invariant.whole));
-  table = record {
-    accepted = λ _. c.in_ok-accept.ensures.sets c.self.invariant.whole;
-    full = λ _ is. absurd (cc);
-    memory = λ is. absurd (cc);
-    same = λ not. absurd (not refl);
-  };
-  pending = search rules;
-  devices = search rules;
-  durable = search rules;
-  is_broken = search rules;
-})
+pub returns-then-self-clause-images : goal.returns-then-self-clause-images
+returns-then-self-clause-images g c honest = let k = c.self.invariant.stands honest in rw (← c.self.view_is) (parts_stand g.D.Disk _ k.0 _ k.1 (λ doubt. doubt))
 
-pub returns-in_err-accept-clause-done : goal.returns-in_err-accept-clause-done
-returns-in_err-accept-clause-done g c = rw (← c.self.view_is) (record {
-  answer = search rules;
-  live = search rules;
-  table = record {
-    accepted = search rules;
-    full = search rules;
-    memory = λ is.
-        let same : c.in_err-accept.field-0.0 ≡ OutOfMemory = grind arith in
-        subst (λ (r : Refusal). AsksBy c.self.inside.detector.sets (sets_asked (content_of c.self.inside.detector) c.args.named.now.event) (Err r) c.accept.new.self.sets) same (c.in_err-accept.ensures.sets c.self.invariant.whole);
-    same = search rules;
-  };
-  pending = search rules;
-  devices = search rules;
-  durable = search rules;
-  is_broken = search rules;
-})
+pub returns-in-Duplicate-clause-images : goal.returns-in-Duplicate-clause-images
+returns-in-Duplicate-clause-images g c honest = let k = c.self.invariant.stands honest in rw (← c.self.view_is) (parts_stand g.D.Disk _ k.0 _ k.1 (λ doubt. doubt))
 
-pub returns-clause-backs : goal.returns-clause-backs
-returns-clause-backs g c = λ start backs.
-    let i = c.self.inside in
-    let s : Shown g.row.D.Denot = record { devices = record { journal = disk_of i.journal; slots = i.slots; root0 = i.root0; root1 = i.root1 }; detector = i.detector; pending = i.pending.items; durable = i.durable; is_broken = i.is_broken } in
-    kept_accepted g.D.Disk s c.accept.new.self c.args.named.now c.push_reserved.new.self.items start (search rules) (rw c.self.view_is backs) (search rules) (c.in_ok-accept.ensures.content c.self.invariant.whole) (search rules)
+pub returns-in-Refuse-clause-images : goal.returns-in-Refuse-clause-images
+returns-in-Refuse-clause-images g c honest = let k = c.self.invariant.stands honest in rw (← c.self.view_is) (parts_stand g.D.Disk _ k.0 _ k.1 (λ doubt. doubt))
+
+pub returns-then-len-ge-MOST_PENDING-clause-images : goal.returns-then-len-ge-MOST_PENDING-clause-images
+returns-then-len-ge-MOST_PENDING-clause-images g c honest = let k = c.self.invariant.stands honest in rw (← c.self.view_is) (parts_stand g.D.Disk _ k.0 _ k.1 (λ doubt. doubt))
+
+pub returns-in-Ok-clause-images : goal.returns-in-Ok-clause-images
+returns-in-Ok-clause-images g c honest = let k = c.self.invariant.stands honest in rw (← c.self.view_is) (images g.D.Disk g.met.D.Disk.has_its_bytes _ k.0 k.1 (search rules) c.accept.new.self.words c.accept.ensures.went)
+
+pub returns-in-Err-clause-images : goal.returns-in-Err-clause-images
+returns-in-Err-clause-images g c honest = let k = c.self.invariant.stands honest in rw (← c.self.view_is) (images g.D.Disk g.met.D.Disk.has_its_bytes _ k.0 k.1 (search rules) c.accept.new.self.words c.accept.ensures.went)
+
+pub invariant_of-self : goal.invariant_of-self
+invariant_of-self g c = record {
+  lawful = c.accept.ensures.lawful;
+  few = search rules;
+  room = search rules;
+  journal = c.self.invariant.journal;
+  words = λ works. works_on g.D.Disk _ _ c.accept.ensures.went c.in-Ok.ensures.failures (c.self.invariant.words works);
+  checkpointer = c.self.invariant.checkpointer;
+  sealed = λ rooting. c.accept.ensures.went.sealed (c.self.invariant.sealed rooting);
+  stands = λ honest.
+      let k = c.self.invariant.stands honest in (
+        k.0,
+        accepted g.D.Disk g.met.D.Disk.has_its_bytes _ k.0 k.1 (search rules) c.accept.new.self c.args.named.now _ (search rules) c.records_fit.ensures c.accept.ensures.went (c.accept.ensures.faithful k.1.faithful)
+            c.push_reserved.new.self.items (search rules) (c.in-Ok.ensures.content k.1.faithful) (c.in-Ok.ensures.sets k.1.faithful),
+      );
+}
+
+pub invariant_of-self-in-Err : goal.invariant_of-self-in-Err
+invariant_of-self-in-Err g c = record {
+  lawful = c.accept.ensures.lawful;
+  few = c.self.invariant.few;
+  room = c.self.invariant.room;
+  journal = λ _. c.self.invariant.journal (search rules);
+  words = search rules;
+  checkpointer = λ _. c.self.invariant.checkpointer (search rules);
+  sealed = λ rooting. c.accept.ensures.went.sealed (c.self.invariant.sealed rooting);
+  stands = λ honest.
+      let k = c.self.invariant.stands honest in (
+        k.0,
+        refused g.D.Disk g.met.D.Disk.has_its_bytes _ k.0 k.1 (search rules) c.accept.new.self c.args.named.now _ (search rules) c.records_fit.ensures c.accept.ensures.went (c.accept.ensures.faithful k.1.faithful)
+            _ (c.in-Err.ensures.unchanged k.1.faithful) (c.in-Err.ensures.sets k.1.faithful),
+      );
+}
+
+pub returns-in-Ok-clause-content : goal.returns-in-Ok-clause-content
+returns-in-Ok-clause-content g c honest =
+    let k = c.self.invariant.stands honest in
+    rw (← c.self.view_is) (record {
+      leads = followed_one _ c.args.named.now (search rules) ∙ ap (λ (d : Content). Some d) (sym (c.in-Ok.ensures.content k.1.faithful));
+      sets = λ _. c.in-Ok.ensures.sets k.1.faithful;
+    })
+
+pub returns-in-Err-clause-content : goal.returns-in-Err-clause-content
+returns-in-Err-clause-content g c honest =
+    let k = c.self.invariant.stands honest in
+    rw (← c.self.view_is) (record {
+      leads = ap (λ (d : Content). Some d) (sym (c.in-Err.ensures.unchanged k.1.faithful));
+      sets = λ _. c.in-Err.ensures.sets k.1.faithful;
+    })
+
+pub returns-in-Refuse-clause-device : goal.returns-in-Refuse-clause-device
+returns-in-Refuse-clause-device g c = sym (rules_call_nothing (standing_of (content (pools.live g.D.Disk) c.self.inside.detector)) c.args.named.now c.in-Refuse.refusal _ (search rules))

@@ -1,9 +1,0 @@
-pub mod Shown
-pub mod Images
-pub mod Store
-pub mod Kept
-pub mod Answers
-pub mod Steps
-pub mod Doing
-pub mod Runs
-pub mod Recovering

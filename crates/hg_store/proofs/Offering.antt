@@ -1,0 +1,52 @@
+-- A store goes on by an offer.
+use Rattle.std.proofs.Common.{◌≡◌, ◌∙◌, List, [], ◌∷◌, ◌++◌, Bool, false, All, Ok, Err, Some, None, sym, ap, subst, if◌then◌else◌}
+use Rattle.std.specs.Option.{option_and_then}
+use Rattle.hg_model.specs.declared.event.Named.{Named}
+use Rattle.hg_model.specs.declared.verdict.Refusal.{Refusal}
+use Rattle.hg_model.specs.declared.verdict.Verdict.{Verdict}
+use Rattle.hg_model.specs.declared.verdict.Verdict.TheVariants.{Accept}
+use Rattle.hg_model.specs.Contents.{Content}
+use Rattle.hg_model.specs.Change.{after, followed, is_accept}
+use Rattle.hg_model.specs.Verdicts.{standing_of, verdict}
+use Rattle.hg_records.specs.Records.{RecordFits}
+use Rattle.hg_detect.specs.Engine.{AtPresent}
+use Rattle.hg_detect.specs.Making.{AsksBy, sets_asked}
+use Rattle.hg_detect.specs.Shown as detect
+use Rattle.hg_disk.specs.State.{IsImage}
+use Rattle.hg_disk.specs.declared.disk.Disk as disk
+use Rattle.hg_pool.specs.Kept.{IsFaithful, Went}
+use Rattle.hg_pool.specs.Maps as pools
+use Rattle.hg_pool.specs.Shown as pool
+use Rattle.hg_contents.specs.Choices.{Basis}
+use Rattle.hg_contents.specs.States.{IsLawfulState}
+use Rattle.hg_contents.proofs.Following.{followed_append}
+use Rattle.hg_contents.proofs.lawful.Staying.{one_stays}
+use Rattle.hg_contents.proofs.lawful.Tables.{answered}
+use Rattle.hg_store.specs.Kept.{Parts, Standing, shown_of}
+use Rattle.hg_store.specs.Shown.{live, saved}
+use Rattle.hg_store.proofs.Going.{standing, with_detector}
+
+-- one event that is accepted
+pub followed_one : (c : Content) (n : Named) → verdict (standing_of c) n ≡ Accept → followed c (n ∷ []) ≡ Some (after c n)
+followed_one c n is = ap (λ (v : Verdict). option_and_then (λ (d : Content). Some d) (if is_accept v then Some (after c n) else None)) is
+
+module _ {D : Type 0} (g : disk.Ghosts D) (bytes : (d : D) → IsImage (g.state d) (g.state d).contents) (s : Parts D g) (basis : Basis) (is : Standing g s basis) (works : s.is_broken ≡ false)
+    (d : detect.Shown (pool.Shown D)) (n : Named) (broken : Bool) (accepts : verdict (standing_of (live g (shown_of g s))) n ≡ Accept) (fits : RecordFits n) (went : Went g s.detector.words d.words) (faithful : AtPresent (IsFaithful g) d) where
+  pub accepted : (pending : List Named) → pending ≡ s.pending ++ n ∷ [] → detect.content (pools.live g) d ≡ after (live g (shown_of g s)) n → AsksBy s.detector.sets (sets_asked (live g (shown_of g s)) n.event) (Ok tt) d.sets
+      → Standing g (with_detector g bytes s basis is works d pending broken) basis
+  accepted pending more content asks =
+      let now = live g (shown_of g s) in
+      standing g bytes s basis is works d pending broken went faithful
+      (subst IsLawfulState (sym content) (one_stays now n is.state fits accepts))
+      (answered now n s.detector.sets d.sets (Ok tt) (one_stays now n is.state fits accepts).spelled asks is.spelled)
+      (ap (λ (p : List Named). followed (saved g (shown_of g s)) p) more ∙ followed_append s.pending (n ∷ []) (saved g (shown_of g s)) now is.keeps.live
+      ∙ followed_one now n accepts ∙ ap (λ (c : Content). Some c) (sym content))
+
+  pub refused : (r : Refusal) → detect.content (pools.live g) d ≡ live g (shown_of g s) → AsksBy s.detector.sets (sets_asked (live g (shown_of g s)) n.event) (Err r) d.sets
+      → Standing g (with_detector g bytes s basis is works d s.pending broken) basis
+  refused r content asks =
+      let now = live g (shown_of g s) in
+      standing g bytes s basis is works d s.pending broken went faithful
+      (subst IsLawfulState (sym content) is.state)
+      (answered now n s.detector.sets d.sets (Err r) (one_stays now n is.state fits accepts).spelled asks is.spelled)
+      (is.keeps.live ∙ ap (λ (c : Content). Some c) (sym content))

@@ -1,0 +1,158 @@
+-- A store that is recovered: what its devices leave meanwhile, and the content that it has.
+use Rattle.std.proofs.Common.{◌≡◌, ◌⊎◌, inl, inr, ◌+◌, ◌∙◌, ℕ, List, refl, sym, ap, subst, arith}
+use Rattle.hg_model.specs.Contents.{Content}
+use Rattle.hg_model.specs.declared.event.Named.{Named}
+use Rattle.hg_model.specs.declared.verdict.Refusal.{Refusal}
+use Rattle.hg_detect.specs.Shown as detect
+use Rattle.hg_disk.specs.State.{DiskState, IsImage, settled}
+use Rattle.hg_disk.specs.Moments.{LeavesOnly}
+use Rattle.hg_disk.specs.declared.disk.Disk as disk
+use Rattle.hg_disk.proofs.Moments.{at_end, may_leave, stays, still}
+use Rattle.hg_journal.specs.Journal.{IsJournal}
+use Rattle.hg_pool.specs.Shown as pool
+use Rattle.hg_root.specs.Checkpoints.{Checkpoint, HasCheckpoint}
+use Rattle.hg_root.specs.declared.pair.RootPair.{RootPair}
+use Rattle.hg_contents.specs.Choices.{Choice, HasSlots}
+use Rattle.hg_contents.specs.Images.{Gives, HasContent, Image, LeadFrom, start_of}
+use Rattle.hg_contents.specs.Stores.{IsLeft}
+use Rattle.hg_store.specs.declared.devices.Devices.{Devices}
+use Rattle.hg_store.specs.Answers.{failed_in}
+use Rattle.hg_store.specs.Images.{EachImage, HasContentOf, HasContentOfOne, Recovers, read_of, states_of}
+use Rattle.hg_store.specs.Recovering.{CountedBy, IsRooted, Settled, Stay}
+
+-- other calls failed before
+pub counted_so : (r : Refusal) (old new a b more : ℕ) → CountedBy r old new → a ≡ old + more → b ≡ new + more → CountedBy r a b
+counted_so r old new a b more (inl is) one two = inl (omega (arith, is, one, two))
+counted_so r old new a b more (inr is) one two = inr (is.0, omega (arith, is.1, one, two))
+
+one_image : (s : DiskState) (image : List ℕ) → s ≡ settled s.contents → IsImage s image → image ≡ s.contents
+one_image s image is left =
+    let left' : IsImage (settled s.contents) image = subst (λ (t : DiskState). IsImage t image) is left in
+    left'.clean refl
+
+module _ {D : Type 0} (g : disk.Ghosts D) where
+  -- a call between equal disks
+  pub moved : (a b c d : D) (P : List ℕ → Type 0) → b ≡ a → d ≡ c → LeavesOnly g b d P → LeavesOnly g a c P
+  moved a b c d P one two leaves = subst (λ (x : D). LeavesOnly g x c P) one (subst (λ (y : D). LeavesOnly g b y P) two leaves)
+
+  -- the same, of a disk that was read
+  pub read_on : (a b c d : D) → b ≡ a → d ≡ c → LeavesOnly g b d (IsImage (g.state b)) → LeavesOnly g a c (IsImage (g.state a))
+  read_on a b c d one two leaves = subst (λ (x : D). LeavesOnly g x c (IsImage (g.state x))) one (subst (λ (y : D). LeavesOnly g b y (IsImage (g.state b))) two leaves)
+
+  module _ (old new : Devices D) (at : Settled g old old) where
+    -- the devices were read
+    pub read_alone : Stay g old new → EachImage g old new (HasContentOf (read_of g old))
+    read_alone stay = record {
+      journal = (stay.journal.later, stay.journal.has_gone);
+      slots = (stay.slots.later, stay.slots.has_gone);
+      root0 = (stay.root0.later, stay.root0.has_gone);
+      root1 = (stay.root1.later, stay.root1.has_gone);
+      each = λ image may c has.
+          let journal : image.journal ≡ (g.state old.journal).contents =
+          one_image (g.state old.journal) image.journal at.journal (may_leave g old.journal new.journal (IsImage (g.state old.journal)) image.journal stay.journal may.journal) in
+          let slots : image.slots ≡ (g.state old.slots).contents =
+          one_image (g.state old.slots) image.slots at.slots (may_leave g old.slots new.slots (IsImage (g.state old.slots)) image.slots stay.slots may.slots) in
+          let root0 : image.root0 ≡ (g.state old.root0).contents =
+          one_image (g.state old.root0) image.root0 at.root0 (may_leave g old.root0 new.root0 (IsImage (g.state old.root0)) image.root0 stay.root0 may.root0) in
+          let root1 : image.root1 ≡ (g.state old.root1).contents =
+          one_image (g.state old.root1) image.root1 at.root1 (may_leave g old.root1 new.root1 (IsImage (g.state old.root1)) image.root1 stay.root1 may.root1) in
+          let same : read_of g old ≡ image = λ i. record { journal = sym journal i; slots = sym slots i; root0 = sym root0 i; root1 = sym root1 i } in
+          subst (λ (x : Image). HasContent x c) same has;
+    }
+
+    -- the pages of a checkpoint were read, and slots that it does not name were written
+    pub with_pages : (most number : ℕ) (d : detect.Shown (pool.Shown D)) (roots : RootPair D)
+        → (rooted : IsRooted g most (g.state old.root0).contents (g.state old.root1).contents (g.state old.slots).contents d roots number)
+        → LeavesOnly g old.journal new.journal (IsImage (g.state old.journal)) → LeavesOnly g old.slots new.slots (HasSlots rooted.now)
+        → LeavesOnly g old.root0 new.root0 (IsImage (g.state old.root0)) → LeavesOnly g old.root1 new.root1 (IsImage (g.state old.root1))
+        → EachImage g old new (HasContentOf (read_of g old))
+    with_pages most number d roots rooted journal slots root0 root1 = record {
+      journal = (journal.later, journal.has_gone);
+      slots = (slots.later, slots.has_gone);
+      root0 = (root0.later, root0.has_gone);
+      root1 = (root1.later, root1.has_gone);
+      each = λ image may c has.
+          let same_journal : (g.state old.journal).contents ≡ image.journal =
+          sym (one_image (g.state old.journal) image.journal at.journal (may_leave g old.journal new.journal (IsImage (g.state old.journal)) image.journal journal may.journal)) in
+          let same_root0 : (g.state old.root0).contents ≡ image.root0 =
+          sym (one_image (g.state old.root0) image.root0 at.root0 (may_leave g old.root0 new.root0 (IsImage (g.state old.root0)) image.root0 root0 may.root0)) in
+          let same_root1 : (g.state old.root1).contents ≡ image.root1 =
+          sym (one_image (g.state old.root1) image.root1 at.root1 (may_leave g old.root1 new.root1 (IsImage (g.state old.root1)) image.root1 root1 may.root1)) in
+          let stand = may_leave g old.slots new.slots (HasSlots rooted.now) image.slots slots may.slots in
+          let before : HasCheckpoint rooted.now.checkpoint (g.state old.root0).contents (g.state old.root1).contents image.slots = record { former = rooted.now.former; newest = rooted.has_roots; stand = stand } in record {
+            checkpoint = rooted.now.checkpoint;
+            stands = subst (λ (l : List ℕ). HasCheckpoint rooted.now.checkpoint l image.root1 image.slots) same_root0
+                (subst (λ (l : List ℕ). HasCheckpoint rooted.now.checkpoint (g.state old.root0).contents l image.slots) same_root1 before);
+            events = has.events;
+            journal = subst (λ (l : List ℕ). IsJournal l has.events) same_journal has.journal;
+            gives = subst (λ (s : Content). LeadFrom s has.events c) (rooted.only has.checkpoint has.stands) has.gives;
+          };
+    }
+
+  -- each device has what it read, so it leaves that
+  pub left_self : (old mid : Devices D) → ((d : D) → IsImage (g.state d) (g.state d).contents) → Settled g old mid → IsLeft (states_of g old) (read_of g mid)
+  left_self old mid bytes at = record {
+    journal = subst (λ (l : List ℕ). IsImage (g.state old.journal) l) (sym (ap (λ (s : DiskState). s.contents) at.journal)) (bytes old.journal);
+    slots = subst (λ (l : List ℕ). IsImage (g.state old.slots) l) (sym (ap (λ (s : DiskState). s.contents) at.slots)) (bytes old.slots);
+    root0 = subst (λ (l : List ℕ). IsImage (g.state old.root0) l) (sym (ap (λ (s : DiskState). s.contents) at.root0)) (bytes old.root0);
+    root1 = subst (λ (l : List ℕ). IsImage (g.state old.root1) l) (sym (ap (λ (s : DiskState). s.contents) at.root1)) (bytes old.root1);
+  }
+
+  -- and reads what it read
+  pub reads_same : (old mid : Devices D) → Settled g old mid → read_of g mid ≡ read_of g old
+  reads_same old mid at = λ i. record {
+    journal = ap (λ (s : DiskState). s.contents) at.journal i;
+    slots = ap (λ (s : DiskState). s.contents) at.slots i;
+    root0 = ap (λ (s : DiskState). s.contents) at.root0 i;
+    root1 = ap (λ (s : DiskState). s.contents) at.root1 i;
+  }
+
+  -- an image that was there has its own content
+  of_left : (old : Devices D) (image : Image) → IsLeft (states_of g old) image → HasContentOfOne g old image
+  of_left old image left = (image, left, λ c has. has)
+
+  pub stay_images : (old new : Devices D) → Stay g old new → EachImage g old new (HasContentOfOne g old)
+  stay_images old new stay = record {
+    journal = (stay.journal.later, stay.journal.has_gone);
+    slots = (stay.slots.later, stay.slots.has_gone);
+    root0 = (stay.root0.later, stay.root0.has_gone);
+    root1 = (stay.root1.later, stay.root1.has_gone);
+    each = λ image may. of_left old image (record {
+      journal = may_leave g old.journal new.journal (IsImage (g.state old.journal)) image.journal stay.journal may.journal;
+      slots = may_leave g old.slots new.slots (IsImage (g.state old.slots)) image.slots stay.slots may.slots;
+      root0 = may_leave g old.root0 new.root0 (IsImage (g.state old.root0)) image.root0 stay.root0 may.root0;
+      root1 = may_leave g old.root1 new.root1 (IsImage (g.state old.root1)) image.root1 stay.root1 may.root1;
+    });
+  }
+
+  -- nothing was called since the sync
+  pub only_synced : (old new : Devices D) → Stay g old new → Recovers g old new
+  only_synced old new stay = record {
+    synced = new;
+    before = stay_images old new stay;
+    behind = record {
+      journal = stays g new.journal;
+      slots = stays g new.slots;
+      root0 = stays g new.root0;
+      root1 = stays g new.root1;
+      each = λ image may. of_left old image (record {
+        journal = at_end g old.journal new.journal (IsImage (g.state old.journal)) stay.journal image.journal (still g new.journal image.journal may.journal);
+        slots = at_end g old.slots new.slots (IsImage (g.state old.slots)) stay.slots image.slots (still g new.slots image.slots may.slots);
+        root0 = at_end g old.root0 new.root0 (IsImage (g.state old.root0)) stay.root0 image.root0 (still g new.root0 image.root0 may.root0);
+        root1 = at_end g old.root1 new.root1 (IsImage (g.state old.root1)) stay.root1 image.root1 (still g new.root1 image.root1 may.root1);
+      });
+    };
+  }
+
+  pub synced_first : (old mid new : Devices D) → ((d : D) → IsImage (g.state d) (g.state d).contents) → Stay g old mid → Settled g old mid → EachImage g mid new (HasContentOf (read_of g mid)) → Recovers g old new
+  synced_first old mid new bytes stay at behind = record {
+    synced = mid;
+    before = stay_images old mid stay;
+    behind = record {
+      journal = behind.journal;
+      slots = behind.slots;
+      root0 = behind.root0;
+      root1 = behind.root1;
+      each = λ image may. (read_of g mid, left_self old mid bytes at, behind.each image may);
+    };
+  }

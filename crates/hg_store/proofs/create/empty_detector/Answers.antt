@@ -1,0 +1,13 @@
+use Rattle.std.proofs.Common.{◌∙◌, length, sym, subst}
+use Rattle.hg_pool.specs.Kept.{IsFaithful}
+use Rattle.hg_pool.specs.Shown as pool
+use Rattle.hg_store.proofs.Making.{empty_faithful}
+use Rattle.hg_store.proofs.create.empty_detector.Goals as goal
+
+pub returns-in-Ok-clause-faithful : goal.returns-in-Ok-clause-faithful
+returns-in-Ok-clause-faithful g c honest =
+    let d = c.in-Ok.detector in
+    let n = length d.segments in
+    let m = length d.sets.sets in
+    subst (λ (p : pool.Shown g.row.D.Denot). IsFaithful g.D.Disk p n m) (sym (c.in-Ok.ensures.words ∙ c.in_ok-pool.ensures.pool))
+    (empty_faithful g.D.Disk c.args.file c.new.result.entries _ c.args.caps.slots c.new.ensures honest n m)

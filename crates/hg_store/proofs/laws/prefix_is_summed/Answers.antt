@@ -1,5 +1,0 @@
-use Rattle.hg_store.proofs.Remaining.{summed}
-use Rattle.hg_store.proofs.laws.prefix_is_summed.Goals as goal
-
-pub returns : goal.returns
-returns c = summed c.following_is_the_summary.ensures

@@ -1,5 +1,0 @@
-use Rattle.hg_store.proofs.Remaining as remaining
-use Rattle.hg_store.proofs.laws.remaining_give_the_same.Goals as goal
-
-pub returns : goal.returns
-returns c = remaining.remaining

@@ -1,0 +1,51 @@
+use Rattle.std.proofs.Common.{Err, sym, ap, subst}
+use Rattle.hg_model.specs.Contents.{Content}
+use Rattle.hg_model.specs.declared.verdict.Refusal.{Refusal}
+use Rattle.hg_detect.specs.Shown as detect
+use Rattle.hg_disk.specs.State.{DiskState}
+use Rattle.hg_journal.specs.Journal.{IsJournal}
+use Rattle.hg_journal.specs.Reading as journals
+use Rattle.hg_journal.proofs.Journaling.{bytes_now}
+use Rattle.hg_contents.specs.Images.{LeadFrom}
+use Rattle.hg_pool.specs.Shown as pool
+use Rattle.hg_store.specs.Recovering.{HasSets}
+use Rattle.hg_store.proofs.Making.{based, basis_of, ready}
+use Rattle.hg_store.proofs.Replaying.{content_in}
+use Rattle.hg_store.proofs.recover.caught_up.Goals as goal
+
+pub made-requires-clause-stands : goal.made-requires-clause-stands
+made-requires-clause-stands g c honest =
+    let start = c.requires.started honest in
+    let bodies = start.0 in
+    let now = start.1 in
+    let started = start.3 in
+    let old = c.args.detector in
+    let new = c.replay.new.detector in
+    let went = c.replay.ensures.went in
+    let led = c.in-Ok.ensures.replayed bodies honest start.2 started.ready.faithful in
+    let sets = c.in-Ok.ensures.sets bodies honest start.2 started.ready.faithful in
+    let stand = c.new-checkpointer.ensures.stands _ now.former started.stands in (
+      basis_of g.D.Disk led.0 now,
+      based g.D.Disk g.met.D.Disk.has_its_bytes old c.args.roots c.args.number now started new went c.replay.new.journal led.0 c.new-checkpointer.result led.1 led.2 stand c.new-checkpointer.ensures.number,
+      ready g.D.Disk g.met.D.Disk.has_its_bytes old c.args.roots c.args.number now started new went led.0 led.1.fits led.2 (c.replay.ensures.faithful started.ready.faithful) sets.events sets.is_journal.fits sets.fills,
+    )
+
+pub returns-clause-content : goal.returns-clause-content
+returns-clause-content g c now honest started =
+    let start = c.requires.started honest in
+    let new = c.replay.new.detector in
+    let led = c.in-Ok.ensures.replayed start.0 honest start.2 started.ready.faithful in
+    let stand = c.new-checkpointer.ensures.stands _ now.former started.stands in
+    let base = based g.D.Disk g.met.D.Disk.has_its_bytes c.args.detector c.args.roots c.args.number now started new c.replay.ensures.went c.replay.new.journal led.0 c.new-checkpointer.result led.1 led.2 stand c.new-checkpointer.ensures.number in
+    (_, led.0, subst (λ (s : DiskState). IsJournal s.contents led.0) c.replay.ensures.state (bytes_now g.D.Disk c.replay.new.journal led.0 led.1), base.gives, c.made.ensures.fresh (basis_of g.D.Disk led.0 now) base)
+
+pub returns-in-Err-clause-damaged : goal.returns-in-Err-clause-damaged
+returns-in-Err-clause-damaged g c now honest started told events d is gives =
+    let start = c.requires.started honest in
+    c.in-Err.ensures.damaged start.0 honest start.2 started.ready.faithful (ap (λ (r : Refusal). Err r) told) events d is (subst (λ (s : Content). LeadFrom s events d) (sym started.content) gives)
+
+pub returns-clause-sets : goal.returns-clause-sets
+returns-clause-sets g c honest =
+    let start = c.requires.started honest in
+    subst (λ (d : detect.Shown (pool.Shown g.row.D.Denot)). HasSets (content_in g.D.Disk c.args.detector) c.args.detector.sets (g.D.Disk.state (journals.disk_of c.args.journal)).contents (content_in g.D.Disk d) d.sets) (sym c.made.ensures.detector)
+    (c.in-Ok.ensures.sets start.0 honest start.2 start.3.ready.faithful)

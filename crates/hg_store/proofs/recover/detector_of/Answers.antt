@@ -1,0 +1,63 @@
+use Rattle.std.proofs.Common.{◌≡◌, ◌<◌, ◌∙◌, ℕ, All, length, Option, Some, sym, ap, subst, rules}
+use Rattle.std.specs.Prelude.{IfOk, IfSome}
+use Rattle.hg_model.specs.declared.verdict.Refusal.{Refusal}
+use Rattle.hg_model.specs.declared.verdict.Refusal.TheVariants.{Damaged}
+use Rattle.hg_detect.specs.Shown.{content}
+use Rattle.hg_pages.specs.Files.{known}
+use Rattle.hg_pool.specs.Maps.{live}
+use Rattle.hg_root.specs.Checkpoints.{Checkpoint, HasPages, root_of}
+use Rattle.hg_root.specs.Finding.{IsWholeIn, root_in}
+use Rattle.hg_root.specs.Parts.{Parts}
+use Rattle.hg_root.specs.Roots.{parts_of}
+use Rattle.hg_contents.specs.Images.{start_of}
+use Rattle.hg_recovery.specs.Restoring.{IsTrueCause}
+use Rattle.hg_store.specs.Recovering.{IsTooFew}
+use Rattle.hg_store.proofs.Making.{each_names, each_ready, first_ready, if_err, some_checkpoint}
+use Rattle.hg_store.proofs.Replaying.{on_ok}
+use Rattle.hg_store.proofs.recover.detector_of.Goals as goal
+
+pub returns-in-Some-clause-content : goal.returns-in-Some-clause-content
+returns-in-Some-clause-content g c honest o is has =
+    let root = parts_of c.in-Some.root in
+    let k = some_checkpoint o root (is ∙ ap root_in c.in-Some.is) in
+    let slots = known g.D.Disk c.args.file in
+    subst (λ (p : Option Checkpoint). IfSome p (HasPages slots) → IfOk c.restored.result (λ d. content (live g.D.Disk) d ≡ start_of p)) (sym k.1) (λ pages. c.restored.ensures.content honest k.0 k.2 pages) has
+
+pub returns-in-Some-clause-stands : goal.returns-in-Some-clause-stands
+returns-in-Some-clause-stands g c honest =
+    on_ok c.restored.result (λ has. (Some has.0, ap (λ (p : Parts). Some p) has.1 ∙ sym (ap root_in c.in-Some.is), has.2)) (c.restored.ensures.stands honest)
+
+pub returns-in-Some-clause-damaged : goal.returns-in-Some-clause-damaged
+returns-in-Some-clause-damaged g c honest =
+    let root = parts_of c.in-Some.root in
+    let slots = known g.D.Disk c.args.file in
+    if_err (λ e. IsTrueCause g.D.Disk root c.caps_of.result c.args.file e.0) (λ e. e.0 ≡ Damaged → (o : Option Checkpoint) → root_of o ≡ root_in c.args.found → ¬ IfSome o (HasPages slots)) c.restored.result
+    (λ e cause told o is has.
+    let k = some_checkpoint o root (is ∙ ap root_in c.in-Some.is) in
+    let none = subst (λ (r : Refusal). IsTrueCause g.D.Disk root c.caps_of.result c.args.file r) told cause in
+    none honest (k.0, k.2, subst (λ (p : Option Checkpoint). IfSome p (HasPages slots)) k.1 has))
+    c.restored.ensures.refusal
+
+pub returns-in-Some-clause-full : goal.returns-in-Some-clause-full
+returns-in-Some-clause-full g c =
+    let root = parts_of c.in-Some.root in
+    let sets = c.args.caps.sets in
+    let slots = c.args.caps.slots in
+    if_err (λ e. IsTrueCause g.D.Disk root c.caps_of.result c.args.file e.0) (λ e. IsTooFew sets slots (root_in c.args.found) e.0) c.restored.result
+    (λ e cause. subst (λ (o : Option Parts). IsTooFew sets slots o e.0) (sym (ap root_in c.in-Some.is)) (
+      λ told. subst (λ (n : ℕ). n < length root.sets) c.caps_of.ensures.0 (subst (λ (r : Refusal). IsTrueCause g.D.Disk root c.caps_of.result c.args.file r) told cause),
+      λ told. subst (λ (n : ℕ). ¬ All (λ p. p.slot < n) root.pages) c.caps_of.ensures.1 (subst (λ (r : Refusal). IsTrueCause g.D.Disk root c.caps_of.result c.args.file r) told cause),
+    ))
+    c.restored.ensures.refusal
+
+pub returns-in-Some-clause-ready : goal.returns-in-Some-clause-ready
+returns-in-Some-clause-ready g c honest =
+    let root = c.in-Some.root in
+    each_ready g.D.Disk root c.caps_of.result (known g.D.Disk c.args.file) (subst IsWholeIn c.in-Some.is c.requires.whole).1 c.restored.result (c.restored.ensures.stands honest) c.restored.ensures.shown (c.restored.ensures.content honest) (c.restored.ensures.faithful honest)
+
+pub returns-in-Ok-clause-ready : goal.returns-in-Ok-clause-ready
+returns-in-Ok-clause-ready g c honest = first_ready g.D.Disk c.in-Ok.detector c.args.caps.sets (search rules) (search rules) (search rules)
+
+pub returns-in-Some-clause-names : goal.returns-in-Some-clause-names
+returns-in-Some-clause-names g c o is =
+    each_names g.D.Disk c.in-Some.root c.caps_of.result o (subst IsWholeIn c.in-Some.is c.requires.whole).1 (is ∙ ap root_in c.in-Some.is) c.restored.result c.restored.ensures.shown

@@ -1,0 +1,188 @@
+use Rattle.std.proofs.Common.{◌≡◌, ◌∙◌, inl, inr, ◌+◌, ℕ, List, refl, sym, ap, subst, arith}
+use Rattle.hg_model.specs.Contents.{Content}
+use Rattle.hg_sets.specs.Interning.{Table}
+use Rattle.hg_detect.specs.Shown as detect
+use Rattle.hg_disk.specs.State.{DiskState, IsImage}
+use Rattle.hg_disk.proofs.Moments.{joined, weaker}
+use Rattle.hg_disk.proofs.Staying.{same, then}
+use Rattle.hg_journal.specs.Journal.{IsJournal}
+use Rattle.hg_journal.specs.Reading as journals
+use Rattle.hg_pages.specs.Files as files
+use Rattle.hg_pages.specs.declared.slot_file.SlotFile.{SlotFile}
+use Rattle.hg_pool.specs.Maps as pools
+use Rattle.hg_pool.specs.Shown as pool
+use Rattle.hg_root.specs.Checkpoints.{HasCheckpoint, root_of}
+use Rattle.hg_root.specs.Pairs.{first_of, second_of}
+use Rattle.hg_contents.specs.Choices.{HasSlots}
+use Rattle.hg_contents.specs.Images.{LeadFrom, start_of}
+use Rattle.hg_checkpointer.proofs.Staying.{slots_stay}
+use Rattle.hg_store.specs.declared.devices.Devices.{Devices}
+use Rattle.hg_store.specs.Images.{EachImage, HasContentOf, failures_of, read_of}
+use Rattle.hg_store.specs.Recovering.{HasSets, IsRooted, IsTooSmall, Stay, table_at}
+use Rattle.hg_store.proofs.Recovering.{counted_so, moved, read_alone, read_on, with_pages}
+use Rattle.hg_store.proofs.Rooting.{settled_leaves}
+use Rattle.hg_store.proofs.recover.recovered.Goals as goal
+
+pub returns-in-Err-clause-damaged : goal.returns-in-Err-clause-damaged
+returns-in-Err-clause-damaged g c honest told d has = c.in-Err.ensures.damaged honest told has.events has.journal
+
+pub returns-in-Err-clause-images : goal.returns-in-Err-clause-images
+returns-in-Err-clause-images g c honest =
+    let old = c.args.devices in
+    let first = c.attach-roots.ensures.first in
+    let second = c.attach-roots.ensures.second in
+    subst (λ (n : Devices g.row.D.Denot). EachImage g.D.Disk old n (HasContentOf (read_of g.D.Disk old))) (sym c.handed_back.ensures)
+    (read_alone g.D.Disk old _ c.requires.settled (record {
+      journal = c.in-Err.ensures.any_moment;
+      slots = same g.D.Disk old.slots;
+      root0 = moved g.D.Disk old.root0 old.root0 _ old.root0 (IsImage (g.D.Disk.state old.root0)) refl (sym first) (same g.D.Disk old.root0);
+      root1 = moved g.D.Disk old.root1 old.root1 _ old.root1 (IsImage (g.D.Disk.state old.root1)) refl (sym second) (same g.D.Disk old.root1);
+    }))
+
+pub caught_up-requires-clause-started : goal.caught_up-requires-clause-started
+caught_up-requires-clause-started g c honest =
+    let old = c.args.devices in
+    let opens = c.in-Ok.ensures.opens honest c.requires.settled.journal in
+    let rooted = c.in-Ok-rooted.ensures.rooted honest (g.D.Disk.state old.root0).contents (g.D.Disk.state old.root1).contents (g.D.Disk.state old.slots).contents
+    (ap (λ d. g.D.Disk.state d) c.attach-roots.ensures.first ∙ c.requires.settled.root0)
+    (ap (λ d. g.D.Disk.state d) c.attach-roots.ensures.second ∙ c.requires.settled.root1)
+    c.requires.settled.slots in
+    (opens.0, rooted.now, opens.1, rooted.started)
+
+pub returns-in-Ok-caught_up-clause-content : goal.returns-in-Ok-caught_up-clause-content
+returns-in-Ok-caught_up-clause-content g c honest =
+    let old = c.args.devices in
+    let rooted = c.in-Ok-rooted.ensures.rooted honest (g.D.Disk.state old.root0).contents (g.D.Disk.state old.root1).contents (g.D.Disk.state old.slots).contents
+    (ap (λ d. g.D.Disk.state d) c.attach-roots.ensures.first ∙ c.requires.settled.root0)
+    (ap (λ d. g.D.Disk.state d) c.attach-roots.ensures.second ∙ c.requires.settled.root1)
+    c.requires.settled.slots in
+    let has = c.in-Ok-caught_up.ensures.content rooted.now honest rooted.started in (
+      has.0,
+      record {
+        checkpoint = rooted.now.checkpoint;
+        stands = record { former = rooted.now.former; newest = rooted.has_roots; stand = rooted.has_slots };
+        events = has.1;
+        journal = subst (λ (s : DiskState). IsJournal s.contents has.1) c.in-Ok.ensures.state has.2;
+        gives = has.3;
+      },
+      has.4,
+    )
+
+pub returns-in-Ok-caught_up-clause-sets : goal.returns-in-Ok-caught_up-clause-sets
+returns-in-Ok-caught_up-clause-sets g c honest =
+    let old = c.args.devices in
+    let store = c.in-Ok-caught_up.store in
+    let rooted = c.in-Ok-rooted.ensures.rooted honest (g.D.Disk.state old.root0).contents (g.D.Disk.state old.root1).contents (g.D.Disk.state old.slots).contents
+    (ap (λ d. g.D.Disk.state d) c.attach-roots.ensures.first ∙ c.requires.settled.root0)
+    (ap (λ d. g.D.Disk.state d) c.attach-roots.ensures.second ∙ c.requires.settled.root1)
+    c.requires.settled.slots in
+    let live = detect.content (pools.live g.D.Disk) store.detector in
+    record {
+      checkpoint = rooted.now.checkpoint;
+      stands = record { former = rooted.now.former; newest = rooted.has_roots; stand = rooted.has_slots };
+      sets = subst (λ (s : Content). HasSets s (table_at c.args.caps.sets (root_of rooted.now.checkpoint)) (g.D.Disk.state old.journal).contents live store.detector.sets) rooted.started.content
+          (subst (λ (t : Table). HasSets (detect.content (pools.live g.D.Disk) c.in-Ok-rooted.detector) t (g.D.Disk.state old.journal).contents live store.detector.sets) rooted.sets
+          (subst (λ (s : DiskState). HasSets (detect.content (pools.live g.D.Disk) c.in-Ok-rooted.detector) c.in-Ok-rooted.detector.sets s.contents live store.detector.sets) c.in-Ok.ensures.state
+          (c.in-Ok-caught_up.ensures.sets honest)));
+    }
+
+pub returns-in-Ok-caught_up-clause-images : goal.returns-in-Ok-caught_up-clause-images
+returns-in-Ok-caught_up-clause-images g c honest =
+    let old = c.args.devices in
+    let new = c.in-Ok-caught_up.store.devices in
+    let rooted = c.in-Ok-rooted.ensures.rooted honest (g.D.Disk.state old.root0).contents (g.D.Disk.state old.root1).contents (g.D.Disk.state old.slots).contents
+    (ap (λ d. g.D.Disk.state d) c.attach-roots.ensures.first ∙ c.requires.settled.root0)
+    (ap (λ d. g.D.Disk.state d) c.attach-roots.ensures.second ∙ c.requires.settled.root1)
+    c.requires.settled.slots in
+    let words = c.in-Ok-rooted.detector.words in
+    let P = HasSlots rooted.now in
+    with_pages g.D.Disk old new c.requires.settled c.args.caps.sets c.in-Ok-rooted.number c.in-Ok-rooted.detector c.in-Ok-rooted.roots rooted
+    (then g.D.Disk old.journal (journals.disk_of c.in-Ok.journal) new.journal c.in-Ok.ensures.any_moment c.in-Ok-caught_up.ensures.journal)
+    (moved g.D.Disk old.slots old.slots new.slots (pools.disk_of c.in-Ok-caught_up.store.detector.words) P refl (sym c.in-Ok-caught_up.ensures.slots)
+    (joined g.D.Disk old.slots (pools.disk_of words) (pools.disk_of c.in-Ok-caught_up.store.detector.words) P
+    (weaker g.D.Disk old.slots (pools.disk_of words) (IsImage (g.D.Disk.state old.slots)) P c.in-Ok-rooted.ensures.any_moment (settled_leaves P (g.D.Disk.state old.slots).contents (g.D.Disk.state old.slots) c.requires.settled.slots rooted.has_slots))
+    (slots_stay g.D.Disk g.met.D.Disk.has_its_bytes words c.in-Ok-caught_up.store.detector.words rooted.now.checkpoint rooted.now.former c.in-Ok-caught_up.ensures.went rooted.started.names rooted.started.slots)))
+    (read_on g.D.Disk old.root0 (first_of c.attach-roots.result) new.root0 (first_of c.in-Ok-rooted.roots) c.attach-roots.ensures.first (sym c.in-Ok-caught_up.ensures.first) c.in-Ok-rooted.ensures.first.any_moment)
+    (read_on g.D.Disk old.root1 (second_of c.attach-roots.result) new.root1 (second_of c.in-Ok-rooted.roots) c.attach-roots.ensures.second (sym c.in-Ok-caught_up.ensures.second) c.in-Ok-rooted.ensures.second.any_moment)
+
+pub returns-in-Err-caught_up-clause-damaged : goal.returns-in-Err-caught_up-clause-damaged
+returns-in-Err-caught_up-clause-damaged g c honest told d has =
+    let old = c.args.devices in
+    let rooted = c.in-Ok-rooted.ensures.rooted honest (g.D.Disk.state old.root0).contents (g.D.Disk.state old.root1).contents (g.D.Disk.state old.slots).contents
+    (ap (λ d. g.D.Disk.state d) c.attach-roots.ensures.first ∙ c.requires.settled.root0)
+    (ap (λ d. g.D.Disk.state d) c.attach-roots.ensures.second ∙ c.requires.settled.root1)
+    c.requires.settled.slots in
+    c.in-Err-caught_up.ensures.damaged rooted.now honest rooted.started told has.events d
+    (subst (λ (s : DiskState). IsJournal s.contents has.events) (sym c.in-Ok.ensures.state) has.journal)
+    (subst (λ (s : Content). LeadFrom s has.events d) (rooted.only has.checkpoint has.stands) has.gives)
+
+pub returns-in-Err-caught_up-clause-full : goal.returns-in-Err-caught_up-clause-full
+returns-in-Err-caught_up-clause-full g c honest told =
+    let old = c.args.devices in
+    let rooted = c.in-Ok-rooted.ensures.rooted honest (g.D.Disk.state old.root0).contents (g.D.Disk.state old.root1).contents (g.D.Disk.state old.slots).contents
+    (ap (λ d. g.D.Disk.state d) c.attach-roots.ensures.first ∙ c.requires.settled.root0)
+    (ap (λ d. g.D.Disk.state d) c.attach-roots.ensures.second ∙ c.requires.settled.root1)
+    c.requires.settled.slots in
+    inr (
+      rooted.now.checkpoint,
+      record { former = rooted.now.former; newest = rooted.has_roots; stand = rooted.has_slots },
+      subst (λ (s : Content). IsTooSmall s (table_at c.args.caps.sets (root_of rooted.now.checkpoint)) (g.D.Disk.state old.journal).contents) rooted.started.content
+          (subst (λ (t : Table). IsTooSmall (detect.content (pools.live g.D.Disk) c.in-Ok-rooted.detector) t (g.D.Disk.state old.journal).contents) rooted.sets
+          (subst (λ (s : DiskState). IsTooSmall (detect.content (pools.live g.D.Disk) c.in-Ok-rooted.detector) c.in-Ok-rooted.detector.sets s.contents) c.in-Ok.ensures.state
+          (c.in-Err-caught_up.ensures.full honest told))),
+    )
+
+pub returns-in-Err-caught_up-clause-device : goal.returns-in-Err-caught_up-clause-device
+returns-in-Err-caught_up-clause-device g c =
+    let first = first_of c.in-Ok-rooted.roots in
+    let second = second_of c.in-Ok-rooted.roots in
+    let opened = c.in-Ok.ensures.device in
+    let found = c.in-Ok-rooted.ensures.device in
+    let one = ap (λ d. g.D.Disk.failures d) c.attach-roots.ensures.first in
+    let two = ap (λ d. g.D.Disk.failures d) c.attach-roots.ensures.second in
+    let handed = ap (λ (n : Devices g.row.D.Denot). failures_of g.D.Disk n) c.handed_back-in-Err-caught_up.ensures in
+    let journal = ap (λ d. g.D.Disk.failures d) c.into_disk.ensures in
+    let slots = ap (λ d. g.D.Disk.failures d) (c.into_disks-slots.ensures ∙ ap (λ (f : SlotFile g.row.D.Denot). files.disk_of f) (c.into_disks.ensures ∙ ap (λ (w : pool.Shown g.row.D.Denot). w.file) c.into_words.ensures)) in
+    let still_one = ap (λ d. g.D.Disk.failures d) c.in-Err-caught_up.ensures.first in
+    let still_two = ap (λ d. g.D.Disk.failures d) c.in-Err-caught_up.ensures.second in
+    counted_so c.in-Err-caught_up.refusal _ _ _ _ (g.D.Disk.failures first + g.D.Disk.failures second) c.in-Err-caught_up.ensures.device (omega (arith, opened, found, one, two)) (omega (arith, handed, journal, slots, still_one, still_two))
+
+pub returns-in-Err-caught_up-clause-images : goal.returns-in-Err-caught_up-clause-images
+returns-in-Err-caught_up-clause-images g c honest =
+    let old = c.args.devices in
+    let rooted = c.in-Ok-rooted.ensures.rooted honest (g.D.Disk.state old.root0).contents (g.D.Disk.state old.root1).contents (g.D.Disk.state old.slots).contents
+    (ap (λ d. g.D.Disk.state d) c.attach-roots.ensures.first ∙ c.requires.settled.root0)
+    (ap (λ d. g.D.Disk.state d) c.attach-roots.ensures.second ∙ c.requires.settled.root1)
+    c.requires.settled.slots in
+    let words = c.in-Ok-rooted.detector.words in
+    let now = c.in-Err-caught_up.detector.words in
+    let P = HasSlots rooted.now in
+    subst (λ (n : Devices g.row.D.Denot). EachImage g.D.Disk old n (HasContentOf (read_of g.D.Disk old))) (sym c.handed_back-in-Err-caught_up.ensures)
+    (with_pages g.D.Disk old _ c.requires.settled c.args.caps.sets c.in-Ok-rooted.number c.in-Ok-rooted.detector c.in-Ok-rooted.roots rooted
+    (moved g.D.Disk old.journal old.journal _ (journals.disk_of c.in-Err-caught_up.journal) (IsImage (g.D.Disk.state old.journal)) refl (sym c.into_disk.ensures)
+    (then g.D.Disk old.journal (journals.disk_of c.in-Ok.journal) (journals.disk_of c.in-Err-caught_up.journal) c.in-Ok.ensures.any_moment c.in-Err-caught_up.ensures.journal))
+    (moved g.D.Disk old.slots old.slots _ (pools.disk_of now) P refl
+    (sym (c.into_disks-slots.ensures ∙ ap (λ (f : SlotFile g.row.D.Denot). files.disk_of f) (c.into_disks.ensures ∙ ap (λ (w : pool.Shown g.row.D.Denot). w.file) c.into_words.ensures)))
+    (joined g.D.Disk old.slots (pools.disk_of words) (pools.disk_of now) P
+    (weaker g.D.Disk old.slots (pools.disk_of words) (IsImage (g.D.Disk.state old.slots)) P c.in-Ok-rooted.ensures.any_moment (settled_leaves P (g.D.Disk.state old.slots).contents (g.D.Disk.state old.slots) c.requires.settled.slots rooted.has_slots))
+    (slots_stay g.D.Disk g.met.D.Disk.has_its_bytes words now rooted.now.checkpoint rooted.now.former c.in-Err-caught_up.ensures.went rooted.started.names rooted.started.slots)))
+    (read_on g.D.Disk old.root0 (first_of c.attach-roots.result) _ (first_of c.in-Ok-rooted.roots) c.attach-roots.ensures.first (sym c.in-Err-caught_up.ensures.first) c.in-Ok-rooted.ensures.first.any_moment)
+    (read_on g.D.Disk old.root1 (second_of c.attach-roots.result) _ (second_of c.in-Ok-rooted.roots) c.attach-roots.ensures.second (sym c.in-Err-caught_up.ensures.second) c.in-Ok-rooted.ensures.second.any_moment))
+
+pub returns-in-Err-rooted-clause-damaged : goal.returns-in-Err-rooted-clause-damaged
+returns-in-Err-rooted-clause-damaged g c honest told d has =
+    let old = c.args.devices in
+    c.in-Err-rooted.ensures.damaged honest told has.checkpoint
+    (subst (λ x. HasCheckpoint has.checkpoint (g.D.Disk.state x).contents (g.D.Disk.state (second_of c.attach-roots.result)).contents (g.D.Disk.state old.slots).contents) (sym c.attach-roots.ensures.first)
+    (subst (λ x. HasCheckpoint has.checkpoint (g.D.Disk.state old.root0).contents (g.D.Disk.state x).contents (g.D.Disk.state old.slots).contents) (sym c.attach-roots.ensures.second) has.stands))
+
+pub returns-in-Err-rooted-clause-images : goal.returns-in-Err-rooted-clause-images
+returns-in-Err-rooted-clause-images g c honest =
+    let old = c.args.devices in
+    subst (λ (n : Devices g.row.D.Denot). EachImage g.D.Disk old n (HasContentOf (read_of g.D.Disk old))) (sym c.handed_back-in-Err-rooted.ensures)
+    (read_alone g.D.Disk old _ c.requires.settled (record {
+      journal = moved g.D.Disk old.journal old.journal _ (journals.disk_of c.in-Ok.journal) (IsImage (g.D.Disk.state old.journal)) refl (sym c.into_disk-in-Err-rooted.ensures) c.in-Ok.ensures.any_moment;
+      slots = c.in-Err-rooted.ensures.any_moment;
+      root0 = read_on g.D.Disk old.root0 (first_of c.attach-roots.result) _ (first_of c.in-Err-rooted.roots) c.attach-roots.ensures.first refl c.in-Err-rooted.ensures.first.any_moment;
+      root1 = read_on g.D.Disk old.root1 (second_of c.attach-roots.result) _ (second_of c.in-Err-rooted.roots) c.attach-roots.ensures.second refl c.in-Err-rooted.ensures.second.any_moment;
+    }))

@@ -1,0 +1,54 @@
+use Rattle.std.proofs.Common.{◌≡◌, ◌∙◌, ℕ, List, Bool, cond, Err, Option, Some, None, Result, false, sym, ap, subst, rules}
+use Rattle.std.specs.Prelude.{IfErr, IfSome}
+use Rattle.hg_model.specs.declared.verdict.Refusal.{Refusal}
+use Rattle.hg_model.specs.declared.verdict.Refusal.TheVariants.{FullSets, FullSlots}
+use Rattle.hg_disk.specs.State.{DiskState, settled}
+use Rattle.hg_pages.specs.Files as files
+use Rattle.hg_pages.specs.declared.slot_file.SlotFile.{SlotFile}
+use Rattle.hg_root.specs.Checkpoints.{Checkpoint, HasCheckpoint, HasPages, LieWithin, root_of}
+use Rattle.hg_root.specs.Finding.{root_in}
+use Rattle.hg_root.specs.Newest.{IsNewest}
+use Rattle.hg_root.specs.Parts.{Parts}
+use Rattle.hg_root.specs.Pairs.{first_bytes, first_of, second_bytes, second_of}
+use Rattle.hg_store.specs.Recovering.{HasNoRoom}
+use Rattle.hg_store.proofs.Rooting.{no_room, rooted_so, settled_reads}
+use Rattle.hg_store.proofs.recover.rooted.Goals as goal
+
+pub returns-in-Err-clause-damaged : goal.returns-in-Err-clause-damaged
+returns-in-Err-clause-damaged g c honest told cp is =
+    c.in-Err.ensures.damaged honest (ap (λ (r : Refusal). Err r) told) cp
+    (subst (λ d. HasCheckpoint cp (first_bytes g.D.Disk c.args.roots) (second_bytes g.D.Disk c.args.roots) (g.D.Disk.state d).contents) (sym c.attach-file.ensures.disk) is)
+
+pub returns-in-Ok-detector_of-clause-rooted : goal.returns-in-Ok-detector_of-clause-rooted
+returns-in-Ok-detector_of-clause-rooted g c honest one other bytes first second at =
+    let file = c.attach-file.result in
+    let found = root_in c.in-Ok.found in
+    let roots = c.args.roots in
+    let st = c.in-Ok.ensures.stands honest one other first second in
+    let made = c.in-Ok-detector_of.ensures.stands honest in
+    let known : files.known g.D.Disk file ≡ bytes =
+    ap (λ (b : Bool). cond b (g.D.Disk.state file.before.value).contents (g.D.Disk.state file.disk).contents) c.attach-file.ensures.works
+    ∙ ap (λ d. (g.D.Disk.state d).contents) c.attach-file.ensures.disk ∙ settled_reads bytes _ at in
+    let read : (g.D.Disk.state (files.disk_of file)).contents ≡ bytes = ap (λ d. (g.D.Disk.state d).contents) c.attach-file.ensures.disk ∙ settled_reads bytes _ at in
+    rooted_so g.D.Disk c.args.caps.sets one other bytes found st.0 made.0 c.in-Ok-detector_of.detector c.standing.new.roots c.number_of-number.result made.1 st.2
+    (subst (λ (l : List ℕ). IfSome st.0 (LieWithin l)) read st.3)
+    (subst (λ (l : List ℕ). IfSome made.0 (HasPages l)) known made.2)
+    (λ root f is. c.in-Ok.ensures.only honest root f (subst (λ (l : List ℕ). IsNewest root f l (second_bytes g.D.Disk roots)) (sym (settled_reads one _ first)) (subst (λ (l : List ℕ). IsNewest root f one l) (sym (settled_reads other _ second)) is)))
+    st.1 c.number_of-number.ensures
+    (c.in-Ok-detector_of.ensures.state ∙ ap (λ d. g.D.Disk.state d) c.attach-file.ensures.disk ∙ at)
+    (c.in-Ok-detector_of.ensures.names made.0 made.1)
+    (c.in-Ok-detector_of.ensures.content honest made.0 made.1 made.2)
+    (c.in-Ok-detector_of.ensures.ready honest)
+    c.in-Ok-detector_of.ensures.sets
+
+pub returns-in-Err-detector_of-clause-damaged : goal.returns-in-Err-detector_of-clause-damaged
+returns-in-Err-detector_of-clause-damaged g c honest told cp is =
+    let file = c.attach-file.result in
+    let known : files.known g.D.Disk file ≡ (g.D.Disk.state c.args.slots).contents =
+    ap (λ (b : Bool). cond b (g.D.Disk.state file.before.value).contents (g.D.Disk.state file.disk).contents) c.attach-file.ensures.works ∙ ap (λ d. (g.D.Disk.state d).contents) c.attach-file.ensures.disk in
+    c.in-Err-detector_of.ensures.damaged honest told cp (c.in-Ok.ensures.only honest (root_of cp) is.former is.newest) (subst (λ (l : List ℕ). IfSome cp (HasPages l)) (sym known) is.stand.0)
+
+pub returns-in-Err-detector_of-clause-full : goal.returns-in-Err-detector_of-clause-full
+returns-in-Err-detector_of-clause-full g c honest =
+    let st = c.in-Ok.ensures.found honest in
+    no_room c.args.caps.sets c.args.caps.slots (first_bytes g.D.Disk c.args.roots) (second_bytes g.D.Disk c.args.roots) (root_in c.in-Ok.found) st.0 _ st.1 c.in-Err-detector_of.ensures.full

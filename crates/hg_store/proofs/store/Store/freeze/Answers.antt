@@ -1,0 +1,51 @@
+use Rattle.std.proofs.Common.{◌≡◌, ◌∙◌, ◌+◌, false, length, ℕ, List, rules, subst, sym, ap}
+use Rattle.hg_checkpointer.specs.declared.phase.Phase.{Phase}
+use Rattle.hg_pages.specs.Files as files
+use Rattle.hg_pages.specs.declared.slot_file.SlotFile.{SlotFile}
+use Rattle.hg_recovery.specs.Capturing.{parts_with}
+use Rattle.hg_store.specs.Shown.{phase_by}
+use Rattle.hg_store.specs.declared.steps.StorePhase.TheVariants as store
+use Rattle.hg_store.specs.Kept.{is_rooting}
+use Rattle.hg_pool.specs.Kept.{AreWithin}
+use Rattle.hg_pool.specs.Maps.{live}
+use Rattle.hg_pool.specs.declared.frame.Frame.{Frame}
+use Rattle.hg_contents.proofs.lawful.Staying.{fits_a_root}
+use Rattle.hg_store.proofs.Freezing.{draft_of, frozen_as, head, idle_phase, known, now}
+use Rattle.hg_store.proofs.Staying.{same_content}
+use Rattle.hg_store.proofs.store.Store.freeze.Goals as goal
+
+pub returns-in-Ok-freeze-clause-live : goal.returns-in-Ok-freeze-clause-live
+returns-in-Ok-freeze-clause-live g c honest =
+    rw (← c.self.view_is) (same_content g.D.Disk c.self.inside.detector c.freeze.new.pool (rw c.words_mut.ensures.value at c.freeze.ensures.live))
+
+pub invariant_of-self : goal.invariant_of-self
+invariant_of-self g c =
+    let pool = rw c.words_mut.ensures.value at c.freeze.ensures.pool in
+    let rests : phase_by c.self.inside.checkpointer.phase c.self.inside.pending.items ≡ store.Idle = search rules in
+    let none = (idle_phase c.self.inside.checkpointer.phase c.self.inside.pending.items rests).1 in
+    let is_next : c.number-number.result + 1 ≡ c.self.inside.checkpointer.number + 1 = search rules in
+    record {
+      lawful = subst (λ (f : List (ℕ × Frame)). AreWithin f (length c.self.inside.detector.segments) (length c.self.inside.detector.sets.sets)) (sym pool.2) c.self.invariant.lawful;
+      few = c.self.invariant.few;
+      room = c.self.invariant.room;
+      journal = c.self.invariant.journal;
+      words = λ works. ap (λ (f : SlotFile g.row.D.Denot). files.is_broken f) pool.1 ∙ c.self.invariant.words works;
+      checkpointer = λ works. c.freeze.ensures.rest.3 ∙ c.self.invariant.checkpointer works;
+      sealed = λ rooting. absurd (cc (sym (ap (λ (p : Phase). is_rooting p) c.in-Ok-freeze.ensures.frozen) ∙ rooting));
+      stands = λ honest.
+          let k = c.self.invariant.stands honest in
+          let works : c.self.inside.is_broken ≡ false = search rules in
+          let w = k.1.works works in
+          let whole = rw c.words_mut.ensures.value at c.freeze.ensures.whole in
+          let on = rw c.words_mut.ensures.value at c.freeze.ensures.stands in
+          let draft = rw c.words_mut.ensures.value at c.in-Ok-freeze.ensures.draft in
+          let same = rw c.words_mut.ensures.value at c.freeze.ensures.live in
+          let fits = fits_a_root (live g.D.Disk) c.self.inside.detector k.1.state c.kept_reports-kept.ensures.sets k.1.spelled c.kept_reports-kept.ensures.named in
+          let number = c.number-number.result + 1 in
+          let drafted = draft k.0.now.checkpoint (parts_with number (now g.D.Disk _ k.0 k.1 works)) k.1.faithful.whole
+          (head g.D.Disk _ k.0 k.1 works c.in-Ok.head number c.in-Ok.ensures.text (c.in-Ok.ensures.lawful fits) is_next) (known g.D.Disk _ k.0 k.1 works number) in (
+            k.0,
+            frozen_as g.D.Disk _ k.0 k.1 works c.freeze.new.self c.freeze.new.pool same (whole k.1.faithful.whole) pool.1 c.freeze.ensures.rest.0 c.of-frozen.result.value c.self.inside.is_broken (search rules) none c.in-Ok-freeze.ensures.frozen c.freeze.ensures.rest.2
+                (on k.0.now.checkpoint k.0.now.former w.stands) (draft_of g.D.Disk c.freeze.new.self c.freeze.new.pool k.0.now.checkpoint (now g.D.Disk _ k.0 k.1 works) number c.in-Ok-freeze.ensures.head.1 drafted),
+          );
+    }

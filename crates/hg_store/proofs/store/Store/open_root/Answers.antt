@@ -1,0 +1,100 @@
+use Rattle.std.proofs.Common.{◌≡◌, ◌∙◌, false, true, length, ℕ, List, IsTrue, rules, subst, sym, ap}
+use Rattle.hg_checkpointer.specs.declared.phase.Phase.{Phase}
+use Rattle.hg_checkpointer.specs.declared.phase.Phase.TheVariants as phase
+use Rattle.hg_pool.specs.Kept.{AreWithin}
+use Rattle.hg_pool.specs.Maps.{disk_of, is_broken, live}
+use Rattle.hg_pool.specs.Shown.{Shown as Pool}
+use Rattle.hg_pool.specs.declared.frame.Frame.{Frame}
+use Rattle.hg_store.specs.Kept.{is_rooting}
+use Rattle.hg_store.proofs.Backing.{parts_stand}
+use Rattle.hg_store.proofs.Going.{progress_at}
+use Rattle.hg_store.proofs.Opening.{at_opened, failed_as, has_opened, images_as, opening, succeeded_as}
+use Rattle.hg_store.proofs.Staying.{same_content, same_images_as}
+use Rattle.hg_store.proofs.store.Store.open_root.Goals as goal
+
+pub returns-then-self-clause-images : goal.returns-then-self-clause-images
+returns-then-self-clause-images g c honest = let k = c.self.invariant.stands honest in rw (← c.self.view_is) (parts_stand g.D.Disk _ k.0 _ k.1 (λ doubt. doubt))
+
+pub returns-in-Ok-clause-images : goal.returns-in-Ok-clause-images
+returns-in-Ok-clause-images g c honest =
+    let k = c.self.invariant.stands honest in
+    let works : c.self.inside.is_broken ≡ false = search rules in
+    let w = k.1.works works in
+    let r = progress_at g.D.Disk _ k.0 k.1 works phase.Written c.in-Ok.ensures.phase.1 in
+    let same = rw c.words_mut.ensures.value at c.in-Ok.ensures.pool in
+    let each = rw c.words_mut.ensures.value at c.open_root.ensures.any_moment in
+    rw (← c.self.view_is) (images_as g.D.Disk _ k.0 k.1 works r c.open_root.new.self c.open_root.new.pool (ap (λ (p : Pool g.row.D.Denot). disk_of p) same) (each k.0.now.checkpoint k.0.now.former r.next w.stands r.is_next))
+
+pub returns-in-Ok-clause-checkpoint : goal.returns-in-Ok-clause-checkpoint
+returns-in-Ok-clause-checkpoint g c honest =
+    let k = c.self.invariant.stands honest in
+    let works : c.self.inside.is_broken ≡ false = search rules in
+    let w = k.1.works works in
+    let r = progress_at g.D.Disk _ k.0 k.1 works phase.Written c.in-Ok.ensures.phase.1 in
+    let same = rw c.words_mut.ensures.value at c.in-Ok.ensures.pool in
+    let from = rw c.words_mut.ensures.value at c.in-Ok.ensures.stands in
+    rw (← c.self.view_is) (has_opened g.D.Disk _ k.0 k.1 works r c.open_root.new.self c.open_root.new.pool c.in-Ok.number same c.in-Ok.ensures.opened c.in-Ok.ensures.number.0 (from k.0.now.checkpoint k.0.now.former r.next w.stands r.is_next))
+
+pub returns-in-Ok-clause-live : goal.returns-in-Ok-clause-live
+returns-in-Ok-clause-live g c =
+    let same = rw c.words_mut.ensures.value at c.in-Ok.ensures.pool in
+    rw (← c.self.view_is) (same_content g.D.Disk c.self.inside.detector c.open_root.new.pool (λ word. ap (λ (p : Pool g.row.D.Denot). live g.D.Disk p word) same))
+
+pub returns-in-Err-WrongPhase-clause-images : goal.returns-in-Err-WrongPhase-clause-images
+returns-in-Err-WrongPhase-clause-images g c honest =
+    let k = c.self.invariant.stands honest in
+    let same = c.in-Err-WrongPhase.ensures.same_pool ∙ c.words_mut.ensures.value in
+    rw (← c.self.view_is) (same_images_as g.D.Disk _ k.0 k.1 c.open_root.new.self c.open_root.new.pool (search rules) same)
+
+pub returns-in-Err-Refused-clause-images : goal.returns-in-Err-Refused-clause-images
+returns-in-Err-Refused-clause-images g c honest =
+    let k = c.self.invariant.stands honest in
+    let works : c.self.inside.is_broken ≡ false = search rules in
+    let w = k.1.works works in
+    let r = progress_at g.D.Disk _ k.0 k.1 works phase.Written (search rules) in
+    let same = c.in-Err-Refused.ensures.same_pool ∙ c.words_mut.ensures.value in
+    let each = rw c.words_mut.ensures.value at c.open_root.ensures.any_moment in
+    rw (← c.self.view_is) (images_as g.D.Disk _ k.0 k.1 works r c.open_root.new.self c.open_root.new.pool (ap (λ (p : Pool g.row.D.Denot). disk_of p) same) (each k.0.now.checkpoint k.0.now.former r.next w.stands r.is_next))
+
+pub invariant_of-self : goal.invariant_of-self
+invariant_of-self g c =
+    let same = rw c.words_mut.ensures.value at c.in-Ok.ensures.pool in
+    let frames : c.open_root.new.pool.frames ≡ c.self.inside.detector.words.frames = ap (λ (p : Pool g.row.D.Denot). p.frames) same in
+    let broken : is_broken c.open_root.new.pool ≡ is_broken c.self.inside.detector.words = ap (λ (p : Pool g.row.D.Denot). is_broken p) same in
+    record {
+      lawful = subst (λ (f : List (ℕ × Frame)). AreWithin f (length c.self.inside.detector.segments) (length c.self.inside.detector.sets.sets)) (sym frames) c.self.invariant.lawful;
+      few = c.self.invariant.few;
+      room = c.self.invariant.room;
+      journal = c.self.invariant.journal;
+      words = λ works. broken ∙ c.self.invariant.words works;
+      checkpointer = λ _. c.in-Ok.ensures.works;
+      sealed = λ rooting. absurd (cc (sym (ap (λ (p : Phase). is_rooting p) c.in-Ok.ensures.opened) ∙ rooting));
+      stands = λ honest.
+          let k = c.self.invariant.stands honest in
+          let works : c.self.inside.is_broken ≡ false = search rules in
+          let w = k.1.works works in
+          let r = progress_at g.D.Disk _ k.0 k.1 works phase.Written c.in-Ok.ensures.phase.1 in
+          let from = rw c.words_mut.ensures.value at c.in-Ok.ensures.stands in
+          (at_opened g.D.Disk _ k.0 k.1 works r, succeeded_as g.D.Disk _ k.0 k.1 works r c.open_root.new.self c.open_root.new.pool c.self.inside.is_broken same c.in-Ok.ensures.opened c.in-Ok.ensures.number.1 (from k.0.now.checkpoint k.0.now.former r.next w.stands r.is_next));
+    }
+
+pub invariant_of-self-in-Err-Refused : goal.invariant_of-self-in-Err-Refused
+invariant_of-self-in-Err-Refused g c =
+    let same = c.in-Err-Refused.ensures.same_pool ∙ c.words_mut.ensures.value in
+    let frames : c.open_root.new.pool.frames ≡ c.self.inside.detector.words.frames = ap (λ (p : Pool g.row.D.Denot). p.frames) same in
+    record {
+      lawful = subst (λ (f : List (ℕ × Frame)). AreWithin f (length c.self.inside.detector.segments) (length c.self.inside.detector.sets.sets)) (sym frames) c.self.invariant.lawful;
+      few = c.self.invariant.few;
+      room = c.self.invariant.room;
+      journal = λ no. absurd (cc no);
+      words = λ no. absurd (cc no);
+      checkpointer = λ no. absurd (cc no);
+      sealed = λ rooting. subst (λ (p : Pool g.row.D.Denot). IsTrue p.is_sealed) (sym same) (c.self.invariant.sealed (subst (λ (p : Phase). is_rooting p ≡ true) c.in-Err-Refused.ensures.refused_phase rooting));
+      stands = λ honest.
+          let k = c.self.invariant.stands honest in
+          let works : c.self.inside.is_broken ≡ false = search rules in
+          let w = k.1.works works in
+          let r = progress_at g.D.Disk _ k.0 k.1 works phase.Written (search rules) in
+          let each = rw c.words_mut.ensures.value at c.open_root.ensures.any_moment in
+          (opening g.D.Disk _ k.0 k.1 works r, failed_as g.D.Disk _ k.0 k.1 works r c.open_root.new.self c.open_root.new.pool same (each k.0.now.checkpoint k.0.now.former r.next w.stands r.is_next));
+    }

@@ -1,0 +1,69 @@
+use Rattle.std.proofs.Common.{◌≡◌, false, true, rules, subst, inl}
+use Rattle.hg_checkpointer.specs.declared.phase.Phase.{Phase}
+use Rattle.hg_checkpointer.specs.declared.phase.Phase.TheVariants as phase
+use Rattle.hg_store.proofs.Going.{progress_at}
+use Rattle.hg_root.specs.Checkpoints.{root_of}
+use Rattle.hg_store.specs.Kept.{is_rooting}
+use Rattle.hg_store.proofs.Backing.{parts_stand}
+use Rattle.hg_store.proofs.Checkpointing.{rooted, rooting_failed, roots_images}
+use Rattle.hg_store.proofs.store.Store.prepare_root.Goals as goal
+
+pub returns-then-self-clause-images : goal.returns-then-self-clause-images
+returns-then-self-clause-images g c honest = let k = c.self.invariant.stands honest in rw (← c.self.view_is) (parts_stand g.D.Disk _ k.0 _ k.1 (λ doubt. doubt))
+
+pub returns-in-Ok-clause-images : goal.returns-in-Ok-clause-images
+returns-in-Ok-clause-images g c honest =
+    let k = c.self.invariant.stands honest in
+    let w = k.1.works (search rules) in
+    rw (← c.self.view_is) (roots_images g.D.Disk _ k.0 k.1 g.met.D.Disk.has_its_bytes c.prepare_root.new.self (c.prepare_root.ensures.any_moment k.0.now.checkpoint k.0.now.former w.stands.roots))
+
+pub returns-in-Err-WrongPhase-clause-images : goal.returns-in-Err-WrongPhase-clause-images
+returns-in-Err-WrongPhase-clause-images g c honest =
+    let k = c.self.invariant.stands honest in
+    let w = k.1.works (search rules) in
+    rw (← c.self.view_is) (roots_images g.D.Disk _ k.0 k.1 g.met.D.Disk.has_its_bytes c.prepare_root.new.self (c.prepare_root.ensures.any_moment k.0.now.checkpoint k.0.now.former w.stands.roots))
+
+pub returns-in-Err-Refused-clause-images : goal.returns-in-Err-Refused-clause-images
+returns-in-Err-Refused-clause-images g c honest =
+    let k = c.self.invariant.stands honest in
+    let w = k.1.works (search rules) in
+    rw (← c.self.view_is) (roots_images g.D.Disk _ k.0 k.1 g.met.D.Disk.has_its_bytes c.prepare_root.new.self (c.prepare_root.ensures.any_moment k.0.now.checkpoint k.0.now.former w.stands.roots))
+
+pub invariant_of-self : goal.invariant_of-self
+invariant_of-self g c = record {
+  lawful = c.self.invariant.lawful;
+  few = c.self.invariant.few;
+  room = c.self.invariant.room;
+  journal = c.self.invariant.journal;
+  words = c.self.invariant.words;
+  checkpointer = λ _. c.in-Ok.ensures.works;
+  sealed = λ _. c.self.invariant.sealed (search rules);
+  stands = λ honest.
+      let k = c.self.invariant.stands honest in
+      let works : c.self.inside.is_broken ≡ false = search rules in
+      let w = k.1.works works in
+      let r = progress_at g.D.Disk _ k.0 k.1 works phase.Sealed c.in-Ok.ensures.phase.1 in
+      let rest = c.prepare_root.ensures.rest in (
+        k.0,
+        rooted g.D.Disk _ k.0 k.1 g.met.D.Disk.has_its_bytes c.prepare_root.new.self c.self.inside.is_broken works (c.prepare_root.ensures.any_moment k.0.now.checkpoint k.0.now.former w.stands.roots)
+            (record { next = rest.1; number = rest.2; head = rest.3 }) (inl c.in-Ok.ensures.prepared) r
+            (record { roots = c.in-Ok.ensures.stands (root_of k.0.now.checkpoint) k.0.now.former w.stands.roots; slots = w.stands.slots; names = w.stands.names })
+            (c.prepare_root.ensures.next _ k.0.now.checkpoint r.next r.is_next),
+      );
+}
+
+pub invariant_of-self-in-Err-Refused : goal.invariant_of-self-in-Err-Refused
+invariant_of-self-in-Err-Refused g c = record {
+  lawful = c.self.invariant.lawful;
+  few = c.self.invariant.few;
+  room = c.self.invariant.room;
+  journal = λ no. absurd (cc no);
+  words = λ no. absurd (cc no);
+  checkpointer = λ no. absurd (cc no);
+  sealed = λ rooting. c.self.invariant.sealed (subst (λ (p : Phase). is_rooting p ≡ true) c.in-Err-Refused.ensures.refused_phase rooting);
+  stands = λ honest.
+      let k = c.self.invariant.stands honest in
+      let works : c.self.inside.is_broken ≡ false = search rules in
+      let w = k.1.works works in
+      (k.0, rooting_failed g.D.Disk _ k.0 k.1 g.met.D.Disk.has_its_bytes c.prepare_root.new.self (c.prepare_root.ensures.any_moment k.0.now.checkpoint k.0.now.former w.stands.roots));
+}

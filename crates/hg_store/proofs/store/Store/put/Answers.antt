@@ -1,0 +1,60 @@
+use Rattle.std.proofs.Common.{rules}
+use Rattle.hg_store.proofs.Backing.{parts_stand}
+use Rattle.hg_store.proofs.Checkpointing.{put_images, put_standing}
+use Rattle.hg_store.proofs.Staying.{same_content, within_still, works_on}
+use Rattle.hg_store.proofs.store.Store.put.Goals as goal
+
+pub returns-then-self-clause-images : goal.returns-then-self-clause-images
+returns-then-self-clause-images g c honest = let k = c.self.invariant.stands honest in rw (← c.self.view_is) (parts_stand g.D.Disk _ k.0 _ k.1 (λ doubt. doubt))
+
+pub returns-in-Ok-clause-images : goal.returns-in-Ok-clause-images
+returns-in-Ok-clause-images g c honest =
+    let k = c.self.invariant.stands honest in
+    let stays = rw c.words_mut.ensures.value at c.put.ensures.stays in
+    rw (← c.self.view_is) (put_images g.D.Disk _ k.0 k.1 g.met.D.Disk.has_its_bytes c.put.new.self (search rules) stays)
+
+pub returns-in-Err-clause-images : goal.returns-in-Err-clause-images
+returns-in-Err-clause-images g c honest =
+    let k = c.self.invariant.stands honest in
+    let stays = rw c.words_mut.ensures.value at c.put.ensures.stays in
+    rw (← c.self.view_is) (put_images g.D.Disk _ k.0 k.1 g.met.D.Disk.has_its_bytes c.put.new.self (search rules) stays)
+
+pub returns-in-Ok-clause-live : goal.returns-in-Ok-clause-live
+returns-in-Ok-clause-live g c honest =
+    let k = c.self.invariant.stands honest in
+    let stays = rw c.words_mut.ensures.value at c.put.ensures.stays in
+    rw (← c.self.view_is) (same_content g.D.Disk c.self.inside.detector c.put.new.self (stays.live_is k.1.faithful.whole))
+
+pub returns-in-Err-clause-live : goal.returns-in-Err-clause-live
+returns-in-Err-clause-live g c honest =
+    let k = c.self.invariant.stands honest in
+    let stays = rw c.words_mut.ensures.value at c.put.ensures.stays in
+    rw (← c.self.view_is) (same_content g.D.Disk c.self.inside.detector c.put.new.self (stays.live_is k.1.faithful.whole))
+
+pub invariant_of-self : goal.invariant_of-self
+invariant_of-self g c =
+    let stays = rw c.words_mut.ensures.value at c.put.ensures.stays in
+    record {
+      lawful = within_still _ _ _ _ (rw c.words_mut.ensures.value at c.put.ensures.cells) c.self.invariant.lawful;
+      few = c.self.invariant.few;
+      room = c.self.invariant.room;
+      journal = c.self.invariant.journal;
+      words = λ works. works_on g.D.Disk _ _ stays.went (search rules) (c.self.invariant.words works);
+      checkpointer = c.self.invariant.checkpointer;
+      sealed = λ rooting. stays.went.sealed (c.self.invariant.sealed rooting);
+      stands = λ honest. let k = c.self.invariant.stands honest in (k.0, put_standing g.D.Disk _ k.0 k.1 g.met.D.Disk.has_its_bytes c.put.new.self _ (search rules) stays);
+    }
+
+pub invariant_of-self-in-Err : goal.invariant_of-self-in-Err
+invariant_of-self-in-Err g c =
+    let stays = rw c.words_mut.ensures.value at c.put.ensures.stays in
+    record {
+      lawful = within_still _ _ _ _ (rw c.words_mut.ensures.value at c.put.ensures.cells) c.self.invariant.lawful;
+      few = c.self.invariant.few;
+      room = c.self.invariant.room;
+      journal = λ no. absurd (cc no);
+      words = λ no. absurd (cc no);
+      checkpointer = λ no. absurd (cc no);
+      sealed = λ rooting. stays.went.sealed (c.self.invariant.sealed rooting);
+      stands = λ honest. let k = c.self.invariant.stands honest in (k.0, put_standing g.D.Disk _ k.0 k.1 g.met.D.Disk.has_its_bytes c.put.new.self _ (search rules) stays);
+    }

@@ -1,0 +1,36 @@
+-- Which answers the steps of a checkpoint give.
+use Rattle.std.specs.Prelude.{◌≡◌, ◌⊎◌, ℕ, Bool, true, false, Result, Ok, Err}
+use Rattle.hg_model.specs.declared.verdict.Refusal.{Refusal}
+use Rattle.hg_model.specs.declared.verdict.Refusal.TheVariants as refusal
+use Rattle.hg_store.specs.Shown.{Shown, phase_of}
+use Rattle.hg_store.specs.declared.steps.StepFault.{StepFault}
+use Rattle.hg_store.specs.declared.steps.StepFault.TheVariants.{Refused, WrongPhase}
+
+-- A step that is lawful only so: a broken store answers Broken, and else WrongPhase with the phase exactly where it is not lawful.
+abbrev pub IsAllowed : {D T : Type 0} → Shown D → Type 0 → Result T StepFault → Type 0
+IsAllowed s Lawful (Ok value) = (s.is_broken ≡ false) × Lawful
+IsAllowed s Lawful (Err (WrongPhase p)) = (s.is_broken ≡ false) × (¬ Lawful) × (p ≡ phase_of s)
+IsAllowed s Lawful (Err (Refused r)) = ((s.is_broken ≡ true) × (r ≡ refusal.Broken)) ⊎ ((s.is_broken ≡ false) × Lawful)
+
+-- P holds after a WrongPhase.
+abbrev pub IfWrongPhase : {T : Type 0} → Type 0 → Result T StepFault → Type 0
+IfWrongPhase P (Ok value) = Unit {0}
+IfWrongPhase P (Err (WrongPhase p)) = P
+IfWrongPhase P (Err (Refused r)) = Unit {0}
+
+-- P holds of what it was refused for.
+abbrev pub IfRefused : {T : Type 0} → (Refusal → Type 0) → Result T StepFault → Type 0
+IfRefused P (Ok value) = Unit {0}
+IfRefused P (Err (WrongPhase p)) = Unit {0}
+IfRefused P (Err (Refused r)) = P r
+
+-- how many device calls failed in a step that is refused so
+abbrev pub failed_in : Refusal → ℕ
+failed_in refusal.DeviceFault = 1
+failed_in _ = 0
+
+-- and in a step that is answered so
+abbrev pub failed_by : {T : Type 0} → Result T StepFault → ℕ
+failed_by (Ok value) = 0
+failed_by (Err (WrongPhase p)) = 0
+failed_by (Err (Refused r)) = failed_in r

@@ -1,0 +1,139 @@
+-- What each step does and answers.
+use Rattle.std.specs.Prelude.{◌≡◌, ◌+◌, ◌<◌, ◌≤◌, ◌^◌, ℕ, List, [], Bool, true, false, Option, Some, Result, OnOk, OnErr, IfOk, MatchOption, is_some}
+use Rattle.hg_model.specs.declared.verdict.Refusal.TheVariants as refusal
+use Rattle.hg_cells.specs.declared.cell.Cell.{Cell}
+use Rattle.hg_disk.specs.declared.disk.Disk as disk
+use Rattle.hg_journal.specs.Journal.{failed_after}
+use Rattle.hg_pages.specs.Slots.{IsSlot, slot_text}
+use Rattle.hg_pages.specs.Tables.{slot_in}
+use Rattle.hg_pages.specs.Encoded.{Encoded}
+use Rattle.hg_pool.specs.Answers.{IsFrozen, least_of}
+use Rattle.hg_pool.specs.declared.job.Job.{Job}
+use Rattle.hg_pool.specs.declared.job.Put.{Put}
+use Rattle.hg_pool.specs.declared.job.Put.TheVariants as put
+use Rattle.hg_checkpointer.specs.declared.phase.Phase.TheVariants as phase
+use Rattle.hg_store.specs.Answers.{IfRefused, IsAllowed, failed_by}
+use Rattle.hg_store.specs.Images.{HasOpened}
+use Rattle.hg_store.specs.Shown.{Shown, captured, live, phase_of, words}
+use Rattle.hg_store.specs.Steps.{CheckpointDone, CommitDone, ContentOffered, OfferDone}
+use Rattle.hg_store.specs.declared.steps.Step.{Step}
+use Rattle.hg_store.specs.declared.steps.Step.TheVariants as step
+use Rattle.hg_store.specs.declared.steps.StepFault.{StepFault}
+use Rattle.hg_store.specs.declared.steps.StepResult.{StepResult}
+use Rattle.hg_store.specs.declared.steps.StepResult.TheVariants as told
+use Rattle.hg_store.specs.declared.steps.StorePhase.TheVariants as store
+
+-- The answer is of this kind, and what it tells has P.
+abbrev pub Tells : {X : Type 0} → (X → StepResult) → StepResult → (X → Type 0) → Type 0
+Tells {X} kind result P = (x : X) × (result ≡ kind x) × P x
+
+-- neither the slots nor what is in memory of them
+pub record SameWords {D : Type 0} (old new : Shown D) : Type 0 where
+  pub slots : new.devices.slots ≡ old.devices.slots
+  pub detector : new.detector ≡ old.detector
+
+-- neither of the root files
+pub record SameRoots {D : Type 0} (old new : Shown D) : Type 0 where
+  pub root0 : new.devices.root0 ≡ old.devices.root0
+  pub root1 : new.devices.root1 ≡ old.devices.root1
+
+-- which checkpoint is the newest, and which is in progress
+pub record SameNumbers {D : Type 0} (old new : Shown D) : Type 0 where
+  pub number : new.progress.number ≡ old.progress.number
+  pub next : new.progress.next ≡ old.progress.next
+  pub head : new.progress.head ≡ old.progress.head
+
+-- A checkpoint begins, with the number behind that of the newest one. No device is called.
+pub record FreezeDone {D : Type 0} (old new : Shown D) (result : Result (Unit {0}) StepFault) : Type 0 where
+  pub done : CheckpointDone old new (phase_of old ≡ store.Idle) phase.Flushing result
+  pub refused : OnErr result (new ≡ old)
+  pub last : OnOk result (old.progress.number < 2 ^ 58)
+  pub full : IfRefused (λ r. r ≡ refusal.FullEvents → 2 ^ 58 ≤ old.progress.number) result
+  pub number : OnOk result ((new.progress.number ≡ old.progress.number) × (new.progress.next ≡ old.progress.number + 1))
+  pub devices : new.devices ≡ old.devices
+  pub frozen : OnOk result (new.frozen ≡ old.detector)
+
+-- The page is the first of those that wait, with its cells at the freeze. Nothing changes.
+pub record JobTaken {D : Type 0} (old new : Shown D) (result : Result (Option Job) StepFault) : Type 0 where
+  pub same : new ≡ old
+  pub allowed : IsAllowed old (old.progress.phase ≡ phase.Flushing) result
+  pub refusal : IfRefused (λ r. r ≡ refusal.Broken) result
+  pub job : IfOk result (λ found. MatchOption found ((words old).waiting ≡ []) (λ job. (Some job.page ≡ least_of (words old).waiting) × IsFrozen (words old) job.page job.cells))
+
+-- A page is written where it waits and the bytes are those of its cells at the freeze. The phase stays.
+pub record PutDone {D : Type 0} (old new : Shown D) (page : Encoded) (result : Result Put StepFault) : Type 0 where
+  pub done : CheckpointDone old new (old.is_broken ≡ false) old.progress.phase result
+  pub written : IfOk result (λ p. p ≡ put.Written → (cells : List Cell) × (is_some (slot_in (words old).waiting page.page) ≡ true) × IsFrozen (words old) page.page cells × IsSlot page.page cells page.bytes)
+  pub stale : IfOk result (λ p. p ≡ put.Stale → (slot : ℕ) (cells : List Cell) → slot_in (words old).waiting page.page ≡ Some slot → IsFrozen (words old) page.page cells → page.bytes ≡ slot_text page.page cells → ⊥)
+  pub nothing : IfOk result (λ p. p ≡ put.Stale → new ≡ old)
+  pub roots : SameRoots old new
+  pub progress : new.progress ≡ old.progress
+  pub frozen : new.frozen ≡ old.frozen
+
+-- The pages are durable, once none waits.
+pub record SealDone {D : Type 0} (old new : Shown D) (result : Result (Unit {0}) StepFault) : Type 0 where
+  pub done : CheckpointDone old new ((old.progress.phase ≡ phase.Flushing) × ((words old).waiting ≡ [])) phase.Sealed result
+  pub roots : SameRoots old new
+  pub numbers : SameNumbers old new
+  pub frozen : new.frozen ≡ old.frozen
+
+-- The file of the next root is closed.
+pub record PrepareDone {D : Type 0} (old new : Shown D) (result : Result (Unit {0}) StepFault) : Type 0 where
+  pub done : CheckpointDone old new (old.progress.phase ≡ phase.Sealed) phase.Prepared result
+  pub words : SameWords old new
+  pub numbers : SameNumbers old new
+  pub frozen : new.frozen ≡ old.frozen
+
+-- The next root is durable behind its closed gate.
+pub record WriteDone {D : Type 0} (old new : Shown D) (result : Result (Unit {0}) StepFault) : Type 0 where
+  pub done : CheckpointDone old new (old.progress.phase ≡ phase.Prepared) phase.Written result
+  pub words : SameWords old new
+  pub numbers : SameNumbers old new
+  pub frozen : new.frozen ≡ old.frozen
+
+-- The next root is the newest one, and its number is answered.
+pub record OpenDone {D : Type 0} (old new : Shown D) (result : Result ℕ StepFault) : Type 0 where
+  pub done : CheckpointDone old new (old.progress.phase ≡ phase.Written) phase.Idle result
+  pub number : IfOk result (λ n. (n ≡ old.progress.next) × (new.progress.number ≡ n))
+  pub slots : new.devices.slots ≡ old.devices.slots
+  pub frozen : new.frozen ≡ old.frozen
+
+-- Each step is answered by an answer of its own kind.
+abbrev pub StepDone : {D : Type 0} → disk.Ghosts D → (old new : Shown D) → Step → StepResult → Type 0
+StepDone g old new (step.Offer n) result = Tells told.Offered result (λ r. OfferDone g old new n r)
+StepDone g old new step.Commit result = Tells told.Committed result (λ r. CommitDone g old new r)
+StepDone g old new step.Freeze result = Tells told.Frozen result (λ r. FreezeDone old new r)
+StepDone g old new step.TakeJob result = Tells told.Taken result (λ r. JobTaken old new r)
+StepDone g old new (step.Put page) result = Tells told.Put result (λ r. PutDone old new page r)
+StepDone g old new step.SealPages result = Tells told.Sealed result (λ r. SealDone old new r)
+StepDone g old new step.PrepareRoot result = Tells told.Prepared result (λ r. PrepareDone old new r)
+StepDone g old new step.WriteRoot result = Tells told.Written result (λ r. WriteDone old new r)
+StepDone g old new step.OpenRoot result = Tells told.Opened result (λ r. OpenDone old new r)
+
+-- After the opening of a root that one is the newest, and has the content at the freeze.
+pub record ContentOpened {D : Type 0} (g : disk.Ghosts D) (old new : Shown D) (result : Result ℕ StepFault) : Type 0 where
+  pub live : live g new ≡ live g old
+  pub checkpoint : IfOk result (λ n. HasOpened g new.devices n (captured g old))
+
+-- What becomes of the live content over honest devices: an accepted event joins it, and each other step leaves it.
+abbrev pub ContentDone : {D : Type 0} → disk.Ghosts D → (old new : Shown D) → Step → StepResult → Type 0
+ContentDone g old new (step.Offer n) result = Tells told.Offered result (λ r. ContentOffered g old new n r)
+ContentDone g old new step.OpenRoot result = Tells told.Opened result (λ r. ContentOpened g old new r)
+ContentDone g old new _ result = live g new ≡ live g old
+
+-- During a commit an image may have either content, and so it may after one that failed.
+abbrev pub in_doubt_during : Step → Bool → Bool
+in_doubt_during step.Commit in_doubt = true
+in_doubt_during _ in_doubt = in_doubt
+
+-- how many calls of devices have failed after a step, of n before
+abbrev pub fails_by : StepResult → ℕ → ℕ
+fails_by (told.Offered result) n = failed_after result n
+fails_by (told.Committed result) n = failed_after result n
+fails_by (told.Frozen result) n = n
+fails_by (told.Taken result) n = n
+fails_by (told.Put result) n = failed_by result + n
+fails_by (told.Sealed result) n = failed_by result + n
+fails_by (told.Prepared result) n = failed_by result + n
+fails_by (told.Written result) n = failed_by result + n
+fails_by (told.Opened result) n = failed_by result + n

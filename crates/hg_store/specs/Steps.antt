@@ -1,0 +1,120 @@
+-- What one step does and answers.
+use Rattle.std.specs.Prelude.{◌≡◌, ◌≢◌, ◌⊎◌, ◌++◌, ◌+◌, ◌<◌, ◌≤◌, ◌^◌, ℕ, List, [], ◌∷◌, length, Bool, true, false, Some, None, Ok, Err, Result, OnOk, OnErr, IfErr, nat_le, cond, MatchOption, is_some}
+use Rattle.hg_model.specs.declared.event.Named.{Named}
+use Rattle.hg_model.specs.declared.verdict.Verdict.{Verdict}
+use Rattle.hg_model.specs.declared.verdict.Verdict.TheVariants.{Accept, Duplicate as IsDuplicate, Refuse}
+use Rattle.hg_model.specs.declared.verdict.Refusal.{Refusal}
+use Rattle.hg_model.specs.declared.verdict.Refusal.TheVariants as refusal
+use Rattle.hg_model.specs.Contents.{Content}
+use Rattle.hg_model.specs.Verdicts.{verdict, standing_of}
+use Rattle.hg_model.specs.Change.{followed}
+use Rattle.hg_detect.specs.Answering.{done}
+use Rattle.hg_detect.specs.Making.{AsksBy, sets_asked}
+use Rattle.hg_detect.specs.declared.detector.Answer.{Answer}
+use Rattle.hg_detect.specs.declared.detector.Answer.TheVariants.{Accepted, Duplicate}
+use Rattle.hg_disk.specs.declared.disk.Disk as disk
+use Rattle.hg_pool.specs.OfWords.{MayRefuse}
+use Rattle.hg_checkpointer.specs.declared.phase.Phase.{Phase}
+use Rattle.hg_store.specs.Answers.{IfRefused, IfWrongPhase, IsAllowed}
+use Rattle.hg_store.specs.Shown.{Shown, live, phase_of}
+use Rattle.hg_store.specs.declared.steps.StepFault.{StepFault}
+use Rattle.hg_store.specs.declared.steps.StepFault.TheVariants.{Refused}
+
+-- what an event that the rules accept may be refused with: no room for its sets, or what its pages are refused with
+abbrev pub IsOfRoom : Refusal → Type 0
+IsOfRoom r = (r ≡ refusal.FullSets) ⊎ ((r ≡ refusal.OutOfMemory) ⊎ MayRefuse r)
+
+-- What an offer may be answered by its verdict, with this many events pending.
+abbrev pub ByVerdict : Verdict → ℕ → Result Answer Refusal → Type 0
+ByVerdict (IsDuplicate last) pending result = result ≡ Ok (Duplicate last)
+ByVerdict (Refuse refusal) pending result = result ≡ Err refusal
+ByVerdict Accept pending result = cond (nat_le 1024 pending) (result ≡ Err refusal.FullPending) ((result ≡ Ok Accepted) ⊎ ((r : Refusal) × (result ≡ Err r) × IsOfRoom r))
+
+-- A broken store answers nothing else.
+abbrev pub OfferAnswers : Content → Bool → ℕ → Named → Result Answer Refusal → Type 0
+OfferAnswers c is_broken pending n result = cond is_broken (result ≡ Err refusal.Broken) (ByVerdict (verdict (standing_of c) n) pending result)
+
+-- the event of an offer that was answered Accepted
+abbrev pub if_accepted : Named → Result Answer Refusal → List Named
+if_accepted n (Ok Accepted) = n ∷ []
+if_accepted n (Ok (Duplicate last)) = []
+if_accepted n (Err refusal) = []
+
+-- The store takes the event up: it works, the rules accept it, and there is room for one more that waits.
+pub record IsTaken {D : Type 0} (g : disk.Ghosts D) (s : Shown D) (n : Named) : Type 0 where
+  pub works : s.is_broken ≡ false
+  pub accepted : verdict (standing_of (live g s)) n ≡ Accept
+  pub room : length s.pending < 1024
+
+-- Nothing but the slots and what is in memory of them has changed, and whether the store is broken.
+pub record SameBut {D : Type 0} (old new : Shown D) : Type 0 where
+  pub journal : new.devices.journal ≡ old.devices.journal
+  pub root0 : new.devices.root0 ≡ old.devices.root0
+  pub root1 : new.devices.root1 ≡ old.devices.root1
+  pub committed : new.committed ≡ old.committed
+  pub frozen : new.frozen ≡ old.frozen
+  pub durable : new.durable ≡ old.durable
+  pub progress : new.progress ≡ old.progress
+  pub in_doubt : new.in_doubt ≡ old.in_doubt
+
+-- An accepted event joins the pending ones. A store that does not take the event up stays as it is, and only a failed call breaks it.
+pub record OfferDone {D : Type 0} (g : disk.Ghosts D) (old new : Shown D) (n : Named) (result : Result Answer Refusal) : Type 0 where
+  pub answer : OfferAnswers (live g old) old.is_broken (length old.pending) n result
+  pub pending : new.pending ≡ old.pending ++ if_accepted n result
+  pub same : SameBut old new
+  pub works : OnOk result (new.is_broken ≡ false)
+  pub untouched : ¬ IsTaken g old n → new ≡ old
+  pub breaks : (result ≡ Err refusal.DeviceFault → ⊥) → new.is_broken ≡ old.is_broken
+
+-- Over honest devices: an accepted event joins the live content, which else stays, and the sets that it asks for join the table.
+pub record ContentOffered {D : Type 0} (g : disk.Ghosts D) (old new : Shown D) (n : Named) (result : Result Answer Refusal) : Type 0 where
+  pub leads : followed (live g old) (if_accepted n result) ≡ Some (live g new)
+  pub sets : IsTaken g old n → AsksBy old.detector.sets (sets_asked (live g old) n.event) (done result) new.detector.sets
+
+-- After an Ok nothing is pending, and the count is that of all accepted events; after a failure the store is broken.
+pub record IsCommitted {D : Type 0} (g : disk.Ghosts D) (old new : Shown D) (count : ℕ) : Type 0 where
+  pub worked : old.is_broken ≡ false
+  pub answer : count ≡ (live g old).events
+  pub durable : new.durable ≡ count
+  pub committed : new.committed ≡ old.detector
+  pub pending : new.pending ≡ []
+  pub works : new.is_broken ≡ false
+  pub certain : new.in_doubt ≡ old.in_doubt
+
+pub record IsNotCommitted {D : Type 0} (old new : Shown D) (r : Refusal) : Type 0 where
+  pub answer : r ≡ cond old.is_broken refusal.Broken refusal.DeviceFault
+  pub durable : new.durable ≡ old.durable
+  pub committed : new.committed ≡ old.committed
+  pub pending : new.pending ≡ old.pending
+  pub broken : new.is_broken ≡ true
+  pub doubt : new.in_doubt ≡ cond old.is_broken old.in_doubt true
+
+abbrev pub ByCommit : {D : Type 0} → disk.Ghosts D → (old new : Shown D) → Result ℕ Refusal → Type 0
+ByCommit g old new (Ok count) = IsCommitted g old new count
+ByCommit g old new (Err refusal) = IsNotCommitted old new refusal
+
+-- A commit changes the journal alone, and with nothing pending no device.
+pub record CommitDone {D : Type 0} (g : disk.Ghosts D) (old new : Shown D) (result : Result ℕ Refusal) : Type 0 where
+  pub answer : ByCommit g old new result
+  pub detector : new.detector ≡ old.detector
+  pub frozen : new.frozen ≡ old.frozen
+  pub progress : new.progress ≡ old.progress
+  pub slots : new.devices.slots ≡ old.devices.slots
+  pub root0 : new.devices.root0 ≡ old.devices.root0
+  pub root1 : new.devices.root1 ≡ old.devices.root1
+  pub quiet : old.pending ≡ [] → new.devices ≡ old.devices
+  pub still : old.is_broken ≡ true → new ≡ old
+
+-- What each step of a checkpoint does, that is lawful only so and leads to this phase. It leaves the events, and the journal; a refusal leaves
+-- all of the store as it is, or breaks it.
+pub record CheckpointDone {D T : Type 0} (old new : Shown D) (Lawful : Type 0) (to : Phase) (result : Result T StepFault) : Type 0 where
+  pub allowed : IsAllowed old Lawful result
+  pub phase : OnOk result (new.progress.phase ≡ to)
+  pub works : OnOk result (new.is_broken ≡ false)
+  pub unchanged : IfWrongPhase (new ≡ old) result
+  pub refused : IfRefused (λ r. (new ≡ old) ⊎ ((new.is_broken ≡ true) × ((r ≡ refusal.DeviceFault) ⊎ (r ≡ refusal.Broken)))) result
+  pub pending : new.pending ≡ old.pending
+  pub committed : new.committed ≡ old.committed
+  pub durable : new.durable ≡ old.durable
+  pub in_doubt : new.in_doubt ≡ old.in_doubt
+  pub journal : new.devices.journal ≡ old.devices.journal

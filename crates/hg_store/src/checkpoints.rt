@@ -1,0 +1,229 @@
+//! The steps of a checkpoint.
+
+ghost use Rattle.std.specs.Prelude.{◌≡◌, ◌≢◌, ◌⊎◌, ◌+◌, ◌<◌, ◌≤◌, ◌^◌, [], ℕ, List, Err, true, false, Some, is_some, IsTrue, OnOk, OnErr, IfOk, IfErr, MatchOption};
+ghost use Rattle.hg_model.specs.Contents.{Content};
+ghost use Rattle.hg_cells.specs.declared.cell.Cell.{Cell as CellOf};
+ghost use Rattle.hg_checkpointer.specs.declared.phase.Phase.TheVariants as phase;
+ghost use Rattle.hg_contents.specs.Choices.{Stands};
+ghost use Rattle.hg_pages.specs.Slots.{IsSlot, slot_text};
+ghost use Rattle.hg_pages.specs.Tables.{slot_in};
+ghost use Rattle.hg_pool.specs.Answers.{IsFrozen, least_of};
+ghost use Rattle.hg_pool.specs.Picking.{IsFreezeRefusal};
+ghost use Rattle.hg_store.specs.Answers.{IfRefused, IsAllowed, failed_by};
+ghost use Rattle.hg_store.specs.Images.{EachImage, HasOpened, failures_of};
+ghost use Rattle.hg_store.specs.Shown.{captured, live, phase_of, saved, words};
+ghost use Rattle.hg_store.specs.Steps.{CheckpointDone};
+ghost use Rattle.hg_store.specs.Store.{Backs};
+
+use crate::steps::{StepFault, StorePhase};
+use crate::store::Store;
+use hg_checkpointer::{CheckpointFault, Phase};
+use hg_disk::Disk;
+use hg_model::verdict::Refusal;
+use hg_pages::EncodedPage;
+use hg_pool::{Job, Put};
+use hg_recovery::head_of;
+use std::alloc::Global;
+use std::snapshot::Snapshot;
+
+/// The greatest number of a checkpoint: 2^58.
+const LAST_NUMBER: u64 = 1 << 58;
+
+impl<D: Disk> Store<D> {
+    // How far the store is with its events and with its next checkpoint.
+    pub(crate) fn phase_now(&self) -> StorePhase
+        ensures { result ≡ phase_of self.now }
+    {
+        match self.checkpointer.phase() {
+            Phase::Idle => {
+                if self.pending.is_empty() {
+                    StorePhase::Idle
+                } else {
+                    StorePhase::Pending
+                }
+            }
+            Phase::Flushing => StorePhase::Flushing,
+            Phase::Sealed => StorePhase::Sealed,
+            Phase::Prepared => StorePhase::Prepared,
+            Phase::Written => StorePhase::Written,
+        }
+    }
+
+    /// Begins a checkpoint of the durable events, which are all there are: from now on the frozen map is the live one, and its pages wait
+    /// to be written. `FullEvents` where the newest root has the last number, 2^58; `FullSlots` and `OutOfMemory` else. It calls no device.
+    pub fn freeze(&mut self, alloc: Global) -> Result<(), StepFault>
+        ensures done { CheckpointDone self.old self.new (phase_of self.old ≡ StorePhase.Idle) phase.Flushing result }
+        ensures refused { OnErr result (self.new ≡ self.old) }
+        ensures last { OnOk result (self.old.progress.number < 2 ^ 58) }
+        ensures full { IfRefused (λ r. r ≡ Refusal.FullEvents → 2 ^ 58 ≤ self.old.progress.number) result }
+        ensures number { OnOk result ((self.new.progress.number ≡ self.old.progress.number) × (self.new.progress.next ≡ self.old.progress.number + 1)) }
+        ensures devices { self.new.devices ≡ self.old.devices }
+        ensures frozen { OnOk result (self.new.frozen ≡ self.old.detector) }
+        ensures live { IsTrue D.is_honest → live ⟦<D as Disk>⟧ self.new ≡ live ⟦<D as Disk>⟧ self.old }
+    {
+        if self.is_broken {
+            return Err(StepFault::Refused(Refusal::Broken));
+        }
+        let phase = self.phase_now();
+        if phase != StorePhase::Idle {
+            return Err(StepFault::WrongPhase(phase));
+        }
+        let number = self.checkpointer.number();
+        if number >= LAST_NUMBER {
+            return Err(StepFault::Refused(Refusal::FullEvents));
+        }
+        let _kept = self.detector.kept_reports();
+        let head = match head_of(alloc, number + 1, &self.detector) {
+            Ok(head) => head,
+            Err(refusal) => return Err(StepFault::Refused(refusal)),
+        };
+        let frozen = Snapshot::of(&self.detector);
+        match self
+            .checkpointer
+            .freeze(self.detector.words_mut(), head, number + 1)
+        {
+            Ok(()) => {
+                self.frozen = frozen;
+                Ok(())
+            }
+            Err(CheckpointFault::WrongPhase(_)) => Err(StepFault::WrongPhase(self.phase_now())),
+            Err(CheckpointFault::Refused(refusal)) => Err(StepFault::Refused(refusal)),
+        }
+    }
+
+    /// The page with the least number of those that wait, with its cells at the freeze, or none where no page waits. It calls no device.
+    pub fn take_job(&self) -> Result<Option<Job>, StepFault>
+        ensures allowed { IsAllowed self.now (self.now.progress.phase ≡ phase.Flushing) result }
+        ensures refusal { IfRefused (λ r. r ≡ Refusal.Broken) result }
+        ensures job { IfOk result (λ found. MatchOption found ((words self.now).waiting ≡ []) (λ job. (Some job.page ≡ least_of (words self.now).waiting) × IsFrozen (words self.now) job.page job.cells)) }
+    {
+        if self.is_broken {
+            return Err(StepFault::Refused(Refusal::Broken));
+        }
+        if self.checkpointer.phase() != Phase::Flushing {
+            return Err(StepFault::WrongPhase(self.phase_now()));
+        }
+        Ok(self.detector.words().take_job())
+    }
+
+    /// Writes a page to the slot that was picked for it: `Written` where it waits and the bytes are those of its cells at the freeze, else
+    /// `Stale`, and nothing was changed. It makes one device call at most and takes no memory.
+    pub fn put(&mut self, page: &EncodedPage) -> Result<Put, StepFault>
+        ensures done { CheckpointDone self.old self.new (self.old.is_broken ≡ false) self.old.progress.phase result }
+        ensures frozen { self.new.frozen ≡ self.old.frozen }
+        ensures written { IfOk result (λ put. put ≡ Put.Written → (cells : List CellOf) × (is_some (slot_in (words self.old).waiting page.now.page) ≡ true) × IsFrozen (words self.old) page.now.page cells × IsSlot page.now.page cells page.now.bytes) }
+        ensures stale { IfOk result (λ put. put ≡ Put.Stale → (slot : ℕ) (cells : List CellOf) → slot_in (words self.old).waiting page.now.page ≡ Some slot → IsFrozen (words self.old) page.now.page cells → page.now.bytes ≡ slot_text page.now.page cells → ⊥) }
+        ensures nothing { IfOk result (λ put. put ≡ Put.Stale → self.new ≡ self.old) }
+        ensures roots { (self.new.devices.root0 ≡ self.old.devices.root0) × (self.new.devices.root1 ≡ self.old.devices.root1) × (self.new.progress ≡ self.old.progress) }
+        ensures device { failures_of ⟦<D as Disk>⟧ self.new.devices ≡ failed_by result + failures_of ⟦<D as Disk>⟧ self.old.devices }
+        ensures live { IsTrue D.is_honest → live ⟦<D as Disk>⟧ self.new ≡ live ⟦<D as Disk>⟧ self.old }
+        ensures images { IsTrue D.is_honest → EachImage ⟦<D as Disk>⟧ self.old.devices self.new.devices (Stands (saved ⟦<D as Disk>⟧ self.old) (live ⟦<D as Disk>⟧ self.old) self.old.in_doubt) }
+    {
+        if self.is_broken {
+            return Err(StepFault::Refused(Refusal::Broken));
+        }
+        match self.detector.words_mut().put(page) {
+            Ok(put) => Ok(put),
+            Err(refusal) => {
+                self.is_broken = true;
+                Err(StepFault::Refused(refusal))
+            }
+        }
+    }
+
+    /// Makes the pages durable, once all are written. It makes one device call and takes no memory.
+    pub fn seal_pages(&mut self) -> Result<(), StepFault>
+        ensures done { CheckpointDone self.old self.new ((self.old.progress.phase ≡ phase.Flushing) × ((words self.old).waiting ≡ [])) phase.Sealed result }
+        ensures frozen { self.new.frozen ≡ self.old.frozen }
+        ensures roots { (self.new.devices.root0 ≡ self.old.devices.root0) × (self.new.devices.root1 ≡ self.old.devices.root1) }
+        ensures number { (self.new.progress.number ≡ self.old.progress.number) × (self.new.progress.next ≡ self.old.progress.next) × (self.new.progress.head ≡ self.old.progress.head) }
+        ensures device { failures_of ⟦<D as Disk>⟧ self.new.devices ≡ failed_by result + failures_of ⟦<D as Disk>⟧ self.old.devices }
+        ensures live { IsTrue D.is_honest → live ⟦<D as Disk>⟧ self.new ≡ live ⟦<D as Disk>⟧ self.old }
+        ensures images { IsTrue D.is_honest → EachImage ⟦<D as Disk>⟧ self.old.devices self.new.devices (Stands (saved ⟦<D as Disk>⟧ self.old) (live ⟦<D as Disk>⟧ self.old) self.old.in_doubt) }
+    {
+        if self.is_broken {
+            return Err(StepFault::Refused(Refusal::Broken));
+        }
+        match self.checkpointer.seal_pages(self.detector.words_mut()) {
+            Ok(()) => Ok(()),
+            Err(CheckpointFault::WrongPhase(_)) => Err(StepFault::WrongPhase(self.phase_now())),
+            Err(CheckpointFault::Refused(refusal)) => {
+                self.is_broken = true;
+                Err(StepFault::Refused(refusal))
+            }
+        }
+    }
+
+    /// Closes the file that the next root goes to. It makes two device calls at most, none where the file is closed already, and takes no
+    /// memory.
+    pub fn prepare_root(&mut self) -> Result<(), StepFault>
+        ensures done { CheckpointDone self.old self.new (self.old.progress.phase ≡ phase.Sealed) phase.Prepared result }
+        ensures frozen { self.new.frozen ≡ self.old.frozen }
+        ensures slots { (self.new.devices.slots ≡ self.old.devices.slots) × (self.new.detector ≡ self.old.detector) }
+        ensures number { (self.new.progress.number ≡ self.old.progress.number) × (self.new.progress.next ≡ self.old.progress.next) × (self.new.progress.head ≡ self.old.progress.head) }
+        ensures device { failures_of ⟦<D as Disk>⟧ self.new.devices ≡ failed_by result + failures_of ⟦<D as Disk>⟧ self.old.devices }
+        ensures images { IsTrue D.is_honest → EachImage ⟦<D as Disk>⟧ self.old.devices self.new.devices (Stands (saved ⟦<D as Disk>⟧ self.old) (live ⟦<D as Disk>⟧ self.old) self.old.in_doubt) }
+    {
+        if self.is_broken {
+            return Err(StepFault::Refused(Refusal::Broken));
+        }
+        match self.checkpointer.prepare_root() {
+            Ok(()) => Ok(()),
+            Err(CheckpointFault::WrongPhase(_)) => Err(StepFault::WrongPhase(self.phase_now())),
+            Err(CheckpointFault::Refused(refusal)) => {
+                self.is_broken = true;
+                Err(StepFault::Refused(refusal))
+            }
+        }
+    }
+
+    /// Writes the root behind the closed gate of its file. It makes four device calls at most. `OutOfMemory` leaves the store as it is.
+    pub fn write_root(&mut self, alloc: Global) -> Result<(), StepFault>
+        ensures done { CheckpointDone self.old self.new (self.old.progress.phase ≡ phase.Prepared) phase.Written result }
+        ensures frozen { self.new.frozen ≡ self.old.frozen }
+        ensures slots { (self.new.devices.slots ≡ self.old.devices.slots) × (self.new.detector ≡ self.old.detector) }
+        ensures number { (self.new.progress.number ≡ self.old.progress.number) × (self.new.progress.next ≡ self.old.progress.next) × (self.new.progress.head ≡ self.old.progress.head) }
+        ensures device { failures_of ⟦<D as Disk>⟧ self.new.devices ≡ failed_by result + failures_of ⟦<D as Disk>⟧ self.old.devices }
+        ensures images { IsTrue D.is_honest → EachImage ⟦<D as Disk>⟧ self.old.devices self.new.devices (Stands (saved ⟦<D as Disk>⟧ self.old) (live ⟦<D as Disk>⟧ self.old) self.old.in_doubt) }
+    {
+        if self.is_broken {
+            return Err(StepFault::Refused(Refusal::Broken));
+        }
+        match self.checkpointer.write_root(alloc, self.detector.words()) {
+            Ok(()) => Ok(()),
+            Err(CheckpointFault::WrongPhase(_)) => Err(StepFault::WrongPhase(self.phase_now())),
+            Err(CheckpointFault::Refused(Refusal::OutOfMemory)) => {
+                Err(StepFault::Refused(Refusal::OutOfMemory))
+            }
+            Err(CheckpointFault::Refused(refusal)) => {
+                self.is_broken = true;
+                Err(StepFault::Refused(refusal))
+            }
+        }
+    }
+
+    /// Opens the root: from then on it is the newest one, and the slots of the former one are free. Answers its number. It makes two device
+    /// calls at most and takes no memory.
+    pub fn open_root(&mut self) -> Result<u64, StepFault>
+        ensures done { CheckpointDone self.old self.new (self.old.progress.phase ≡ phase.Written) phase.Idle result }
+        ensures frozen { self.new.frozen ≡ self.old.frozen }
+        ensures number { IfOk result (λ n. (n ≡ self.old.progress.next) × (self.new.progress.number ≡ n)) }
+        ensures slots { self.new.devices.slots ≡ self.old.devices.slots }
+        ensures checkpoint { IsTrue D.is_honest → IfOk result (λ n. HasOpened ⟦<D as Disk>⟧ self.new.devices n (captured ⟦<D as Disk>⟧ self.old)) }
+        ensures device { failures_of ⟦<D as Disk>⟧ self.new.devices ≡ failed_by result + failures_of ⟦<D as Disk>⟧ self.old.devices }
+        ensures live { live ⟦<D as Disk>⟧ self.new ≡ live ⟦<D as Disk>⟧ self.old }
+        ensures images { IsTrue D.is_honest → EachImage ⟦<D as Disk>⟧ self.old.devices self.new.devices (Stands (saved ⟦<D as Disk>⟧ self.old) (live ⟦<D as Disk>⟧ self.old) self.old.in_doubt) }
+    {
+        if self.is_broken {
+            return Err(StepFault::Refused(Refusal::Broken));
+        }
+        match self.checkpointer.open_root(self.detector.words_mut()) {
+            Ok(number) => Ok(number),
+            Err(CheckpointFault::WrongPhase(_)) => Err(StepFault::WrongPhase(self.phase_now())),
+            Err(CheckpointFault::Refused(refusal)) => {
+                self.is_broken = true;
+                Err(StepFault::Refused(refusal))
+            }
+        }
+    }
+}

@@ -1,0 +1,135 @@
+//! What a store answers of what it has.
+
+ghost use Rattle.std.specs.Prelude.{◌≡◌, ◌≢◌, ◌⊎◌, ◌+◌, ◌-◌, ◌*◌, List, Ok, Err, length, take, drop, false, IsTrue, OnOk, IfOk, IfErr, cond};
+ghost use Rattle.hg_model.specs.declared.event.Named.{Named as NamedOf};
+ghost use Rattle.hg_model.specs.ThreadSets.{HasThreadSets};
+ghost use Rattle.hg_disk.specs.Calls.{CallsAtMost};
+ghost use Rattle.hg_journal.specs.Journal.{IsJournal, IsOfReading, failed_after};
+ghost use Rattle.hg_store.specs.Images.{EachImage, failures_of, states_of};
+ghost use Rattle.hg_contents.specs.Stores.{IsLeft};
+ghost use Rattle.hg_store.specs.Shown.{live, phase_of};
+ghost use Rattle.hg_store.specs.Store.{Backs};
+
+use crate::steps::StorePhase;
+use crate::store::Store;
+use hg_disk::Disk;
+use hg_journal::collect::collect;
+use hg_model::event::Named;
+use hg_model::report::Report;
+use hg_model::segment::Segment;
+use hg_model::verdict::Refusal;
+use std::alloc::Global;
+
+impl<D: Disk> Store<D> {
+    /// What the store stands for, which contracts alone see. It does nothing.
+    pub fn stands(&self)
+        ensures backs { IsTrue D.is_honest → Backs ⟦<D as Disk>⟧ self.now }
+        ensures count { IsTrue D.is_honest → (live ⟦<D as Disk>⟧ self.now).events ≡ self.now.durable + length self.now.pending }
+        ensures sets { IsTrue D.is_honest → HasThreadSets (live ⟦<D as Disk>⟧ self.now) }
+    {
+        let _ = &self.pending;
+    }
+
+    /// The count of the accepted events.
+    pub fn events(&self) -> Result<u64, Refusal>
+        ensures { result ≡ cond self.now.is_broken (Err Refusal.Broken) (Ok (live ⟦<D as Disk>⟧ self.now).events) }
+    {
+        if self.is_broken {
+            return Err(Refusal::Broken);
+        }
+        Ok(self.detector.state().events())
+    }
+
+    /// The count of the durable events.
+    pub fn durable(&self) -> Result<u64, Refusal>
+        ensures { result ≡ cond self.now.is_broken (Err Refusal.Broken) (Ok self.now.durable) }
+    {
+        if self.is_broken {
+            return Err(Refusal::Broken);
+        }
+        Ok(self.durable)
+    }
+
+    /// The last accepted number of a source, 0 where it sent nothing.
+    pub fn last(&self, source: u16) -> Result<u64, Refusal>
+        ensures { result ≡ cond self.now.is_broken (Err Refusal.Broken) (Ok ((live ⟦<D as Disk>⟧ self.now).last source)) }
+    {
+        if self.is_broken {
+            return Err(Refusal::Broken);
+        }
+        Ok(self.detector.last(source))
+    }
+
+    /// How many reports there were, kept or not.
+    pub fn total(&self) -> Result<u64, Refusal>
+        ensures { result ≡ cond self.now.is_broken (Err Refusal.Broken) (Ok (live ⟦<D as Disk>⟧ self.now).total) }
+    {
+        if self.is_broken {
+            return Err(Refusal::Broken);
+        }
+        Ok(self.detector.total())
+    }
+
+    /// How far the store is with its events and with its next checkpoint.
+    pub fn phase(&self) -> Result<StorePhase, Refusal>
+        ensures { result ≡ cond self.now.is_broken (Err Refusal.Broken) (Ok (phase_of self.now)) }
+    {
+        if self.is_broken {
+            return Err(Refusal::Broken);
+        }
+        Ok(self.phase_now())
+    }
+
+    /// The kept reports, at most 65,536.
+    pub fn reports(&self, alloc: Global) -> Result<Vec<Report>, Refusal>
+        ensures reports { IfOk result (λ reports. reports.items ≡ (live ⟦<D as Disk>⟧ self.now).reports) }
+        ensures refusal { IfErr result (λ refusal. refusal ≡ cond self.now.is_broken Refusal.Broken Refusal.OutOfMemory) }
+        ensures broken { IsTrue self.now.is_broken → result ≡ Err Refusal.Broken }
+    {
+        if self.is_broken {
+            return Err(Refusal::Broken);
+        }
+        match self.detector.reports(alloc) {
+            Ok(reports) => Ok(reports),
+            Err(_) => Err(Refusal::OutOfMemory),
+        }
+    }
+
+    /// The thread segments in the order of opening.
+    pub fn graph(&self) -> Result<&[Segment], Refusal>
+        ensures segments { IfOk result (λ segments. segments.now ≡ (live ⟦<D as Disk>⟧ self.now).segments) }
+        ensures works { OnOk result (self.now.is_broken ≡ false) }
+        ensures broken { IfErr result (λ refusal. (refusal ≡ Refusal.Broken) × IsTrue self.now.is_broken) }
+    {
+        if self.is_broken {
+            return Err(Refusal::Broken);
+        }
+        Ok(self.detector.segments())
+    }
+
+    /// Durable events of the journal, at most `max`, from the one numbered `from` on, where the first is number 1 (and 0 is
+    /// read as 1). It reads the journal from its beginning on, in two device calls an event at most, and takes memory for the
+    /// answer and for one batch.
+    pub fn durable_events(
+        &mut self,
+        alloc: Global,
+        from: u64,
+        max: usize,
+    ) -> Result<Vec<Named>, Refusal>
+        ensures events { (events : List NamedOf) → IsTrue D.is_honest → IsJournal (D.state self.old.devices.journal).contents events
+            → IfOk result (λ found. found.items ≡ take max (drop (from - 1) events)) }
+        ensures whole { IsTrue D.is_honest → IfErr result (λ refusal. refusal ≢ Refusal.Damaged) }
+        ensures broken { IsTrue self.old.is_broken → (result ≡ Err Refusal.Broken) × (self.new ≡ self.old) }
+        ensures works { IfErr result (λ refusal. refusal ≡ Refusal.Broken → IsTrue self.old.is_broken) }
+        ensures refusal { IfErr result (λ refusal. IsOfReading refusal ⊎ (refusal ≡ Refusal.Broken)) }
+        ensures device { failures_of ⟦<D as Disk>⟧ self.new.devices ≡ failed_after result (failures_of ⟦<D as Disk>⟧ self.old.devices) }
+        ensures rest { self.new ≡ record self.old { devices = record self.old.devices { journal = self.new.devices.journal } } }
+        ensures calls { CallsAtMost ⟦<D as Disk>⟧ (2 * self.old.durable) self.old.devices.journal self.new.devices.journal }
+        ensures images { EachImage ⟦<D as Disk>⟧ self.old.devices self.new.devices (IsLeft (states_of ⟦<D as Disk>⟧ self.old.devices)) }
+    {
+        if self.is_broken {
+            return Err(Refusal::Broken);
+        }
+        collect(&mut self.journal, alloc, self.durable, from, max)
+    }
+}
