@@ -1,5 +1,5 @@
 -- Pages with the frames in their places.
-use Rattle.std.proofs.Common.{◌≡◌, ◌≢◌, ◌-◌, ◌<◌, ◌==◌, ◌∙◌, ℕ, zero, suc, nat_eq, Bool, true, false, cond, List, [], ◌∷◌, ◌++◌, length, get_or, set, slice_get, is_some, option_map, Option, Some, None, if◌then◌else◌, refl, sym, ap, subst, arith}
+use Rattle.std.proofs.Common.{◌≡◌, ◌≢◌, ◌-◌, ◌<◌, ◌==◌, ◌∙◌, ℕ, zero, suc, nat_eq, Bool, true, false, cond, List, [], ◌∷◌, ◌++◌, drop, length, get_or, set, slice_get, is_some, option_map, Option, Some, None, if◌then◌else◌, refl, sym, ap, subst, arith}
 use Rattle.std.specs.List.{AllByRecursion, IsDistinct}
 use Rattle.std.specs.Option.{option_map_or}
 use Rattle.std.specs.Map.{lookup, lookup_entry, remove_entry, keys_of}
@@ -8,9 +8,10 @@ use Rattle.std.proofs.lemmas.Map.Keys.{IsDistinct-head, IsDistinct-tail}
 use Rattle.lru.specs.LruCache.{last_entry, promoted}
 use Rattle.hg_pool.specs.declared.frame.Frame.{Frame}
 use Rattle.hg_pool.specs.declared.frame.Held.{Held}
-use Rattle.hg_pool.specs.Frames.{AreHeld, HasPage, IsFree, frame_at, framed, nothing, with_frame}
+use Rattle.hg_pool.specs.Frames.{AreHeld, HasPage, frame_at, framed, nothing, with_frame}
+use Rattle.hg_recency.specs.Entries.{IsFree, behind, has_place}
 use Rattle.hg_pool.proofs.Lookups.{if_false, if_true, itself, same_number}
-use Rattle.hg_pool.proofs.Orders.{is_listed, listed}
+use Rattle.hg_pool.proofs.Orders.{got_there, is_listed, listed}
 
 module _ (held : List Held) where
   -- a page with its frame
@@ -231,3 +232,46 @@ frame_there held page place f es at is =
 pub no_place : (held : List Held) (page : ℕ) (es : List (ℕ × ℕ)) (o : Option ℕ) → o ≡ lookup (nat_eq page) es → ((place : ℕ) → o ≡ Some place → ⊥) → is_some (lookup (nat_eq page) (framed held es)) ≡ true → ⊥
 no_place held page es None is not there = absurd (cc (sym (ap is_some is ∙ is_there held page es ∙ there)))
 no_place held page es (Some place) is not there = not place refl
+
+-- No two pages have one place, so a place leads to the page behind the one that has it.
+pub got_held : (held : List Held) (es : List (ℕ × ℕ)) (k : ℕ) (e : ℕ × ℕ) → AreHeld held es → slice_get es k ≡ Some e → HasPage held e
+got_held held [] k e all is = absurd (cc is)
+got_held held (f ∷ es) zero e all is = let same : f ≡ e = cc is in subst (λ (x : ℕ × ℕ). HasPage held x) same all.0
+got_held held (f ∷ es) (suc k) e all is = got_held held es k e all.1 is
+
+apart : (held : List Held) (f e : ℕ × ℕ) (es : List (ℕ × ℕ)) (k : ℕ) → IsDistinct nat_eq (keys_of (f ∷ es)) → AreHeld held (f ∷ es) → slice_get es k ≡ Some e → (e.1 == f.1) ≡ false
+apart held f e es k distinct all is = by (e.1 == f.1) refl
+  where
+    by : (b : Bool) → (e.1 == f.1) ≡ b → (e.1 == f.1) ≡ false
+    by true test =
+        let one : e.0 ≡ f.0 = sym (got_held held es k e all.1 is).1 ∙ ap (λ (n : ℕ). (get_or held n nothing).page) (same_number e.1 f.1 test) ∙ all.0.1 in
+        let none = is_listed f.0 es ∙ none_behind held f.0 (keys_of es) (IsDistinct-head nat_eq f.0 (keys_of es) distinct) in
+        absurd (cc (sym (got_there es k e is) ∙ ap (λ (n : ℕ). is_some (lookup (nat_eq n) es)) one ∙ none))
+    by false test = test
+
+pub next_behind : (held : List Held) (es : List (ℕ × ℕ)) (k : ℕ) (e : ℕ × ℕ) → IsDistinct nat_eq (keys_of es) → AreHeld held es → slice_get es k ≡ Some e → (has_place e.1 es ≡ true) × (behind e.1 es ≡ slice_get es (suc k))
+next_behind held [] k e distinct all is = absurd (cc is)
+next_behind held (f ∷ es) zero e distinct all is =
+    let same : f ≡ e = cc is in
+    let test : (e.1 == f.1) ≡ true = ap (λ (x : ℕ × ℕ). e.1 == x.1) same ∙ itself e.1 in
+    (if_true (e.1 == f.1) true (has_place e.1 es) test, if_true (e.1 == f.1) (slice_get es 0) (behind e.1 es) test)
+next_behind held (f ∷ es) (suc k) e distinct all is =
+    let test = apart held f e es k distinct all is in
+    let rest = next_behind held es k e (IsDistinct-tail nat_eq f.0 (keys_of es) distinct) all.1 is in
+    (if_false (e.1 == f.1) true (has_place e.1 es) test ∙ rest.0, if_false (e.1 == f.1) (slice_get es 0) (behind e.1 es) test ∙ rest.1)
+
+-- the entries from one on
+pub rest_from : (es : List (ℕ × ℕ)) (k : ℕ) (e : ℕ × ℕ) → slice_get es k ≡ Some e → drop k es ≡ e ∷ drop (suc k) es
+rest_from [] k e is = absurd (cc is)
+rest_from (f ∷ es) zero e is = let same : f ≡ e = cc is in ap (λ (x : ℕ × ℕ). x ∷ es) same
+rest_from (f ∷ es) (suc k) e is = rest_from es k e is
+
+pub none_from : (es : List (ℕ × ℕ)) (k : ℕ) → slice_get es k ≡ None → drop k es ≡ []
+none_from [] zero is = refl
+none_from [] (suc k) is = refl
+none_from (f ∷ es) zero is = absurd (cc is)
+none_from (f ∷ es) (suc k) is = none_from es k is
+
+pub no_entry : (o : Option (ℕ × ℕ)) → ((e : ℕ × ℕ) → o ≡ Some e → ⊥) → o ≡ None
+no_entry None not = refl
+no_entry (Some e) not = absurd (not e refl)

@@ -1,5 +1,5 @@
 -- Pages in frames, each in a place of its own.
-use Rattle.std.specs.Prelude.{◌≡◌, ◌≢◌, ◌<◌, ℕ, false, List, [], ◌∷◌, length, get_or, set}
+use Rattle.std.specs.Prelude.{◌≡◌, ◌<◌, ℕ, false, List, [], ◌∷◌, length, get_or, set}
 use Rattle.std.specs.List.{AllByRecursion}
 use Rattle.hg_pool.specs.declared.frame.Frame.{Frame}
 use Rattle.hg_pool.specs.declared.frame.Held.{Held}
@@ -24,10 +24,6 @@ HasPage held e = (e.1 < length held) × ((get_or held e.1 nothing).page ≡ e.0)
 -- Each page is in its place, so no two have one.
 abbrev pub AreHeld : List Held → List (ℕ × ℕ) → Type 0
 AreHeld held es = AllByRecursion (λ e. HasPage held e) es
-
--- no page has the place
-abbrev pub IsFree : ℕ → List (ℕ × ℕ) → Type 0
-IsFree place es = AllByRecursion (λ e. e.1 ≢ place) es
 
 -- another frame in the place, of the same page
 abbrev pub with_frame : List Held → ℕ → Frame → List Held

@@ -7,14 +7,15 @@ ghost use Rattle.lru.specs.LruCache.{LruCache as Entries, IsValid, last_entry, p
 ghost use Rattle.hg_cells.specs.Pages.{filled};
 ghost use Rattle.hg_pool.specs.declared.frame.Frame.{Frame as FrameOf};
 ghost use Rattle.hg_pages.specs.Tables.{slot_in};
-ghost use Rattle.hg_pool.specs.Frames.{AreHeld, HasPage, IsFree, frame_at, framed, with_frame};
+ghost use Rattle.hg_pool.specs.Frames.{AreHeld, HasPage, frame_at, framed, with_frame};
 ghost use Rattle.hg_pool.specs.Maps.{frame_in};
 ghost use Rattle.hg_pool.specs.Picking.{HasDirty};
+ghost use Rattle.hg_recency.specs.Entries.{IsFree};
 
 use crate::frame::{Frame, Held};
 use hg_cells::Cell;
 use hg_pages::Table;
-use lru::LruCache;
+use hg_recency::Recency;
 use std::alloc::{AllocError, Global};
 use std::marker::Model;
 use std::num::NonZeroUsize;
@@ -24,10 +25,10 @@ use std::num::NonZeroUsize;
 /// Each stands in a place, and the order of use knows the places. So the page used last is read and changed with no search. Contracts
 /// see the pages with their frames, that used last first.
 pub(crate) struct Frames {
-    order: LruCache<u64, usize>,
+    order: Recency,
     held: Vec<Held>,
     // Places that pages left. No clause rests on that: a place is taken again where its page is not in it any more.
-    left: Vec<usize>,
+    left: Vec<u32>,
 }
 
 impl Drop for Frames {
@@ -52,37 +53,20 @@ impl Model for Frames {
     ghost invariant = { λ f. AreHeld f.held.items f.order.entries };
 }
 
-// The place of a page.
-#[inline]
-fn place_of(order: &LruCache<u64, usize>, page: u64) -> Option<usize>
-    ensures { result ≡ lookup (nat_eq page) order.now.entries }
-{
-    if let Some((first, place)) = order.peek_mru() {
-        if *first == page {
-            return Some(*place);
-        }
-    }
-    match order.peek(&page) {
-        Some(place) => Some(*place),
-        None => None,
-    }
-}
-
 // A place that a page left, and that no other has.
-fn free_place(
-    order: &LruCache<u64, usize>,
-    held: &Vec<Held>,
-    left: &mut Vec<usize>,
-) -> Option<usize>
+fn free_place(order: &Recency, held: &Vec<Held>, left: &mut Vec<u32>) -> Option<u32>
     requires { AreHeld held.now.items order.now.entries }
-    ensures { IfSome result (λ place. (place < length held.now.items) × IsFree place order.now.entries) }
+    ensures { IfSome result (λ place. (place < length held.now.items) × (place < order.now.cap) × IsFree place order.now.entries) }
 {
     let _count = order.len();
     let place = left.pop()?;
-    if place >= held.len() {
+    if place >= order.most() {
         return None;
     }
-    match place_of(order, held[place].page) {
+    if place as usize >= held.len() {
+        return None;
+    }
+    match order.place(held[place as usize].page) {
         None => Some(place),
         Some(at) => { if at == place { None } else { Some(place) } }
     }
@@ -90,22 +74,27 @@ fn free_place(
 
 // Puts a page into a place that no other has.
 fn take_place(
-    order: &LruCache<u64, usize>,
+    order: &Recency,
     held: &mut Vec<Held>,
-    left: &mut Vec<usize>,
+    left: &mut Vec<u32>,
     taken: Held,
-) -> Result<usize, AllocError>
+) -> Result<u32, AllocError>
     requires { AreHeld held.old.items order.now.entries }
     ensures page { IfOk result (λ place. HasPage held.new.items (taken.page, place)) }
     ensures frame { IfOk result (λ place. frame_at held.new.items place ≡ taken.frame) }
+    ensures within { IfOk result (λ place. place < order.now.cap) }
+    ensures free { IfOk result (λ place. IsFree place order.now.entries) }
     ensures held { AreHeld held.new.items order.now.entries }
     ensures others { framed held.new.items order.now.entries ≡ framed held.old.items order.now.entries }
 {
     if let Some(place) = free_place(order, held, left) {
-        held[place] = taken;
+        held[place as usize] = taken;
         return Ok(place);
     }
-    let place = held.len();
+    if held.len() >= order.most() as usize {
+        return Err(AllocError);
+    }
+    let place = held.len() as u32;
     match held.push(taken) {
         Ok(()) => Ok(place),
         Err(_) => Err(AllocError),
@@ -114,33 +103,33 @@ fn take_place(
 
 // The frame in a place.
 #[inline]
-fn frame_of(held: &Vec<Held>, place: usize) -> &Frame
+fn frame_of(held: &Vec<Held>, place: u32) -> &Frame
     requires { place < length held.now.items }
     ensures { result.now ≡ frame_at held.now.items place }
 {
-    &held[place].frame
+    &held[place as usize].frame
 }
 
 // Gives words of the page in a place a cell.
 #[inline]
-fn fill_at(held: &mut Vec<Held>, place: usize, from: usize, to: usize, cell: Cell)
+fn fill_at(held: &mut Vec<Held>, place: u32, from: usize, to: usize, cell: Cell)
     requires place { place < length held.old.items }
     requires in_order { from ≤ to }
     requires in_page { to ≤ 256 }
     ensures held { held.new.items ≡ with_frame held.old.items place (record { cells = filled (frame_at held.old.items place).cells from to cell; is_dirty = true }) }
     ensures words { length (frame_at held.old.items place).cells ≡ 256 }
 {
-    let frame = &mut held[place].frame;
+    let frame = &mut held[place as usize].frame;
     frame.cells.fill(from, to, cell);
     frame.is_dirty = true;
 }
 
 // Marks the page in a place as one that its slot has.
-fn clean_at(held: &mut Vec<Held>, place: usize)
+fn clean_at(held: &mut Vec<Held>, place: u32)
     requires place { place < length held.old.items }
     ensures held { held.new.items ≡ with_frame held.old.items place (record (frame_at held.old.items place) { is_dirty = false }) }
 {
-    held[place].frame.is_dirty = false;
+    held[place as usize].frame.is_dirty = false;
 }
 
 // Adds a page that was changed to a table, under its place in the order of use.
@@ -156,11 +145,7 @@ fn note(table: &mut Table, page: u64, place: u32, frame: &Frame) -> Result<(), A
 }
 
 // The pages that were changed, each with its place in the order of use.
-fn changed_pages(
-    alloc: Global,
-    order: &LruCache<u64, usize>,
-    held: &Vec<Held>,
-) -> Result<Table, AllocError>
+fn changed_pages(alloc: Global, order: &Recency, held: &Vec<Held>) -> Result<Table, AllocError>
     requires held { AreHeld held.now.items order.now.entries }
     requires few { length (framed held.now.items order.now.entries) ≤ 4096 }
     ensures pages { IfOk result (λ table. (q : ℕ) → (is_some (slot_in table.entries q) ≡ true) ↔ HasDirty (framed held.now.items order.now.entries) q) }
@@ -169,9 +154,11 @@ fn changed_pages(
     let _count = order.len();
     let mut table = Table::new(alloc);
     let mut place = 0u32;
-    for (page, at) in order {
-        note(&mut table, *page, place, frame_of(held, *at))?;
+    let mut next = order.newest();
+    while let Some((page, at)) = next {
+        note(&mut table, page, place, frame_of(held, at))?;
         place += 1;
+        next = order.older(at);
     }
     Ok(table)
 }
@@ -183,8 +170,11 @@ impl Frames {
         ensures entries { IfOk result (λ f. f.entries ≡ []) }
         ensures cap { IfOk result (λ f. f.cap ≡ non_zero_usize_get most) }
     {
+        let Ok(places) = u32::try_from(most.get()) else {
+            return Err(AllocError);
+        };
         Ok(Frames {
-            order: LruCache::new(alloc, most)?,
+            order: Recency::new(alloc, places)?,
             held: Vec::with_capacity(alloc, most.get())?,
             left: Vec::with_capacity(alloc, most.get())?,
         })
@@ -196,14 +186,14 @@ impl Frames {
         ensures len { result ≡ length self.now.entries }
         ensures valid { IsValid nat_eq self.now }
     {
-        self.order.len()
+        self.order.len() as usize
     }
 
     /// How many there may be.
     pub(crate) fn most(&self) -> usize
         ensures { result ≡ self.now.cap }
     {
-        self.order.cap().get()
+        self.order.most() as usize
     }
 
     /// The frame of a page.
@@ -211,7 +201,7 @@ impl Frames {
     pub(crate) fn get(&self, page: u64) -> Option<&Frame>
         ensures { option_copied result ≡ frame_in self.now.entries page }
     {
-        match place_of(&self.order, page) {
+        match self.order.place(page) {
             Some(place) => Some(frame_of(&self.held, place)),
             None => None,
         }
@@ -223,10 +213,10 @@ impl Frames {
         ensures frame { IfSome result (λ f. frame_in self.now.entries page ≡ Some f.now) }
         ensures first { IfSome result (λ f. (rest : List ℕ) × (keys_of self.now.entries ≡ page ∷ rest)) }
     {
-        match self.order.peek_mru() {
+        match self.order.newest() {
             Some((first, place)) => {
-                if *first == page {
-                    Some(frame_of(&self.held, *place))
+                if first == page {
+                    Some(frame_of(&self.held, place))
                 } else {
                     None
                 }
@@ -240,8 +230,8 @@ impl Frames {
     pub(crate) fn is_first(&self, page: u64) -> bool
         ensures { IsTrue result → (rest : List ℕ) × (keys_of self.now.entries ≡ page ∷ rest) }
     {
-        match self.order.peek_mru() {
-            Some((first, _)) => *first == page,
+        match self.order.newest() {
+            Some((first, _)) => first == page,
             None => false,
         }
     }
@@ -250,8 +240,8 @@ impl Frames {
     pub(crate) fn oldest(&self) -> Option<u64>
         ensures { result ≡ option_map (λ e. e.0) (last_entry self.now.entries) }
     {
-        match self.order.peek_lru() {
-            Some((page, _)) => Some(*page),
+        match self.order.oldest() {
+            Some((page, _)) => Some(page),
             None => None,
         }
     }
@@ -262,14 +252,14 @@ impl Frames {
         ensures value { result ≡ is_some (frame_in self.old.entries page) }
         ensures entries { self.new ≡ lru_cache (promoted (nat_eq page) self.old.entries) self.old.cap }
     {
-        self.order.promote(&page)
+        self.order.promote(page).is_some()
     }
 
     /// Takes a page out.
     pub(crate) fn remove(&mut self, page: u64)
         ensures entries { self.new ≡ lru_cache (remove_entry (nat_eq page) self.old.entries) self.old.cap }
     {
-        if let Some(place) = self.order.pop(&page) {
+        if let Some(place) = self.order.remove(page) {
             let _noted = self.left.push(place);
         }
     }
@@ -283,8 +273,8 @@ impl Frames {
     {
         let taken = Held { page, frame };
         let place = take_place(&self.order, &mut self.held, &mut self.left, taken)?;
-        match self.order.put(page, place) {
-            Ok(_) => Ok(()),
+        match self.order.insert(page, place) {
+            Ok(()) => Ok(()),
             Err(_) => {
                 let _noted = self.left.push(place);
                 Err(AllocError)
@@ -300,7 +290,7 @@ impl Frames {
         ensures order { keys_of self.new.entries ≡ keys_of self.old.entries }
         ensures cap { self.new.cap ≡ self.old.cap }
     {
-        if let Some(place) = place_of(&self.order, page) {
+        if let Some(place) = self.order.place(page) {
             clean_at(&mut self.held, place);
         }
     }
@@ -317,7 +307,7 @@ impl Frames {
         ensures order { keys_of self.new.entries ≡ keys_of self.old.entries }
         ensures cap { self.new.cap ≡ self.old.cap }
     {
-        if let Some(place) = place_of(&self.order, page) {
+        if let Some(place) = self.order.place(page) {
             fill_at(&mut self.held, place, from, to, cell);
         }
     }

@@ -10,13 +10,15 @@ returns-in-None c =
     let place = c.in_ok-place.place in
     let held = c.args.held.now.items in
     let lt : place < length held = search rules in
+    let within : place < c.args.order.now.cap = search rules in
     let at = ap (λ (h : Held). h.page) (get_or_default held place nothing c.index.result.now lt ∙ sym c.index.ensures) in
-    (lt, free_of held c.index.result.now.page place c.args.order.now.entries c.len-count.ensures.valid.0 c.requires at (λ found. absurd (cc (c.in-None.ensures ∙ found))))
+    (lt, within, free_of held c.index.result.now.page place c.args.order.now.entries c.len-count.ensures.valid.0 c.requires at (λ found. absurd (cc (c.in-None.ensures ∙ found))))
 
 pub returns-else-at-place : goal.returns-else-at-place
 returns-else-at-place c =
     let place = c.in_ok-place.place in
     let held = c.args.held.now.items in
     let lt : place < length held = search rules in
+    let within : place < c.args.order.now.cap = search rules in
     let at = ap (λ (h : Held). h.page) (get_or_default held place nothing c.index.result.now lt ∙ sym c.index.ensures) in
-    (lt, free_of held c.index.result.now.page place c.args.order.now.entries c.len-count.ensures.valid.0 c.requires at (λ found. c.if-at-place.false (cc (c.in-Some.ensures ∙ found))))
+    (lt, within, free_of held c.index.result.now.page place c.args.order.now.entries c.len-count.ensures.valid.0 c.requires at (λ found. c.if-at-place.false (cc (c.in-Some.ensures ∙ found))))

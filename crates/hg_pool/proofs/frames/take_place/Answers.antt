@@ -5,10 +5,10 @@ use Rattle.hg_pool.proofs.Framing.{free_framed, free_held, more_framed, more_hel
 use Rattle.hg_pool.proofs.frames.take_place.Goals as goal
 
 pub returns-in-Some-clause-held : goal.returns-in-Some-clause-held
-returns-in-Some-clause-held c = free_held c.args.held.now.items c.in-Some.place c.args.taken c.args.order.now.entries c.in-Some.ensures.1 c.requires
+returns-in-Some-clause-held c = free_held c.args.held.now.items c.in-Some.place c.args.taken c.args.order.now.entries c.in-Some.ensures.2 c.requires
 
 pub returns-in-Some-clause-others : goal.returns-in-Some-clause-others
-returns-in-Some-clause-others c = free_framed c.args.held.now.items c.in-Some.place c.args.taken c.args.order.now.entries c.in-Some.ensures.1
+returns-in-Some-clause-others c = free_framed c.args.held.now.items c.in-Some.place c.args.taken c.args.order.now.entries c.in-Some.ensures.2
 
 pub returns-in-Ok-clause-held : goal.returns-in-Ok-clause-held
 returns-in-Ok-clause-held c =

@@ -49,9 +49,9 @@ returns-in-Some-clause-order c =
 pub returns-in_default-clause-frames : goal.returns-in_default-clause-frames
 returns-in_default-clause-frames c f is q =
     let s = c.self.inside in
-    absurd (no_place s.held.items c.args.page s.order.entries c.place_of.result c.place_of.ensures c.in_default.not-Some (ap (λ (x : LruCache ℕ Frame). is_some (frame_in x.entries c.args.page)) c.self.view_is ∙ c.requires.page))
+    absurd (no_place s.held.items c.args.page s.order.entries c.place.result c.place.ensures c.in_default.not-Some (ap (λ (x : LruCache ℕ Frame). is_some (frame_in x.entries c.args.page)) c.self.view_is ∙ c.requires.page))
 
 pub returns-in_default-clause-words : goal.returns-in_default-clause-words
 returns-in_default-clause-words c f is =
     let s = c.self.inside in
-    absurd (no_place s.held.items c.args.page s.order.entries c.place_of.result c.place_of.ensures c.in_default.not-Some (ap (λ (x : LruCache ℕ Frame). is_some (frame_in x.entries c.args.page)) c.self.view_is ∙ c.requires.page))
+    absurd (no_place s.held.items c.args.page s.order.entries c.place.result c.place.ensures c.in_default.not-Some (ap (λ (x : LruCache ℕ Frame). is_some (frame_in x.entries c.args.page)) c.self.view_is ∙ c.requires.page))

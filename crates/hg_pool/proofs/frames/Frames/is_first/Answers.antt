@@ -11,6 +11,6 @@ pub returns-in-Some : goal.returns-in-Some
 returns-in-Some c test =
     let f = c.self.inside in
     let es = f.order.entries in
-    let first : Some (c.in-Some.first.now, c.in-Some.field-0-1.now) ≡ slice_get es 0 = search rules in
-    let at = first_order es (c.in-Some.first.now, c.in-Some.field-0-1.now) c.args.page (sym first) (same_number c.in-Some.first.now c.args.page test) in
+    let first : Some (c.in-Some.first, c.in-Some.field-0-1) ≡ slice_get es 0 = search rules in
+    let at = first_order es (c.in-Some.first, c.in-Some.field-0-1) c.args.page (sym first) (same_number c.in-Some.first c.args.page test) in
     (at.0, ap (λ (x : LruCache ℕ Frame). keys_of x.entries) (sym c.self.view_is) ∙ keys_framed f.held.items es ∙ at.1)

@@ -7,7 +7,7 @@ use Rattle.hg_pool.proofs.frames.Frames.oldest.Goals as goal
 pub returns-in-Some : goal.returns-in-Some
 returns-in-Some c =
     let f = c.self.inside in
-    let last : Some (c.in-Some.page.now, c.in-Some.field-0-1.now) ≡ last_entry f.order.entries = search rules in
+    let last : Some (c.in-Some.page, c.in-Some.field-0-1) ≡ last_entry f.order.entries = search rules in
     ap (λ (o : Option (ℕ × ℕ)). option_map (λ e. e.0) o) last
     ∙ sym (last_framed f.held.items f.order.entries)
     ∙ ap (λ (x : LruCache ℕ Frame). option_map (λ e. e.0) (last_entry x.entries)) c.self.view_is

@@ -14,7 +14,7 @@ invariant_of-self c =
 pub returns-clause-value : goal.returns-clause-value
 returns-clause-value c =
     let f = c.self.inside in
-    c.promote.ensures.value ∙ is_there f.held.items c.args.page f.order.entries ∙ ap (λ (x : LruCache ℕ Frame). is_some (frame_in x.entries c.args.page)) c.self.view_is
+    c.is_some.ensures ∙ ap is_some c.promote.ensures.place ∙ is_there f.held.items c.args.page f.order.entries ∙ ap (λ (x : LruCache ℕ Frame). is_some (frame_in x.entries c.args.page)) c.self.view_is
 
 pub returns-clause-entries : goal.returns-clause-entries
 returns-clause-entries c =

@@ -9,18 +9,18 @@ use Rattle.hg_pool.proofs.frames.Frames.remove.Goals as goal
 pub invariant_of-self : goal.invariant_of-self
 invariant_of-self c =
     let f = c.self.inside in
-    subst (λ (x : LruCache ℕ ℕ). AreHeld f.held.items x.entries) (sym c.pop.ensures.entries) (held_removed f.held.items c.args.page f.order.entries c.self.invariant)
+    subst (λ (x : LruCache ℕ ℕ). AreHeld f.held.items x.entries) (sym c.remove.ensures.entries) (held_removed f.held.items c.args.page f.order.entries c.self.invariant)
 
 pub invariant_of-self-in_default : goal.invariant_of-self-in_default
 invariant_of-self-in_default c =
     let f = c.self.inside in
-    subst (λ (x : LruCache ℕ ℕ). AreHeld f.held.items x.entries) (sym c.pop.ensures.entries) (held_removed f.held.items c.args.page f.order.entries c.self.invariant)
+    subst (λ (x : LruCache ℕ ℕ). AreHeld f.held.items x.entries) (sym c.remove.ensures.entries) (held_removed f.held.items c.args.page f.order.entries c.self.invariant)
 
 pub returns-in-Some : goal.returns-in-Some
 returns-in-Some c =
     let f = c.self.inside in
     record {
-      entries = ap (λ (x : LruCache ℕ ℕ). lru_cache (framed f.held.items x.entries) x.cap) c.pop.ensures.entries
+      entries = ap (λ (x : LruCache ℕ ℕ). lru_cache (framed f.held.items x.entries) x.cap) c.remove.ensures.entries
           ∙ ap (λ (es : List (ℕ × Frame)). lru_cache es f.order.cap) (removed_framed f.held.items c.args.page f.order.entries)
           ∙ ap (λ (x : LruCache ℕ Frame). lru_cache (remove_entry (nat_eq c.args.page) x.entries) x.cap) c.self.view_is;
     }
@@ -29,7 +29,7 @@ pub returns-in_default : goal.returns-in_default
 returns-in_default c =
     let f = c.self.inside in
     record {
-      entries = ap (λ (x : LruCache ℕ ℕ). lru_cache (framed f.held.items x.entries) x.cap) c.pop.ensures.entries
+      entries = ap (λ (x : LruCache ℕ ℕ). lru_cache (framed f.held.items x.entries) x.cap) c.remove.ensures.entries
           ∙ ap (λ (es : List (ℕ × Frame)). lru_cache es f.order.cap) (removed_framed f.held.items c.args.page f.order.entries)
           ∙ ap (λ (x : LruCache ℕ Frame). lru_cache (remove_entry (nat_eq c.args.page) x.entries) x.cap) c.self.view_is;
     }
