@@ -10,7 +10,7 @@ use Rattle.hg_pool.specs.declared.frame.Frame.{Frame}
 use Rattle.hg_pool.specs.declared.frame.Held.{Held}
 use Rattle.hg_pool.specs.Frames.{AreHeld, HasPage, frame_at, framed, nothing, with_frame}
 use Rattle.hg_recency.specs.Entries.{IsFree, behind, has_place}
-use Rattle.hg_pool.proofs.Lookups.{if_false, if_true, itself, same_number}
+use Rattle.hg_pool.proofs.Lookups.{if_false, if_true, itself, looked_promoted, same_number}
 use Rattle.hg_pool.proofs.Orders.{got_there, is_listed, listed}
 
 module _ (held : List Held) where
@@ -221,6 +221,15 @@ pub written : (held : List Held) (page place q : ℕ) (f : Frame) (es : List (�
     → lookup (nat_eq q) (framed (with_frame held place f) es) ≡ (if page == q then Some f else lookup (nat_eq q) (framed held es))
 written held page place q f es all is =
     looked_framed (with_frame held place f) q es ∙ looked_with held page place q f es all is ∙ ap (λ (o : Option Frame). if page == q then Some f else o) (sym (looked_framed held q es))
+
+-- and so where the page was used anew
+pub written_used : (held : List Held) (page place q : ℕ) (f : Frame) (es : List (ℕ × ℕ)) → IsDistinct nat_eq (keys_of es) → AreHeld held es → lookup (nat_eq page) es ≡ Some place
+    → lookup (nat_eq q) (framed (with_frame held place f) (promoted (nat_eq page) es)) ≡ (if page == q then Some f else lookup (nat_eq q) (framed held es))
+written_used held page place q f es distinct all is =
+    looked_framed (with_frame held place f) q (promoted (nat_eq page) es)
+    ∙ ap (λ (o : Option ℕ). option_map (frame_at (with_frame held place f)) o) (looked_promoted page q es distinct)
+    ∙ sym (looked_framed (with_frame held place f) q es)
+    ∙ written held page place q f es all is
 
 -- the frame of a page in this place
 pub frame_there : (held : List Held) (page place : ℕ) (f : Frame) (es : List (ℕ × ℕ)) → lookup (nat_eq page) es ≡ Some place → lookup (nat_eq page) (framed held es) ≡ Some f → frame_at held place ≡ f

@@ -1,8 +1,10 @@
 -- Pages in frames, each in a place of its own.
-use Rattle.std.specs.Prelude.{◌≡◌, ◌<◌, ℕ, false, List, [], ◌∷◌, length, get_or, set}
+use Rattle.std.specs.Prelude.{◌≡◌, ◌≤◌, ◌<◌, ℕ, false, List, [], ◌∷◌, Some, length, get_or, set, slice_get}
 use Rattle.std.specs.List.{AllByRecursion}
+use Rattle.hg_cells.specs.declared.cell.Cell.{Cell}
 use Rattle.hg_pool.specs.declared.frame.Frame.{Frame}
 use Rattle.hg_pool.specs.declared.frame.Held.{Held}
+use Rattle.hg_pool.specs.Maps.{frame_in}
 
 -- what lies beyond the last place
 abbrev pub nothing : Held
@@ -24,6 +26,10 @@ HasPage held e = (e.1 < length held) × ((get_or held e.1 nothing).page ≡ e.0)
 -- Each page is in its place, so no two have one.
 abbrev pub AreHeld : List Held → List (ℕ × ℕ) → Type 0
 AreHeld held es = AllByRecursion (λ e. HasPage held e) es
+
+-- the page is there, and its words from one place up to another have the cell
+abbrev pub HasCell : List (ℕ × Frame) → ℕ → ℕ → ℕ → Cell → Type 0
+HasCell frames page from to cell = (f : Frame) × (frame_in frames page ≡ Some f) × ((i : ℕ) → from ≤ i → i < to → slice_get f.cells i ≡ Some cell)
 
 -- another frame in the place, of the same page
 abbrev pub with_frame : List Held → ℕ → Frame → List Held

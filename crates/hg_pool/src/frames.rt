@@ -7,7 +7,7 @@ ghost use Rattle.lru.specs.LruCache.{LruCache as Entries, IsValid, last_entry, p
 ghost use Rattle.hg_cells.specs.Pages.{filled};
 ghost use Rattle.hg_pool.specs.declared.frame.Frame.{Frame as FrameOf};
 ghost use Rattle.hg_pages.specs.Tables.{slot_in};
-ghost use Rattle.hg_pool.specs.Frames.{AreHeld, HasPage, frame_at, framed, with_frame};
+ghost use Rattle.hg_pool.specs.Frames.{AreHeld, HasCell, HasPage, frame_at, framed, with_frame};
 ghost use Rattle.hg_pool.specs.Maps.{frame_in};
 ghost use Rattle.hg_pool.specs.Picking.{HasDirty};
 ghost use Rattle.hg_recency.specs.Entries.{IsFree};
@@ -225,17 +225,6 @@ impl Frames {
         }
     }
 
-    /// Whether a page is the one used last.
-    #[inline]
-    pub(crate) fn is_first(&self, page: u64) -> bool
-        ensures { IsTrue result → (rest : List ℕ) × (keys_of self.now.entries ≡ page ∷ rest) }
-    {
-        match self.order.newest() {
-            Some((first, _)) => first == page,
-            None => false,
-        }
-    }
-
     /// The page used least recently.
     pub(crate) fn oldest(&self) -> Option<u64>
         ensures { result ≡ option_map (λ e. e.0) (last_entry self.now.entries) }
@@ -253,6 +242,20 @@ impl Frames {
         ensures entries { self.new ≡ lru_cache (promoted (nat_eq page) self.old.entries) self.old.cap }
     {
         self.order.promote(page).is_some()
+    }
+
+    /// Makes a page the one used last, and answers the cell that its words from one place up to another all have, where they have
+    /// one. `None` where the page is not there.
+    #[inline(always)]
+    pub(crate) fn ask(&mut self, page: u64, from: usize, to: usize) -> Option<Option<Cell>>
+        requires in_order { from < to }
+        requires in_page { to ≤ 256 }
+        ensures there { is_some result ≡ is_some (frame_in self.old.entries page) }
+        ensures entries { self.new ≡ lru_cache (promoted (nat_eq page) self.old.entries) self.old.cap }
+        ensures cells { IfSome result (λ answer. IfSome answer (λ cell. HasCell self.old.entries page from to cell)) }
+    {
+        let place = self.order.promote(page)?;
+        Some(frame_of(&self.held, place).cells.same(from, to))
     }
 
     /// Takes a page out.
@@ -295,19 +298,20 @@ impl Frames {
         }
     }
 
-    /// Gives some words of a page a cell. The order of use stays.
-    #[inline]
-    pub(crate) fn fill(&mut self, page: u64, from: usize, to: usize, cell: Cell)
+    /// Gives some words of a page a cell, and makes it the one used last.
+    #[inline(always)]
+    pub(crate) fn update(&mut self, page: u64, from: usize, to: usize, cell: Cell)
         requires page { is_some (frame_in self.old.entries page) ≡ true }
         requires in_order { from ≤ to }
         requires in_page { to ≤ 256 }
         ensures frames { (f : FrameOf) → frame_in self.old.entries page ≡ Some f
             → (q : ℕ) → frame_in self.new.entries q ≡ (if page == q then Some (record { cells = filled f.cells from to cell; is_dirty = true }) else frame_in self.old.entries q) }
         ensures words { (f : FrameOf) → frame_in self.old.entries page ≡ Some f → length f.cells ≡ 256 }
-        ensures order { keys_of self.new.entries ≡ keys_of self.old.entries }
+        ensures order { keys_of self.new.entries ≡ keys_of (promoted (nat_eq page) self.old.entries) }
         ensures cap { self.new.cap ≡ self.old.cap }
     {
-        if let Some(place) = self.order.place(page) {
+        let _count = self.order.len();
+        if let Some(place) = self.order.promote(page) {
             fill_at(&mut self.held, place, from, to, cell);
         }
     }

@@ -1,5 +1,5 @@
 //! Pages come into frames, and are changed there.
-ghost use Rattle.std.specs.Prelude.{◌≡◌, ◌≢◌, ◌⊎◌, ◌+◌, ◌/◌, ◌<◌, ◌≤◌, ◌^◌, ◌==◌, ℕ, List, ◌∷◌, length, get_or, true, false, Some, None, is_some, IsTrue, OnOk, OnErr, IfOk, IfErr, if◌then◌else◌};
+ghost use Rattle.std.specs.Prelude.{◌≡◌, ◌≢◌, ◌⊎◌, ◌+◌, ◌/◌, ◌<◌, ◌≤◌, ◌^◌, ◌==◌, ℕ, List, ◌∷◌, length, get_or, true, false, Some, None, is_some, IsTrue, OnOk, OnErr, IfOk, IfErr, IfSome, if◌then◌else◌};
 ghost use Rattle.hg_cells.specs.declared.cell.Cell.TheVariants.{New};
 ghost use Rattle.hg_cells.specs.Cells.{IsWithin};
 ghost use Rattle.hg_cells.specs.Pages.{filled};
@@ -7,6 +7,7 @@ ghost use Rattle.hg_detect.specs.Words.{failed_after};
 ghost use Rattle.hg_pages.specs.Slots.{IsKnown};
 ghost use Rattle.hg_pages.specs.Tables.{slot_in};
 ghost use Rattle.hg_pool.specs.declared.frame.Frame.{Frame as FrameOf};
+ghost use Rattle.hg_pool.specs.Frames.{HasCell};
 ghost use Rattle.hg_pool.specs.Maps.{bytes_of, copy_in, disk_of, frame_in, in_slot, live};
 ghost use Rattle.hg_pool.specs.Kept.{AreWithin, IsWhole, Stays, Went};
 ghost use Rattle.hg_pool.specs.Answers.{IsTrueCause, order_of, order_with};
@@ -66,31 +67,24 @@ impl<D: Disk> Parts<D> {
         self.take_in(page, cells)
     }
 
-    // Whether the page is the one used last.
-    #[inline]
-    fn is_last(&self, page: u64) -> bool
-        ensures { IsTrue result → (rest : List ℕ) × (order_of (shown_of self.now) ≡ page ∷ rest) }
-    {
-        self.frames.is_first(page)
-    }
-
-    /// Makes a page the one used last, and answers whether it is in memory.
-    #[inline]
-    pub(crate) fn touch(&mut self, page: u64) -> bool
+    /// Makes a page the one used last, and answers the cell that its words from one place up to another all have, where they have
+    /// one. `None` where the page is not in memory.
+    #[inline(always)]
+    pub(crate) fn ask(&mut self, page: u64, from: usize, to: usize) -> Option<Option<Cell>>
         requires sound { IsSound self.old }
+        requires in_order { from < to }
+        requires in_page { to ≤ 256 }
         ensures sound { IsSound self.new }
         ensures reached { IsReached self.old → IsReached self.new }
         ensures stays { Stays ⟦<D as Disk>⟧ (shown_of self.old) (shown_of self.new) }
         ensures rest { self.new ≡ record self.old { frames = self.new.frames } }
-        ensures looks { (q : ℕ) → frame_in self.new.frames.entries q ≡ frame_in self.old.frames.entries q }
-        ensures cap { self.new.frames.cap ≡ self.old.frames.cap }
-        ensures answer { result ≡ is_some (frame_in self.old.frames.entries page) }
-        ensures order { IsTrue result → order_of (shown_of self.new) ≡ order_with (shown_of self.old) page }
+        ensures within { (n m : ℕ) → AreWithin self.old.frames.entries n m → AreWithin self.new.frames.entries n m }
+        ensures cells { IfSome result (λ answer. IfSome answer (λ cell. HasCell self.new.frames.entries page from to cell)) }
+        ensures order { is_some (frame_in self.old.frames.entries page) ≡ true → order_of (shown_of self.new) ≡ order_with (shown_of self.old) page }
+        ensures answer { is_some result ≡ is_some (frame_in self.old.frames.entries page) }
     {
-        if self.is_last(page) {
-            return true;
-        }
-        self.use_page(page)
+        let _count = self.frames.len();
+        self.frames.ask(page, from, to)
     }
 
     /// Brings a page into a frame, as the one used last.
@@ -110,9 +104,6 @@ impl<D: Disk> Parts<D> {
         ensures undamaged { IsWhole ⟦<D as Disk>⟧ (shown_of self.old) → ((w : ℕ) → w / 256 ≡ page → IsKnown segments sets.now.sets (live ⟦<D as Disk>⟧ (shown_of self.old) w)) → IfErr result (λ r. r ≢ Refusal.Damaged) }
         ensures device { D.failures (disk_of (shown_of self.new)) ≡ failed_after result (D.failures (disk_of (shown_of self.old))) }
     {
-        if self.is_last(page) {
-            return Ok(());
-        }
         if self.use_page(page) {
             return Ok(());
         }
@@ -120,26 +111,8 @@ impl<D: Disk> Parts<D> {
         self.read_in(page, segments, sets)
     }
 
-    /// Gives words of a page a cell. The order of use stays.
-    #[inline]
-    pub(crate) fn fill(&mut self, page: u64, from: usize, to: usize, cell: Cell)
-        requires sound { IsSound self.old }
-        requires present { is_some (frame_in self.old.frames.entries page) ≡ true }
-        requires settled { (slot_in self.old.waiting.entries page ≡ None) ⊎ (is_some (copy_in self.old.copies.entries page) ≡ true) }
-        requires in_order { from ≤ to }
-        requires in_page { to ≤ 256 }
-        ensures sound { IsSound self.new }
-        ensures went { Went ⟦<D as Disk>⟧ (shown_of self.old) (shown_of self.new) }
-        ensures rest { self.new ≡ record self.old { frames = self.new.frames } }
-        ensures frames { (f : FrameOf) → frame_in self.old.frames.entries page ≡ Some f
-            → (length f.cells ≡ 256) × ((q : ℕ) → frame_in self.new.frames.entries q ≡ (if page == q then Some (record { cells = filled f.cells from to cell; is_dirty = true }) else frame_in self.old.frames.entries q)) }
-        ensures order { order_of (shown_of self.new) ≡ order_of (shown_of self.old) }
-    {
-        self.frames.fill(page, from, to, cell);
-    }
-
     /// Gives words of a page a cell, and makes it the one used last.
-    #[inline]
+    #[inline(always)]
     pub(crate) fn update(&mut self, page: u64, from: usize, to: usize, cell: Cell)
         requires sound { IsSound self.old }
         requires present { is_some (frame_in self.old.frames.entries page) ≡ true }
@@ -154,7 +127,6 @@ impl<D: Disk> Parts<D> {
             → (length f.cells ≡ 256) × ((q : ℕ) → frame_in self.new.frames.entries q ≡ (if page == q then Some (record { cells = filled f.cells from to cell; is_dirty = true }) else frame_in self.old.frames.entries q)) }
         ensures order { order_of (shown_of self.new) ≡ order_with (shown_of self.old) page }
     {
-        let _present = self.touch(page);
-        self.fill(page, from, to, cell);
+        self.frames.update(page, from, to, cell);
     }
 }

@@ -105,18 +105,6 @@ impl<D: Disk> Pool<D> {
         self.parts.frames.first(page)
     }
 
-    // Makes a page the one used last, and answers whether it is in memory.
-    #[inline]
-    fn touch(&mut self, page: u64) -> bool
-        ensures stays { Stays ⟦<D as Disk>⟧ self.old self.new }
-        ensures rest { self.new ≡ record self.old { frames = self.new.frames } }
-        ensures within { (n m : ℕ) → AreWithin self.old.frames n m → AreWithin self.new.frames n m }
-        ensures order { IsTrue result → order_of self.new ≡ order_with self.old page }
-        ensures answer { result ≡ is_some (frame_in self.old.frames page) }
-    {
-        self.parts.touch(page)
-    }
-
     /// The cell that the words of a page from one place up to another all have, where the page is in memory and may be changed. (`None`
     /// says nothing of them.) The page becomes the one used last.
     #[inline]
@@ -130,14 +118,11 @@ impl<D: Disk> Pool<D> {
         ensures settled { IfSome result (λ cell. IsSettled self.new page) }
         ensures order { is_some (frame_in self.old.frames page) ≡ true → order_of self.new ≡ order_with self.old page }
     {
-        if !self.touch(page) {
-            return None;
-        }
+        let answer = self.parts.ask(page, from, to)?;
         if !self.is_settled(page) {
             return None;
         }
-        let frame = self.last_frame(page)?;
-        frame.cells.same(from, to)
+        answer
     }
 
     // Gives the words of a page from one place up to another a cell.

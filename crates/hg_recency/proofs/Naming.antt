@@ -1,5 +1,5 @@
 -- Places with their keys.
-use Rattle.std.proofs.Common.{◌≡◌, ◌<◌, ◌==◌, ◌∙◌, ℕ, suc, nat_eq, Bool, true, false, cond, List, [], ◌∷◌, ◌++◌, length, Option, Some, None, if◌then◌else◌, refl, sym, ap}
+use Rattle.std.proofs.Common.{◌≡◌, ◌<◌, ◌==◌, ◌∙◌, ℕ, suc, nat_eq, Bool, true, false, cond, List, [], ◌∷◌, ◌++◌, length, slice_get, Option, Some, None, if◌then◌else◌, refl, sym, ap}
 use Rattle.std.specs.List.{AllByRecursion, IsDistinct}
 use Rattle.std.specs.Option.{option_map_or}
 use Rattle.std.specs.Map.{keys_of, lookup, lookup_entry, remove_entry}
@@ -205,3 +205,13 @@ none_there k (e ∷ es) is = here (k == e.0) is (none_there k es)
 
 pub none_promoted : (k : ℕ) (es : List (ℕ × ℕ)) → lookup (nat_eq k) es ≡ None → promoted (nat_eq k) es ≡ es
 none_promoted k es is = ap (λ (o : Option (ℕ × ℕ)). option_map_or (λ e. e ∷ remove_entry (nat_eq k) es) o es) (none_there k es is).0
+
+-- The first key has its place, and stays first where it is used again.
+pub first_again : (k f p : ℕ) (es : List (ℕ × ℕ)) → slice_get es 0 ≡ Some (f, p) → f ≡ k → (lookup (nat_eq k) es ≡ Some p) × (promoted (nat_eq k) es ≡ es)
+first_again k f p [] is at = absurd (cc is)
+first_again k f p (e ∷ es) is at =
+    let same : e ≡ (f, p) = cc is in
+    let test : (k == e.0) ≡ true = ap (λ (x : ℕ × ℕ). k == x.0) same ∙ ap (λ (n : ℕ). k == n) at ∙ itself k in (
+      if_true (k == e.0) (Some e.1) (lookup (nat_eq k) es) test ∙ ap (λ (x : ℕ × ℕ). Some x.1) same,
+      ap (λ (b : Bool). option_map_or (λ x. x ∷ cond b es (e ∷ remove_entry (nat_eq k) es)) (cond b (Some e) (lookup_entry (nat_eq k) es)) (e ∷ es)) test,
+    )

@@ -149,9 +149,8 @@ impl Recency {
         Some((key(&self.nodes, place), place))
     }
 
-    /// Makes a key the one used last, and answers its place, where it has one.
-    #[inline]
-    pub fn promote(&mut self, key: u64) -> Option<u32>
+    // Makes a key the one used last, wherever it stands.
+    fn bring_first(&mut self, key: u64) -> Option<u32>
         ensures place { result ≡ lookup (nat_eq key) self.old.entries }
         ensures entries { self.new ≡ lru_cache (promoted (nat_eq key) self.old.entries) self.old.cap }
     {
@@ -159,6 +158,20 @@ impl Recency {
         unlink(&mut self.nodes, place);
         link(&mut self.nodes, self.end, place);
         Some(place)
+    }
+
+    /// Makes a key the one used last, and answers its place, where it has one. The key used last is asked first.
+    #[inline(always)]
+    pub fn promote(&mut self, key: u64) -> Option<u32>
+        ensures place { result ≡ lookup (nat_eq key) self.old.entries }
+        ensures entries { self.new ≡ lru_cache (promoted (nat_eq key) self.old.entries) self.old.cap }
+    {
+        if let Some((first, place)) = self.newest() {
+            if first == key {
+                return Some(place);
+            }
+        }
+        self.bring_first(key)
     }
 
     /// Takes a key out, and answers the place that it had.

@@ -9,7 +9,7 @@ use Rattle.hg_pool.specs.Maps.{frame_in}
 use Rattle.hg_pool.specs.Shown.{Shown}
 use Rattle.hg_pool.proofs.FromSlots.{known_there, not_there}
 use Rattle.hg_pool.specs.Sound.{shown_of}
-use Rattle.hg_pool.proofs.Orders.{before_stays, first_listed, order_last}
+use Rattle.hg_pool.proofs.Orders.{before_stays, first_listed}
 use Rattle.hg_pool.proofs.Stepping.{stays_on}
 use Rattle.hg_pool.specs.Reached.{IsReached}
 use Rattle.hg_pool.specs.Picking.{TakesLeastFree}
@@ -17,19 +17,6 @@ use Rattle.hg_pool.proofs.parts.Parts.load.Goals as goal
 
 pub returns-in_err-make_room-clause-stays : goal.returns-in_err-make_room-clause-stays
 returns-in_err-make_room-clause-stays g c = stays_on g.D.Disk (shown_of c.args.self.now) (shown_of c.use_page.new.self) (shown_of c.make_room.new.self) c.use_page.ensures.stays c.make_room.ensures.stays
-
-pub returns-then-is_last-clause-loaded : goal.returns-then-is_last-clause-loaded
-returns-then-is_last-clause-loaded g c =
-    let at = c.is_last.ensures c.if-is_last.true in
-    first_listed c.args.page c.args.self.now.frames.entries at.0 at.1
-
-pub returns-then-is_last-clause-order : goal.returns-then-is_last-clause-order
-returns-then-is_last-clause-order g c =
-    let at = c.is_last.ensures c.if-is_last.true in
-    order_last c.args.self.now.frames.cap c.args.page c.args.self.now.frames.entries at.0 at.1
-
-pub returns-then-is_last-clause-before : goal.returns-then-is_last-clause-before
-returns-then-is_last-clause-before g c other rest was = first_listed other c.args.self.now.frames.entries rest was
 
 pub returns-then-use_page-clause-before : goal.returns-then-use_page-clause-before
 returns-then-use_page-clause-before g c other rest was = ap is_some (c.use_page.ensures.looks other) ∙ first_listed other c.args.self.now.frames.entries rest was
