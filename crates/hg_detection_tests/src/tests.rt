@@ -5,4 +5,5 @@ mod model;
 mod own;
 mod plain;
 mod races;
+mod recency;
 mod sets;

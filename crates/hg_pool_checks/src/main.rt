@@ -4,6 +4,7 @@
 //! |---|---|
 //! | `memory` | all pages in memory |
 //! | `pool FRAMES EVERY` | at most so many pages in memory, over a file of slots on a disk in memory; after each EVERY events (0: never) the pages that wait are written and sealed, the map is frozen anew, and half of its pages are written |
+//! | `--version` | none: the name of this program is printed, and standard input is no trace |
 //!
 //! The status is 0, or 2 where a line was refused or bad. Where the map has a fault or memory is refused it is 3, and the one line is `fault C`.
 #![tactic(auto)]
@@ -14,7 +15,7 @@ mod maps;
 mod printing;
 
 use crate::maps::{check_in_memory, check_over_pool};
-use crate::printing::put_fault;
+use crate::printing::{put_fault, put_name};
 use hg_model::verdict::Refusal;
 use std::alloc::Global;
 use std::io::{Read, Write};
@@ -46,6 +47,7 @@ fn check(
         return None;
     };
     match name.as_str() {
+        "--version" => Some(put_name(out)),
         "memory" => Some(check_in_memory(alloc, text, out)),
         "pool" => {
             let (frames, every) = numbers_of(rest)?;

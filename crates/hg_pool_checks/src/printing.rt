@@ -70,3 +70,11 @@ pub fn put_fault(refusal: Refusal, out: &mut Vec<u8>) -> u8 {
     let _ = out.extend_from_slice(b"\n");
     3
 }
+
+/// Appends the name of the program, and answers the status.
+pub fn put_name(out: &mut Vec<u8>) -> Result<u8, Refusal> {
+    match out.extend_from_slice(b"hg_pool_checks\n") {
+        Ok(()) => Ok(0),
+        Err(_) => Err(Refusal::OutOfMemory),
+    }
+}

@@ -1,0 +1,55 @@
+ghost use Rattle.std.specs.Prelude.{◌≡◌, [], ◌∷◌, IfOk};
+ghost use Rattle.lru.specs.LruCache.{lru_cache};
+
+use crate::tests::own::Own;
+use hg_recency::Recency;
+use std::alloc::{AllocError, Global};
+use std::process::Abort;
+use std::test::Fail;
+
+/// Three keys, that of the greatest place used last. The first two have one hint.
+fn three_keys(alloc: Global) -> Result<Own<Recency>, AllocError>
+    ensures { IfOk result (λ made. made.it ≡ lru_cache ((30, 2) ∷ (16394, 1) ∷ (10, 0) ∷ []) 4) }
+{
+    let mut order = Recency::new(alloc, 4)?;
+    order.insert(10, 0)?;
+    order.insert(16_394, 1)?;
+    order.insert(30, 2)?;
+    Ok(Own { it: order })
+}
+
+/// Whether so many keys are in order from one to another.
+fn is(rt: &impl Abort, order: &Recency, count: u32, newest: (u64, u32), oldest: (u64, u32)) {
+    assert_eq!(rt; order.len(), count);
+    assert_eq!(rt; order.newest(), Some(newest));
+    assert_eq!(rt; order.oldest(), Some(oldest));
+}
+
+/// Whether a place was answered so.
+fn answers(rt: &impl Abort, found: Option<u32>, wanted: Option<u32>) {
+    assert_eq!(rt; found, wanted);
+}
+
+#[test]
+fn keeps_keys_in_the_order_of_their_use(rt: HostRuntime) -> Result<(), Fail> {
+    let mut own = three_keys(rt.alloc())?;
+    let order = &mut own.it;
+    assert_eq!(rt; order.older(2), Some((16_394, 1)));
+    assert_eq!(rt; order.most(), 4);
+    is(&rt, order, 3, (30, 2), (10, 0));
+    answers(&rt, order.place(10), Some(0));
+    answers(&rt, order.place(16_394), Some(1));
+    answers(&rt, order.place(20), None);
+    is(&rt, order, 3, (30, 2), (10, 0));
+    answers(&rt, order.promote(10), Some(0));
+    answers(&rt, order.promote(10), Some(0));
+    answers(&rt, order.promote(20), None);
+    is(&rt, order, 3, (10, 0), (16_394, 1));
+    answers(&rt, order.remove(10), Some(0));
+    answers(&rt, order.remove(10), None);
+    answers(&rt, order.place(10), None);
+    is(&rt, order, 2, (30, 2), (16_394, 1));
+    order.insert(20, 0)?;
+    is(&rt, order, 3, (20, 0), (16_394, 1));
+    Ok(())
+}
