@@ -19,7 +19,7 @@ use Rattle.hg_store.specs.Recovering.{HasTable}
 use Rattle.hg_store.specs.Shown.{Shown, live, saved}
 use Rattle.hg_store.specs.Store.{Backs, IsFresh}
 use Rattle.hg_check.specs.declared.checker.Ending.{Ending}
-use Rattle.hg_commands.specs.declared.feeding.Fed.{Fed}
+use Rattle.hg_commands.specs.declared.lines.Fed.{Fed}
 use Rattle.hg_commands.specs.Feeding.{ack_text, acks_text, checkpoint_text, feed_end_text, feed_text}
 use Rattle.hg_commands.specs.FeedRunning.{FeedDone, Feeds, GoesOn, IsPrinted, WasCheckpointed, WasCommitted, WasFed, WasMade, is_due, place}
 use Rattle.hg_commands.specs.Storing.{number_text}

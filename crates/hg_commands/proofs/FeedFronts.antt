@@ -14,7 +14,7 @@ use Rattle.hg_check.specs.declared.checker.Ending.{Ending}
 use Rattle.hg_check.specs.Printing.{Took}
 use Rattle.hg_check.specs.Written.{TookFront}
 use Rattle.hg_check.proofs.Printed.{appends_on, front_more}
-use Rattle.hg_commands.specs.declared.feeding.Fed.{Fed}
+use Rattle.hg_commands.specs.declared.lines.Fed.{Fed}
 use Rattle.hg_commands.specs.Feeding.{FeedsTo, ack_text, acks_text, checkpoint_text, feed_end_text, feed_text}
 use Rattle.hg_commands.specs.Printed.{IsPrintedNow}
 use Rattle.hg_commands.specs.Storing.{number_text}

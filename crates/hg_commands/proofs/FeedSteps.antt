@@ -30,7 +30,7 @@ use Rattle.hg_wire.specs.declared.line.LineFault.{LineFault}
 use Rattle.hg_wire.specs.declared.reader.Reading.{Reading}
 use Rattle.hg_check.specs.declared.checker.Ending.{Ending}
 use Rattle.hg_check.specs.declared.checker.Ending.TheVariants.{Refused, Bad}
-use Rattle.hg_commands.specs.declared.feeding.Fed.{Fed}
+use Rattle.hg_commands.specs.declared.lines.Fed.{Fed}
 use Rattle.hg_commands.specs.Feeding.{Answers, FeedsTo, HasRoom, IsOffered, ack_text, acks_text, sent}
 use Rattle.hg_commands.specs.Storing.{IsFeedFault, failed_calls}
 use Rattle.hg_commands.specs.FeedRunning.{BreaksAt, EndsAt, EndsLine, GoesOn, IsEventFault, IsPrinted, IsReady, Passes, Place, WasCounted, WasSent, content_at, place, table_at}

@@ -31,7 +31,7 @@ use Rattle.hg_check.specs.declared.checker.Ending.TheVariants.{Ended, Refused, B
 use Rattle.hg_check.specs.Printing.{MayBe, Took}
 use Rattle.hg_check.specs.Streaming.{IsTold}
 use Rattle.hg_check.specs.Written.{TookFront}
-use Rattle.hg_commands.specs.declared.feeding.Fed.{Fed}
+use Rattle.hg_commands.specs.declared.lines.Fed.{Fed}
 use Rattle.hg_commands.specs.Feeding.{FeedsTo, HasRoom, ack_text, acks_text, checkpoint_text, feed_text, sent}
 use Rattle.hg_commands.specs.Storing.{HasFeedCause, failed_calls}
 

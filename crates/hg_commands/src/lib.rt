@@ -5,6 +5,7 @@ pub mod checkpointing;
 pub mod creating;
 pub mod feeding;
 pub mod laws;
+pub mod lines;
 pub mod listing;
 pub mod moment;
 pub mod opening;

@@ -73,8 +73,8 @@ fn print_kept<W: Write>(
     Ok(())
 }
 
-/// Holds what is left to print of a store, and prints what is much.
-fn print_most<D: Disk, W: Write>(
+/// Prints a listing of a store. What is little at its end stays held.
+fn print_listing<D: Disk, W: Write>(
     alloc: Global,
     store: &Store<D>,
     listing: Listing,
@@ -112,7 +112,7 @@ fn print_store<D: Disk, W: Write>(
     ensures fault { failed_writes output.new.calls ≡ told result + failed_writes output.old.calls }
 {
     let mut held = Vec::new(alloc);
-    print_most(alloc, store, listing, &mut held, output)?;
+    print_listing(alloc, store, listing, &mut held, output)?;
     write_out(&mut held, output)?;
     output.flush()?;
     Ok(())

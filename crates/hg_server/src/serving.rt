@@ -310,20 +310,20 @@ fn serve_over<D: Disk + Send + Drop, G: Gate + Sync, R: Threads + Wait + Clock +
 
 /// Prints what a server prints at its end.
 fn print_end<D: Disk, W: Write>(
+    alloc: Global,
     store: &Store<D>,
     plan: Plan,
-    held: &mut Vec<u8>,
     output: &mut Output<W>,
 ) -> Result<(), Refusal>
     requires works { store.now.is_broken ≡ false }
-    requires none { held.old.items ≡ [] }
     ensures printed { OnOk result (Took output.old.calls output.new.calls (served_text plan.connections (live ⟦<D as Disk>⟧ store.now))) }
     ensures front { (first : List WriteCall) (before : List ℕ) → Took first output.old.calls before
         → OnErr result (TookFront first output.new.calls (before ++ served_text plan.connections (live ⟦<D as Disk>⟧ store.now))) }
     ensures cause { IfErr result IsStreamFault }
 {
-    print_number(b"served ", u64::from(plan.connections), held, output)?;
-    hold_end_line(store, held)?;
+    print_number(b"served ", u64::from(plan.connections), output)?;
+    let mut held = Vec::new(alloc);
+    hold_end_line(store, &mut held)?;
     print_now(held.as_slice(), output)?;
     Ok(())
 }
@@ -350,9 +350,8 @@ fn serve_and_print<
     ensures front { OnErr result.ended (TookFront output.old.calls output.new.calls (serving_text plan (live ⟦<D as Disk>⟧ result.store))) }
     ensures cause { IfErr result.ended (λ r. IsServingFault ⟦<D as Disk>⟧ store.devices result.store.devices r) }
 {
-    let mut held = Vec::new(alloc);
     store.stands();
-    if let Err(refusal) = print_number(b"ready ", u64::from(plan.port), &mut held, output) {
+    if let Err(refusal) = print_number(b"ready ", u64::from(plan.port), output) {
         return Service {
             store,
             moments: Trail::new(),
@@ -371,7 +370,7 @@ fn serve_and_print<
             ended: Err(refusal),
         };
     }
-    let ended = print_end(&store, plan, &mut held, output);
+    let ended = print_end(alloc, &store, plan, output);
     Service {
         store,
         moments,

@@ -20,7 +20,6 @@ pub loop-reads-init : goal.loop-reads-init
 loop-reads-init g c = record {
   run = feeding_first g.D.Disk c.args.input.now.calls (place c.args.store.now c.args.fed.now c.args.output.now.calls) c.in_ok-reader.reader (length c.in_ok-buffer.buffer.items)
       c.requires.ready c.requires.start c.in_ok-reader.ensures.start c.in_ok-buffer.ensures.size;
-  none = c.requires.none;
   kept = λ start content honest h. h;
   counted = omega arith;
   intact = refl;
@@ -38,7 +37,6 @@ loop-reads-preserved g c =
           (subst (λ (n : ℕ). FeedAdvances g.D.Disk c.loop-reads.input.calls c.advance.new.input.calls c.loop-reads.reader mid c.advance.new.reader new n)
           (ap length c.as_mut_slice.ensures.value) (c.in_ok-progress.ensures.underway (ap Ok c.in-Underway.is)))
           (resized c.loop-reads.buffer.len c.advance.new.buffer c.loop-reads.buffer.items (c.advance.ensures.size ∙ ap length c.as_mut_slice.ensures.value) (sym c.as_mut_slice.ensures.len ∙ ap length c.as_mut_slice.ensures.value));
-      none = c.in_ok-progress.ensures.none;
       kept = keeps_then g.D.Disk c.args.store.now c.loop-reads.store c.advance.new.store c.args.output.now.calls c.loop-reads.output.calls c.advance.new.output.calls c.args.moments.now c.loop-reads.moments c.advance.new.moments c.loop-reads.invariant.kept c.advance.ensures.kept;
       counted = omega (arith, c.in_ok-progress.ensures.counted, c.loop-reads.invariant.counted);
       intact = omega (arith, c.in_ok-progress.ensures.fault, (c.in_ok-progress.ensures.underway (ap Ok c.in-Underway.is)).goes.failures, c.loop-reads.invariant.intact);

@@ -9,7 +9,6 @@ abbrev pub invariant-loop-reads : goal.invariant-loop-reads
 invariant-loop-reads g l =
     record {
       run : IsFeeding g.D.Disk l.fn.input.calls l.input.calls (place l.fn.store l.fn.fed l.fn.output.calls) (place l.store l.fed l.output.calls) l.reader l.reads (length l.buffer.items);
-      none : l.held.items ≡ [];
       kept : KeepsOn g.D.Disk l.fn.store l.fn.output.calls l.fn.moments l.store l.output.calls l.moments;
       counted : length l.input.calls ≡ l.reads + length l.fn.input.calls;
       intact : failed_reads l.input.calls ≡ failed_reads l.fn.input.calls;

@@ -9,16 +9,16 @@ returns-clause-printed g c =
     let old = c.args.output.now.calls in
     let text = listing_text c.args.listing (live g.D.Disk c.args.store.now) in
     due_flushed old c.write_out.new.output.calls c.flush.new.self.calls c.write_out.new.held.items text c.in_ok-write_out.ensures.none
-    (c.in_ok-write_out.ensures.printed old [] text c.in_ok-print_most.ensures.printed)
+    (c.in_ok-write_out.ensures.printed old [] text c.in_ok-print_listing.ensures.printed)
     (took_by_flush c.write_out.new.output.calls c.flush.new.self.calls c.in_ok-flush.ensures.calls)
 
 pub returns-in_err-write_out-clause-front : goal.returns-in_err-write_out-clause-front
 returns-in_err-write_out-clause-front g c =
-    always_err _ (c.in_err-write_out.ensures.front c.args.output.now.calls [] (listing_text c.args.listing (live g.D.Disk c.args.store.now)) c.in_ok-print_most.ensures.printed)
+    always_err _ (c.in_err-write_out.ensures.front c.args.output.now.calls [] (listing_text c.args.listing (live g.D.Disk c.args.store.now)) c.in_ok-print_listing.ensures.printed)
 
 pub returns-in_err-flush-clause-front : goal.returns-in_err-flush-clause-front
 returns-in_err-flush-clause-front g c =
     let old = c.args.output.now.calls in
     let text = listing_text c.args.listing (live g.D.Disk c.args.store.now) in
     always_err _ (front_by_flush old c.write_out.new.output.calls c.flush.new.self.calls c.write_out.new.held.items [] text c.in_err-flush.ensures.calls
-    (c.in_ok-write_out.ensures.printed old [] text c.in_ok-print_most.ensures.printed))
+    (c.in_ok-write_out.ensures.printed old [] text c.in_ok-print_listing.ensures.printed))

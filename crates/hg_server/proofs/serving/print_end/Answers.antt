@@ -21,7 +21,7 @@ returns-clause-printed g c =
     let end : List ℕ = line_text (store_end_line (live g.D.Disk c.args.store.now)) in
     let old = c.args.output.now.calls in
     let mid = c.print_number.new.output.calls in
-    let held : c.hold_end_line.new.held.items ≡ end = c.in_ok-hold_end_line.ensures.ok ∙ ap (λ (l : List ℕ). l ++ end) c.in_ok-print_number.ensures.none in
+    let held : c.hold_end_line.new.held.items ≡ end = c.in_ok-hold_end_line.ensures.ok ∙ ap (λ (l : List ℕ). l ++ end) c.new-held.ensures.items in
     appends_on old mid c.print_now.new.output.calls (number_text (codes "served ") c.args.plan.connections) end
     (took_line old mid c.from.result c.args.plan.connections c.from.ensures c.in_ok-print_number.ensures.printed)
     (subst (Took mid c.print_now.new.output.calls) (c.as_slice.ensures.value ∙ held) c.in_ok-print_now.ensures.printed)
@@ -52,7 +52,7 @@ returns-in_err-print_now-clause-front g c first before t =
     let old = c.args.output.now.calls in
     let mid = c.print_number.new.output.calls in
     let new = c.print_now.new.output.calls in
-    let held : c.hold_end_line.new.held.items ≡ end = c.in_ok-hold_end_line.ensures.ok ∙ ap (λ (l : List ℕ). l ++ end) c.in_ok-print_number.ensures.none in
+    let held : c.hold_end_line.new.held.items ≡ end = c.in_ok-hold_end_line.ensures.ok ∙ ap (λ (l : List ℕ). l ++ end) c.new-held.ensures.items in
     always_err _ (subst (TookFront first new) (append_assoc before line end)
     (printed_front_on first mid new (before ++ line) end
     (appends_on first old mid before line t (took_line old mid c.from.result c.args.plan.connections c.from.ensures c.in_ok-print_number.ensures.printed))

@@ -6,7 +6,7 @@ use Rattle.hg_commands.specs.FeedRunning.{FeedReaches, place}
 use Rattle.hg_commands.proofs.FeedPieces.{breaks_in, feed_ends_in, feed_reaches_on}
 use Rattle.hg_commands.proofs.Kept.{keeps_then}
 use Rattle.hg_check.proofs.Printed.{always_err}
-use Rattle.hg_commands.proofs.feeding.feed_piece.Goals as goal
+use Rattle.hg_commands.proofs.lines.feed_piece.Goals as goal
 
 rest_is : (k : ℕ) (rest : List ℕ) → take (length rest - k) (drop k rest) ≡ drop k rest
 rest_is k rest = take_all (length rest - k) (drop k rest) (omega (arith, length-drop k rest))
@@ -25,8 +25,7 @@ loop-reading-preserved g c =
       subst (λ (t : List ℕ). FeedReaches g.D.Disk c.args.reader.now old c.args.piece.now c.take.new.self new t) (sym (rest_is used rest))
           (feed_reaches_on g.D.Disk c.args.reader.now c.loop-reading.reader c.take.new.self old mid new c.args.piece.now rest c.in-Line.reading used c.loop-reading.invariant.0
           c.in-Line.ensures (c.in_ok-end.ensures.passes (ap Ok (none_is c.in_ok-end.end (sym c.is_some.ensures ∙ c.if-is_some.false))))),
-      c.in_ok-end.ensures.none,
-      keeps_then g.D.Disk c.args.store.now c.loop-reading.store c.feed_reading.new.store c.args.output.now.calls c.loop-reading.output.calls c.feed_reading.new.output.calls c.args.moments.now c.loop-reading.moments c.feed_reading.new.moments c.loop-reading.invariant.2 c.feed_reading.ensures.kept,
+      keeps_then g.D.Disk c.args.store.now c.loop-reading.store c.feed_reading.new.store c.args.output.now.calls c.loop-reading.output.calls c.feed_reading.new.output.calls c.args.moments.now c.loop-reading.moments c.feed_reading.new.moments c.loop-reading.invariant.1 c.feed_reading.ensures.kept,
     )
 
 pub returns-then-is_some-clause-ends : goal.returns-then-is_some-clause-ends

@@ -1,6 +1,6 @@
 use Rattle.hg_commands.specs.Feeding.{ack_text}
 use Rattle.hg_commands.proofs.Kept.{ack_enough, keeps_commit, keeps_printed, keeps_then}
-use Rattle.hg_commands.proofs.feeding.acknowledge.Goals as goal
+use Rattle.hg_commands.proofs.lines.acknowledge.Goals as goal
 
 pub returns-in_err-committed-clause-kept : goal.returns-in_err-committed-clause-kept
 returns-in_err-committed-clause-kept g c =

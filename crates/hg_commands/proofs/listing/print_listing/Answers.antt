@@ -8,7 +8,7 @@ use Rattle.hg_commands.specs.Storing.{listing_text, store_end_line}
 use Rattle.hg_check.specs.Written.{TookFront}
 use Rattle.hg_check.proofs.Printed.{always_err, due_at_first, due_line, due_more, front_due, front_more, front_none}
 use Rattle.hg_commands.proofs.Fronts.{on_err_weaker}
-use Rattle.hg_commands.proofs.listing.print_most.Goals as goal
+use Rattle.hg_commands.proofs.listing.print_listing.Goals as goal
 
 pub returns-in_ok-print_kept-in-Reports-clause-printed : goal.returns-in_ok-print_kept-in-Reports-clause-printed
 returns-in_ok-print_kept-in-Reports-clause-printed g c =

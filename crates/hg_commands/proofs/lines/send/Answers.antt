@@ -1,6 +1,6 @@
 use Rattle.hg_commands.specs.Feeding.{sent}
 use Rattle.hg_commands.proofs.Kept.{keeps_offer}
-use Rattle.hg_commands.proofs.feeding.send.Goals as goal
+use Rattle.hg_commands.proofs.lines.send.Goals as goal
 
 pub returns-clause-kept : goal.returns-clause-kept
 returns-clause-kept g c =
