@@ -1,0 +1,81 @@
+use Rattle.std.proofs.Common.{◌≡◌, ℕ, ◌-◌, List, [], ◌∷◌, Ok, Err, Some, None, length, take, drop, sym, subst, arith}
+use Rattle.std.proofs.lemmas.List.{length-drop, take_all}
+use Rattle.hg_wire.specs.Accesses.{event_of}
+use Rattle.hg_wire.specs.Streams.{GivesReading}
+use Rattle.hg_reading.specs.Taking.{Passes}
+use Rattle.hg_reading.proofs.Passing.{passes_on, room_for_one, stops_in}
+use Rattle.hg_reading.proofs.pieces.push.Goals as goal
+
+rest_is : (k : ℕ) (rest : List ℕ) → take (length rest - k) (drop k rest) ≡ drop k rest
+rest_is k rest = take_all (length rest - k) (drop k rest) (omega (arith, length-drop k rest))
+
+pub offer_access-requires : goal.offer_access-requires
+offer_access-requires g c = record {
+  room = room_for_one g.S.Sink.takes g.S.Sink.may_take g.met.S.Sink.room g.met.S.Sink.fewer c.args.reader.now c.loop-found.reader c.take_access.new.self c.args.sink.now c.loop-found.sink
+      c.args.output.now.calls c.loop-found.output.calls c.args.piece.now c.loop-found.rest.now _ c.in-Some.found.used c.loop-found.invariant c.in-Some.ensures.access c.requires.room;
+}
+
+pub offer-requires : goal.offer-requires
+offer-requires g c =
+    let gives = subst (λ q. GivesReading q c.take.new.self c.loop-found.rest.now c.in-Line.reading c.in-Line.used) c.in_default.ensures.none c.in-Line.ensures in record {
+      room = room_for_one g.S.Sink.takes g.S.Sink.may_take g.met.S.Sink.room g.met.S.Sink.fewer c.args.reader.now c.loop-found.reader c.take.new.self c.args.sink.now c.loop-found.sink
+          c.args.output.now.calls c.loop-found.output.calls c.args.piece.now c.loop-found.rest.now c.in-Line.reading c.in-Line.used c.loop-found.invariant gives c.requires.room;
+    }
+
+pub returns-in_err-end-clause-breaks : goal.returns-in_err-end-clause-breaks
+returns-in_err-end-clause-breaks g c r is =
+    let same : c.in_err-end.field-0.0 ≡ r = grind arith in
+    let step = subst (λ (n : ℕ). g.S.Sink.takes c.loop-found.sink c.loop-found.output.calls (record { line = n; event = Ok (event_of c.in-Some.found) } ∷ []) (Err r) c.offer_access.new.self c.offer_access.new.output.calls) c.lines.ensures
+    (subst (λ x. g.S.Sink.takes c.loop-found.sink c.loop-found.output.calls (record { line = c.lines.result; event = Ok (event_of c.in-Some.found) } ∷ []) (Err x) c.offer_access.new.self c.offer_access.new.output.calls) same c.in_err-end.ensures.takes) in
+    stops_in g.S.Sink.takes c.args.reader.now c.loop-found.reader c.take_access.new.self c.args.sink.now c.loop-found.sink c.offer_access.new.self
+    c.args.output.now.calls c.loop-found.output.calls c.offer_access.new.output.calls c.args.piece.now c.loop-found.rest.now _ c.in-Some.found.used (Err r) c.loop-found.invariant c.in-Some.ensures.access
+    (g.met.S.Sink.on c.args.sink.now c.loop-found.sink c.offer_access.new.self c.args.output.now.calls c.loop-found.output.calls c.offer_access.new.output.calls c.loop-found.invariant.lines _ (Err r) c.loop-found.invariant.steps step)
+
+pub returns-in-Some-2-clause-ends : goal.returns-in-Some-2-clause-ends
+returns-in-Some-2-clause-ends g c end is =
+    let same : c.in_ok-end.field-0 ≡ Some end = grind arith in
+    let step = subst (λ (n : ℕ). g.S.Sink.takes c.loop-found.sink c.loop-found.output.calls (record { line = n; event = Ok (event_of c.in-Some.found) } ∷ []) (Ok (Some end)) c.offer_access.new.self c.offer_access.new.output.calls) c.lines.ensures
+    (subst (λ x. g.S.Sink.takes c.loop-found.sink c.loop-found.output.calls (record { line = c.lines.result; event = Ok (event_of c.in-Some.found) } ∷ []) (Ok x) c.offer_access.new.self c.offer_access.new.output.calls) same c.in_ok-end.ensures.takes) in
+    stops_in g.S.Sink.takes c.args.reader.now c.loop-found.reader c.take_access.new.self c.args.sink.now c.loop-found.sink c.offer_access.new.self
+    c.args.output.now.calls c.loop-found.output.calls c.offer_access.new.output.calls c.args.piece.now c.loop-found.rest.now _ c.in-Some.found.used (Ok (Some end)) c.loop-found.invariant c.in-Some.ensures.access
+    (g.met.S.Sink.on c.args.sink.now c.loop-found.sink c.offer_access.new.self c.args.output.now.calls c.loop-found.output.calls c.offer_access.new.output.calls c.loop-found.invariant.lines _ (Ok (Some end)) c.loop-found.invariant.steps step)
+
+pub loop-found-preserved-in-Some : goal.loop-found-preserved-in-Some
+loop-found-preserved-in-Some g c =
+    let none : c.in_ok-end.field-0 ≡ None = grind arith in
+    let step = subst (λ (n : ℕ). g.S.Sink.takes c.loop-found.sink c.loop-found.output.calls (record { line = n; event = Ok (event_of c.in-Some.found) } ∷ []) (Ok None) c.offer_access.new.self c.offer_access.new.output.calls) c.lines.ensures
+    (subst (λ x. g.S.Sink.takes c.loop-found.sink c.loop-found.output.calls (record { line = c.lines.result; event = Ok (event_of c.in-Some.found) } ∷ []) (Ok x) c.offer_access.new.self c.offer_access.new.output.calls) none c.in_ok-end.ensures.takes) in
+    subst (λ rest. Passes g.S.Sink.takes c.args.reader.now c.args.sink.now c.args.output.now.calls c.args.piece.now c.take_access.new.self c.offer_access.new.self c.offer_access.new.output.calls rest)
+    (sym (rest_is c.in-Some.found.used c.loop-found.rest.now))
+    (passes_on g.S.Sink.takes c.args.reader.now c.loop-found.reader c.take_access.new.self c.args.sink.now c.loop-found.sink c.offer_access.new.self
+    c.args.output.now.calls c.loop-found.output.calls c.offer_access.new.output.calls c.args.piece.now c.loop-found.rest.now _ c.in-Some.found.used c.loop-found.invariant c.in-Some.ensures.access
+    (g.met.S.Sink.on c.args.sink.now c.loop-found.sink c.offer_access.new.self c.args.output.now.calls c.loop-found.output.calls c.offer_access.new.output.calls c.loop-found.invariant.lines _ (Ok None) c.loop-found.invariant.steps step))
+
+pub loop-found-preserved : goal.loop-found-preserved
+loop-found-preserved g c =
+    let none : c.in_ok-end-2.field-0 ≡ None = grind arith in
+    let gives = subst (λ q. GivesReading q c.take.new.self c.loop-found.rest.now c.in-Line.reading c.in-Line.used) c.in_default.ensures.none c.in-Line.ensures in
+    let step = subst (λ x. g.S.Sink.takes c.loop-found.sink c.loop-found.output.calls (c.in-Line.reading ∷ []) (Ok x) c.offer.new.self c.offer.new.output.calls) none c.in_ok-end-2.ensures.takes in
+    subst (λ rest. Passes g.S.Sink.takes c.args.reader.now c.args.sink.now c.args.output.now.calls c.args.piece.now c.take.new.self c.offer.new.self c.offer.new.output.calls rest)
+    (sym (rest_is c.in-Line.used c.loop-found.rest.now))
+    (passes_on g.S.Sink.takes c.args.reader.now c.loop-found.reader c.take.new.self c.args.sink.now c.loop-found.sink c.offer.new.self
+    c.args.output.now.calls c.loop-found.output.calls c.offer.new.output.calls c.args.piece.now c.loop-found.rest.now c.in-Line.reading c.in-Line.used c.loop-found.invariant gives
+    (g.met.S.Sink.on c.args.sink.now c.loop-found.sink c.offer.new.self c.args.output.now.calls c.loop-found.output.calls c.offer.new.output.calls c.loop-found.invariant.lines (c.in-Line.reading ∷ []) (Ok None) c.loop-found.invariant.steps step))
+
+pub returns-in_err-end-2-clause-breaks : goal.returns-in_err-end-2-clause-breaks
+returns-in_err-end-2-clause-breaks g c r is =
+    let same : c.in_err-end-2.field-0.0 ≡ r = grind arith in
+    let gives = subst (λ q. GivesReading q c.take.new.self c.loop-found.rest.now c.in-Line.reading c.in-Line.used) c.in_default.ensures.none c.in-Line.ensures in
+    let step = subst (λ x. g.S.Sink.takes c.loop-found.sink c.loop-found.output.calls (c.in-Line.reading ∷ []) (Err x) c.offer.new.self c.offer.new.output.calls) same c.in_err-end-2.ensures.takes in
+    stops_in g.S.Sink.takes c.args.reader.now c.loop-found.reader c.take.new.self c.args.sink.now c.loop-found.sink c.offer.new.self
+    c.args.output.now.calls c.loop-found.output.calls c.offer.new.output.calls c.args.piece.now c.loop-found.rest.now c.in-Line.reading c.in-Line.used (Err r) c.loop-found.invariant gives
+    (g.met.S.Sink.on c.args.sink.now c.loop-found.sink c.offer.new.self c.args.output.now.calls c.loop-found.output.calls c.offer.new.output.calls c.loop-found.invariant.lines (c.in-Line.reading ∷ []) (Err r) c.loop-found.invariant.steps step)
+
+pub returns-in-Some-3-clause-ends : goal.returns-in-Some-3-clause-ends
+returns-in-Some-3-clause-ends g c end is =
+    let same : c.in_ok-end-2.field-0 ≡ Some end = grind arith in
+    let gives = subst (λ q. GivesReading q c.take.new.self c.loop-found.rest.now c.in-Line.reading c.in-Line.used) c.in_default.ensures.none c.in-Line.ensures in
+    let step = subst (λ x. g.S.Sink.takes c.loop-found.sink c.loop-found.output.calls (c.in-Line.reading ∷ []) (Ok x) c.offer.new.self c.offer.new.output.calls) same c.in_ok-end-2.ensures.takes in
+    stops_in g.S.Sink.takes c.args.reader.now c.loop-found.reader c.take.new.self c.args.sink.now c.loop-found.sink c.offer.new.self
+    c.args.output.now.calls c.loop-found.output.calls c.offer.new.output.calls c.args.piece.now c.loop-found.rest.now c.in-Line.reading c.in-Line.used (Ok (Some end)) c.loop-found.invariant gives
+    (g.met.S.Sink.on c.args.sink.now c.loop-found.sink c.offer.new.self c.args.output.now.calls c.loop-found.output.calls c.offer.new.output.calls c.loop-found.invariant.lines (c.in-Line.reading ∷ []) (Ok (Some end)) c.loop-found.invariant.steps step)

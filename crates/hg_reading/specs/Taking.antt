@@ -1,0 +1,123 @@
+-- What a sink takes of a trace text.
+use Rattle.std.specs.Prelude.{◌≡◌, ◌⊎◌, ℕ, ◌+◌, ◌^◌, ◌≤◌, List, [], ◌∷◌, ◌++◌, length, Option, None, Some, Result, Ok, Err}
+use Rattle.hg_model.specs.declared.verdict.Refusal.{Refusal}
+use Rattle.hg_model.specs.declared.verdict.Refusal.TheVariants.{DeviceFault, OutOfMemory}
+use Rattle.hg_streams.specs.declared.call.ReadCall.{ReadCall}
+use Rattle.hg_streams.specs.declared.call.ReadCall.TheVariants.{Gave}
+use Rattle.hg_streams.specs.declared.call.WriteCall.{WriteCall}
+use Rattle.hg_streams.specs.Calls.{ends_met, failed_reads, given}
+use Rattle.hg_wire.specs.declared.reader.Reading.{Reading}
+use Rattle.hg_wire.specs.Streams.{Pending, ended_from, ended_readings, readings, readings_from}
+
+-- What was printed ends no run, unless that failed.
+abbrev pub as_stop : {T E : Type 0} → Result T Refusal → Result (Option E) Refusal
+as_stop (Ok done) = Ok None
+as_stop (Err r) = Err r
+
+-- What comes of lines that are offered to a sink S, which ends a run by an E: from a state and the calls of the output, by these lines, to an answer, a state and calls.
+abbrev pub Taking : Type 0 → Type 0 → Type 1
+Taking S E = S → List WriteCall → List Reading → Result (Option E) Refusal → S → List WriteCall → Type 0
+
+-- Whatever follows these bytes, what is read of all of them begins with these lines.
+abbrev pub Begins : List ℕ → List Reading → Type 0
+Begins bytes lines = (more : List ℕ) → (rest : List Reading) × (readings (bytes ++ more) ≡ lines ++ rest)
+
+-- No line is left that a line feed has ended.
+abbrev pub HasNoneLeft : Pending → Type 0
+HasNoneLeft p = ended_from p [] ≡ []
+
+module _ {S E : Type 0} (takes : Taking S E) where
+  -- A piece before the reader was taken up to a rest of it: the lines in front of that were passed.
+  pub record Passes (old : Pending) (before : S) (at_first : List WriteCall) (piece : List ℕ) (new : Pending) (now : S) (at_last : List WriteCall) (rest : List ℕ) : Type 0 where
+    pub lines : List Reading
+    pub steps : takes before at_first lines (Ok None) now at_last
+    pub readings : (more : List ℕ) → readings_from old (piece ++ more) ≡ lines ++ readings_from new (rest ++ more)
+    pub ended : (more : List ℕ) → ended_from old (piece ++ more) ≡ lines ++ ended_from new (rest ++ more)
+    pub counted : new.lines + length rest ≤ old.lines + length piece
+    pub few : length lines + length rest ≤ length piece
+
+  -- A line of the piece ended the run or was broken off, whatever follows the piece.
+  pub record StopsIn (old : Pending) (before : S) (at_first : List WriteCall) (piece : List ℕ) (r : Result (Option E) Refusal) (now : S) (at_last : List WriteCall) : Type 0 where
+    pub lines : List Reading
+    pub steps : takes before at_first lines r now at_last
+    pub front : (more : List ℕ) → (rest : List Reading) × (readings_from old (piece ++ more) ≡ lines ++ rest)
+
+  -- From the first reads to those of now none failed and none met the end, and each line that a line feed ended was passed.
+  pub record HasRead (first now : List ReadCall) (before : S) (at_first : List WriteCall) (p : Pending) (here : S) (at_last : List WriteCall) : Type 0 where
+    pub later : List ReadCall
+    pub since : now ≡ later ++ first
+    pub intact : failed_reads later ≡ 0
+    pub underway : ends_met later ≡ 0
+    pub lines : List Reading
+    pub steps : takes before at_first lines (Ok None) here at_last
+    pub readings : (more : List ℕ) → readings (given later ++ more) ≡ lines ++ readings_from p more
+    pub ended : (more : List ℕ) → ended_readings (given later ++ more) ≡ lines ++ ended_from p more
+    pub none_left : HasNoneLeft p
+
+  -- Each of these reads was needed: before the last of them none had met the end of the input, and each line that had come whole was passed.
+  pub record EachIsNeeded (before : S) (at_first : List WriteCall) (reads : List ReadCall) : Type 0 where
+    pub last : ReadCall
+    pub earlier : List ReadCall
+    pub newest : reads ≡ last ∷ earlier
+    pub underway : ends_met earlier ≡ 0
+    pub now : S
+    pub calls : List WriteCall
+    pub passed : takes before at_first (ended_readings (given earlier)) (Ok None) now calls
+
+  -- These lines are all of the input, the end of which was met; or one of them ended the run, whatever follows what was read.
+  abbrev pub AreDue : List ReadCall → List Reading → Result (Option E) Refusal → Type 0
+  AreDue reads lines r =
+      ((earlier : List ReadCall) × (reads ≡ Gave [] ∷ earlier) × (lines ≡ readings (given earlier)))
+      ⊎ ((r ≡ Ok None → ⊥) × Begins (given reads) lines)
+
+  -- An input was read to its end, or up to the line that ended the run or was broken off, and no further; no read failed.
+  pub record WasRead (first now : List ReadCall) (before : S) (at_first : List WriteCall) (r : Result (Option E) Refusal) (here : S) (at_last : List WriteCall) : Type 0 where
+    pub later : List ReadCall
+    pub since : now ≡ later ++ first
+    pub intact : failed_reads later ≡ 0
+    pub needed : EachIsNeeded before at_first later
+    pub lines : List Reading
+    pub due : AreDue later lines r
+    pub steps : takes before at_first lines r here at_last
+
+  -- Why the reading itself was broken off: no memory before the first read, a read that failed, or 2 ^ 32 reads.
+  abbrev pub ReadCause : List ReadCall → Refusal → Type 0
+  ReadCause reads r = ((r ≡ OutOfMemory) × (reads ≡ [])) ⊎ ((r ≡ DeviceFault) × ((failed_reads reads ≡ 1) ⊎ (2 ^ 32 ≤ length reads)))
+
+  -- The reading itself was broken off, behind lines that were passed.
+  pub record ReadBroke (first now : List ReadCall) (before : S) (at_first : List WriteCall) (r : Refusal) (here : S) (at_last : List WriteCall) : Type 0 where
+    pub later : List ReadCall
+    pub since : now ≡ later ++ first
+    pub underway : ends_met later ≡ 0
+    pub lines : List Reading
+    pub front : Begins (given later) lines
+    pub steps : takes before at_first lines (Ok None) here at_last
+    pub cause : ReadCause later r
+
+  -- What reading a whole input came to.
+  abbrev pub Reads : List ReadCall → List ReadCall → S → List WriteCall → Result (Option E) Refusal → S → List WriteCall → Type 0
+  Reads first now before at_first (Ok stop) here at_last = WasRead first now before at_first (Ok stop) here at_last
+  Reads first now before at_first (Err r) here at_last = WasRead first now before at_first (Err r) here at_last ⊎ ReadBroke first now before at_first r here at_last
+
+  -- A read of at most so many bytes brought a run from here to there.
+  pub record Advances (may_take : S → ℕ → Type 0) (reads later : List ReadCall) (old : Pending) (before : S) (at_first : List WriteCall) (new : Pending) (now : S) (at_last : List WriteCall) (size : ℕ) : Type 0 where
+    pub leads : (first : List ReadCall) (start : S) (at_start : List WriteCall) → HasRead first reads start at_start old before at_first → HasRead first later start at_start new now at_last
+    pub counted : new.lines ≤ old.lines + size
+    pub room : (n : ℕ) → may_take before (size + n) → may_take now n
+
+  -- A read met the end of the input, and left a run as it was.
+  pub record MeetsEnd (reads later : List ReadCall) (old : Pending) (before : S) (at_first : List WriteCall) (new : Pending) (now : S) (at_last : List WriteCall) : Type 0 where
+    pub met : later ≡ Gave [] ∷ reads
+    pub pending : new ≡ old
+    pub sink : now ≡ before
+    pub calls : at_last ≡ at_first
+
+  -- A read came upon the line that ends the run.
+  abbrev pub Stops : List ReadCall → List ReadCall → Pending → S → List WriteCall → E → S → List WriteCall → Type 0
+  Stops reads later old before at_first end now at_last =
+      (first : List ReadCall) (start : S) (at_start : List WriteCall) → HasRead first reads start at_start old before at_first → WasRead first later start at_start (Ok (Some end)) now at_last
+
+  -- A read failed, or a line or what was printed was broken off.
+  abbrev pub Breaks : List ReadCall → List ReadCall → Pending → S → List WriteCall → Refusal → S → List WriteCall → Type 0
+  Breaks reads later old before at_first r now at_last =
+      (first : List ReadCall) (start : S) (at_start : List WriteCall) → HasRead first reads start at_start old before at_first → Reads first later start at_start (Err r) now at_last

@@ -1,0 +1,6 @@
+//! The one loop that reads a trace text: in pieces, each line handed to what takes its events, to the end of the input or up to the line that ends the run.
+#![tactic(auto)]
+
+pub mod pieces;
+pub mod sink;
+pub mod whole;

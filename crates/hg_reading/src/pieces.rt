@@ -1,0 +1,45 @@
+//! The lines of a piece.
+
+ghost use Rattle.std.specs.Prelude.{◌≡◌, ◌+◌, ◌<◌, ◌^◌, [], Ok, Err, Some, None, length};
+ghost use Rattle.hg_model.specs.declared.verdict.Refusal.{Refusal as RefusalOf};
+ghost use Rattle.hg_reading.specs.Taking.{HasNoneLeft, Passes, StopsIn};
+
+use crate::sink::Sink;
+use hg_model::verdict::Refusal;
+use hg_streams::output::Output;
+use hg_wire::reader::{EventReader, Taken};
+
+/// Takes a piece of a trace text, and offers its lines up to the first that is not passed. `None` says that each was passed, and that
+/// the piece was taken whole.
+#[inline(always)]
+pub fn push<W, S: Sink<W>>(
+    reader: &mut EventReader,
+    sink: &mut S,
+    piece: &[u8],
+    output: &mut Output<W>,
+) -> Result<Option<S::End>, Refusal>
+    requires lines { reader.old.lines + length piece.now < 2 ^ 64 }
+    requires room { S.may_take sink.old (length piece.now) }
+    ensures passes { result ≡ Ok None → Passes S.takes reader.old sink.old output.old.calls piece.now reader.new sink.new output.new.calls [] }
+    ensures none_left { result ≡ Ok None → HasNoneLeft reader.new }
+    ensures ends { (end : S.End) → result ≡ Ok (Some end) → StopsIn S.takes reader.old sink.old output.old.calls piece.now (Ok (Some end)) sink.new output.new.calls }
+    ensures breaks { (r : RefusalOf) → result ≡ Err r → StopsIn S.takes reader.old sink.old output.old.calls piece.now (Err r) sink.new output.new.calls }
+{
+    let mut rest = piece;
+    loop {
+        if let Some(found) = reader.take_access(rest) {
+            rest = &rest[found.used..];
+            if let Some(end) = sink.offer_access(reader.lines(), &found, output)? {
+                return Ok(Some(end));
+            }
+            continue;
+        }
+        let Taken::Line { reading, used } = reader.take(rest) else {
+            return Ok(None);
+        };
+        rest = &rest[used..];
+        if let Some(end) = sink.offer(&reading, output)? {
+            return Ok(Some(end));
+        }
+    }
+}

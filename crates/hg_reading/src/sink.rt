@@ -1,0 +1,63 @@
+//! What takes the events of a trace text.
+
+ghost use Rattle.std.specs.Prelude.{◌≡◌, ℕ, ◌+◌, ◌++◌, List, [], ◌∷◌, Option, None, Result, Ok, length};
+ghost use Rattle.hg_model.specs.declared.verdict.Refusal.{Refusal as RefusalOf};
+ghost use Rattle.hg_streams.specs.declared.call.WriteCall.{WriteCall};
+ghost use Rattle.hg_wire.specs.Accesses.{event_of};
+ghost use Rattle.hg_wire.specs.declared.reader.Reading.{Reading as ReadingOf};
+ghost use Rattle.hg_reading.specs.Taking.{as_stop};
+
+use hg_model::verdict::Refusal;
+use hg_streams::output::Output;
+use hg_wire::line::AccessLine;
+use hg_wire::reader::Reading;
+
+/// Takes the events of a trace text, one line after another, and prints what comes of them.
+pub trait Sink<W> {
+    /// How a line may end the run.
+    type End;
+
+    /// So many lines may be offered.
+    ghost may_take: { Self → ℕ → Type 0 };
+
+    /// What the lines came to that were offered from one state of the sink and of its output to another: `Ok None` where each was passed;
+    /// else the last of them ended the run, or was broken off by a fault.
+    ghost takes: { Self → List WriteCall → List ReadingOf → Result (Option Self.End) RefusalOf → Self → List WriteCall → Type 0 };
+
+    /// Offers a line. `None` says that it was passed.
+    fn offer(
+        &mut self,
+        reading: &Reading,
+        output: &mut Output<W>,
+    ) -> Result<Option<Self::End>, Refusal>
+        requires room { may_take self.old 1 }
+        ensures takes { takes self.old output.old.calls (reading.now ∷ []) result self.new output.new.calls };
+
+    /// Offers the line of a read or a write, in its parts.
+    fn offer_access(
+        &mut self,
+        line: u64,
+        found: &AccessLine,
+        output: &mut Output<W>,
+    ) -> Result<Option<Self::End>, Refusal>
+        requires room { may_take self.old 1 }
+        ensures takes { takes self.old output.old.calls (record { line = line; event = Ok (event_of found.now) } ∷ []) result self.new output.new.calls };
+
+    /// Prints what is to be printed before more is read.
+    fn print(&mut self, output: &mut Output<W>) -> Result<(), Refusal>
+        ensures takes { takes self.old output.old.calls [] (as_stop result) self.new output.new.calls };
+
+    /// No line changes nothing.
+    ghost none: { (s : Self) (calls : List WriteCall) → takes s calls [] (Ok None) s calls };
+
+    /// Where lines were passed, those behind them come to what all of them come to.
+    ghost on: { (a b c : Self) (at_a at_b at_c : List WriteCall) (first later : List ReadingOf) (r : Result (Option Self.End) RefusalOf)
+        → takes a at_a first (Ok None) b at_b → takes b at_b later r c at_c → takes a at_a (first ++ later) r c at_c };
+
+    /// Lines that were passed leave room for the others.
+    ghost room: { (a b : Self) (at_a at_b : List WriteCall) (first : List ReadingOf) (n : ℕ)
+        → may_take a (length first + n) → takes a at_a first (Ok None) b at_b → may_take b n };
+
+    /// Where many lines may be offered, so may fewer.
+    ghost fewer: { (s : Self) (n more : ℕ) → may_take s (n + more) → may_take s n };
+}

@@ -1,0 +1,130 @@
+//! A whole trace text.
+
+ghost use Rattle.std.specs.Prelude.{◌≡◌, ◌+◌, ◌*◌, ◌<◌, ◌^◌, [], Ok, Err, None, IfErr, IfOk, length};
+ghost use Rattle.hg_model.specs.declared.verdict.Refusal.{Refusal as RefusalOf};
+ghost use Rattle.hg_wire.specs.Streams.{at_start, readings_from};
+ghost use Rattle.hg_reading.specs.Taking.{Advances, Breaks, MeetsEnd, Reads, Stops};
+
+use crate::pieces::push;
+use crate::sink::Sink;
+use hg_model::verdict::Refusal;
+use hg_streams::input::Input;
+use hg_streams::output::Output;
+use hg_wire::reader::EventReader;
+use std::alloc::{AllocError, Global};
+use std::io::Read;
+
+/// How many bytes are read at once.
+const PIECE: usize = 65_536;
+
+/// After how many reads an input counts as failed.
+const MOST_READS: u64 = 1 << 32;
+
+/// What a read came to.
+enum Progress<E> {
+    /// More may follow.
+    Underway,
+    /// The input is at its end.
+    AtEnd,
+    /// A line ended the run.
+    Stopped(E),
+}
+
+/// The refusal that a refused growth is answered with.
+fn out_of_memory(_: AllocError) -> Refusal
+    ensures { result ≡ Refusal.OutOfMemory }
+{
+    Refusal::OutOfMemory
+}
+
+/// A reader at the start of a trace text.
+fn reader_at_start(alloc: Global) -> Result<EventReader, Refusal>
+    ensures start { IfOk result (λ reader. reader ≡ at_start) }
+    ensures cause { IfErr result (λ r. r ≡ Refusal.OutOfMemory) }
+{
+    EventReader::new(alloc).map_err(out_of_memory)
+}
+
+/// Room for a piece.
+fn piece_buffer(alloc: Global) -> Result<Vec<u8>, Refusal>
+    ensures size { IfOk result (λ buffer. length buffer.items ≡ 65536) }
+    ensures cause { IfErr result (λ r. r ≡ Refusal.OutOfMemory) }
+{
+    vec![in alloc; 0; PIECE].map_err(out_of_memory)
+}
+
+/// Reads once, and offers the lines of what came.
+#[inline(always)]
+fn advance<R: Read, W, S: Sink<W>>(
+    input: &mut Input<R>,
+    buffer: &mut [u8],
+    reader: &mut EventReader,
+    sink: &mut S,
+    output: &mut Output<W>,
+) -> Result<Progress<S::End>, Refusal>
+    requires some { 0 < length buffer.old }
+    requires lines { reader.old.lines + length buffer.old < 2 ^ 64 }
+    requires room { S.may_take sink.old (length buffer.old) }
+    ensures underway { result ≡ Ok Progress.Underway
+        → Advances S.takes S.may_take input.old.calls input.new.calls reader.old sink.old output.old.calls reader.new sink.new output.new.calls (length buffer.old) }
+    ensures at_end { result ≡ Ok Progress.AtEnd → MeetsEnd S.takes input.old.calls input.new.calls reader.old sink.old output.old.calls reader.new sink.new output.new.calls }
+    ensures stops { (end : S.End) → result ≡ Ok (Progress.Stopped end) → Stops S.takes input.old.calls input.new.calls reader.old sink.old output.old.calls end sink.new output.new.calls }
+    ensures breaks { (r : RefusalOf) → result ≡ Err r → Breaks S.takes input.old.calls input.new.calls reader.old sink.old output.old.calls r sink.new output.new.calls }
+    ensures size { length buffer.new ≡ length buffer.old }
+    ensures counted { length input.new.calls ≡ 1 + length input.old.calls }
+{
+    let Some(count) = input.read(buffer)? else {
+        return Ok(Progress::Underway);
+    };
+    if count == 0 {
+        return Ok(Progress::AtEnd);
+    }
+    match push(reader, sink, &buffer[..count], output)? {
+        None => {
+            sink.print(output)?;
+            Ok(Progress::Underway)
+        }
+        Some(end) => Ok(Progress::Stopped(end)),
+    }
+}
+
+/// Offers the last line, which may lack its line feed.
+fn finish<W, S: Sink<W>>(
+    reader: EventReader,
+    sink: &mut S,
+    output: &mut Output<W>,
+) -> Result<Option<S::End>, Refusal>
+    requires lines { reader.lines + 1 < 2 ^ 64 }
+    requires room { S.may_take sink.old 1 }
+    ensures { S.takes sink.old output.old.calls (readings_from reader []) result sink.new output.new.calls }
+{
+    match reader.finish() {
+        Some(reading) => sink.offer(&reading, output),
+        None => Ok(None),
+    }
+}
+
+/// Reads a trace text to its end, or up to the line that ends the run, behind which nothing is read, and offers its lines to the sink,
+/// which prints after each piece. `None` says that the input came to its end.
+pub fn read<R: Read, W, S: Sink<W>>(
+    alloc: Global,
+    input: &mut Input<R>,
+    sink: &mut S,
+    output: &mut Output<W>,
+) -> Result<Option<S::End>, Refusal>
+    requires room { S.may_take sink.old (2 ^ 48) }
+    ensures { Reads S.takes input.old.calls input.new.calls sink.old output.old.calls result sink.new output.new.calls }
+{
+    let mut reader = reader_at_start(alloc)?;
+    let mut buffer = piece_buffer(alloc)?;
+    let mut reads = 0;
+    while reads < MOST_READS {
+        reads += 1;
+        match advance(input, buffer.as_mut_slice(), &mut reader, sink, output)? {
+            Progress::Underway => {}
+            Progress::Stopped(end) => return Ok(Some(end)),
+            Progress::AtEnd => return finish(reader, sink, output),
+        }
+    }
+    Err(Refusal::DeviceFault)
+}
