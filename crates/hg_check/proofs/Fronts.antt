@@ -15,7 +15,7 @@ use Rattle.hg_check.specs.Written.{TookFront}
 use Rattle.hg_check.specs.Running.{live_text}
 use Rattle.hg_check.specs.Running.{HasReports}
 use Rattle.hg_check.proofs.Printed.{front_more, front_none}
-use Rattle.hg_check.proofs.Underway.{live_text_grows}
+use Rattle.hg_check.proofs.Growing.{live_text_grows}
 use Rattle.hg_check.proofs.Unique.{leads_to_one}
 
 -- the reports of a content were written, or a front of them

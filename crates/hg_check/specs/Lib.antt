@@ -5,3 +5,5 @@ pub mod Holding
 pub mod Printing
 pub mod Running
 pub mod Streaming
+pub mod Taking
+pub mod TakingLaws

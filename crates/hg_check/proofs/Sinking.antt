@@ -1,0 +1,153 @@
+-- What a detector takes of one line, and what it prints.
+use Rattle.std.proofs.Common.{◌≡◌, ◌+◌, ◌≤◌, ℕ, Bool, true, false, List, [], ◌∷◌, ◌++◌, length, drop, Option, None, Some, Result, Ok, Err, IfErr, OnErr, OnOk, refl, sym, ap, ◌∙◌, subst, inl, arith}
+use Rattle.std.specs.Bool.{⊤}
+use Rattle.hg_model.specs.declared.verdict.Refusal.{Refusal}
+use Rattle.hg_model.specs.declared.verdict.Refusal.TheVariants.{OutOfMemory}
+use Rattle.hg_model.specs.Contents.{Content}
+use Rattle.hg_detect.specs.declared.detector.Detector.{Detector}
+use Rattle.hg_detect.specs.declared.paged.PagedWords.{PagedWords}
+use Rattle.hg_detect.specs.Memory.{IsWhole, content_of}
+use Rattle.hg_streams.specs.declared.call.WriteCall.{WriteCall}
+use Rattle.hg_streams.specs.Calls.{failed_writes}
+use Rattle.hg_streams.specs.Told.{told, told_refusal}
+use Rattle.hg_wire.specs.declared.reader.Reading.{Reading}
+use Rattle.hg_reading.specs.Taking.{as_stop}
+use Rattle.hg_check.specs.declared.checker.Ending.{Ending}
+use Rattle.hg_check.specs.declared.checking.Checking.{Checking}
+use Rattle.hg_check.specs.Holding.{IsDue}
+use Rattle.hg_check.specs.Printing.{reports_text}
+use Rattle.hg_check.specs.Running.{HasFew, LeadsFrom, ReportsGrow, Steps, live_text}
+use Rattle.hg_check.specs.Streaming.{HasWriteCause}
+use Rattle.hg_check.specs.Taking.{Takes}
+use Rattle.hg_check.specs.TakingLaws.{steps_none}
+use Rattle.hg_check.specs.Written.{TookFront}
+use Rattle.hg_check.proofs.Printed.{front_due, front_more}
+use Rattle.hg_check.proofs.Steps.{leads_grow, reports_grow_on, reports_stay}
+use Rattle.hg_check.proofs.Growing.{live_text_grows, new_reports_due}
+
+memory_alone : (r : Result (Option Ending) Refusal) → IfErr r (λ x. x ≡ OutOfMemory) → (x : Refusal) → r ≡ Err x → x ≡ OutOfMemory
+memory_alone (Ok stop) h x is = absurd (cc)
+memory_alone (Err y) h x is = let same : y ≡ x = cc in sym same ∙ h
+
+none_failed : (r : Result (Option Ending) Refusal) (n : ℕ) → IfErr r (λ x. x ≡ OutOfMemory) → n ≡ told r + n
+none_failed (Ok stop) n h = omega arith
+none_failed (Err x) n h = omega (arith, ap told_refusal h)
+
+-- what was written is a front of the reports of a later content
+front_grown : (first now : List WriteCall) (before mid last : Content) (live : Bool) → ReportsGrow before mid → ReportsGrow mid last → TookFront first now (live_text live before) → TookFront first now (live_text live last)
+front_grown first now before mid last live grow on f =
+    let more = live_text_grows live before last (reports_grow_on before mid last grow on) in
+    front_more first now (live_text live before) more.0 (live_text live last) more.1 f
+
+-- one line was offered
+pub takes_line : (old new : Checking) (calls : List WriteCall) (reading : Reading) (r : Result (Option Ending) Refusal)
+    → ((later : List Reading) (last : Content) (end : Ending) → r ≡ Ok None → LeadsFrom new.detector later last end → LeadsFrom old.detector (reading ∷ later) last end)
+    → ((later : List Reading) (end : Ending) → r ≡ Ok (Some end) → LeadsFrom old.detector (reading ∷ later) (content_of new.detector) end)
+    → ((later : List Reading) (last : Content) (end : Ending) → r ≡ Ok None → LeadsFrom old.detector (reading ∷ later) last end → LeadsFrom new.detector later last end)
+    → ((later : List Reading) (last : Content) (end : Ending) → HasFew (content_of old.detector) → LeadsFrom old.detector (reading ∷ later) last end → ReportsGrow (content_of new.detector) last)
+    → (HasFew (content_of old.detector) → HasFew (content_of new.detector))
+    → IfErr r (λ x. x ≡ OutOfMemory)
+    → (content_of new.detector).last 0 ≤ (content_of old.detector).last 0 + 1
+    → ReportsGrow (content_of old.detector) (content_of new.detector)
+    → IsWhole new.detector
+    → new.live ≡ old.live → new.printed ≡ old.printed → new.held.items ≡ old.held.items
+    → Takes old calls (reading ∷ []) r new calls
+takes_line old new calls reading r accepted ended back front few memory counted reports whole live printed held = record {
+  steps = record {
+    leads = λ is later last end h. accepted later last end is h;
+    back = λ is later last end h. back later last end is h;
+    ends = λ end is later. ended later end is;
+    front = λ never later last end few_before h. front later last end few_before h;
+    few = few;
+    reports = reports;
+    counted = omega (arith, counted);
+    whole = λ before. whole;
+  };
+  live = live;
+  printed = λ fine first p. record {
+    before = p.before;
+    count = printed ∙ p.count;
+    grow = reports_grow_on p.before (content_of old.detector) (content_of new.detector) p.grow reports;
+    due = subst (λ items. IsDue first calls items [] (live_text new.live p.before)) (sym held) (subst (λ l. IsDue first calls old.held.items [] (live_text l p.before)) (sym live) p.due);
+  };
+  front = λ x is first p. front_grown first calls p.before (content_of old.detector) (content_of new.detector) old.live p.grow reports (front_due first calls old.held.items [] (live_text old.live p.before) p.due);
+  cause = λ x is. inl (memory_alone r memory x is);
+  failures = none_failed r (failed_writes calls) memory;
+}
+
+-- what is printed changes no content
+steps_stay : {T : Type 0} (d : Detector PagedWords) (r : Result T Refusal) → Steps d [] (as_stop r) d
+steps_stay d (Ok done) = steps_none d
+steps_stay d (Err x) = record {
+  leads = λ is. absurd (cc);
+  back = λ is. absurd (cc);
+  ends = λ end is. absurd (cc);
+  front = λ never later last end few h. leads_grow later d.sets (content_of d) last end few h;
+  few = λ h. h;
+  reports = reports_stay (content_of d);
+  counted = omega arith;
+  whole = λ h. h;
+}
+
+told_as : {T : Type 0} (r : Result T Refusal) (n : ℕ) (m : ℕ) → n ≡ told r + m → n ≡ told {T = Option Ending} (as_stop r) + m
+told_as (Ok done) n m h = h
+told_as (Err x) n m h = h
+
+-- The new reports were printed.
+pub takes_printed : {T : Type 0} (old new : Checking) (before now : List WriteCall) (r : Result T Refusal)
+    → old.live ≡ true → new.detector ≡ old.detector → new.live ≡ old.live → new.printed ≡ length (content_of old.detector).reports
+    → ((first : List WriteCall) (rest goal : List ℕ) → IsDue first before old.held.items (reports_text (old.printed + 1) (drop old.printed (content_of old.detector).reports) ++ rest) goal
+    → OnOk r (IsDue first now new.held.items rest goal))
+    → ((first : List WriteCall) (rest goal : List ℕ) → IsDue first before old.held.items (reports_text (old.printed + 1) (drop old.printed (content_of old.detector).reports) ++ rest) goal
+    → OnErr r (TookFront first now goal))
+    → IfErr r (λ x. HasWriteCause before now x)
+    → failed_writes now ≡ told r + failed_writes before
+    → Takes old before [] (as_stop r) new now
+takes_printed old new before now (Ok done) is_live detector live counted printed front cause failures = record {
+  steps = subst (λ (d : Detector PagedWords). Steps old.detector [] (Ok None) d) (sym detector) (steps_none old.detector);
+  live = live;
+  printed = λ fine first p. record {
+    before = content_of old.detector;
+    count = counted;
+    grow = subst (λ (d : Detector PagedWords). ReportsGrow (content_of old.detector) (content_of d)) (sym detector) (reports_stay (content_of old.detector));
+    due = subst (λ l. IsDue first now new.held.items [] (live_text l (content_of old.detector))) (sym is_live ∙ sym live)
+        (printed first [] (reports_text 1 (content_of old.detector).reports)
+        (new_reports_due first before old.held.items p.before (content_of old.detector) old.printed p.count p.grow
+        (subst (λ l. IsDue first before old.held.items [] (live_text l p.before)) is_live p.due)));
+  };
+  front = λ x is. absurd (cc);
+  cause = λ x is. absurd (cc);
+  failures = failures;
+}
+takes_printed old new before now (Err y) is_live detector live counted printed front cause failures = record {
+  steps = subst (λ (d : Detector PagedWords). Steps old.detector [] (Err y) d) (sym detector) (steps_stay {T = ⊤} old.detector (Err y));
+  live = live;
+  printed = λ fine. absurd (fine y refl);
+  front = λ x is first p.
+      subst (λ (d : Detector PagedWords). TookFront first now (live_text old.live (content_of d))) (sym detector)
+      (subst (λ l. TookFront first now (live_text l (content_of old.detector))) (sym is_live)
+      (front first [] (reports_text 1 (content_of old.detector).reports)
+      (new_reports_due first before old.held.items p.before (content_of old.detector) old.printed p.count p.grow
+      (subst (λ l. IsDue first before old.held.items [] (live_text l p.before)) is_live p.due))));
+  cause = λ x is. let same : y ≡ x = cc in subst (λ z. HasWriteCause before now z) same cause;
+  failures = failures;
+}
+
+-- Nothing was to be printed.
+pub takes_nothing : (old new : Checking) (calls : List WriteCall) → old.live ≡ false → new.detector ≡ old.detector → new.live ≡ old.live → new.printed ≡ length (content_of old.detector).reports → new.held.items ≡ old.held.items
+    → Takes old calls [] (Ok None) new calls
+takes_nothing old new calls is_live detector live counted held = record {
+  steps = subst (λ (d : Detector PagedWords). Steps old.detector [] (Ok None) d) (sym detector) (steps_none old.detector);
+  live = live;
+  printed = λ fine first p. record {
+    before = content_of old.detector;
+    count = counted;
+    grow = subst (λ (d : Detector PagedWords). ReportsGrow (content_of old.detector) (content_of d)) (sym detector) (reports_stay (content_of old.detector));
+    due = subst (λ items. IsDue first calls items [] (live_text new.live (content_of old.detector))) (sym held)
+        (subst (λ l. IsDue first calls old.held.items [] (live_text l (content_of old.detector))) (sym is_live ∙ sym live)
+        (subst (λ l. IsDue first calls old.held.items [] (live_text l p.before)) is_live p.due));
+  };
+  front = λ x is. absurd (cc);
+  cause = λ x is. absurd (cc);
+  failures = omega arith;
+}

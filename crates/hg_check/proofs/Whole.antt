@@ -1,0 +1,250 @@
+-- What reading a whole text leads to.
+use Rattle.std.proofs.Common.{◌≡◌, ◌+◌, ◌<◌, ℕ, Bool, true, false, List, [], ◌∷◌, ◌++◌, length, Option, None, Some, Result, Ok, Err, refl, sym, ap, ◌∙◌, subst, inl, inr, ⊎_elim, arith}
+use Rattle.std.proofs.lemmas.List.{append-nil, length-append}
+use Rattle.hg_model.specs.declared.report.Report.{Report}
+use Rattle.hg_model.specs.declared.verdict.Refusal.{Refusal}
+use Rattle.hg_model.specs.Change.{empty_content}
+use Rattle.hg_model.specs.Contents.{Content}
+use Rattle.hg_sets.specs.Interning.{Table, first_table}
+use Rattle.hg_detect.specs.declared.detector.Detector.{Detector}
+use Rattle.hg_detect.specs.declared.paged.PagedWords.{PagedWords}
+use Rattle.hg_detect.specs.Memory.{content_of}
+use Rattle.hg_streams.specs.declared.call.ReadCall.{ReadCall}
+use Rattle.hg_streams.specs.declared.call.ReadCall.TheVariants.{Gave}
+use Rattle.hg_streams.specs.declared.call.WriteCall.{WriteCall}
+use Rattle.hg_streams.specs.Calls.{ends_met, failed_reads, given}
+use Rattle.hg_wire.specs.declared.reader.Reading.{Reading}
+use Rattle.hg_wire.specs.Streams.{ended_readings, readings}
+use Rattle.hg_reading.specs.Taking.{AreDue, ReadBroke, Reads, WasRead}
+use Rattle.hg_check.specs.declared.checker.Ending.{Ending}
+use Rattle.hg_check.specs.declared.checker.Ending.TheVariants.{Ended}
+use Rattle.hg_check.specs.declared.checking.Checking.{Checking}
+use Rattle.hg_check.specs.Checking.{LeadsTo}
+use Rattle.hg_check.specs.Holding.{IsDue}
+use Rattle.hg_check.specs.Printing.{EndsBy, MayBe, ReadsTo, WroteFront, reports_text}
+use Rattle.hg_check.specs.Running.{HasFew, HasReports, LeadsFrom, ReportsGrow, Steps, live_text}
+use Rattle.hg_check.specs.Streaming.{HasCause, HasWriteCause}
+use Rattle.hg_check.specs.Taking.{IsFresh, IsPrinted, Takes, ending_of}
+use Rattle.hg_check.specs.Written.{TookFront}
+use Rattle.hg_check.proofs.Fronts.{wrote_live}
+use Rattle.hg_check.proofs.Printed.{front_due, front_more}
+use Rattle.hg_check.proofs.Steps.{leads_grow}
+use Rattle.hg_check.proofs.Growing.{live_text_grows}
+
+-- ---- from a fresh detector
+
+checks_from : (live : Bool) (s : Checking) (lines : List Reading) (last : Content) (end : Ending) → IsFresh live s → LeadsFrom s.detector lines last end → LeadsTo lines (first_table 262144) empty_content last end
+checks_from live s lines last end fresh h =
+    subst (λ c. LeadsTo lines (first_table 262144) c last end) fresh.content (subst (λ (t : Table). LeadsTo lines t (content_of s.detector) last end) fresh.sets h)
+
+from_fresh : (live : Bool) (s : Checking) (lines : List Reading) (last : Content) (end : Ending) → IsFresh live s → LeadsTo lines (first_table 262144) empty_content last end → LeadsFrom s.detector lines last end
+from_fresh live s lines last end fresh h =
+    subst (λ (t : Table). LeadsTo lines t (content_of s.detector) last end) (sym fresh.sets) (subst (λ c. LeadsTo lines (first_table 262144) c last end) (sym fresh.content) h)
+
+fresh_few : (live : Bool) (s : Checking) → IsFresh live s → HasFew (content_of s.detector)
+fresh_few live s fresh = subst HasFew (sym fresh.content) (omega arith)
+
+-- ---- to an end
+
+passed_to : (live : Bool) (s t : Checking) (o p : List WriteCall) (lines : List Reading) → IsFresh live s → Takes s o lines (Ok None) t p → LeadsTo lines (first_table 262144) empty_content (content_of t.detector) Ended
+passed_to live s t o p lines fresh h =
+    checks_from live s lines (content_of t.detector) Ended fresh
+    (subst (λ xs. LeadsFrom s.detector xs (content_of t.detector) Ended) (append-nil lines) (h.steps.leads refl [] (content_of t.detector) Ended (refl, refl)))
+
+ended_to : (live : Bool) (s t : Checking) (o p : List WriteCall) (lines rest : List Reading) (end : Ending) → IsFresh live s → Takes s o lines (Ok (Some end)) t p
+    → LeadsTo (lines ++ rest) (first_table 262144) empty_content (content_of t.detector) end
+ended_to live s t o p lines rest end fresh h = checks_from live s (lines ++ rest) (content_of t.detector) end fresh (h.steps.ends end refl rest)
+
+ends_by : (live : Bool) (s t : Checking) (o p : List WriteCall) (reads : List ReadCall) (lines : List Reading) (stop : Option Ending) → IsFresh live s → Takes s o lines (Ok stop) t p
+    → AreDue Takes reads lines (Ok stop) → EndsBy reads (content_of t.detector) (ending_of stop)
+ends_by live s t o p reads lines None fresh h due =
+    ⊎_elim
+    (λ met. inl (met.0, met.1, subst (λ xs. LeadsTo xs (first_table 262144) empty_content (content_of t.detector) Ended) met.2 (passed_to live s t o p lines fresh h)))
+    (λ stopped. absurd (stopped.0 refl))
+    due
+ends_by live s t o p reads lines (Some end) fresh h due =
+    ⊎_elim
+    (λ met. inl (
+      met.0,
+      met.1,
+      subst (λ xs. LeadsTo xs (first_table 262144) empty_content (content_of t.detector) end) (append-nil lines ∙ met.2) (ended_to live s t o p lines [] end fresh h),
+    ))
+    (λ stopped. inr (λ more. let rest = stopped.1 more in
+    subst (λ xs. LeadsTo xs (first_table 262144) empty_content (content_of t.detector) end) (sym rest.1) (ended_to live s t o p lines rest.0 end fresh h)))
+    due
+
+pub reads_to : (live : Bool) (first now : List ReadCall) (s t : Checking) (o p : List WriteCall) (stop : Option Ending) → IsFresh live s → WasRead Takes first now s o (Ok stop) t p
+    → ReadsTo first now (content_of t.detector) (ending_of stop)
+reads_to live first now s t o p stop fresh w = record {
+  later = w.later;
+  since = w.since;
+  whole = w.intact;
+  needed = record {
+    last = w.needed.last;
+    earlier = w.needed.earlier;
+    newest = w.needed.newest;
+    underway = w.needed.underway;
+    content = content_of w.needed.now.detector;
+    passed = passed_to live s w.needed.now o w.needed.calls (ended_readings (given w.needed.earlier)) fresh w.needed.passed;
+  };
+  leads = ends_by live s t o p w.later w.lines stop fresh w.steps w.due;
+}
+
+-- ---- the reports so far begin those of whatever the whole input may be
+
+front_any : (d e : Detector PagedWords) (lines : List Reading) (r : Result (Option Ending) Refusal) (later : List Reading) (last : Content) (end : Ending)
+    → Steps d lines r e → HasFew (content_of d) → LeadsFrom d (lines ++ later) last end → ReportsGrow (content_of e) last
+front_any d e lines (Ok None) later last end s few h = leads_grow later e.sets (content_of e) last end (s.few few) (s.back refl later last end h)
+front_any d e lines (Ok (Some x)) later last end s few h = s.front (λ is. absurd (cc)) later last end few h
+front_any d e lines (Err x) later last end s few h = s.front (λ is. absurd (cc)) later last end few h
+
+met_some : (reads earlier : List ReadCall) → reads ≡ Gave [] ∷ earlier → 0 < ends_met reads
+met_some reads earlier is = subst (λ t. 0 < ends_met t) (sym is) (omega arith)
+
+begins_with : (reads : List ReadCall) (lines : List Reading) (r : Result (Option Ending) Refusal) (input : List ℕ) → AreDue Takes reads lines r → MayBe reads input
+    → (rest : List Reading) × (readings input ≡ lines ++ rest)
+begins_with reads lines r input due m =
+    ⊎_elim
+    (λ met. let none : m.more ≡ [] = m.over (met_some reads met.0 met.1) in
+    let is : input ≡ given met.0 = m.joined ∙ (ap (λ t. given reads ++ t) none ∙ (append-nil (given reads) ∙ (ap given met.1 ∙ append-nil (given met.0)))) in
+    ([], ap readings is ∙ (sym met.2 ∙ sym (append-nil lines))))
+    (λ stopped. let rest = stopped.1 m.more in (rest.0, ap readings m.joined ∙ rest.1))
+    due
+
+pub reports_read : (live : Bool) (first now : List ReadCall) (s t : Checking) (o p : List WriteCall) (r : Result (Option Ending) Refusal) → IsFresh live s → WasRead Takes first now s o r t p
+    → HasReports first now (content_of t.detector)
+reports_read live first now s t o p r fresh w = record {
+  later = w.later;
+  since = w.since;
+  grows = λ input last end m l.
+      let rest = begins_with w.later w.lines r input w.due m in
+      front_any s.detector t.detector w.lines r rest.0 last end w.steps.steps (fresh_few live s fresh)
+      (subst (λ xs. LeadsFrom s.detector xs last end) rest.1 (from_fresh live s (readings input) last end fresh l));
+}
+
+reports_broke : (live : Bool) (first now : List ReadCall) (s t : Checking) (o p : List WriteCall) (x : Refusal) → IsFresh live s → ReadBroke Takes first now s o x t p → HasReports first now (content_of t.detector)
+reports_broke live first now s t o p x fresh w = record {
+  later = w.later;
+  since = w.since;
+  grows = λ input last end m l.
+      let rest = w.front m.more in
+      front_any s.detector t.detector w.lines (Ok None) rest.0 last end w.steps.steps (fresh_few live s fresh)
+      (subst (λ xs. LeadsFrom s.detector xs last end) (ap readings m.joined ∙ rest.1) (from_fresh live s (readings input) last end fresh l));
+}
+
+-- ---- what was printed
+
+nothing_live : (live : Bool) → [] ≡ live_text live empty_content
+nothing_live true = refl
+nothing_live false = refl
+
+fresh_due : (live : Bool) (known : List WriteCall) (held : List ℕ) → held ≡ [] → IsDue known known held [] (live_text live empty_content)
+fresh_due live known held none =
+    subst (λ t. IsDue known known held [] t) (nothing_live live) (record { written = []; appended = record { later = []; since = refl; whole = refl; all = refl }; whole = ap (λ xs. xs ++ []) none })
+
+printed_first : (live : Bool) (s : Checking) (known : List WriteCall) → IsFresh live s → IsPrinted known s known
+printed_first live s known fresh = record {
+  before = empty_content;
+  count = fresh.printed;
+  grow = subst (λ c. ReportsGrow empty_content c) (sym fresh.content) ([], refl);
+  due = fresh_due s.live known s.held.items fresh.held;
+}
+
+no_error : (stop : Option Ending) (x : Refusal) → ◌≡◌ {A = Result (Option Ending) Refusal} (Ok stop) (Err x) → ⊥
+no_error stop x h = absurd (cc)
+
+same_reports : (xs ys more : List Report) → ys ≡ xs ++ more → length xs ≡ length ys → xs ≡ ys
+same_reports xs ys [] is same = sym (is ∙ append-nil xs)
+same_reports xs ys (r ∷ more) is same = absurd (omega (arith, same, ap length is, length-append xs (r ∷ more)))
+
+live_same : (live : Bool) (c d : Content) → c.reports ≡ d.reports → live_text live c ≡ live_text live d
+live_same true c d is = ap (λ xs. reports_text 1 xs) is
+live_same false c d is = refl
+
+-- Where all reports were printed, the text of them all is due.
+pub all_printed : (s : Checking) (first now : List WriteCall) → s.printed ≡ length (content_of s.detector).reports → IsPrinted first s now → IsDue first now s.held.items [] (live_text s.live (content_of s.detector))
+all_printed s first now all p =
+    subst (λ t. IsDue first now s.held.items [] t)
+    (live_same s.live p.before (content_of s.detector) (same_reports p.before.reports (content_of s.detector).reports p.grow.0 p.grow.1 (sym p.count ∙ all)))
+    p.due
+
+-- ---- a run that was broken off
+
+failed_reads_on : (later first : List ReadCall) → failed_reads (later ++ first) ≡ failed_reads later + failed_reads first
+failed_reads_on [] first = omega arith
+failed_reads_on (ReadCall.Gave bytes ∷ later) first = failed_reads_on later first
+failed_reads_on (ReadCall.Erred kind ∷ later) first = omega (arith, failed_reads_on later first)
+
+cause_of : (reads now : List ReadCall) (before after : List WriteCall) (x : Refusal) → HasWriteCause before after x → HasCause reads now before after x
+cause_of reads now before after x h = ⊎_elim (λ memory. inl memory) (λ failed. inr (failed.0, inr failed.1)) h
+
+due_of : (s t : Checking) (o p : List WriteCall) (lines : List Reading) (live : Bool) → IsFresh live s → Takes s o lines (Ok None) t p → IsPrinted o t p
+due_of s t o p lines live fresh h = h.printed (no_error None) o (printed_first live s o fresh)
+
+front_printed : (t : Checking) (first now : List WriteCall) → IsPrinted first t now → TookFront first now (live_text t.live (content_of t.detector))
+front_printed t first now p =
+    let more = live_text_grows t.live p.before (content_of t.detector) p.grow in
+    front_more first now (live_text t.live p.before) more.0 (live_text t.live (content_of t.detector)) more.1 (front_due first now t.held.items [] (live_text t.live p.before) p.due)
+
+cause_by_read : (first now : List ReadCall) (s t : Checking) (o p : List WriteCall) (x : Refusal) → ReadBroke Takes first now s o x t p → HasCause first now o p x
+cause_by_read first now s t o p x w =
+    ⊎_elim
+    (λ memory. inl memory.0)
+    (λ failed. inr (
+      failed.0,
+      inl (⊎_elim
+          (λ one. inl (omega (arith, one, ap failed_reads w.since, failed_reads_on w.later first)))
+          (λ many. inr (omega (arith, many, ap length w.since, length-append w.later first)))
+          failed.1),
+    ))
+    w.cause
+
+pub broke : (live : Bool) (first now : List ReadCall) (s t : Checking) (o p : List WriteCall) (x : Refusal) → IsFresh live s → Reads Takes first now s o (Err x) t p
+    → WroteFront (λ c end. live_text s.live c) first now o p × HasCause first now o p x
+broke live first now s t o p x fresh reads =
+    ⊎_elim
+    (λ w. (
+      wrote_live s.live first now o p (content_of t.detector) (reports_read live first now s t o p (Err x) fresh w) (w.steps.front x refl o (printed_first live s o fresh)),
+      cause_of first now o p x (w.steps.cause x refl),
+    ))
+    (λ w. (
+      wrote_live s.live first now o p (content_of t.detector) (reports_broke live first now s t o p x fresh w)
+          (subst (λ l. TookFront o p (live_text l (content_of t.detector))) w.steps.live (front_printed t o p (due_of s t o p w.lines live fresh w.steps))),
+      cause_by_read first now s t o p x w,
+    ))
+    reads
+
+-- ---- what is printed at the end
+
+-- what was printed behind the last line, which was broken off
+pub broke_printing : (live : Bool) (first now : List ReadCall) (s t u : Checking) (o p q : List WriteCall) (stop : Option Ending) (x : Refusal) → IsFresh live s
+    → WasRead Takes first now s o (Ok stop) t p → Takes t p [] (Err x) u q → u.detector ≡ t.detector
+    → WroteFront (λ c end. live_text s.live c) first now o q × HasCause first now o q x
+broke_printing live first now s t u o p q stop x fresh w h same = (
+  wrote_live s.live first now o q (content_of t.detector) (reports_read live first now s t o p (Ok stop) fresh w)
+      (subst (λ l. TookFront o q (live_text l (content_of t.detector))) w.steps.live
+      (subst (λ (d : Detector PagedWords). TookFront o q (live_text t.live (content_of d))) same (h.front x refl o (w.steps.printed (no_error stop) o (printed_first live s o fresh))))),
+  cause_of first now o q x (⊎_elim (λ memory. inl memory) (λ failed. inr (failed.0, omega (arith, failed.1, w.steps.failures))) (h.cause x refl)),
+)
+
+-- all reports were printed or are held
+pub due_at_end : (live : Bool) (first now : List ReadCall) (s t u : Checking) (o p q : List WriteCall) (stop : Option Ending) → IsFresh live s
+    → WasRead Takes first now s o (Ok stop) t p → Takes t p [] (Ok None) u q → u.detector ≡ t.detector → u.printed ≡ length (content_of t.detector).reports
+    → IsDue o q u.held.items [] (live_text s.live (content_of u.detector))
+due_at_end live first now s t u o p q stop fresh w h same count =
+    subst (λ l. IsDue o q u.held.items [] (live_text l (content_of u.detector))) (h.live ∙ w.steps.live)
+    (all_printed u o q (count ∙ ap (λ (d : Detector PagedWords). length (content_of d).reports) (sym same)) (h.printed (no_error None) o (w.steps.printed (no_error stop) o (printed_first live s o fresh))))
+
+pub reads_to_end : (live : Bool) (first now : List ReadCall) (s t u : Checking) (o p : List WriteCall) (stop : Option Ending) → IsFresh live s → WasRead Takes first now s o (Ok stop) t p → u.detector ≡ t.detector
+    → ReadsTo first now (content_of u.detector) (ending_of stop)
+reads_to_end live first now s t u o p stop fresh w same =
+    subst (λ (d : Detector PagedWords). ReadsTo first now (content_of d) (ending_of stop)) (sym same) (reads_to live first now s t o p stop fresh w)
+
+-- ---- what a command asks of a run
+
+pub live_due : (first now : List WriteCall) (held : List ℕ) (c : Content) (is live : Bool) → is ≡ live → IsDue first now held [] (live_text is c) → IsDue first now held [] (live_text live c)
+live_due first now held c is live same h = subst (λ l. IsDue first now held [] (live_text l c)) same h
+
+pub live_front : (reads reads_new : List ReadCall) (first now : List WriteCall) (is live : Bool) → is ≡ live → WroteFront (λ c end. live_text is c) reads reads_new first now
+    → WroteFront (λ c end. live_text live c) reads reads_new first now
+live_front reads reads_new first now is live same h = subst (λ l. WroteFront (λ c end. live_text l c) reads reads_new first now) same h

@@ -1,0 +1,30 @@
+use Rattle.std.proofs.Common.{◌≡◌, length, refl, sym, ◌∙◌}
+use Rattle.std.proofs.lemmas.List.{length-map}
+use Rattle.hg_detect.specs.declared.detector.Detector.{Detector}
+use Rattle.hg_detect.specs.declared.paged.PagedWords.{PagedWords}
+use Rattle.hg_detect.specs.Memory.{content_of}
+use Rattle.hg_detect.specs.Shown.{report_of}
+use Rattle.hg_check.proofs.Sinking.{takes_nothing, takes_printed}
+use Rattle.hg_check.proofs.checking.CheckingSink.print.Goals as goal
+
+reports_kept : (d : Detector PagedWords) → length d.kept ≡ length (content_of d).reports
+reports_kept d = sym (length-map d.kept (report_of d.sets.sets))
+
+pub returns-in-true : goal.returns-in-true
+returns-in-true g c =
+    let count = c.kept-self.ensures.count ∙ reports_kept c.args.self.now.detector in
+    record {
+      takes = takes_printed c.args.self.now _ c.args.output.now.calls c.print_reports.new.output.calls c.print_reports.result c.in-true.is refl refl count
+          c.print_reports.ensures.printed c.print_reports.ensures.front c.print_reports.ensures.cause c.print_reports.ensures.fault;
+      detector = refl;
+      count = count;
+    }
+
+pub returns-in-false : goal.returns-in-false
+returns-in-false g c =
+    let count = c.kept-self.ensures.count ∙ reports_kept c.args.self.now.detector in
+    record {
+      takes = takes_nothing c.args.self.now _ c.args.output.now.calls c.in-false.is refl refl count refl;
+      detector = refl;
+      count = count;
+    }

@@ -1,0 +1,52 @@
+-- What a detector that checks a trace text takes of it, and prints of it.
+use Rattle.std.specs.Prelude.{◌≡◌, ◌+◌, ◌<◌, ◌^◌, ℕ, Bool, List, [], length, Option, None, Some, Result, Err}
+use Rattle.hg_model.specs.declared.verdict.Refusal.{Refusal}
+use Rattle.hg_model.specs.Change.{empty_content}
+use Rattle.hg_model.specs.Contents.{Content}
+use Rattle.hg_sets.specs.Interning.{first_table}
+use Rattle.hg_detect.specs.Memory.{IsWhole, content_of}
+use Rattle.hg_streams.specs.declared.call.WriteCall.{WriteCall}
+use Rattle.hg_streams.specs.Calls.{failed_writes}
+use Rattle.hg_streams.specs.Told.{told}
+use Rattle.hg_wire.specs.declared.reader.Reading.{Reading}
+use Rattle.hg_check.specs.declared.checker.Ending.{Ending}
+use Rattle.hg_check.specs.declared.checker.Ending.TheVariants.{Ended}
+use Rattle.hg_check.specs.declared.checking.Checking.{Checking}
+use Rattle.hg_check.specs.Holding.{IsDue}
+use Rattle.hg_check.specs.Running.{ReportsGrow, Steps, live_text}
+use Rattle.hg_check.specs.Streaming.{HasWriteCause}
+use Rattle.hg_check.specs.Written.{TookFront}
+
+-- Since the output was as it was at first, the reports of an earlier content were printed or are held, as many as are counted.
+pub record IsPrinted (first : List WriteCall) (s : Checking) (now : List WriteCall) : Type 0 where
+  pub before : Content
+  pub count : s.printed ≡ length before.reports
+  pub grow : ReportsGrow before (content_of s.detector)
+  pub due : IsDue first now s.held.items [] (live_text s.live before)
+
+-- Lines were offered, or what came of them was printed.
+pub record Takes (old : Checking) (before : List WriteCall) (lines : List Reading) (r : Result (Option Ending) Refusal) (new : Checking) (now : List WriteCall) : Type 0 where
+  pub steps : Steps old.detector lines r new.detector
+  pub live : new.live ≡ old.live
+  pub printed : ((x : Refusal) → r ≡ Err x → ⊥) → (first : List WriteCall) → IsPrinted first old before → IsPrinted first new now
+  pub front : (x : Refusal) → r ≡ Err x → (first : List WriteCall) → IsPrinted first old before → TookFront first now (live_text old.live (content_of new.detector))
+  pub cause : (x : Refusal) → r ≡ Err x → HasWriteCause before now x
+  pub failures : failed_writes now ≡ told r + failed_writes before
+
+-- So many lines may be offered.
+abbrev pub MayTake : Checking → ℕ → Type 0
+MayTake s n = IsWhole s.detector × ((content_of s.detector).last 0 + n < 2 ^ 64)
+
+-- Nothing was offered, and nothing printed.
+pub record IsFresh (live : Bool) (s : Checking) : Type 0 where
+  pub whole : IsWhole s.detector
+  pub content : content_of s.detector ≡ empty_content
+  pub sets : s.detector.sets ≡ first_table 262144
+  pub live_is : s.live ≡ live
+  pub printed : s.printed ≡ 0
+  pub held : s.held.items ≡ []
+
+-- how a run ended: where no line ended it, it came to the end of its input
+abbrev pub ending_of : Option Ending → Ending
+ending_of None = Ended
+ending_of (Some end) = end

@@ -1,0 +1,101 @@
+//! A detector that takes the lines of a trace text, and prints its reports as they come.
+
+ghost use Rattle.std.specs.Prelude.{◌≡◌, [], length, IfErr, IfOk};
+ghost use Rattle.hg_detect.specs.Memory.{content_of};
+ghost use Rattle.hg_reading.specs.Taking.{as_stop};
+
+use crate::checker::{Ending, apply, apply_access};
+use crate::printing::print_reports;
+use hg_detect::memory::{MemoryDetector, new_detector};
+use hg_model::verdict::Refusal;
+use hg_reading::sink::Sink;
+use hg_sets::MOST_SETS;
+use hg_streams::output::Output;
+use hg_wire::line::AccessLine;
+use hg_wire::reader::Reading;
+use std::alloc::Global;
+use std::io::Write;
+
+/// A detector, and what is to be printed of it.
+#[derive(Drop)]
+pub struct Checking {
+    alloc: Global,
+    pub detector: MemoryDetector,
+    /// Whether reports are printed as they come.
+    pub live: bool,
+    /// How many of the kept reports were printed, or are held.
+    pub printed: usize,
+    /// Text that is still to be written.
+    pub held: Vec<u8>,
+}
+
+impl Checking {
+    ghost use Rattle.hg_check.specs.Taking.{IsFresh};
+
+    /// A detector that has accepted no event.
+    pub fn new(alloc: Global, live: bool) -> Result<Checking, Refusal>
+        ensures fresh { IfOk result (IsFresh live) }
+        ensures cause { IfErr result (λ r. r ≡ Refusal.OutOfMemory) }
+    {
+        let detector = new_detector(alloc, MOST_SETS)?;
+        Ok(Checking {
+            alloc,
+            detector,
+            live,
+            printed: 0,
+            held: Vec::new(alloc),
+        })
+    }
+}
+
+impl<W: Write> Sink<W> for Checking {
+    ghost use Rattle.hg_check.specs.Taking.{MayTake, Takes};
+    ghost use Rattle.hg_check.specs.TakingLaws.{takes_fewer, takes_none, takes_on, takes_room};
+
+    type End = Ending;
+
+    ghost may_take = { MayTake };
+
+    ghost takes = { Takes };
+
+    #[inline(always)]
+    fn offer(
+        &mut self,
+        reading: &Reading,
+        _output: &mut Output<W>,
+    ) -> Result<Option<Ending>, Refusal> {
+        apply(&mut self.detector, reading)
+    }
+
+    #[inline(always)]
+    fn offer_access(
+        &mut self,
+        line: u64,
+        found: &AccessLine,
+        _output: &mut Output<W>,
+    ) -> Result<Option<Ending>, Refusal> {
+        apply_access(&mut self.detector, line, found)
+    }
+
+    /// Prints the reports that are new since the last time, where they are to be printed.
+    fn print(&mut self, output: &mut Output<W>) -> Result<(), Refusal>
+        ensures takes { Takes self.old output.old.calls [] (as_stop result) self.new output.new.calls }
+        ensures detector { self.new.detector ≡ self.old.detector }
+        ensures count { self.new.printed ≡ length (content_of self.old.detector).reports }
+    {
+        let from = self.printed;
+        self.printed = self.detector.kept();
+        match self.live {
+            true => print_reports(self.alloc, &self.detector, from, &mut self.held, output),
+            false => Ok(()),
+        }
+    }
+
+    ghost none = { takes_none };
+
+    ghost on = { takes_on };
+
+    ghost room = { takes_room };
+
+    ghost fewer = { takes_fewer };
+}
