@@ -1,136 +1,42 @@
 -- What reading a whole text leads to.
-use Rattle.std.proofs.Common.{◌≡◌, ◌+◌, ◌<◌, ℕ, Bool, true, false, List, [], ◌∷◌, ◌++◌, length, Option, None, Some, Result, Ok, Err, refl, sym, ap, ◌∙◌, subst, inl, inr, ⊎_elim, arith}
+use Rattle.std.proofs.Common.{◌≡◌, ◌+◌, ℕ, Bool, true, false, List, [], ◌∷◌, ◌++◌, length, Option, None, Result, Ok, Err, refl, sym, ap, ◌∙◌, subst, inl, inr, ⊎_elim, arith}
 use Rattle.std.proofs.lemmas.List.{append-nil, length-append}
 use Rattle.hg_model.specs.declared.report.Report.{Report}
 use Rattle.hg_model.specs.declared.verdict.Refusal.{Refusal}
 use Rattle.hg_model.specs.Change.{empty_content}
 use Rattle.hg_model.specs.Contents.{Content}
-use Rattle.hg_sets.specs.Interning.{Table, first_table}
 use Rattle.hg_detect.specs.declared.detector.Detector.{Detector}
 use Rattle.hg_detect.specs.declared.paged.PagedWords.{PagedWords}
 use Rattle.hg_detect.specs.Memory.{content_of}
 use Rattle.hg_streams.specs.declared.call.ReadCall.{ReadCall}
-use Rattle.hg_streams.specs.declared.call.ReadCall.TheVariants.{Gave}
 use Rattle.hg_streams.specs.declared.call.WriteCall.{WriteCall}
-use Rattle.hg_streams.specs.Calls.{ends_met, failed_reads, given}
+use Rattle.hg_streams.specs.Calls.{failed_reads}
 use Rattle.hg_wire.specs.declared.reader.Reading.{Reading}
-use Rattle.hg_wire.specs.Streams.{ended_readings, readings}
-use Rattle.hg_reading.specs.Taking.{AreDue, ReadBroke, Reads, WasRead}
+use Rattle.hg_reading.specs.Taking.{ReadBroke, Reads, WasRead}
 use Rattle.hg_check.specs.declared.checker.Ending.{Ending}
-use Rattle.hg_check.specs.declared.checker.Ending.TheVariants.{Ended}
 use Rattle.hg_check.specs.declared.checking.Checking.{Checking}
-use Rattle.hg_check.specs.Checking.{LeadsTo}
 use Rattle.hg_check.specs.Holding.{IsDue}
-use Rattle.hg_check.specs.Printing.{EndsBy, MayBe, ReadsTo, WroteFront, reports_text}
-use Rattle.hg_check.specs.Running.{HasFew, HasReports, LeadsFrom, ReportsGrow, Steps, live_text}
+use Rattle.hg_check.specs.Printing.{ReadsTo, WroteFront, reports_text}
+use Rattle.hg_check.specs.Running.{ReportsGrow, StepsTaken, live_text}
 use Rattle.hg_check.specs.Streaming.{HasCause, HasWriteCause}
 use Rattle.hg_check.specs.Taking.{IsFresh, IsPrinted, Takes, ending_of}
 use Rattle.hg_check.specs.Written.{TookFront}
+use Rattle.hg_reading.proofs.Through.{broke_through, read_through}
+use Rattle.hg_check.proofs.Ends.{reads_to, reports_broke, reports_read}
 use Rattle.hg_check.proofs.Fronts.{wrote_live}
 use Rattle.hg_check.proofs.Printed.{front_due, front_more}
-use Rattle.hg_check.proofs.Steps.{leads_grow}
 use Rattle.hg_check.proofs.Growing.{live_text_grows}
 
--- ---- from a fresh detector
+-- ---- a run as its detector sees it
 
-checks_from : (live : Bool) (s : Checking) (lines : List Reading) (last : Content) (end : Ending) → IsFresh live s → LeadsFrom s.detector lines last end → LeadsTo lines (first_table 262144) empty_content last end
-checks_from live s lines last end fresh h =
-    subst (λ c. LeadsTo lines (first_table 262144) c last end) fresh.content (subst (λ (t : Table). LeadsTo lines t (content_of s.detector) last end) fresh.sets h)
+steps_seen : (a b : Checking) (at_a at_b : List WriteCall) (lines : List Reading) (r : Result (Option Ending) Refusal) → Takes a at_a lines r b at_b → StepsTaken a.detector at_a lines r b.detector at_b
+steps_seen a b at_a at_b lines r h = h.steps
 
-from_fresh : (live : Bool) (s : Checking) (lines : List Reading) (last : Content) (end : Ending) → IsFresh live s → LeadsTo lines (first_table 262144) empty_content last end → LeadsFrom s.detector lines last end
-from_fresh live s lines last end fresh h =
-    subst (λ (t : Table). LeadsTo lines t (content_of s.detector) last end) (sym fresh.sets) (subst (λ c. LeadsTo lines (first_table 262144) c last end) (sym fresh.content) h)
+seen : (first now : List ReadCall) (s t : Checking) (o p : List WriteCall) (r : Result (Option Ending) Refusal) → WasRead Takes first now s o r t p → WasRead StepsTaken first now s.detector o r t.detector p
+seen = read_through Takes StepsTaken (λ s. s.detector) steps_seen
 
-fresh_few : (live : Bool) (s : Checking) → IsFresh live s → HasFew (content_of s.detector)
-fresh_few live s fresh = subst HasFew (sym fresh.content) (omega arith)
-
--- ---- to an end
-
-passed_to : (live : Bool) (s t : Checking) (o p : List WriteCall) (lines : List Reading) → IsFresh live s → Takes s o lines (Ok None) t p → LeadsTo lines (first_table 262144) empty_content (content_of t.detector) Ended
-passed_to live s t o p lines fresh h =
-    checks_from live s lines (content_of t.detector) Ended fresh
-    (subst (λ xs. LeadsFrom s.detector xs (content_of t.detector) Ended) (append-nil lines) (h.steps.leads refl [] (content_of t.detector) Ended (refl, refl)))
-
-ended_to : (live : Bool) (s t : Checking) (o p : List WriteCall) (lines rest : List Reading) (end : Ending) → IsFresh live s → Takes s o lines (Ok (Some end)) t p
-    → LeadsTo (lines ++ rest) (first_table 262144) empty_content (content_of t.detector) end
-ended_to live s t o p lines rest end fresh h = checks_from live s (lines ++ rest) (content_of t.detector) end fresh (h.steps.ends end refl rest)
-
-ends_by : (live : Bool) (s t : Checking) (o p : List WriteCall) (reads : List ReadCall) (lines : List Reading) (stop : Option Ending) → IsFresh live s → Takes s o lines (Ok stop) t p
-    → AreDue Takes reads lines (Ok stop) → EndsBy reads (content_of t.detector) (ending_of stop)
-ends_by live s t o p reads lines None fresh h due =
-    ⊎_elim
-    (λ met. inl (met.0, met.1, subst (λ xs. LeadsTo xs (first_table 262144) empty_content (content_of t.detector) Ended) met.2 (passed_to live s t o p lines fresh h)))
-    (λ stopped. absurd (stopped.0 refl))
-    due
-ends_by live s t o p reads lines (Some end) fresh h due =
-    ⊎_elim
-    (λ met. inl (
-      met.0,
-      met.1,
-      subst (λ xs. LeadsTo xs (first_table 262144) empty_content (content_of t.detector) end) (append-nil lines ∙ met.2) (ended_to live s t o p lines [] end fresh h),
-    ))
-    (λ stopped. inr (λ more. let rest = stopped.1 more in
-    subst (λ xs. LeadsTo xs (first_table 262144) empty_content (content_of t.detector) end) (sym rest.1) (ended_to live s t o p lines rest.0 end fresh h)))
-    due
-
-pub reads_to : (live : Bool) (first now : List ReadCall) (s t : Checking) (o p : List WriteCall) (stop : Option Ending) → IsFresh live s → WasRead Takes first now s o (Ok stop) t p
-    → ReadsTo first now (content_of t.detector) (ending_of stop)
-reads_to live first now s t o p stop fresh w = record {
-  later = w.later;
-  since = w.since;
-  whole = w.intact;
-  needed = record {
-    last = w.needed.last;
-    earlier = w.needed.earlier;
-    newest = w.needed.newest;
-    underway = w.needed.underway;
-    content = content_of w.needed.now.detector;
-    passed = passed_to live s w.needed.now o w.needed.calls (ended_readings (given w.needed.earlier)) fresh w.needed.passed;
-  };
-  leads = ends_by live s t o p w.later w.lines stop fresh w.steps w.due;
-}
-
--- ---- the reports so far begin those of whatever the whole input may be
-
-front_any : (d e : Detector PagedWords) (lines : List Reading) (r : Result (Option Ending) Refusal) (later : List Reading) (last : Content) (end : Ending)
-    → Steps d lines r e → HasFew (content_of d) → LeadsFrom d (lines ++ later) last end → ReportsGrow (content_of e) last
-front_any d e lines (Ok None) later last end s few h = leads_grow later e.sets (content_of e) last end (s.few few) (s.back refl later last end h)
-front_any d e lines (Ok (Some x)) later last end s few h = s.front (λ is. absurd (cc)) later last end few h
-front_any d e lines (Err x) later last end s few h = s.front (λ is. absurd (cc)) later last end few h
-
-met_some : (reads earlier : List ReadCall) → reads ≡ Gave [] ∷ earlier → 0 < ends_met reads
-met_some reads earlier is = subst (λ t. 0 < ends_met t) (sym is) (omega arith)
-
-begins_with : (reads : List ReadCall) (lines : List Reading) (r : Result (Option Ending) Refusal) (input : List ℕ) → AreDue Takes reads lines r → MayBe reads input
-    → (rest : List Reading) × (readings input ≡ lines ++ rest)
-begins_with reads lines r input due m =
-    ⊎_elim
-    (λ met. let none : m.more ≡ [] = m.over (met_some reads met.0 met.1) in
-    let is : input ≡ given met.0 = m.joined ∙ (ap (λ t. given reads ++ t) none ∙ (append-nil (given reads) ∙ (ap given met.1 ∙ append-nil (given met.0)))) in
-    ([], ap readings is ∙ (sym met.2 ∙ sym (append-nil lines))))
-    (λ stopped. let rest = stopped.1 m.more in (rest.0, ap readings m.joined ∙ rest.1))
-    due
-
-pub reports_read : (live : Bool) (first now : List ReadCall) (s t : Checking) (o p : List WriteCall) (r : Result (Option Ending) Refusal) → IsFresh live s → WasRead Takes first now s o r t p
-    → HasReports first now (content_of t.detector)
-reports_read live first now s t o p r fresh w = record {
-  later = w.later;
-  since = w.since;
-  grows = λ input last end m l.
-      let rest = begins_with w.later w.lines r input w.due m in
-      front_any s.detector t.detector w.lines r rest.0 last end w.steps.steps (fresh_few live s fresh)
-      (subst (λ xs. LeadsFrom s.detector xs last end) rest.1 (from_fresh live s (readings input) last end fresh l));
-}
-
-reports_broke : (live : Bool) (first now : List ReadCall) (s t : Checking) (o p : List WriteCall) (x : Refusal) → IsFresh live s → ReadBroke Takes first now s o x t p → HasReports first now (content_of t.detector)
-reports_broke live first now s t o p x fresh w = record {
-  later = w.later;
-  since = w.since;
-  grows = λ input last end m l.
-      let rest = w.front m.more in
-      front_any s.detector t.detector w.lines (Ok None) rest.0 last end w.steps.steps (fresh_few live s fresh)
-      (subst (λ xs. LeadsFrom s.detector xs last end) (ap readings m.joined ∙ rest.1) (from_fresh live s (readings input) last end fresh l));
-}
+seen_broke : (first now : List ReadCall) (s t : Checking) (o p : List WriteCall) (x : Refusal) → ReadBroke Takes first now s o x t p → ReadBroke StepsTaken first now s.detector o x t.detector p
+seen_broke = broke_through Takes StepsTaken (λ s. s.detector) steps_seen
 
 -- ---- what was printed
 
@@ -146,7 +52,7 @@ printed_first : (live : Bool) (s : Checking) (known : List WriteCall) → IsFres
 printed_first live s known fresh = record {
   before = empty_content;
   count = fresh.printed;
-  grow = subst (λ c. ReportsGrow empty_content c) (sym fresh.content) ([], refl);
+  grow = subst (λ c. ReportsGrow empty_content c) (sym fresh.start.content) ([], refl);
   due = fresh_due s.live known s.held.items fresh.held;
 }
 
@@ -204,11 +110,11 @@ pub broke : (live : Bool) (first now : List ReadCall) (s t : Checking) (o p : Li
 broke live first now s t o p x fresh reads =
     ⊎_elim
     (λ w. (
-      wrote_live s.live first now o p (content_of t.detector) (reports_read live first now s t o p (Err x) fresh w) (w.steps.front x refl o (printed_first live s o fresh)),
+      wrote_live s.live first now o p (content_of t.detector) (reports_read first now s.detector t.detector o p (Err x) fresh.start (seen first now s t o p (Err x) w)) (w.steps.front x refl o (printed_first live s o fresh)),
       cause_of first now o p x (w.steps.cause x refl),
     ))
     (λ w. (
-      wrote_live s.live first now o p (content_of t.detector) (reports_broke live first now s t o p x fresh w)
+      wrote_live s.live first now o p (content_of t.detector) (reports_broke first now s.detector t.detector o p x fresh.start (seen_broke first now s t o p x w))
           (subst (λ l. TookFront o p (live_text l (content_of t.detector))) w.steps.live (front_printed t o p (due_of s t o p w.lines live fresh w.steps))),
       cause_by_read first now s t o p x w,
     ))
@@ -221,7 +127,7 @@ pub broke_printing : (live : Bool) (first now : List ReadCall) (s t u : Checking
     → WasRead Takes first now s o (Ok stop) t p → Takes t p [] (Err x) u q → u.detector ≡ t.detector
     → WroteFront (λ c end. live_text s.live c) first now o q × HasCause first now o q x
 broke_printing live first now s t u o p q stop x fresh w h same = (
-  wrote_live s.live first now o q (content_of t.detector) (reports_read live first now s t o p (Ok stop) fresh w)
+  wrote_live s.live first now o q (content_of t.detector) (reports_read first now s.detector t.detector o p (Ok stop) fresh.start (seen first now s t o p (Ok stop) w))
       (subst (λ l. TookFront o q (live_text l (content_of t.detector))) w.steps.live
       (subst (λ (d : Detector PagedWords). TookFront o q (live_text t.live (content_of d))) same (h.front x refl o (w.steps.printed (no_error stop) o (printed_first live s o fresh))))),
   cause_of first now o q x (⊎_elim (λ memory. inl memory) (λ failed. inr (failed.0, omega (arith, failed.1, w.steps.failures))) (h.cause x refl)),
@@ -238,7 +144,7 @@ due_at_end live first now s t u o p q stop fresh w h same count =
 pub reads_to_end : (live : Bool) (first now : List ReadCall) (s t u : Checking) (o p : List WriteCall) (stop : Option Ending) → IsFresh live s → WasRead Takes first now s o (Ok stop) t p → u.detector ≡ t.detector
     → ReadsTo first now (content_of u.detector) (ending_of stop)
 reads_to_end live first now s t u o p stop fresh w same =
-    subst (λ (d : Detector PagedWords). ReadsTo first now (content_of d) (ending_of stop)) (sym same) (reads_to live first now s t o p stop fresh w)
+    subst (λ (d : Detector PagedWords). ReadsTo first now (content_of d) (ending_of stop)) (sym same) (reads_to first now s.detector t.detector o p stop fresh.start (seen first now s t o p (Ok stop) w))
 
 -- ---- what a command asks of a run
 

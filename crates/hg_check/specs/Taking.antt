@@ -1,9 +1,7 @@
 -- What a detector that checks a trace text takes of it, and prints of it.
 use Rattle.std.specs.Prelude.{◌≡◌, ◌+◌, ◌<◌, ◌^◌, ℕ, Bool, List, [], length, Option, None, Some, Result, Err}
 use Rattle.hg_model.specs.declared.verdict.Refusal.{Refusal}
-use Rattle.hg_model.specs.Change.{empty_content}
 use Rattle.hg_model.specs.Contents.{Content}
-use Rattle.hg_sets.specs.Interning.{first_table}
 use Rattle.hg_detect.specs.Memory.{IsWhole, content_of}
 use Rattle.hg_streams.specs.declared.call.WriteCall.{WriteCall}
 use Rattle.hg_streams.specs.Calls.{failed_writes}
@@ -13,7 +11,7 @@ use Rattle.hg_check.specs.declared.checker.Ending.{Ending}
 use Rattle.hg_check.specs.declared.checker.Ending.TheVariants.{Ended}
 use Rattle.hg_check.specs.declared.checking.Checking.{Checking}
 use Rattle.hg_check.specs.Holding.{IsDue}
-use Rattle.hg_check.specs.Running.{ReportsGrow, Steps, live_text}
+use Rattle.hg_check.specs.Running.{IsStart, ReportsGrow, Steps, live_text}
 use Rattle.hg_check.specs.Streaming.{HasWriteCause}
 use Rattle.hg_check.specs.Written.{TookFront}
 
@@ -40,8 +38,7 @@ MayTake s n = IsWhole s.detector × ((content_of s.detector).last 0 + n < 2 ^ 64
 -- Nothing was offered, and nothing printed.
 pub record IsFresh (live : Bool) (s : Checking) : Type 0 where
   pub whole : IsWhole s.detector
-  pub content : content_of s.detector ≡ empty_content
-  pub sets : s.detector.sets ≡ first_table 262144
+  pub start : IsStart s.detector
   pub live_is : s.live ≡ live
   pub printed : s.printed ≡ 0
   pub held : s.held.items ≡ []

@@ -57,7 +57,7 @@ takes_none s calls = record {
   failures = omega arith;
 }
 
-cause_on : (a b c : List WriteCall) (x : Refusal) → failed_writes b ≡ 0 + failed_writes a → HasWriteCause b c x → HasWriteCause a c x
+pub cause_on : (a b c : List WriteCall) (x : Refusal) → failed_writes b ≡ 0 + failed_writes a → HasWriteCause b c x → HasWriteCause a c x
 cause_on a b c x same h = ⊎_elim (λ memory. inl memory) (λ failed. inr (failed.0, omega (arith, same, failed.1))) h
 
 pub takes_on : (a b c : Checking) (at_a at_b at_c : List WriteCall) (first later : List Reading) (r : Result (Option Ending) Refusal)

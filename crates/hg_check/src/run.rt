@@ -19,7 +19,7 @@ use std::alloc::Global;
 use std::io::{Read, Write};
 
 /// How a run ended: where no line ended it, it came to the end of its input.
-fn ended(stop: Option<Ending>) -> Ending
+pub fn ended(stop: Option<Ending>) -> Ending
     ensures { result ≡ ending_of stop }
 {
     match stop {

@@ -3,6 +3,7 @@
 
 pub mod address;
 pub mod commands;
+pub mod explaining;
 pub mod form;
 pub mod laws;
 pub mod look;

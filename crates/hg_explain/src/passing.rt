@@ -2,14 +2,14 @@
 
 ghost use Rattle.std.specs.Prelude.{◌≡◌, ◌+◌, ◌<◌, ◌≤◌, ◌^◌, [], ◌∷◌, ◌++◌, true, List, Ok, Some, None, length, IfErr, OnOk};
 ghost use Rattle.hg_check.specs.Checking.{LeadsTo};
-ghost use Rattle.hg_check.specs.Running.{EndsIn, Reaches};
+ghost use Rattle.hg_check.specs.Running.{HasFew, LeadsFrom, ReportsGrow};
+ghost use Rattle.hg_model.specs.Contents.{Content};
 ghost use Rattle.hg_check.specs.Printing.{line_text};
 ghost use Rattle.hg_check.specs.declared.checker.Ending.{Ending as EndingOf};
 ghost use Rattle.hg_detect.specs.Memory.{IsWhole, content_of};
-ghost use Rattle.hg_explain.specs.Telling.{Stays, Tells, ToldAll, ToldOn, WentOn};
+ghost use Rattle.hg_explain.specs.Telling.{Stays, Tells, WentOn};
 ghost use Rattle.hg_detect.specs.Accessing.{access_event};
 ghost use Rattle.hg_wire.specs.Accesses.{event_of as event_in};
-ghost use Rattle.hg_wire.specs.Streams.{ended_from};
 ghost use Rattle.hg_wire.specs.declared.reader.Reading.{Reading as ReadingOf};
 ghost use Rattle.hg_explain.specs.Life as life;
 
@@ -21,7 +21,7 @@ use hg_detect::memory::MemoryDetector;
 use hg_model::event::{Access, Event};
 use hg_model::verdict::Refusal;
 use hg_wire::line::AccessLine;
-use hg_wire::reader::{EventReader, Reading, Taken};
+use hg_wire::reader::Reading;
 
 /// How many accesses an event is.
 #[inline(always)]
@@ -110,6 +110,12 @@ pub fn pass(
     ensures ended { (later : List ReadingOf) (end : EndingOf) → result ≡ Ok (Some end)
         → LeadsTo (reading.now ∷ later) detector.old.sets (content_of detector.old) (content_of detector.new) end }
     ensures stays { (end : EndingOf) → result ≡ Ok (Some end) → Stays detector.old more.old held.old.items detector.new more.new held.new.items }
+    ensures front { (later : List ReadingOf) (last : Content) (end : EndingOf) → HasFew (content_of detector.old)
+        → LeadsFrom detector.old (reading.now ∷ later) last end → ReportsGrow (content_of detector.new) last }
+    ensures few { HasFew (content_of detector.old) → HasFew (content_of detector.new) }
+    ensures counted { (content_of detector.new).last 0 ≤ (content_of detector.old).last 0 + 1 }
+    ensures reports { ReportsGrow (content_of detector.old) (content_of detector.new) }
+    ensures whole { IsWhole detector.new }
     ensures fault { IfErr result (λ r. r ≡ Refusal.OutOfMemory) }
 {
     let line = reading.line;
@@ -130,7 +136,7 @@ pub fn pass(
 
 /// The same for the read or write of a line.
 #[inline(always)]
-fn pass_access(
+pub fn pass_access(
     asked: Asked,
     detector: &mut MemoryDetector,
     line: u64,
@@ -150,6 +156,12 @@ fn pass_access(
     ensures ended { (later : List ReadingOf) (end : EndingOf) → result ≡ Ok (Some end)
         → LeadsTo (record { line = line; event = Ok (event_in found.now) } ∷ later) detector.old.sets (content_of detector.old) (content_of detector.new) end }
     ensures stays { (end : EndingOf) → result ≡ Ok (Some end) → Stays detector.old more.old held.old.items detector.new more.new held.new.items }
+    ensures front { (later : List ReadingOf) (last : Content) (end : EndingOf) → HasFew (content_of detector.old)
+        → LeadsFrom detector.old ((record { line = line; event = Ok (event_in found.now) }) ∷ later) last end → ReportsGrow (content_of detector.new) last }
+    ensures few { HasFew (content_of detector.old) → HasFew (content_of detector.new) }
+    ensures counted { (content_of detector.new).last 0 ≤ (content_of detector.old).last 0 + 1 }
+    ensures reports { ReportsGrow (content_of detector.old) (content_of detector.new) }
+    ensures whole { IsWhole detector.new }
     ensures fault { IfErr result (λ r. r ≡ Refusal.OutOfMemory) }
 {
     if overlaps(found.access.at, u16::from(found.access.len), asked.word) {
@@ -181,6 +193,12 @@ fn pass_concerned(
     ensures ended { (later : List ReadingOf) (end : EndingOf) → result ≡ Ok (Some end)
         → LeadsTo (record { line = line; event = Ok (event_in found.now) } ∷ later) detector.old.sets (content_of detector.old) (content_of detector.new) end }
     ensures stays { (end : EndingOf) → result ≡ Ok (Some end) → Stays detector.old more.old held.old.items detector.new more.new held.new.items }
+    ensures front { (later : List ReadingOf) (last : Content) (end : EndingOf) → HasFew (content_of detector.old)
+        → LeadsFrom detector.old ((record { line = line; event = Ok (event_in found.now) }) ∷ later) last end → ReportsGrow (content_of detector.new) last }
+    ensures few { HasFew (content_of detector.old) → HasFew (content_of detector.new) }
+    ensures counted { (content_of detector.new).last 0 ≤ (content_of detector.old).last 0 + 1 }
+    ensures reports { ReportsGrow (content_of detector.old) (content_of detector.new) }
+    ensures whole { IsWhole detector.new }
     ensures fault { IfErr result (λ r. r ≡ Refusal.OutOfMemory) }
 {
     let from = detector.kept();
@@ -202,51 +220,5 @@ fn event_of(access: Access, is_write: bool) -> Event
         Event::Write(access)
     } else {
         Event::Read(access)
-    }
-}
-
-/// Takes a piece of a trace text, offers its events up to the first that is not accepted, and tells those that concern
-/// the word. `None` says that all were accepted, and that the piece was taken whole.
-pub fn push(
-    asked: Asked,
-    reader: &mut EventReader,
-    detector: &mut MemoryDetector,
-    piece: &[u8],
-    look: &mut Look,
-    more: &mut u64,
-    held: &mut Vec<u8>,
-) -> Result<Option<Ending>, Refusal>
-    requires whole { IsWhole detector.old }
-    requires word { asked.word < 2 ^ 62 }
-    requires lines { reader.old.lines + length piece.now < 2 ^ 64 }
-    requires events { (content_of detector.old).last 0 + length piece.now < 2 ^ 64 }
-    requires few { more.old ≤ (content_of detector.old).last 0 }
-    requires looks { look.old ≡ life.look_of ((content_of detector.old).words asked.word) }
-    ensures reaches { result ≡ Ok None → Reaches reader.old detector.old piece.now reader.new detector.new [] }
-    ensures told { result ≡ Ok None → ToldOn asked.word asked.form reader.old (content_of detector.old) more.old piece.now reader.new (content_of detector.new) more.new [] held.old.items held.new.items }
-    ensures looks { result ≡ Ok None → look.new ≡ life.look_of ((content_of detector.new).words asked.word) }
-    ensures none_left { result ≡ Ok None → ended_from reader.new [] ≡ [] }
-    ensures ends { (end : EndingOf) → result ≡ Ok (Some end) → EndsIn reader.old detector.old piece.now detector.new end }
-    ensures told_all { (end : EndingOf) → result ≡ Ok (Some end) → ToldAll asked.word asked.form reader.old (content_of detector.old) more.old piece.now (content_of detector.new) more.new held.old.items held.new.items }
-    ensures fault { IfErr result (λ r. r ≡ Refusal.OutOfMemory) }
-{
-    let mut rest = piece;
-    loop {
-        if let Some(found) = reader.take_access(rest) {
-            rest = &rest[found.used..];
-            let stopped = pass_access(asked, detector, reader.lines(), &found, look, more, held)?;
-            if stopped.is_some() {
-                return Ok(stopped);
-            }
-            continue;
-        }
-        let Taken::Line { reading, used } = reader.take(rest) else {
-            return Ok(None);
-        };
-        rest = &rest[used..];
-        let stopped = pass(asked, detector, &reading, look, more, held)?;
-        if stopped.is_some() {
-            return Ok(stopped);
-        }
     }
 }

@@ -1,0 +1,59 @@
+-- What explaining a word takes of a trace text, and tells of it.
+use Rattle.std.specs.Prelude.{◌≡◌, ◌+◌, ◌<◌, ◌≤◌, ◌^◌, ℕ, List, [], ◌∷◌, ◌++◌, Option, None, Some, Result, Ok, Err}
+use Rattle.hg_model.specs.declared.verdict.Refusal.{Refusal}
+use Rattle.hg_model.specs.Contents.{Content}
+use Rattle.hg_detect.specs.Memory.{IsWhole, content_of}
+use Rattle.hg_streams.specs.declared.call.WriteCall.{WriteCall}
+use Rattle.hg_streams.specs.Calls.{failed_writes}
+use Rattle.hg_streams.specs.Told.{told}
+use Rattle.hg_wire.specs.declared.reader.Reading.{Reading}
+use Rattle.hg_check.specs.declared.checker.Ending.{Ending}
+use Rattle.hg_check.specs.Holding.{IsDue}
+use Rattle.hg_check.specs.Running.{IsStart, LeadsFrom, Steps}
+use Rattle.hg_check.specs.Streaming.{HasWriteCause}
+use Rattle.hg_check.specs.Written.{TookFront}
+use Rattle.hg_explain.specs.declared.explaining.Explaining.{Explaining}
+use Rattle.hg_explain.specs.declared.form.Form.{Form}
+use Rattle.hg_explain.specs.Life.{life, look_of, more_text}
+
+-- It is known how the word looks, and no more accesses are not shown than events came.
+pub record IsReady (s : Explaining) : Type 0 where
+  pub whole : IsWhole s.detector
+  pub word : s.asked.word < 2 ^ 62
+  pub few : s.more ≤ (content_of s.detector).last 0
+  pub looks : s.look ≡ look_of ((content_of s.detector).words s.asked.word)
+
+-- So many lines may be offered.
+abbrev pub MayTake : Explaining → ℕ → Type 0
+MayTake s n = IsReady s × ((content_of s.detector).last 0 + n < 2 ^ 64)
+
+-- What lines added to the life of a word: from a content with so many accesses that are not shown to another.
+pub record Adds (w : ℕ) (form : Form) (c : Content) (k : ℕ) (lines : List Reading) (r : Result (Option Ending) Refusal) (d : Content) (j : ℕ) : Type 0 where
+  pub text : List ℕ
+  pub count : ℕ
+  pub counted : ((x : Refusal) → r ≡ Err x → ⊥) → d.events ≡ c.events + count
+  pub on : r ≡ Ok None → (n : ℕ) (later : List Reading) → life w form c k (count + n) (lines ++ later) ≡ text ++ life w form d j n later
+  pub ends : (end : Ending) → r ≡ Ok (Some end) → (later : List Reading) → life w form c k count (lines ++ later) ≡ text ++ more_text j
+
+-- What was written is a front of the life that is due, whatever follows these lines.
+abbrev pub WroteLifeFront : Explaining → List WriteCall → List Reading → List WriteCall → Type 0
+WroteLifeFront s before lines now =
+    (first : List WriteCall) (goal : List ℕ) → IsDue first before s.held.items [] goal → (n : ℕ) (later : List Reading) (last : Content) (end : Ending) → LeadsFrom s.detector (lines ++ later) last end
+    → last.events ≡ (content_of s.detector).events + n → TookFront first now (goal ++ life s.asked.word s.asked.form (content_of s.detector) s.more n (lines ++ later))
+
+-- Lines were offered, or what is held of the life was printed.
+pub record Takes (old : Explaining) (before : List WriteCall) (lines : List Reading) (r : Result (Option Ending) Refusal) (new : Explaining) (now : List WriteCall) : Type 0 where
+  pub asked : new.asked ≡ old.asked
+  pub steps : Steps old.detector lines r new.detector
+  pub ready : r ≡ Ok None → IsReady old → IsReady new
+  pub adds : Adds old.asked.word old.asked.form (content_of old.detector) old.more lines r (content_of new.detector) new.more
+  pub due : ((x : Refusal) → r ≡ Err x → ⊥) → (first : List WriteCall) (goal : List ℕ) → IsDue first before old.held.items [] goal → IsDue first now new.held.items [] (goal ++ adds.text)
+  pub front : (x : Refusal) → r ≡ Err x → WroteLifeFront old before lines now
+  pub cause : (x : Refusal) → r ≡ Err x → HasWriteCause before now x
+  pub failures : failed_writes now ≡ told r + failed_writes before
+
+-- A detector that has accepted no event; nothing was told.
+pub record IsFresh (s : Explaining) : Type 0 where
+  pub ready : IsReady s
+  pub start : IsStart s.detector
+  pub none : s.more ≡ 0

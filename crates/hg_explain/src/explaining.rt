@@ -1,0 +1,110 @@
+//! Explaining a word: a detector that takes the lines of a trace text, and tells those that concern the word.
+
+ghost use Rattle.std.specs.Prelude.{◌≡◌, ◌<◌, ◌^◌, [], IfErr, IfOk};
+
+use crate::form::Asked;
+use crate::look::Look;
+use crate::passing::{pass, pass_access};
+use hg_check::checker::Ending;
+use hg_check::streams::write_out;
+use hg_detect::memory::{MemoryDetector, new_detector};
+use hg_model::verdict::Refusal;
+use hg_reading::sink::Sink;
+use hg_sets::MOST_SETS;
+use hg_streams::output::Output;
+use hg_wire::line::AccessLine;
+use hg_wire::reader::Reading;
+use std::alloc::Global;
+use std::io::Write;
+
+/// A detector, and what is told of a word.
+#[derive(Drop)]
+pub struct Explaining {
+    pub asked: Asked,
+    pub detector: MemoryDetector,
+    /// How the word looks now.
+    pub look: Look,
+    /// How many accesses to the word were not shown since its last line.
+    pub more: u64,
+    /// Text that is still to be written.
+    pub held: Vec<u8>,
+}
+
+impl Explaining {
+    ghost use Rattle.hg_explain.specs.Taking.{IsFresh};
+
+    /// A detector that has accepted no event.
+    pub fn new(alloc: Global, asked: Asked) -> Result<Explaining, Refusal>
+        requires word { asked.word < 2 ^ 62 }
+        ensures fresh { IfOk result IsFresh }
+        ensures asked { IfOk result (λ s. s.asked ≡ asked) }
+        ensures none { IfOk result (λ s. s.held.items ≡ []) }
+        ensures cause { IfErr result (λ r. r ≡ Refusal.OutOfMemory) }
+    {
+        let detector = new_detector(alloc, MOST_SETS)?;
+        Ok(Explaining {
+            asked,
+            detector,
+            look: Look::Fresh,
+            more: 0,
+            held: Vec::new(alloc),
+        })
+    }
+}
+
+impl<W: Write> Sink<W> for Explaining {
+    ghost use Rattle.hg_explain.specs.Taking.{MayTake, Takes};
+    ghost use Rattle.hg_explain.specs.TakingLaws.{takes_fewer, takes_none, takes_on, takes_room};
+
+    type End = Ending;
+
+    ghost may_take = { MayTake };
+
+    ghost takes = { Takes };
+
+    fn offer(
+        &mut self,
+        reading: &Reading,
+        _output: &mut Output<W>,
+    ) -> Result<Option<Ending>, Refusal> {
+        pass(
+            self.asked,
+            &mut self.detector,
+            reading,
+            &mut self.look,
+            &mut self.more,
+            &mut self.held,
+        )
+    }
+
+    #[inline(always)]
+    fn offer_access(
+        &mut self,
+        line: u64,
+        found: &AccessLine,
+        _output: &mut Output<W>,
+    ) -> Result<Option<Ending>, Refusal> {
+        pass_access(
+            self.asked,
+            &mut self.detector,
+            line,
+            found,
+            &mut self.look,
+            &mut self.more,
+            &mut self.held,
+        )
+    }
+
+    /// Writes what is held.
+    fn print(&mut self, output: &mut Output<W>) -> Result<(), Refusal> {
+        write_out(&mut self.held, output)
+    }
+
+    ghost none = { takes_none };
+
+    ghost on = { takes_on };
+
+    ghost room = { takes_room };
+
+    ghost fewer = { takes_fewer };
+}
