@@ -38,7 +38,7 @@ fresh_few d fresh = subst HasFew (sym fresh.content) (omega arith)
 
 -- ---- to an end
 
-passed_to : (d e : Detector PagedWords) (lines : List Reading) → IsStart d → Steps d lines (Ok None) e → LeadsTo lines (first_table 262144) empty_content (content_of e) Ended
+pub passed_to : (d e : Detector PagedWords) (lines : List Reading) → IsStart d → Steps d lines (Ok None) e → LeadsTo lines (first_table 262144) empty_content (content_of e) Ended
 passed_to d e lines fresh h =
     checks_from d lines (content_of e) Ended fresh
     (subst (λ xs. LeadsFrom d xs (content_of e) Ended) (append-nil lines) (h.leads refl [] (content_of e) Ended (refl, refl)))
@@ -47,7 +47,7 @@ ended_to : (d e : Detector PagedWords) (lines rest : List Reading) (end : Ending
     → LeadsTo (lines ++ rest) (first_table 262144) empty_content (content_of e) end
 ended_to d e lines rest end fresh h = checks_from d (lines ++ rest) (content_of e) end fresh (h.ends end refl rest)
 
-ends_by : (d e : Detector PagedWords) (reads : List ReadCall) (lines : List Reading) (stop : Option Ending) → IsStart d → Steps d lines (Ok stop) e
+pub ends_by : (d e : Detector PagedWords) (reads : List ReadCall) (lines : List Reading) (stop : Option Ending) → IsStart d → Steps d lines (Ok stop) e
     → AreDue StepsTaken reads lines (Ok stop) → EndsBy reads (content_of e) (ending_of stop)
 ends_by d e reads lines None fresh h due =
     ⊎_elim

@@ -25,11 +25,11 @@ use Rattle.hg_check.proofs.Printed.{front_due, front_more}
 use Rattle.hg_check.proofs.Steps.{leads_grow, reports_grow_on, reports_stay}
 use Rattle.hg_check.proofs.Growing.{live_text_grows, new_reports_due}
 
-memory_alone : (r : Result (Option Ending) Refusal) → IfErr r (λ x. x ≡ OutOfMemory) → (x : Refusal) → r ≡ Err x → x ≡ OutOfMemory
+pub memory_alone : (r : Result (Option Ending) Refusal) → IfErr r (λ x. x ≡ OutOfMemory) → (x : Refusal) → r ≡ Err x → x ≡ OutOfMemory
 memory_alone (Ok stop) h x is = absurd (cc)
 memory_alone (Err y) h x is = let same : y ≡ x = cc in sym same ∙ h
 
-none_failed : (r : Result (Option Ending) Refusal) (n : ℕ) → IfErr r (λ x. x ≡ OutOfMemory) → n ≡ told r + n
+pub none_failed : (r : Result (Option Ending) Refusal) (n : ℕ) → IfErr r (λ x. x ≡ OutOfMemory) → n ≡ told r + n
 none_failed (Ok stop) n h = omega arith
 none_failed (Err x) n h = omega (arith, ap told_refusal h)
 
@@ -76,7 +76,7 @@ takes_line old new calls reading r accepted ended back front few memory counted 
 }
 
 -- what is printed changes no content
-steps_stay : {T : Type 0} (d : Detector PagedWords) (r : Result T Refusal) → Steps d [] (as_stop r) d
+pub steps_stay : {T : Type 0} (d : Detector PagedWords) (r : Result T Refusal) → Steps d [] (as_stop r) d
 steps_stay d (Ok done) = steps_none d
 steps_stay d (Err x) = record {
   leads = λ is. absurd (cc);
@@ -89,7 +89,7 @@ steps_stay d (Err x) = record {
   whole = λ h. h;
 }
 
-told_as : {T : Type 0} (r : Result T Refusal) (n : ℕ) (m : ℕ) → n ≡ told r + m → n ≡ told {T = Option Ending} (as_stop r) + m
+pub told_as : {T : Type 0} (r : Result T Refusal) (n : ℕ) (m : ℕ) → n ≡ told r + m → n ≡ told {T = Option Ending} (as_stop r) + m
 told_as (Ok done) n m h = h
 told_as (Err x) n m h = h
 

@@ -12,7 +12,7 @@ use Rattle.hg_streams.specs.declared.call.ReadCall.{ReadCall}
 use Rattle.hg_streams.specs.declared.call.WriteCall.{WriteCall}
 use Rattle.hg_streams.specs.Calls.{failed_reads}
 use Rattle.hg_wire.specs.declared.reader.Reading.{Reading}
-use Rattle.hg_reading.specs.Taking.{ReadBroke, Reads, WasRead}
+use Rattle.hg_reading.specs.Taking.{ReadBroke, Reads, Taking, WasRead}
 use Rattle.hg_check.specs.declared.checker.Ending.{Ending}
 use Rattle.hg_check.specs.declared.checking.Checking.{Checking}
 use Rattle.hg_check.specs.Holding.{IsDue}
@@ -76,12 +76,12 @@ all_printed s first now all p =
 
 -- ---- a run that was broken off
 
-failed_reads_on : (later first : List ReadCall) → failed_reads (later ++ first) ≡ failed_reads later + failed_reads first
+pub failed_reads_on : (later first : List ReadCall) → failed_reads (later ++ first) ≡ failed_reads later + failed_reads first
 failed_reads_on [] first = omega arith
 failed_reads_on (ReadCall.Gave bytes ∷ later) first = failed_reads_on later first
 failed_reads_on (ReadCall.Erred kind ∷ later) first = omega (arith, failed_reads_on later first)
 
-cause_of : (reads now : List ReadCall) (before after : List WriteCall) (x : Refusal) → HasWriteCause before after x → HasCause reads now before after x
+pub cause_of : (reads now : List ReadCall) (before after : List WriteCall) (x : Refusal) → HasWriteCause before after x → HasCause reads now before after x
 cause_of reads now before after x h = ⊎_elim (λ memory. inl memory) (λ failed. inr (failed.0, inr failed.1)) h
 
 due_of : (s t : Checking) (o p : List WriteCall) (lines : List Reading) (live : Bool) → IsFresh live s → Takes s o lines (Ok None) t p → IsPrinted o t p
@@ -92,8 +92,8 @@ front_printed t first now p =
     let more = live_text_grows t.live p.before (content_of t.detector) p.grow in
     front_more first now (live_text t.live p.before) more.0 (live_text t.live (content_of t.detector)) more.1 (front_due first now t.held.items [] (live_text t.live p.before) p.due)
 
-cause_by_read : (first now : List ReadCall) (s t : Checking) (o p : List WriteCall) (x : Refusal) → ReadBroke Takes first now s o x t p → HasCause first now o p x
-cause_by_read first now s t o p x w =
+pub cause_by_read : {S : Type 0} (takes : Taking S Ending) (first now : List ReadCall) (s t : S) (o p : List WriteCall) (x : Refusal) → ReadBroke takes first now s o x t p → HasCause first now o p x
+cause_by_read takes first now s t o p x w =
     ⊎_elim
     (λ memory. inl memory.0)
     (λ failed. inr (
@@ -116,7 +116,7 @@ broke live first now s t o p x fresh reads =
     (λ w. (
       wrote_live s.live first now o p (content_of t.detector) (reports_broke first now s.detector t.detector o p x fresh.start (seen_broke first now s t o p x w))
           (subst (λ l. TookFront o p (live_text l (content_of t.detector))) w.steps.live (front_printed t o p (due_of s t o p w.lines live fresh w.steps))),
-      cause_by_read first now s t o p x w,
+      cause_by_read Takes first now s t o p x w,
     ))
     reads
 

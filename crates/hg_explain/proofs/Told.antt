@@ -1,7 +1,7 @@
 -- How a word's life is told line by line.
-use Rattle.std.proofs.Common.{◌≡◌, ℕ, suc, ◌+◌, ◌<◌, ◌≤◌, ◌||◌, Bool, true, false, cond, List, [], ◌∷◌, ◌++◌, drop, length, Result, Ok, Err, Option, Some, None, is_some, refl, sym, ap, ◌∙◌, arith}
+use Rattle.std.proofs.Common.{◌≡◌, ℕ, ◌+◌, ◌<◌, ◌≤◌, ◌||◌, Bool, true, false, cond, List, [], ◌∷◌, ◌++◌, length, Result, Ok, Err, Option, Some, None, is_some, refl, sym, ap, ◌∙◌, arith}
 use Rattle.std.proofs.lemmas.Bool.{ltb-false}
-use Rattle.std.proofs.lemmas.List.{append-nil, append_assoc}
+use Rattle.std.proofs.lemmas.List.{append-nil}
 use Rattle.hg_model.specs.declared.event.Event.{Event}
 use Rattle.hg_model.specs.declared.event.Access.{Access}
 use Rattle.hg_model.specs.History.{overlaps}
@@ -15,22 +15,17 @@ use Rattle.hg_model.specs.Change.{after, locks_of, touched, word_after}
 use Rattle.hg_model.specs.Segments.{present}
 use Rattle.hg_model.specs.declared.word.WordState.TheVariants.{New}
 use Rattle.hg_model.proofs.Accepted.{no_cause}
-use Rattle.hg_detect.specs.declared.detector.Detector.{Detector}
-use Rattle.hg_detect.specs.declared.paged.PagedWords.{PagedWords}
-use Rattle.hg_detect.specs.Memory.{content_of}
 use Rattle.hg_wire.specs.declared.reader.Reading.{Reading}
-use Rattle.hg_wire.specs.Streams.{GivesNoReading, GivesReading, Pending, readings_from}
 use Rattle.hg_check.specs.declared.checker.Ending.{Ending}
 use Rattle.hg_check.specs.declared.checker.Ending.TheVariants.{Ended, Bad, Refused}
 use Rattle.hg_model.specs.declared.verdict.Refusal.{Refusal}
 use Rattle.hg_check.specs.Checking.{Answered, IsRead, LeadsTo, next_named}
 use Rattle.hg_sets.specs.Interning.{Table}
 use Rattle.hg_wire.specs.declared.line.LineFault.{LineFault}
-use Rattle.hg_check.proofs.Pieces as pieces
 use Rattle.hg_explain.specs.declared.look.Look.{Look}
 use Rattle.hg_explain.specs.declared.form.Form.{Form}
 use Rattle.hg_explain.specs.Life.{accesses, actor_of, concerns, differs, life, look_of, more_text, told_by, told_line, told_of}
-use Rattle.hg_explain.specs.Telling.{Stays, Tells, ToldAll, ToldLast, ToldOn, WentOn}
+use Rattle.hg_explain.specs.Telling.{Tells}
 
 pub life_none : (w : ℕ) (form : Form) (c : Content) (k : ℕ) (rs : List Reading) → life w form c k 0 rs ≡ more_text k
 life_none w form c k [] = refl
@@ -162,78 +157,3 @@ read_is_accepted e (Refuse r) t c last line later h = absurd (refused_never line
 pub accepted_is_allowed : (line : ℕ) (e : Event) (t new : Table) (c d : Content)
     → ((later : List Reading) (last : Content) (end : Ending) → LeadsTo later new d last end → LeadsTo (record { line = line; event = Ok e } ∷ later) t c last end) → verdict (standing_of c) (next_named c e) ≡ Accept
 accepted_is_allowed line e t new c d leads = read_is_accepted e (verdict (standing_of c) (next_named c e)) t c d line (λ u x. LeadsTo [] u x d Ended) (leads [] d Ended (refl, refl))
-
--- ---- lines of a piece
-
-pub told_first : (w : ℕ) (form : Form) (old : Pending) (c : Content) (k : ℕ) (piece held : List ℕ) → ToldOn w form old c k piece old c k piece held held
-told_first w form old c k piece held = record {
-  added = [];
-  held_on = sym (append-nil held);
-  count = 0;
-  counted = omega arith;
-  few = λ h. h;
-  text = λ more n. let same : 0 + n ≡ n = omega arith in ap (λ (m : ℕ). life w form c k m (readings_from old (piece ++ more))) same;
-}
-
-pub told_on : (w : ℕ) (form : Form) (old mid new : Pending) (c d e : Content) (k j i : ℕ) (piece rest held mid_held kept : List ℕ) (reading : Reading) (used : ℕ)
-    → ToldOn w form old c k piece mid d j rest held mid_held → GivesReading mid new rest reading used → Tells w form d j reading e i mid_held kept → ToldOn w form old c k piece new e i (drop used rest) held kept
-told_on w form old mid new c d e k j i piece rest held mid_held kept reading used so_far gives t = record {
-  added = so_far.added ++ t.added;
-  held_on = t.held_on ∙ (ap (λ x. x ++ t.added) so_far.held_on ∙ append_assoc held so_far.added t.added);
-  count = so_far.count + 1;
-  counted = omega (arith, so_far.counted, t.counted);
-  few = λ h. t.few (so_far.few h);
-  text = λ more n.
-      let same : so_far.count + 1 + n ≡ so_far.count + suc n = omega arith in
-      ap (λ (m : ℕ). life w form c k m (readings_from old (piece ++ more))) same
-      ∙ (so_far.text more (suc n)
-      ∙ (ap (λ x. so_far.added ++ x) (ap (λ rs. life w form d j (suc n) rs) (gives.readings more) ∙ t.text n (readings_from new (drop used rest ++ more)))
-      ∙ sym (append_assoc so_far.added t.added (life w form e i n (readings_from new (drop used rest ++ more))))));
-}
-
-pub told_end : (w : ℕ) (form : Form) (old mid new : Pending) (c d : Content) (k j : ℕ) (piece rest held kept : List ℕ)
-    → ToldOn w form old c k piece mid d j rest held kept → GivesNoReading mid new rest → ToldOn w form old c k piece new d j [] held kept
-told_end w form old mid new c d k j piece rest held kept so_far gives = record {
-  added = so_far.added;
-  held_on = so_far.held_on;
-  count = so_far.count;
-  counted = so_far.counted;
-  few = so_far.few;
-  text = λ more n. so_far.text more n ∙ ap (λ rs. so_far.added ++ life w form d j n rs) (gives.readings more);
-}
-
-pub told_all : (w : ℕ) (form : Form) (old mid : Pending) (c : Content) (d f : Detector PagedWords) (k j i : ℕ) (piece rest held mid_held kept : List ℕ)
-    → ToldOn w form old c k piece mid (content_of d) j rest held mid_held → Stays d j mid_held f i kept → ToldAll w form old c k piece (content_of f) i held kept
-told_all w form old mid c d f k j i piece rest held mid_held kept so_far stays = record {
-  added = so_far.added;
-  held_on = stays.text ∙ so_far.held_on;
-  count = so_far.count;
-  counted = ap (λ (x : Content). x.events) stays.content ∙ so_far.counted;
-  text = λ more.
-      let none : so_far.count ≡ so_far.count + 0 = omega arith in
-      ap (λ (m : ℕ). life w form c k m (readings_from old (piece ++ more))) none
-      ∙ (so_far.text more 0 ∙ ap (λ x. so_far.added ++ x) (life_none w form (content_of d) j (readings_from mid (rest ++ more)) ∙ ap more_text (sym stays.more)));
-}
-
-pub went : (before now : Detector PagedWords) (reading : Reading) → WentOn before now reading → pieces.WentOn before now reading
-went before now reading h = record { leads = h.leads; back = h.back; few = h.few; events = h.events; reports = h.reports; whole = h.whole }
-
--- ---- the last line
-
-pub last_told : (w : ℕ) (form : Form) (p : Pending) (c d : Content) (k j : ℕ) (held kept : List ℕ) (r : Reading) → readings_from p [] ≡ r ∷ [] → Tells w form c k r d j held kept → ToldLast w form p c k d j held kept
-last_told w form p c d k j held kept r is t = record {
-  added = t.added;
-  held_on = t.held_on;
-  count = 1;
-  counted = t.counted;
-  text = ap (λ rs. life w form c k 1 rs) is ∙ t.text 0 [];
-}
-
-pub last_stays : (w : ℕ) (form : Form) (p : Pending) (d f : Detector PagedWords) (k j : ℕ) (held kept : List ℕ) → Stays d k held f j kept → ToldLast w form p (content_of d) k (content_of f) j held kept
-last_stays w form p d f k j held kept s = record {
-  added = [];
-  held_on = s.text ∙ sym (append-nil held);
-  count = 0;
-  counted = let same : (content_of f).events ≡ (content_of d).events = ap (λ (x : Content). x.events) s.content in omega (arith, same);
-  text = life_none w form (content_of d) k (readings_from p []) ∙ ap more_text (sym s.more);
-}

@@ -1,5 +1,5 @@
 -- What explaining a word takes of a trace text, and tells of it.
-use Rattle.std.specs.Prelude.{◌≡◌, ◌+◌, ◌<◌, ◌≤◌, ◌^◌, ℕ, List, [], ◌∷◌, ◌++◌, Option, None, Some, Result, Ok, Err}
+use Rattle.std.specs.Prelude.{◌≡◌, ◌+◌, ◌<◌, ◌≤◌, ◌^◌, ℕ, List, [], ◌++◌, Option, None, Some, Result, Ok, Err}
 use Rattle.hg_model.specs.declared.verdict.Refusal.{Refusal}
 use Rattle.hg_model.specs.Contents.{Content}
 use Rattle.hg_detect.specs.Memory.{IsWhole, content_of}
@@ -27,9 +27,8 @@ pub record IsReady (s : Explaining) : Type 0 where
 abbrev pub MayTake : Explaining → ℕ → Type 0
 MayTake s n = IsReady s × ((content_of s.detector).last 0 + n < 2 ^ 64)
 
--- What lines added to the life of a word: from a content with so many accesses that are not shown to another.
-pub record Adds (w : ℕ) (form : Form) (c : Content) (k : ℕ) (lines : List Reading) (r : Result (Option Ending) Refusal) (d : Content) (j : ℕ) : Type 0 where
-  pub text : List ℕ
+-- What lines added to the life of a word is this text: from a content with so many accesses that are not shown to another.
+pub record Adds (w : ℕ) (form : Form) (c : Content) (k : ℕ) (lines : List Reading) (r : Result (Option Ending) Refusal) (d : Content) (j : ℕ) (text : List ℕ) : Type 0 where
   pub count : ℕ
   pub counted : ((x : Refusal) → r ≡ Err x → ⊥) → d.events ≡ c.events + count
   pub on : r ≡ Ok None → (n : ℕ) (later : List Reading) → life w form c k (count + n) (lines ++ later) ≡ text ++ life w form d j n later
@@ -46,8 +45,9 @@ pub record Takes (old : Explaining) (before : List WriteCall) (lines : List Read
   pub asked : new.asked ≡ old.asked
   pub steps : Steps old.detector lines r new.detector
   pub ready : r ≡ Ok None → IsReady old → IsReady new
-  pub adds : Adds old.asked.word old.asked.form (content_of old.detector) old.more lines r (content_of new.detector) new.more
-  pub due : ((x : Refusal) → r ≡ Err x → ⊥) → (first : List WriteCall) (goal : List ℕ) → IsDue first before old.held.items [] goal → IsDue first now new.held.items [] (goal ++ adds.text)
+  pub text : List ℕ
+  pub adds : Adds old.asked.word old.asked.form (content_of old.detector) old.more lines r (content_of new.detector) new.more text
+  pub due : ((x : Refusal) → r ≡ Err x → ⊥) → (first : List WriteCall) (goal : List ℕ) → IsDue first before old.held.items [] goal → IsDue first now new.held.items [] (goal ++ text)
   pub front : (x : Refusal) → r ≡ Err x → WroteLifeFront old before lines now
   pub cause : (x : Refusal) → r ≡ Err x → HasWriteCause before now x
   pub failures : failed_writes now ≡ told r + failed_writes before

@@ -1,7 +1,7 @@
 -- The laws of explaining a word.
-use Rattle.std.specs.Prelude.{◌≡◌, ◌+◌, ◌-◌, ◌<◌, ◌≤◌, ◌^◌, ℕ, List, [], ◌∷◌, ◌++◌, length, Option, None, Some, Result, Ok, Err, refl}
-use Rattle.std.proofs.Common.{sym, ap, ◌∙◌, subst, inl, inr, ⊎_elim, arith}
-use Rattle.std.proofs.lemmas.List.{append-nil, append_assoc, length-append}
+use Rattle.std.specs.Prelude.{◌≡◌, ◌+◌, ◌-◌, ◌≤◌, ℕ, List, [], ◌∷◌, ◌++◌, length, Option, None, Result, Ok, Err, refl}
+use Rattle.std.proofs.Common.{sym, ap, ◌∙◌, subst, ⊎_elim, arith}
+use Rattle.std.proofs.lemmas.List.{append-nil, append_assoc}
 use Rattle.hg_model.specs.declared.event.Event.{Event}
 use Rattle.hg_model.specs.declared.verdict.Refusal.{Refusal}
 use Rattle.hg_model.specs.declared.verdict.Verdict.{Verdict}
@@ -12,7 +12,6 @@ use Rattle.hg_model.specs.Change.{after}
 use Rattle.hg_sets.specs.Interning.{Table}
 use Rattle.hg_detect.specs.Memory.{content_of}
 use Rattle.hg_streams.specs.declared.call.WriteCall.{WriteCall}
-use Rattle.hg_streams.specs.Calls.{failed_writes}
 use Rattle.hg_streams.specs.Told.{told}
 use Rattle.hg_wire.specs.declared.line.LineFault.{LineFault}
 use Rattle.hg_wire.specs.declared.reader.Reading.{Reading}
@@ -26,7 +25,7 @@ use Rattle.hg_explain.specs.declared.explaining.Explaining.{Explaining}
 use Rattle.hg_explain.specs.declared.form.Asked.{Asked}
 use Rattle.hg_explain.specs.declared.form.Form.{Form}
 use Rattle.hg_explain.specs.Life.{life, more_text}
-use Rattle.hg_explain.specs.Taking.{Adds, IsReady, MayTake, Takes, WroteLifeFront}
+use Rattle.hg_explain.specs.Taking.{Adds, MayTake, Takes, WroteLifeFront}
 
 answered_events : (v : Verdict) (t : Table) (c last : Content) (e : Event) (line : ℕ) (later : Table → Content → Type 0) (end : Ending)
     → ((u : Table) (d : Content) → later u d → d.events ≤ last.events) → Answered v t c e line later last end → c.events ≤ last.events
@@ -51,29 +50,27 @@ events_grow (r ∷ later) t c last end h = read_events r.event t c last r.line (
 no_error : (x : Refusal) → ◌≡◌ {A = Result (Option Ending) Refusal} (Ok None) (Err x) → ⊥
 no_error x h = absurd (cc)
 
-adds_none : (w : ℕ) (form : Form) (c : Content) (k : ℕ) → Adds w form c k [] (Ok None) c k
+pub adds_none : (w : ℕ) (form : Form) (c : Content) (k : ℕ) → Adds w form c k [] (Ok None) c k []
 adds_none w form c k = record {
-  text = [];
   count = 0;
   counted = λ fine. omega arith;
   on = λ is n later. let same : 0 + n ≡ n = omega arith in ap (λ (m : ℕ). life w form c k m later) same;
   ends = λ end is. absurd (cc);
 }
 
-adds_on : (w : ℕ) (form : Form) (a b c : Content) (i j k : ℕ) (first later : List Reading) (r : Result (Option Ending) Refusal) → Adds w form a i first (Ok None) b j → Adds w form b j later r c k
-    → Adds w form a i (first ++ later) r c k
-adds_on w form a b c i j k first later r s t = record {
-  text = s.text ++ t.text;
+adds_on : (w : ℕ) (form : Form) (a b c : Content) (i j k : ℕ) (first later : List Reading) (r : Result (Option Ending) Refusal) (told new : List ℕ) → Adds w form a i first (Ok None) b j told → Adds w form b j later r c k new
+    → Adds w form a i (first ++ later) r c k (told ++ new)
+adds_on w form a b c i j k first later r told new s t = record {
   count = s.count + t.count;
   counted = λ fine. omega (arith, s.counted no_error, t.counted fine);
   on = λ is n more.
       let count : s.count + t.count + n ≡ s.count + (t.count + n) = omega arith in
       ap (λ (m : ℕ). life w form a i m ((first ++ later) ++ more)) count
       ∙ (ap (λ xs. life w form a i (s.count + (t.count + n)) xs) (append_assoc first later more)
-      ∙ (s.on refl (t.count + n) (later ++ more) ∙ (ap (λ x. s.text ++ x) (t.on is n more) ∙ sym (append_assoc s.text t.text (life w form c k n more)))));
+      ∙ (s.on refl (t.count + n) (later ++ more) ∙ (ap (λ x. told ++ x) (t.on is n more) ∙ sym (append_assoc told new (life w form c k n more)))));
   ends = λ end is more.
       ap (λ xs. life w form a i (s.count + t.count) xs) (append_assoc first later more)
-      ∙ (s.on refl t.count (later ++ more) ∙ (ap (λ x. s.text ++ x) (t.ends end is more) ∙ sym (append_assoc s.text t.text (more_text k))));
+      ∙ (s.on refl t.count (later ++ more) ∙ (ap (λ x. told ++ x) (t.ends end is more) ∙ sym (append_assoc told new (more_text k))));
 }
 
 pub takes_none : (s : Explaining) (calls : List WriteCall) → Takes s calls [] (Ok None) s calls
@@ -81,6 +78,7 @@ takes_none s calls = record {
   asked = refl;
   steps = steps_none s.detector;
   ready = λ is h. h;
+  text = [];
   adds = adds_none s.asked.word s.asked.form (content_of s.detector) s.more;
   due = λ fine first goal h. subst (λ x. IsDue first calls s.held.items [] x) (sym (append-nil goal)) h;
   front = λ x is. absurd (no_error x is);
@@ -98,24 +96,34 @@ front_on a b at_a at_b at_c first later s t start goal due n more last end leads
     let m = last.events - (content_of b.detector).events in
     let count : n ≡ s.adds.count + m = omega (arith, le, counted, s.adds.counted no_error) in
     let rest : last.events ≡ (content_of b.detector).events + m = omega (arith, le) in
-    let took = subst (λ (q : Asked). TookFront start at_c ((goal ++ s.adds.text) ++ life q.word q.form (content_of b.detector) b.more m (later ++ more))) s.asked
-        (t start (goal ++ s.adds.text) (s.due no_error start goal due) m more last end led rest) in
+    let took = subst (λ (q : Asked). TookFront start at_c ((goal ++ s.text) ++ life q.word q.form (content_of b.detector) b.more m (later ++ more))) s.asked
+    (t start (goal ++ s.text) (s.due no_error start goal due) m more last end led rest) in
     subst (λ x. TookFront start at_c x)
-    (append_assoc goal s.adds.text (life w form (content_of b.detector) b.more m (later ++ more))
+    (append_assoc goal s.text (life w form (content_of b.detector) b.more m (later ++ more))
     ∙ ap (λ x. goal ++ x) (sym (ap (λ xs. life w form (content_of a.detector) a.more n xs) (append_assoc first later more)
     ∙ (ap (λ (k : ℕ). life w form (content_of a.detector) a.more k (first ++ (later ++ more))) count ∙ s.adds.on refl m (later ++ more)))))
     took
 
+-- the same is asked, so that the same is added
+same_asked : (q p : Asked) (c d : Content) (k j : ℕ) (lines : List Reading) (r : Result (Option Ending) Refusal) (text : List ℕ) → q ≡ p → Adds q.word q.form c k lines r d j text → Adds p.word p.form c k lines r d j text
+same_asked q p c d k j lines r text same h = record {
+  count = h.count;
+  counted = h.counted;
+  on = λ is n later. subst (λ (x : Asked). life x.word x.form c k (h.count + n) (lines ++ later) ≡ text ++ life x.word x.form d j n later) same (h.on is n later);
+  ends = λ end is later. subst (λ (x : Asked). life x.word x.form c k h.count (lines ++ later) ≡ text ++ more_text j) same (h.ends end is later);
+}
+
 pub takes_on : (a b c : Explaining) (at_a at_b at_c : List WriteCall) (first later : List Reading) (r : Result (Option Ending) Refusal)
     → Takes a at_a first (Ok None) b at_b → Takes b at_b later r c at_c → Takes a at_a (first ++ later) r c at_c
 takes_on a b c at_a at_b at_c first later r s t =
-    let added = subst (λ (q : Asked). Adds q.word q.form (content_of b.detector) b.more later r (content_of c.detector) c.more) s.asked t.adds in
+    let added = same_asked b.asked a.asked (content_of b.detector) (content_of c.detector) b.more c.more later r t.text s.asked t.adds in
     record {
       asked = t.asked ∙ s.asked;
       steps = steps_on a.detector b.detector c.detector first later r s.steps t.steps;
       ready = λ is h. t.ready is (s.ready refl h);
-      adds = adds_on a.asked.word a.asked.form (content_of a.detector) (content_of b.detector) (content_of c.detector) a.more b.more c.more first later r s.adds added;
-      due = λ fine start goal h. ?;
+      text = s.text ++ t.text;
+      adds = adds_on a.asked.word a.asked.form (content_of a.detector) (content_of b.detector) (content_of c.detector) a.more b.more c.more first later r s.text t.text s.adds added;
+      due = λ fine start goal h. subst (λ x. IsDue start at_c c.held.items [] x) (append_assoc goal s.text t.text) (t.due fine start (goal ++ s.text) (s.due no_error start goal h));
       front = λ x is. front_on a b at_a at_b at_c first later s (t.front x is);
       cause = λ x is. cause_on at_a at_b at_c x s.failures (t.cause x is);
       failures = omega (arith, s.failures, t.failures);

@@ -6,12 +6,12 @@ ghost use Rattle.hg_explain.specs.Life.{more_text};
 ghost use Rattle.hg_check.specs.Streaming.{HasCause};
 ghost use Rattle.hg_check.specs.Written.{Took};
 ghost use Rattle.hg_check.specs.declared.checker.Ending.{Ending as EndingOf};
-ghost use Rattle.hg_detect.specs.Memory.{IsWhole, content_of};
+ghost use Rattle.hg_detect.specs.Memory.{content_of};
 ghost use Rattle.hg_explain.specs.Explaining.{BreaksOff, Explains, WroteFrontOf, word_line};
-ghost use Rattle.hg_model.specs.Change.{empty_content};
-ghost use Rattle.hg_sets.specs.Interning.{first_table};
+ghost use Rattle.hg_explain.specs.Taking.{IsFresh};
 
 use crate::address::hold_word;
+use crate::explaining::Explaining;
 use crate::form::{Asked, Form};
 use crate::run::run;
 use crate::telling::hold_more;
@@ -20,9 +20,8 @@ use hg_check::commands::status_of_end;
 use hg_check::printing::hold_last_line;
 use hg_check::streams::write_out;
 use hg_check::telling::tell;
-use hg_detect::memory::{MemoryDetector, new_detector};
+use hg_detect::memory::MemoryDetector;
 use hg_model::verdict::Refusal;
-use hg_sets::MOST_SETS;
 use hg_streams::input::Input;
 use hg_streams::output::Output;
 use std::alloc::Global;
@@ -31,26 +30,25 @@ use std::io::{Read, Write};
 /// Runs a fresh detector, and tells the life of a word as it comes, and at last how the run ended.
 fn run_explain<R: Read, W: Write>(
     alloc: Global,
-    asked: Asked,
-    detector: &mut MemoryDetector,
-    held: &mut Vec<u8>,
+    explaining: &mut Explaining,
     input: &mut Input<R>,
     output: &mut Output<W>,
 ) -> Result<Ending, Refusal>
-    requires whole { IsWhole detector.old }
-    requires start { content_of detector.old ≡ empty_content }
-    requires sets { detector.old.sets ≡ first_table 262144 }
-    requires word { asked.word < 2 ^ 62 }
-    requires none { held.old.items ≡ [] }
-    ensures prints { IfOk result (Explains asked.word asked.form input.old.calls input.new.calls output.old.calls output.new.calls) }
-    ensures front { OnErr result (WroteFrontOf asked.word asked.form input.old.calls input.new.calls output.old.calls output.new.calls) }
+    requires fresh { IsFresh explaining.old }
+    requires none { explaining.old.held.items ≡ [] }
+    ensures prints { IfOk result (Explains explaining.old.asked.word explaining.old.asked.form input.old.calls input.new.calls output.old.calls output.new.calls) }
+    ensures front { OnErr result (WroteFrontOf explaining.old.asked.word explaining.old.asked.form input.old.calls input.new.calls output.old.calls output.new.calls) }
     ensures cause { IfErr result (λ r. HasCause input.old.calls input.new.calls output.old.calls output.new.calls r) }
 {
-    let mut more = 0;
-    hold_word(asked.word, held)?;
-    let end = run(alloc, asked, detector, input, &mut more, held, output)?;
-    hold_end(detector, more, end, held)?;
-    write_out(held, output)?;
+    hold_word(explaining.asked.word, &mut explaining.held)?;
+    let end = run(alloc, explaining, input, output)?;
+    hold_end(
+        &explaining.detector,
+        explaining.more,
+        end,
+        &mut explaining.held,
+    )?;
+    write_out(&mut explaining.held, output)?;
     output.flush()?;
     Ok(end)
 }
@@ -81,9 +79,8 @@ fn print_explain<R: Read, W: Write>(
     ensures front { OnErr result (WroteFrontOf asked.word asked.form input.old.calls input.new.calls output.old.calls output.new.calls) }
     ensures cause { IfErr result (λ r. HasCause input.old.calls input.new.calls output.old.calls output.new.calls r) }
 {
-    let mut detector = new_detector(alloc, MOST_SETS)?;
-    let mut held = Vec::new(alloc);
-    run_explain(alloc, asked, &mut detector, &mut held, input, output)
+    let mut explaining = Explaining::new(alloc, asked)?;
+    run_explain(alloc, &mut explaining, input, output)
 }
 
 /// Explains the word that has an address, by a trace text: prints the word, a line for each event that changes its state (of

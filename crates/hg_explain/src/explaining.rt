@@ -1,6 +1,12 @@
 //! Explaining a word: a detector that takes the lines of a trace text, and tells those that concern the word.
 
-ghost use Rattle.std.specs.Prelude.{◌≡◌, ◌<◌, ◌^◌, [], IfErr, IfOk};
+ghost use Rattle.std.specs.Prelude.{◌≡◌, ◌+◌, ◌<◌, ◌^◌, ℕ, List, [], IfErr, IfOk, OnErr, OnOk};
+ghost use Rattle.hg_check.specs.Holding.{IsDue};
+ghost use Rattle.hg_check.specs.Streaming.{HasWriteCause};
+ghost use Rattle.hg_check.specs.Written.{TookFront};
+ghost use Rattle.hg_streams.specs.Calls.{failed_writes};
+ghost use Rattle.hg_streams.specs.Told.{told};
+ghost use Rattle.hg_streams.specs.declared.call.WriteCall.{WriteCall};
 
 use crate::form::Asked;
 use crate::look::Look;
@@ -16,6 +22,18 @@ use hg_wire::line::AccessLine;
 use hg_wire::reader::Reading;
 use std::alloc::Global;
 use std::io::Write;
+
+/// Writes what is held.
+fn write_held<W: Write>(held: &mut Vec<u8>, output: &mut Output<W>) -> Result<(), Refusal>
+    ensures printed { (first : List WriteCall) (rest goal : List ℕ) → IsDue first output.old.calls held.old.items rest goal
+        → OnOk result (IsDue first output.new.calls held.new.items rest goal) }
+    ensures front { (first : List WriteCall) (rest goal : List ℕ) → IsDue first output.old.calls held.old.items rest goal
+        → OnErr result (TookFront first output.new.calls goal) }
+    ensures cause { IfErr result (λ r. HasWriteCause output.old.calls output.new.calls r) }
+    ensures fault { failed_writes output.new.calls ≡ told result + failed_writes output.old.calls }
+{
+    write_out(held, output)
+}
 
 /// A detector, and what is told of a word.
 #[derive(Drop)]
@@ -97,7 +115,7 @@ impl<W: Write> Sink<W> for Explaining {
 
     /// Writes what is held.
     fn print(&mut self, output: &mut Output<W>) -> Result<(), Refusal> {
-        write_out(&mut self.held, output)
+        write_held(&mut self.held, output)
     }
 
     ghost none = { takes_none };
