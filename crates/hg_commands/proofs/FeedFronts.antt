@@ -1,90 +1,22 @@
 -- What was written when feeding was broken off.
-use Rattle.std.proofs.Common.{◌≡◌, ℕ, ◌-◌, List, [], ◌∷◌, ◌++◌, IsTrue, Option, codes, refl, sym, ap, subst, ◌∙◌, inl, inr, arith}
-use Rattle.std.proofs.lemmas.List.{append-nil, append_assoc}
-use Rattle.std.specs.declared.io.ErrorKind.{ErrorKind}
+use Rattle.std.proofs.Common.{◌≡◌, ℕ, ◌-◌, List, [], ◌++◌, IsTrue, Option, codes, refl, sym, subst, inl, inr, arith}
+use Rattle.std.proofs.lemmas.List.{append-nil}
 use Rattle.hg_streams.specs.declared.call.ReadCall.{ReadCall}
 use Rattle.hg_streams.specs.declared.call.WriteCall.{WriteCall}
-use Rattle.hg_streams.specs.Calls.{given}
 use Rattle.hg_model.specs.Contents.{Content}
 use Rattle.hg_sets.specs.Interning.{Table}
 use Rattle.hg_disk.specs.declared.disk.Disk as disk
 use Rattle.hg_store.specs.Shown.{Shown, live}
-use Rattle.hg_wire.specs.Streams.{Pending, readings, readings_from}
 use Rattle.hg_check.specs.declared.checker.Ending.{Ending}
 use Rattle.hg_check.specs.Printing.{Took}
 use Rattle.hg_check.specs.Written.{TookFront}
 use Rattle.hg_check.proofs.Printed.{appends_on, front_more}
 use Rattle.hg_commands.specs.declared.lines.Fed.{Fed}
-use Rattle.hg_commands.specs.Feeding.{FeedsTo, ack_text, acks_text, checkpoint_text, feed_end_text, feed_text}
+use Rattle.hg_commands.specs.Feeding.{ack_text, acks_text, checkpoint_text, feed_end_text, feed_text}
 use Rattle.hg_commands.specs.Printed.{IsPrintedNow}
 use Rattle.hg_commands.specs.Storing.{number_text}
-use Rattle.hg_commands.specs.FeedRunning.{BreaksIn, BreaksLast, FeedBreaks, FeedMeetsEnd, Feeds, GoesOn, HasFed, HasFront, IsPrinted, LeadsOn, Place, WroteFrontFrom, content_at, place, table_at}
-use Rattle.hg_commands.proofs.Fronts.{feeds_grow, printed_front_on, printed_grown}
-
-module _ {D : Type 0} (g : disk.Ghosts D) where
-  -- nothing was written since feeding began
-  pub front_at_first : (p : Place D) (reads : List ReadCall) → HasFront g reads reads p.fed.source (table_at p) (content_at g p) p p.output
-  front_at_first p reads = record {
-    later = [];
-    since = refl;
-    front = λ honest input last end room m l. printed_grown g p last (feeds_grow p.fed.source (readings input) (table_at p) (content_at g p) 0 last end l);
-  }
-
-  -- a read failed
-  pub breaks_by_read : (calls later : List ReadCall) (kind : ErrorKind) (p : Pending) (here : Place D) → later ≡ ReadCall.Erred kind ∷ calls → FeedBreaks g calls later p here here.output
-  breaks_by_read calls later kind p here is first source table start h = record {
-    later = ReadCall.Erred kind ∷ h.later;
-    since = is ∙ ap (λ t. ReadCall.Erred kind ∷ t) h.since;
-    front = λ honest input last end room m l. printed_grown g here last
-        (feeds_grow here.fed.source (readings_from p m.more) (table_at here) (content_at g here) here.fed.number last end
-        (h.back honest m.more last end room (subst (λ t. FeedsTo source (readings t) table start 0 last end) m.joined l)));
-  }
-
-  -- feeding was broken off in the piece that a read gave
-  pub breaks_by_piece : (calls later : List ReadCall) (p : Pending) (here : Place D) (piece : List ℕ) (now : List WriteCall) → later ≡ ReadCall.Gave piece ∷ calls → BreaksIn g p here piece now
-      → FeedBreaks g calls later p here now
-  breaks_by_piece calls later p here piece now is broken first source table start h = record {
-    later = ReadCall.Gave piece ∷ h.later;
-    since = is ∙ ap (λ t. ReadCall.Gave piece ∷ t) h.since;
-    front = λ honest input last end room m l. broken honest m.more last end room
-        (h.back honest (piece ++ m.more) last end room (subst (λ t. FeedsTo source (readings t) table start 0 last end) (m.joined ∙ append_assoc (given h.later) piece m.more) l));
-  }
-
-  -- nothing was written since the last read
-  pub front_so_far : (first reads : List ReadCall) (source : ℕ) (table : Table) (start : Content) (p : Pending) (old here : Place D) → GoesOn g old here → HasFed g first reads source table start p here
-      → HasFront g first reads source table start old here.output
-  front_so_far first reads source table start p old here goes h = record {
-    later = h.later;
-    since = h.since;
-    front = λ honest input last end room m l begun front events is. printed_grown g here last
-        (feeds_grow here.fed.source (readings_from p m.more) (table_at here) (content_at g here) here.fed.number last end
-        (h.back honest m.more last end room (subst (λ t. FeedsTo source (readings t) table start 0 last end) m.joined l)))
-        begun front events (goes.printed honest begun front events is);
-  }
-
-  pub front_from : (first reads : List ReadCall) (source : ℕ) (table : Table) (start : Content) (old here : Place D) (now : List WriteCall) → GoesOn g old here → HasFront g first reads source table start here now
-      → HasFront g first reads source table start old now
-  front_from first reads source table start old here now goes f = record {
-    later = f.later;
-    since = f.since;
-    front = λ honest input last end room m l begun front events is. f.front honest input last end room m l begun front events (goes.printed honest begun front events is);
-  }
-
-  -- feeding was broken off at the last line
-  pub front_at_end : (first calls later : List ReadCall) (source : ℕ) (table : Table) (start : Content) (p q : Pending) (old here there : Place D) (now : List WriteCall)
-      → GoesOn g old here → HasFed g first calls source table start p here → FeedMeetsEnd g calls later p here q there → BreaksLast g q there now → HasFront g first later source table start old now
-  front_at_end first calls later source table start p q old here there now goes h met broken = record {
-    later = ReadCall.Gave [] ∷ h.later;
-    since = met.met ∙ ap (λ t. ReadCall.Gave [] ∷ t) h.since;
-    front = λ honest input last end room m l begun front events is.
-        let none : m.more ≡ [] = m.over (omega arith) in
-        let same : input ≡ given h.later ++ [] = m.joined ∙ (ap (λ t. (given h.later ++ []) ++ t) none ∙ append-nil (given h.later ++ [])) in
-        broken honest last end room
-        (subst (λ (x : Pending). LeadsOn g there (readings_from x []) last end) (sym met.pending)
-        (subst (λ (x : Place D). LeadsOn g x (readings_from p []) last end) (sym met.place)
-        (h.back honest [] last end room (subst (λ t. FeedsTo source (readings t) table start 0 last end) same l))))
-        begun front events (subst (λ (x : Place D). IsPrinted g begun front events x) (sym met.place) (goes.printed honest begun front events is));
-  }
+use Rattle.hg_commands.specs.FeedRunning.{Feeds, GoesOn, HasFront, IsPrinted, WroteFrontFrom, place}
+use Rattle.hg_commands.proofs.Fronts.{printed_front_on}
 
 -- ---- all that is printed
 

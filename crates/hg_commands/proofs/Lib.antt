@@ -1,9 +1,8 @@
 mod Causes
 mod Checkpointed
 mod FeedDone
-mod FeedPieces
 mod FeedSteps
-mod FeedUnderway
+mod FeedWhole
 pub mod Fronts
 mod FeedFronts
 mod Outcome

@@ -6,3 +6,5 @@ pub mod Laws
 pub mod Keeping
 pub mod Printed
 pub mod Instants
+pub mod Taking
+pub mod TakingLaws

@@ -4,13 +4,12 @@ ghost use Rattle.std.specs.Prelude.{◌≡◌, ℕ, ◌+◌, ◌<◌, ◌≤◌,
 ghost use Rattle.hg_streams.specs.Calls.{failed_reads, failed_writes};
 ghost use Rattle.hg_streams.specs.Told.{told};
 ghost use Rattle.hg_check.specs.Printing.{Took};
-ghost use Rattle.hg_wire.specs.Streams.{readings_from};
 ghost use Rattle.hg_check.specs.declared.checker.Ending.{Ending as EndingOf};
 ghost use Rattle.hg_check.specs.Printing.{status_of};
 ghost use Rattle.hg_store.specs.Shown.{live};
 ghost use Rattle.hg_store.specs.Store.{IsIdle};
 ghost use Rattle.hg_commands.specs.Feeding.{checkpoint_text, feed_end_text};
-ghost use Rattle.hg_commands.specs.FeedRunning.{BreaksLast, EndsByFeedFault, FeedAdvances, FeedBreaks, FeedDone, FeedMeetsEnd, FeedStops, Feeds, GoesOn, HasFront, IsReady, LeadsOn, WasCheckpointed, WasFed, WroteFeedFront, WroteFrontFrom, is_due, place};
+ghost use Rattle.hg_commands.specs.FeedRunning.{EndsByFeedFault, FeedDone, Feeds, GoesOn, HasFront, IsReady, WasCheckpointed, WasFed, WroteFeedFront, WroteFrontFrom, is_due, place};
 ghost use Rattle.hg_check.specs.Streaming.{IsStreamFault};
 ghost use Rattle.hg_commands.specs.Instants.{instant};
 ghost use Rattle.hg_commands.specs.Keeping.{EachAckIsKept, KeepsOn};
@@ -18,7 +17,7 @@ ghost use Rattle.hg_commands.specs.Printed.{IsPrintedNow};
 ghost use Rattle.hg_commands.specs.Storing.{FeedFails, HasFeedCause, IsFeedFault, failed_calls};
 
 use crate::checkpointing::make_checkpoint;
-use crate::lines::{Fed, acknowledge, feed_piece, feed_reading};
+use crate::lines::{Fed, acknowledge, feed_reading};
 use crate::listing::hold_end_line;
 use crate::moment::{Moment, Outcome};
 use crate::opening::open_store;
@@ -26,120 +25,105 @@ use crate::printing::{print_now, print_number};
 use hg_check::checker::Ending;
 use hg_check::commands::status_of_end;
 use hg_check::printing::hold_stop;
-use hg_check::run::{MOST_READS, Progress, piece_buffer, reader_at_start};
+use hg_check::run::ended;
 use hg_check::telling::tell;
 use hg_disk::Disk;
 use hg_model::verdict::Refusal;
+use hg_reading::sink::{Sink, access_event};
+use hg_reading::whole::read;
 use hg_store::devices::Devices;
 use hg_store::store::Store;
 use hg_streams::input::Input;
 use hg_streams::output::Output;
 use hg_streams::trail::Trail;
-use hg_wire::reader::EventReader;
+use hg_wire::line::AccessLine;
+use hg_wire::reader::Reading;
 use std::alloc::Global;
 use std::io::{Read, Write};
 
-/// Reads once, and offers the events of what came.
-fn advance<D: Disk, R: Read, W: Write>(
-    input: &mut Input<R>,
-    buffer: &mut [u8],
-    reader: &mut EventReader,
-    store: &mut Store<D>,
-    fed: &mut Fed,
-    output: &mut Output<W>,
-    moments: &mut Trail<Moment<D, W>>,
-) -> Result<Progress, Refusal>
-    requires ready { IsReady store.old fed.old }
-    requires some { 0 < length buffer.old }
-    requires lines { reader.old.lines + length buffer.old < 2 ^ 64 }
-    requires number { fed.old.number + length buffer.old < 2 ^ 64 }
-    ensures underway { result ≡ Ok Progress.Underway → FeedAdvances ⟦<D as Disk>⟧ input.old.calls input.new.calls reader.old (place store.old fed.old output.old.calls) reader.new (place store.new fed.new output.new.calls) (length buffer.old) }
-    ensures at_end { result ≡ Ok Progress.AtEnd → FeedMeetsEnd ⟦<D as Disk>⟧ input.old.calls input.new.calls reader.old (place store.old fed.old output.old.calls) reader.new (place store.new fed.new output.new.calls) }
-    ensures stopped { (end : EndingOf) → result ≡ Ok (Progress.Stopped end) → FeedStops ⟦<D as Disk>⟧ input.old.calls input.new.calls reader.old (place store.old fed.old output.old.calls) (place store.new fed.new output.new.calls) end }
-    ensures size { length buffer.new ≡ length buffer.old }
-    ensures front { OnErr result (FeedBreaks ⟦<D as Disk>⟧ input.old.calls input.new.calls reader.old (place store.old fed.old output.old.calls) output.new.calls) }
-    ensures cause { IfErr result IsFeedFault }
-    ensures fault { failed_reads input.new.calls + failed_calls ⟦<D as Disk>⟧ store.new.devices output.new.calls ≡ told result + (failed_reads input.old.calls + failed_calls ⟦<D as Disk>⟧ store.old.devices output.old.calls) }
-    ensures counted { length input.new.calls ≡ 1 + length input.old.calls }
-    ensures kept { KeepsOn ⟦<D as Disk>⟧ store.old output.old.calls moments.old store.new output.new.calls moments.new }
-{
-    let Some(count) = input.read(buffer)? else {
-        return Ok(Progress::Underway);
-    };
-    if count == 0 {
-        return Ok(Progress::AtEnd);
-    }
-    match feed_piece(reader, store, fed, &buffer[..count], output, moments)? {
-        None => Ok(Progress::Underway),
-        Some(end) => Ok(Progress::Stopped(end)),
-    }
+/// A store that is fed.
+pub(crate) struct Feeding<D: Disk, W> {
+    pub store: Store<D>,
+    /// How far its source has come.
+    pub fed: Fed,
+    /// The moments so far, for contracts alone.
+    pub moments: Trail<Moment<D, W>>,
 }
 
-/// Offers the event of the last line, which may lack its line feed.
-fn finish<D: Disk, W: Write>(
-    reader: EventReader,
-    store: &mut Store<D>,
-    fed: &mut Fed,
-    output: &mut Output<W>,
-    moments: &mut Trail<Moment<D, W>>,
-) -> Result<Ending, Refusal>
-    requires ready { IsReady store.old fed.old }
-    requires lines { reader.lines + 1 < 2 ^ 64 }
-    requires number { fed.old.number + 1 < 2 ^ 64 }
-    ensures goes { OnOk result (GoesOn ⟦<D as Disk>⟧ (place store.old fed.old output.old.calls) (place store.new fed.new output.new.calls)) }
-    ensures leads { IsTrue D.is_honest → IfOk result (λ end. LeadsOn ⟦<D as Disk>⟧ (place store.old fed.old output.old.calls) (readings_from reader []) (live ⟦<D as Disk>⟧ store.new) end) }
-    ensures front { OnErr result (BreaksLast ⟦<D as Disk>⟧ reader (place store.old fed.old output.old.calls) output.new.calls) }
-    ensures cause { IfErr result IsFeedFault }
-    ensures fault { failed_calls ⟦<D as Disk>⟧ store.new.devices output.new.calls ≡ told result + failed_calls ⟦<D as Disk>⟧ store.old.devices output.old.calls }
-    ensures kept { KeepsOn ⟦<D as Disk>⟧ store.old output.old.calls moments.old store.new output.new.calls moments.new }
-{
-    let Some(reading) = reader.finish() else {
-        return Ok(Ending::Ended);
-    };
-    match feed_reading(store, fed, &reading, output, moments)? {
-        None => Ok(Ending::Ended),
-        Some(end) => Ok(end),
+impl<D: Disk, W: Write> Sink<W> for Feeding<D, W> {
+    ghost use Rattle.hg_commands.specs.Taking.{MayTake, Takes};
+    ghost use Rattle.hg_commands.specs.TakingLaws.{takes_fewer, takes_none, takes_on, takes_room};
+
+    type End = Ending;
+
+    ghost may_take = { λ s n. MayTake (place s.store s.fed []) n };
+
+    ghost takes = { λ old before lines r new now. Takes ⟦<D as Disk>⟧ (place old.store old.fed before) old.moments lines r (place new.store new.fed now) new.moments };
+
+    fn offer(
+        &mut self,
+        reading: &Reading,
+        output: &mut Output<W>,
+    ) -> Result<Option<Ending>, Refusal> {
+        feed_reading(
+            &mut self.store,
+            &mut self.fed,
+            reading,
+            output,
+            &mut self.moments,
+        )
     }
+
+    fn offer_access(
+        &mut self,
+        line: u64,
+        found: &AccessLine,
+        output: &mut Output<W>,
+    ) -> Result<Option<Ending>, Refusal> {
+        let reading = Reading {
+            line,
+            event: Ok(access_event(found)),
+        };
+        feed_reading(
+            &mut self.store,
+            &mut self.fed,
+            &reading,
+            output,
+            &mut self.moments,
+        )
+    }
+
+    /// Nothing is held: what is due was printed at each line.
+    fn print(&mut self, _output: &mut Output<W>) -> Result<(), Refusal> {
+        Ok(())
+    }
+
+    ghost none = { λ s calls. takes_none ⟦<D as Disk>⟧ (place s.store s.fed calls) s.moments };
+
+    ghost on = { λ a b c at_a at_b at_c first later r. takes_on ⟦<D as Disk>⟧ (place a.store a.fed at_a) (place b.store b.fed at_b) (place c.store c.fed at_c) a.moments b.moments c.moments first later r };
+
+    ghost room = { λ a b at_a at_b first n. takes_room ⟦<D as Disk>⟧ (place a.store a.fed at_a) (place b.store b.fed at_b) a.moments b.moments first n };
+
+    ghost fewer = { λ s n more. takes_fewer (place s.store s.fed []) n more };
 }
 
 /// Reads a trace text to its end, or up to the line that ends the feeding, and offers its events.
 fn feed_all<D: Disk, R: Read, W: Write>(
     alloc: Global,
-    store: &mut Store<D>,
-    fed: &mut Fed,
+    feeding: &mut Feeding<D, W>,
     input: &mut Input<R>,
     output: &mut Output<W>,
-    moments: &mut Trail<Moment<D, W>>,
 ) -> Result<Ending, Refusal>
-    requires ready { IsReady store.old fed.old }
-    requires start { fed.old.number ≡ 0 }
-    ensures goes { OnOk result (GoesOn ⟦<D as Disk>⟧ (place store.old fed.old output.old.calls) (place store.new fed.new output.new.calls)) }
-    ensures feeds { IfOk result (λ end. Feeds ⟦<D as Disk>⟧ input.old.calls input.new.calls fed.old.source store.old.detector.sets (live ⟦<D as Disk>⟧ store.old) (live ⟦<D as Disk>⟧ store.new) end) }
-    ensures front { OnErr result (HasFront ⟦<D as Disk>⟧ input.old.calls input.new.calls fed.old.source store.old.detector.sets (live ⟦<D as Disk>⟧ store.old) (place store.old fed.old output.old.calls) output.new.calls) }
-    ensures cause { IfErr result (λ r. FeedFails ⟦<D as Disk>⟧ store.old.devices store.new.devices input.old.calls input.new.calls output.old.calls output.new.calls r) }
-    ensures kept { KeepsOn ⟦<D as Disk>⟧ store.old output.old.calls moments.old store.new output.new.calls moments.new }
+    requires ready { IsReady feeding.old.store feeding.old.fed }
+    requires start { feeding.old.fed.number ≡ 0 }
+    ensures goes { OnOk result (GoesOn ⟦<D as Disk>⟧ (place feeding.old.store feeding.old.fed output.old.calls) (place feeding.new.store feeding.new.fed output.new.calls)) }
+    ensures feeds { IfOk result (λ end. Feeds ⟦<D as Disk>⟧ input.old.calls input.new.calls feeding.old.fed.source feeding.old.store.detector.sets (live ⟦<D as Disk>⟧ feeding.old.store) (live ⟦<D as Disk>⟧ feeding.new.store) end) }
+    ensures front { OnErr result (HasFront ⟦<D as Disk>⟧ input.old.calls input.new.calls feeding.old.fed.source feeding.old.store.detector.sets (live ⟦<D as Disk>⟧ feeding.old.store) (place feeding.old.store feeding.old.fed output.old.calls) output.new.calls) }
+    ensures cause { IfErr result (λ r. FeedFails ⟦<D as Disk>⟧ feeding.old.store.devices feeding.new.store.devices input.old.calls input.new.calls output.old.calls output.new.calls r) }
+    ensures kept { KeepsOn ⟦<D as Disk>⟧ feeding.old.store output.old.calls feeding.old.moments feeding.new.store output.new.calls feeding.new.moments }
 {
-    let mut reader = reader_at_start(alloc)?;
-    let mut buffer = piece_buffer(alloc)?;
-    let mut reads = 0;
-    while reads < MOST_READS {
-        reads += 1;
-        let progress = advance(
-            input,
-            buffer.as_mut_slice(),
-            &mut reader,
-            store,
-            fed,
-            output,
-            moments,
-        )?;
-        match progress {
-            Progress::Underway => {}
-            Progress::Stopped(end) => return Ok(end),
-            Progress::AtEnd => return finish(reader, store, fed, output, moments),
-        }
-    }
-    Err(Refusal::DeviceFault)
+    let stop = read(alloc, input, feeding, output)?;
+    Ok(ended(stop))
 }
 
 /// Holds the last line: the end line, or the line that was refused or bad.
@@ -210,36 +194,37 @@ fn checkpoint_if_due<D: Disk, W: Write>(
 /// Feeds a trace text to a store, with all that is printed of it.
 fn feed_store<D: Disk, R: Read, W: Write>(
     alloc: Global,
-    store: &mut Store<D>,
-    source: u16,
+    feeding: &mut Feeding<D, W>,
     checkpoint: bool,
     input: &mut Input<R>,
     output: &mut Output<W>,
-    moments: &mut Trail<Moment<D, W>>,
 ) -> Result<Ending, Refusal>
-    requires idle { IsIdle store.old }
-    ensures fed { IfOk result (λ end. WasFed ⟦<D as Disk>⟧ input.old.calls input.new.calls source checkpoint store.old store.new output.old.calls output.new.calls end) }
-    ensures front { IsTrue D.is_honest → OnErr result (WroteFrontFrom source store.old.detector.sets (live ⟦<D as Disk>⟧ store.old) input.old.calls input.new.calls output.old.calls output.new.calls) }
-    ensures cause { IfErr result (λ r. FeedFails ⟦<D as Disk>⟧ store.old.devices store.new.devices input.old.calls input.new.calls output.old.calls output.new.calls r) }
-    ensures kept { KeepsOn ⟦<D as Disk>⟧ store.old output.old.calls moments.old store.new output.new.calls moments.new }
+    requires idle { IsIdle feeding.old.store }
+    requires number { feeding.old.fed.number ≡ 0 }
+    requires accepted { feeding.old.fed.accepted ≡ 0 }
+    ensures fed { IfOk result (λ end. WasFed ⟦<D as Disk>⟧ input.old.calls input.new.calls feeding.old.fed.source checkpoint feeding.old.store feeding.new.store output.old.calls output.new.calls end) }
+    ensures front { IsTrue D.is_honest → OnErr result (WroteFrontFrom feeding.old.fed.source feeding.old.store.detector.sets (live ⟦<D as Disk>⟧ feeding.old.store) input.old.calls input.new.calls output.old.calls output.new.calls) }
+    ensures cause { IfErr result (λ r. FeedFails ⟦<D as Disk>⟧ feeding.old.store.devices feeding.new.store.devices input.old.calls input.new.calls output.old.calls output.new.calls r) }
+    ensures kept { KeepsOn ⟦<D as Disk>⟧ feeding.old.store output.old.calls feeding.old.moments feeding.new.store output.new.calls feeding.new.moments }
 {
-    let mut fed = Fed {
-        source,
-        number: 0,
-        accepted: 0,
-    };
-    let last = store.last(source)?;
+    let last = feeding.store.last(feeding.fed.source)?;
     print_number(b"resume ", last, output)?;
-    let end = feed_all(alloc, store, &mut fed, input, output, moments)?;
-    acknowledge(store, output, moments)?;
+    let end = feed_all(alloc, feeding, input, output)?;
+    acknowledge(&mut feeding.store, output, &mut feeding.moments)?;
     let is_made = checkpoint_is_due(checkpoint, end);
-    checkpoint_if_due(alloc, store, is_made, output, moments)?;
-    print_end(alloc, store, end, output)?;
-    store.stands();
+    checkpoint_if_due(
+        alloc,
+        &mut feeding.store,
+        is_made,
+        output,
+        &mut feeding.moments,
+    )?;
+    print_end(alloc, &feeding.store, end, output)?;
+    feeding.store.stands();
     Ok(end)
 }
 
-/// Recovers a store, feeds a trace text to it, and hands its devices back.
+/// Recovers a store, feeds a trace text to it, and hands its devices back, with the moments since it is open.
 fn recover_and_feed<D: Disk, R: Read, W: Write>(
     alloc: Global,
     devices: Devices<D>,
@@ -248,25 +233,36 @@ fn recover_and_feed<D: Disk, R: Read, W: Write>(
     checkpoint: bool,
     input: &mut Input<R>,
     output: &mut Output<W>,
-    moments: &mut Trail<Moment<D, W>>,
-) -> (Result<Ending, Refusal>, Devices<D>)
+) -> (Result<Ending, Refusal>, Devices<D>, Trail<Moment<D, W>>)
     requires frames { (4 ≤ frames) × (frames ≤ 4096) }
-    requires none { moments.old ≡ [] }
     ensures fed { IfOk result.0 (λ end. FeedDone ⟦<D as Disk>⟧ input.old.calls input.new.calls source checkpoint devices result.1 output.old.calls output.new.calls end) }
     ensures front { OnErr result.0 (WroteFeedFront ⟦<D as Disk>⟧ source devices input.old.calls input.new.calls output.old.calls output.new.calls) }
     ensures cause { IfErr result.0 (λ r. HasFeedCause ⟦<D as Disk>⟧ devices result.1 input.old.calls input.new.calls output.old.calls output.new.calls r) }
-    ensures kept { IsTrue D.is_honest → EachAckIsKept ⟦<D as Disk>⟧ (instant devices output.old.calls) moments.new (instant result.1 output.new.calls) }
+    ensures kept { IsTrue D.is_honest → EachAckIsKept ⟦<D as Disk>⟧ (instant devices output.old.calls) result.2 (instant result.1 output.new.calls) }
 {
     match open_store(alloc, devices, frames) {
         Ok(store) => {
-            let mut store = store;
+            let mut moments = Trail::new();
             moments.push(Moment::of(&store, &*output));
-            let end = feed_store(
-                alloc, &mut store, source, checkpoint, input, output, moments,
-            );
-            (end, store.into_devices())
+            let fed = Fed {
+                source,
+                number: 0,
+                accepted: 0,
+            };
+            let mut feeding = Feeding {
+                store,
+                fed,
+                moments,
+            };
+            let end = feed_store(alloc, &mut feeding, checkpoint, input, output);
+            let Feeding {
+                store,
+                fed: _,
+                moments,
+            } = feeding;
+            (end, store.into_devices(), moments)
         }
-        Err((refusal, devices)) => (Err(refusal), devices),
+        Err((refusal, devices)) => (Err(refusal), devices, Trail::new()),
     }
 }
 
@@ -298,18 +294,10 @@ pub fn feed<D: Disk, R: Read, W: Write, V: Write>(
     ensures fault { result.status ≡ 3 → EndsByFeedFault ⟦<D as Disk>⟧ source devices result.devices input.old.calls input.new.calls output.old.calls output.new.calls faults.old.calls faults.new.calls }
     ensures kept { IsTrue D.is_honest → EachAckIsKept ⟦<D as Disk>⟧ (instant devices output.old.calls) result.moments (instant result.devices output.new.calls) }
 {
-    let mut moments = Trail::new();
-    let (ended, devices) = recover_and_feed(
-        alloc,
-        devices,
-        source,
-        frames,
-        checkpoint,
-        input,
-        output,
-        &mut moments,
+    let (done, devices, moments) = recover_and_feed(
+        alloc, devices, source, frames, checkpoint, input, output,
     );
-    match ended {
+    match done {
         Ok(end) => Outcome {
             status: status_of_end(end),
             devices,

@@ -3,11 +3,10 @@
 ghost use Rattle.std.specs.Prelude.{◌≡◌, ◌+◌, ◌<◌, ◌^◌, ◌%◌, false, nat_eq, Option, [], Ok, Some, None, length, IfErr, OnErr, OnOk, if◌then◌else◌};
 ghost use Rattle.hg_streams.specs.Told.{told};
 ghost use Rattle.hg_check.specs.Printing.{Took};
-ghost use Rattle.hg_wire.specs.Streams.{ended_from};
 ghost use Rattle.hg_check.specs.declared.checker.Ending.{Ending as EndingOf};
 ghost use Rattle.hg_store.specs.Shown.{live};
 ghost use Rattle.hg_commands.specs.Feeding.{ack_text};
-ghost use Rattle.hg_commands.specs.FeedRunning.{BreaksAt, BreaksIn, EndsAt, EndsLine, FeedEndsIn, FeedReaches, IsReady, Passes, WasCommitted, WasCounted, WasSent, place};
+ghost use Rattle.hg_commands.specs.FeedRunning.{BreaksAt, EndsAt, EndsLine, IsReady, Passes, WasCommitted, WasCounted, WasSent, place};
 ghost use Rattle.hg_check.specs.Streaming.{IsStreamFault};
 ghost use Rattle.hg_commands.specs.Keeping.{KeepsOn};
 ghost use Rattle.hg_commands.specs.Printed.{IsPrintedNow};
@@ -23,7 +22,7 @@ use hg_model::verdict::Refusal;
 use hg_store::store::Store;
 use hg_streams::output::Output;
 use hg_streams::trail::Trail;
-use hg_wire::reader::{EventReader, Reading, Taken};
+use hg_wire::reader::Reading;
 use std::io::Write;
 
 /// After how many accepted events a commit comes.
@@ -148,39 +147,5 @@ pub(crate) fn feed_reading<D: Disk, W: Write>(
         }
         Ok(Answer::Duplicate(_)) => Ok(None),
         Err(refusal) => end_line(line, refusal),
-    }
-}
-
-/// Takes a piece of a trace text, and offers its events up to the line that ends the feeding. `None` says that there
-/// was none, and that the piece was taken whole.
-pub(crate) fn feed_piece<D: Disk, W: Write>(
-    reader: &mut EventReader,
-    store: &mut Store<D>,
-    fed: &mut Fed,
-    piece: &[u8],
-    output: &mut Output<W>,
-    moments: &mut Trail<Moment<D, W>>,
-) -> Result<Option<Ending>, Refusal>
-    requires ready { IsReady store.old fed.old }
-    requires lines { reader.old.lines + length piece.now < 2 ^ 64 }
-    requires number { fed.old.number + length piece.now < 2 ^ 64 }
-    ensures reaches { result ≡ Ok None → FeedReaches ⟦<D as Disk>⟧ reader.old (place store.old fed.old output.old.calls) piece.now reader.new (place store.new fed.new output.new.calls) [] }
-    ensures none_left { result ≡ Ok None → ended_from reader.new [] ≡ [] }
-    ensures ends { (end : EndingOf) → result ≡ Ok (Some end) → FeedEndsIn ⟦<D as Disk>⟧ reader.old (place store.old fed.old output.old.calls) piece.now (place store.new fed.new output.new.calls) end }
-    ensures front { OnErr result (BreaksIn ⟦<D as Disk>⟧ reader.old (place store.old fed.old output.old.calls) piece.now output.new.calls) }
-    ensures cause { IfErr result IsFeedFault }
-    ensures fault { failed_calls ⟦<D as Disk>⟧ store.new.devices output.new.calls ≡ told result + failed_calls ⟦<D as Disk>⟧ store.old.devices output.old.calls }
-    ensures kept { KeepsOn ⟦<D as Disk>⟧ store.old output.old.calls moments.old store.new output.new.calls moments.new }
-{
-    let mut rest = piece;
-    loop {
-        let Taken::Line { reading, used } = reader.take(rest) else {
-            return Ok(None);
-        };
-        rest = &rest[used..];
-        let end = feed_reading(store, fed, &reading, output, moments)?;
-        if end.is_some() {
-            return Ok(end);
-        }
     }
 }

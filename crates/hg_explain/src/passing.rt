@@ -8,7 +8,6 @@ ghost use Rattle.hg_check.specs.Printing.{line_text};
 ghost use Rattle.hg_check.specs.declared.checker.Ending.{Ending as EndingOf};
 ghost use Rattle.hg_detect.specs.Memory.{IsWhole, content_of};
 ghost use Rattle.hg_explain.specs.Telling.{Stays, Tells, WentOn};
-ghost use Rattle.hg_detect.specs.Accessing.{access_event};
 ghost use Rattle.hg_wire.specs.Accesses.{event_of as event_in};
 ghost use Rattle.hg_wire.specs.declared.reader.Reading.{Reading as ReadingOf};
 ghost use Rattle.hg_explain.specs.Life as life;
@@ -18,8 +17,9 @@ use crate::look::{Look, concerns, differs, look_at, overlaps};
 use crate::telling::{hold_event, hold_more};
 use hg_check::checker::{Ending, apply, apply_access};
 use hg_detect::memory::MemoryDetector;
-use hg_model::event::{Access, Event};
+use hg_model::event::Event;
 use hg_model::verdict::Refusal;
+use hg_reading::sink::access_event;
 use hg_wire::line::AccessLine;
 use hg_wire::reader::Reading;
 
@@ -206,19 +206,7 @@ fn pass_concerned(
     if stopped.is_some() {
         return Ok(stopped);
     }
-    let event = event_of(found.access, found.is_write);
+    let event = access_event(found);
     tell_event(asked, detector, from, line, &event, look, more, held)?;
     Ok(None)
-}
-
-/// The event of an access.
-#[inline(always)]
-fn event_of(access: Access, is_write: bool) -> Event
-    ensures { result ≡ access_event is_write access }
-{
-    if is_write {
-        Event::Write(access)
-    } else {
-        Event::Read(access)
-    }
 }

@@ -7,10 +7,23 @@ ghost use Rattle.hg_wire.specs.Accesses.{event_of};
 ghost use Rattle.hg_wire.specs.declared.reader.Reading.{Reading as ReadingOf};
 ghost use Rattle.hg_reading.specs.Taking.{as_stop};
 
+use hg_model::event::Event;
 use hg_model::verdict::Refusal;
 use hg_streams::output::Output;
 use hg_wire::line::AccessLine;
 use hg_wire::reader::Reading;
+
+/// The event of a line that is a read or a write.
+#[inline(always)]
+pub fn access_event(found: &AccessLine) -> Event
+    ensures { result ≡ event_of found.now }
+{
+    if found.is_write {
+        Event::Write(found.access)
+    } else {
+        Event::Read(found.access)
+    }
+}
 
 /// Takes the events of a trace text, one line after another, and prints what comes of them.
 pub trait Sink<W> {

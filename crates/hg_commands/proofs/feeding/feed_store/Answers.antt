@@ -11,7 +11,7 @@ use Rattle.hg_commands.specs.Storing.{number_text}
 use Rattle.hg_commands.proofs.Kept.{keeps_printed, keeps_then}
 use Rattle.hg_commands.proofs.FeedDone.{was_fed}
 use Rattle.std.proofs.lemmas.Result.{err_from_is_err_and}
-use Rattle.hg_commands.proofs.FeedUnderway.{reads_intact}
+use Rattle.hg_commands.proofs.FeedWhole.{reads_intact}
 use Rattle.hg_check.specs.Written.{TookFront}
 use Rattle.hg_check.proofs.Printed.{always_err, front_none}
 use Rattle.hg_commands.proofs.Fronts.{printed_front}
@@ -24,14 +24,14 @@ last_is false n x works h = cc
 
 pub returns-clause-fed : goal.returns-clause-fed
 returns-clause-fed g c =
-    let s = c.args.store.now in
+    let s = c.args.feeding.now.store in
     let o = c.args.output.now.calls in
     let p = c.print_number.new.output.calls in
-    was_fed g.D.Disk c.args.input.now.calls c.feed_all.new.input.calls c.args.source c.args.checkpoint c.checkpoint_is_due-is_made.result s c.feed_all.new.store c.acknowledge.new.store c.checkpoint_if_due.new.store
-    (record { source = c.args.source; number = 0; accepted = 0 }) c.feed_all.new.fed
+    was_fed g.D.Disk c.args.input.now.calls c.feed_all.new.input.calls c.args.feeding.now.fed.source c.args.checkpoint c.checkpoint_is_due-is_made.result s c.feed_all.new.feeding.store c.acknowledge.new.store c.checkpoint_if_due.new.store
+    c.args.feeding.now.fed c.feed_all.new.feeding.fed
     o p c.feed_all.new.output.calls c.acknowledge.new.output.calls c.checkpoint_if_due.new.output.calls c.print_end.new.output.calls c.in_ok-end.end
-    c.checkpoint_is_due-is_made.ensures refl
-    (subst (λ (n : ℕ). Took o p (number_text (codes "resume ") n)) (last_is s.is_broken c.in_ok-last.last ((live g.D.Disk s).last c.args.source) c.requires.idle.works c.in_ok-last.ensures) c.in_ok-print_number.ensures.printed)
+    c.checkpoint_is_due-is_made.ensures c.requires.accepted
+    (subst (λ (n : ℕ). Took o p (number_text (codes "resume ") n)) (last_is s.is_broken c.in_ok-last.last ((live g.D.Disk s).last c.args.feeding.now.fed.source) c.requires.idle.works c.in_ok-last.ensures) c.in_ok-print_number.ensures.printed)
     c.in_ok-end.ensures.goes c.in_ok-end.ensures.feeds
     c.in_ok-acknowledge.ensures.committed c.in_ok-acknowledge.ensures.printed c.in_ok-checkpoint_if_due.ensures.made c.in_ok-print_end.ensures.printed c.stands.ensures.backs
 
@@ -46,7 +46,7 @@ returns-in_err-acknowledge-clause-cause g c =
         c.in_err-acknowledge.ensures.fault,
         c.in_ok-end.ensures.goes.failures,
         c.in_ok-print_number.ensures.fault,
-        reads_intact g.D.Disk c.args.input.now.calls c.feed_all.new.input.calls c.args.source c.args.store.now.detector.sets (live g.D.Disk c.args.store.now) (live g.D.Disk c.feed_all.new.store) c.in_ok-end.end c.in_ok-end.ensures.feeds,
+        reads_intact g.D.Disk c.args.input.now.calls c.feed_all.new.input.calls c.args.feeding.now.fed.source c.args.feeding.now.store.detector.sets (live g.D.Disk c.args.feeding.now.store) (live g.D.Disk c.feed_all.new.feeding.store) c.in_ok-end.end c.in_ok-end.ensures.feeds,
       ));
     })
 
@@ -62,7 +62,7 @@ returns-in_err-checkpoint_if_due-clause-cause g c =
         c.in_ok-acknowledge.ensures.fault,
         c.in_ok-end.ensures.goes.failures,
         c.in_ok-print_number.ensures.fault,
-        reads_intact g.D.Disk c.args.input.now.calls c.feed_all.new.input.calls c.args.source c.args.store.now.detector.sets (live g.D.Disk c.args.store.now) (live g.D.Disk c.feed_all.new.store) c.in_ok-end.end c.in_ok-end.ensures.feeds,
+        reads_intact g.D.Disk c.args.input.now.calls c.feed_all.new.input.calls c.args.feeding.now.fed.source c.args.feeding.now.store.detector.sets (live g.D.Disk c.args.feeding.now.store) (live g.D.Disk c.feed_all.new.feeding.store) c.in_ok-end.end c.in_ok-end.ensures.feeds,
       ));
     })
 
@@ -79,120 +79,120 @@ returns-in_err-print_end-clause-cause g c =
         c.in_ok-acknowledge.ensures.fault,
         c.in_ok-end.ensures.goes.failures,
         c.in_ok-print_number.ensures.fault,
-        reads_intact g.D.Disk c.args.input.now.calls c.feed_all.new.input.calls c.args.source c.args.store.now.detector.sets (live g.D.Disk c.args.store.now) (live g.D.Disk c.feed_all.new.store) c.in_ok-end.end c.in_ok-end.ensures.feeds,
+        reads_intact g.D.Disk c.args.input.now.calls c.feed_all.new.input.calls c.args.feeding.now.fed.source c.args.feeding.now.store.detector.sets (live g.D.Disk c.args.feeding.now.store) (live g.D.Disk c.feed_all.new.feeding.store) c.in_ok-end.end c.in_ok-end.ensures.feeds,
       ));
     })
 
 pub returns-in_err-print_number-clause-kept : goal.returns-in_err-print_number-clause-kept
 returns-in_err-print_number-clause-kept g c =
-    let s = c.args.store.now in
+    let s = c.args.feeding.now.store in
     let o = c.args.output.now.calls in
     let p = c.print_number.new.output.calls in
-    keeps_printed g.D.Disk s o p c.args.moments.now (number_text (codes "resume ") c.in_ok-last.last) c.print_number.ensures.calls (λ honest backs. inr (inr (inl (c.in_ok-last.last, refl))))
+    keeps_printed g.D.Disk s o p c.args.feeding.now.moments (number_text (codes "resume ") c.in_ok-last.last) c.print_number.ensures.calls (λ honest backs. inr (inr (inl (c.in_ok-last.last, refl))))
 
 pub returns-in_err-end-clause-kept : goal.returns-in_err-end-clause-kept
 returns-in_err-end-clause-kept g c =
-    let s = c.args.store.now in
+    let s = c.args.feeding.now.store in
     let o = c.args.output.now.calls in
     let p = c.print_number.new.output.calls in
-    keeps_then g.D.Disk s s c.feed_all.new.store o p c.feed_all.new.output.calls c.args.moments.now c.args.moments.now c.feed_all.new.moments
-    (keeps_printed g.D.Disk s o p c.args.moments.now (number_text (codes "resume ") c.in_ok-last.last) c.print_number.ensures.calls (λ honest backs. inr (inr (inl (c.in_ok-last.last, refl))))) c.feed_all.ensures.kept
+    keeps_then g.D.Disk s s c.feed_all.new.feeding.store o p c.feed_all.new.output.calls c.args.feeding.now.moments c.args.feeding.now.moments c.feed_all.new.feeding.moments
+    (keeps_printed g.D.Disk s o p c.args.feeding.now.moments (number_text (codes "resume ") c.in_ok-last.last) c.print_number.ensures.calls (λ honest backs. inr (inr (inl (c.in_ok-last.last, refl))))) c.feed_all.ensures.kept
 
 pub returns-in_err-acknowledge-clause-kept : goal.returns-in_err-acknowledge-clause-kept
 returns-in_err-acknowledge-clause-kept g c =
-    let s = c.args.store.now in
+    let s = c.args.feeding.now.store in
     let o = c.args.output.now.calls in
     let p = c.print_number.new.output.calls in
-    keeps_then g.D.Disk s c.feed_all.new.store c.acknowledge.new.store o c.feed_all.new.output.calls c.acknowledge.new.output.calls c.args.moments.now c.feed_all.new.moments c.acknowledge.new.moments
-    (keeps_then g.D.Disk s s c.feed_all.new.store o p c.feed_all.new.output.calls c.args.moments.now c.args.moments.now c.feed_all.new.moments
-    (keeps_printed g.D.Disk s o p c.args.moments.now (number_text (codes "resume ") c.in_ok-last.last) c.print_number.ensures.calls (λ honest backs. inr (inr (inl (c.in_ok-last.last, refl))))) c.feed_all.ensures.kept) c.acknowledge.ensures.kept
+    keeps_then g.D.Disk s c.feed_all.new.feeding.store c.acknowledge.new.store o c.feed_all.new.output.calls c.acknowledge.new.output.calls c.args.feeding.now.moments c.feed_all.new.feeding.moments c.acknowledge.new.moments
+    (keeps_then g.D.Disk s s c.feed_all.new.feeding.store o p c.feed_all.new.output.calls c.args.feeding.now.moments c.args.feeding.now.moments c.feed_all.new.feeding.moments
+    (keeps_printed g.D.Disk s o p c.args.feeding.now.moments (number_text (codes "resume ") c.in_ok-last.last) c.print_number.ensures.calls (λ honest backs. inr (inr (inl (c.in_ok-last.last, refl))))) c.feed_all.ensures.kept) c.acknowledge.ensures.kept
 
 pub returns-in_err-checkpoint_if_due-clause-kept : goal.returns-in_err-checkpoint_if_due-clause-kept
 returns-in_err-checkpoint_if_due-clause-kept g c =
-    let s = c.args.store.now in
+    let s = c.args.feeding.now.store in
     let o = c.args.output.now.calls in
     let p = c.print_number.new.output.calls in
-    keeps_then g.D.Disk s c.acknowledge.new.store c.checkpoint_if_due.new.store o c.acknowledge.new.output.calls c.checkpoint_if_due.new.output.calls c.args.moments.now c.acknowledge.new.moments c.checkpoint_if_due.new.moments
-    (keeps_then g.D.Disk s c.feed_all.new.store c.acknowledge.new.store o c.feed_all.new.output.calls c.acknowledge.new.output.calls c.args.moments.now c.feed_all.new.moments c.acknowledge.new.moments
-    (keeps_then g.D.Disk s s c.feed_all.new.store o p c.feed_all.new.output.calls c.args.moments.now c.args.moments.now c.feed_all.new.moments
-    (keeps_printed g.D.Disk s o p c.args.moments.now (number_text (codes "resume ") c.in_ok-last.last) c.print_number.ensures.calls (λ honest backs. inr (inr (inl (c.in_ok-last.last, refl))))) c.feed_all.ensures.kept) c.acknowledge.ensures.kept) c.checkpoint_if_due.ensures.kept
+    keeps_then g.D.Disk s c.acknowledge.new.store c.checkpoint_if_due.new.store o c.acknowledge.new.output.calls c.checkpoint_if_due.new.output.calls c.args.feeding.now.moments c.acknowledge.new.moments c.checkpoint_if_due.new.moments
+    (keeps_then g.D.Disk s c.feed_all.new.feeding.store c.acknowledge.new.store o c.feed_all.new.output.calls c.acknowledge.new.output.calls c.args.feeding.now.moments c.feed_all.new.feeding.moments c.acknowledge.new.moments
+    (keeps_then g.D.Disk s s c.feed_all.new.feeding.store o p c.feed_all.new.output.calls c.args.feeding.now.moments c.args.feeding.now.moments c.feed_all.new.feeding.moments
+    (keeps_printed g.D.Disk s o p c.args.feeding.now.moments (number_text (codes "resume ") c.in_ok-last.last) c.print_number.ensures.calls (λ honest backs. inr (inr (inl (c.in_ok-last.last, refl))))) c.feed_all.ensures.kept) c.acknowledge.ensures.kept) c.checkpoint_if_due.ensures.kept
 
 pub returns-in_err-print_end-clause-kept : goal.returns-in_err-print_end-clause-kept
 returns-in_err-print_end-clause-kept g c =
-    let s = c.args.store.now in
+    let s = c.args.feeding.now.store in
     let o = c.args.output.now.calls in
     let p = c.print_number.new.output.calls in
-    keeps_then g.D.Disk s c.checkpoint_if_due.new.store c.checkpoint_if_due.new.store o c.checkpoint_if_due.new.output.calls c.print_end.new.output.calls c.args.moments.now c.checkpoint_if_due.new.moments c.checkpoint_if_due.new.moments
-    (keeps_then g.D.Disk s c.acknowledge.new.store c.checkpoint_if_due.new.store o c.acknowledge.new.output.calls c.checkpoint_if_due.new.output.calls c.args.moments.now c.acknowledge.new.moments c.checkpoint_if_due.new.moments
-    (keeps_then g.D.Disk s c.feed_all.new.store c.acknowledge.new.store o c.feed_all.new.output.calls c.acknowledge.new.output.calls c.args.moments.now c.feed_all.new.moments c.acknowledge.new.moments
-    (keeps_then g.D.Disk s s c.feed_all.new.store o p c.feed_all.new.output.calls c.args.moments.now c.args.moments.now c.feed_all.new.moments
-    (keeps_printed g.D.Disk s o p c.args.moments.now (number_text (codes "resume ") c.in_ok-last.last) c.print_number.ensures.calls (λ honest backs. inr (inr (inl (c.in_ok-last.last, refl))))) c.feed_all.ensures.kept) c.acknowledge.ensures.kept) c.checkpoint_if_due.ensures.kept)
+    keeps_then g.D.Disk s c.checkpoint_if_due.new.store c.checkpoint_if_due.new.store o c.checkpoint_if_due.new.output.calls c.print_end.new.output.calls c.args.feeding.now.moments c.checkpoint_if_due.new.moments c.checkpoint_if_due.new.moments
+    (keeps_then g.D.Disk s c.acknowledge.new.store c.checkpoint_if_due.new.store o c.acknowledge.new.output.calls c.checkpoint_if_due.new.output.calls c.args.feeding.now.moments c.acknowledge.new.moments c.checkpoint_if_due.new.moments
+    (keeps_then g.D.Disk s c.feed_all.new.feeding.store c.acknowledge.new.store o c.feed_all.new.output.calls c.acknowledge.new.output.calls c.args.feeding.now.moments c.feed_all.new.feeding.moments c.acknowledge.new.moments
+    (keeps_then g.D.Disk s s c.feed_all.new.feeding.store o p c.feed_all.new.output.calls c.args.feeding.now.moments c.args.feeding.now.moments c.feed_all.new.feeding.moments
+    (keeps_printed g.D.Disk s o p c.args.feeding.now.moments (number_text (codes "resume ") c.in_ok-last.last) c.print_number.ensures.calls (λ honest backs. inr (inr (inl (c.in_ok-last.last, refl))))) c.feed_all.ensures.kept) c.acknowledge.ensures.kept) c.checkpoint_if_due.ensures.kept)
     (keeps_printed g.D.Disk c.checkpoint_if_due.new.store c.checkpoint_if_due.new.output.calls c.print_end.new.output.calls c.checkpoint_if_due.new.moments (feed_end_text (live g.D.Disk c.checkpoint_if_due.new.store) c.in_ok-end.end)
     c.print_end.ensures.calls (λ honest backs. inr (inr (inr (inr (live g.D.Disk c.checkpoint_if_due.new.store, c.in_ok-end.end, refl))))))
 
 pub returns-clause-kept : goal.returns-clause-kept
 returns-clause-kept g c =
-    let s = c.args.store.now in
+    let s = c.args.feeding.now.store in
     let o = c.args.output.now.calls in
     let p = c.print_number.new.output.calls in
-    keeps_then g.D.Disk s c.checkpoint_if_due.new.store c.checkpoint_if_due.new.store o c.checkpoint_if_due.new.output.calls c.print_end.new.output.calls c.args.moments.now c.checkpoint_if_due.new.moments c.checkpoint_if_due.new.moments
-    (keeps_then g.D.Disk s c.acknowledge.new.store c.checkpoint_if_due.new.store o c.acknowledge.new.output.calls c.checkpoint_if_due.new.output.calls c.args.moments.now c.acknowledge.new.moments c.checkpoint_if_due.new.moments
-    (keeps_then g.D.Disk s c.feed_all.new.store c.acknowledge.new.store o c.feed_all.new.output.calls c.acknowledge.new.output.calls c.args.moments.now c.feed_all.new.moments c.acknowledge.new.moments
-    (keeps_then g.D.Disk s s c.feed_all.new.store o p c.feed_all.new.output.calls c.args.moments.now c.args.moments.now c.feed_all.new.moments
-    (keeps_printed g.D.Disk s o p c.args.moments.now (number_text (codes "resume ") c.in_ok-last.last) c.print_number.ensures.calls (λ honest backs. inr (inr (inl (c.in_ok-last.last, refl))))) c.feed_all.ensures.kept) c.acknowledge.ensures.kept) c.checkpoint_if_due.ensures.kept)
+    keeps_then g.D.Disk s c.checkpoint_if_due.new.store c.checkpoint_if_due.new.store o c.checkpoint_if_due.new.output.calls c.print_end.new.output.calls c.args.feeding.now.moments c.checkpoint_if_due.new.moments c.checkpoint_if_due.new.moments
+    (keeps_then g.D.Disk s c.acknowledge.new.store c.checkpoint_if_due.new.store o c.acknowledge.new.output.calls c.checkpoint_if_due.new.output.calls c.args.feeding.now.moments c.acknowledge.new.moments c.checkpoint_if_due.new.moments
+    (keeps_then g.D.Disk s c.feed_all.new.feeding.store c.acknowledge.new.store o c.feed_all.new.output.calls c.acknowledge.new.output.calls c.args.feeding.now.moments c.feed_all.new.feeding.moments c.acknowledge.new.moments
+    (keeps_then g.D.Disk s s c.feed_all.new.feeding.store o p c.feed_all.new.output.calls c.args.feeding.now.moments c.args.feeding.now.moments c.feed_all.new.feeding.moments
+    (keeps_printed g.D.Disk s o p c.args.feeding.now.moments (number_text (codes "resume ") c.in_ok-last.last) c.print_number.ensures.calls (λ honest backs. inr (inr (inl (c.in_ok-last.last, refl))))) c.feed_all.ensures.kept) c.acknowledge.ensures.kept) c.checkpoint_if_due.ensures.kept)
     (keeps_printed g.D.Disk c.checkpoint_if_due.new.store c.checkpoint_if_due.new.output.calls c.print_end.new.output.calls c.checkpoint_if_due.new.moments (feed_end_text (live g.D.Disk c.checkpoint_if_due.new.store) c.in_ok-end.end)
     c.print_end.ensures.calls (λ honest backs. inr (inr (inr (inr (live g.D.Disk c.checkpoint_if_due.new.store, c.in_ok-end.end, refl))))))
 
 pub returns-in_err-last-clause-front : goal.returns-in_err-last-clause-front
 returns-in_err-last-clause-front g c = λ honest.
     let o = c.args.output.now.calls in
-    let s = c.args.store.now in
-    always_err _ (wrote_resume c.args.source s.detector.sets (live g.D.Disk s) c.args.input.now.calls o o (front_none o (number_text (codes "resume ") ((live g.D.Disk s).last c.args.source))))
+    let s = c.args.feeding.now.store in
+    always_err _ (wrote_resume c.args.feeding.now.fed.source s.detector.sets (live g.D.Disk s) c.args.input.now.calls o o (front_none o (number_text (codes "resume ") ((live g.D.Disk s).last c.args.feeding.now.fed.source))))
 
 pub returns-in_err-print_number-clause-front : goal.returns-in_err-print_number-clause-front
 returns-in_err-print_number-clause-front g c = λ honest.
-    let s = c.args.store.now in
+    let s = c.args.feeding.now.store in
     let o = c.args.output.now.calls in
     let p = c.print_number.new.output.calls in
-    always_err _ (wrote_resume c.args.source s.detector.sets (live g.D.Disk s) c.args.input.now.calls o p
-    (subst (λ (n : ℕ). TookFront o p (number_text (codes "resume ") n)) (last_is s.is_broken c.in_ok-last.last ((live g.D.Disk s).last c.args.source) c.requires.idle.works c.in_ok-last.ensures)
+    always_err _ (wrote_resume c.args.feeding.now.fed.source s.detector.sets (live g.D.Disk s) c.args.input.now.calls o p
+    (subst (λ (n : ℕ). TookFront o p (number_text (codes "resume ") n)) (last_is s.is_broken c.in_ok-last.last ((live g.D.Disk s).last c.args.feeding.now.fed.source) c.requires.idle.works c.in_ok-last.ensures)
     (printed_front o p (number_text (codes "resume ") c.in_ok-last.last) c.print_number.ensures.calls)))
 
 pub returns-in_err-end-clause-front : goal.returns-in_err-end-clause-front
 returns-in_err-end-clause-front g c = λ honest.
-    let s = c.args.store.now in
+    let s = c.args.feeding.now.store in
     let o = c.args.output.now.calls in
     let p = c.print_number.new.output.calls in
-    always_err _ (wrote_fed g.D.Disk honest s (record { source = c.args.source; number = 0; accepted = 0 }) c.args.source c.args.input.now.calls c.feed_all.new.input.calls o p c.feed_all.new.output.calls
-    (resumed g.D.Disk s (record { source = c.args.source; number = 0; accepted = 0 }) o p c.args.source refl (subst (λ (n : ℕ). Took o p (number_text (codes "resume ") n)) (last_is s.is_broken c.in_ok-last.last ((live g.D.Disk s).last c.args.source) c.requires.idle.works c.in_ok-last.ensures) c.in_ok-print_number.ensures.printed))
+    always_err _ (wrote_fed g.D.Disk honest s c.args.feeding.now.fed c.args.feeding.now.fed.source c.args.input.now.calls c.feed_all.new.input.calls o p c.feed_all.new.output.calls
+    (resumed g.D.Disk s c.args.feeding.now.fed o p c.args.feeding.now.fed.source c.requires.accepted (subst (λ (n : ℕ). Took o p (number_text (codes "resume ") n)) (last_is s.is_broken c.in_ok-last.last ((live g.D.Disk s).last c.args.feeding.now.fed.source) c.requires.idle.works c.in_ok-last.ensures) c.in_ok-print_number.ensures.printed))
     c.in_err-end.ensures.front)
 
 pub returns-in_err-acknowledge-clause-front : goal.returns-in_err-acknowledge-clause-front
 returns-in_err-acknowledge-clause-front g c = λ honest.
-    let s = c.args.store.now in
+    let s = c.args.feeding.now.store in
     let o = c.args.output.now.calls in
     let p = c.print_number.new.output.calls in
-    always_err _ (wrote_acks g.D.Disk honest c.args.input.now.calls c.feed_all.new.input.calls c.args.source s c.feed_all.new.store (record { source = c.args.source; number = 0; accepted = 0 }) c.feed_all.new.fed
-    o p c.feed_all.new.output.calls c.acknowledge.new.output.calls None c.in_ok-end.end refl (subst (λ (n : ℕ). Took o p (number_text (codes "resume ") n)) (last_is s.is_broken c.in_ok-last.last ((live g.D.Disk s).last c.args.source) c.requires.idle.works c.in_ok-last.ensures) c.in_ok-print_number.ensures.printed)
+    always_err _ (wrote_acks g.D.Disk honest c.args.input.now.calls c.feed_all.new.input.calls c.args.feeding.now.fed.source s c.feed_all.new.feeding.store c.args.feeding.now.fed c.feed_all.new.feeding.fed
+    o p c.feed_all.new.output.calls c.acknowledge.new.output.calls None c.in_ok-end.end c.requires.accepted (subst (λ (n : ℕ). Took o p (number_text (codes "resume ") n)) (last_is s.is_broken c.in_ok-last.last ((live g.D.Disk s).last c.args.feeding.now.fed.source) c.requires.idle.works c.in_ok-last.ensures) c.in_ok-print_number.ensures.printed)
     c.in_ok-end.ensures.goes c.in_ok-end.ensures.feeds c.acknowledge.ensures.calls)
 
 pub returns-in_err-checkpoint_if_due-clause-front : goal.returns-in_err-checkpoint_if_due-clause-front
 returns-in_err-checkpoint_if_due-clause-front g c = λ honest.
-    let s = c.args.store.now in
+    let s = c.args.feeding.now.store in
     let o = c.args.output.now.calls in
     let p = c.print_number.new.output.calls in
     let front = c.in_err-checkpoint_if_due.ensures.front in
-    always_err _ (wrote_made g.D.Disk honest c.args.input.now.calls c.feed_all.new.input.calls c.args.source s c.feed_all.new.store (record { source = c.args.source; number = 0; accepted = 0 }) c.feed_all.new.fed
-    o p c.feed_all.new.output.calls c.acknowledge.new.output.calls c.checkpoint_if_due.new.output.calls front.0 c.in_ok-end.end refl (subst (λ (n : ℕ). Took o p (number_text (codes "resume ") n)) (last_is s.is_broken c.in_ok-last.last ((live g.D.Disk s).last c.args.source) c.requires.idle.works c.in_ok-last.ensures) c.in_ok-print_number.ensures.printed)
+    always_err _ (wrote_made g.D.Disk honest c.args.input.now.calls c.feed_all.new.input.calls c.args.feeding.now.fed.source s c.feed_all.new.feeding.store c.args.feeding.now.fed c.feed_all.new.feeding.fed
+    o p c.feed_all.new.output.calls c.acknowledge.new.output.calls c.checkpoint_if_due.new.output.calls front.0 c.in_ok-end.end c.requires.accepted (subst (λ (n : ℕ). Took o p (number_text (codes "resume ") n)) (last_is s.is_broken c.in_ok-last.last ((live g.D.Disk s).last c.args.feeding.now.fed.source) c.requires.idle.works c.in_ok-last.ensures) c.in_ok-print_number.ensures.printed)
     c.in_ok-end.ensures.goes c.in_ok-end.ensures.feeds c.in_ok-acknowledge.ensures.printed front.1)
 
 pub returns-in_err-print_end-clause-front : goal.returns-in_err-print_end-clause-front
 returns-in_err-print_end-clause-front g c = λ honest.
-    let s = c.args.store.now in
+    let s = c.args.feeding.now.store in
     let o = c.args.output.now.calls in
     let p = c.print_number.new.output.calls in
     let made = c.in_ok-checkpoint_if_due.ensures.made in
-    always_err _ (wrote_end g.D.Disk honest c.args.input.now.calls c.feed_all.new.input.calls c.args.source s c.feed_all.new.store (record { source = c.args.source; number = 0; accepted = 0 }) c.feed_all.new.fed
-    o p c.feed_all.new.output.calls c.acknowledge.new.output.calls c.checkpoint_if_due.new.output.calls c.print_end.new.output.calls (live g.D.Disk c.checkpoint_if_due.new.store) made.checkpoint c.in_ok-end.end refl (subst (λ (n : ℕ). Took o p (number_text (codes "resume ") n)) (last_is s.is_broken c.in_ok-last.last ((live g.D.Disk s).last c.args.source) c.requires.idle.works c.in_ok-last.ensures) c.in_ok-print_number.ensures.printed)
+    always_err _ (wrote_end g.D.Disk honest c.args.input.now.calls c.feed_all.new.input.calls c.args.feeding.now.fed.source s c.feed_all.new.feeding.store c.args.feeding.now.fed c.feed_all.new.feeding.fed
+    o p c.feed_all.new.output.calls c.acknowledge.new.output.calls c.checkpoint_if_due.new.output.calls c.print_end.new.output.calls (live g.D.Disk c.checkpoint_if_due.new.store) made.checkpoint c.in_ok-end.end c.requires.accepted (subst (λ (n : ℕ). Took o p (number_text (codes "resume ") n)) (last_is s.is_broken c.in_ok-last.last ((live g.D.Disk s).last c.args.feeding.now.fed.source) c.requires.idle.works c.in_ok-last.ensures) c.in_ok-print_number.ensures.printed)
     c.in_ok-end.ensures.goes c.in_ok-end.ensures.feeds c.in_ok-acknowledge.ensures.printed made.printed
     (made.live honest ∙ ap (λ (d : detect.Shown (pool.Shown g.row.D.Denot)). detect.content (pools.live g.D.Disk) d) c.in_ok-acknowledge.ensures.committed.detector) c.print_end.ensures.calls)

@@ -1,0 +1,163 @@
+-- What feeding a whole text leads to.
+use Rattle.std.proofs.Common.{◌≡◌, ℕ, List, [], ◌++◌, length, Option, None, Some, Result, Ok, Err, IsTrue, refl, sym, ap, ◌∙◌, subst, inl, inr, ⊎_elim, arith}
+use Rattle.std.proofs.lemmas.List.{append-nil, length-append}
+use Rattle.hg_model.specs.declared.verdict.Refusal.{Refusal}
+use Rattle.hg_model.specs.Contents.{Content}
+use Rattle.hg_streams.specs.declared.call.ReadCall.{ReadCall}
+use Rattle.hg_streams.specs.declared.call.WriteCall.{WriteCall}
+use Rattle.hg_streams.specs.Calls.{failed_reads, given}
+use Rattle.hg_streams.specs.Told.{told_refusal}
+use Rattle.hg_sets.specs.Interning.{Table}
+use Rattle.hg_disk.specs.declared.disk.Disk as disk
+use Rattle.hg_wire.specs.declared.reader.Reading.{Reading}
+use Rattle.hg_wire.specs.Streams.{ended_readings, readings}
+use Rattle.hg_reading.specs.Taking.{AreDue, ReadBroke, Reads, Taking, WasRead}
+use Rattle.hg_check.specs.declared.checker.Ending.{Ending}
+use Rattle.hg_check.specs.declared.checker.Ending.TheVariants.{Ended}
+use Rattle.hg_check.specs.Taking.{ending_of}
+use Rattle.hg_check.proofs.Ends.{begins_with}
+use Rattle.hg_check.proofs.Whole.{failed_reads_on}
+use Rattle.hg_commands.specs.Feeding.{FeedsTo}
+use Rattle.hg_commands.specs.FeedRunning.{FeedEndsBy, Feeds, GoesOn, HasFront, LeadsOn, Place, content_at, table_at}
+use Rattle.hg_commands.specs.Instants.{Instant}
+use Rattle.hg_commands.specs.Keeping.{KeepsOn}
+use Rattle.hg_commands.specs.Storing.{FeedFails}
+use Rattle.hg_commands.specs.Taking.{IsFine, IsReadyAt, Takes}
+use Rattle.hg_commands.proofs.Fronts.{feeds_grow, printed_grown}
+
+no_error : (stop : Option Ending) → IsFine (Ok stop)
+no_error stop x h = absurd (cc)
+
+module _ {D : Type 0} (g : disk.Ghosts D) where
+  -- from the first line of the source on
+  from_start : (p : Place D) (lines : List Reading) (last : Content) (end : Ending) → p.fed.number ≡ 0 → LeadsOn g p lines last end → FeedsTo p.fed.source lines (table_at p) (content_at g p) 0 last end
+  from_start p lines last end none h = subst (λ (n : ℕ). FeedsTo p.fed.source lines (table_at p) (content_at g p) n last end) none h
+
+  at_start : (p : Place D) (lines : List Reading) (last : Content) (end : Ending) → p.fed.number ≡ 0 → FeedsTo p.fed.source lines (table_at p) (content_at g p) 0 last end → LeadsOn g p lines last end
+  at_start p lines last end none h = subst (λ (n : ℕ). FeedsTo p.fed.source lines (table_at p) (content_at g p) n last end) (sym none) h
+
+  passed_to : (p q : Place D) (early late : List (Instant D)) (lines : List Reading) → p.fed.number ≡ 0 → Takes g p early lines (Ok None) q late → IsTrue g.is_honest
+      → FeedsTo p.fed.source lines (table_at p) (content_at g p) 0 (content_at g q) Ended
+  passed_to p q early late lines none t honest =
+      from_start p lines (content_at g q) Ended none
+      (subst (λ xs. LeadsOn g p xs (content_at g q) Ended) (append-nil lines) (t.leads refl honest [] (content_at g q) Ended (refl, refl)))
+
+  ends_by : {S : Type 0} (takes : Taking S Ending) (p q : Place D) (early late : List (Instant D)) (reads : List ReadCall) (lines : List Reading) (stop : Option Ending) → p.fed.number ≡ 0 → Takes g p early lines (Ok stop) q late
+      → AreDue takes reads lines (Ok stop) → IsTrue g.is_honest → FeedEndsBy p.fed.source (table_at p) (content_at g p) reads (content_at g q) (ending_of stop)
+  ends_by takes p q early late reads lines None none t due honest =
+      ⊎_elim
+      (λ met. inl (met.0, met.1, subst (λ xs. FeedsTo p.fed.source xs (table_at p) (content_at g p) 0 (content_at g q) Ended) met.2 (passed_to p q early late lines none t honest)))
+      (λ stopped. absurd (stopped.0 refl))
+      due
+  ends_by takes p q early late reads lines (Some end) none t due honest =
+      ⊎_elim
+      (λ met. inl (
+        met.0,
+        met.1,
+        subst (λ xs. FeedsTo p.fed.source xs (table_at p) (content_at g p) 0 (content_at g q) end) (append-nil lines ∙ met.2)
+            (from_start p (lines ++ []) (content_at g q) end none (t.ends end refl honest [])),
+      ))
+      (λ stopped. inr (λ more. let rest = stopped.1 more in
+      subst (λ xs. FeedsTo p.fed.source xs (table_at p) (content_at g p) 0 (content_at g q) end) (sym rest.1)
+      (from_start p (lines ++ rest.0) (content_at g q) end none (t.ends end refl honest rest.0))))
+      due
+
+module _ {D S : Type 0} (g : disk.Ghosts D) (takes : Taking S Ending) (at : S → List WriteCall → Place D) (moments : S → List (Instant D))
+    (seen : (a b : S) (at_a at_b : List WriteCall) (lines : List Reading) (r : Result (Option Ending) Refusal) → takes a at_a lines r b at_b → Takes g (at a at_a) (moments a) lines r (at b at_b) (moments b))
+  where
+    -- The feeding came to an end.
+    pub feeds : (first now : List ReadCall) (s t : S) (o p : List WriteCall) (stop : Option Ending) → (at s o).fed.number ≡ 0 → WasRead takes first now s o (Ok stop) t p
+        → Feeds g first now (at s o).fed.source (table_at (at s o)) (content_at g (at s o)) (content_at g (at t p)) (ending_of stop)
+    feeds first now s t o p stop none w =
+        let taken = seen s t o p w.lines (Ok stop) w.steps in
+        let passed = seen s w.needed.now o w.needed.calls (ended_readings (given w.needed.earlier)) (Ok None) w.needed.passed in
+        record {
+          later = w.later;
+          since = w.since;
+          whole = w.intact;
+          needed = record {
+            last = w.needed.last;
+            earlier = w.needed.earlier;
+            newest = w.needed.newest;
+            underway = w.needed.underway;
+            passed = λ honest. (
+              content_at g (at w.needed.now w.needed.calls),
+              passed_to g (at s o) (at w.needed.now w.needed.calls) (moments s) (moments w.needed.now) (ended_readings (given w.needed.earlier)) none passed honest,
+            );
+          };
+          leads = ends_by g takes (at s o) (at t p) (moments s) (moments t) w.later w.lines stop none taken w.due;
+        }
+
+    pub goes : (first now : List ReadCall) (s t : S) (o p : List WriteCall) (stop : Option Ending) → IsReadyAt (at s o) → WasRead takes first now s o (Ok stop) t p → GoesOn g (at s o) (at t p)
+    goes first now s t o p stop ready w = (seen s t o p w.lines (Ok stop) w.steps).goes (no_error stop) ready
+
+    -- it was broken off
+    front_read : (first now : List ReadCall) (s t : S) (o p : List WriteCall) (x : Refusal) → IsReadyAt (at s o) → (at s o).fed.number ≡ 0 → WasRead takes first now s o (Err x) t p
+        → HasFront g first now (at s o).fed.source (table_at (at s o)) (content_at g (at s o)) (at s o) (at t p).output
+    front_read first now s t o p x ready none w = record {
+      later = w.later;
+      since = w.since;
+      front = λ honest input last end room m l.
+          let rest = begins_with w.later w.lines (Err x) input w.due m in
+          (seen s t o p w.lines (Err x) w.steps).front x refl ready honest rest.0 last end room
+          (subst (λ xs. LeadsOn g (at s o) xs last end) rest.1 (at_start g (at s o) (readings input) last end none l));
+    }
+
+    front_broke : (first now : List ReadCall) (s t : S) (o p : List WriteCall) (x : Refusal) → IsReadyAt (at s o) → (at s o).fed.number ≡ 0 → ReadBroke takes first now s o x t p
+        → HasFront g first now (at s o).fed.source (table_at (at s o)) (content_at g (at s o)) (at s o) (at t p).output
+    front_broke first now s t o p x ready none w = record {
+      later = w.later;
+      since = w.since;
+      front = λ honest input last end room m l begun text events printed.
+          let taken = seen s t o p w.lines (Ok None) w.steps in
+          let here = at t p in
+          let rest = w.front m.more in
+          let led = taken.back refl honest rest.0 last end room
+          (subst (λ xs. LeadsOn g (at s o) xs last end) (ap readings m.joined ∙ rest.1) (at_start g (at s o) (readings input) last end none l)) in
+          printed_grown g here last (feeds_grow here.fed.source rest.0 (table_at here) (content_at g here) here.fed.number last end led) begun text events
+          ((taken.goes (no_error None) ready).printed honest begun text events printed);
+    }
+
+    pub front : (first now : List ReadCall) (s t : S) (o p : List WriteCall) (x : Refusal) → IsReadyAt (at s o) → (at s o).fed.number ≡ 0 → Reads takes first now s o (Err x) t p
+        → HasFront g first now (at s o).fed.source (table_at (at s o)) (content_at g (at s o)) (at s o) (at t p).output
+    front first now s t o p x ready none reads = ⊎_elim (λ w. front_read first now s t o p x ready none w) (λ w. front_broke first now s t o p x ready none w) reads
+
+    fails_read : (first now : List ReadCall) (s t : S) (o p : List WriteCall) (x : Refusal) → WasRead takes first now s o (Err x) t p
+        → FeedFails g (at s o).store.devices (at t p).store.devices first now (at s o).output (at t p).output x
+    fails_read first now s t o p x w =
+        let taken = seen s t o p w.lines (Err x) w.steps in
+        record {
+          is = taken.cause x refl;
+          failed = inl (omega (arith, taken.failures, w.intact, ap failed_reads w.since, failed_reads_on w.later first));
+        }
+
+    fails_broke : (first now : List ReadCall) (s t : S) (o p : List WriteCall) (x : Refusal) → ReadBroke takes first now s o x t p
+        → FeedFails g (at s o).store.devices (at t p).store.devices first now (at s o).output (at t p).output x
+    fails_broke first now s t o p x w =
+        let taken = seen s t o p w.lines (Ok None) w.steps in
+        ⊎_elim
+        (λ memory. record {
+          is = inl (inl memory.0);
+          failed = inl (omega (arith, taken.failures, ap told_refusal memory.0, ap failed_reads w.since, failed_reads_on w.later first, ap failed_reads memory.1));
+        })
+        (λ device. record {
+          is = inl (inr device.0);
+          failed = ⊎_elim
+              (λ one. inl (omega (arith, taken.failures, ap told_refusal device.0, ap failed_reads w.since, failed_reads_on w.later first, one)))
+              (λ many. inr (device.0, omega (arith, many, ap length w.since, length-append w.later first)))
+              device.1;
+        })
+        w.cause
+
+    pub fails : (first now : List ReadCall) (s t : S) (o p : List WriteCall) (x : Refusal) → Reads takes first now s o (Err x) t p
+        → FeedFails g (at s o).store.devices (at t p).store.devices first now (at s o).output (at t p).output x
+    fails first now s t o p x reads = ⊎_elim (λ w. fails_read first now s t o p x w) (λ w. fails_broke first now s t o p x w) reads
+
+    pub kept : (first now : List ReadCall) (s t : S) (o p : List WriteCall) (r : Result (Option Ending) Refusal) → Reads takes first now s o r t p
+        → KeepsOn g (at s o).store (at s o).output (moments s) (at t p).store (at t p).output (moments t)
+    kept first now s t o p (Ok stop) w = (seen s t o p w.lines (Ok stop) w.steps).kept
+    kept first now s t o p (Err x) reads = ⊎_elim (λ w. (seen s t o p w.lines (Err x) w.steps).kept) (λ w. (seen s t o p w.lines (Ok None) w.steps).kept) reads
+
+-- no read of an input failed that was fed
+pub reads_intact : {D : Type 0} (g : disk.Ghosts D) (first now : List ReadCall) (source : ℕ) (table : Table) (start last : Content) (end : Ending) → Feeds g first now source table start last end → failed_reads now ≡ failed_reads first
+reads_intact g first now source table start last end f = ap failed_reads f.since ∙ omega (arith, failed_reads_on f.later first, f.whole)
