@@ -8,6 +8,7 @@ use Rattle.hg_pages.specs.Slots.{IsSlot, slot_text}
 use Rattle.hg_pages.specs.Tables.{slot_in}
 use Rattle.hg_pages.specs.Encoded.{Encoded}
 use Rattle.hg_pool.specs.Answers.{IsFrozen, least_of}
+use Rattle.hg_pool.specs.Calls.{HasWaited, IsStale}
 use Rattle.hg_pool.specs.Shown as pool
 use Rattle.hg_pool.specs.declared.job.Job.{Job}
 use Rattle.hg_pool.specs.declared.job.Put.{Put}
@@ -29,20 +30,9 @@ abbrev pub Tells : {X : Type 0} → (X → StepResult) → StepResult → (X →
 Tells {X} kind result P = (x : X) × (result ≡ kind x) × P x
 
 -- The job is the first of the pages that wait, with its cells at the freeze; there is none where no page waits.
-abbrev pub IsNextJob : {D : Type 0} → pool.Shown D → Option Job → Type 0
-IsNextJob words found =
+abbrev pub IsFirstWaiting : {D : Type 0} → pool.Shown D → Option Job → Type 0
+IsFirstWaiting words found =
     MatchOption found (words.waiting ≡ []) (λ job. (Some job.page ≡ least_of words.waiting) × IsFrozen words job.page job.cells)
-
--- The page waits, and the bytes are those of its cells at the freeze.
-abbrev pub HasWaited : {D : Type 0} → pool.Shown D → Encoded → Type 0
-HasWaited words page =
-    (cells : List Cell) × (is_some (slot_in words.waiting page.page) ≡ true) × IsFrozen words page.page cells × IsSlot page.page cells page.bytes
-
--- The page does not wait, or the bytes are not those of its cells at the freeze.
-abbrev pub IsStale : {D : Type 0} → pool.Shown D → Encoded → Type 0
-IsStale words page =
-    (slot : ℕ) (cells : List Cell) → slot_in words.waiting page.page ≡ Some slot → IsFrozen words page.page cells
-    → page.bytes ≡ slot_text page.page cells → ⊥
 
 -- neither the slots nor what is in memory of them
 pub record SameWords {D : Type 0} (old new : Shown D) : Type 0 where
@@ -75,7 +65,7 @@ pub record JobTaken {D : Type 0} (old new : Shown D) (result : Result (Option Jo
   pub same : new ≡ old
   pub allowed : IsAllowed old (IsIn phase.Flushing old) result
   pub refusal : IfRefused (λ r. r ≡ refusal.Broken) result
-  pub job : IfOk result (IsNextJob (words old))
+  pub job : IfOk result (IsFirstWaiting (words old))
 
 -- A page is written where it waits and the bytes are those of its cells at the freeze. The phase stays.
 pub record PutDone {D : Type 0} (old new : Shown D) (page : Encoded) (result : Result Put StepFault) : Type 0 where

@@ -1,13 +1,14 @@
 //! The steps of a checkpoint.
 
 ghost use Rattle.std.specs.Prelude.{◌≡◌, ◌≢◌, ◌⊎◌, ◌+◌, ◌<◌, ◌≤◌, ◌^◌, Err, true, false, IsTrue, OnOk, OnErr, IfOk};
+ghost use Rattle.hg_pool.specs.Calls.{HasWaited, IsStale};
 ghost use Rattle.hg_checkpointer.specs.declared.phase.Phase.TheVariants as phase;
 ghost use Rattle.hg_store.specs.Answers.{IfRefused, IsAllowed, failed_by};
 ghost use Rattle.hg_store.specs.Shown.{HasNextNumber, IsFlushed, IsIn, live, phase_of, words};
 ghost use Rattle.hg_store.specs.Steps.{CheckpointDone};
 ghost use Rattle.hg_store.specs.Store.{HasOpenedFrozen, StandMeanwhile};
 ghost use Rattle.hg_store.specs.Images.{FailuresGrowBy};
-ghost use Rattle.hg_store.specs.Doing.{HasWaited, IsNextJob, IsStale, SameNumbers, SameRoots, SameWords};
+ghost use Rattle.hg_store.specs.Doing.{IsFirstWaiting, SameNumbers, SameRoots, SameWords};
 
 use crate::steps::{StepFault, StorePhase};
 use crate::store::Store;
@@ -89,7 +90,7 @@ impl<D: Disk> Store<D> {
     pub fn take_job(&self) -> Result<Option<Job>, StepFault>
         ensures allowed { IsAllowed self.now (IsIn phase.Flushing self.now) result }
         ensures refusal { IfRefused (λ r. r ≡ Refusal.Broken) result }
-        ensures job { IfOk result (IsNextJob (words self.now)) }
+        ensures job { IfOk result (IsFirstWaiting (words self.now)) }
     {
         if self.is_broken {
             return Err(StepFault::Refused(Refusal::Broken));
