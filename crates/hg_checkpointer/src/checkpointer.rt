@@ -1,19 +1,12 @@
 //! A checkpoint in progress.
-ghost use Rattle.std.specs.Prelude.{◌≡◌, ◌≢◌, ◌⊎◌, ◌++◌, ◌+◌, ℕ, List, [], Option, Some, None, Ok, Err, true, false, is_some, IsTrue, IsOk, OnOk, OnErr, IfOk, IfErr};
-ghost use Rattle.hg_disk.specs.Moments.{LeavesOnly};
-ghost use Rattle.hg_cells.specs.declared.cell.Cell.{Cell as CellOf};
+ghost use Rattle.std.specs.Prelude.{◌≡◌, ◌≢◌, ◌⊎◌, ◌++◌, ◌+◌, Option, Some, None, Ok, Err, true, false, is_some, IsTrue, OnOk, OnErr, IfOk};
+ghost use Rattle.hg_pool.specs.Calls.{FreezesOnOk};
 ghost use Rattle.hg_pool.specs.Kept as pools;
 ghost use Rattle.hg_pool.specs.Kept.{IsWhole, SameMap};
 ghost use Rattle.hg_pool.specs.Maps.{disk_of, frozen, is_broken, live};
 ghost use Rattle.hg_pool.specs.Picking.{IsFreezeRefusal};
-ghost use Rattle.hg_pool.specs.Shown.{Shown as PoolOf};
 ghost use Rattle.hg_pool.specs.Tables.{IsNameable};
-ghost use Rattle.hg_root.specs.Checkpoints.{Checkpoint, HasSlotsOf, root_of};
-ghost use Rattle.hg_root.specs.Grammar.{pages_text};
 ghost use Rattle.hg_root.specs.Pairs as pairs;
-ghost use Rattle.hg_root.specs.Parts.{Parts};
-ghost use Rattle.hg_contents.specs.Maps.{IsKnownTo, IsNewElsewhere, checkpoint_of};
-ghost use Rattle.hg_checkpointer.specs.Tables.{pages_of};
 ghost use Rattle.hg_checkpointer.specs.Phases.{BreaksBy, IfRefused, IfWrongPhase, IsAllowed, failed_calls};
 ghost use Rattle.hg_checkpointer.specs.declared.phase.Phase.TheVariants.{Idle};
 
@@ -60,7 +53,7 @@ impl<D: Disk + Drop> Drop for Checkpointer<D> {
 }
 
 impl<D: Disk> Checkpointer<D> {
-    ghost use Rattle.hg_checkpointer.specs.Standing.{EachEither, EachNow, IsDraft, IsHead, IsNext, RootsStand, Stands, root_with};
+    ghost use Rattle.hg_checkpointer.specs.Calls.{AnswersNumber, AreRootsBroken, ChangesHead, CountsRoots, DraftIsNewElsewhere, DraftIsNext, IsDrafted, IsFlushed, IsOfWriting, IsOneBroken, KeepsBodyAndHead, KeepsFile, KeepsHead, KeepsRootsAndHead, LeavesEither, LeavesRoots, LeavesSlots, OpensNext, RootsStayOnOk, SealsSurely, SpellsBody, StandsBy, StaysNext, StaysNextOver, StaysOrBreaks, StaysStanding};
 
     // Whether a call of this phase is allowed.
     fn ready(&self, phase: Phase) -> Result<(), CheckpointFault>
@@ -99,7 +92,7 @@ impl<D: Disk> Checkpointer<D> {
         ensures number { result.number ≡ number }
         ensures phase { result.phase ≡ Phase.Idle }
         ensures works { result.is_broken ≡ false }
-        ensures stands { (root former : Option Parts) → pairs.Stands ⟦<D as Disk>⟧ roots root former → RootsStand ⟦<D as Disk>⟧ result.phase result.roots root former result.body.value.items }
+        ensures stands { StandsBy roots result }
     {
         let body = Vec::new(alloc);
         Checkpointer {
@@ -144,14 +137,13 @@ impl<D: Disk> Checkpointer<D> {
         ensures refusal { IfRefused (λ r. (r ≡ Refusal.Broken) ⊎ IsFreezeRefusal pool.old r) result }
         ensures refused { OnErr result ((self.new ≡ self.old) × (pool.new ≡ pool.old)) }
         ensures head { OnOk result ((self.new.head ≡ Some head) × (self.new.next ≡ number)) }
-        ensures rest { (self.new.roots ≡ self.old.roots) × (self.new.body ≡ self.old.body) × (self.new.number ≡ self.old.number) × (self.new.is_broken ≡ self.old.is_broken) }
+        ensures rest { ChangesHead self.old self.new }
         ensures live { SameMap (live ⟦<D as Disk>⟧ pool.old) (live ⟦<D as Disk>⟧ pool.new) }
-        ensures words { IsWhole ⟦<D as Disk>⟧ pool.old → OnOk result (SameMap (live ⟦<D as Disk>⟧ pool.old) (frozen ⟦<D as Disk>⟧ pool.new)) }
+        ensures words { FreezesOnOk ⟦<D as Disk>⟧ pool.old pool.new result }
         ensures whole { IsWhole ⟦<D as Disk>⟧ pool.old → IsWhole ⟦<D as Disk>⟧ pool.new }
-        ensures pool { (pool.new.root ≡ pool.old.root) × (pool.new.file ≡ pool.old.file) × (pool.new.frames ≡ pool.old.frames) }
-        ensures stands { (now : Option Checkpoint) (former : Option Parts) → Stands ⟦<D as Disk>⟧ self.old pool.old now former → Stands ⟦<D as Disk>⟧ self.new pool.new now former }
-        ensures draft { (now : Option Checkpoint) (parts : Parts) → IsWhole ⟦<D as Disk>⟧ pool.old → IsHead now parts head number → IsKnownTo parts (live ⟦<D as Disk>⟧ pool.old)
-            → OnOk result (IsDraft ⟦<D as Disk>⟧ self.new pool.new now parts (live ⟦<D as Disk>⟧ pool.old)) }
+        ensures pool { KeepsFile pool.old pool.new }
+        ensures stands { StaysStanding self.old pool.old self.new pool.new }
+        ensures draft { IsDrafted self.new pool.old pool.new head number result }
     {
         if let Err(fault) = self.ready(Phase::Idle) {
             return Err(fault);
@@ -170,7 +162,7 @@ impl<D: Disk> Checkpointer<D> {
     // The body of the root in progress, which names the pages of the frozen table.
     fn body_of(&self, alloc: Global, pool: &Pool<D>) -> Result<Vec<u8>, AllocError>
         requires { self.now.phase ≡ Phase.Prepared }
-        ensures { (head : List ℕ) → self.now.head ≡ Some head → IfOk result (λ body. body.items ≡ head ++ pages_text (pages_of pool.now.frozen)) }
+        ensures { SpellsBody self.now pool.now result }
     {
         let pages = pages_in(alloc, pool.frozen_table().entries())?;
         match &self.head {
@@ -181,27 +173,24 @@ impl<D: Disk> Checkpointer<D> {
 
     /// Makes the pages of the frozen map durable, once all are written. It makes one device call and takes no memory.
     pub fn seal_pages(&mut self, pool: &mut Pool<D>) -> Result<(), CheckpointFault>
-        ensures phase { IsAllowed self.old.is_broken self.old.phase ((self.old.phase ≡ Phase.Flushing) × (pool.old.waiting ≡ [])) result }
+        ensures phase { IsAllowed self.old.is_broken self.old.phase (IsFlushed self.old pool.old) result }
         ensures unchanged { IfWrongPhase ((self.new ≡ self.old) × (pool.new ≡ pool.old)) result }
         ensures sealed { OnOk result ((self.new.phase ≡ Phase.Sealed) × IsTrue pool.new.is_sealed) }
         ensures works { OnOk result (self.new.is_broken ≡ false) }
         ensures refused_phase { OnErr result (self.new.phase ≡ self.old.phase) }
-        ensures succeeds { self.old.phase ≡ Phase.Flushing → pool.old.waiting ≡ [] → self.old.is_broken ≡ false → is_broken pool.old ≡ false
-            → D.failures (disk_of pool.new) ≡ D.failures (disk_of pool.old) → IsOk result }
+        ensures succeeds { SealsSurely self.old pool.old pool.new result }
         ensures device { BreaksBy self.new.is_broken result }
         ensures refusal { IfRefused (λ r. (r ≡ Refusal.Broken) ⊎ (r ≡ Refusal.DeviceFault)) result }
-        ensures broken { IfRefused (λ r. r ≡ Refusal.Broken → IsTrue self.old.is_broken ⊎ IsTrue (is_broken pool.old)) result }
+        ensures broken { IfRefused (λ r. r ≡ Refusal.Broken → IsOneBroken self.old pool.old) result }
         ensures count { D.failures (disk_of pool.new) ≡ failed_calls result + D.failures (disk_of pool.old) }
-        ensures breaks { OnErr result (((self.new ≡ self.old) × (pool.new ≡ pool.old)) ⊎ (IsTrue self.new.is_broken × IsTrue (is_broken pool.new))) }
-        ensures rest { (self.new.roots ≡ self.old.roots) × (self.new.next ≡ self.old.next) × (self.new.number ≡ self.old.number) × (self.new.head ≡ self.old.head) }
+        ensures breaks { OnErr result (StaysOrBreaks self.old pool.old self.new pool.new) }
+        ensures rest { KeepsRootsAndHead self.old self.new }
         ensures stays { pools.Stays ⟦<D as Disk>⟧ pool.old pool.new }
         ensures pool { pool.new ≡ record pool.old { file = pool.new.file; is_sealed = pool.new.is_sealed } }
-        ensures stands { (now : Option Checkpoint) (former : Option Parts) → Stands ⟦<D as Disk>⟧ self.old pool.old now former → Stands ⟦<D as Disk>⟧ self.new pool.new now former }
-        ensures any_moment { (now : Option Checkpoint) (former : Option Parts) → Stands ⟦<D as Disk>⟧ self.old pool.old now former → LeavesOnly ⟦<D as Disk>⟧ (disk_of pool.old) (disk_of pool.new) (HasSlotsOf now former) }
-        ensures next { (now : Option Checkpoint) (former : Option Parts) (parts : Parts) (cells : ℕ → CellOf) → Stands ⟦<D as Disk>⟧ self.old pool.old now former → IsDraft ⟦<D as Disk>⟧ self.old pool.old now parts cells
-            → OnOk result (IsNext ⟦<D as Disk>⟧ self.new pool.new now (checkpoint_of (root_with parts pool.new.frozen) cells)) }
-        ensures elsewhere { (now : Option Checkpoint) (parts : Parts) (cells : ℕ → CellOf) → IsDraft ⟦<D as Disk>⟧ self.old pool.old now parts cells
-            → OnOk result (IsNewElsewhere (root_with parts pool.new.frozen) cells) }
+        ensures stands { StaysStanding self.old pool.old self.new pool.new }
+        ensures any_moment { LeavesSlots self.old pool.old pool.new }
+        ensures next { DraftIsNext self.old pool.old self.new pool.new result }
+        ensures elsewhere { DraftIsNewElsewhere self.old pool.old pool.new result }
     {
         if let Err(fault) = self.ready_to_seal(pool) {
             return Err(fault);
@@ -220,7 +209,7 @@ impl<D: Disk> Checkpointer<D> {
 
     // Whether the pages may be sealed: all are written.
     fn ready_to_seal(&self, pool: &Pool<D>) -> Result<(), CheckpointFault>
-        ensures phase { IsAllowed self.now.is_broken self.now.phase ((self.now.phase ≡ Phase.Flushing) × (pool.now.waiting ≡ [])) result }
+        ensures phase { IsAllowed self.now.is_broken self.now.phase (IsFlushed self.now pool.now) result }
         ensures device { BreaksBy self.now.is_broken result }
         ensures no_call { failed_calls result ≡ 0 }
         ensures refusal { IfRefused (λ r. r ≡ Refusal.Broken) result }
@@ -247,15 +236,15 @@ impl<D: Disk> Checkpointer<D> {
         ensures prepared { OnOk result (self.new.phase ≡ Phase.Prepared) }
         ensures works { OnOk result (self.new.is_broken ≡ false) }
         ensures refused_phase { OnErr result (self.new.phase ≡ self.old.phase) }
-        ensures stands { (root former : Option Parts) → RootsStand ⟦<D as Disk>⟧ self.old.phase self.old.roots root former self.old.body.value.items → OnOk result (RootsStand ⟦<D as Disk>⟧ self.new.phase self.new.roots root former self.new.body.value.items) }
-        ensures any_moment { (now : Option Checkpoint) (former : Option Parts) → RootsStand ⟦<D as Disk>⟧ self.old.phase self.old.roots (root_of now) former self.old.body.value.items → EachNow ⟦<D as Disk>⟧ self.old.roots self.new.roots now former }
+        ensures stands { RootsStayOnOk self.old self.new result }
+        ensures any_moment { LeavesRoots self.old self.new }
         ensures device { BreaksBy self.new.is_broken result }
-        ensures count { pairs.failures ⟦<D as Disk>⟧ self.new.roots ≡ failed_calls result + pairs.failures ⟦<D as Disk>⟧ self.old.roots }
+        ensures count { CountsRoots self.old self.new (failed_calls result) }
         ensures refusal { IfRefused (λ r. (r ≡ Refusal.Broken) ⊎ (r ≡ Refusal.DeviceFault)) result }
-        ensures broken { IfRefused (λ r. r ≡ Refusal.Broken → IsTrue self.old.is_broken ⊎ IsTrue (pairs.is_broken self.old.roots)) result }
+        ensures broken { IfRefused (λ r. r ≡ Refusal.Broken → AreRootsBroken self.old) result }
         ensures breaks { OnErr result ((self.new ≡ self.old) ⊎ IsTrue self.new.is_broken) }
-        ensures rest { (self.new.body ≡ self.old.body) × (self.new.next ≡ self.old.next) × (self.new.number ≡ self.old.number) × (self.new.head ≡ self.old.head) }
-        ensures next { (pool : PoolOf D) (now : Option Checkpoint) (next : Checkpoint) → IsNext ⟦<D as Disk>⟧ self.old pool now next → IsNext ⟦<D as Disk>⟧ self.new pool now next }
+        ensures rest { KeepsBodyAndHead self.old self.new }
+        ensures next { StaysNext self.old self.new }
     {
         if let Err(fault) = self.ready(Phase::Sealed) {
             return Err(fault);
@@ -280,16 +269,16 @@ impl<D: Disk> Checkpointer<D> {
         ensures written { OnOk result (self.new.phase ≡ Phase.Written) }
         ensures works { OnOk result (self.new.is_broken ≡ false) }
         ensures refused_phase { OnErr result (self.new.phase ≡ self.old.phase) }
-        ensures stands { (root former : Option Parts) → RootsStand ⟦<D as Disk>⟧ self.old.phase self.old.roots root former self.old.body.value.items → OnOk result (RootsStand ⟦<D as Disk>⟧ self.new.phase self.new.roots root former self.new.body.value.items) }
-        ensures any_moment { (now : Option Checkpoint) (former : Option Parts) → RootsStand ⟦<D as Disk>⟧ self.old.phase self.old.roots (root_of now) former self.old.body.value.items → EachNow ⟦<D as Disk>⟧ self.old.roots self.new.roots now former }
+        ensures stands { RootsStayOnOk self.old self.new result }
+        ensures any_moment { LeavesRoots self.old self.new }
         ensures device { BreaksBy self.new.is_broken result }
-        ensures count { pairs.failures ⟦<D as Disk>⟧ self.new.roots ≡ failed_calls result + pairs.failures ⟦<D as Disk>⟧ self.old.roots }
-        ensures refusal { IfRefused (λ r. (r ≡ Refusal.OutOfMemory) ⊎ ((r ≡ Refusal.Broken) ⊎ (r ≡ Refusal.DeviceFault))) result }
+        ensures count { CountsRoots self.old self.new (failed_calls result) }
+        ensures refusal { IfRefused IsOfWriting result }
         ensures refused { IfRefused (λ r. r ≡ Refusal.OutOfMemory → self.new ≡ self.old) result }
-        ensures broken { IfRefused (λ r. r ≡ Refusal.Broken → IsTrue self.old.is_broken ⊎ IsTrue (pairs.is_broken self.old.roots)) result }
+        ensures broken { IfRefused (λ r. r ≡ Refusal.Broken → AreRootsBroken self.old) result }
         ensures breaks { OnErr result ((self.new ≡ self.old) ⊎ IsTrue self.new.is_broken) }
-        ensures rest { (self.new.next ≡ self.old.next) × (self.new.number ≡ self.old.number) × (self.new.head ≡ self.old.head) }
-        ensures next { (now : Option Checkpoint) (next : Checkpoint) → IsNext ⟦<D as Disk>⟧ self.old pool.now now next → IsNext ⟦<D as Disk>⟧ self.new pool.now now next }
+        ensures rest { KeepsHead self.old self.new }
+        ensures next { StaysNextOver pool.now self.old self.new }
     {
         if let Err(fault) = self.ready(Phase::Prepared) {
             return Err(fault);
@@ -320,18 +309,16 @@ impl<D: Disk> Checkpointer<D> {
         ensures works { OnOk result (self.new.is_broken ≡ false) }
         ensures refused_phase { OnErr result (self.new.phase ≡ self.old.phase) }
         ensures number { IfOk result (λ n. (n ≡ self.old.next) × (self.new.number ≡ self.old.next)) }
-        ensures answers { (now : Option Checkpoint) (next : Checkpoint) → IsNext ⟦<D as Disk>⟧ self.old pool.old now next → IfOk result (λ n. n ≡ next.root.number) }
+        ensures answers { AnswersNumber self.old pool.old result }
         ensures pool { OnOk result (pool.new ≡ record pool.old { root = pool.old.frozen }) }
         ensures same_pool { OnErr result (pool.new ≡ pool.old) }
         ensures device { BreaksBy self.new.is_broken result }
-        ensures count { pairs.failures ⟦<D as Disk>⟧ self.new.roots ≡ failed_calls result + pairs.failures ⟦<D as Disk>⟧ self.old.roots }
+        ensures count { CountsRoots self.old self.new (failed_calls result) }
         ensures refusal { IfRefused (λ r. (r ≡ Refusal.Broken) ⊎ (r ≡ Refusal.DeviceFault)) result }
-        ensures broken { IfRefused (λ r. r ≡ Refusal.Broken → IsTrue self.old.is_broken ⊎ IsTrue (pairs.is_broken self.old.roots)) result }
+        ensures broken { IfRefused (λ r. r ≡ Refusal.Broken → AreRootsBroken self.old) result }
         ensures breaks { OnErr result ((self.new ≡ self.old) ⊎ IsTrue self.new.is_broken) }
-        ensures stands { (now : Option Checkpoint) (former : Option Parts) (next : Checkpoint) → Stands ⟦<D as Disk>⟧ self.old pool.old now former → IsNext ⟦<D as Disk>⟧ self.old pool.old now next
-            → OnOk result (Stands ⟦<D as Disk>⟧ self.new pool.new (Some next) (root_of now)) }
-        ensures any_moment { (now : Option Checkpoint) (former : Option Parts) (next : Checkpoint) → Stands ⟦<D as Disk>⟧ self.old pool.old now former → IsNext ⟦<D as Disk>⟧ self.old pool.old now next
-            → EachEither ⟦<D as Disk>⟧ self.old.roots self.new.roots now former next }
+        ensures stands { OpensNext self.old pool.old self.new pool.new result }
+        ensures any_moment { LeavesEither self.old pool.old self.new }
     {
         if let Err(fault) = self.ready(Phase::Written) {
             return Err(fault);

@@ -1,6 +1,7 @@
 -- Pages in frames, each in a place of its own.
-use Rattle.std.specs.Prelude.{◌≡◌, ◌≤◌, ◌<◌, ℕ, false, List, [], ◌∷◌, Some, length, get_or, set, slice_get}
+use Rattle.std.specs.Prelude.{◌≡◌, ◌≤◌, ◌<◌, ℕ, true, false, List, [], ◌∷◌, Some, length, get_or, set, slice_get}
 use Rattle.std.specs.List.{AllByRecursion}
+use Rattle.hg_cells.specs.Pages.{filled}
 use Rattle.hg_cells.specs.declared.cell.Cell.{Cell}
 use Rattle.hg_pool.specs.declared.frame.Frame.{Frame}
 use Rattle.hg_pool.specs.declared.frame.Held.{Held}
@@ -34,3 +35,11 @@ HasCell frames page from to cell = (f : Frame) × (frame_in frames page ≡ Some
 -- another frame in the place, of the same page
 abbrev pub with_frame : List Held → ℕ → Frame → List Held
 with_frame held place frame = set held place (record { page = (get_or held place nothing).page; frame = frame })
+
+-- the same where the words of the page in the place have a cell from one up to another
+abbrev pub with_cell : List Held → ℕ → (from to : ℕ) → Cell → List Held
+with_cell held place from to cell = with_frame held place (record { cells = filled (frame_at held place).cells from to cell; is_dirty = true })
+
+-- the same where the page in the place is as it was, and not changed since
+abbrev pub with_clean : List Held → ℕ → List Held
+with_clean held place = with_frame held place (record (frame_at held place) { is_dirty = false })

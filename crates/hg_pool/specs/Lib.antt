@@ -7,5 +7,6 @@ pub mod Tables
 pub mod Frames
 pub mod Sound
 pub mod Reached
+pub mod Calls
 pub mod OfWords
 pub mod Laws

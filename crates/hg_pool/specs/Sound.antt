@@ -1,5 +1,5 @@
 -- What holds of the parts of a pool.
-use Rattle.std.specs.Prelude.{◌≡◌, ◌+◌, ◌≤◌, ◌<◌, ◌^◌, ℕ, Bool, true, List, [], length, Option, Some, None, is_some, IsTrue}
+use Rattle.std.specs.Prelude.{◌≡◌, ◌+◌, ◌≤◌, ◌<◌, ◌^◌, ℕ, Bool, true, false, List, [], length, Option, Some, None, is_some, IsTrue}
 use Rattle.std.specs.Option.{unwrap_or}
 use Rattle.lru.specs.LruCache.{LruCache}
 use Rattle.hg_cells.specs.declared.cell.Cell.{Cell}
@@ -29,6 +29,23 @@ shown_of p = record {
   slots = p.slots;
   is_sealed = p.is_sealed;
 }
+
+-- A page in memory was written: the file, the live table and the frames have changed alone.
+abbrev pub ChangesFrames : {D : Type 0} → (old new : Parts D) → Type 0
+ChangesFrames old new = new ≡ record old { file = new.file; live = new.live; frames = new.frames }
+
+-- A page waits no more: the frozen table, the waiting pages and the copies have changed alone.
+abbrev pub ChangesWaiting : {D : Type 0} → (old new : Parts D) → Type 0
+ChangesWaiting old new = new ≡ record old { frozen = new.frozen; waiting = new.waiting; copies = new.copies }
+
+-- A checkpoint has begun, with this frozen table and these pages that wait.
+abbrev pub HasBegun : {D : Type 0} → tables.Shown → tables.Shown → (old new : Parts D) → Type 0
+HasBegun table waiting old new = new ≡ record old { frozen = Some table; waiting = waiting; copies = new.copies; is_sealed = false }
+
+-- The two tables, what waits, and where a search for slots begins have changed alone.
+abbrev pub ChangesTables : {D : Type 0} → (old new : Parts D) → Type 0
+ChangesTables old new =
+    new ≡ record old { frozen = new.frozen; live = new.live; waiting = new.waiting; copies = new.copies; is_sealed = new.is_sealed; search_from = new.search_from }
 
 -- What holds of a page that waits for this slot: no table names the slot; the page is not written yet; without a copy, it is in
 -- memory as it was frozen; and there is room for its entries.

@@ -1,15 +1,10 @@
 //! The pages that wait are written, and a root that names them is opened.
-ghost use Rattle.std.specs.Prelude.{◌≡◌, ◌⊎◌, ◌↔◌, ◌+◌, ◌<◌, ◌≤◌, ◌^◌, ◌==◌, ℕ, List, [], length, get_or, true, Some, None, Ok, Err, is_some, IsTrue, OnOk, OnErr, IfOk, IfErr, MatchOption, if◌then◌else◌};
-ghost use Rattle.std.specs.Option.{unwrap_or};
-ghost use Rattle.hg_cells.specs.declared.cell.Cell.{Cell as CellOf};
-ghost use Rattle.hg_cells.specs.declared.cell.Cell.TheVariants.{New};
-ghost use Rattle.hg_detect.specs.Words.{failed_after};
-ghost use Rattle.hg_pages.specs.Slots.{IsSlot, slot_text};
+ghost use Rattle.std.specs.Prelude.{◌≡◌, ◌⊎◌, ◌↔◌, ◌+◌, ◌<◌, ◌≤◌, ◌^◌, ◌==◌, [], true, Some, None, Ok, Err, is_some, IsTrue, OnOk, OnErr, IfOk, IfErr, MatchOption, if◌then◌else◌};
 ghost use Rattle.hg_pages.specs.Tables.{slot_in};
-ghost use Rattle.hg_pool.specs.declared.frame.Frame.{Frame as FrameOf};
-ghost use Rattle.hg_pool.specs.Maps.{IsSealed, bytes_of, copy_in, disk_of, frame_in, frozen_at, is_broken};
-ghost use Rattle.hg_pool.specs.Kept.{CellsFrom, IsWhole, Stays};
-ghost use Rattle.hg_pool.specs.Answers.{IsDeviceCause, IsFrozen, least_of, order_of};
+ghost use Rattle.hg_pool.specs.Maps.{is_broken};
+ghost use Rattle.hg_pool.specs.Kept.{CellsFrom, Stays};
+ghost use Rattle.hg_pool.specs.Answers.{IsDeviceCause, IsFrozen, order_of};
+ghost use Rattle.hg_pool.specs.Calls.{CountsFailures, HasWaited, IsNextJob, IsStale, LosesWritten, SealsWhole, WaitsFor};
 
 use crate::job::{Job, Put};
 use crate::parts::{Parts, told};
@@ -40,7 +35,7 @@ impl<D: Disk> Parts<D> {
     /// The page with the least number of those that wait, and its frozen cells.
     pub(crate) fn take_job(&self) -> Option<Job>
         requires sound { IsSound self.now }
-        ensures { MatchOption result (self.now.waiting.entries ≡ []) (λ job. (Some job.page ≡ least_of self.now.waiting.entries) × (is_some (slot_in self.now.waiting.entries job.page) ≡ true) × IsFrozen (shown_of self.now) job.page job.cells) }
+        ensures { IsNextJob (shown_of self.now) result }
     {
         let entries = self.waiting.entries();
         if entries.is_empty() {
@@ -60,8 +55,7 @@ impl<D: Disk> Parts<D> {
     // The slot of a page, where it waits and these are the bytes of its frozen cells.
     fn awaits(&self, page: &EncodedPage) -> Option<u32>
         requires sound { IsSound self.now }
-        ensures { MatchOption result ((slot : ℕ) (cells : List CellOf) → slot_in self.now.waiting.entries page.now.page ≡ Some slot → IsFrozen (shown_of self.now) page.now.page cells → page.now.bytes ≡ slot_text page.now.page cells → ⊥)
-            (λ slot. (slot_in self.now.waiting.entries page.now.page ≡ Some slot) × (cells : List CellOf) × IsFrozen (shown_of self.now) page.now.page cells × IsSlot page.now.page cells page.now.bytes) }
+        ensures { MatchOption result (IsStale (shown_of self.now) page.now) (WaitsFor (shown_of self.now) page.now) }
     {
         match self.waiting.get(page.page()) {
             None => None,
@@ -78,17 +72,17 @@ impl<D: Disk> Parts<D> {
         ensures sound { IsSound self.new }
         ensures reached { IsReached self.old → IsReached self.new }
         ensures stays { Stays ⟦<D as Disk>⟧ (shown_of self.old) (shown_of self.new) }
-        ensures written { IfOk result (λ put. put ≡ Put.Written → (cells : List CellOf) × (is_some (slot_in self.old.waiting.entries page.now.page) ≡ true) × IsFrozen (shown_of self.old) page.now.page cells × IsSlot page.now.page cells page.now.bytes) }
-        ensures stale { IfOk result (λ put. put ≡ Put.Stale → (slot : ℕ) (cells : List CellOf) → slot_in self.old.waiting.entries page.now.page ≡ Some slot → IsFrozen (shown_of self.old) page.now.page cells → page.now.bytes ≡ slot_text page.now.page cells → ⊥) }
+        ensures written { IfOk result (λ put. put ≡ Put.Written → HasWaited (shown_of self.old) page.now) }
+        ensures stale { IfOk result (λ put. put ≡ Put.Stale → IsStale (shown_of self.old) page.now) }
         ensures nothing { IfOk result (λ put. put ≡ Put.Stale → self.new ≡ self.old) }
-        ensures waiting { IfOk result (λ put. put ≡ Put.Written → (q : ℕ) → slot_in self.new.waiting.entries q ≡ (if page.now.page == q then None else slot_in self.old.waiting.entries q)) }
+        ensures waiting { LosesWritten page.now.page self.old.waiting.entries self.new.waiting.entries result }
         ensures refusal { IfErr result IsDeviceCause }
         ensures broken { (result ≡ Err Refusal.Broken) → IsTrue (is_broken (shown_of self.old)) }
         ensures breaks { OnErr result (IsTrue (is_broken (shown_of self.new))) }
         ensures cells { CellsFrom self.old.frames.entries self.new.frames.entries }
         ensures order { order_of (shown_of self.new) ≡ order_of (shown_of self.old) }
         ensures refused { OnErr result (self.new ≡ record self.old { file = self.new.file }) }
-        ensures device { D.failures (disk_of (shown_of self.new)) ≡ failed_after result (D.failures (disk_of (shown_of self.old))) }
+        ensures device { CountsFailures ⟦<D as Disk>⟧ (shown_of self.old) (shown_of self.new) result }
     {
         match self.awaits(page) {
             None => Ok(Put::Stale),
@@ -108,13 +102,13 @@ impl<D: Disk> Parts<D> {
         ensures sound { IsSound self.new }
         ensures reached { IsReached self.old → IsReached self.new }
         ensures stays { Stays ⟦<D as Disk>⟧ (shown_of self.old) (shown_of self.new) }
-        ensures sealed { IsWhole ⟦<D as Disk>⟧ (shown_of self.old) → self.old.waiting.entries ≡ [] → OnOk result (IsSealed ⟦<D as Disk>⟧ (shown_of self.new)) }
+        ensures sealed { SealsWhole ⟦<D as Disk>⟧ (shown_of self.old) (shown_of self.new) result }
         ensures marked { self.old.waiting.entries ≡ [] → OnOk result (IsTrue self.new.is_sealed) }
         ensures rest { self.new ≡ record self.old { file = self.new.file; is_sealed = self.new.is_sealed } }
         ensures refusal { IfErr result IsDeviceCause }
         ensures broken { (result ≡ Err Refusal.Broken) → IsTrue (is_broken (shown_of self.old)) }
         ensures breaks { OnErr result (IsTrue (is_broken (shown_of self.new))) }
-        ensures device { D.failures (disk_of (shown_of self.new)) ≡ failed_after result (D.failures (disk_of (shown_of self.old))) }
+        ensures device { CountsFailures ⟦<D as Disk>⟧ (shown_of self.old) (shown_of self.new) result }
     {
         match self.file.seal() {
             Err(fault) => Err(told(fault)),

@@ -1,6 +1,7 @@
 //! The frozen cells of pages that wait.
-ghost use Rattle.std.specs.Prelude.{◌≡◌, ◌<◌, ◌==◌, ℕ, length, Some, None, OnOk, OnErr, IfErr, if◌then◌else◌};
+ghost use Rattle.std.specs.Prelude.{◌≡◌, ◌<◌, ◌==◌, length, None, OnOk, OnErr, IfErr, if◌then◌else◌};
 ghost use Rattle.hg_pool.specs.Maps.{copy_in};
+ghost use Rattle.hg_pool.specs.Calls.{HasCopied};
 
 use hg_cells::Page;
 use hg_model::verdict::Refusal;
@@ -15,7 +16,7 @@ pub(crate) fn add_copy(
 ) -> Result<(), Refusal>
     requires absent { copy_in copies.old.entries page ≡ None }
     requires room { length copies.old.entries < copies.old.cap }
-    ensures looks { OnOk result ((q : ℕ) → copy_in copies.new.entries q ≡ (if page == q then Some cells.now else copy_in copies.old.entries q)) }
+    ensures looks { OnOk result (HasCopied page cells.now copies.old.entries copies.new.entries) }
     ensures cap { copies.new.cap ≡ copies.old.cap }
     ensures refused { OnErr result (copies.new ≡ copies.old) }
     ensures refusal { IfErr result (λ r. r ≡ Refusal.OutOfMemory) }

@@ -1,17 +1,12 @@
 //! Pages leave their frames, and those that were changed are written first.
-ghost use Rattle.std.specs.Prelude.{◌≡◌, ◌≢◌, ◌⊎◌, ◌↔◌, ◌+◌, ◌-◌, ◌<◌, ◌≤◌, ◌^◌, ℕ, nat_eq, List, [], ◌∷◌, ◌++◌, length, map, take, get_or, true, false, Some, None, Ok, Err, is_some, IsTrue, OnOk, OnErr, IfOk, IfErr, MatchOption, ◌==◌, if◌then◌else◌};
-ghost use Rattle.std.specs.Map.{remove_entry};
-ghost use Rattle.lru.specs.LruCache.{last_entry};
-ghost use Rattle.hg_cells.specs.declared.cell.Cell.{Cell as CellOf};
-ghost use Rattle.hg_cells.specs.declared.cell.Cell.TheVariants.{New};
-ghost use Rattle.hg_detect.specs.Words.{failed_after};
-ghost use Rattle.hg_pages.specs.Slots.{IsSlot};
+ghost use Rattle.std.specs.Prelude.{◌≡◌, ◌≢◌, ◌⊎◌, ◌↔◌, ◌+◌, ◌-◌, ◌<◌, ◌≤◌, ◌^◌, [], ◌∷◌, ◌++◌, length, map, true, false, Some, None, Ok, Err, is_some, IsTrue, OnOk, OnErr, IfOk, IfErr, ◌==◌, if◌then◌else◌};
 ghost use Rattle.hg_pages.specs.Tables.{IsNamed, slot_in};
 ghost use Rattle.hg_pool.specs.declared.frame.Frame.{Frame as FrameOf};
-ghost use Rattle.hg_pool.specs.Maps.{bytes_of, copy_in, disk_of, frame_in, frozen_at, is_broken};
+ghost use Rattle.hg_pool.specs.Maps.{copy_in, frame_in, is_broken};
 ghost use Rattle.hg_pool.specs.Kept.{CellsFrom, Stays};
 ghost use Rattle.hg_pool.specs.Answers.{IsDeviceCause, IsTaken, IsTrueCause, order_of};
 ghost use Rattle.hg_pool.specs.Picking.{IsLeastFree, TakesLeastFree};
+ghost use Rattle.hg_pool.specs.Calls.{AreOfEither, ArePagesOf, CountsFailures, EncodesFrame, HasFreed, IsBroken, IsClean, IsCleanIfUncopied, IsOfFrame, IsOfFrozen, IsWith, IsWithout, MayBegin, MayChange, order_with_room};
 
 use crate::parts::Parts;
 use hg_disk::Disk;
@@ -21,13 +16,13 @@ use std::alloc::AllocError;
 
 impl<D: Disk> Parts<D> {
     ghost use Rattle.hg_pool.specs.Reached.{IsReached};
-    ghost use Rattle.hg_pool.specs.Sound.{IsSound, frozen_of, shown_of};
+    ghost use Rattle.hg_pool.specs.Sound.{IsSound, frozen_of, shown_of, ChangesFrames};
 
     // A page that is in memory as the bytes of its slot.
     fn encoded(&self, page: u64) -> Result<EncodedPage, AllocError>
         requires sound { IsSound self.now }
         ensures page { IfOk result (λ encoded. encoded.page ≡ page) }
-        ensures slot { (f : FrameOf) → frame_in self.now.frames.entries page ≡ Some f → IfOk result (λ encoded. IsSlot page f.cells encoded.bytes) }
+        ensures slot { EncodesFrame self.now.frames.entries page result }
     {
         match self.frames.get(page) {
             Some(frame) => encode(self.alloc, page, &frame.cells),
@@ -39,22 +34,21 @@ impl<D: Disk> Parts<D> {
     pub(crate) fn write_waiting(&mut self, slot: u32, encoded: &EncodedPage) -> Result<(), Refusal>
         requires sound { IsSound self.old }
         requires waits { slot_in self.old.waiting.entries encoded.now.page ≡ Some slot }
-        requires stands { (cells : List CellOf) × IsSlot encoded.now.page cells encoded.now.bytes
-            × ((i : ℕ) → i < 256 → get_or cells i New ≡ frozen_at (bytes_of ⟦<D as Disk>⟧ (shown_of self.old)) (shown_of self.old) encoded.now.page i) }
-        requires as_frozen { copy_in self.old.copies.entries encoded.now.page ≡ None → (f : FrameOf) → frame_in self.old.frames.entries encoded.now.page ≡ Some f → IsSlot encoded.now.page f.cells encoded.now.bytes }
+        requires stands { IsOfFrozen ⟦<D as Disk>⟧ (shown_of self.old) encoded.now }
+        requires as_frozen { IsOfFrame (shown_of self.old) encoded.now }
         ensures sound { IsSound self.new }
         ensures stays { Stays ⟦<D as Disk>⟧ (shown_of self.old) (shown_of self.new) }
         ensures refusal { IfErr result IsDeviceCause }
-        ensures device { D.failures (disk_of (shown_of self.new)) ≡ failed_after result (D.failures (disk_of (shown_of self.old))) }
+        ensures device { CountsFailures ⟦<D as Disk>⟧ (shown_of self.old) (shown_of self.new) result }
         ensures cells { CellsFrom self.old.frames.entries self.new.frames.entries }
         ensures breaks { OnErr result (IsTrue (is_broken (shown_of self.new))) }
-        ensures refuses { IsTrue (is_broken (shown_of self.old)) → (result ≡ Err Refusal.Broken) × (self.new ≡ self.old) }
+        ensures refuses { IsBroken (shown_of self.old) → (result ≡ Err Refusal.Broken) × (self.new ≡ self.old) }
         ensures broken { (result ≡ Err Refusal.Broken) → IsTrue (is_broken (shown_of self.old)) }
         ensures order { map (λ e. e.0) self.new.frames.entries ≡ map (λ e. e.0) self.old.frames.entries }
-        ensures slots { (q s : ℕ) → slot_in self.new.live.entries q ≡ Some s → (slot_in self.old.live.entries q ≡ Some s) ⊎ (slot_in self.old.waiting.entries q ≡ Some s) }
+        ensures slots { AreOfEither self.old.live.entries self.old.waiting.entries self.new.live.entries }
         ensures search { self.new.search_from ≡ self.old.search_from }
-        ensures clean { copy_in self.old.copies.entries encoded.now.page ≡ None → OnOk result ((f : FrameOf) → frame_in self.new.frames.entries encoded.now.page ≡ Some f → f.is_dirty ≡ false) }
-        ensures waiting { OnOk result ((q : ℕ) → slot_in self.new.waiting.entries q ≡ (if encoded.now.page == q then None else slot_in self.old.waiting.entries q)) }
+        ensures clean { IsCleanIfUncopied self.old.copies.entries self.new.frames.entries encoded.now.page result }
+        ensures waiting { OnOk result (IsWithout encoded.now.page self.old.waiting.entries self.new.waiting.entries) }
         ensures refused { OnErr result (self.new ≡ record self.old { file = self.new.file }) }
     {
         self.write_unnamed(slot, encoded)?;
@@ -68,19 +62,19 @@ impl<D: Disk> Parts<D> {
     fn write_changed(&mut self, page: u64, slot: u32) -> Result<(), Refusal>
         requires sound { IsSound self.old }
         requires present { is_some (frame_in self.old.frames.entries page) ≡ true }
-        requires settled { (slot_in self.old.waiting.entries page ≡ None) ⊎ (is_some (copy_in self.old.copies.entries page) ≡ true) }
+        requires settled { MayChange (shown_of self.old) page }
         requires free { ¬ IsTaken (shown_of self.old) slot }
         requires within { slot < self.old.slots }
         ensures sound { IsSound self.new }
         ensures stays { Stays ⟦<D as Disk>⟧ (shown_of self.old) (shown_of self.new) }
         ensures refusal { IfErr result (IsTrueCause (shown_of self.old) (shown_of self.new)) }
         ensures undamaged { IfErr result (λ r. r ≢ Refusal.Damaged) }
-        ensures device { D.failures (disk_of (shown_of self.new)) ≡ failed_after result (D.failures (disk_of (shown_of self.old))) }
+        ensures device { CountsFailures ⟦<D as Disk>⟧ (shown_of self.old) (shown_of self.new) result }
         ensures cells { CellsFrom self.old.frames.entries self.new.frames.entries }
         ensures order { map (λ e. e.0) self.new.frames.entries ≡ map (λ e. e.0) self.old.frames.entries }
-        ensures clean { OnOk result ((f : FrameOf) → frame_in self.new.frames.entries page ≡ Some f → f.is_dirty ≡ false) }
-        ensures rest { self.new ≡ record self.old { file = self.new.file; live = self.new.live; frames = self.new.frames } }
-        ensures slots { OnOk result ((q : ℕ) → slot_in self.new.live.entries q ≡ (if page == q then Some slot else slot_in self.old.live.entries q)) }
+        ensures clean { OnOk result (IsClean self.new.frames.entries page) }
+        ensures rest { ChangesFrames self.old self.new }
+        ensures slots { OnOk result (IsWith page slot self.old.live.entries self.new.live.entries) }
         ensures refused { OnErr result (self.new.live.entries ≡ self.old.live.entries) }
     {
         let Ok(encoded) = self.encoded(page) else {
@@ -104,7 +98,7 @@ impl<D: Disk> Parts<D> {
 
     // Where the next search for a free slot begins: at the slot that was found, or at the page's former slot where that is free then.
     fn next_search(&self, found: u32, former: Option<u32>) -> u32
-        ensures { (slot : ℕ) → slot < result → (slot < found) × (former ≡ Some slot → IsNamed self.now.root.entries slot ⊎ IsNamed (frozen_of self.now).entries slot) }
+        ensures { MayBegin self.now.root.entries (frozen_of self.now).entries found former result }
     {
         match former {
             None => found,
@@ -122,7 +116,7 @@ impl<D: Disk> Parts<D> {
     fn write_searched(&mut self, page: u64, slot: u32) -> Result<(), Refusal>
         requires sound { IsSound self.old }
         requires present { is_some (frame_in self.old.frames.entries page) ≡ true }
-        requires settled { (slot_in self.old.waiting.entries page ≡ None) ⊎ (is_some (copy_in self.old.copies.entries page) ≡ true) }
+        requires settled { MayChange (shown_of self.old) page }
         requires least { IsLeastFree (shown_of self.old) slot }
         requires within { slot < self.old.slots }
         ensures sound { IsSound self.new }
@@ -131,10 +125,10 @@ impl<D: Disk> Parts<D> {
         ensures stays { Stays ⟦<D as Disk>⟧ (shown_of self.old) (shown_of self.new) }
         ensures refusal { IfErr result (IsTrueCause (shown_of self.old) (shown_of self.new)) }
         ensures undamaged { IfErr result (λ r. r ≢ Refusal.Damaged) }
-        ensures device { D.failures (disk_of (shown_of self.new)) ≡ failed_after result (D.failures (disk_of (shown_of self.old))) }
+        ensures device { CountsFailures ⟦<D as Disk>⟧ (shown_of self.old) (shown_of self.new) result }
         ensures cells { CellsFrom self.old.frames.entries self.new.frames.entries }
         ensures order { map (λ e. e.0) self.new.frames.entries ≡ map (λ e. e.0) self.old.frames.entries }
-        ensures clean { OnOk result ((f : FrameOf) → frame_in self.new.frames.entries page ≡ Some f → f.is_dirty ≡ false) }
+        ensures clean { OnOk result (IsClean self.new.frames.entries page) }
     {
         let former = self.live.get(page);
         self.search_from = self.next_search(slot, former);
@@ -162,10 +156,10 @@ impl<D: Disk> Parts<D> {
         ensures stays { Stays ⟦<D as Disk>⟧ (shown_of self.old) (shown_of self.new) }
         ensures refusal { IfErr result (IsTrueCause (shown_of self.old) (shown_of self.new)) }
         ensures undamaged { IfErr result (λ r. r ≢ Refusal.Damaged) }
-        ensures device { D.failures (disk_of (shown_of self.new)) ≡ failed_after result (D.failures (disk_of (shown_of self.old))) }
+        ensures device { CountsFailures ⟦<D as Disk>⟧ (shown_of self.old) (shown_of self.new) result }
         ensures cells { CellsFrom self.old.frames.entries self.new.frames.entries }
         ensures order { map (λ e. e.0) self.new.frames.entries ≡ map (λ e. e.0) self.old.frames.entries }
-        ensures clean { OnOk result ((f : FrameOf) → frame_in self.new.frames.entries page ≡ Some f → f.is_dirty ≡ false) }
+        ensures clean { OnOk result (IsClean self.new.frames.entries page) }
     {
         self.search_from = 0;
         let Ok(encoded) = self.encoded(page) else {
@@ -185,10 +179,10 @@ impl<D: Disk> Parts<D> {
         ensures stays { Stays ⟦<D as Disk>⟧ (shown_of self.old) (shown_of self.new) }
         ensures refusal { IfErr result (IsTrueCause (shown_of self.old) (shown_of self.new)) }
         ensures undamaged { IfErr result (λ r. r ≢ Refusal.Damaged) }
-        ensures device { D.failures (disk_of (shown_of self.new)) ≡ failed_after result (D.failures (disk_of (shown_of self.old))) }
+        ensures device { CountsFailures ⟦<D as Disk>⟧ (shown_of self.old) (shown_of self.new) result }
         ensures cells { CellsFrom self.old.frames.entries self.new.frames.entries }
         ensures order { map (λ e. e.0) self.new.frames.entries ≡ map (λ e. e.0) self.old.frames.entries }
-        ensures clean { OnOk result ((f : FrameOf) → frame_in self.new.frames.entries page ≡ Some f → f.is_dirty ≡ false) }
+        ensures clean { OnOk result (IsClean self.new.frames.entries page) }
     {
         if !self.is_dirty(page) {
             return Ok(());
@@ -215,12 +209,12 @@ impl<D: Disk> Parts<D> {
         ensures stays { Stays ⟦<D as Disk>⟧ (shown_of self.old) (shown_of self.new) }
         ensures refusal { IfErr result (IsTrueCause (shown_of self.old) (shown_of self.new)) }
         ensures undamaged { IfErr result (λ r. r ≢ Refusal.Damaged) }
-        ensures device { D.failures (disk_of (shown_of self.new)) ≡ failed_after result (D.failures (disk_of (shown_of self.old))) }
+        ensures device { CountsFailures ⟦<D as Disk>⟧ (shown_of self.old) (shown_of self.new) result }
         ensures cells { CellsFrom self.old.frames.entries self.new.frames.entries }
         ensures none { result ≡ Ok None → (self.new ≡ self.old) × (self.old.frames.entries ≡ []) }
-        ensures freed { IfOk result (λ page. MatchOption page (self.old.frames.entries ≡ []) (λ n. order_of (shown_of self.old) ≡ order_of (shown_of self.new) ++ n ∷ [])) }
+        ensures freed { IfOk result (HasFreed (shown_of self.old) (shown_of self.new)) }
         ensures kept { OnErr result (order_of (shown_of self.new) ≡ order_of (shown_of self.old)) }
-        ensures fewer { (q : ℕ) → is_some (frame_in self.new.frames.entries q) ≡ true → is_some (frame_in self.old.frames.entries q) ≡ true }
+        ensures fewer { ArePagesOf self.new.frames.entries self.old.frames.entries }
     {
         let _count = self.frames.len();
         let page = match self.frames.oldest() {
@@ -242,12 +236,12 @@ impl<D: Disk> Parts<D> {
         ensures stays { Stays ⟦<D as Disk>⟧ (shown_of self.old) (shown_of self.new) }
         ensures refusal { IfErr result (IsTrueCause (shown_of self.old) (shown_of self.new)) }
         ensures undamaged { IfErr result (λ r. r ≢ Refusal.Damaged) }
-        ensures device { D.failures (disk_of (shown_of self.new)) ≡ failed_after result (D.failures (disk_of (shown_of self.old))) }
+        ensures device { CountsFailures ⟦<D as Disk>⟧ (shown_of self.old) (shown_of self.new) result }
         ensures cells { CellsFrom self.old.frames.entries self.new.frames.entries }
         ensures room { OnOk result (length self.new.frames.entries < self.new.frames.cap) }
         ensures quiet { length self.old.frames.entries < self.old.frames.cap → self.new ≡ self.old }
-        ensures order { OnOk result (order_of (shown_of self.new) ≡ take (self.old.frames.cap - 1) (order_of (shown_of self.old))) }
-        ensures fewer { (q : ℕ) → is_some (frame_in self.new.frames.entries q) ≡ true → is_some (frame_in self.old.frames.entries q) ≡ true }
+        ensures order { OnOk result (order_of (shown_of self.new) ≡ order_with_room (shown_of self.old)) }
+        ensures fewer { ArePagesOf self.new.frames.entries self.old.frames.entries }
     {
         if self.frames.len() < self.frames.most() {
             return Ok(());

@@ -1,16 +1,14 @@
 //! Pages in frames, in the order of their use.
-ghost use Rattle.std.specs.Prelude.{◌≡◌, ◌≢◌, ◌⊎◌, ◌↔◌, ◌+◌, ◌<◌, ◌≤◌, ◌==◌, ◌^◌, ℕ, nat_eq, List, [], ◌∷◌, length, map, get_or, option_map, option_copied, Some, None, true, false, is_some, set, OnOk, OnErr, IfOk, IfErr, IfSome, IsTrue, if◌then◌else◌};
-ghost use Rattle.std.specs.Map.{lookup, remove_entry, keys_of};
+ghost use Rattle.std.specs.Prelude.{◌≡◌, ◌≢◌, ◌⊎◌, ◌↔◌, ◌+◌, ◌<◌, ◌≤◌, ◌==◌, ◌^◌, ℕ, nat_eq, List, [], ◌∷◌, length, option_map, option_copied, Some, None, true, false, is_some, OnOk, OnErr, IfOk, IfSome, if◌then◌else◌};
+ghost use Rattle.std.specs.Map.{remove_entry, keys_of};
 ghost use Rattle.std.specs.NonZero.{non_zero_usize_get};
-ghost use Rattle.std.specs.Set.{remove_key};
 ghost use Rattle.lru.specs.LruCache.{LruCache as Entries, IsValid, last_entry, promoted};
-ghost use Rattle.hg_cells.specs.Pages.{filled};
 ghost use Rattle.hg_pool.specs.declared.frame.Frame.{Frame as FrameOf};
 ghost use Rattle.hg_pages.specs.Tables.{slot_in};
-ghost use Rattle.hg_pool.specs.Frames.{AreHeld, HasCell, HasPage, frame_at, framed, with_frame};
+ghost use Rattle.hg_pool.specs.Frames.{AreHeld, HasCell, HasPage, frame_at, framed, with_cell, with_clean};
 ghost use Rattle.hg_pool.specs.Maps.{frame_in};
-ghost use Rattle.hg_pool.specs.Picking.{HasDirty};
 ghost use Rattle.hg_recency.specs.Entries.{IsFree};
+ghost use Rattle.hg_pool.specs.Calls.{CleansFrame, FillsFrame, IsFreePlace, NamesDirty, Notes};
 
 use crate::frame::{Frame, Held};
 use hg_cells::Cell;
@@ -56,7 +54,7 @@ impl Model for Frames {
 // A place that a page left, and that no other has.
 fn free_place(order: &Recency, held: &Vec<Held>, left: &mut Vec<u32>) -> Option<u32>
     requires { AreHeld held.now.items order.now.entries }
-    ensures { IfSome result (λ place. (place < length held.now.items) × (place < order.now.cap) × IsFree place order.now.entries) }
+    ensures { IfSome result (IsFreePlace (length held.now.items) order.now.cap order.now.entries) }
 {
     let _count = order.len();
     let place = left.pop()?;
@@ -116,7 +114,7 @@ fn fill_at(held: &mut Vec<Held>, place: u32, from: usize, to: usize, cell: Cell)
     requires place { place < length held.old.items }
     requires in_order { from ≤ to }
     requires in_page { to ≤ 256 }
-    ensures held { held.new.items ≡ with_frame held.old.items place (record { cells = filled (frame_at held.old.items place).cells from to cell; is_dirty = true }) }
+    ensures held { held.new.items ≡ with_cell held.old.items place from to cell }
     ensures words { length (frame_at held.old.items place).cells ≡ 256 }
 {
     let frame = &mut held[place as usize].frame;
@@ -127,7 +125,7 @@ fn fill_at(held: &mut Vec<Held>, place: u32, from: usize, to: usize, cell: Cell)
 // Marks the page in a place as one that its slot has.
 fn clean_at(held: &mut Vec<Held>, place: u32)
     requires place { place < length held.old.items }
-    ensures held { held.new.items ≡ with_frame held.old.items place (record (frame_at held.old.items place) { is_dirty = false }) }
+    ensures held { held.new.items ≡ with_clean held.old.items place }
 {
     held[place as usize].frame.is_dirty = false;
 }
@@ -135,7 +133,7 @@ fn clean_at(held: &mut Vec<Held>, place: u32)
 // Adds a page that was changed to a table, under its place in the order of use.
 fn note(table: &mut Table, page: u64, place: u32, frame: &Frame) -> Result<(), AllocError>
     requires { (q slot : ℕ) → slot_in table.old.entries q ≡ Some slot → slot < place }
-    ensures looks { OnOk result ((q : ℕ) → slot_in table.new.entries q ≡ (if frame.now.is_dirty then (if page == q then Some place else slot_in table.old.entries q) else slot_in table.old.entries q)) }
+    ensures looks { OnOk result (Notes page place frame.now.is_dirty table.old.entries table.new.entries) }
     ensures few { OnOk result (length table.new.entries ≤ length table.old.entries + 1) }
 {
     if !frame.is_dirty {
@@ -148,7 +146,7 @@ fn note(table: &mut Table, page: u64, place: u32, frame: &Frame) -> Result<(), A
 fn changed_pages(alloc: Global, order: &Recency, held: &Vec<Held>) -> Result<Table, AllocError>
     requires held { AreHeld held.now.items order.now.entries }
     requires few { length (framed held.now.items order.now.entries) ≤ 4096 }
-    ensures pages { IfOk result (λ table. (q : ℕ) → (is_some (slot_in table.entries q) ≡ true) ↔ HasDirty (framed held.now.items order.now.entries) q) }
+    ensures pages { IfOk result (λ table. NamesDirty (framed held.now.items order.now.entries) table.entries) }
     ensures few { IfOk result (λ table. length table.entries ≤ length (framed held.now.items order.now.entries)) }
 {
     let _count = order.len();
@@ -288,8 +286,7 @@ impl Frames {
     /// Marks a page as one that its slot has.
     pub(crate) fn mark_clean(&mut self, page: u64)
         requires { is_some (frame_in self.old.entries page) ≡ true }
-        ensures frames { (f : FrameOf) → frame_in self.old.entries page ≡ Some f
-            → (q : ℕ) → frame_in self.new.entries q ≡ (if page == q then Some (record f { is_dirty = false }) else frame_in self.old.entries q) }
+        ensures frames { CleansFrame page self.old.entries self.new.entries }
         ensures order { keys_of self.new.entries ≡ keys_of self.old.entries }
         ensures cap { self.new.cap ≡ self.old.cap }
     {
@@ -304,8 +301,7 @@ impl Frames {
         requires page { is_some (frame_in self.old.entries page) ≡ true }
         requires in_order { from ≤ to }
         requires in_page { to ≤ 256 }
-        ensures frames { (f : FrameOf) → frame_in self.old.entries page ≡ Some f
-            → (q : ℕ) → frame_in self.new.entries q ≡ (if page == q then Some (record { cells = filled f.cells from to cell; is_dirty = true }) else frame_in self.old.entries q) }
+        ensures frames { FillsFrame page from to cell self.old.entries self.new.entries }
         ensures words { (f : FrameOf) → frame_in self.old.entries page ≡ Some f → length f.cells ≡ 256 }
         ensures order { keys_of self.new.entries ≡ keys_of (promoted (nat_eq page) self.old.entries) }
         ensures cap { self.new.cap ≡ self.old.cap }
@@ -319,7 +315,7 @@ impl Frames {
     /// The pages that were changed, each with its place in the order of use.
     pub(crate) fn changed(&self, alloc: Global) -> Result<Table, AllocError>
         requires { length self.now.entries ≤ 4096 }
-        ensures pages { IfOk result (λ table. (q : ℕ) → (is_some (slot_in table.entries q) ≡ true) ↔ HasDirty self.now.entries q) }
+        ensures pages { IfOk result (λ table. NamesDirty self.now.entries table.entries) }
         ensures few { IfOk result (λ table. length table.entries ≤ length self.now.entries) }
     {
         changed_pages(alloc, &self.order, &self.held)

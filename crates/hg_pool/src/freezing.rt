@@ -1,10 +1,10 @@
 //! The live map is fixed as the frozen one.
-ghost use Rattle.std.specs.Prelude.{◌≡◌, ◌⊎◌, ◌↔◌, ◌+◌, ◌<◌, ◌≤◌, ◌^◌, ◌==◌, ℕ, nat_eq, List, [], ◌∷◌, length, get_or, true, false, Some, None, Ok, Err, is_some, IsTrue, OnOk, OnErr, IfOk, IfErr, MatchOption, take, if◌then◌else◌};
-ghost use Rattle.hg_pages.specs.Tables.{IsNamed, slot_in};
+ghost use Rattle.std.specs.Prelude.{◌≡◌, ◌⊎◌, ◌↔◌, ◌+◌, ◌<◌, ◌≤◌, ◌^◌, ◌==◌, ℕ, [], ◌∷◌, length, true, false, Some, None, Ok, Err, is_some, OnOk, OnErr, IfOk, IfErr, MatchOption, if◌then◌else◌};
+ghost use Rattle.hg_pages.specs.Tables.{slot_in};
 ghost use Rattle.hg_pool.specs.Maps.{frozen, live};
 ghost use Rattle.hg_pool.specs.Kept.{IsWhole, SameMap};
-ghost use Rattle.hg_pool.specs.Answers.{IsTaken};
 ghost use Rattle.hg_pool.specs.Picking.{AreLeastFree, ArePicks, HasDirty, IsFreezeCause, IsFreezeRefusal};
+ghost use Rattle.hg_pool.specs.Calls.{AreFree, AreLeft, AreTakenFrom, FreezesLive, FreezesOnOk, HasRoomFor, IsFirstFree, NamesDirty};
 
 use crate::frames::Frames;
 use crate::parts::Parts;
@@ -16,7 +16,7 @@ use std::alloc::Global;
 // The pages that were changed, each with its place in the order of use.
 fn changed_pages(alloc: Global, frames: &Frames) -> Result<Table, Refusal>
     requires { length frames.now.entries ≤ 4096 }
-    ensures pages { IfOk result (λ table. (q : ℕ) → (is_some (slot_in table.entries q) ≡ true) ↔ HasDirty frames.now.entries q) }
+    ensures pages { IfOk result (λ table. NamesDirty frames.now.entries table.entries) }
     ensures few { IfOk result (λ table. length table.entries ≤ length frames.now.entries) }
     ensures refusal { IfErr result (λ r. r ≡ Refusal.OutOfMemory) }
 {
@@ -28,7 +28,7 @@ fn changed_pages(alloc: Global, frames: &Frames) -> Result<Table, Refusal>
 
 // A table without these pages.
 fn without(alloc: Global, table: &Table, pages: &Table) -> Result<Table, Refusal>
-    ensures looks { IfOk result (λ left. (q : ℕ) → slot_in left.entries q ≡ (if is_some (slot_in pages.now.entries q) then None else slot_in table.now.entries q)) }
+    ensures looks { IfOk result (λ left. AreLeft pages.now.entries table.now.entries left.entries) }
     ensures fewer { IfOk result (λ left. length left.entries ≤ length table.now.entries) }
     ensures refusal { IfErr result (λ r. r ≡ Refusal.OutOfMemory) }
 {
@@ -57,13 +57,12 @@ fn make_roomy(table: &mut Table, count: usize, slots: u32) -> Result<(), Refusal
 
 impl<D: Disk> Parts<D> {
     ghost use Rattle.hg_pool.specs.Reached.{IsReached};
-    ghost use Rattle.hg_pool.specs.Sound.{IsSound, shown_of};
+    ghost use Rattle.hg_pool.specs.Sound.{IsSound, shown_of, ChangesTables, HasBegun};
 
     /// The least slot from this one on that nothing names.
     pub(crate) fn free_slot_from(&self, from: u32) -> Option<u32>
         requires sound { IsSound self.now }
-        ensures { MatchOption result ((slot : ℕ) → from ≤ slot → slot < self.now.slots → IsTaken (shown_of self.now) slot)
-            (λ free. (from ≤ free) × (free < self.now.slots) × (¬ IsTaken (shown_of self.now) free) × ((slot : ℕ) → from ≤ slot → slot < free → IsTaken (shown_of self.now) slot)) }
+        ensures { MatchOption result (AreTakenFrom (shown_of self.now) from) (IsFirstFree (shown_of self.now) from) }
     {
         let tables = [&self.root, self.frozen_table(), &self.live, &self.waiting];
         match self.file.free_slot_from(from, &tables) {
@@ -96,15 +95,15 @@ impl<D: Disk> Parts<D> {
     fn begin(&mut self, waiting: Table, table: Table)
         requires sound { IsSound self.old }
         requires dirty { (q : ℕ) → (is_some (slot_in waiting.entries q) ≡ true) ↔ HasDirty self.old.frames.entries q }
-        requires free { (q slot : ℕ) → slot_in waiting.entries q ≡ Some slot → (¬ IsTaken (shown_of self.old) slot) × (slot < self.old.slots) }
+        requires free { AreFree (shown_of self.old) waiting.entries }
         requires few { length waiting.entries ≤ self.old.frames.cap }
-        requires left { (q : ℕ) → slot_in table.entries q ≡ (if is_some (slot_in waiting.entries q) then None else slot_in self.old.live.entries q) }
-        requires frozen_room { (length table.entries + length waiting.entries ≤ table.capacity) × (self.old.slots ≤ table.slots) }
-        requires live_room { (length self.old.live.entries + length waiting.entries ≤ self.old.live.capacity) × (self.old.slots ≤ self.old.live.slots) }
+        requires left { AreLeft waiting.entries self.old.live.entries table.entries }
+        requires frozen_room { HasRoomFor waiting.entries self.old.slots table }
+        requires live_room { HasRoomFor waiting.entries self.old.slots self.old.live }
         ensures sound { IsSound self.new }
-        ensures frozen { IsWhole ⟦<D as Disk>⟧ (shown_of self.old) → SameMap (live ⟦<D as Disk>⟧ (shown_of self.old)) (frozen ⟦<D as Disk>⟧ (shown_of self.new)) }
+        ensures frozen { FreezesLive ⟦<D as Disk>⟧ (shown_of self.old) (shown_of self.new) }
         ensures whole { IsWhole ⟦<D as Disk>⟧ (shown_of self.old) → IsWhole ⟦<D as Disk>⟧ (shown_of self.new) }
-        ensures rest { self.new ≡ record self.old { frozen = Some table; waiting = waiting; copies = self.new.copies; is_sealed = false } }
+        ensures rest { HasBegun table waiting self.old self.new }
         ensures copies { self.new.copies.entries ≡ [] }
     {
         self.waiting = waiting;
@@ -118,12 +117,12 @@ impl<D: Disk> Parts<D> {
         requires sound { IsSound self.old }
         ensures sound { IsSound self.new }
         ensures reached { IsReached self.new }
-        ensures frozen { IsWhole ⟦<D as Disk>⟧ (shown_of self.old) → OnOk result (SameMap (live ⟦<D as Disk>⟧ (shown_of self.old)) (frozen ⟦<D as Disk>⟧ (shown_of self.new))) }
+        ensures frozen { FreezesOnOk ⟦<D as Disk>⟧ (shown_of self.old) (shown_of self.new) result }
         ensures live { SameMap (live ⟦<D as Disk>⟧ (shown_of self.old)) (live ⟦<D as Disk>⟧ (shown_of self.new)) }
         ensures whole { IsWhole ⟦<D as Disk>⟧ (shown_of self.old) → IsWhole ⟦<D as Disk>⟧ (shown_of self.new) }
-        ensures waiting { OnOk result ((q : ℕ) → (is_some (slot_in self.new.waiting.entries q) ≡ true) ↔ HasDirty self.old.frames.entries q) }
+        ensures waiting { OnOk result (NamesDirty self.old.frames.entries self.new.waiting.entries) }
         ensures picked { OnOk result (AreLeastFree (shown_of self.old) self.new.waiting.entries) }
-        ensures rest { self.new ≡ record self.old { frozen = self.new.frozen; live = self.new.live; waiting = self.new.waiting; copies = self.new.copies; is_sealed = self.new.is_sealed; search_from = self.new.search_from } }
+        ensures rest { ChangesTables self.old self.new }
         ensures table { self.new.live.entries ≡ self.old.live.entries }
         ensures sealed { OnOk result (self.new.is_sealed ≡ false) }
         ensures refused { OnErr result (shown_of self.new ≡ shown_of self.old) }

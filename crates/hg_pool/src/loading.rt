@@ -1,17 +1,13 @@
 //! Pages come into frames, and are changed there.
-ghost use Rattle.std.specs.Prelude.{◌≡◌, ◌≢◌, ◌⊎◌, ◌+◌, ◌/◌, ◌<◌, ◌≤◌, ◌^◌, ◌==◌, ℕ, List, ◌∷◌, length, get_or, true, false, Some, None, is_some, IsTrue, OnOk, OnErr, IfOk, IfErr, IfSome, if◌then◌else◌};
+ghost use Rattle.std.specs.Prelude.{◌≡◌, ◌≢◌, ◌⊎◌, ◌+◌, ◌/◌, ◌<◌, ◌≤◌, ◌^◌, ◌==◌, ℕ, ◌∷◌, length, get_or, true, Some, None, is_some, OnOk, IfOk, IfErr, IfSome, if◌then◌else◌};
 ghost use Rattle.hg_cells.specs.declared.cell.Cell.TheVariants.{New};
 ghost use Rattle.hg_cells.specs.Cells.{IsWithin};
-ghost use Rattle.hg_cells.specs.Pages.{filled};
-ghost use Rattle.hg_detect.specs.Words.{failed_after};
-ghost use Rattle.hg_pages.specs.Slots.{IsKnown};
-ghost use Rattle.hg_pages.specs.Tables.{slot_in};
-ghost use Rattle.hg_pool.specs.declared.frame.Frame.{Frame as FrameOf};
 ghost use Rattle.hg_pool.specs.Frames.{HasCell};
-ghost use Rattle.hg_pool.specs.Maps.{bytes_of, copy_in, disk_of, frame_in, in_slot, live};
-ghost use Rattle.hg_pool.specs.Kept.{AreWithin, IsWhole, Stays, Went};
+ghost use Rattle.hg_pool.specs.Maps.{frame_in};
+ghost use Rattle.hg_pool.specs.Kept.{AreWithin, Stays, Went};
 ghost use Rattle.hg_pool.specs.Answers.{IsTrueCause, order_of, order_with};
 ghost use Rattle.hg_pool.specs.Picking.{TakesLeastFree};
+ghost use Rattle.hg_pool.specs.Calls.{CountsFailures, FillsPage, KeepsFirst, LoadsUndamaged, MayChange, ReadsStored, ReadsUndamaged, StayWithin, UsesPage};
 
 use crate::parts::{Parts, told};
 use hg_cells::{Cell, Page};
@@ -29,12 +25,11 @@ impl<D: Disk> Parts<D> {
         ensures sound { IsSound self.new }
         ensures rest { self.new ≡ record self.old { file = self.new.file } }
         ensures stays { Stays ⟦<D as Disk>⟧ (shown_of self.old) (shown_of self.new) }
-        ensures cells { IsWhole ⟦<D as Disk>⟧ (shown_of self.new) → IfOk result (λ cells. (i : ℕ) → i < 256 → get_or cells i New ≡ in_slot (bytes_of ⟦<D as Disk>⟧ (shown_of self.new)) (slot_in self.new.live.entries page) i) }
+        ensures cells { ReadsStored ⟦<D as Disk>⟧ (shown_of self.new) page result }
         ensures named { IfOk result (λ cells. (i : ℕ) → IsWithin segments (length sets.now.sets) (get_or cells i New)) }
-        ensures whole { IsWhole ⟦<D as Disk>⟧ (shown_of self.old) → ((i : ℕ) → i < 256 → IsKnown segments sets.now.sets (in_slot (bytes_of ⟦<D as Disk>⟧ (shown_of self.old)) (slot_in self.old.live.entries page) i))
-            → IfErr result (λ r. r ≢ Refusal.Damaged) }
+        ensures whole { ReadsUndamaged ⟦<D as Disk>⟧ (shown_of self.old) page segments sets.now.sets result }
         ensures refusal { IfErr result (IsTrueCause (shown_of self.old) (shown_of self.new)) }
-        ensures device { D.failures (disk_of (shown_of self.new)) ≡ failed_after result (D.failures (disk_of (shown_of self.old))) }
+        ensures device { CountsFailures ⟦<D as Disk>⟧ (shown_of self.old) (shown_of self.new) result }
     {
         match self.live.get(page) {
             None => Ok(Page::new()),
@@ -57,11 +52,10 @@ impl<D: Disk> Parts<D> {
         ensures rest { self.new ≡ record self.old { file = self.new.file; frames = self.new.frames } }
         ensures loaded { OnOk result (is_some (frame_in self.new.frames.entries page) ≡ true) }
         ensures order { OnOk result (order_of (shown_of self.new) ≡ page ∷ order_of (shown_of self.old)) }
-        ensures within { (n m : ℕ) → segments ≤ n → length sets.now.sets ≤ m → AreWithin self.old.frames.entries n m → AreWithin self.new.frames.entries n m }
-        ensures whole { IsWhole ⟦<D as Disk>⟧ (shown_of self.old) → ((i : ℕ) → i < 256 → IsKnown segments sets.now.sets (in_slot (bytes_of ⟦<D as Disk>⟧ (shown_of self.old)) (slot_in self.old.live.entries page) i))
-            → IfErr result (λ r. r ≢ Refusal.Damaged) }
+        ensures within { StayWithin segments (length sets.now.sets) self.old.frames.entries self.new.frames.entries }
+        ensures whole { ReadsUndamaged ⟦<D as Disk>⟧ (shown_of self.old) page segments sets.now.sets result }
         ensures refusal { IfErr result (IsTrueCause (shown_of self.old) (shown_of self.new)) }
-        ensures device { D.failures (disk_of (shown_of self.new)) ≡ failed_after result (D.failures (disk_of (shown_of self.old))) }
+        ensures device { CountsFailures ⟦<D as Disk>⟧ (shown_of self.old) (shown_of self.new) result }
     {
         let cells = self.read(page, segments, sets)?;
         self.take_in(page, cells)
@@ -79,8 +73,8 @@ impl<D: Disk> Parts<D> {
         ensures stays { Stays ⟦<D as Disk>⟧ (shown_of self.old) (shown_of self.new) }
         ensures rest { self.new ≡ record self.old { frames = self.new.frames } }
         ensures within { (n m : ℕ) → AreWithin self.old.frames.entries n m → AreWithin self.new.frames.entries n m }
-        ensures cells { IfSome result (λ answer. IfSome answer (λ cell. HasCell self.new.frames.entries page from to cell)) }
-        ensures order { is_some (frame_in self.old.frames.entries page) ≡ true → order_of (shown_of self.new) ≡ order_with (shown_of self.old) page }
+        ensures cells { IfSome result (λ answer. IfSome answer (HasCell self.new.frames.entries page from to)) }
+        ensures order { UsesPage (shown_of self.old) (shown_of self.new) page }
         ensures answer { is_some result ≡ is_some (frame_in self.old.frames.entries page) }
     {
         let _count = self.frames.len();
@@ -98,11 +92,11 @@ impl<D: Disk> Parts<D> {
         ensures stays { Stays ⟦<D as Disk>⟧ (shown_of self.old) (shown_of self.new) }
         ensures loaded { OnOk result (is_some (frame_in self.new.frames.entries page) ≡ true) }
         ensures order { OnOk result (order_of (shown_of self.new) ≡ order_with (shown_of self.old) page) }
-        ensures before { OnOk result ((other : ℕ) (rest : List ℕ) → order_of (shown_of self.old) ≡ other ∷ rest → is_some (frame_in self.new.frames.entries other) ≡ true) }
-        ensures within { (n m : ℕ) → segments ≤ n → length sets.now.sets ≤ m → AreWithin self.old.frames.entries n m → AreWithin self.new.frames.entries n m }
+        ensures before { OnOk result (KeepsFirst (shown_of self.old) (shown_of self.new)) }
+        ensures within { StayWithin segments (length sets.now.sets) self.old.frames.entries self.new.frames.entries }
         ensures refusal { IfErr result (IsTrueCause (shown_of self.old) (shown_of self.new)) }
-        ensures undamaged { IsWhole ⟦<D as Disk>⟧ (shown_of self.old) → ((w : ℕ) → w / 256 ≡ page → IsKnown segments sets.now.sets (live ⟦<D as Disk>⟧ (shown_of self.old) w)) → IfErr result (λ r. r ≢ Refusal.Damaged) }
-        ensures device { D.failures (disk_of (shown_of self.new)) ≡ failed_after result (D.failures (disk_of (shown_of self.old))) }
+        ensures undamaged { LoadsUndamaged ⟦<D as Disk>⟧ (shown_of self.old) page segments sets.now.sets result }
+        ensures device { CountsFailures ⟦<D as Disk>⟧ (shown_of self.old) (shown_of self.new) result }
     {
         if self.use_page(page) {
             return Ok(());
@@ -116,15 +110,14 @@ impl<D: Disk> Parts<D> {
     pub(crate) fn update(&mut self, page: u64, from: usize, to: usize, cell: Cell)
         requires sound { IsSound self.old }
         requires present { is_some (frame_in self.old.frames.entries page) ≡ true }
-        requires settled { (slot_in self.old.waiting.entries page ≡ None) ⊎ (is_some (copy_in self.old.copies.entries page) ≡ true) }
+        requires settled { MayChange (shown_of self.old) page }
         requires in_order { from ≤ to }
         requires in_page { to ≤ 256 }
         ensures sound { IsSound self.new }
         ensures reached { IsReached self.old → IsReached self.new }
         ensures went { Went ⟦<D as Disk>⟧ (shown_of self.old) (shown_of self.new) }
         ensures rest { self.new ≡ record self.old { frames = self.new.frames } }
-        ensures frames { (f : FrameOf) → frame_in self.old.frames.entries page ≡ Some f
-            → (length f.cells ≡ 256) × ((q : ℕ) → frame_in self.new.frames.entries q ≡ (if page == q then Some (record { cells = filled f.cells from to cell; is_dirty = true }) else frame_in self.old.frames.entries q)) }
+        ensures frames { FillsPage page from to cell self.old.frames.entries self.new.frames.entries }
         ensures order { order_of (shown_of self.new) ≡ order_with (shown_of self.old) page }
     {
         self.frames.update(page, from, to, cell);

@@ -1,17 +1,11 @@
 //! The parts of a pool, and what each step makes of them.
-ghost use Rattle.std.specs.Prelude.{◌≡◌, ◌≢◌, ◌⊎◌, ◌↔◌, ◌+◌, ◌*◌, ◌/◌, ◌<◌, ◌≤◌, ◌==◌, ◌^◌, ℕ, nat_eq, [], ◌∷◌, List, length, map, get_or, true, false, Some, None, Ok, Err, is_some, IsTrue, OnOk, OnErr, IsErrOf, IfOk, IfErr, IfSome, MatchOption, if◌then◌else◌};
-ghost use Rattle.std.specs.Map.{remove_entry};
-ghost use Rattle.lru.specs.LruCache.{promoted};
-ghost use Rattle.hg_disk.specs.Moments.{Leaves, LeavesOnly};
-ghost use Rattle.hg_cells.specs.declared.cell.Cell.TheVariants.{New};
-ghost use Rattle.hg_detect.specs.Words.{failed_after};
+ghost use Rattle.std.specs.Prelude.{◌≡◌, ◌≢◌, ◌⊎◌, ◌↔◌, ◌+◌, ◌*◌, ◌/◌, ◌<◌, ◌≤◌, ◌==◌, ◌^◌, ◌∷◌, false, Some, None, Ok, Err, IsTrue, OnOk, OnErr, IsErrOf, IfErr, MatchOption, if◌then◌else◌};
 ghost use Rattle.hg_pages.specs.Slots.{HasBytes};
-ghost use Rattle.hg_pages.specs.Tables.{IsNamed, slot_in};
-ghost use Rattle.hg_pool.specs.declared.frame.Frame.{Frame as FrameOf};
-ghost use Rattle.hg_pool.specs.Maps.{bytes_of, copy_in, disk_of, frame_in, in_slot, is_broken};
+ghost use Rattle.hg_pages.specs.Tables.{IsNamed};
+ghost use Rattle.hg_pool.specs.Maps.{bytes_of, is_broken};
 ghost use Rattle.hg_pool.specs.Kept.{BreaksByFailure, Stays};
-ghost use Rattle.hg_pool.specs.Answers.{IsDeviceCause, IsFull, IsTrueCause, told_as};
-ghost use Rattle.hg_pool.specs.Picking.{IsLeastFree};
+ghost use Rattle.hg_pool.specs.Answers.{IsDeviceCause, IsFull, told_as};
+ghost use Rattle.hg_pool.specs.Calls.{CountsFailures, IsLeastSlot, KeepsSlotsBut, LeavesSlotsBut, SameBytes, StaysLong};
 
 use crate::frames::Frames;
 use hg_cells::Page;
@@ -120,7 +114,7 @@ impl<D: Disk> Parts<D> {
     pub(crate) fn free_slot(&self) -> Option<u32>
         requires sound { IsSound self.now }
         requires reached { IsReached self.now }
-        ensures { MatchOption result (IsFull (shown_of self.now)) (λ slot. (slot < self.now.slots) × IsLeastFree (shown_of self.now) slot) }
+        ensures { MatchOption result (IsFull (shown_of self.now)) (IsLeastSlot (shown_of self.now)) }
     {
         self.free_slot_from(self.search_from)
     }
@@ -129,11 +123,10 @@ impl<D: Disk> Parts<D> {
     fn write_slot(&mut self, slot: u32, page: &EncodedPage) -> Result<(), Refusal>
         ensures rest { self.new ≡ record self.old { file = self.new.file } }
         ensures written { OnOk result (HasBytes slot page.now.bytes (bytes_of ⟦<D as Disk>⟧ (shown_of self.new))) }
-        ensures others { (other : ℕ) (bytes : List ℕ) → other ≢ slot → HasBytes other bytes (bytes_of ⟦<D as Disk>⟧ (shown_of self.old)) → HasBytes other bytes (bytes_of ⟦<D as Disk>⟧ (shown_of self.new)) }
-        ensures lost { OnErr result (bytes_of ⟦<D as Disk>⟧ (shown_of self.new) ≡ bytes_of ⟦<D as Disk>⟧ (shown_of self.old)) }
-        ensures any_moment { (other : ℕ) (bytes : List ℕ) → other ≢ slot → Leaves (HasBytes other bytes) (D.state (disk_of (shown_of self.old)))
-            → LeavesOnly ⟦<D as Disk>⟧ (disk_of (shown_of self.old)) (disk_of (shown_of self.new)) (HasBytes other bytes) }
-        ensures long { (n : ℕ) → Leaves (λ image. n ≤ length image) (D.state (disk_of (shown_of self.old))) → LeavesOnly ⟦<D as Disk>⟧ (disk_of (shown_of self.old)) (disk_of (shown_of self.new)) (λ image. n ≤ length image) }
+        ensures others { KeepsSlotsBut ⟦<D as Disk>⟧ slot (shown_of self.old) (shown_of self.new) }
+        ensures lost { OnErr result (SameBytes ⟦<D as Disk>⟧ (shown_of self.old) (shown_of self.new)) }
+        ensures any_moment { LeavesSlotsBut ⟦<D as Disk>⟧ slot (shown_of self.old) (shown_of self.new) }
+        ensures long { StaysLong ⟦<D as Disk>⟧ (shown_of self.old) (shown_of self.new) }
         ensures works { is_broken (shown_of self.new) ≡ false → is_broken (shown_of self.old) ≡ false }
         ensures cause { BreaksByFailure ⟦<D as Disk>⟧ (shown_of self.old) (shown_of self.new) }
         ensures breaks { OnErr result (IsTrue (is_broken (shown_of self.new))) }
@@ -141,7 +134,7 @@ impl<D: Disk> Parts<D> {
         ensures broken { IsErrOf result Refusal.Broken → IsTrue (is_broken (shown_of self.old)) }
         ensures refuses { IsTrue (is_broken (shown_of self.old)) → result ≡ Err Refusal.Broken }
         ensures same { IsTrue (is_broken (shown_of self.old)) → self.new ≡ self.old }
-        ensures device { D.failures (disk_of (shown_of self.new)) ≡ failed_after result (D.failures (disk_of (shown_of self.old))) }
+        ensures device { CountsFailures ⟦<D as Disk>⟧ (shown_of self.old) (shown_of self.new) result }
     {
         match self.file.write(slot, page) {
             Ok(()) => Ok(()),
@@ -162,7 +155,7 @@ impl<D: Disk> Parts<D> {
         ensures broken { IsErrOf result Refusal.Broken → IsTrue (is_broken (shown_of self.old)) }
         ensures refuses { IsTrue (is_broken (shown_of self.old)) → result ≡ Err Refusal.Broken }
         ensures same { IsTrue (is_broken (shown_of self.old)) → self.new ≡ self.old }
-        ensures device { D.failures (disk_of (shown_of self.new)) ≡ failed_after result (D.failures (disk_of (shown_of self.old))) }
+        ensures device { CountsFailures ⟦<D as Disk>⟧ (shown_of self.old) (shown_of self.new) result }
     {
         self.write_slot(slot, page)
     }

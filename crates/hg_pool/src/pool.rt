@@ -1,17 +1,14 @@
 //! The pool.
-ghost use Rattle.std.specs.Prelude.{◌≡◌, ◌≢◌, ◌⊎◌, ◌↔◌, ◌+◌, ◌*◌, ◌/◌, ◌<◌, ◌≤◌, ◌^◌, ◌==◌, ℕ, List, [], ◌∷◌, ◌++◌, length, get_or, true, false, Some, None, Ok, Err, is_some, IsTrue, OnOk, OnErr, IfOk, IfErr, MatchOption, if◌then◌else◌};
-ghost use Rattle.hg_cells.specs.declared.cell.Cell.{Cell as CellOf};
-ghost use Rattle.hg_detect.specs.Words.{failed_after};
-ghost use Rattle.hg_pages.specs.Slots.{IsKnown, IsSlot, slot_text};
+ghost use Rattle.std.specs.Prelude.{◌≡◌, ◌≢◌, ◌⊎◌, ◌↔◌, ◌+◌, ◌*◌, ◌/◌, ◌<◌, ◌≤◌, ◌^◌, ◌==◌, [], ◌∷◌, ◌++◌, length, get_or, true, false, Some, None, Ok, Err, is_some, IsTrue, OnOk, OnErr, IfOk, IfErr, if◌then◌else◌};
 ghost use Rattle.hg_pages.specs.Tables.{slot_in};
-ghost use Rattle.hg_pool.specs.Maps.{IsSealed, copy_in, disk_of, frame_in, frozen, is_broken, live};
-ghost use Rattle.hg_pool.specs.Kept.{AreWithin, CellsFrom, IsWhole, SameMap, Stays, Went};
+ghost use Rattle.hg_pool.specs.Maps.{copy_in, frame_in, frozen, is_broken, live};
+ghost use Rattle.hg_pool.specs.Kept.{CellsFrom, IsWhole, SameMap, Stays, Went};
 ghost use Rattle.hg_pool.specs.declared.frame.Frame.{Frame as FrameOf};
 ghost use Rattle.hg_cells.specs.declared.cell.Cell.TheVariants.{New};
-ghost use Rattle.hg_cells.specs.Pages.{filled};
-ghost use Rattle.hg_pool.specs.Answers.{IsDeviceCause, IsFrozen, IsTrueCause, least_of, order_of, order_with};
-ghost use Rattle.hg_pool.specs.Picking.{AreLeastFree, HasDirty, IsFreezeRefusal, TakesLeastFree};
+ghost use Rattle.hg_pool.specs.Answers.{IsDeviceCause, IsTrueCause, order_of, order_with};
+ghost use Rattle.hg_pool.specs.Picking.{AreLeastFree, IsFreezeRefusal, TakesLeastFree};
 ghost use Rattle.hg_pool.specs.Tables.{AreBelow, IsNameable};
+ghost use Rattle.hg_pool.specs.Calls.{CountsFailures, FillsPage, FreezesOnOk, HasFreed, HasWaited, IsNextJob, IsStale, KeepsCopies, KeepsFirst, LoadsUndamaged, LosesWritten, MayChange, NamesDirty, SealsWhole, StayWithin, first_pool};
 
 use crate::frames::Frames;
 use crate::job::{Job, Put};
@@ -88,18 +85,7 @@ impl<D: Disk> Pool<D> {
         requires frames { frames ≤ 4096 }
         requires slots { slots ≤ 1048576 }
         requires table { AreBelow slots table.entries }
-        ensures pool { IfOk result (λ p. p ≡ record {
-          file = file;
-          root = table.entries;
-          frozen = table.entries;
-          live = table.entries;
-          waiting = [];
-          copies = [];
-          frames = [];
-          most_frames = frames;
-          slots = slots;
-          is_sealed = false;
-        }) }
+        ensures pool { IfOk result (λ p. p ≡ first_pool file table.entries frames slots) }
         ensures handed_back { IfErr result (λ f. f ≡ file) }
     {
         match rooms(alloc, &table, frames) {
@@ -128,11 +114,11 @@ impl<D: Disk> Pool<D> {
         ensures takes { TakesLeastFree self.old self.new }
         ensures stays { Stays ⟦<D as Disk>⟧ self.old self.new }
         ensures none { result ≡ Ok None → (self.new ≡ self.old) × (self.old.frames ≡ []) }
-        ensures freed { IfOk result (λ page. MatchOption page (self.old.frames ≡ []) (λ n. order_of self.old ≡ order_of self.new ++ n ∷ [])) }
+        ensures freed { IfOk result (HasFreed self.old self.new) }
         ensures kept { OnErr result (order_of self.new ≡ order_of self.old) }
         ensures refusal { IfErr result (IsTrueCause self.old self.new) }
         ensures undamaged { IfErr result (λ r. r ≢ Refusal.Damaged) }
-        ensures device { D.failures (disk_of self.new) ≡ failed_after result (D.failures (disk_of self.old)) }
+        ensures device { CountsFailures ⟦<D as Disk>⟧ self.old self.new result }
     {
         self.parts.evict()
     }
@@ -145,7 +131,7 @@ impl<D: Disk> Pool<D> {
         ensures quiet { length self.old.frames < self.old.most_frames → self.new ≡ self.old }
         ensures refusal { IfErr result (IsTrueCause self.old self.new) }
         ensures undamaged { IfErr result (λ r. r ≢ Refusal.Damaged) }
-        ensures device { D.failures (disk_of self.new) ≡ failed_after result (D.failures (disk_of self.old)) }
+        ensures device { CountsFailures ⟦<D as Disk>⟧ self.old self.new result }
     {
         self.parts.make_room()
     }
@@ -158,11 +144,11 @@ impl<D: Disk> Pool<D> {
         ensures stays { Stays ⟦<D as Disk>⟧ self.old self.new }
         ensures loaded { OnOk result (is_some (frame_in self.new.frames page) ≡ true) }
         ensures order { OnOk result (order_of self.new ≡ order_with self.old page) }
-        ensures before { OnOk result ((other : ℕ) (rest : List ℕ) → order_of self.old ≡ other ∷ rest → is_some (frame_in self.new.frames other) ≡ true) }
-        ensures within { (n m : ℕ) → segments ≤ n → length sets.now.sets ≤ m → AreWithin self.old.frames n m → AreWithin self.new.frames n m }
+        ensures before { OnOk result (KeepsFirst self.old self.new) }
+        ensures within { StayWithin segments (length sets.now.sets) self.old.frames self.new.frames }
         ensures refusal { IfErr result (IsTrueCause self.old self.new) }
-        ensures undamaged { IsWhole ⟦<D as Disk>⟧ self.old → ((w : ℕ) → w / 256 ≡ page → IsKnown segments sets.now.sets (live ⟦<D as Disk>⟧ self.old w)) → IfErr result (λ r. r ≢ Refusal.Damaged) }
-        ensures device { D.failures (disk_of self.new) ≡ failed_after result (D.failures (disk_of self.old)) }
+        ensures undamaged { LoadsUndamaged ⟦<D as Disk>⟧ self.old page segments sets.now.sets result }
+        ensures device { CountsFailures ⟦<D as Disk>⟧ self.old self.new result }
     {
         self.parts.load(page, segments, sets)
     }
@@ -171,8 +157,8 @@ impl<D: Disk> Pool<D> {
     pub fn keep(&mut self, page: u64) -> Result<(), Refusal>
         ensures stays { Stays ⟦<D as Disk>⟧ self.old self.new }
         ensures rest { self.new ≡ record self.old { copies = self.new.copies } }
-        ensures kept { OnOk result ((slot_in self.new.waiting page ≡ None) ⊎ (is_some (copy_in self.new.copies page) ≡ true)) }
-        ensures others { (q : ℕ) → is_some (copy_in self.old.copies q) ≡ true → is_some (copy_in self.new.copies q) ≡ true }
+        ensures kept { OnOk result (MayChange self.new page) }
+        ensures others { KeepsCopies self.old.copies self.new.copies }
         ensures refused { OnErr result (self.new ≡ self.old) }
         ensures refusal { IfErr result (λ r. r ≡ Refusal.OutOfMemory) }
     {
@@ -200,8 +186,7 @@ impl<D: Disk> Pool<D> {
         requires in_page { to ≤ 256 }
         ensures went { Went ⟦<D as Disk>⟧ self.old self.new }
         ensures rest { self.new ≡ record self.old { frames = self.new.frames } }
-        ensures frames { (f : FrameOf) → frame_in self.old.frames page ≡ Some f
-            → (length f.cells ≡ 256) × ((q : ℕ) → frame_in self.new.frames q ≡ (if page == q then Some (record { cells = filled f.cells from to cell; is_dirty = true }) else frame_in self.old.frames q)) }
+        ensures frames { FillsPage page from to cell self.old.frames self.new.frames }
         ensures order { order_of self.new ≡ order_with self.old page }
     {
         self.parts.update(page, from, to, cell);
@@ -218,10 +203,10 @@ impl<D: Disk> Pool<D> {
     /// Fixes the live map as the frozen one. The pages that were changed since they were new, read or written wait from then on,
     /// each with a slot that nothing names: the least ones, rising with the pages. A refusal changes nothing.
     pub fn freeze(&mut self) -> Result<(), Refusal>
-        ensures frozen { IsWhole ⟦<D as Disk>⟧ self.old → OnOk result (SameMap (live ⟦<D as Disk>⟧ self.old) (frozen ⟦<D as Disk>⟧ self.new)) }
+        ensures frozen { FreezesOnOk ⟦<D as Disk>⟧ self.old self.new result }
         ensures live { SameMap (live ⟦<D as Disk>⟧ self.old) (live ⟦<D as Disk>⟧ self.new) }
         ensures whole { IsWhole ⟦<D as Disk>⟧ self.old → IsWhole ⟦<D as Disk>⟧ self.new }
-        ensures waiting { OnOk result ((q : ℕ) → (is_some (slot_in self.new.waiting q) ≡ true) ↔ HasDirty self.old.frames q) }
+        ensures waiting { OnOk result (NamesDirty self.old.frames self.new.waiting) }
         ensures picked { OnOk result (AreLeastFree self.old self.new.waiting) }
         ensures root { self.new.root ≡ self.old.root }
         ensures file { self.new.file ≡ self.old.file }
@@ -235,7 +220,7 @@ impl<D: Disk> Pool<D> {
 
     /// The page with the least number of those that wait, and its frozen cells. Takes no memory.
     pub fn take_job(&self) -> Option<Job>
-        ensures { MatchOption result (self.now.waiting ≡ []) (λ job. (Some job.page ≡ least_of self.now.waiting) × (is_some (slot_in self.now.waiting job.page) ≡ true) × IsFrozen self.now job.page job.cells) }
+        ensures { IsNextJob self.now result }
     {
         self.parts.take_job()
     }
@@ -244,16 +229,16 @@ impl<D: Disk> Pool<D> {
     /// cells. The pages in memory stay, with their cells. It makes one device call at most and takes no memory.
     pub fn put(&mut self, page: &EncodedPage) -> Result<Put, Refusal>
         ensures stays { Stays ⟦<D as Disk>⟧ self.old self.new }
-        ensures written { IfOk result (λ put. put ≡ Put.Written → (cells : List CellOf) × (is_some (slot_in self.old.waiting page.now.page) ≡ true) × IsFrozen self.old page.now.page cells × IsSlot page.now.page cells page.now.bytes) }
-        ensures stale { IfOk result (λ put. put ≡ Put.Stale → (slot : ℕ) (cells : List CellOf) → slot_in self.old.waiting page.now.page ≡ Some slot → IsFrozen self.old page.now.page cells → page.now.bytes ≡ slot_text page.now.page cells → ⊥) }
+        ensures written { IfOk result (λ put. put ≡ Put.Written → HasWaited self.old page.now) }
+        ensures stale { IfOk result (λ put. put ≡ Put.Stale → IsStale self.old page.now) }
         ensures nothing { IfOk result (λ put. put ≡ Put.Stale → self.new ≡ self.old) }
-        ensures waiting { IfOk result (λ put. put ≡ Put.Written → (q : ℕ) → slot_in self.new.waiting q ≡ (if page.now.page == q then None else slot_in self.old.waiting q)) }
+        ensures waiting { LosesWritten page.now.page self.old.waiting self.new.waiting result }
         ensures cells { CellsFrom self.old.frames self.new.frames }
         ensures order { order_of self.new ≡ order_of self.old }
         ensures refusal { IfErr result IsDeviceCause }
         ensures broken { (result ≡ Err Refusal.Broken) → IsTrue (is_broken self.old) }
         ensures breaks { OnErr result (IsTrue (is_broken self.new)) }
-        ensures device { D.failures (disk_of self.new) ≡ failed_after result (D.failures (disk_of self.old)) }
+        ensures device { CountsFailures ⟦<D as Disk>⟧ self.old self.new result }
     {
         self.parts.put(page)
     }
@@ -302,13 +287,13 @@ impl<D: Disk> Pool<D> {
     /// the frozen map. It makes one device call and takes no memory.
     pub fn seal(&mut self) -> Result<(), Refusal>
         ensures stays { Stays ⟦<D as Disk>⟧ self.old self.new }
-        ensures sealed { IsWhole ⟦<D as Disk>⟧ self.old → self.old.waiting ≡ [] → OnOk result (IsSealed ⟦<D as Disk>⟧ self.new) }
+        ensures sealed { SealsWhole ⟦<D as Disk>⟧ self.old self.new result }
         ensures marked { self.old.waiting ≡ [] → OnOk result (IsTrue self.new.is_sealed) }
         ensures rest { self.new ≡ record self.old { file = self.new.file; is_sealed = self.new.is_sealed } }
         ensures refusal { IfErr result IsDeviceCause }
         ensures broken { (result ≡ Err Refusal.Broken) → IsTrue (is_broken self.old) }
         ensures breaks { OnErr result (IsTrue (is_broken self.new)) }
-        ensures device { D.failures (disk_of self.new) ≡ failed_after result (D.failures (disk_of self.old)) }
+        ensures device { CountsFailures ⟦<D as Disk>⟧ self.old self.new result }
     {
         self.parts.seal()
     }

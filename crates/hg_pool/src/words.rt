@@ -1,13 +1,12 @@
 //! A pool as the detector's map of words: the live map.
-ghost use Rattle.std.specs.Prelude.{slice_get, ◌≡◌, ◌⊎◌, ◌+◌, ◌-◌, ◌*◌, ◌/◌, ◌%◌, ◌<◌, ◌≤◌, ◌==◌, ◌&&◌, ◌^◌, ℕ, length, nat_le, nat_lt, true, Some, None, is_some, IsTrue, IfErr, IfSome, OnOk, if◌then◌else◌};
+ghost use Rattle.std.specs.Prelude.{◌≡◌, ◌⊎◌, ◌+◌, ◌-◌, ◌*◌, ◌/◌, ◌%◌, ◌<◌, ◌≤◌, ◌==◌, ◌&&◌, ◌^◌, ℕ, length, true, Some, None, is_some, IsTrue, IfErr, IfSome, OnOk, if◌then◌else◌};
 ghost use Rattle.hg_cells.specs.Cells.{IsWithin};
-ghost use Rattle.hg_detect.specs.Words.{failed_after};
-ghost use Rattle.hg_pages.specs.Tables.{slot_in};
-ghost use Rattle.hg_pool.specs.declared.frame.Frame.{Frame as FrameOf};
-ghost use Rattle.hg_pool.specs.Maps.{copy_in, disk_of, frame_in, live};
+ghost use Rattle.hg_pool.specs.Maps.{disk_of, frame_in, live};
 ghost use Rattle.hg_pool.specs.Kept.{AreWithin, IsFaithful, Stays, Went};
 ghost use Rattle.hg_pool.specs.Answers.{IsTrueCause, order_of, order_with};
 ghost use Rattle.hg_pool.specs.OfWords.{IsSettled};
+ghost use Rattle.hg_pool.specs.Frames.{HasCell};
+ghost use Rattle.hg_pool.specs.Calls.{ArePagesOf, CountsFailures, FillsWords, StayWithin, StaysFaithfulWith};
 
 use crate::frame::Frame;
 use crate::pool::Pool;
@@ -49,9 +48,9 @@ impl<D: Disk> Pool<D> {
         ensures stays { Stays ⟦<D as Disk>⟧ self.old self.new }
         ensures first { OnOk result (is_some (frame_in self.new.frames first) ≡ true) }
         ensures last { OnOk result (is_some (frame_in self.new.frames last) ≡ true) }
-        ensures within { (n m : ℕ) → segments ≤ n → length sets.now.sets ≤ m → AreWithin self.old.frames n m → AreWithin self.new.frames n m }
+        ensures within { StayWithin segments (length sets.now.sets) self.old.frames self.new.frames }
         ensures refusal { IfErr result (IsTrueCause self.old self.new) }
-        ensures device { D.failures (disk_of self.new) ≡ failed_after result (D.failures (disk_of self.old)) }
+        ensures device { CountsFailures ⟦<D as Disk>⟧ self.old self.new result }
     {
         self.load(first, segments, sets)?;
         if last == first {
@@ -114,7 +113,7 @@ impl<D: Disk> Pool<D> {
         ensures stays { Stays ⟦<D as Disk>⟧ self.old self.new }
         ensures rest { self.new ≡ record self.old { frames = self.new.frames } }
         ensures within { (n m : ℕ) → AreWithin self.old.frames n m → AreWithin self.new.frames n m }
-        ensures cells { IfSome result (λ cell. (f : FrameOf) × (frame_in self.new.frames page ≡ Some f) × ((i : ℕ) → from ≤ i → i < to → slice_get f.cells i ≡ Some cell)) }
+        ensures cells { IfSome result (HasCell self.new.frames page from to) }
         ensures settled { IfSome result (λ cell. IsSettled self.new page) }
         ensures order { is_some (frame_in self.old.frames page) ≡ true → order_of self.new ≡ order_with self.old page }
     {
@@ -132,12 +131,12 @@ impl<D: Disk> Pool<D> {
         requires settled { IsSettled self.old number }
         requires in_order { from ≤ to }
         requires in_page { to ≤ 256 }
-        ensures cells { (w : ℕ) → live ⟦<D as Disk>⟧ self.new w ≡ (if (w / 256 == number) && (nat_le from (w % 256) && nat_lt (w % 256) to) then cell else live ⟦<D as Disk>⟧ self.old w) }
-        ensures present { (q : ℕ) → is_some (frame_in self.old.frames q) ≡ true → is_some (frame_in self.new.frames q) ≡ true }
+        ensures cells { FillsWords ⟦<D as Disk>⟧ number from to cell self.old self.new }
+        ensures present { ArePagesOf self.old.frames self.new.frames }
         ensures went { Went ⟦<D as Disk>⟧ self.old self.new }
         ensures rest { self.new ≡ record self.old { frames = self.new.frames } }
         ensures within { (n m : ℕ) → IsWithin n m cell → AreWithin self.old.frames n m → AreWithin self.new.frames n m }
-        ensures faithful { (n m : ℕ) → IsWithin n m cell → IsFaithful ⟦<D as Disk>⟧ self.old n m → IsFaithful ⟦<D as Disk>⟧ self.new n m }
+        ensures faithful { StaysFaithfulWith ⟦<D as Disk>⟧ cell self.old self.new }
     {
         self.update(number, from as usize, to as usize, cell);
     }

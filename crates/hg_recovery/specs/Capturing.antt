@@ -1,6 +1,8 @@
 -- What a detector puts into the head of a root.
-use Rattle.std.specs.Prelude.{◌<◌, ◌^◌, All, length, ℕ, List, [], ◌∷◌, nat_lt, slice_index, if◌then◌else◌}
+use Rattle.std.specs.Prelude.{◌≡◌, ◌⊎◌, ◌<◌, ◌^◌, All, length, ℕ, List, [], ◌∷◌, nat_lt, slice_index, if◌then◌else◌}
 use Rattle.hg_model.specs.declared.thread.ThreadState.{ThreadState}
+use Rattle.hg_model.specs.declared.verdict.Refusal.{Refusal}
+use Rattle.hg_model.specs.declared.verdict.Refusal.TheVariants.{Damaged, OutOfMemory}
 use Rattle.hg_model.specs.declared.segment.Segment.{Segment}
 use Rattle.hg_cells.specs.declared.report.KeptReport.{KeptReport}
 use Rattle.hg_detect.specs.Shown.{Shown}
@@ -10,7 +12,11 @@ use Rattle.hg_root.specs.Heads.{head_parts}
 use Rattle.hg_root.specs.Parts.{Parts}
 use Rattle.hg_contents.specs.Heads.{source_counts}
 
--- the parts of a root with this number and what the detector shows, but its words
+-- the parts of a root with this number and these sources, and else what the detector shows, but its words
+abbrev pub head_with : {W : Type 0} → ℕ → Shown W → List SourceCount → Parts
+head_with number d sources = head_parts number d.parts.events d.segments d.parts.threads d.sets d.total d.kept sources
+
+-- the same with the sources that sent something
 abbrev pub parts_with : {W : Type 0} → ℕ → Shown W → Parts
 parts_with number d = head_parts number d.parts.events d.segments d.parts.threads d.sets d.total d.kept (source_counts (slice_index d.parts.last))
 
@@ -34,3 +40,11 @@ pub record AreSpelled (segments : List Segment) (threads : List ThreadState) (se
   pub report_count : length reports < 2 ^ 32
   pub sources_fit : All SourceFits sources
   pub source_count : length sources < 2 ^ 16
+
+-- The parts of a head that the detector shows, with these threads and sources, have a spelling.
+abbrev pub IsSpelled : {W : Type 0} → Shown W → List ThreadState → List SourceCount → Type 0
+IsSpelled d threads sources = AreSpelled d.segments threads d.sets.sets d.kept sources
+
+-- Damaged is told only without this, and else that memory ran out.
+abbrev pub OnlyWithout : Type 0 → Refusal → Type 0
+OnlyWithout P r = (r ≡ OutOfMemory) ⊎ ((r ≡ Damaged) × ¬ P)

@@ -1,5 +1,5 @@
 -- What is made of a root, and why it is refused.
-use Rattle.std.specs.Prelude.{◌<◌, ◌≤◌, ℕ, false, List, [], length, All, Result, Ok, Err, IsTrue}
+use Rattle.std.specs.Prelude.{◌≡◌, IfOk, ◌<◌, ◌≤◌, ℕ, false, List, [], length, All, Result, Ok, Err, IsTrue}
 use Rattle.hg_model.specs.declared.verdict.Refusal.{Refusal}
 use Rattle.hg_model.specs.declared.verdict.Refusal.TheVariants as refusal
 use Rattle.hg_detect.specs.Shown as detect
@@ -7,7 +7,11 @@ use Rattle.hg_detect.specs.Words.{after_refusal}
 use Rattle.hg_disk.specs.declared.disk.Disk as disk
 use Rattle.hg_pages.specs.Files.{is_broken, known}
 use Rattle.hg_pages.specs.declared.slot_file.SlotFile.{SlotFile}
+use Rattle.hg_pool.specs.Maps as pools
 use Rattle.hg_pool.specs.Shown as pool
+use Rattle.hg_root.specs.Checkpoints.{Checkpoint, HasPages}
+use Rattle.hg_root.specs.Roots.{parts_of}
+use Rattle.hg_contents.specs.Images.{content_of}
 use Rattle.hg_root.specs.declared.parts.PageSlot.{PageSlot}
 use Rattle.hg_root.specs.declared.root.Root.{Root}
 use Rattle.hg_root.specs.Parts.{Parts}
@@ -68,3 +72,16 @@ IsTrueCause g root caps file refusal.Broken = IsTrue (is_broken file)
 IsTrueCause g root caps file refusal.DeviceFault = Unit {0}
 IsTrueCause g root caps file refusal.OutOfMemory = Unit {0}
 IsTrueCause g root caps file _ = ⊥
+
+-- The sets of the root are no more than the cap.
+abbrev pub FitsSets : Root → Caps → Type 0
+FitsSets root caps = length root.sets.sets ≤ caps.sets
+
+-- The root names a slot beyond the cap.
+abbrev pub NamesBeyond : Root → Caps → Type 0
+NamesBeyond root caps = ¬ All (λ p. p.slot < caps.slots) root.pages.items
+
+-- The detector has the content of the checkpoint of this root whose pages the file has.
+abbrev pub RestoresContent : {D E : Type 0} → disk.Ghosts D → Root → SlotFile D → Result (detect.Shown (pool.Shown D)) E → Type 0
+RestoresContent g root file result =
+    (c : Checkpoint) → c.root ≡ parts_of root → HasPages (known g file) c → IfOk result (λ d. detect.content (pools.live g) d ≡ content_of c)

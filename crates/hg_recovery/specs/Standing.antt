@@ -1,7 +1,12 @@
 -- Whether a file of slots has what a root names.
-use Rattle.std.specs.Prelude.{◌≡◌, ℕ, List, map}
+use Rattle.std.specs.Prelude.{◌≡◌, ℕ, List, map, Result, IsErrOf}
 use Rattle.hg_cells.specs.declared.cell.Cell.{Cell}
+use Rattle.hg_disk.specs.declared.disk.Disk as disk
+use Rattle.hg_pages.specs.Files.{known}
 use Rattle.hg_pages.specs.Slots.{HasPage}
+use Rattle.hg_pages.specs.declared.fault.SlotFault.{SlotFault}
+use Rattle.hg_pages.specs.declared.fault.SlotFault.TheVariants.{Damaged}
+use Rattle.hg_pages.specs.declared.slot_file.SlotFile.{SlotFile}
 use Rattle.hg_root.specs.declared.parts.PageSlot.{PageSlot}
 use Rattle.hg_root.specs.Checkpoints.{Checkpoint, HasPages}
 use Rattle.hg_root.specs.Parts.{Parts}
@@ -17,3 +22,16 @@ HasPagesOf root slots = (c : Checkpoint) × (c.root ≡ root) × HasPages slots 
 -- the pages with their slots, as a table has them
 abbrev pub entries_of : List PageSlot → List (ℕ × ℕ)
 entries_of pages = map (λ p. (p.page, p.slot)) pages
+
+module _ {D : Type 0} (g : disk.Ghosts D) where
+  -- The same of what is known of a file.
+  abbrev pub HasPageIn : SlotFile D → ℕ → List (List ℕ) → PageSlot → Type 0
+  HasPageIn file segments sets p = HasSomePage segments sets (known g file) p
+
+  -- Damaged is told only where the slot does not have the page.
+  abbrev pub LacksPage : {T : Type 0} → SlotFile D → ℕ → List (List ℕ) → PageSlot → Result T SlotFault → Type 0
+  LacksPage file segments sets p result = IsErrOf result Damaged → ¬ HasSomePage segments sets (known g file) p
+
+  -- Damaged is told only where the slots do not have the pages.
+  abbrev pub LacksPages : {T : Type 0} → SlotFile D → Parts → Result T SlotFault → Type 0
+  LacksPages file root result = IsErrOf result Damaged → ¬ HasPagesOf root (known g file)

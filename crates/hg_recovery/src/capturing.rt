@@ -2,9 +2,8 @@
 ghost use Rattle.std.specs.Prelude.{◌≡◌, ◌⊎◌, ◌≤◌, ◌^◌, ◌++◌, ◌↔◌, IfErr, IfOk, IsTrue, OnOk, slice_index};
 ghost use Rattle.hg_contents.specs.Heads.{FitsARoot, source_counts};
 ghost use Rattle.hg_root.specs.Grammar.{head_text};
-ghost use Rattle.hg_root.specs.Heads.{head_parts};
 ghost use Rattle.hg_root.specs.Lawful.{IsLawfulHead};
-ghost use Rattle.hg_recovery.specs.Capturing.{AreSpelled, if_sent, parts_with};
+ghost use Rattle.hg_recovery.specs.Capturing.{IsSpelled, OnlyWithout, head_with, if_sent, parts_with};
 
 use crate::fitting::{have_spellings, sets_have_spellings};
 use hg_contents::laws::{a_detector_has_a_lawful_head, threads_have_small_numbers};
@@ -54,7 +53,7 @@ fn lists_of<W>(
 
 // Whether each part of a detector with these threads and sources has a spelling.
 fn has_spelling<W>(detector: &Detector<W>, threads: &[ThreadState], sources: &[SourceCount]) -> bool
-    ensures { IsTrue result ↔ AreSpelled detector.now.segments threads.now detector.now.sets.sets detector.now.kept sources.now }
+    ensures { IsTrue result ↔ IsSpelled detector.now threads.now sources.now }
 {
     if threads.len() > 65_535 {
         return false;
@@ -87,8 +86,8 @@ fn spelled<W>(
     sources: &[SourceCount],
 ) -> Result<RootHead, Refusal>
     requires threads { threads.now ≡ detector.now.parts.threads }
-    ensures text { IfOk result (λ head. head ≡ head_text (head_parts number detector.now.parts.events detector.now.segments detector.now.parts.threads detector.now.sets detector.now.total detector.now.kept sources.now)) }
-    ensures refusal { IfErr result (λ r. (r ≡ Refusal.OutOfMemory) ⊎ ((r ≡ Refusal.Damaged) × ¬ AreSpelled detector.now.segments detector.now.parts.threads detector.now.sets.sets detector.now.kept sources.now)) }
+    ensures text { IfOk result (λ head. head ≡ head_text (head_with number detector.now sources.now)) }
+    ensures refusal { IfErr result (OnlyWithout (IsSpelled detector.now detector.now.parts.threads sources.now)) }
 {
     if !has_spelling(detector, threads, sources) {
         return Err(Refusal::Damaged);
@@ -121,7 +120,7 @@ pub fn head_of<W: Words>(
     requires most { number ≤ 2 ^ 58 }
     ensures text { IfOk result (λ head. head ≡ head_text (parts_with number detector.now)) }
     ensures lawful { FitsARoot W.cell_of detector.now → IsLawfulHead (parts_with number detector.now) }
-    ensures refusal { IfErr result (λ r. (r ≡ Refusal.OutOfMemory) ⊎ ((r ≡ Refusal.Damaged) × ¬ FitsARoot W.cell_of detector.now)) }
+    ensures refusal { IfErr result (OnlyWithout (FitsARoot W.cell_of detector.now)) }
 {
     a_detector_has_a_lawful_head::<W>();
     threads_have_small_numbers();

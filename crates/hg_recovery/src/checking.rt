@@ -6,7 +6,7 @@ ghost use Rattle.hg_root.specs.Checkpoints.{LieWithin};
 ghost use Rattle.hg_root.specs.Lawful.{IsLawful};
 ghost use Rattle.hg_root.specs.Roots.{parts_of};
 ghost use Rattle.hg_recovery.specs.Reading.{WasRead};
-ghost use Rattle.hg_recovery.specs.Standing.{HasPagesOf, HasSomePage};
+ghost use Rattle.hg_recovery.specs.Standing.{HasPageIn, HasPagesOf, LacksPage, LacksPages};
 
 use hg_disk::Disk;
 use hg_pages::{SlotFault, SlotFile};
@@ -20,8 +20,8 @@ fn check_page<D: Disk>(
     sets: &SetTable,
     file: &mut SlotFile<D>,
 ) -> Result<(), SlotFault>
-    ensures stands { IsTrue D.is_honest → OnOk result (HasSomePage segments sets.now.sets (known ⟦<D as Disk>⟧ file.old) page) }
-    ensures damaged { IsTrue D.is_honest → IsErrOf result SlotFault.Damaged → ¬ HasSomePage segments sets.now.sets (known ⟦<D as Disk>⟧ file.old) page }
+    ensures stands { IsTrue D.is_honest → OnOk result (HasPageIn ⟦<D as Disk>⟧ file.old segments sets.now.sets page) }
+    ensures damaged { IsTrue D.is_honest → LacksPage ⟦<D as Disk>⟧ file.old segments sets.now.sets page result }
     ensures read { WasRead ⟦<D as Disk>⟧ 1 file.old file.new }
     ensures device { D.failures (disk_of file.new) ≡ failures_after result (D.failures (disk_of file.old)) }
     ensures memory { ¬ IsErrOf result SlotFault.OutOfMemory }
@@ -37,7 +37,7 @@ fn check_page<D: Disk>(
 pub fn check_slots<D: Disk>(root: &Root, file: &mut SlotFile<D>) -> Result<(), SlotFault>
     requires { IsLawful (parts_of root.now) }
     ensures stands { IsTrue D.is_honest → OnOk result (HasPagesOf (parts_of root.now) (known ⟦<D as Disk>⟧ file.old)) }
-    ensures damaged { IsTrue D.is_honest → IsErrOf result SlotFault.Damaged → ¬ HasPagesOf (parts_of root.now) (known ⟦<D as Disk>⟧ file.old) }
+    ensures damaged { IsTrue D.is_honest → LacksPages ⟦<D as Disk>⟧ file.old (parts_of root.now) result }
     ensures read { WasRead ⟦<D as Disk>⟧ (length root.now.pages.items) file.old file.new }
     ensures device { D.failures (disk_of file.new) ≡ failures_after result (D.failures (disk_of file.old)) }
     ensures memory { ¬ IsErrOf result SlotFault.OutOfMemory }

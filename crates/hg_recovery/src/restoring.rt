@@ -1,17 +1,14 @@
 //! A detector over a pool, from a root and the file of slots that it names.
-ghost use Rattle.std.specs.Prelude.{◌≡◌, ◌<◌, ◌≤◌, length, All, IfErr, IfOk, IsTrue, OnOk};
-ghost use Rattle.hg_contents.specs.Images.{content_of};
+ghost use Rattle.std.specs.Prelude.{◌≡◌, ◌<◌, ◌≤◌, length, IfErr, IfOk, IsTrue, OnOk};
 ghost use Rattle.hg_detect.specs.Engine.{AtPresent};
 ghost use Rattle.hg_detect.specs.Shown.{content};
 ghost use Rattle.hg_detect.specs.Words.{failed_after};
 ghost use Rattle.hg_pages.specs.Files.{disk_of, known};
 ghost use Rattle.hg_pool.specs.Answers.{told_as};
-ghost use Rattle.hg_pool.specs.Maps.{live};
-ghost use Rattle.hg_root.specs.Checkpoints.{Checkpoint, HasPages};
 ghost use Rattle.hg_root.specs.Lawful.{IsLawful};
 ghost use Rattle.hg_root.specs.Roots.{IsWhole, parts_of};
 ghost use Rattle.hg_recovery.specs.Reading.{WasRead};
-ghost use Rattle.hg_recovery.specs.Restoring.{AreCaps, FitsCaps, IsTrueCause, detector_of, failures_after, file_in};
+ghost use Rattle.hg_recovery.specs.Restoring.{AreCaps, FitsCaps, FitsSets, IsTrueCause, NamesBeyond, RestoresContent, detector_of, failures_after, file_in};
 ghost use Rattle.hg_recovery.specs.Standing.{HasPagesOf, entries_of};
 ghost use Rattle.hg_recovery.specs.declared.caps.Caps.{Caps as CapsOf};
 
@@ -65,7 +62,7 @@ fn checked_table<D: Disk>(
     ensures table { IfOk result (λ table. table.entries ≡ entries_of root.now.pages.items) }
     ensures fits { OnOk result (FitsCaps (parts_of root.now) caps) }
     ensures sets { caps.sets < length root.now.sets.sets → IfErr result (λ r. r ≡ Refusal.FullSets) }
-    ensures slots { length root.now.sets.sets ≤ caps.sets → ¬ All (λ p. p.slot < caps.slots) root.now.pages.items → IfErr result (λ r. r ≡ Refusal.FullSlots) }
+    ensures slots { FitsSets root.now caps → NamesBeyond root.now caps → IfErr result (λ r. r ≡ Refusal.FullSlots) }
     ensures unread { ¬ FitsCaps (parts_of root.now) caps → file.new ≡ file.old }
     ensures stands { IsTrue D.is_honest → OnOk result (HasPagesOf (parts_of root.now) (known ⟦<D as Disk>⟧ file.old)) }
     ensures refusal { IfErr result (IsTrueCause ⟦<D as Disk>⟧ (parts_of root.now) caps file.old) }
@@ -101,13 +98,13 @@ pub fn restored<D: Disk>(
     requires whole { IsWhole root }
     requires caps { AreCaps caps }
     ensures shown { IfOk result (λ d. d ≡ detector_of root caps d.words.file) }
-    ensures content { IsTrue D.is_honest → (c : Checkpoint) → c.root ≡ parts_of root → HasPages (known ⟦<D as Disk>⟧ file) c → IfOk result (λ d. content (live ⟦<D as Disk>⟧) d ≡ content_of c) }
+    ensures content { IsTrue D.is_honest → RestoresContent ⟦<D as Disk>⟧ root file result }
     ensures stands { IsTrue D.is_honest → OnOk result (HasPagesOf (parts_of root) (known ⟦<D as Disk>⟧ file)) }
     ensures lawful { IfOk result (AtPresent ⟦<Pool<D> as Words>⟧.may_bring) }
     ensures faithful { IsTrue D.is_honest → IfOk result (AtPresent ⟦<Pool<D> as Words>⟧.is_faithful) }
     ensures fits { OnOk result (FitsCaps (parts_of root) caps) }
     ensures sets { caps.sets < length root.sets.sets → IfErr result (λ e. e.0 ≡ Refusal.FullSets) }
-    ensures slots { length root.sets.sets ≤ caps.sets → ¬ All (λ p. p.slot < caps.slots) root.pages.items → IfErr result (λ e. e.0 ≡ Refusal.FullSlots) }
+    ensures slots { FitsSets root caps → NamesBeyond root caps → IfErr result (λ e. e.0 ≡ Refusal.FullSlots) }
     ensures unread { ¬ FitsCaps (parts_of root) caps → file_in result ≡ file }
     ensures refusal { IfErr result (λ e. IsTrueCause ⟦<D as Disk>⟧ (parts_of root) caps file e.0) }
     ensures read { WasRead ⟦<D as Disk>⟧ (length root.pages.items) file (file_in result) }

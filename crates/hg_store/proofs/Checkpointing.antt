@@ -1,21 +1,15 @@
 -- A store goes on by the steps of a checkpoint.
-use Rattle.std.proofs.Common.{◌≡◌, ◌⊎◌, inl, inr, ◌∙◌, ◌↔◌, ℕ, List, [], ◌++◌, Bool, true, false, Option, Some, None, IsTrue, refl, sym, ap, subst}
-use Rattle.hg_model.specs.declared.event.Named.{Named}
+use Rattle.std.proofs.Common.{◌≡◌, ◌⊎◌, inl, inr, ◌∙◌, ℕ, List, Bool, true, false, Option, Some, refl, sym, ap, subst}
 use Rattle.hg_model.specs.Contents.{Content}
-use Rattle.hg_detect.specs.Engine.{AtPresent}
 use Rattle.hg_detect.specs.Shown as detect
 use Rattle.hg_disk.specs.State.{IsImage}
 use Rattle.hg_disk.specs.declared.disk.Disk as disk
-use Rattle.hg_disk.proofs.Moments.{started}
 use Rattle.hg_cells.specs.declared.cell.Cell.{Cell}
-use Rattle.hg_pool.specs.Kept.{IsFaithful, IsPageWhole, IsWhole, Stays, Went}
-use Rattle.hg_pool.specs.Maps as pools
+use Rattle.hg_pool.specs.Kept.{Stays, Went}
 use Rattle.hg_pool.specs.Shown as pool
-use Rattle.hg_root.specs.Checkpoints.{Checkpoint, root_of}
-use Rattle.hg_root.specs.Finding.{number_in}
-use Rattle.hg_contents.specs.Choices.{Basis, Choice, GivesDurable, HasBothSlots, HasEitherRoots, HasEvents, HasRoots, HasSlots, Stands}
-use Rattle.hg_contents.specs.Images.{Gives, content_of, start_of}
-use Rattle.hg_contents.specs.Laws.{CheckpointGivesTheSame}
+use Rattle.hg_root.specs.Checkpoints.{Checkpoint}
+use Rattle.hg_contents.specs.Choices.{Basis, Stands}
+use Rattle.hg_contents.specs.Images.{content_of}
 use Rattle.hg_contents.specs.Maps.{IsNewElsewhere, checkpoint_of}
 use Rattle.hg_contents.specs.States.{IsLawfulState}
 use Rattle.hg_contents.proofs.Maps.{contents}
@@ -27,9 +21,8 @@ use Rattle.hg_checkpointer.specs.declared.phase.Phase.TheVariants as phase
 use Rattle.hg_checkpointer.specs.Standing as checkpoints
 use Rattle.hg_checkpointer.specs.Standing.{EachEither, EachNow, EachOf, root_with}
 use Rattle.hg_checkpointer.proofs.Between.{calls_between}
-use Rattle.hg_checkpointer.proofs.Rooting.{still_now}
 use Rattle.hg_store.specs.Images.{EachImage}
-use Rattle.hg_store.specs.Kept.{IsFreezing, IsFront, IsInProgress, IsRooting, IsWorking, Parts, Standing, devices_of, shown_of}
+use Rattle.hg_store.specs.Kept.{IsFreezing, IsInProgress, IsRooting, Parts, Standing, devices_of, shown_of}
 use Rattle.hg_store.specs.Shown.{live, saved}
 use Rattle.hg_store.proofs.Moments.{Moved}
 use Rattle.hg_store.proofs.Going as going

@@ -4,7 +4,6 @@ use Rattle.hg_model.specs.declared.event.Named.{Named}
 use Rattle.hg_model.specs.Contents.{Content}
 use Rattle.hg_model.specs.Change.{followed}
 use Rattle.hg_detect.specs.Shown as detect
-use Rattle.hg_disk.specs.State.{IsImage}
 use Rattle.hg_disk.specs.Moments.{Leaves, LeavesOnly}
 use Rattle.hg_disk.specs.declared.disk.Disk as disk
 use Rattle.hg_disk.proofs.Moments.{started, weaker}
@@ -16,11 +15,10 @@ use Rattle.hg_pool.specs.Shown as pool
 use Rattle.hg_contents.specs.Choices.{Basis, Choice, GivesDurable, HasBothSlots, HasEvents, Stands}
 use Rattle.hg_contents.specs.Images.{Gives, start_of}
 use Rattle.hg_contents.proofs.Following.{lead_on}
-use Rattle.hg_checkpointer.specs.declared.checkpointer.Checkpointer.{Checkpointer}
 use Rattle.hg_checkpointer.specs.declared.phase.Phase.{Phase}
 use Rattle.hg_checkpointer.specs.declared.phase.Phase.TheVariants as phase
 use Rattle.hg_store.specs.Images.{EachImage}
-use Rattle.hg_store.specs.Kept.{IsFreezing, IsFront, IsInProgress, IsRooting, IsWorking, Parts, Standing, devices_of, shown_of}
+use Rattle.hg_store.specs.Kept.{IsFreezing, IsFront, IsInProgress, IsRooting, Parts, Standing, devices_of, shown_of}
 use Rattle.hg_store.specs.Shown.{live, saved}
 use Rattle.hg_store.specs.Store.{view_of}
 use Rattle.hg_store.proofs.Moments.{Moved, each_image, keeps_after, none_moved}

@@ -1,14 +1,11 @@
 -- A store goes on by a freeze.
-use Rattle.std.proofs.Common.{◌≡◌, ◌∙◌, ◌+◌, ◌≤◌, ◌<◌, ◌^◌, ℕ, List, [], ◌∷◌, ◌++◌, Bool, true, false, All, length, Option, Some, None, refl, sym, ap, subst, arith}
+use Rattle.std.proofs.Common.{◌≡◌, ◌∙◌, ◌+◌, ◌<◌, ℕ, List, [], ◌∷◌, Bool, false, length, Option, Some, None, refl, sym, ap, subst, arith}
 use Rattle.std.proofs.lemmas.List.{append-nil}
 use Rattle.hg_model.specs.declared.event.Named.{Named}
 use Rattle.hg_model.specs.Contents.{Content}
 use Rattle.hg_model.specs.Change.{followed}
-use Rattle.hg_model.specs.Sharing.{threads_in}
-use Rattle.hg_model.specs.ThreadSets.{IsThreadSet, RisesFrom}
 use Rattle.hg_cells.specs.declared.cell.Cell.{Cell}
-use Rattle.hg_cells.specs.declared.cell.Cell.TheVariants.{Exclusive, New, SharedModified, SharedRead}
-use Rattle.hg_cells.specs.Cells.{IsWithin, meaning}
+use Rattle.hg_cells.specs.Cells.{IsWithin}
 use Rattle.hg_detect.specs.Engine.{AtPresent}
 use Rattle.hg_detect.specs.Shown as detect
 use Rattle.hg_disk.specs.declared.disk.Disk as disk
@@ -25,14 +22,13 @@ use Rattle.hg_root.specs.Pairs.{first_of, second_of}
 use Rattle.hg_contents.specs.Choices.{Basis, HasBothSlots, HasEvents}
 use Rattle.hg_contents.specs.Images.{Gives}
 use Rattle.hg_contents.specs.Maps.{IsKnownTo}
-use Rattle.hg_contents.specs.States.{IsLawfulState}
 use Rattle.hg_contents.proofs.lawful.Sharing.{live_known}
 use Rattle.hg_recovery.specs.Capturing.{parts_with}
 use Rattle.hg_checkpointer.specs.declared.checkpointer.Checkpointer.{Checkpointer}
 use Rattle.hg_checkpointer.specs.declared.phase.Phase.{Phase}
 use Rattle.hg_checkpointer.specs.declared.phase.Phase.TheVariants as phase
 use Rattle.hg_checkpointer.specs.Standing as checkpoints
-use Rattle.hg_store.specs.Kept.{IsFreezing, IsFront, IsInProgress, IsWorking, Parts, Standing, devices_of, shown_of}
+use Rattle.hg_store.specs.Kept.{IsFreezing, IsFront, IsInProgress, Parts, Standing, devices_of, shown_of}
 use Rattle.hg_store.specs.Shown.{live, phase_by, saved}
 use Rattle.hg_store.specs.declared.steps.StorePhase.TheVariants as store
 use Rattle.hg_disk.proofs.Moments.{started}

@@ -1,5 +1,5 @@
 -- A store goes on while calls of its pool come.
-use Rattle.std.proofs.Common.{◌≡◌, ◌⊎◌, inl, inr, ℕ, List, Bool, true, false, All, Some, refl, sym, subst, ◌∙◌}
+use Rattle.std.proofs.Common.{◌≡◌, inl, inr, ℕ, List, Bool, false, All, Some, refl, sym, subst, ◌∙◌}
 use Rattle.std.proofs.lemmas.Bool.{false≢true}
 use Rattle.hg_model.specs.declared.event.Named.{Named}
 use Rattle.hg_model.specs.Change.{followed}
@@ -13,7 +13,7 @@ use Rattle.hg_pool.specs.Kept.{IsFaithful, Went}
 use Rattle.hg_pool.specs.Maps as pools
 use Rattle.hg_pool.specs.Shown as pool
 use Rattle.hg_root.specs.Grammar.{SetFits}
-use Rattle.hg_contents.specs.Choices.{Basis, Choice, HasBothSlots, HasEvents, HasSlots, Stands}
+use Rattle.hg_contents.specs.Choices.{Basis, Choice, HasEvents, HasSlots, Stands}
 use Rattle.hg_contents.specs.States.{IsLawfulState}
 use Rattle.hg_checkpointer.specs.declared.phase.Phase.{Phase}
 use Rattle.hg_checkpointer.specs.declared.phase.Phase.TheVariants as phase

@@ -1,5 +1,5 @@
 -- A store that was just made or recovered.
-use Rattle.std.proofs.Common.{◌≡◌, ◌≤◌, inl, ℕ, Bool, true, false, List, [], ◌∷◌, All, drop, Some, None, Option, IsTrue, Result, Ok, Err, length, refl, sym, ap, ◌∙◌, subst, arith}
+use Rattle.std.proofs.Common.{◌≡◌, ◌≤◌, inl, ℕ, false, List, [], ◌∷◌, All, drop, Some, None, Option, IsTrue, Result, Ok, Err, length, refl, sym, ap, ◌∙◌, subst, arith}
 use Rattle.std.specs.Prelude.{IfErr, IfOk, OnOk}
 use Rattle.hg_recovery.specs.declared.caps.Caps.{Caps}
 use Rattle.hg_recovery.specs.Restoring.{detector_of}

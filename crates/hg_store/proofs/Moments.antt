@@ -1,10 +1,10 @@
 -- What a crash may leave of the devices from one moment to another, from one fact on each kind of device.
-use Rattle.std.proofs.Common.{◌≡◌, ◌⊎◌, inl, inr, ℕ, List, [], Bool, true, false, Some, refl}
+use Rattle.std.proofs.Common.{◌≡◌, ℕ, List, Bool, Some}
 use Rattle.hg_model.specs.declared.event.Named.{Named}
 use Rattle.hg_model.specs.Contents.{Content}
 use Rattle.hg_model.specs.Change.{followed}
 use Rattle.hg_disk.specs.State.{IsImage}
-use Rattle.hg_disk.specs.Moments.{GoesOn, LeavesOnly, MayLeave}
+use Rattle.hg_disk.specs.Moments.{LeavesOnly}
 use Rattle.hg_disk.specs.declared.disk.Disk as disk
 use Rattle.hg_disk.proofs.Moments.{at_end, left_at_end, may_leave, stays, still}
 use Rattle.hg_contents.specs.Choices.{Basis, GivesDurable, HasBothSlots, HasEitherRoots, HasEvents, Stands}
@@ -13,7 +13,7 @@ use Rattle.hg_contents.specs.Stores as stores
 use Rattle.hg_contents.proofs.Joining.{joint_images}
 use Rattle.hg_checkpointer.specs.Standing.{EachOf}
 use Rattle.hg_store.specs.declared.devices.Devices.{Devices}
-use Rattle.hg_store.specs.Images.{EachImage, MayLeaveAll, read_of, states_of}
+use Rattle.hg_store.specs.Images.{EachImage, read_of, states_of}
 
 module _ {D : Type 0} (g : disk.Ghosts D) where
   -- From one moment to another each kind of device had this basis.

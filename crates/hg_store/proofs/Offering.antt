@@ -1,5 +1,5 @@
 -- A store goes on by an offer.
-use Rattle.std.proofs.Common.{◌≡◌, ◌∙◌, List, [], ◌∷◌, ◌++◌, Bool, false, All, Ok, Err, Some, None, sym, ap, subst, if◌then◌else◌}
+use Rattle.std.proofs.Common.{◌≡◌, ◌∙◌, List, [], ◌∷◌, ◌++◌, Bool, false, Ok, Err, Some, None, sym, ap, subst, if◌then◌else◌}
 use Rattle.std.specs.Option.{option_and_then}
 use Rattle.hg_model.specs.declared.event.Named.{Named}
 use Rattle.hg_model.specs.declared.verdict.Refusal.{Refusal}

@@ -1,19 +1,17 @@
 -- A store goes on by the opening of a root.
-use Rattle.std.proofs.Common.{◌≡◌, ◌⊎◌, inl, inr, ◌∙◌, ◌↔◌, ℕ, List, [], ◌++◌, Bool, true, false, length, Option, Some, None, refl, sym, ap, subst}
+use Rattle.std.proofs.Common.{◌≡◌, inl, ◌∙◌, ℕ, List, Bool, true, false, length, Some, refl, sym, ap, subst}
 use Rattle.hg_model.specs.declared.event.Named.{Named}
 use Rattle.hg_model.specs.Contents.{Content}
 use Rattle.hg_detect.specs.Engine.{AtPresent}
-use Rattle.hg_detect.specs.Shown as detect
 use Rattle.hg_disk.specs.State.{IsImage}
 use Rattle.hg_disk.specs.declared.disk.Disk as disk
 use Rattle.hg_disk.proofs.Moments.{left_at_end, started, stays}
 use Rattle.hg_pool.specs.Kept.{IsFaithful, IsWhole}
 use Rattle.hg_pool.specs.Maps as pools
 use Rattle.hg_pool.specs.Shown as pool
-use Rattle.hg_root.specs.Checkpoints.{Checkpoint, root_of}
-use Rattle.hg_root.specs.Finding.{number_in}
+use Rattle.hg_root.specs.Checkpoints.{root_of}
 use Rattle.hg_root.specs.Pairs.{first_of, second_of}
-use Rattle.hg_contents.specs.Choices.{Basis, Choice, GivesDurable, HasBothSlots, HasEitherRoots, HasEvents, HasRoots, HasSlots, Stands}
+use Rattle.hg_contents.specs.Choices.{Basis, Choice, GivesDurable, HasBothSlots, HasEitherRoots, HasEvents, Stands}
 use Rattle.hg_contents.specs.Images.{Gives, content_of, start_of}
 use Rattle.hg_contents.proofs.Following.{same_from}
 use Rattle.hg_checkpointer.specs.declared.checkpointer.Checkpointer.{Checkpointer}
@@ -23,7 +21,7 @@ use Rattle.hg_checkpointer.specs.Standing as checkpoints
 use Rattle.hg_checkpointer.specs.Standing.{EachEither}
 use Rattle.hg_checkpointer.proofs.Rooting.{still_now}
 use Rattle.hg_store.specs.Images.{EachImage, HasOpened}
-use Rattle.hg_store.specs.Kept.{IsInProgress, IsRooting, IsWorking, Parts, Standing, devices_of, shown_of}
+use Rattle.hg_store.specs.Kept.{IsInProgress, IsRooting, Parts, Standing, devices_of, shown_of}
 use Rattle.hg_store.specs.Shown.{captured, live, saved}
 use Rattle.hg_store.proofs.Moments.{Moved}
 use Rattle.hg_store.proofs.Staying.{images_after, over, same_content, stands_after, with_parts}

@@ -1,7 +1,6 @@
 -- A store that is recovered: what its devices leave meanwhile, and the content that it has.
-use Rattle.std.proofs.Common.{◌≡◌, ◌⊎◌, inl, inr, ◌+◌, ◌∙◌, ℕ, List, refl, sym, ap, subst, arith}
+use Rattle.std.proofs.Common.{◌≡◌, inl, inr, ◌+◌, ℕ, List, refl, sym, ap, subst, arith}
 use Rattle.hg_model.specs.Contents.{Content}
-use Rattle.hg_model.specs.declared.event.Named.{Named}
 use Rattle.hg_model.specs.declared.verdict.Refusal.{Refusal}
 use Rattle.hg_detect.specs.Shown as detect
 use Rattle.hg_disk.specs.State.{DiskState, IsImage, settled}
@@ -10,13 +9,12 @@ use Rattle.hg_disk.specs.declared.disk.Disk as disk
 use Rattle.hg_disk.proofs.Moments.{at_end, may_leave, stays, still}
 use Rattle.hg_journal.specs.Journal.{IsJournal}
 use Rattle.hg_pool.specs.Shown as pool
-use Rattle.hg_root.specs.Checkpoints.{Checkpoint, HasCheckpoint}
+use Rattle.hg_root.specs.Checkpoints.{HasCheckpoint}
 use Rattle.hg_root.specs.declared.pair.RootPair.{RootPair}
-use Rattle.hg_contents.specs.Choices.{Choice, HasSlots}
-use Rattle.hg_contents.specs.Images.{Gives, HasContent, Image, LeadFrom, start_of}
+use Rattle.hg_contents.specs.Choices.{HasSlots}
+use Rattle.hg_contents.specs.Images.{HasContent, Image, LeadFrom}
 use Rattle.hg_contents.specs.Stores.{IsLeft}
 use Rattle.hg_store.specs.declared.devices.Devices.{Devices}
-use Rattle.hg_store.specs.Answers.{failed_in}
 use Rattle.hg_store.specs.Images.{EachImage, HasContentOf, HasContentOfOne, Recovers, read_of, states_of}
 use Rattle.hg_store.specs.Recovering.{CountedBy, IsRooted, Settled, Stay}
 

@@ -1,12 +1,11 @@
 -- The trace rules never tell that a device failed.
-use Rattle.std.proofs.Common.{◌≡◌, ◌∙◌, ◌+◌, ℕ, Bool, true, false, nat_le, nat_lt, List, [], ◌∷◌, Err, Result, refl, sym, ap, if◌then◌else◌}
-use Rattle.std.proofs.lemmas.Bool.{false≢true}
+use Rattle.std.proofs.Common.{◌≡◌, ◌∙◌, ◌+◌, ℕ, Bool, true, false, nat_le, nat_lt, List, [], ◌∷◌, refl, sym, ap, if◌then◌else◌}
 use Rattle.std.specs.List.{AllByRecursion}
 use Rattle.hg_model.specs.declared.event.Named.{Named}
 use Rattle.hg_model.specs.declared.verdict.Refusal.{Refusal}
 use Rattle.hg_model.specs.declared.verdict.Refusal.TheVariants as refusal
 use Rattle.hg_model.specs.declared.verdict.Verdict.{Verdict}
-use Rattle.hg_model.specs.declared.verdict.Verdict.TheVariants.{Accept, Duplicate, Refuse}
+use Rattle.hg_model.specs.declared.verdict.Verdict.TheVariants.{Duplicate, Refuse}
 use Rattle.hg_model.specs.Verdicts.{Standing, causes, first_cause, verdict}
 use Rattle.hg_journal.specs.Journal.{after_refusal}
 

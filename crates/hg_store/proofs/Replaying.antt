@@ -1,5 +1,5 @@
 -- How far a journal was followed.
-use Rattle.std.proofs.Common.{◌≡◌, ◌⊎◌, inl, inr, ℕ, ◌+◌, ◌<◌, ◌≤◌, List, [], ◌∷◌, ◌++◌, length, drop, All, Some, None, if◌then◌else◌, OnOk, Result, Ok, Err, refl, sym, ap, ◌∙◌, subst, arith, append_assoc}
+use Rattle.std.proofs.Common.{◌≡◌, ℕ, ◌+◌, ◌<◌, ◌≤◌, List, [], ◌∷◌, ◌++◌, length, drop, All, Some, None, if◌then◌else◌, OnOk, Result, Ok, Err, refl, sym, ap, ◌∙◌, subst, arith, append_assoc}
 use Rattle.std.specs.List.{AllByRecursion}
 use Rattle.std.proofs.lemmas.List.Elements.{All-drop, All-from_recursion, recursion_from_All}
 use Rattle.hg_records.specs.Records.{RecordFits}
@@ -7,7 +7,7 @@ use Rattle.hg_root.specs.Grammar.{SetFits}
 use Rattle.hg_contents.specs.States.{IsLawfulState}
 use Rattle.hg_contents.proofs.lawful.Staying.{one_stays}
 use Rattle.hg_contents.proofs.lawful.Tables.{tables}
-use Rattle.std.proofs.lemmas.List.{append-nil, drop-append-le, drop_at, length-append}
+use Rattle.std.proofs.lemmas.List.{append-nil, drop_at, length-append}
 use Rattle.std.specs.Option.{option_and_then}
 use Rattle.hg_model.specs.declared.event.Named.{Named}
 use Rattle.hg_model.specs.declared.verdict.Refusal.{Refusal}
@@ -36,7 +36,7 @@ use Rattle.hg_pool.specs.Shown as pool
 use Rattle.hg_contents.specs.Images.{LeadFrom}
 use Rattle.hg_contents.proofs.Following.{followed_append, followed_events}
 use Rattle.hg_store.specs.Answers.{failed_in}
-use Rattle.hg_store.specs.Recovering.{CountsFailures, Fills, HasSets, IsAccepted, IsTooSmall}
+use Rattle.hg_store.specs.Recovering.{Fills, IsAccepted, IsTooSmall}
 
 -- a refusal tells how many calls failed
 pub journal_failed : (r : Refusal) (n : ℕ) → journals.after_refusal r n ≡ failed_in r + n

@@ -8,7 +8,7 @@ use Rattle.hg_disk.specs.Moments.{Leaves}
 use Rattle.hg_disk.specs.declared.disk.Disk as disk
 use Rattle.hg_pool.specs.Maps as pools
 use Rattle.hg_pool.specs.Shown as pool
-use Rattle.hg_root.specs.Checkpoints.{Checkpoint, HasCheckpoint, HasPages, LieWithin, root_of}
+use Rattle.hg_root.specs.Checkpoints.{Checkpoint, HasPages, LieWithin, root_of}
 use Rattle.hg_root.specs.Finding.{AreRootsOf, number_in, root_in}
 use Rattle.hg_root.specs.Newest.{IsFormer, IsNewest}
 use Rattle.hg_root.specs.Pairs.{Stands}

@@ -1,8 +1,6 @@
 -- A store goes on while its pool is called and its roots are not, or its roots and not its pool.
-use Rattle.std.proofs.Common.{◌≡◌, ◌⊎◌, inl, inr, ◌∙◌, ◌+◌, ◌*◌, ◌/◌, ◌%◌, ◌<◌, ℕ, List, [], ◌++◌, Bool, true, false, All, get_or, length, map, Option, Some, None, ⊎_elim, arith, refl, sym, ap, subst}
-use Rattle.hg_model.specs.declared.event.Named.{Named}
+use Rattle.std.proofs.Common.{◌≡◌, inl, ◌∙◌, ℕ, List, Bool, false, All, get_or, length, map, Some, ⊎_elim, arith, sym, ap, subst}
 use Rattle.hg_model.specs.Contents.{Content}
-use Rattle.hg_model.specs.Change.{followed}
 use Rattle.hg_cells.specs.declared.cell.Cell.{Cell}
 use Rattle.hg_cells.specs.declared.cell.Cell.TheVariants.{New}
 use Rattle.hg_pool.specs.declared.frame.Frame.{Frame}
@@ -14,28 +12,22 @@ use Rattle.std.specs.Prelude.{slice_index}
 use Rattle.hg_disk.specs.State.{IsImage}
 use Rattle.hg_disk.specs.declared.disk.Disk as disk
 use Rattle.hg_disk.proofs.Moments.{started}
-use Rattle.hg_pool.specs.Kept.{AreWithin, CellsFrom, IsFaithful, IsWhole, SameMap, Stays, Went}
+use Rattle.hg_pool.specs.Kept.{AreWithin, CellsFrom, IsFaithful, SameMap, Stays, Went}
 use Rattle.hg_pool.specs.Maps as pools
 use Rattle.hg_pool.specs.Shown as pool
-use Rattle.hg_root.specs.Checkpoints.{Checkpoint, root_of}
-use Rattle.hg_root.specs.Newest.{IsNewest}
 use Rattle.hg_root.specs.Grammar.{SetFits}
 use Rattle.hg_root.specs.Pairs.{first_of, second_of}
 use Rattle.hg_root.specs.declared.pair.RootPair.{RootPair}
-use Rattle.hg_contents.specs.Choices.{Basis, Choice, GivesDurable, HasBothSlots, HasEitherRoots, HasEvents, HasRoots, HasSlots, Stands}
-use Rattle.hg_contents.specs.Images.{content_of}
+use Rattle.hg_contents.specs.Choices.{Basis, GivesDurable, HasBothSlots, HasEitherRoots, HasEvents, HasRoots, Stands}
 use Rattle.hg_contents.specs.States.{IsLawfulState}
 use Rattle.hg_checkpointer.specs.declared.checkpointer.Checkpointer.{Checkpointer}
-use Rattle.hg_checkpointer.specs.declared.phase.Phase.{Phase}
-use Rattle.hg_checkpointer.specs.Standing as checkpoints
-use Rattle.hg_checkpointer.specs.Standing.{EachNow, EachOf, EachRoots}
+use Rattle.hg_checkpointer.specs.Standing.{EachNow, EachOf}
 use Rattle.hg_store.specs.Images.{EachImage}
 use Rattle.hg_store.specs.Kept.{IsWorking, Parts, Standing, devices_of, shown_of}
 use Rattle.hg_store.specs.Shown.{live, saved}
-use Rattle.hg_store.specs.Store.{view_of}
 use Rattle.hg_store.proofs.Backing.{parts_stand}
 use Rattle.hg_store.proofs.Going as going
-use Rattle.hg_store.proofs.Moments.{Moved, each_image, keeps_after, none_moved}
+use Rattle.hg_store.proofs.Moments.{Moved, each_image, keeps_after}
 
 -- what is in memory was there, so it names what is there
 pub within_still : (old new : List (ℕ × Frame)) (segments sets : ℕ) → CellsFrom old new → AreWithin old segments sets → AreWithin new segments sets

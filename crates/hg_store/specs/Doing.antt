@@ -8,14 +8,16 @@ use Rattle.hg_pages.specs.Slots.{IsSlot, slot_text}
 use Rattle.hg_pages.specs.Tables.{slot_in}
 use Rattle.hg_pages.specs.Encoded.{Encoded}
 use Rattle.hg_pool.specs.Answers.{IsFrozen, least_of}
+use Rattle.hg_pool.specs.Calls.{HasWaited, IsStale}
+use Rattle.hg_pool.specs.Shown as pool
 use Rattle.hg_pool.specs.declared.job.Job.{Job}
 use Rattle.hg_pool.specs.declared.job.Put.{Put}
 use Rattle.hg_pool.specs.declared.job.Put.TheVariants as put
 use Rattle.hg_checkpointer.specs.declared.phase.Phase.TheVariants as phase
 use Rattle.hg_store.specs.Answers.{IfRefused, IsAllowed, failed_by}
-use Rattle.hg_store.specs.Images.{HasOpened}
-use Rattle.hg_store.specs.Shown.{Shown, captured, live, phase_of, words}
+use Rattle.hg_store.specs.Shown.{HasNextNumber, IsFlushed, IsIn, Shown, live, phase_of, words}
 use Rattle.hg_store.specs.Steps.{CheckpointDone, CommitDone, ContentOffered, OfferDone}
+use Rattle.hg_store.specs.Store.{HasOpenedFrozen, StandMeanwhile}
 use Rattle.hg_store.specs.declared.steps.Step.{Step}
 use Rattle.hg_store.specs.declared.steps.Step.TheVariants as step
 use Rattle.hg_store.specs.declared.steps.StepFault.{StepFault}
@@ -26,6 +28,11 @@ use Rattle.hg_store.specs.declared.steps.StorePhase.TheVariants as store
 -- The answer is of this kind, and what it tells has P.
 abbrev pub Tells : {X : Type 0} → (X → StepResult) → StepResult → (X → Type 0) → Type 0
 Tells {X} kind result P = (x : X) × (result ≡ kind x) × P x
+
+-- The job is the first of the pages that wait, with its cells at the freeze; there is none where no page waits.
+abbrev pub IsFirstWaiting : {D : Type 0} → pool.Shown D → Option Job → Type 0
+IsFirstWaiting words found =
+    MatchOption found (words.waiting ≡ []) (λ job. (Some job.page ≡ least_of words.waiting) × IsFrozen words job.page job.cells)
 
 -- neither the slots nor what is in memory of them
 pub record SameWords {D : Type 0} (old new : Shown D) : Type 0 where
@@ -49,22 +56,22 @@ pub record FreezeDone {D : Type 0} (old new : Shown D) (result : Result (Unit {0
   pub refused : OnErr result (new ≡ old)
   pub last : OnOk result (old.progress.number < 2 ^ 58)
   pub full : IfRefused (λ r. r ≡ refusal.FullEvents → 2 ^ 58 ≤ old.progress.number) result
-  pub number : OnOk result ((new.progress.number ≡ old.progress.number) × (new.progress.next ≡ old.progress.number + 1))
+  pub number : OnOk result (HasNextNumber old new)
   pub devices : new.devices ≡ old.devices
   pub frozen : OnOk result (new.frozen ≡ old.detector)
 
 -- The page is the first of those that wait, with its cells at the freeze. Nothing changes.
 pub record JobTaken {D : Type 0} (old new : Shown D) (result : Result (Option Job) StepFault) : Type 0 where
   pub same : new ≡ old
-  pub allowed : IsAllowed old (old.progress.phase ≡ phase.Flushing) result
+  pub allowed : IsAllowed old (IsIn phase.Flushing old) result
   pub refusal : IfRefused (λ r. r ≡ refusal.Broken) result
-  pub job : IfOk result (λ found. MatchOption found ((words old).waiting ≡ []) (λ job. (Some job.page ≡ least_of (words old).waiting) × IsFrozen (words old) job.page job.cells))
+  pub job : IfOk result (IsFirstWaiting (words old))
 
 -- A page is written where it waits and the bytes are those of its cells at the freeze. The phase stays.
 pub record PutDone {D : Type 0} (old new : Shown D) (page : Encoded) (result : Result Put StepFault) : Type 0 where
   pub done : CheckpointDone old new (old.is_broken ≡ false) old.progress.phase result
-  pub written : IfOk result (λ p. p ≡ put.Written → (cells : List Cell) × (is_some (slot_in (words old).waiting page.page) ≡ true) × IsFrozen (words old) page.page cells × IsSlot page.page cells page.bytes)
-  pub stale : IfOk result (λ p. p ≡ put.Stale → (slot : ℕ) (cells : List Cell) → slot_in (words old).waiting page.page ≡ Some slot → IsFrozen (words old) page.page cells → page.bytes ≡ slot_text page.page cells → ⊥)
+  pub written : IfOk result (λ p. p ≡ put.Written → HasWaited (words old) page)
+  pub stale : IfOk result (λ p. p ≡ put.Stale → IsStale (words old) page)
   pub nothing : IfOk result (λ p. p ≡ put.Stale → new ≡ old)
   pub roots : SameRoots old new
   pub progress : new.progress ≡ old.progress
@@ -72,28 +79,28 @@ pub record PutDone {D : Type 0} (old new : Shown D) (page : Encoded) (result : R
 
 -- The pages are durable, once none waits.
 pub record SealDone {D : Type 0} (old new : Shown D) (result : Result (Unit {0}) StepFault) : Type 0 where
-  pub done : CheckpointDone old new ((old.progress.phase ≡ phase.Flushing) × ((words old).waiting ≡ [])) phase.Sealed result
+  pub done : CheckpointDone old new (IsFlushed old) phase.Sealed result
   pub roots : SameRoots old new
   pub numbers : SameNumbers old new
   pub frozen : new.frozen ≡ old.frozen
 
 -- The file of the next root is closed.
 pub record PrepareDone {D : Type 0} (old new : Shown D) (result : Result (Unit {0}) StepFault) : Type 0 where
-  pub done : CheckpointDone old new (old.progress.phase ≡ phase.Sealed) phase.Prepared result
+  pub done : CheckpointDone old new (IsIn phase.Sealed old) phase.Prepared result
   pub words : SameWords old new
   pub numbers : SameNumbers old new
   pub frozen : new.frozen ≡ old.frozen
 
 -- The next root is durable behind its closed gate.
 pub record WriteDone {D : Type 0} (old new : Shown D) (result : Result (Unit {0}) StepFault) : Type 0 where
-  pub done : CheckpointDone old new (old.progress.phase ≡ phase.Prepared) phase.Written result
+  pub done : CheckpointDone old new (IsIn phase.Prepared old) phase.Written result
   pub words : SameWords old new
   pub numbers : SameNumbers old new
   pub frozen : new.frozen ≡ old.frozen
 
 -- The next root is the newest one, and its number is answered.
 pub record OpenDone {D : Type 0} (old new : Shown D) (result : Result ℕ StepFault) : Type 0 where
-  pub done : CheckpointDone old new (old.progress.phase ≡ phase.Written) phase.Idle result
+  pub done : CheckpointDone old new (IsIn phase.Written old) phase.Idle result
   pub number : IfOk result (λ n. (n ≡ old.progress.next) × (new.progress.number ≡ n))
   pub slots : new.devices.slots ≡ old.devices.slots
   pub frozen : new.frozen ≡ old.frozen
@@ -113,7 +120,7 @@ StepDone g old new step.OpenRoot result = Tells told.Opened result (λ r. OpenDo
 -- After the opening of a root that one is the newest, and has the content at the freeze.
 pub record ContentOpened {D : Type 0} (g : disk.Ghosts D) (old new : Shown D) (result : Result ℕ StepFault) : Type 0 where
   pub live : live g new ≡ live g old
-  pub checkpoint : IfOk result (λ n. HasOpened g new.devices n (captured g old))
+  pub checkpoint : IfOk result (HasOpenedFrozen g old new)
 
 -- What becomes of the live content over honest devices: an accepted event joins it, and each other step leaves it.
 abbrev pub ContentDone : {D : Type 0} → disk.Ghosts D → (old new : Shown D) → Step → StepResult → Type 0
@@ -125,6 +132,10 @@ ContentDone g old new _ result = live g new ≡ live g old
 abbrev pub in_doubt_during : Step → Bool → Bool
 in_doubt_during step.Commit in_doubt = true
 in_doubt_during _ in_doubt = in_doubt
+
+-- Each image during a step stands for the durable content of before; where there is a doubt, it may be for the live one.
+abbrev pub StandDuring : {D : Type 0} → disk.Ghosts D → Step → (old new : Shown D) → Type 0
+StandDuring g step old new = StandMeanwhile g old new (in_doubt_during step old.in_doubt)
 
 -- how many calls of devices have failed after a step, of n before
 abbrev pub fails_by : StepResult → ℕ → ℕ

@@ -3,7 +3,8 @@ use Rattle.std.specs.Prelude.{◌≡◌, ◌+◌, ℕ, List, [], ◌∷◌, Some
 use Rattle.hg_model.specs.declared.event.Named.{Named}
 use Rattle.hg_model.specs.Contents.{Content}
 use Rattle.hg_model.specs.Change.{followed}
-use Rattle.hg_disk.specs.Moments.{GoesOn, MayLeave}
+use Rattle.hg_disk.specs.Moments.{GoesOn, LeavesOnly, MayLeave}
+use Rattle.hg_disk.specs.State.{IsImage}
 use Rattle.hg_disk.specs.declared.disk.Disk as disk
 use Rattle.hg_root.specs.Checkpoints.{Checkpoint, HasCheckpoint}
 use Rattle.hg_contents.specs.Images.{HasContent, Image, content_of}
@@ -50,6 +51,22 @@ module _ {D : Type 0} (g : disk.Ghosts D) where
   abbrev pub failures_of : Devices D → ℕ
   failures_of devices = g.failures devices.journal + g.failures devices.slots + g.failures devices.root0 + g.failures devices.root1
 
+  -- The count of failed calls became this of what it was.
+  abbrev pub FailuresBecome : (old new : Devices D) → (ℕ → ℕ) → Type 0
+  FailuresBecome old new count = failures_of new ≡ count (failures_of old)
+
+  -- So many calls of the devices failed.
+  abbrev pub FailuresGrowBy : (old new : Devices D) → ℕ → Type 0
+  FailuresGrowBy old new n = failures_of new ≡ n + failures_of old
+
+  -- Each image of the devices is one that they left at first.
+  abbrev pub KeepImages : (old new : Devices D) → Type 0
+  KeepImages old new = EachImage old new (IsLeft (states_of old))
+
+  -- Each image of one device is one that it had at first.
+  abbrev pub LeavesOld : (old new : D) → Type 0
+  LeavesOld old new = LeavesOnly g old new (IsImage (g.state old))
+
 -- The image has what content another one has, if any.
 abbrev pub HasContentOf : Image → Image → Type 0
 HasContentOf before image = (c : Content) → HasContent before c → HasContent image c
@@ -58,6 +75,10 @@ module _ {D : Type 0} (g : disk.Ghosts D) where
   -- The image has the content of one that the devices left.
   abbrev pub HasContentOfOne : Devices D → Image → Type 0
   HasContentOfOne devices image = (before : Image) × IsLeft (states_of g devices) before × HasContentOf before image
+
+  -- Each image of the devices has the content that they read at first.
+  abbrev pub KeepContent : (old new : Devices D) → Type 0
+  KeepContent old new = EachImage g old new (HasContentOf (read_of g old))
 
   -- Up to a moment, and from there on, each image of the devices has the content of one that they left at first.
   pub record Recovers (old new : Devices D) : Type 0 where

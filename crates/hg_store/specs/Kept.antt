@@ -1,6 +1,5 @@
 -- What the parts of a store keep.
-use Rattle.std.specs.Prelude.{◌≡◌, ◌≤◌, ◌++◌, ℕ, List, Bool, true, false, IsTrue, Vec, length, vec_capacity, All, Option, None, Some}
-use Rattle.std.specs.declared.alloc.Global.{Global}
+use Rattle.std.specs.Prelude.{◌≡◌, ◌≤◌, ◌++◌, ℕ, List, Bool, true, false, IsTrue, length, All}
 use Rattle.hg_model.specs.declared.event.Named.{Named}
 use Rattle.hg_model.specs.Contents.{Content}
 use Rattle.hg_cells.specs.declared.cell.Cell.{Cell}

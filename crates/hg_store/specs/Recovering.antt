@@ -1,46 +1,55 @@
 -- What making a store and recovering one answer.
-use Rattle.std.specs.Prelude.{◌≡◌, ◌≢◌, ◌⊎◌, ◌++◌, ◌+◌, ◌<◌, ℕ, List, [], ◌∷◌, All, length, drop, Option, Some, None, Result, Ok, Err}
+use Rattle.std.specs.Prelude.{◌≡◌, ◌≢◌, ◌⊎◌, ◌++◌, ◌+◌, ◌<◌, ℕ, ◌≤◌, List, [], ◌∷◌, All, length, drop, Option, Some, None, IsTrue, Result, Ok, Err, IfOk, IfErr, IfSome, OnOk}
 use Rattle.hg_model.specs.declared.event.Named.{Named}
 use Rattle.hg_model.specs.declared.verdict.Refusal.{Refusal}
 use Rattle.hg_model.specs.declared.verdict.Refusal.TheVariants.{Damaged, FullSets, FullSlots, DeviceFault, OutOfMemory}
 use Rattle.hg_model.specs.declared.verdict.Verdict.TheVariants.{Accept}
 use Rattle.hg_model.specs.Contents.{Content}
 use Rattle.hg_model.specs.Verdicts.{verdict, standing_of}
-use Rattle.hg_model.specs.Change.{after}
+use Rattle.hg_model.specs.Change.{after, followed}
 use Rattle.hg_sets.specs.Interning.{Table, first_table}
 use Rattle.hg_sets.specs.declared.fault.SetFault.TheVariants.{Full}
 use Rattle.hg_detect.specs.Making.{Asks, sets_asked}
 use Rattle.hg_disk.specs.declared.disk.Disk as disk
 use Rattle.hg_disk.specs.Calls.{CallsAtMost}
-use Rattle.hg_disk.specs.State.{IsImage, settled}
+use Rattle.hg_disk.specs.State.{IsImage, counted, settled}
+use Rattle.hg_disk.specs.declared.disk.DiskFault.{DiskFault}
 use Rattle.hg_disk.specs.Moments.{Leaves, LeavesOnly}
 use Rattle.hg_gate.specs.Batches.{closed_gate, header}
 use Rattle.hg_journal.specs.Journal.{IsJournal, after_refusal}
 use Rattle.hg_detect.specs.Engine.{AtPresent}
 use Rattle.hg_detect.specs.Shown as detect
 use Rattle.hg_journal.specs.declared.journal.Journal.{Journal}
+use Rattle.hg_journal.specs.declared.journal.JournalReader.{JournalReader}
+use Rattle.hg_pages.specs.Files as files
+use Rattle.hg_pages.specs.declared.slot_file.SlotFile.{SlotFile}
 use Rattle.hg_journal.specs.Reading as journals
 use Rattle.hg_pool.specs.Kept.{IsFaithful}
 use Rattle.hg_pool.specs.Maps as pools
 use Rattle.hg_pool.specs.Shown as pool
-use Rattle.hg_root.specs.Checkpoints.{Checkpoint, HasCheckpoint, root_of}
-use Rattle.hg_root.specs.Finding.{number_in}
+use Rattle.hg_root.specs.Checkpoints.{Checkpoint, HasCheckpoint, HasPages, LieWithin, root_of}
+use Rattle.hg_root.specs.Finding.{StandsWith, number_in, root_in}
 use Rattle.hg_root.specs.Newest.{IsNewest}
 use Rattle.hg_root.specs.Grammar.{SetFits}
 use Rattle.hg_root.specs.Parts.{Parts}
 use Rattle.hg_root.specs.Pairs as pairs
 use Rattle.hg_root.specs.declared.pair.RootPair.{RootPair}
+use Rattle.hg_root.specs.declared.pair.Newest.{Newest}
+use Rattle.hg_root.specs.declared.root.Root.{Root}
 use Rattle.hg_contents.specs.Choices.{Basis, Choice, HasRoots, HasSlots}
-use Rattle.hg_contents.specs.Images.{Gives, Image, start_of}
+use Rattle.hg_contents.specs.Images.{Gives, HasContent, Image, LeadFrom, start_of}
 use Rattle.hg_contents.specs.States.{IsLawfulState}
 use Rattle.hg_checkpointer.specs.declared.checkpointer.Checkpointer.{Checkpointer}
 use Rattle.hg_checkpointer.specs.Standing.{Stands}
 use Rattle.hg_checkpointer.specs.Tables.{NamesOf}
+use Rattle.hg_recovery.specs.Restoring.{failures_after, file_in}
 use Rattle.hg_store.specs.Shown.{Shown}
 use Rattle.hg_store.specs.Answers.{failed_in}
 use Rattle.hg_store.specs.declared.create.CreateFault.{CreateFault}
 use Rattle.hg_store.specs.declared.create.CreateFault.TheVariants.{NotEmpty, Refused}
 use Rattle.hg_store.specs.declared.devices.Devices.{Devices}
+use Rattle.hg_store.specs.Images.{FailuresBecome, failures_of, read_of}
+use Rattle.hg_store.specs.Store.{IsFresh}
 
 -- what the devices of a store read that was just made: the journal's header and a closed gate, no slot, and closed roots
 abbrev pub empty_image : Image
@@ -250,3 +259,275 @@ module _ {D : Type 0} {g : disk.Ghosts D} where
   abbrev pub CountsCaught : Caught D g → ℕ → ℕ → Type 0
   CountsCaught (Ok s) old new = new ≡ old
   CountsCaught (Err e) old new = CountedBy e.0 old new
+
+-- refused with Damaged only where P holds
+abbrev pub IfDamaged : {T X : Type 0} → Result T (Refusal × X) → Type 0 → Type 0
+IfDamaged result P = IfErr result (λ e. e.0 ≡ Damaged → P)
+
+-- refused with FullSets only where P holds
+abbrev pub IfFullSets : {T X : Type 0} → Result T (Refusal × X) → Type 0 → Type 0
+IfFullSets result P = IfErr result (λ e. e.0 ≡ FullSets → P)
+
+-- The same of a call that hands nothing back.
+abbrev pub OnDamaged : {T : Type 0} → Result T Refusal → Type 0 → Type 0
+OnDamaged result P = result ≡ Err Damaged → P
+
+abbrev pub OnFullSets : {T : Type 0} → Result T Refusal → Type 0 → Type 0
+OnFullSets result P = result ≡ Err FullSets → P
+
+-- The refusals of a making.
+abbrev pub IsOfMaking : CreateFault → Type 0
+IsOfMaking fault = (fault ≡ NotEmpty) ⊎ ((fault ≡ Refused DeviceFault) ⊎ (fault ≡ Refused OutOfMemory))
+
+-- The refusals of a search for the newest root.
+abbrev pub IsOfRoots : Refusal → Type 0
+IsOfRoots refusal = (refusal ≡ Damaged) ⊎ ((refusal ≡ DeviceFault) ⊎ (refusal ≡ OutOfMemory))
+
+-- A refusal is told as another one, with as many failed calls, or as a fault of its device.
+abbrev pub IsToldAs : (told refusal : Refusal) → Type 0
+IsToldAs told refusal = (failed_in told ≡ failed_in refusal) ⊎ ((told ≡ DeviceFault) × (failed_in refusal ≡ 0))
+
+-- The detector's pages are those of the checkpoint of this root.
+abbrev pub NamesPages : {D X : Type 0} → Option Parts → Result (detect.Shown (pool.Shown D)) X → Type 0
+NamesPages root result = (c : Option Checkpoint) → root_of c ≡ root → IfOk result (λ d. NamesOf d.words.root c)
+
+-- The image has no content.
+abbrev pub HasNoContent : Image → Type 0
+HasNoContent image = (c : Content) → ¬ HasContent image c
+
+-- the devices of which a store is made
+abbrev pub joined : {D : Type 0} → D → pool.Shown D → D → D → Devices D
+joined journal words root0 root1 = record { journal = journal; slots = pools.disk_of words; root0 = root0; root1 = root1 }
+
+-- Making
+module _ {D : Type 0} (g : disk.Ghosts D) where
+  -- The devices have bytes, and are handed back as they were.
+  abbrev pub WereNotEmpty : (devices back : Devices D) → Type 0
+  WereNotEmpty devices back = ¬ IsEmpty g devices × (back ≡ devices)
+
+  -- An empty device has a closed gate on it.
+  abbrev pub ClosesEmpty : (old new : D) → Result (Unit {0}) DiskFault → Type 0
+  ClosesEmpty old new result = (g.state old).contents ≡ [] → OnOk result (g.state new ≡ settled (closed_gate ∷ []))
+
+  -- Of two devices one call failed, or none.
+  abbrev pub CountsBoth : (one other : D) → (new_one new_other : D) → Result (Unit {0}) DiskFault → Type 0
+  CountsBoth one other new_one new_other result =
+      g.failures new_one + g.failures new_other ≡ counted result (g.failures one + g.failures other)
+
+  -- The parts of a store have a basis, and its detector can go on.
+  abbrev pub MayBeMade : Journal D g → detect.Shown (pool.Shown D) → Checkpointer D g → Type 0
+  MayBeMade journal d c = (basis : Basis) × IsBased g journal d c basis × IsReady g d
+
+  -- The store that is made of parts with a basis is fresh, with the content of the detector.
+  abbrev pub IsFreshOf : Journal D g → detect.Shown (pool.Shown D) → Checkpointer D g → Shown D → Type 0
+  IsFreshOf journal d c s = (basis : Basis) → IsBased g journal d c basis → IsFresh g s (detect.content (pools.live g) d)
+
+  -- The devices read what those of a store of no events do, but for the slots, which are as they were.
+  abbrev pub ReadsEmpty : pool.Shown D → Shown D → Type 0
+  ReadsEmpty words s = read_of g s.devices ≡ record empty_image { slots = (g.state (pools.disk_of words)).contents }
+
+  abbrev pub CountsMaking : Devices D → Result (Shown D) (CreateFault × Devices D) → Type 0
+  CountsMaking devices result = FailuresBecome g devices (made_of result) (tells_create result)
+
+-- Recovering
+module _ {D : Type 0} (g : disk.Ghosts D) where
+  -- The store is fresh, with a content that the devices had.
+  abbrev pub IsRecovered : Devices D → Shown D → Type 0
+  IsRecovered devices s = (c : Content) × HasContent (read_of g devices) c × IsFresh g s c
+
+  -- The table of sets is what that of the newest root became.
+  abbrev pub HasItsTable : ℕ → Devices D → Shown D → Type 0
+  HasItsTable cap devices s = HasTable cap (read_of g devices) (detect.content (pools.live g) s.detector) s.detector.sets
+
+  abbrev pub CountsRecovery : Devices D → Result (Shown D) (Refusal × Devices D) → Type 0
+  CountsRecovery devices result = CountsRecovered result (failures_of g devices) (failures_of g (made_of result))
+
+  -- what a pair of roots leads to, where each has on it what it reads
+  abbrev pub IfSettled : RootPair D → (List ℕ → List ℕ → Type 0) → Type 0
+  IfSettled roots P =
+      (one other : List ℕ) → g.state (pairs.first_of roots) ≡ settled one → g.state (pairs.second_of roots) ≡ settled other → P one other
+
+  -- The pair stands with the two roots that were found, where each file has on it what it reads.
+  abbrev pub PairStands : (old new : RootPair D) → Result Newest Refusal → Type 0
+  PairStands old new result = IfSettled old (λ one other. IfOk result (StandsWith g new))
+
+  -- The root is the newest one of the pair.
+  abbrev pub IsNewestRoot : RootPair D → Option Root → Type 0
+  IsNewestRoot roots found =
+      (former : Option Parts) × IsNewest (root_in found) former (pairs.first_bytes g roots) (pairs.second_bytes g roots)
+
+  -- No other one is.
+  abbrev pub IsOnlyRoot : RootPair D → Option Root → Type 0
+  IsOnlyRoot roots found =
+      (root former : Option Parts) → IsNewest root former (pairs.first_bytes g roots) (pairs.second_bytes g roots) → root ≡ root_in found
+
+  -- The pair stands with the root, which is the newest one of these bytes, and the slots of the former one lie within the file.
+  abbrev pub StandsWithin : RootPair D → SlotFile D → Option Root → (one other : List ℕ) → Type 0
+  StandsWithin roots file found one other =
+      (former : Option Parts) × pairs.Stands g roots (root_in found) former × IsNewest (root_in found) former one other
+      × IfSome former (LieWithin (g.state (files.disk_of file)).contents)
+
+  -- It does, where each file has on it what it reads.
+  abbrev pub StandIfSettled : (old new : RootPair D) → SlotFile D → Result (Option Root) Refusal → Type 0
+  StandIfSettled old new file result = IfSettled old (λ one other. IfOk result (λ found. StandsWithin new file found one other))
+
+  -- The roots and the slots have no checkpoint.
+  abbrev pub HasNoCheckpoint : RootPair D → (slots : D) → Type 0
+  HasNoCheckpoint roots slots =
+      (c : Option Checkpoint) → ¬ HasCheckpoint c (pairs.first_bytes g roots) (pairs.second_bytes g roots) (g.state slots).contents
+
+  abbrev pub HasNoneIn : RootPair D → SlotFile D → Type 0
+  HasNoneIn roots file = HasNoCheckpoint roots (files.disk_of file)
+
+  -- Sets or slots are told to be too few only where the newest root of the pair asks for more.
+  abbrev pub LacksRoom : (most_sets most_slots : ℕ) → RootPair D → Refusal → Type 0
+  LacksRoom most_sets most_slots roots refusal =
+      HasNoRoom most_sets most_slots (pairs.first_bytes g roots) (pairs.second_bytes g roots) refusal
+
+  -- Where each of the disks has on it what it reads, a detector stands at the newest root.
+  abbrev pub IsRootedAt : ℕ → RootPair D → (slots : D) → RootedOr D → Type 0
+  IsRootedAt cap roots slots result =
+      (one other bytes : List ℕ) → g.state (pairs.first_of roots) ≡ settled one → g.state (pairs.second_of roots) ≡ settled other
+      → g.state slots ≡ settled bytes → IfOk result (λ r. IsRooted g cap one other bytes r.0 r.1 r.2)
+
+  -- Damaged is told only where the roots and the slots have no checkpoint.
+  abbrev pub CantRoot : RootPair D → (slots : D) → RootedOr D → Type 0
+  CantRoot roots slots result = IfErr result (λ e. e.0 ≡ Damaged → HasNoCheckpoint roots slots)
+
+  abbrev pub CountsRooting : RootPair D → (slots : D) → RootedOr D → Type 0
+  CountsRooting roots slots result =
+      CountsRooted result (pairs.failures g roots + g.failures slots) (pairs.failures g (roots_of result) + g.failures (slots_of result))
+
+  -- The file has the pages of a checkpoint of this root.
+  abbrev pub HasCheckpointOf : Option Parts → SlotFile D → Type 0
+  HasCheckpointOf root file = (c : Option Checkpoint) × (root_of c ≡ root) × IfSome c (HasPages (files.known g file))
+
+  -- It has those of none.
+  abbrev pub HasNoCheckpointOf : Option Parts → SlotFile D → Type 0
+  HasNoCheckpointOf root file = (c : Option Checkpoint) → root_of c ≡ root → ¬ IfSome c (HasPages (files.known g file))
+
+  -- The detector starts at the checkpoint of this root whose pages the file has.
+  abbrev pub StartsAt : Option Parts → SlotFile D → Result (detect.Shown (pool.Shown D)) (Refusal × SlotFile D) → Type 0
+  StartsAt root file result =
+      (c : Option Checkpoint) → root_of c ≡ root → IfSome c (HasPages (files.known g file))
+      → IfOk result (λ d. detect.content (pools.live g) d ≡ start_of c)
+
+  abbrev pub CountsInFile : SlotFile D → Result (detect.Shown (pool.Shown D)) (Refusal × SlotFile D) → Type 0
+  CountsInFile file result = g.failures (files.disk_of (file_in result)) ≡ failures_after result (g.failures (files.disk_of file))
+
+  -- A map that has the words still has them.
+  abbrev pub StaysFaithful : (old new : detect.Shown (pool.Shown D)) → Type 0
+  StaysFaithful old new = AtPresent (IsFaithful g) old → AtPresent (IsFaithful g) new
+
+  -- The rules accept the event after the content of the detector.
+  abbrev pub Accepts : detect.Shown (pool.Shown D) → Named → Type 0
+  Accepts d n = IsAccepted (detect.content (pools.live g) d) n
+
+  -- Over a map that has the words, the detector has the content behind one event more.
+  abbrev pub FollowsIfFaithful : (old new : detect.Shown (pool.Shown D)) → Named → Result (Unit {0}) Refusal → Type 0
+  FollowsIfFaithful old new n result =
+      AtPresent (IsFaithful g) old → OnOk result (detect.content (pools.live g) new ≡ after (detect.content (pools.live g) old) n)
+
+  -- Over such a map, the table of sets has those of the event.
+  abbrev pub AsksIfFaithful : (old new : detect.Shown (pool.Shown D)) → Named → Result (Unit {0}) Refusal → Type 0
+  AsksIfFaithful old new n result =
+      AtPresent (IsFaithful g) old → OnOk result (Asks old.sets (sets_asked (detect.content (pools.live g) old) n.event) None new.sets)
+
+  -- Over such a map, a table is told as full only where the event asks for a set too many.
+  abbrev pub IsFullIfFaithful : (old new : detect.Shown (pool.Shown D)) → Named → Result (Unit {0}) Refusal → Type 0
+  IsFullIfFaithful old new n result =
+      AtPresent (IsFaithful g) old → result ≡ Err FullSets
+      → IsAccepted (detect.content (pools.live g) old) n × Asks old.sets (sets_asked (detect.content (pools.live g) old) n.event) (Some Full) new.sets
+
+  abbrev pub CountsWords : (old new : detect.Shown (pool.Shown D)) → Result (Unit {0}) Refusal → Type 0
+  CountsWords old new result = CountsFailures result (g.failures (pools.disk_of old.words)) (g.failures (pools.disk_of new.words))
+
+-- Following the events of a journal
+module _ {D : Type 0} {g : disk.Ghosts D} where
+  -- Over an honest disk whose journal opens, and a map that has the words, P holds.
+  abbrev pub IfOpens : Journal D g → detect.Shown (pool.Shown D) → Type 0 → Type 0
+  IfOpens journal d P = (bodies : List (List ℕ)) → IsTrue g.is_honest → journals.Opens journal bodies → AtPresent (IsFaithful g) d → P
+
+  -- The same of a reader that has read some events, where P is said of these.
+  abbrev pub IfAt : Journal D g → JournalReader → detect.Shown (pool.Shown D) → (List Named → Type 0) → Type 0
+  IfAt journal reader d P =
+      (seen : List Named) → IsTrue g.is_honest → journals.IsAt journal reader seen → AtPresent (IsFaithful g) d → P seen
+
+  -- The same of one that has read none.
+  abbrev pub IfAtFirst : Journal D g → JournalReader → Type 0 → Type 0
+  IfAtFirst journal reader P = IsTrue g.is_honest → journals.IsAt journal reader [] → P
+
+  -- The reader has read so many events.
+  abbrev pub HasPassed : ℕ → Journal D g → JournalReader → Type 0
+  HasPassed count journal reader = (seen : List Named) × (length seen ≡ count) × journals.IsAt journal reader seen
+
+  -- The journal has fewer events.
+  abbrev pub HasFewer : ℕ → Journal D g → Type 0
+  HasFewer count journal =
+      (events : List Named) → IsJournal (g.state (journals.disk_of journal)).contents events → ¬ (count ≤ length events)
+
+  -- Behind the events that were seen the journal has others, and the detector has followed these.
+  abbrev pub Follows : Journal D g → (old new : detect.Shown (pool.Shown D)) → Result (Unit {0}) Refusal → List Named → Type 0
+  Follows journal old new result seen =
+      OnOk result
+      ((more : List Named) × journals.Keeps journal (seen ++ more)
+      × (followed (detect.content (pools.live g) old) more ≡ Some (detect.content (pools.live g) new))
+      × Fills more (detect.content (pools.live g) old) old.sets (detect.content (pools.live g) new) new.sets)
+
+  -- The journal keeps events that lead from the content of the first detector to that of the second.
+  abbrev pub LeadsTo : Journal D g → (old new : detect.Shown (pool.Shown D)) → Type 0
+  LeadsTo journal old new =
+      (events : List Named) × journals.Keeps journal events
+      × LeadFrom (detect.content (pools.live g) old) events (detect.content (pools.live g) new)
+
+  -- No events of the journal lead on from the content of the detector.
+  abbrev pub LeadsNowhere : Journal D g → detect.Shown (pool.Shown D) → Type 0
+  LeadsNowhere journal d =
+      (events : List Named) (c : Content) → IsJournal (g.state (journals.disk_of journal)).contents events
+      → ¬ LeadFrom (detect.content (pools.live g) d) events c
+
+  -- The events of the journal took the first table of sets to the second.
+  abbrev pub FillsSets : Journal D g → (old new : detect.Shown (pool.Shown D)) → Type 0
+  FillsSets journal old new =
+      HasSets (detect.content (pools.live g) old) old.sets (g.state (journals.disk_of journal)).contents (detect.content (pools.live g) new) new.sets
+
+  -- The table of sets is too small for the events of the journal.
+  abbrev pub LacksSets : Journal D g → detect.Shown (pool.Shown D) → Type 0
+  LacksSets journal d = IsTooSmall (detect.content (pools.live g) d) d.sets (g.state (journals.disk_of journal)).contents
+
+  -- Damaged is told behind so many events only where none lead on, and FullSets only where the table is too small.
+  abbrev pub IsDamagedFrom : Journal D g → detect.Shown (pool.Shown D) → Result (Unit {0}) Refusal → List Named → Type 0
+  IsDamagedFrom journal d result seen = result ≡ Err Damaged → length seen ≡ (detect.content (pools.live g) d).events → LeadsNowhere journal d
+
+  abbrev pub IsFullFrom : Journal D g → detect.Shown (pool.Shown D) → Result (Unit {0}) Refusal → List Named → Type 0
+  IsFullFrom journal d result seen = result ≡ Err FullSets → length seen ≡ (detect.content (pools.live g) d).events → LacksSets journal d
+
+  -- the failed calls of a journal's disk and of the file of slots
+  abbrev pub failures_in : Journal D g → detect.Shown (pool.Shown D) → ℕ
+  failures_in journal d = g.failures (journals.disk_of journal) + g.failures (pools.disk_of d.words)
+
+  abbrev pub CountsReplay : Journal D g → detect.Shown (pool.Shown D) → Journal D g → detect.Shown (pool.Shown D) → Result (Unit {0}) Refusal → Type 0
+  CountsReplay journal d new_journal new_d result = CountsFailures result (failures_in journal d) (failures_in new_journal new_d)
+
+  -- The journal opens, and the detector stands at a checkpoint, or at none.
+  abbrev pub MayCatchUp : Journal D g → detect.Shown (pool.Shown D) → RootPair D → ℕ → Type 0
+  MayCatchUp journal d roots number = (bodies : List (List ℕ)) × (now : Choice) × journals.Opens journal bodies × IsStarted g d roots number now
+
+  -- The store is fresh, with the content that the journal's events lead to from the checkpoint at which the detector stands.
+  abbrev pub CatchesUp : Journal D g → detect.Shown (pool.Shown D) → RootPair D → ℕ → Caught D g → Type 0
+  CatchesUp journal d roots number result =
+      (now : Choice) → IsTrue g.is_honest → IsStarted g d roots number now
+      → IfOk result (λ s. (c : Content) × (events : List Named) × IsJournal (g.state (journals.disk_of journal)).contents events × Gives now.checkpoint events c × IsFresh g s c)
+
+  -- A journal is told as damaged only where its events lead nowhere from that checkpoint.
+  abbrev pub CantCatchUp : Journal D g → detect.Shown (pool.Shown D) → RootPair D → ℕ → Caught D g → Type 0
+  CantCatchUp journal d roots number result =
+      (now : Choice) → IsTrue g.is_honest → IsStarted g d roots number now
+      → IfErr result (λ e. e.0 ≡ Damaged → (events : List Named) (c : Content) → IsJournal (g.state (journals.disk_of journal)).contents events → ¬ Gives now.checkpoint events c)
+
+  -- FullSets is told only where the table of sets is too small for the events of the journal.
+  abbrev pub CantFill : Journal D g → detect.Shown (pool.Shown D) → Caught D g → Type 0
+  CantFill journal d result = IfErr result (λ e. e.0 ≡ FullSets → LacksSets journal d)
+
+  abbrev pub CountsCatching : Journal D g → detect.Shown (pool.Shown D) → Caught D g → Type 0
+  CountsCatching journal d result = CountsCaught result (failures_in journal d) (g.failures (journal_after result) + g.failures (pools.disk_of (words_after result)))

@@ -1,5 +1,5 @@
 -- Runs of steps with their answers.
-use Rattle.std.specs.Prelude.{◌≡◌, ◌++◌, ◌||◌, ℕ, List, [], ◌∷◌, length, Bool, true, false, Some, Ok, Err, Result, cond}
+use Rattle.std.specs.Prelude.{◌≡◌, ◌++◌, ◌||◌, ℕ, List, [], ◌∷◌, length, Bool, true, false, Some, Ok, Err, Result, Vec, cond, map}
 use Rattle.hg_model.specs.declared.verdict.Refusal.{Refusal}
 use Rattle.hg_model.specs.declared.verdict.Refusal.TheVariants.{Broken, DeviceFault}
 use Rattle.hg_model.specs.Contents.{Content}
@@ -11,6 +11,7 @@ use Rattle.hg_store.specs.Images.{EachImage, failures_of}
 use Rattle.hg_store.specs.Shown.{Shown, live, saved}
 use Rattle.hg_store.specs.Steps.{OfferAnswers, if_accepted}
 use Rattle.hg_store.specs.Store.{Backs}
+use Rattle.hg_store.specs.declared.drive.StepAnswer.{StepAnswer}
 use Rattle.hg_store.specs.declared.steps.Step.{Step}
 use Rattle.hg_store.specs.declared.steps.Step.TheVariants as step
 use Rattle.hg_store.specs.declared.steps.StepFault.{StepFault}
@@ -108,3 +109,16 @@ pub record DriveDone {D : Type 0} (g : disk.Ghosts D) (old new : Shown D) (steps
   -- the first step began where the list did
   pub first : begins told new ≡ old
   pub covered : Covered g (saved g old) (before old) steps told new
+
+-- what the answers of a list of steps tell
+abbrev pub told_of : {D : Type 0} → List (StepAnswer D) → Told D
+told_of answers = map (λ a. (a.began.value, a.result)) answers
+
+module _ {D : Type 0} (g : disk.Ghosts D) where
+  -- The steps, and then the last one, were answered so.
+  abbrev pub HasDriven : {Z : Type 0} → (old new : Shown D) → List Step → Step → Vec (StepAnswer D) Z → Type 0
+  HasDriven old new done last answers = DriveDone g old new (done ++ last ∷ []) (told_of answers.items)
+
+  -- The same, whatever the devices are.
+  abbrev pub HasStepped : {Z : Type 0} → (old new : Shown D) → List Step → Step → Vec (StepAnswer D) Z → Type 0
+  HasStepped old new done last answers = StepsDone g old new (done ++ last ∷ []) (told_of answers.items)

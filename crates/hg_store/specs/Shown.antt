@@ -1,6 +1,8 @@
 -- What contracts see of a store.
-use Rattle.std.specs.Prelude.{ℕ, List, [], ◌∷◌, Bool, Option}
+use Rattle.std.specs.Prelude.{◌≡◌, ◌+◌, ℕ, List, [], ◌∷◌, Bool, Option, Result, Ok, Err, cond, length}
 use Rattle.hg_model.specs.declared.event.Named.{Named}
+use Rattle.hg_model.specs.declared.verdict.Refusal.{Refusal}
+use Rattle.hg_model.specs.declared.verdict.Refusal.TheVariants as refusal
 use Rattle.hg_model.specs.Contents.{Content}
 use Rattle.hg_detect.specs.Shown as detect
 use Rattle.hg_disk.specs.declared.disk.Disk as disk
@@ -64,3 +66,31 @@ phase_by phase.Written pending = store.Written
 
 abbrev pub phase_of : {D : Type 0} → Shown D → StorePhase
 phase_of s = phase_by s.progress.phase s.pending
+
+-- The next checkpoint of the store is in this phase.
+abbrev pub IsIn : {D : Type 0} → Phase → Shown D → Type 0
+IsIn phase s = s.progress.phase ≡ phase
+
+-- The pages of a checkpoint are written, and none waits.
+abbrev pub IsFlushed : {D : Type 0} → Shown D → Type 0
+IsFlushed s = (s.progress.phase ≡ phase.Flushing) × ((words s).waiting ≡ [])
+
+-- The next checkpoint has the number behind that of the newest one, which stays.
+abbrev pub HasNextNumber : {D : Type 0} → (old new : Shown D) → Type 0
+HasNextNumber old new = (new.progress.number ≡ old.progress.number) × (new.progress.next ≡ old.progress.number + 1)
+
+-- The journal alone has moved on.
+abbrev pub IsSameButJournal : {D : Type 0} → (old new : Shown D) → Type 0
+IsSameButJournal old new = new ≡ record old { devices = record old.devices { journal = new.devices.journal } }
+
+-- a store that is broken answers so, and any other one this value
+abbrev pub unless_broken : {D T : Type 0} → Shown D → T → Result T Refusal
+unless_broken s value = cond s.is_broken (Err refusal.Broken) (Ok value)
+
+-- what a call is refused with that only memory could keep from a store that works
+abbrev pub broken_or_no_memory : {D : Type 0} → Shown D → Refusal
+broken_or_no_memory s = cond s.is_broken refusal.Broken refusal.OutOfMemory
+
+-- All accepted events are the durable ones and the pending ones.
+abbrev pub HasCounted : {D : Type 0} → disk.Ghosts D → Shown D → Type 0
+HasCounted g s = (live g s).events ≡ s.durable + length s.pending

@@ -1,5 +1,5 @@
 -- What one step does and answers.
-use Rattle.std.specs.Prelude.{◌≡◌, ◌≢◌, ◌⊎◌, ◌++◌, ◌+◌, ◌<◌, ◌≤◌, ◌^◌, ℕ, List, [], ◌∷◌, length, Bool, true, false, Some, None, Ok, Err, Result, OnOk, OnErr, IfErr, nat_le, cond, MatchOption, is_some}
+use Rattle.std.specs.Prelude.{◌≡◌, ◌⊎◌, ◌++◌, ◌<◌, ℕ, List, [], ◌∷◌, length, Bool, true, false, Some, Ok, Err, Result, OnOk, nat_le, cond}
 use Rattle.hg_model.specs.declared.event.Named.{Named}
 use Rattle.hg_model.specs.declared.verdict.Verdict.{Verdict}
 use Rattle.hg_model.specs.declared.verdict.Verdict.TheVariants.{Accept, Duplicate as IsDuplicate, Refuse}
@@ -16,9 +16,8 @@ use Rattle.hg_disk.specs.declared.disk.Disk as disk
 use Rattle.hg_pool.specs.OfWords.{MayRefuse}
 use Rattle.hg_checkpointer.specs.declared.phase.Phase.{Phase}
 use Rattle.hg_store.specs.Answers.{IfRefused, IfWrongPhase, IsAllowed}
-use Rattle.hg_store.specs.Shown.{Shown, live, phase_of}
+use Rattle.hg_store.specs.Shown.{Shown, live}
 use Rattle.hg_store.specs.declared.steps.StepFault.{StepFault}
-use Rattle.hg_store.specs.declared.steps.StepFault.TheVariants.{Refused}
 
 -- what an event that the rules accept may be refused with: no room for its sets, or what its pages are refused with
 abbrev pub IsOfRoom : Refusal → Type 0

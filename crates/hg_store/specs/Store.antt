@@ -1,11 +1,16 @@
 -- What a store stands for.
-use Rattle.std.specs.Prelude.{◌≡◌, [], false}
+use Rattle.std.specs.Prelude.{◌≡◌, ◌-◌, ℕ, Bool, List, [], false, IsTrue, Result, IfOk, Vec, take, drop}
+use Rattle.hg_model.specs.declared.event.Named.{Named}
+use Rattle.hg_model.specs.declared.verdict.Refusal.{Refusal}
 use Rattle.hg_model.specs.Contents.{Content}
 use Rattle.hg_disk.specs.declared.disk.Disk as disk
+use Rattle.hg_disk.specs.Calls.{CallsAtMost}
 use Rattle.hg_checkpointer.specs.declared.phase.Phase.TheVariants.{Idle}
+use Rattle.hg_journal.specs.Journal.{IsJournal}
+use Rattle.hg_contents.specs.Choices.{Stands}
 use Rattle.hg_contents.specs.Stores as stores
-use Rattle.hg_store.specs.Images.{states_of}
-use Rattle.hg_store.specs.Shown.{Shown, live, saved}
+use Rattle.hg_store.specs.Images.{EachImage, HasOpened, states_of}
+use Rattle.hg_store.specs.Shown.{Shown, captured, live, saved}
 
 -- A store that works, with nothing pending and no checkpoint in progress.
 pub record IsIdle {D : Type 0} (s : Shown D) : Type 0 where
@@ -29,3 +34,21 @@ module _ {D : Type 0} (g : disk.Ghosts D) where
     pub durable : saved g s ≡ c
     pub idle : IsIdle s
     pub backs : Backs s
+
+  -- Each image meanwhile stands for the durable content of before; where there is a doubt, it may be for the live one.
+  abbrev pub StandMeanwhile : (old new : Shown D) → Bool → Type 0
+  StandMeanwhile old new in_doubt = EachImage g old.devices new.devices (Stands (saved g old) (live g old) in_doubt)
+
+  -- The journal was called so often at most.
+  abbrev pub JournalCallsAtMost : ℕ → (old new : Shown D) → Type 0
+  JournalCallsAtMost most old new = CallsAtMost g most old.devices.journal new.devices.journal
+
+  -- The root of this number is the newest one, with the content at the freeze.
+  abbrev pub HasOpenedFrozen : (old new : Shown D) → ℕ → Type 0
+  HasOpenedFrozen old new n = HasOpened g new.devices n (captured g old)
+
+  -- What was found are the journal's events from the one numbered `from` on, at most so many.
+  abbrev pub HasFoundEvents : {Z : Type 0} → Shown D → (from most : ℕ) → Result (Vec Named Z) Refusal → Type 0
+  HasFoundEvents s from most result =
+      (events : List Named) → IsTrue g.is_honest → IsJournal (g.state s.devices.journal).contents events
+      → IfOk result (λ found. found.items ≡ take most (drop (from - 1) events))

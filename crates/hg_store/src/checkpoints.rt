@@ -1,19 +1,14 @@
 //! The steps of a checkpoint.
 
-ghost use Rattle.std.specs.Prelude.{◌≡◌, ◌≢◌, ◌⊎◌, ◌+◌, ◌<◌, ◌≤◌, ◌^◌, [], ℕ, List, Err, true, false, Some, is_some, IsTrue, OnOk, OnErr, IfOk, IfErr, MatchOption};
-ghost use Rattle.hg_model.specs.Contents.{Content};
-ghost use Rattle.hg_cells.specs.declared.cell.Cell.{Cell as CellOf};
+ghost use Rattle.std.specs.Prelude.{◌≡◌, ◌≢◌, ◌⊎◌, ◌+◌, ◌<◌, ◌≤◌, ◌^◌, Err, true, false, IsTrue, OnOk, OnErr, IfOk};
+ghost use Rattle.hg_pool.specs.Calls.{HasWaited, IsStale};
 ghost use Rattle.hg_checkpointer.specs.declared.phase.Phase.TheVariants as phase;
-ghost use Rattle.hg_contents.specs.Choices.{Stands};
-ghost use Rattle.hg_pages.specs.Slots.{IsSlot, slot_text};
-ghost use Rattle.hg_pages.specs.Tables.{slot_in};
-ghost use Rattle.hg_pool.specs.Answers.{IsFrozen, least_of};
-ghost use Rattle.hg_pool.specs.Picking.{IsFreezeRefusal};
 ghost use Rattle.hg_store.specs.Answers.{IfRefused, IsAllowed, failed_by};
-ghost use Rattle.hg_store.specs.Images.{EachImage, HasOpened, failures_of};
-ghost use Rattle.hg_store.specs.Shown.{captured, live, phase_of, saved, words};
+ghost use Rattle.hg_store.specs.Shown.{HasNextNumber, IsFlushed, IsIn, live, phase_of, words};
 ghost use Rattle.hg_store.specs.Steps.{CheckpointDone};
-ghost use Rattle.hg_store.specs.Store.{Backs};
+ghost use Rattle.hg_store.specs.Store.{HasOpenedFrozen, StandMeanwhile};
+ghost use Rattle.hg_store.specs.Images.{FailuresGrowBy};
+ghost use Rattle.hg_store.specs.Doing.{IsFirstWaiting, SameNumbers, SameRoots, SameWords};
 
 use crate::steps::{StepFault, StorePhase};
 use crate::store::Store;
@@ -56,7 +51,7 @@ impl<D: Disk> Store<D> {
         ensures refused { OnErr result (self.new ≡ self.old) }
         ensures last { OnOk result (self.old.progress.number < 2 ^ 58) }
         ensures full { IfRefused (λ r. r ≡ Refusal.FullEvents → 2 ^ 58 ≤ self.old.progress.number) result }
-        ensures number { OnOk result ((self.new.progress.number ≡ self.old.progress.number) × (self.new.progress.next ≡ self.old.progress.number + 1)) }
+        ensures number { OnOk result (HasNextNumber self.old self.new) }
         ensures devices { self.new.devices ≡ self.old.devices }
         ensures frozen { OnOk result (self.new.frozen ≡ self.old.detector) }
         ensures live { IsTrue D.is_honest → live ⟦<D as Disk>⟧ self.new ≡ live ⟦<D as Disk>⟧ self.old }
@@ -93,9 +88,9 @@ impl<D: Disk> Store<D> {
 
     /// The page with the least number of those that wait, with its cells at the freeze, or none where no page waits. It calls no device.
     pub fn take_job(&self) -> Result<Option<Job>, StepFault>
-        ensures allowed { IsAllowed self.now (self.now.progress.phase ≡ phase.Flushing) result }
+        ensures allowed { IsAllowed self.now (IsIn phase.Flushing self.now) result }
         ensures refusal { IfRefused (λ r. r ≡ Refusal.Broken) result }
-        ensures job { IfOk result (λ found. MatchOption found ((words self.now).waiting ≡ []) (λ job. (Some job.page ≡ least_of (words self.now).waiting) × IsFrozen (words self.now) job.page job.cells)) }
+        ensures job { IfOk result (IsFirstWaiting (words self.now)) }
     {
         if self.is_broken {
             return Err(StepFault::Refused(Refusal::Broken));
@@ -111,13 +106,14 @@ impl<D: Disk> Store<D> {
     pub fn put(&mut self, page: &EncodedPage) -> Result<Put, StepFault>
         ensures done { CheckpointDone self.old self.new (self.old.is_broken ≡ false) self.old.progress.phase result }
         ensures frozen { self.new.frozen ≡ self.old.frozen }
-        ensures written { IfOk result (λ put. put ≡ Put.Written → (cells : List CellOf) × (is_some (slot_in (words self.old).waiting page.now.page) ≡ true) × IsFrozen (words self.old) page.now.page cells × IsSlot page.now.page cells page.now.bytes) }
-        ensures stale { IfOk result (λ put. put ≡ Put.Stale → (slot : ℕ) (cells : List CellOf) → slot_in (words self.old).waiting page.now.page ≡ Some slot → IsFrozen (words self.old) page.now.page cells → page.now.bytes ≡ slot_text page.now.page cells → ⊥) }
+        ensures written { IfOk result (λ put. put ≡ Put.Written → HasWaited (words self.old) page.now) }
+        ensures stale { IfOk result (λ put. put ≡ Put.Stale → IsStale (words self.old) page.now) }
         ensures nothing { IfOk result (λ put. put ≡ Put.Stale → self.new ≡ self.old) }
-        ensures roots { (self.new.devices.root0 ≡ self.old.devices.root0) × (self.new.devices.root1 ≡ self.old.devices.root1) × (self.new.progress ≡ self.old.progress) }
-        ensures device { failures_of ⟦<D as Disk>⟧ self.new.devices ≡ failed_by result + failures_of ⟦<D as Disk>⟧ self.old.devices }
+        ensures roots { SameRoots self.old self.new }
+        ensures progress { self.new.progress ≡ self.old.progress }
+        ensures device { FailuresGrowBy ⟦<D as Disk>⟧ self.old.devices self.new.devices (failed_by result) }
         ensures live { IsTrue D.is_honest → live ⟦<D as Disk>⟧ self.new ≡ live ⟦<D as Disk>⟧ self.old }
-        ensures images { IsTrue D.is_honest → EachImage ⟦<D as Disk>⟧ self.old.devices self.new.devices (Stands (saved ⟦<D as Disk>⟧ self.old) (live ⟦<D as Disk>⟧ self.old) self.old.in_doubt) }
+        ensures images { IsTrue D.is_honest → StandMeanwhile ⟦<D as Disk>⟧ self.old self.new self.old.in_doubt }
     {
         if self.is_broken {
             return Err(StepFault::Refused(Refusal::Broken));
@@ -133,13 +129,13 @@ impl<D: Disk> Store<D> {
 
     /// Makes the pages durable, once all are written. It makes one device call and takes no memory.
     pub fn seal_pages(&mut self) -> Result<(), StepFault>
-        ensures done { CheckpointDone self.old self.new ((self.old.progress.phase ≡ phase.Flushing) × ((words self.old).waiting ≡ [])) phase.Sealed result }
+        ensures done { CheckpointDone self.old self.new (IsFlushed self.old) phase.Sealed result }
         ensures frozen { self.new.frozen ≡ self.old.frozen }
-        ensures roots { (self.new.devices.root0 ≡ self.old.devices.root0) × (self.new.devices.root1 ≡ self.old.devices.root1) }
-        ensures number { (self.new.progress.number ≡ self.old.progress.number) × (self.new.progress.next ≡ self.old.progress.next) × (self.new.progress.head ≡ self.old.progress.head) }
-        ensures device { failures_of ⟦<D as Disk>⟧ self.new.devices ≡ failed_by result + failures_of ⟦<D as Disk>⟧ self.old.devices }
+        ensures roots { SameRoots self.old self.new }
+        ensures number { SameNumbers self.old self.new }
+        ensures device { FailuresGrowBy ⟦<D as Disk>⟧ self.old.devices self.new.devices (failed_by result) }
         ensures live { IsTrue D.is_honest → live ⟦<D as Disk>⟧ self.new ≡ live ⟦<D as Disk>⟧ self.old }
-        ensures images { IsTrue D.is_honest → EachImage ⟦<D as Disk>⟧ self.old.devices self.new.devices (Stands (saved ⟦<D as Disk>⟧ self.old) (live ⟦<D as Disk>⟧ self.old) self.old.in_doubt) }
+        ensures images { IsTrue D.is_honest → StandMeanwhile ⟦<D as Disk>⟧ self.old self.new self.old.in_doubt }
     {
         if self.is_broken {
             return Err(StepFault::Refused(Refusal::Broken));
@@ -157,12 +153,12 @@ impl<D: Disk> Store<D> {
     /// Closes the file that the next root goes to. It makes two device calls at most, none where the file is closed already, and takes no
     /// memory.
     pub fn prepare_root(&mut self) -> Result<(), StepFault>
-        ensures done { CheckpointDone self.old self.new (self.old.progress.phase ≡ phase.Sealed) phase.Prepared result }
+        ensures done { CheckpointDone self.old self.new (IsIn phase.Sealed self.old) phase.Prepared result }
         ensures frozen { self.new.frozen ≡ self.old.frozen }
-        ensures slots { (self.new.devices.slots ≡ self.old.devices.slots) × (self.new.detector ≡ self.old.detector) }
-        ensures number { (self.new.progress.number ≡ self.old.progress.number) × (self.new.progress.next ≡ self.old.progress.next) × (self.new.progress.head ≡ self.old.progress.head) }
-        ensures device { failures_of ⟦<D as Disk>⟧ self.new.devices ≡ failed_by result + failures_of ⟦<D as Disk>⟧ self.old.devices }
-        ensures images { IsTrue D.is_honest → EachImage ⟦<D as Disk>⟧ self.old.devices self.new.devices (Stands (saved ⟦<D as Disk>⟧ self.old) (live ⟦<D as Disk>⟧ self.old) self.old.in_doubt) }
+        ensures slots { SameWords self.old self.new }
+        ensures number { SameNumbers self.old self.new }
+        ensures device { FailuresGrowBy ⟦<D as Disk>⟧ self.old.devices self.new.devices (failed_by result) }
+        ensures images { IsTrue D.is_honest → StandMeanwhile ⟦<D as Disk>⟧ self.old self.new self.old.in_doubt }
     {
         if self.is_broken {
             return Err(StepFault::Refused(Refusal::Broken));
@@ -179,12 +175,12 @@ impl<D: Disk> Store<D> {
 
     /// Writes the root behind the closed gate of its file. It makes four device calls at most. `OutOfMemory` leaves the store as it is.
     pub fn write_root(&mut self, alloc: Global) -> Result<(), StepFault>
-        ensures done { CheckpointDone self.old self.new (self.old.progress.phase ≡ phase.Prepared) phase.Written result }
+        ensures done { CheckpointDone self.old self.new (IsIn phase.Prepared self.old) phase.Written result }
         ensures frozen { self.new.frozen ≡ self.old.frozen }
-        ensures slots { (self.new.devices.slots ≡ self.old.devices.slots) × (self.new.detector ≡ self.old.detector) }
-        ensures number { (self.new.progress.number ≡ self.old.progress.number) × (self.new.progress.next ≡ self.old.progress.next) × (self.new.progress.head ≡ self.old.progress.head) }
-        ensures device { failures_of ⟦<D as Disk>⟧ self.new.devices ≡ failed_by result + failures_of ⟦<D as Disk>⟧ self.old.devices }
-        ensures images { IsTrue D.is_honest → EachImage ⟦<D as Disk>⟧ self.old.devices self.new.devices (Stands (saved ⟦<D as Disk>⟧ self.old) (live ⟦<D as Disk>⟧ self.old) self.old.in_doubt) }
+        ensures slots { SameWords self.old self.new }
+        ensures number { SameNumbers self.old self.new }
+        ensures device { FailuresGrowBy ⟦<D as Disk>⟧ self.old.devices self.new.devices (failed_by result) }
+        ensures images { IsTrue D.is_honest → StandMeanwhile ⟦<D as Disk>⟧ self.old self.new self.old.in_doubt }
     {
         if self.is_broken {
             return Err(StepFault::Refused(Refusal::Broken));
@@ -205,14 +201,14 @@ impl<D: Disk> Store<D> {
     /// Opens the root: from then on it is the newest one, and the slots of the former one are free. Answers its number. It makes two device
     /// calls at most and takes no memory.
     pub fn open_root(&mut self) -> Result<u64, StepFault>
-        ensures done { CheckpointDone self.old self.new (self.old.progress.phase ≡ phase.Written) phase.Idle result }
+        ensures done { CheckpointDone self.old self.new (IsIn phase.Written self.old) phase.Idle result }
         ensures frozen { self.new.frozen ≡ self.old.frozen }
         ensures number { IfOk result (λ n. (n ≡ self.old.progress.next) × (self.new.progress.number ≡ n)) }
         ensures slots { self.new.devices.slots ≡ self.old.devices.slots }
-        ensures checkpoint { IsTrue D.is_honest → IfOk result (λ n. HasOpened ⟦<D as Disk>⟧ self.new.devices n (captured ⟦<D as Disk>⟧ self.old)) }
-        ensures device { failures_of ⟦<D as Disk>⟧ self.new.devices ≡ failed_by result + failures_of ⟦<D as Disk>⟧ self.old.devices }
+        ensures checkpoint { IsTrue D.is_honest → IfOk result (HasOpenedFrozen ⟦<D as Disk>⟧ self.old self.new) }
+        ensures device { FailuresGrowBy ⟦<D as Disk>⟧ self.old.devices self.new.devices (failed_by result) }
         ensures live { live ⟦<D as Disk>⟧ self.new ≡ live ⟦<D as Disk>⟧ self.old }
-        ensures images { IsTrue D.is_honest → EachImage ⟦<D as Disk>⟧ self.old.devices self.new.devices (Stands (saved ⟦<D as Disk>⟧ self.old) (live ⟦<D as Disk>⟧ self.old) self.old.in_doubt) }
+        ensures images { IsTrue D.is_honest → StandMeanwhile ⟦<D as Disk>⟧ self.old self.new self.old.in_doubt }
     {
         if self.is_broken {
             return Err(StepFault::Refused(Refusal::Broken));

@@ -1,12 +1,10 @@
 //! Making a store.
 
-ghost use Rattle.std.specs.Prelude.{◌≡◌, ◌⊎◌, ◌+◌, ◌≤◌, ◌∷◌, [], vec_capacity, false, IsTrue, IfOk, IfErr, OnOk};
+ghost use Rattle.std.specs.Prelude.{◌≡◌, ◌≢◌, ◌⊎◌, ◌+◌, ◌≤◌, ◌∷◌, [], vec_capacity, false, IsTrue, IfOk, IfErr};
 ghost use Rattle.hg_model.specs.Change.{empty_content};
 ghost use Rattle.hg_detect.specs.Engine.{AtPresent};
 ghost use Rattle.hg_detect.specs.Shown.{content};
 ghost use Rattle.hg_disk.specs.Calls.{CallsAtMost};
-ghost use Rattle.hg_disk.specs.State.{counted, settled};
-ghost use Rattle.hg_gate.specs.Batches.{closed_gate};
 ghost use Rattle.hg_pool.specs.Kept.{IsFaithful};
 ghost use Rattle.hg_journal.specs.Reading as journals;
 ghost use Rattle.hg_pool.specs.Maps as pools;
@@ -14,10 +12,9 @@ ghost use Rattle.hg_pool.specs.Maps.{live};
 ghost use Rattle.hg_pool.specs.OfWords.{MayBring};
 ghost use Rattle.hg_sets.specs.Interning.{first_table};
 ghost use Rattle.hg_checkpointer.specs.declared.phase.Phase.TheVariants.{Idle};
-ghost use Rattle.hg_contents.specs.Choices.{Basis};
 ghost use Rattle.hg_store.specs.Kept.{devices_of};
-ghost use Rattle.hg_store.specs.Images.{failures_of, read_of};
-ghost use Rattle.hg_store.specs.Recovering.{IsBased, IsEmpty, IsReady, MakingCalls, empty_image, made_of, tells_create};
+ghost use Rattle.hg_store.specs.Images.{read_of};
+ghost use Rattle.hg_store.specs.Recovering.{ClosesEmpty, CountsBoth, CountsMaking, IsEmpty, IsFreshOf, IsOfMaking, IsReady, MakingCalls, MayBeMade, ReadsEmpty, WereNotEmpty, empty_image, joined, made_of};
 ghost use Rattle.hg_store.specs.Store.{IsFresh, IsIdle};
 
 use crate::devices::{Caps, Devices};
@@ -29,9 +26,10 @@ use hg_gate::CLOSED;
 use hg_journal::journal::{Journal, JournalRoom};
 use hg_model::event::Named;
 use hg_model::verdict::Refusal;
-use hg_pages::{SlotFile, Table};
+use hg_pages::{MOST_SLOTS, SlotFile, Table};
 use hg_pool::Pool;
 use hg_root::RootPair;
+use hg_sets::MOST_SETS;
 use std::alloc::{AllocError, Global};
 use std::snapshot::Snapshot;
 
@@ -74,8 +72,8 @@ pub(crate) fn empty_detector<D: Disk>(
     caps: Caps,
 ) -> Result<Detector<Pool<D>>, SlotFile<D>>
     requires frames { (4 ≤ frames) × (frames ≤ 4096) }
-    requires sets { (1 ≤ caps.sets) × (caps.sets ≤ 262144) }
-    requires slots { (1 ≤ caps.slots) × (caps.slots ≤ 1048576) }
+    requires sets { (1 ≤ caps.sets) × (caps.sets ≤ MOST_SETS) }
+    requires slots { (1 ≤ caps.slots) × (caps.slots ≤ MOST_SLOTS) }
     ensures content { IfOk result (λ d. content (live ⟦<D as Disk>⟧) d ≡ empty_content) }
     ensures sets { IfOk result (λ d. d.sets ≡ first_table caps.sets) }
     ensures file { IfOk result (λ d. d.words.file ≡ file) }
@@ -116,11 +114,11 @@ fn is_empty<D: Disk>(devices: &Devices<D>) -> bool
 
 /// Closes the empty roots, durably.
 fn close_roots<D: Disk>(root0: &mut D, root1: &mut D) -> Result<(), DiskFault>
-    ensures first { (D.state root0.old).contents ≡ [] → OnOk result (D.state root0.new ≡ settled (closed_gate ∷ [])) }
-    ensures second { (D.state root1.old).contents ≡ [] → OnOk result (D.state root1.new ≡ settled (closed_gate ∷ [])) }
+    ensures first { ClosesEmpty ⟦<D as Disk>⟧ root0.old root0.new result }
+    ensures second { ClosesEmpty ⟦<D as Disk>⟧ root1.old root1.new result }
     ensures first_calls { CallsAtMost ⟦<D as Disk>⟧ 2 root0.old root0.new }
     ensures second_calls { CallsAtMost ⟦<D as Disk>⟧ 2 root1.old root1.new }
-    ensures failures { D.failures root0.new + D.failures root1.new ≡ counted result (D.failures root0.old + D.failures root1.old) }
+    ensures failures { CountsBoth ⟦<D as Disk>⟧ root0.old root1.old root0.new root1.new result }
 {
     write_through(root0, 0, &[CLOSED])?;
     write_through(root1, 0, &[CLOSED])
@@ -140,8 +138,8 @@ pub(crate) fn made<D: Disk>(
     requires words { pools.is_broken detector.words ≡ false }
     requires checkpointer { checkpointer.is_broken ≡ false }
     requires idle { checkpointer.phase ≡ Idle }
-    requires stands { IsTrue D.is_honest → (basis : Basis) × IsBased ⟦<D as Disk>⟧ journal detector checkpointer basis × IsReady ⟦<D as Disk>⟧ detector }
-    ensures fresh { (basis : Basis) → IsBased ⟦<D as Disk>⟧ journal detector checkpointer basis → IsFresh ⟦<D as Disk>⟧ result (content (live ⟦<D as Disk>⟧) detector) }
+    requires stands { IsTrue D.is_honest → MayBeMade ⟦<D as Disk>⟧ journal detector checkpointer }
+    ensures fresh { IsFreshOf ⟦<D as Disk>⟧ journal detector checkpointer result }
     ensures idle { IsIdle result }
     ensures devices { result.devices ≡ devices_of ⟦<D as Disk>⟧ journal detector.words checkpointer }
     ensures detector { result.detector ≡ detector }
@@ -185,10 +183,10 @@ fn on_closed_roots<D: Disk>(
     ensures fresh { IfOk result (λ store. IsFresh ⟦<D as Disk>⟧ store empty_content) }
     ensures idle { IfOk result IsIdle }
     ensures detector { IfOk result (λ store. store.detector ≡ detector) }
-    ensures bytes { IfOk result (λ store. read_of ⟦<D as Disk>⟧ store.devices ≡ record empty_image { slots = (D.state (pools.disk_of detector.words)).contents }) }
-    ensures calls { MakingCalls ⟦<D as Disk>⟧ (record { journal = journal; slots = pools.disk_of detector.words; root0 = root0; root1 = root1 }) (made_of result) }
+    ensures bytes { IfOk result (ReadsEmpty ⟦<D as Disk>⟧ detector.words) }
+    ensures calls { MakingCalls ⟦<D as Disk>⟧ (joined journal detector.words root0 root1) (made_of result) }
     ensures refusal { IfErr result (λ e. e.0 ≡ CreateFault.Refused Refusal.DeviceFault) }
-    ensures device { failures_of ⟦<D as Disk>⟧ (made_of result) ≡ tells_create result (D.failures journal + D.failures (pools.disk_of detector.words) + D.failures root0 + D.failures root1) }
+    ensures device { CountsMaking ⟦<D as Disk>⟧ (joined journal detector.words root0 root1) result }
 {
     let mut root0 = root0;
     let mut root1 = root1;
@@ -232,19 +230,19 @@ impl<D: Disk> Store<D> {
         caps: Caps,
     ) -> Result<Store<D>, (CreateFault, Devices<D>)>
         requires frames { (4 ≤ frames) × (frames ≤ 4096) }
-        requires sets { (1 ≤ caps.sets) × (caps.sets ≤ 262144) }
-        requires slots { (1 ≤ caps.slots) × (caps.slots ≤ 1048576) }
+        requires sets { (1 ≤ caps.sets) × (caps.sets ≤ MOST_SETS) }
+        requires slots { (1 ≤ caps.slots) × (caps.slots ≤ MOST_SLOTS) }
         ensures fresh { IfOk result (λ store. IsFresh ⟦<D as Disk>⟧ store empty_content) }
         ensures idle { IfOk result IsIdle }
         ensures sets { IfOk result (λ store. store.detector.sets ≡ first_table caps.sets) }
         ensures bytes { IfOk result (λ store. read_of ⟦<D as Disk>⟧ store.devices ≡ empty_image) }
         ensures empty { IfOk result (λ _. IsEmpty ⟦<D as Disk>⟧ devices) }
-        ensures not_empty { IfErr result (λ e. e.0 ≡ CreateFault.NotEmpty → ¬ IsEmpty ⟦<D as Disk>⟧ devices × (e.1 ≡ devices)) }
-        ensures else_empty { IfErr result (λ e. (e.0 ≡ CreateFault.NotEmpty → ⊥) → IsEmpty ⟦<D as Disk>⟧ devices) }
+        ensures not_empty { IfErr result (λ e. e.0 ≡ CreateFault.NotEmpty → WereNotEmpty ⟦<D as Disk>⟧ devices e.1) }
+        ensures else_empty { IfErr result (λ e. e.0 ≢ CreateFault.NotEmpty → IsEmpty ⟦<D as Disk>⟧ devices) }
         ensures memory { IfErr result (λ e. e.0 ≡ CreateFault.Refused Refusal.OutOfMemory → e.1 ≡ devices) }
         ensures calls { MakingCalls ⟦<D as Disk>⟧ devices (made_of result) }
-        ensures refusal { IfErr result (λ e. (e.0 ≡ CreateFault.NotEmpty) ⊎ ((e.0 ≡ CreateFault.Refused Refusal.DeviceFault) ⊎ (e.0 ≡ CreateFault.Refused Refusal.OutOfMemory))) }
-        ensures device { failures_of ⟦<D as Disk>⟧ (made_of result) ≡ tells_create result (failures_of ⟦<D as Disk>⟧ devices) }
+        ensures refusal { IfErr result (λ e. IsOfMaking e.0) }
+        ensures device { CountsMaking ⟦<D as Disk>⟧ devices result }
     {
         if !is_empty(&devices) {
             return Err((CreateFault::NotEmpty, devices));

@@ -2,6 +2,9 @@
 
 ghost use Rattle.std.specs.Prelude.{◌≡◌};
 
+use hg_pages::MOST_SLOTS;
+use hg_sets::MOST_SETS;
+
 /// The four devices of a store.
 #[derive(Debug, Drop)]
 pub struct Devices<D> {
@@ -27,11 +30,11 @@ pub struct Caps {
 impl Caps {
     /// The greatest.
     pub fn profile() -> Caps
-        ensures { (result.sets ≡ 262144) × (result.slots ≡ 1048576) }
+        ensures { (result.sets ≡ MOST_SETS) × (result.slots ≡ MOST_SLOTS) }
     {
         Caps {
-            sets: 262_144,
-            slots: 1_048_576,
+            sets: MOST_SETS,
+            slots: MOST_SLOTS,
         }
     }
 }

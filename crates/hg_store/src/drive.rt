@@ -1,13 +1,11 @@
 //! One step after another.
 
-ghost use Rattle.std.specs.Prelude.{◌≡◌, ◌++◌, ◌∷◌, [], map, IsTrue, IfOk, IfErr, cond};
-ghost use Rattle.hg_contents.specs.Choices.{Stands};
-ghost use Rattle.hg_disk.specs.Calls.{CallsAtMost};
-ghost use Rattle.hg_store.specs.Doing.{ContentDone, StepDone, fails_by, in_doubt_during};
-ghost use Rattle.hg_store.specs.Images.{EachImage, failures_of};
-ghost use Rattle.hg_store.specs.Runs.{DriveDone, StepsDone};
-ghost use Rattle.hg_store.specs.Shown.{live, saved};
-ghost use Rattle.hg_store.specs.Store.{Backs};
+ghost use Rattle.std.specs.Prelude.{◌≡◌, ◌++◌, ◌∷◌, IsTrue, IfOk, IfErr};
+ghost use Rattle.hg_store.specs.Doing.{ContentDone, StandDuring, StepDone, fails_by};
+ghost use Rattle.hg_store.specs.Store.{Backs, JournalCallsAtMost};
+ghost use Rattle.hg_store.specs.Images.{FailuresBecome};
+ghost use Rattle.hg_store.specs.Shown.{broken_or_no_memory};
+ghost use Rattle.hg_store.specs.Runs.{HasDriven, HasStepped};
 
 use crate::steps::{Step, StepResult};
 use crate::store::Store;
@@ -28,9 +26,9 @@ impl<D: Disk> Store<D> {
     pub fn step(&mut self, alloc: Global, step: &Step) -> StepResult
         ensures done { StepDone ⟦<D as Disk>⟧ self.old self.new step.now result }
         ensures content { IsTrue D.is_honest → ContentDone ⟦<D as Disk>⟧ self.old self.new step.now result }
-        ensures device { failures_of ⟦<D as Disk>⟧ self.new.devices ≡ fails_by result (failures_of ⟦<D as Disk>⟧ self.old.devices) }
-        ensures calls { CallsAtMost ⟦<D as Disk>⟧ 4 self.old.devices.journal self.new.devices.journal }
-        ensures images { IsTrue D.is_honest → EachImage ⟦<D as Disk>⟧ self.old.devices self.new.devices (Stands (saved ⟦<D as Disk>⟧ self.old) (live ⟦<D as Disk>⟧ self.old) (in_doubt_during step.now self.old.in_doubt)) }
+        ensures device { FailuresBecome ⟦<D as Disk>⟧ self.old.devices self.new.devices (fails_by result) }
+        ensures calls { JournalCallsAtMost ⟦<D as Disk>⟧ 4 self.old self.new }
+        ensures images { IsTrue D.is_honest → StandDuring ⟦<D as Disk>⟧ step.now self.old self.new }
     {
         let _ = &self.pending;
         match step {
@@ -51,9 +49,9 @@ impl<D: Disk> Store<D> {
         ensures began { result.began.value ≡ self.old }
         ensures done { StepDone ⟦<D as Disk>⟧ self.old self.new step.now result.result }
         ensures content { IsTrue D.is_honest → ContentDone ⟦<D as Disk>⟧ self.old self.new step.now result.result }
-        ensures device { failures_of ⟦<D as Disk>⟧ self.new.devices ≡ fails_by result.result (failures_of ⟦<D as Disk>⟧ self.old.devices) }
+        ensures device { FailuresBecome ⟦<D as Disk>⟧ self.old.devices self.new.devices (fails_by result.result) }
         ensures backs { IsTrue D.is_honest → Backs ⟦<D as Disk>⟧ self.new }
-        ensures images { IsTrue D.is_honest → EachImage ⟦<D as Disk>⟧ self.old.devices self.new.devices (Stands (saved ⟦<D as Disk>⟧ self.old) (live ⟦<D as Disk>⟧ self.old) (in_doubt_during step.now self.old.in_doubt)) }
+        ensures images { IsTrue D.is_honest → StandDuring ⟦<D as Disk>⟧ step.now self.old self.new }
     {
         let _ = &self.pending;
         let began = Snapshot::of(&*self);
@@ -75,12 +73,12 @@ impl<D: Disk> Store<D> {
         done: &[Step],
         last: &Step,
     ) -> Result<Vec<StepAnswer<D>>, Refusal>
-        ensures run { IsTrue D.is_honest → IfOk result (λ answers. DriveDone ⟦<D as Disk>⟧ self.old self.new (done.now ++ last.now ∷ []) (map (λ a. (a.began.value, a.result)) answers.items)) }
+        ensures run { IsTrue D.is_honest → IfOk result (HasDriven ⟦<D as Disk>⟧ self.old self.new done.now last.now) }
 
         // Whatever the devices are, each step has one answer, and leads to where the next one began.
-        ensures each { IfOk result (λ answers. StepsDone ⟦<D as Disk>⟧ self.old self.new (done.now ++ last.now ∷ []) (map (λ a. (a.began.value, a.result)) answers.items)) }
+        ensures each { IfOk result (HasStepped ⟦<D as Disk>⟧ self.old self.new done.now last.now) }
 
-        ensures err { IfErr result (λ refusal. (self.new ≡ self.old) × (refusal ≡ cond self.old.is_broken Refusal.Broken Refusal.OutOfMemory)) }
+        ensures err { IfErr result (λ refusal. (self.new ≡ self.old) × (refusal ≡ broken_or_no_memory self.old)) }
         ensures broken { IsTrue self.old.is_broken → IfErr result (λ refusal. refusal ≡ Refusal.Broken) }
     {
         if self.is_broken {

@@ -1,14 +1,11 @@
 //! What a store answers of what it has.
 
-ghost use Rattle.std.specs.Prelude.{◌≡◌, ◌≢◌, ◌⊎◌, ◌+◌, ◌-◌, ◌*◌, List, Ok, Err, length, take, drop, false, IsTrue, OnOk, IfOk, IfErr, cond};
-ghost use Rattle.hg_model.specs.declared.event.Named.{Named as NamedOf};
+ghost use Rattle.std.specs.Prelude.{◌≡◌, ◌≢◌, ◌⊎◌, ◌+◌, ◌-◌, ◌*◌, Ok, Err, false, IsTrue, OnOk, IfOk, IfErr};
 ghost use Rattle.hg_model.specs.ThreadSets.{HasThreadSets};
-ghost use Rattle.hg_disk.specs.Calls.{CallsAtMost};
-ghost use Rattle.hg_journal.specs.Journal.{IsJournal, IsOfReading, failed_after};
-ghost use Rattle.hg_store.specs.Images.{EachImage, failures_of, states_of};
-ghost use Rattle.hg_contents.specs.Stores.{IsLeft};
-ghost use Rattle.hg_store.specs.Shown.{live, phase_of};
-ghost use Rattle.hg_store.specs.Store.{Backs};
+ghost use Rattle.hg_journal.specs.Journal.{IsOfReading, failed_after};
+ghost use Rattle.hg_store.specs.Shown.{HasCounted, IsSameButJournal, broken_or_no_memory, live, phase_of, unless_broken};
+ghost use Rattle.hg_store.specs.Store.{Backs, HasFoundEvents, JournalCallsAtMost};
+ghost use Rattle.hg_store.specs.Images.{FailuresBecome, KeepImages};
 
 use crate::steps::StorePhase;
 use crate::store::Store;
@@ -24,7 +21,7 @@ impl<D: Disk> Store<D> {
     /// What the store stands for, which contracts alone see. It does nothing.
     pub fn stands(&self)
         ensures backs { IsTrue D.is_honest → Backs ⟦<D as Disk>⟧ self.now }
-        ensures count { IsTrue D.is_honest → (live ⟦<D as Disk>⟧ self.now).events ≡ self.now.durable + length self.now.pending }
+        ensures count { IsTrue D.is_honest → HasCounted ⟦<D as Disk>⟧ self.now }
         ensures sets { IsTrue D.is_honest → HasThreadSets (live ⟦<D as Disk>⟧ self.now) }
     {
         let _ = &self.pending;
@@ -32,7 +29,7 @@ impl<D: Disk> Store<D> {
 
     /// The count of the accepted events.
     pub fn events(&self) -> Result<u64, Refusal>
-        ensures { result ≡ cond self.now.is_broken (Err Refusal.Broken) (Ok (live ⟦<D as Disk>⟧ self.now).events) }
+        ensures { result ≡ unless_broken self.now (live ⟦<D as Disk>⟧ self.now).events }
     {
         if self.is_broken {
             return Err(Refusal::Broken);
@@ -42,7 +39,7 @@ impl<D: Disk> Store<D> {
 
     /// The count of the durable events.
     pub fn durable(&self) -> Result<u64, Refusal>
-        ensures { result ≡ cond self.now.is_broken (Err Refusal.Broken) (Ok self.now.durable) }
+        ensures { result ≡ unless_broken self.now self.now.durable }
     {
         if self.is_broken {
             return Err(Refusal::Broken);
@@ -52,7 +49,7 @@ impl<D: Disk> Store<D> {
 
     /// The last accepted number of a source, 0 where it sent nothing.
     pub fn last(&self, source: u16) -> Result<u64, Refusal>
-        ensures { result ≡ cond self.now.is_broken (Err Refusal.Broken) (Ok ((live ⟦<D as Disk>⟧ self.now).last source)) }
+        ensures { result ≡ unless_broken self.now ((live ⟦<D as Disk>⟧ self.now).last source) }
     {
         if self.is_broken {
             return Err(Refusal::Broken);
@@ -62,7 +59,7 @@ impl<D: Disk> Store<D> {
 
     /// How many reports there were, kept or not.
     pub fn total(&self) -> Result<u64, Refusal>
-        ensures { result ≡ cond self.now.is_broken (Err Refusal.Broken) (Ok (live ⟦<D as Disk>⟧ self.now).total) }
+        ensures { result ≡ unless_broken self.now (live ⟦<D as Disk>⟧ self.now).total }
     {
         if self.is_broken {
             return Err(Refusal::Broken);
@@ -72,7 +69,7 @@ impl<D: Disk> Store<D> {
 
     /// How far the store is with its events and with its next checkpoint.
     pub fn phase(&self) -> Result<StorePhase, Refusal>
-        ensures { result ≡ cond self.now.is_broken (Err Refusal.Broken) (Ok (phase_of self.now)) }
+        ensures { result ≡ unless_broken self.now (phase_of self.now) }
     {
         if self.is_broken {
             return Err(Refusal::Broken);
@@ -83,7 +80,7 @@ impl<D: Disk> Store<D> {
     /// The kept reports, at most 65,536.
     pub fn reports(&self, alloc: Global) -> Result<Vec<Report>, Refusal>
         ensures reports { IfOk result (λ reports. reports.items ≡ (live ⟦<D as Disk>⟧ self.now).reports) }
-        ensures refusal { IfErr result (λ refusal. refusal ≡ cond self.now.is_broken Refusal.Broken Refusal.OutOfMemory) }
+        ensures refusal { IfErr result (λ refusal. refusal ≡ broken_or_no_memory self.now) }
         ensures broken { IsTrue self.now.is_broken → result ≡ Err Refusal.Broken }
     {
         if self.is_broken {
@@ -116,16 +113,15 @@ impl<D: Disk> Store<D> {
         from: u64,
         max: usize,
     ) -> Result<Vec<Named>, Refusal>
-        ensures events { (events : List NamedOf) → IsTrue D.is_honest → IsJournal (D.state self.old.devices.journal).contents events
-            → IfOk result (λ found. found.items ≡ take max (drop (from - 1) events)) }
+        ensures events { HasFoundEvents ⟦<D as Disk>⟧ self.old from max result }
         ensures whole { IsTrue D.is_honest → IfErr result (λ refusal. refusal ≢ Refusal.Damaged) }
         ensures broken { IsTrue self.old.is_broken → (result ≡ Err Refusal.Broken) × (self.new ≡ self.old) }
         ensures works { IfErr result (λ refusal. refusal ≡ Refusal.Broken → IsTrue self.old.is_broken) }
         ensures refusal { IfErr result (λ refusal. IsOfReading refusal ⊎ (refusal ≡ Refusal.Broken)) }
-        ensures device { failures_of ⟦<D as Disk>⟧ self.new.devices ≡ failed_after result (failures_of ⟦<D as Disk>⟧ self.old.devices) }
-        ensures rest { self.new ≡ record self.old { devices = record self.old.devices { journal = self.new.devices.journal } } }
-        ensures calls { CallsAtMost ⟦<D as Disk>⟧ (2 * self.old.durable) self.old.devices.journal self.new.devices.journal }
-        ensures images { EachImage ⟦<D as Disk>⟧ self.old.devices self.new.devices (IsLeft (states_of ⟦<D as Disk>⟧ self.old.devices)) }
+        ensures device { FailuresBecome ⟦<D as Disk>⟧ self.old.devices self.new.devices (failed_after result) }
+        ensures rest { IsSameButJournal self.old self.new }
+        ensures calls { JournalCallsAtMost ⟦<D as Disk>⟧ (2 * self.old.durable) self.old self.new }
+        ensures images { KeepImages ⟦<D as Disk>⟧ self.old.devices self.new.devices }
     {
         if self.is_broken {
             return Err(Refusal::Broken);

@@ -1,32 +1,22 @@
 //! Recovering a store.
 
-ghost use Rattle.std.specs.Prelude.{◌≡◌, ◌↔◌, ◌⊎◌, ◌+◌, ◌≤◌, ◌<◌, ℕ, List, [], Err, Option, Some, None, All, length, vec_capacity, false, IsTrue, IfOk, IfErr, IfSome, OnErr, OnOk};
-ghost use Rattle.hg_model.specs.Contents.{Content};
-ghost use Rattle.hg_model.specs.declared.event.Named.{Named as NamedOf};
+ghost use Rattle.std.specs.Prelude.{◌≡◌, ◌↔◌, ◌⊎◌, ◌+◌, ◌≤◌, ◌<◌, [], Err, Option, Some, None, vec_capacity, false, IsTrue, IfOk, IfErr, IfSome, OnOk};
 ghost use Rattle.hg_detect.specs.Engine.{AtPresent};
 ghost use Rattle.hg_detect.specs.Shown.{content};
 ghost use Rattle.hg_disk.specs.Calls.{CallsAtMost};
-ghost use Rattle.hg_disk.specs.Moments.{LeavesOnly};
-ghost use Rattle.hg_disk.specs.State.{IsImage, counted, settled};
-ghost use Rattle.hg_journal.specs.Journal.{IsJournal};
+ghost use Rattle.hg_disk.specs.State.{counted, settled};
 ghost use Rattle.hg_journal.specs.Reading as journals;
 ghost use Rattle.hg_pages.specs.Files as files;
 ghost use Rattle.hg_pool.specs.Kept.{IsFaithful, Went};
 ghost use Rattle.hg_pool.specs.Maps as pools;
-ghost use Rattle.hg_pool.specs.Maps.{live};
 ghost use Rattle.hg_pool.specs.OfWords.{MayBring};
-ghost use Rattle.hg_root.specs.Checkpoints.{Checkpoint, HasCheckpoint, HasPages, LieWithin, root_of};
-ghost use Rattle.hg_root.specs.Finding.{AreWhole, HasNoNewest, IsNewestOf, IsOnlyOf, IsWholeIn, StandsWith, WasRead, number_in, root_in};
-ghost use Rattle.hg_root.specs.Newest.{IsNewest};
-ghost use Rattle.hg_root.specs.Pairs.{IsWorking, Stands, failures, first_bytes, first_of, second_bytes, second_of};
-ghost use Rattle.hg_root.specs.Parts.{Parts};
-ghost use Rattle.hg_contents.specs.Choices.{Choice};
-ghost use Rattle.hg_contents.specs.Images.{Gives, HasContent, start_of};
-ghost use Rattle.hg_recovery.specs.Restoring.{failures_after, file_in};
-ghost use Rattle.hg_checkpointer.specs.Tables.{NamesOf};
-ghost use Rattle.hg_store.specs.Images.{EachImage, HasContentOf, Recovers, failures_of, read_of};
-ghost use Rattle.hg_store.specs.Recovering.{CountsCaught, CountsFailures, CountsRecovered, CountsRooted, HasFewSets, HasNoRoom, HasSets, HasTable, IsOfRecovery, IsReady, IsRooted, IsStarted, IsTooFew, IsTooSmall, Settled, Stay, first_after, journal_after, made_of, roots_of, second_after, slots_of, table_at, words_after};
-ghost use Rattle.hg_store.specs.Store.{IsFresh, IsIdle};
+ghost use Rattle.hg_root.specs.Checkpoints.{LieWithin};
+ghost use Rattle.hg_root.specs.Finding.{AreWhole, HasNoNewest, IsNewestOf, IsOnlyOf, IsWholeIn, WasRead, number_in, root_in};
+ghost use Rattle.hg_root.specs.Pairs.{IsWorking, failures, first_of, second_of};
+ghost use Rattle.hg_recovery.specs.Restoring.{file_in};
+ghost use Rattle.hg_store.specs.Images.{FailuresBecome, KeepContent, LeavesOld, Recovers, read_of};
+ghost use Rattle.hg_store.specs.Recovering.{CantCatchUp, CantFill, CantRoot, CatchesUp, CountsCatching, CountsFailures, CountsInFile, CountsRecovery, CountsRooting, FillsSets, HasCheckpointOf, HasFewSets, HasItsTable, HasNoCheckpointOf, HasNoContent, HasNoneIn, IfDamaged, IfFullSets, IsNewestRoot, IsOfRecovery, IsOfRoots, IsOnlyRoot, IsReady, IsRecovered, IsRootedAt, IsTooFew, LacksRoom, MayCatchUp, NamesPages, OnDamaged, PairStands, Settled, StandIfSettled, StartsAt, Stay, first_after, journal_after, made_of, roots_of, second_after, slots_of, table_at, words_after};
+ghost use Rattle.hg_store.specs.Store.{IsIdle};
 
 use crate::create::{empty_detector, made, pending_room};
 use crate::devices::{Caps, Devices};
@@ -38,16 +28,17 @@ use hg_disk::{Disk, DiskFault};
 use hg_journal::journal::Journal;
 use hg_model::event::Named;
 use hg_model::verdict::Refusal;
-use hg_pages::SlotFile;
+use hg_pages::{MOST_SLOTS, SlotFile};
 use hg_pool::Pool;
 use hg_recovery::{lies_within, restored};
 use hg_root::{Newest, Root, RootFault, RootPair};
+use hg_sets::MOST_SETS;
 use std::alloc::Global;
 
 /// Makes what each device reads durable.
 fn sync_all<D: Disk>(devices: &mut Devices<D>) -> Result<(), DiskFault>
     ensures settled { OnOk result (Settled ⟦<D as Disk>⟧ devices.old devices.new) }
-    ensures failures { failures_of ⟦<D as Disk>⟧ devices.new ≡ counted result (failures_of ⟦<D as Disk>⟧ devices.old) }
+    ensures failures { FailuresBecome ⟦<D as Disk>⟧ devices.old devices.new (counted result) }
     ensures journal_calls { CallsAtMost ⟦<D as Disk>⟧ 1 devices.old.journal devices.new.journal }
     ensures slots_calls { CallsAtMost ⟦<D as Disk>⟧ 1 devices.old.slots devices.new.slots }
     ensures first_calls { CallsAtMost ⟦<D as Disk>⟧ 1 devices.old.root0 devices.new.root0 }
@@ -66,10 +57,9 @@ fn newest<D: Disk>(alloc: Global, roots: &mut RootPair<D>) -> Result<Newest, Ref
     ensures found { IsTrue D.is_honest → IfOk result (IsNewestOf ⟦<D as Disk>⟧ roots.old) }
     ensures only { IsTrue D.is_honest → IfOk result (IsOnlyOf ⟦<D as Disk>⟧ roots.old) }
     ensures whole { IfOk result AreWhole }
-    ensures stands { IsTrue D.is_honest → (one other : List ℕ) → D.state (first_of roots.old) ≡ settled one → D.state (second_of roots.old) ≡ settled other
-        → IfOk result (StandsWith ⟦<D as Disk>⟧ roots.new) }
-    ensures damaged { IsTrue D.is_honest → result ≡ Err Refusal.Damaged → HasNoNewest ⟦<D as Disk>⟧ roots.old }
-    ensures refusal { IfErr result (λ r. (r ≡ Refusal.Damaged) ⊎ ((r ≡ Refusal.DeviceFault) ⊎ (r ≡ Refusal.OutOfMemory))) }
+    ensures stands { IsTrue D.is_honest → PairStands ⟦<D as Disk>⟧ roots.old roots.new result }
+    ensures damaged { IsTrue D.is_honest → OnDamaged result (HasNoNewest ⟦<D as Disk>⟧ roots.old) }
+    ensures refusal { IfErr result IsOfRoots }
     ensures first { WasRead ⟦<D as Disk>⟧ (first_of roots.old) (first_of roots.new) }
     ensures second { WasRead ⟦<D as Disk>⟧ (second_of roots.old) (second_of roots.new) }
     ensures device { CountsFailures result (failures ⟦<D as Disk>⟧ roots.old) (failures ⟦<D as Disk>⟧ roots.new) }
@@ -100,13 +90,12 @@ fn standing<D: Disk>(
     file: &SlotFile<D>,
 ) -> Result<Option<Root>, Refusal>
     requires works { IsWorking roots.old }
-    ensures found { IsTrue D.is_honest → IfOk result (λ found. (former : Option Parts) × IsNewest (root_in found) former (first_bytes ⟦<D as Disk>⟧ roots.old) (second_bytes ⟦<D as Disk>⟧ roots.old)) }
-    ensures only { IsTrue D.is_honest → IfOk result (λ found. (root former : Option Parts) → IsNewest root former (first_bytes ⟦<D as Disk>⟧ roots.old) (second_bytes ⟦<D as Disk>⟧ roots.old) → root ≡ root_in found) }
+    ensures found { IsTrue D.is_honest → IfOk result (IsNewestRoot ⟦<D as Disk>⟧ roots.old) }
+    ensures only { IsTrue D.is_honest → IfOk result (IsOnlyRoot ⟦<D as Disk>⟧ roots.old) }
     ensures whole { IfOk result IsWholeIn }
-    ensures stands { IsTrue D.is_honest → (one other : List ℕ) → D.state (first_of roots.old) ≡ settled one → D.state (second_of roots.old) ≡ settled other
-        → IfOk result (λ found. (former : Option Parts) × Stands ⟦<D as Disk>⟧ roots.new (root_in found) former × IsNewest (root_in found) former one other × IfSome former (LieWithin (D.state (files.disk_of file.now)).contents)) }
-    ensures damaged { IsTrue D.is_honest → result ≡ Err Refusal.Damaged → (c : Option Checkpoint) → ¬ HasCheckpoint c (first_bytes ⟦<D as Disk>⟧ roots.old) (second_bytes ⟦<D as Disk>⟧ roots.old) (D.state (files.disk_of file.now)).contents }
-    ensures refusal { IfErr result (λ r. (r ≡ Refusal.Damaged) ⊎ ((r ≡ Refusal.DeviceFault) ⊎ (r ≡ Refusal.OutOfMemory))) }
+    ensures stands { IsTrue D.is_honest → StandIfSettled ⟦<D as Disk>⟧ roots.old roots.new file.now result }
+    ensures damaged { IsTrue D.is_honest → OnDamaged result (HasNoneIn ⟦<D as Disk>⟧ roots.old file.now) }
+    ensures refusal { IfErr result IsOfRoots }
     ensures first { WasRead ⟦<D as Disk>⟧ (first_of roots.old) (first_of roots.new) }
     ensures second { WasRead ⟦<D as Disk>⟧ (second_of roots.old) (second_of roots.new) }
     ensures device { CountsFailures result (failures ⟦<D as Disk>⟧ roots.old) (failures ⟦<D as Disk>⟧ roots.new) }
@@ -138,23 +127,22 @@ fn detector_of<D: Disk>(
     caps: Caps,
 ) -> Result<Detector<Pool<D>>, (Refusal, SlotFile<D>)>
     requires frames { (4 ≤ frames) × (frames ≤ 4096) }
-    requires sets { (1 ≤ caps.sets) × (caps.sets ≤ 262144) }
-    requires slots { (1 ≤ caps.slots) × (caps.slots ≤ 1048576) }
+    requires sets { (1 ≤ caps.sets) × (caps.sets ≤ MOST_SETS) }
+    requires slots { (1 ≤ caps.slots) × (caps.slots ≤ MOST_SLOTS) }
     requires whole { IsWholeIn found }
     requires works { files.is_broken file ≡ false }
     ensures sets { IfOk result (λ d. d.sets ≡ table_at caps.sets (root_in found)) }
-    ensures content { IsTrue D.is_honest → (c : Option Checkpoint) → root_of c ≡ root_in found → IfSome c (HasPages (files.known ⟦<D as Disk>⟧ file))
-        → IfOk result (λ d. content (live ⟦<D as Disk>⟧) d ≡ start_of c) }
-    ensures stands { IsTrue D.is_honest → OnOk result ((c : Option Checkpoint) × (root_of c ≡ root_in found) × IfSome c (HasPages (files.known ⟦<D as Disk>⟧ file))) }
-    ensures damaged { IsTrue D.is_honest → IfErr result (λ e. e.0 ≡ Refusal.Damaged → (c : Option Checkpoint) → root_of c ≡ root_in found → ¬ IfSome c (HasPages (files.known ⟦<D as Disk>⟧ file))) }
+    ensures content { IsTrue D.is_honest → StartsAt ⟦<D as Disk>⟧ (root_in found) file result }
+    ensures stands { IsTrue D.is_honest → OnOk result (HasCheckpointOf ⟦<D as Disk>⟧ (root_in found) file) }
+    ensures damaged { IsTrue D.is_honest → IfDamaged result (HasNoCheckpointOf ⟦<D as Disk>⟧ (root_in found) file) }
     ensures lawful { IfOk result (AtPresent MayBring) }
     ensures faithful { IsTrue D.is_honest → IfOk result (AtPresent (IsFaithful ⟦<D as Disk>⟧)) }
     ensures ready { IsTrue D.is_honest → IfOk result (IsReady ⟦<D as Disk>⟧) }
-    ensures names { (c : Option Checkpoint) → root_of c ≡ root_in found → IfOk result (λ d. NamesOf d.words.root c) }
+    ensures names { NamesPages (root_in found) result }
     ensures state { D.state (files.disk_of (file_in result)) ≡ D.state (files.disk_of file) }
-    ensures any_moment { LeavesOnly ⟦<D as Disk>⟧ (files.disk_of file) (files.disk_of (file_in result)) (IsImage (D.state (files.disk_of file))) }
+    ensures any_moment { LeavesOld ⟦<D as Disk>⟧ (files.disk_of file) (files.disk_of (file_in result)) }
     ensures unbroken { files.is_broken (file_in result) ≡ false }
-    ensures device { D.failures (files.disk_of (file_in result)) ≡ failures_after result (D.failures (files.disk_of file)) }
+    ensures device { CountsInFile ⟦<D as Disk>⟧ file result }
     ensures full { IfErr result (λ e. IsTooFew caps.sets caps.slots (root_in found) e.0) }
     ensures refusal { IfErr result (λ e. IsOfRecovery e.0) }
 {
@@ -181,17 +169,15 @@ fn caught_up<D: Disk>(
     requires room { 1024 ≤ vec_capacity pending }
     requires works { journals.is_broken journal ≡ false }
     requires lawful { AtPresent MayBring detector }
-    requires started { IsTrue D.is_honest → (bodies : List (List ℕ)) × (now : Choice) × journals.Opens journal bodies × IsStarted ⟦<D as Disk>⟧ detector roots number now }
-    ensures content { (now : Choice) → IsTrue D.is_honest → IsStarted ⟦<D as Disk>⟧ detector roots number now
-        → IfOk result (λ store. (c : Content) × (events : List NamedOf) × IsJournal (D.state (journals.disk_of journal)).contents events × Gives now.checkpoint events c × IsFresh ⟦<D as Disk>⟧ store c) }
-    ensures damaged { (now : Choice) → IsTrue D.is_honest → IsStarted ⟦<D as Disk>⟧ detector roots number now
-        → IfErr result (λ e. e.0 ≡ Refusal.Damaged → (events : List NamedOf) (c : Content) → IsJournal (D.state (journals.disk_of journal)).contents events → ¬ Gives now.checkpoint events c) }
+    requires started { IsTrue D.is_honest → MayCatchUp journal detector roots number }
+    ensures content { CatchesUp journal detector roots number result }
+    ensures damaged { CantCatchUp journal detector roots number result }
     ensures idle { IfOk result IsIdle }
-    ensures sets { IsTrue D.is_honest → IfOk result (λ store. HasSets (content (live ⟦<D as Disk>⟧) detector) detector.sets (D.state (journals.disk_of journal)).contents (content (live ⟦<D as Disk>⟧) store.detector) store.detector.sets) }
-    ensures full { IsTrue D.is_honest → IfErr result (λ e. e.0 ≡ Refusal.FullSets → IsTooSmall (content (live ⟦<D as Disk>⟧) detector) detector.sets (D.state (journals.disk_of journal)).contents) }
+    ensures sets { IsTrue D.is_honest → IfOk result (λ store. FillsSets journal detector store.detector) }
+    ensures full { IsTrue D.is_honest → CantFill journal detector result }
     ensures refusal { IfErr result (λ e. IsOfRecovery e.0) }
-    ensures device { CountsCaught result (D.failures (journals.disk_of journal) + D.failures (pools.disk_of detector.words)) (D.failures (journal_after result) + D.failures (pools.disk_of (words_after result))) }
-    ensures journal { LeavesOnly ⟦<D as Disk>⟧ (journals.disk_of journal) (journal_after result) (IsImage (D.state (journals.disk_of journal))) }
+    ensures device { CountsCatching journal detector result }
+    ensures journal { LeavesOld ⟦<D as Disk>⟧ (journals.disk_of journal) (journal_after result) }
     ensures went { Went ⟦<D as Disk>⟧ detector.words (words_after result) }
     ensures slots { IfOk result (λ store. store.devices.slots ≡ pools.disk_of store.detector.words) }
     ensures first { first_after result ≡ first_of roots }
@@ -220,20 +206,19 @@ fn rooted<D: Disk>(
     caps: Caps,
 ) -> Result<(Detector<Pool<D>>, RootPair<D>, u64), (Refusal, D, RootPair<D>)>
     requires frames { (4 ≤ frames) × (frames ≤ 4096) }
-    requires sets { (1 ≤ caps.sets) × (caps.sets ≤ 262144) }
-    requires slots { (1 ≤ caps.slots) × (caps.slots ≤ 1048576) }
+    requires sets { (1 ≤ caps.sets) × (caps.sets ≤ MOST_SETS) }
+    requires slots { (1 ≤ caps.slots) × (caps.slots ≤ MOST_SLOTS) }
     requires works { IsWorking roots }
-    ensures rooted { IsTrue D.is_honest → (one other bytes : List ℕ) → D.state (first_of roots) ≡ settled one → D.state (second_of roots) ≡ settled other → D.state slots ≡ settled bytes
-        → IfOk result (λ r. IsRooted ⟦<D as Disk>⟧ caps.sets one other bytes r.0 r.1 r.2) }
+    ensures rooted { IsTrue D.is_honest → IsRootedAt ⟦<D as Disk>⟧ caps.sets roots slots result }
     ensures lawful { IfOk result (λ r. AtPresent MayBring r.0) }
-    ensures damaged { IsTrue D.is_honest → IfErr result (λ e. e.0 ≡ Refusal.Damaged → (c : Option Checkpoint) → ¬ HasCheckpoint c (first_bytes ⟦<D as Disk>⟧ roots) (second_bytes ⟦<D as Disk>⟧ roots) (D.state slots).contents) }
-    ensures full { IsTrue D.is_honest → IfErr result (λ e. HasNoRoom caps.sets caps.slots (first_bytes ⟦<D as Disk>⟧ roots) (second_bytes ⟦<D as Disk>⟧ roots) e.0) }
+    ensures damaged { IsTrue D.is_honest → CantRoot ⟦<D as Disk>⟧ roots slots result }
+    ensures full { IsTrue D.is_honest → IfErr result (λ e. LacksRoom ⟦<D as Disk>⟧ caps.sets caps.slots roots e.0) }
     ensures refusal { IfErr result (λ e. IsOfRecovery e.0) }
     ensures state { D.state (slots_of result) ≡ D.state slots }
-    ensures any_moment { LeavesOnly ⟦<D as Disk>⟧ slots (slots_of result) (IsImage (D.state slots)) }
+    ensures any_moment { LeavesOld ⟦<D as Disk>⟧ slots (slots_of result) }
     ensures first { WasRead ⟦<D as Disk>⟧ (first_of roots) (first_of (roots_of result)) }
     ensures second { WasRead ⟦<D as Disk>⟧ (second_of roots) (second_of (roots_of result)) }
-    ensures device { CountsRooted result (failures ⟦<D as Disk>⟧ roots + D.failures slots) (failures ⟦<D as Disk>⟧ (roots_of result) + D.failures (slots_of result)) }
+    ensures device { CountsRooting ⟦<D as Disk>⟧ roots slots result }
 {
     let mut roots = roots;
     let file = SlotFile::attach(slots);
@@ -280,19 +265,19 @@ fn recovered<D: Disk>(
     caps: Caps,
 ) -> Result<Store<D>, (Refusal, Devices<D>)>
     requires frames { (4 ≤ frames) × (frames ≤ 4096) }
-    requires sets { (1 ≤ caps.sets) × (caps.sets ≤ 262144) }
-    requires slots { (1 ≤ caps.slots) × (caps.slots ≤ 1048576) }
+    requires sets { (1 ≤ caps.sets) × (caps.sets ≤ MOST_SETS) }
+    requires slots { (1 ≤ caps.slots) × (caps.slots ≤ MOST_SLOTS) }
     requires none { pending.items ≡ [] }
     requires room { 1024 ≤ vec_capacity pending }
     requires settled { Settled ⟦<D as Disk>⟧ devices devices }
-    ensures content { IsTrue D.is_honest → IfOk result (λ store. (c : Content) × HasContent (read_of ⟦<D as Disk>⟧ devices) c × IsFresh ⟦<D as Disk>⟧ store c) }
-    ensures sets { IsTrue D.is_honest → IfOk result (λ store. HasTable caps.sets (read_of ⟦<D as Disk>⟧ devices) (content (live ⟦<D as Disk>⟧) store.detector) store.detector.sets) }
+    ensures content { IsTrue D.is_honest → IfOk result (IsRecovered ⟦<D as Disk>⟧ devices) }
+    ensures sets { IsTrue D.is_honest → IfOk result (HasItsTable ⟦<D as Disk>⟧ caps.sets devices) }
     ensures idle { IfOk result IsIdle }
-    ensures damaged { IsTrue D.is_honest → IfErr result (λ e. e.0 ≡ Refusal.Damaged → (c : Content) → ¬ HasContent (read_of ⟦<D as Disk>⟧ devices) c) }
-    ensures full { IsTrue D.is_honest → IfErr result (λ e. e.0 ≡ Refusal.FullSets → HasFewSets caps.sets (read_of ⟦<D as Disk>⟧ devices)) }
+    ensures damaged { IsTrue D.is_honest → IfDamaged result (HasNoContent (read_of ⟦<D as Disk>⟧ devices)) }
+    ensures full { IsTrue D.is_honest → IfFullSets result (HasFewSets caps.sets (read_of ⟦<D as Disk>⟧ devices)) }
     ensures refusal { IfErr result (λ e. IsOfRecovery e.0) }
-    ensures device { CountsRecovered result (failures_of ⟦<D as Disk>⟧ devices) (failures_of ⟦<D as Disk>⟧ (made_of result)) }
-    ensures images { IsTrue D.is_honest → EachImage ⟦<D as Disk>⟧ devices (made_of result) (HasContentOf (read_of ⟦<D as Disk>⟧ devices)) }
+    ensures device { CountsRecovery ⟦<D as Disk>⟧ devices result }
+    ensures images { IsTrue D.is_honest → KeepContent ⟦<D as Disk>⟧ devices (made_of result) }
 {
     let Devices {
         journal,
@@ -339,15 +324,15 @@ impl<D: Disk> Store<D> {
         caps: Caps,
     ) -> Result<Store<D>, (Refusal, Devices<D>)>
         requires frames { (4 ≤ frames) × (frames ≤ 4096) }
-        requires sets { (1 ≤ caps.sets) × (caps.sets ≤ 262144) }
-        requires slots { (1 ≤ caps.slots) × (caps.slots ≤ 1048576) }
-        ensures content { IsTrue D.is_honest → IfOk result (λ store. (c : Content) × HasContent (read_of ⟦<D as Disk>⟧ devices) c × IsFresh ⟦<D as Disk>⟧ store c) }
-        ensures sets { IsTrue D.is_honest → IfOk result (λ store. HasTable caps.sets (read_of ⟦<D as Disk>⟧ devices) (content (live ⟦<D as Disk>⟧) store.detector) store.detector.sets) }
+        requires sets { (1 ≤ caps.sets) × (caps.sets ≤ MOST_SETS) }
+        requires slots { (1 ≤ caps.slots) × (caps.slots ≤ MOST_SLOTS) }
+        ensures content { IsTrue D.is_honest → IfOk result (IsRecovered ⟦<D as Disk>⟧ devices) }
+        ensures sets { IsTrue D.is_honest → IfOk result (HasItsTable ⟦<D as Disk>⟧ caps.sets devices) }
         ensures idle { IfOk result IsIdle }
-        ensures damaged { IsTrue D.is_honest → IfErr result (λ e. e.0 ≡ Refusal.Damaged → (c : Content) → ¬ HasContent (read_of ⟦<D as Disk>⟧ devices) c) }
-        ensures full { IsTrue D.is_honest → IfErr result (λ e. e.0 ≡ Refusal.FullSets → HasFewSets caps.sets (read_of ⟦<D as Disk>⟧ devices)) }
+        ensures damaged { IsTrue D.is_honest → IfDamaged result (HasNoContent (read_of ⟦<D as Disk>⟧ devices)) }
+        ensures full { IsTrue D.is_honest → IfFullSets result (HasFewSets caps.sets (read_of ⟦<D as Disk>⟧ devices)) }
         ensures refusal { IfErr result (λ e. IsOfRecovery e.0) }
-        ensures device { CountsRecovered result (failures_of ⟦<D as Disk>⟧ devices) (failures_of ⟦<D as Disk>⟧ (made_of result)) }
+        ensures device { CountsRecovery ⟦<D as Disk>⟧ devices result }
 
         // A crash at any moment leaves an image with the content of one that there was before, and so it does afterwards.
         ensures images { IsTrue D.is_honest → Recovers ⟦<D as Disk>⟧ devices (made_of result) }

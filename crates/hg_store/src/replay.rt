@@ -1,24 +1,18 @@
 //! The events of a journal behind a checkpoint.
 
-ghost use Rattle.std.specs.Prelude.{◌≡◌, ◌⊎◌, ◌<◌, ◌≤◌, ◌+◌, ◌^◌, ◌++◌, [], ℕ, List, Ok, Err, Some, None, IsTrue, IfErr, OnErr, OnOk, false, length};
-ghost use Rattle.hg_model.specs.Contents.{Content};
-ghost use Rattle.hg_model.specs.Change.{after, followed};
-ghost use Rattle.hg_model.specs.declared.event.Named.{Named as NamedOf};
+ghost use Rattle.std.specs.Prelude.{◌≡◌, ◌⊎◌, ◌<◌, ◌≤◌, ◌+◌, ◌^◌, ◌++◌, Ok, Err, Some, None, IfErr, OnOk, false};
+ghost use Rattle.hg_model.specs.Change.{followed};
 ghost use Rattle.hg_sets.specs.declared.fault.SetFault.TheVariants as SetFault;
 ghost use Rattle.hg_detect.specs.Engine.{AtPresent};
-ghost use Rattle.hg_detect.specs.Making.{Asks, sets_asked};
 ghost use Rattle.hg_detect.specs.Shown.{content};
-ghost use Rattle.hg_disk.specs.State.{IsImage};
-ghost use Rattle.hg_disk.specs.Moments.{LeavesOnly};
-ghost use Rattle.hg_journal.specs.Journal.{IsJournal, IsOfReading};
-ghost use Rattle.hg_journal.specs.Reading.{IsAt, Keeps, Opens, disk_of, is_broken};
-ghost use Rattle.hg_pool.specs.Kept.{IsFaithful, Went};
+ghost use Rattle.hg_journal.specs.Journal.{IsOfReading};
+ghost use Rattle.hg_journal.specs.Reading.{disk_of, is_broken};
+ghost use Rattle.hg_pool.specs.Kept.{Went};
 ghost use Rattle.hg_pool.specs.Maps as pools;
 ghost use Rattle.hg_pool.specs.Maps.{live};
 ghost use Rattle.hg_pool.specs.OfWords.{MayBring};
-ghost use Rattle.hg_contents.specs.Images.{LeadFrom};
-ghost use Rattle.hg_store.specs.Answers.{failed_in};
-ghost use Rattle.hg_store.specs.Recovering.{CountsFailures, Fills, HasSets, IsAccepted, IsOfFollowing, IsOfRecovery, IsTooSmall};
+ghost use Rattle.hg_store.specs.Recovering.{Accepts, AsksIfFaithful, CountsFailures, CountsReplay, CountsWords, FillsSets, Follows, FollowsIfFaithful, HasFewer, HasPassed, IfAt, IfAtFirst, IfOpens, IsDamagedFrom, IsFullFrom, IsFullIfFaithful, IsOfFollowing, IsOfRecovery, IsToldAs, LacksSets, LeadsNowhere, LeadsTo, OnDamaged, OnFullSets, StaysFaithful};
+ghost use Rattle.hg_store.specs.Images.{LeavesOld};
 
 use hg_detect::detector::Detector;
 use hg_disk::Disk;
@@ -32,7 +26,7 @@ use hg_pool::Pool;
 fn told(refusal: Refusal) -> Refusal
     ensures of_following { IsOfFollowing result }
     ensures sets { result ≡ Refusal.FullSets → refusal ≡ Refusal.FullSets }
-    ensures count { (failed_in result ≡ failed_in refusal) ⊎ ((result ≡ Refusal.DeviceFault) × (failed_in refusal ≡ 0)) }
+    ensures count { IsToldAs result refusal }
 {
     match refusal {
         Refusal::FullSets => Refusal::FullSets,
@@ -46,18 +40,17 @@ fn told(refusal: Refusal) -> Refusal
 /// Has the detector follow an event of the journal. One that the rules do not accept is no journal's.
 fn follow<D: Disk>(detector: &mut Detector<Pool<D>>, named: &Named) -> Result<(), Refusal>
     requires lawful { AtPresent MayBring detector.old }
-    ensures accepted { OnOk result (IsAccepted (content (live ⟦<D as Disk>⟧) detector.old) named.now) }
-    ensures content { AtPresent (IsFaithful ⟦<D as Disk>⟧) detector.old → OnOk result (content (live ⟦<D as Disk>⟧) detector.new ≡ after (content (live ⟦<D as Disk>⟧) detector.old) named.now) }
-    ensures asked { AtPresent (IsFaithful ⟦<D as Disk>⟧) detector.old → OnOk result (Asks detector.old.sets (sets_asked (content (live ⟦<D as Disk>⟧) detector.old) named.now.event) None detector.new.sets) }
+    ensures accepted { OnOk result (Accepts ⟦<D as Disk>⟧ detector.old named.now) }
+    ensures content { FollowsIfFaithful ⟦<D as Disk>⟧ detector.old detector.new named.now result }
+    ensures asked { AsksIfFaithful ⟦<D as Disk>⟧ detector.old detector.new named.now result }
     ensures few { OnOk result ((content (live ⟦<D as Disk>⟧) detector.old).events < 2 ^ 58) }
-    ensures damaged { result ≡ Err Refusal.Damaged → ¬ IsAccepted (content (live ⟦<D as Disk>⟧) detector.old) named.now }
-    ensures full { AtPresent (IsFaithful ⟦<D as Disk>⟧) detector.old → result ≡ Err Refusal.FullSets
-        → IsAccepted (content (live ⟦<D as Disk>⟧) detector.old) named.now × Asks detector.old.sets (sets_asked (content (live ⟦<D as Disk>⟧) detector.old) named.now.event) (Some SetFault.Full) detector.new.sets }
+    ensures damaged { OnDamaged result (¬ Accepts ⟦<D as Disk>⟧ detector.old named.now) }
+    ensures full { IsFullIfFaithful ⟦<D as Disk>⟧ detector.old detector.new named.now result }
     ensures lawful { AtPresent MayBring detector.new }
-    ensures faithful { AtPresent (IsFaithful ⟦<D as Disk>⟧) detector.old → AtPresent (IsFaithful ⟦<D as Disk>⟧) detector.new }
+    ensures faithful { StaysFaithful ⟦<D as Disk>⟧ detector.old detector.new }
     ensures went { Went ⟦<D as Disk>⟧ detector.old.words detector.new.words }
     ensures refusal { IfErr result IsOfRecovery }
-    ensures device { CountsFailures result (D.failures (pools.disk_of detector.old.words)) (D.failures (pools.disk_of detector.new.words)) }
+    ensures device { CountsWords ⟦<D as Disk>⟧ detector.old detector.new result }
 {
     match detector.verdict(named) {
         Verdict::Accept => {}
@@ -77,14 +70,13 @@ fn skip<D: Disk>(
     count: u64,
 ) -> Result<(), Refusal>
     requires works { is_broken journal.old ≡ false }
-    ensures skipped { IsTrue D.is_honest → IsAt journal.old reader.old [] → OnOk result ((seen : List NamedOf) × (length seen ≡ count) × IsAt journal.new reader.new seen) }
-    ensures damaged { IsTrue D.is_honest → IsAt journal.old reader.old [] → result ≡ Err Refusal.Damaged
-        → (events : List NamedOf) → IsJournal (D.state (disk_of journal.old)).contents events → ¬ (count ≤ length events) }
+    ensures skipped { IfAtFirst journal.old reader.old (OnOk result (HasPassed count journal.new reader.new)) }
+    ensures damaged { IfAtFirst journal.old reader.old (OnDamaged result (HasFewer count journal.old)) }
     ensures works { is_broken journal.new ≡ false }
     ensures refusal { IfErr result IsOfReading }
     ensures device { CountsFailures result (D.failures (disk_of journal.old)) (D.failures (disk_of journal.new)) }
     ensures state { D.state (disk_of journal.new) ≡ D.state (disk_of journal.old) }
-    ensures any_moment { LeavesOnly ⟦<D as Disk>⟧ (disk_of journal.old) (disk_of journal.new) (IsImage (D.state (disk_of journal.old))) }
+    ensures any_moment { LeavesOld ⟦<D as Disk>⟧ (disk_of journal.old) (disk_of journal.new) }
 {
     let mut left = count;
     while left > 0 {
@@ -105,23 +97,17 @@ fn follow_rest<D: Disk>(
 ) -> Result<(), Refusal>
     requires works { is_broken journal.old ≡ false }
     requires lawful { AtPresent MayBring detector.old }
-    ensures followed { (seen : List NamedOf) → IsTrue D.is_honest → IsAt journal.old reader.old seen → AtPresent (IsFaithful ⟦<D as Disk>⟧) detector.old
-        → OnOk result ((more : List NamedOf) × Keeps journal.new (seen ++ more) × (followed (content (live ⟦<D as Disk>⟧) detector.old) more ≡ Some (content (live ⟦<D as Disk>⟧) detector.new))
-        × Fills more (content (live ⟦<D as Disk>⟧) detector.old) detector.old.sets (content (live ⟦<D as Disk>⟧) detector.new) detector.new.sets) }
-    ensures damaged { (seen : List NamedOf) → IsTrue D.is_honest → IsAt journal.old reader.old seen → AtPresent (IsFaithful ⟦<D as Disk>⟧) detector.old → result ≡ Err Refusal.Damaged
-        → length seen ≡ (content (live ⟦<D as Disk>⟧) detector.old).events
-        → (events : List NamedOf) (c : Content) → IsJournal (D.state (disk_of journal.old)).contents events → ¬ LeadFrom (content (live ⟦<D as Disk>⟧) detector.old) events c }
-    ensures full { (seen : List NamedOf) → IsTrue D.is_honest → IsAt journal.old reader.old seen → AtPresent (IsFaithful ⟦<D as Disk>⟧) detector.old → result ≡ Err Refusal.FullSets
-        → length seen ≡ (content (live ⟦<D as Disk>⟧) detector.old).events
-        → IsTooSmall (content (live ⟦<D as Disk>⟧) detector.old) detector.old.sets (D.state (disk_of journal.old)).contents }
+    ensures followed { IfAt journal.old reader.old detector.old (Follows journal.new detector.old detector.new result) }
+    ensures damaged { IfAt journal.old reader.old detector.old (IsDamagedFrom journal.old detector.old result) }
+    ensures full { IfAt journal.old reader.old detector.old (IsFullFrom journal.old detector.old result) }
     ensures lawful { AtPresent MayBring detector.new }
-    ensures faithful { AtPresent (IsFaithful ⟦<D as Disk>⟧) detector.old → AtPresent (IsFaithful ⟦<D as Disk>⟧) detector.new }
+    ensures faithful { StaysFaithful ⟦<D as Disk>⟧ detector.old detector.new }
     ensures went { Went ⟦<D as Disk>⟧ detector.old.words detector.new.words }
     ensures works { is_broken journal.new ≡ false }
     ensures refusal { IfErr result IsOfRecovery }
-    ensures device { CountsFailures result (D.failures (disk_of journal.old) + D.failures (pools.disk_of detector.old.words)) (D.failures (disk_of journal.new) + D.failures (pools.disk_of detector.new.words)) }
+    ensures device { CountsReplay journal.old detector.old journal.new detector.new result }
     ensures state { D.state (disk_of journal.new) ≡ D.state (disk_of journal.old) }
-    ensures any_moment { LeavesOnly ⟦<D as Disk>⟧ (disk_of journal.old) (disk_of journal.new) (IsImage (D.state (disk_of journal.old))) }
+    ensures any_moment { LeavesOld ⟦<D as Disk>⟧ (disk_of journal.old) (disk_of journal.new) }
 {
     for _number in 0..MOST_EVENTS + 1 {
         match journal.next(reader)? {
@@ -139,22 +125,18 @@ pub(crate) fn replay<D: Disk>(
 ) -> Result<(), Refusal>
     requires works { is_broken journal.old ≡ false }
     requires lawful { AtPresent MayBring detector.old }
-    ensures replayed { (bodies : List (List ℕ)) → IsTrue D.is_honest → Opens journal.old bodies → AtPresent (IsFaithful ⟦<D as Disk>⟧) detector.old
-        → OnOk result ((events : List NamedOf) × Keeps journal.new events × LeadFrom (content (live ⟦<D as Disk>⟧) detector.old) events (content (live ⟦<D as Disk>⟧) detector.new)) }
-    ensures sets { (bodies : List (List ℕ)) → IsTrue D.is_honest → Opens journal.old bodies → AtPresent (IsFaithful ⟦<D as Disk>⟧) detector.old
-        → OnOk result (HasSets (content (live ⟦<D as Disk>⟧) detector.old) detector.old.sets (D.state (disk_of journal.old)).contents (content (live ⟦<D as Disk>⟧) detector.new) detector.new.sets) }
-    ensures damaged { (bodies : List (List ℕ)) → IsTrue D.is_honest → Opens journal.old bodies → AtPresent (IsFaithful ⟦<D as Disk>⟧) detector.old → result ≡ Err Refusal.Damaged
-        → (events : List NamedOf) (c : Content) → IsJournal (D.state (disk_of journal.old)).contents events → ¬ LeadFrom (content (live ⟦<D as Disk>⟧) detector.old) events c }
-    ensures full { (bodies : List (List ℕ)) → IsTrue D.is_honest → Opens journal.old bodies → AtPresent (IsFaithful ⟦<D as Disk>⟧) detector.old → result ≡ Err Refusal.FullSets
-        → IsTooSmall (content (live ⟦<D as Disk>⟧) detector.old) detector.old.sets (D.state (disk_of journal.old)).contents }
+    ensures replayed { IfOpens journal.old detector.old (OnOk result (LeadsTo journal.new detector.old detector.new)) }
+    ensures sets { IfOpens journal.old detector.old (OnOk result (FillsSets journal.old detector.old detector.new)) }
+    ensures damaged { IfOpens journal.old detector.old (OnDamaged result (LeadsNowhere journal.old detector.old)) }
+    ensures full { IfOpens journal.old detector.old (OnFullSets result (LacksSets journal.old detector.old)) }
     ensures lawful { AtPresent MayBring detector.new }
-    ensures faithful { AtPresent (IsFaithful ⟦<D as Disk>⟧) detector.old → AtPresent (IsFaithful ⟦<D as Disk>⟧) detector.new }
+    ensures faithful { StaysFaithful ⟦<D as Disk>⟧ detector.old detector.new }
     ensures went { Went ⟦<D as Disk>⟧ detector.old.words detector.new.words }
     ensures works { is_broken journal.new ≡ false }
     ensures refusal { IfErr result IsOfRecovery }
-    ensures device { CountsFailures result (D.failures (disk_of journal.old) + D.failures (pools.disk_of detector.old.words)) (D.failures (disk_of journal.new) + D.failures (pools.disk_of detector.new.words)) }
+    ensures device { CountsReplay journal.old detector.old journal.new detector.new result }
     ensures state { D.state (disk_of journal.new) ≡ D.state (disk_of journal.old) }
-    ensures any_moment { LeavesOnly ⟦<D as Disk>⟧ (disk_of journal.old) (disk_of journal.new) (IsImage (D.state (disk_of journal.old))) }
+    ensures any_moment { LeavesOld ⟦<D as Disk>⟧ (disk_of journal.old) (disk_of journal.new) }
 {
     let mut reader = journal.events()?;
     skip(journal, &mut reader, detector.state().events())?;

@@ -1,14 +1,10 @@
 //! The store.
 
-ghost use Rattle.std.specs.Prelude.{◌≡◌, ◌≤◌, [], List, Ok, Err, false, true, IsTrue, OnOk, OnErr, IfOk, IfErr, length, cond};
-ghost use Rattle.hg_model.specs.Contents.{Content};
-ghost use Rattle.hg_disk.specs.Calls.{CallsAtMost};
+ghost use Rattle.std.specs.Prelude.{◌≡◌, ◌≤◌, Ok, Err, true, IsTrue};
 ghost use Rattle.hg_journal.specs.Journal.{failed_after};
-ghost use Rattle.hg_contents.specs.Choices.{Stands};
-ghost use Rattle.hg_store.specs.Images.{EachImage, failures_of};
-ghost use Rattle.hg_store.specs.Shown.{live, phase_of, saved};
 ghost use Rattle.hg_store.specs.Steps.{CommitDone, ContentOffered, OfferDone};
-ghost use Rattle.hg_store.specs.Store.{Backs};
+ghost use Rattle.hg_store.specs.Store.{JournalCallsAtMost, StandMeanwhile};
+ghost use Rattle.hg_store.specs.Images.{FailuresBecome};
 
 use crate::devices::Devices;
 use crate::steps::StorePhase;
@@ -85,8 +81,8 @@ impl<D: Disk> Store<D> {
     pub fn offer(&mut self, named: &Named) -> Result<Answer, Refusal>
         ensures done { OfferDone ⟦<D as Disk>⟧ self.old self.new named.now result }
         ensures content { IsTrue D.is_honest → ContentOffered ⟦<D as Disk>⟧ self.old self.new named.now result }
-        ensures device { failures_of ⟦<D as Disk>⟧ self.new.devices ≡ failed_after result (failures_of ⟦<D as Disk>⟧ self.old.devices) }
-        ensures images { IsTrue D.is_honest → EachImage ⟦<D as Disk>⟧ self.old.devices self.new.devices (Stands (saved ⟦<D as Disk>⟧ self.old) (live ⟦<D as Disk>⟧ self.old) self.old.in_doubt) }
+        ensures device { FailuresBecome ⟦<D as Disk>⟧ self.old.devices self.new.devices (failed_after result) }
+        ensures images { IsTrue D.is_honest → StandMeanwhile ⟦<D as Disk>⟧ self.old self.new self.old.in_doubt }
     {
         if self.is_broken {
             return Err(Refusal::Broken);
@@ -116,9 +112,9 @@ impl<D: Disk> Store<D> {
     /// pending no device. It takes no memory. A crash during it leaves the events of the last commit, or all accepted ones.
     pub fn commit(&mut self) -> Result<u64, Refusal>
         ensures done { CommitDone ⟦<D as Disk>⟧ self.old self.new result }
-        ensures calls { CallsAtMost ⟦<D as Disk>⟧ 4 self.old.devices.journal self.new.devices.journal }
-        ensures device { failures_of ⟦<D as Disk>⟧ self.new.devices ≡ failed_after result (failures_of ⟦<D as Disk>⟧ self.old.devices) }
-        ensures images { IsTrue D.is_honest → EachImage ⟦<D as Disk>⟧ self.old.devices self.new.devices (Stands (saved ⟦<D as Disk>⟧ self.old) (live ⟦<D as Disk>⟧ self.old) true) }
+        ensures calls { JournalCallsAtMost ⟦<D as Disk>⟧ 4 self.old self.new }
+        ensures device { FailuresBecome ⟦<D as Disk>⟧ self.old.devices self.new.devices (failed_after result) }
+        ensures images { IsTrue D.is_honest → StandMeanwhile ⟦<D as Disk>⟧ self.old self.new true }
     {
         if self.is_broken {
             return Err(Refusal::Broken);

@@ -1,4 +1,4 @@
-use Rattle.std.proofs.Common.{◌≡◌, ◌∙◌, inl, inr, ◌+◌, ℕ, List, refl, sym, ap, subst, arith}
+use Rattle.std.proofs.Common.{◌∙◌, inr, ◌+◌, refl, sym, ap, subst, arith}
 use Rattle.hg_model.specs.Contents.{Content}
 use Rattle.hg_sets.specs.Interning.{Table}
 use Rattle.hg_detect.specs.Shown as detect
@@ -14,11 +14,11 @@ use Rattle.hg_pool.specs.Shown as pool
 use Rattle.hg_root.specs.Checkpoints.{HasCheckpoint, root_of}
 use Rattle.hg_root.specs.Pairs.{first_of, second_of}
 use Rattle.hg_contents.specs.Choices.{HasSlots}
-use Rattle.hg_contents.specs.Images.{LeadFrom, start_of}
+use Rattle.hg_contents.specs.Images.{LeadFrom}
 use Rattle.hg_checkpointer.proofs.Staying.{slots_stay}
 use Rattle.hg_store.specs.declared.devices.Devices.{Devices}
 use Rattle.hg_store.specs.Images.{EachImage, HasContentOf, failures_of, read_of}
-use Rattle.hg_store.specs.Recovering.{HasSets, IsRooted, IsTooSmall, Stay, table_at}
+use Rattle.hg_store.specs.Recovering.{HasSets, IsTooSmall, table_at}
 use Rattle.hg_store.proofs.Recovering.{counted_so, moved, read_alone, read_on, with_pages}
 use Rattle.hg_store.proofs.Rooting.{settled_leaves}
 use Rattle.hg_store.proofs.recover.recovered.Goals as goal

@@ -1,16 +1,11 @@
-use Rattle.std.proofs.Common.{◌≡◌, ◌∙◌, ℕ, List, Bool, cond, Err, Option, Some, None, Result, false, sym, ap, subst, rules}
-use Rattle.std.specs.Prelude.{IfErr, IfSome}
+use Rattle.std.proofs.Common.{◌≡◌, ◌∙◌, ℕ, List, Bool, cond, Err, sym, ap, subst}
+use Rattle.std.specs.Prelude.{IfSome}
 use Rattle.hg_model.specs.declared.verdict.Refusal.{Refusal}
-use Rattle.hg_model.specs.declared.verdict.Refusal.TheVariants.{FullSets, FullSlots}
-use Rattle.hg_disk.specs.State.{DiskState, settled}
 use Rattle.hg_pages.specs.Files as files
-use Rattle.hg_pages.specs.declared.slot_file.SlotFile.{SlotFile}
-use Rattle.hg_root.specs.Checkpoints.{Checkpoint, HasCheckpoint, HasPages, LieWithin, root_of}
+use Rattle.hg_root.specs.Checkpoints.{HasCheckpoint, HasPages, LieWithin, root_of}
 use Rattle.hg_root.specs.Finding.{root_in}
 use Rattle.hg_root.specs.Newest.{IsNewest}
-use Rattle.hg_root.specs.Parts.{Parts}
-use Rattle.hg_root.specs.Pairs.{first_bytes, first_of, second_bytes, second_of}
-use Rattle.hg_store.specs.Recovering.{HasNoRoom}
+use Rattle.hg_root.specs.Pairs.{first_bytes, second_bytes}
 use Rattle.hg_store.proofs.Rooting.{no_room, rooted_so, settled_reads}
 use Rattle.hg_store.proofs.recover.rooted.Goals as goal
 

@@ -5,7 +5,6 @@ use Rattle.hg_model.specs.declared.verdict.Refusal.TheVariants.{Damaged, FullSet
 use Rattle.hg_detect.specs.Shown.{content}
 use Rattle.hg_pool.specs.Maps.{live}
 use Rattle.hg_contents.specs.Images.{HasContent, Image}
-use Rattle.hg_store.specs.Images.{read_of}
 use Rattle.hg_store.specs.Recovering.{HasFewSets, HasTable}
 use Rattle.hg_store.specs.Store.{IsFresh}
 use Rattle.hg_store.proofs.Recovering.{only_synced, reads_same, synced_first}
