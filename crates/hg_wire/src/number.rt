@@ -1,6 +1,7 @@
 //! Numbers of the trace text.
 
-ghost use Rattle.std.specs.Prelude.{◌≡◌, ◌≤◌, IfSome, is_some, length, drop};
+ghost use Rattle.std.specs.Prelude.{◌≡◌, ◌⊎◌, ◌+◌, ◌≤◌, ℕ, List, IfSome, is_some, length, get_or, drop};
+ghost use Rattle.std.specs.Bool.{OnTrue};
 ghost use Rattle.std.specs.Char.{digit_value, is_digit};
 ghost use Rattle.std.specs.List.{list_all};
 ghost use Rattle.hg_wire.specs.Numbers.{number_of, numeral};
@@ -35,6 +36,36 @@ fn value_of_digit(byte: u8) -> u8
     DIGIT_VALUES[usize::from(byte)]
 }
 
+/// The value of each byte as a hexadecimal digit, in either case, and 65536 for the bytes that are none: in a sum of four
+/// digits it is seen that one is none.
+#[rattlefmt::skip]
+static HEXADECIMAL_VALUES: [u32; 256] = [
+    65536, 65536, 65536, 65536, 65536, 65536, 65536, 65536, 65536, 65536, 65536, 65536, 65536, 65536, 65536, 65536,
+    65536, 65536, 65536, 65536, 65536, 65536, 65536, 65536, 65536, 65536, 65536, 65536, 65536, 65536, 65536, 65536,
+    65536, 65536, 65536, 65536, 65536, 65536, 65536, 65536, 65536, 65536, 65536, 65536, 65536, 65536, 65536, 65536,
+        0,     1,     2,     3,     4,     5,     6,     7,     8,     9, 65536, 65536, 65536, 65536, 65536, 65536,
+    65536,    10,    11,    12,    13,    14,    15, 65536, 65536, 65536, 65536, 65536, 65536, 65536, 65536, 65536,
+    65536, 65536, 65536, 65536, 65536, 65536, 65536, 65536, 65536, 65536, 65536, 65536, 65536, 65536, 65536, 65536,
+    65536,    10,    11,    12,    13,    14,    15, 65536, 65536, 65536, 65536, 65536, 65536, 65536, 65536, 65536,
+    65536, 65536, 65536, 65536, 65536, 65536, 65536, 65536, 65536, 65536, 65536, 65536, 65536, 65536, 65536, 65536,
+    65536, 65536, 65536, 65536, 65536, 65536, 65536, 65536, 65536, 65536, 65536, 65536, 65536, 65536, 65536, 65536,
+    65536, 65536, 65536, 65536, 65536, 65536, 65536, 65536, 65536, 65536, 65536, 65536, 65536, 65536, 65536, 65536,
+    65536, 65536, 65536, 65536, 65536, 65536, 65536, 65536, 65536, 65536, 65536, 65536, 65536, 65536, 65536, 65536,
+    65536, 65536, 65536, 65536, 65536, 65536, 65536, 65536, 65536, 65536, 65536, 65536, 65536, 65536, 65536, 65536,
+    65536, 65536, 65536, 65536, 65536, 65536, 65536, 65536, 65536, 65536, 65536, 65536, 65536, 65536, 65536, 65536,
+    65536, 65536, 65536, 65536, 65536, 65536, 65536, 65536, 65536, 65536, 65536, 65536, 65536, 65536, 65536, 65536,
+    65536, 65536, 65536, 65536, 65536, 65536, 65536, 65536, 65536, 65536, 65536, 65536, 65536, 65536, 65536, 65536,
+    65536, 65536, 65536, 65536, 65536, 65536, 65536, 65536, 65536, 65536, 65536, 65536, 65536, 65536, 65536, 65536,
+];
+
+#[inline(always)]
+fn value_of_hexadecimal_digit(byte: u8) -> u32
+    ensures digit { result ≤ 15 → digit_value byte ≡ result }
+    ensures none { (result ≤ 15) ⊎ (result ≡ 65536) }
+{
+    HEXADECIMAL_VALUES[usize::from(byte)]
+}
+
 /// The value of a decimal digit, and more than 9 for any other byte.
 #[inline(always)]
 fn value_of_decimal_digit(byte: u8) -> u8
@@ -43,25 +74,28 @@ fn value_of_decimal_digit(byte: u8) -> u8
     byte.wrapping_sub(b'0')
 }
 
-/// The decimal number that the bytes begin with, and what follows it, where it has at most 19 digits.
+/// The decimal number at a place, of at most so many digits, and where it ends. (More digits may follow.)
 #[inline(always)]
-fn decimal_in_front(bytes: &[u8]) -> Option<(u64, &[u8])>
-    ensures { IfSome result (λ found. HasNumeral 10 19 bytes.now found.0 found.1.now) }
+fn decimal_at(bytes: &[u8], from: usize, most: usize) -> Option<(u64, usize)>
+    requires few { most ≤ 19 }
+    requires room { from + most ≤ length bytes.now }
+    ensures numeral { IfSome result (λ found. HasNumeral 10 19 (drop from bytes.now) found.0 (drop found.1 bytes.now)) }
+    ensures near { IfSome result (λ found. found.1 ≤ from + most) }
 {
     let mut value = 0u64;
-    let mut count = 0;
-    while count < bytes.len() {
-        let digit = value_of_decimal_digit(bytes[count]);
+    let mut at = from;
+    while at < from + most {
+        let digit = value_of_decimal_digit(bytes[at]);
         if digit > 9 {
             break;
         }
         value = value.wrapping_mul(10).wrapping_add(u64::from(digit));
-        count += 1;
+        at += 1;
     }
-    if count == 0 || count > 19 {
+    if at == from {
         return None;
     }
-    Some((value, &bytes[count..]))
+    Some((value, at))
 }
 
 /// The number that four hexadecimal digits write, where they are digits.
@@ -69,70 +103,129 @@ fn decimal_in_front(bytes: &[u8]) -> Option<(u64, &[u8])>
 fn number_of_four(a: u8, b: u8, c: u8, d: u8) -> Option<u64>
     ensures { IfSome result (IsFourDigits a b c d) }
 {
-    let a = u64::from(value_of_digit(a));
-    let b = u64::from(value_of_digit(b));
-    let c = u64::from(value_of_digit(c));
-    let d = u64::from(value_of_digit(d));
-    if a | b | c | d > 15 {
+    let a = value_of_hexadecimal_digit(a);
+    let b = value_of_hexadecimal_digit(b);
+    let c = value_of_hexadecimal_digit(c);
+    let d = value_of_hexadecimal_digit(d);
+    let value = ((a * 16 + b) * 16 + c) * 16 + d;
+    if value > 0xffff {
         return None;
     }
-    Some(a * 4096 + b * 256 + c * 16 + d)
+    Some(u64::from(value))
 }
 
-/// The number that the hexadecimal digits in front of the bytes write, taken by four, and how many they are.
-/// (It is right as long as they are at most 16.)
+/// The number that the hexadecimal digits at a place write, taken by four and at most 16 of them, and where they end.
 #[inline(always)]
-fn fours_in_front(bytes: &[u8]) -> (u64, usize)
-    ensures within { result.1 ≤ length bytes.now }
-    ensures digits { HasRun 16 16 bytes.now (drop result.1 bytes.now) result.0 }
+fn fours_at(bytes: &[u8], from: usize) -> (u64, usize)
+    requires { from + 16 ≤ length bytes.now }
+    ensures within { (from ≤ result.1) × (result.1 ≤ from + 16) }
+    ensures digits { HasRun 16 16 (drop from bytes.now) (drop result.1 bytes.now) result.0 }
 {
     let mut value = 0u64;
-    let mut count = 0;
-    while bytes.len() - count >= 4 {
-        let next = number_of_four(
-            bytes[count],
-            bytes[count + 1],
-            bytes[count + 2],
-            bytes[count + 3],
-        );
+    let mut at = from;
+    while at <= from + 12 {
+        // Most numbers end here, and then there is no need to look at four bytes.
+        if bytes[at] == b' ' {
+            break;
+        }
+        let next = number_of_four(bytes[at], bytes[at + 1], bytes[at + 2], bytes[at + 3]);
         let Some(four) = next else {
             break;
         };
         value = value.wrapping_mul(65_536).wrapping_add(four);
-        count += 4;
+        at += 4;
     }
-    (value, count)
+    (value, at)
 }
 
-/// The hexadecimal number that the bytes begin with, and what follows it, where it has at most 16 digits.
+/// A number with the hexadecimal digits behind its own, up to a place, and where they end.
 #[inline(always)]
-fn hexadecimal_in_front(bytes: &[u8]) -> Option<(u64, &[u8])>
-    ensures { IfSome result (λ found. HasNumeral 16 16 bytes.now found.0 found.1.now) }
+fn with_digits_at(bytes: &[u8], from: usize, end: usize, number: u64) -> (u64, usize)
+    requires { (from ≤ end) × (end ≤ length bytes.now) }
+    ensures within { (from ≤ result.1) × (result.1 ≤ end) }
+    ensures digits { (start : List ℕ) → HasRun 16 16 start (drop from bytes.now) number → HasRun 16 16 start (drop result.1 bytes.now) result.0 }
 {
-    let (mut value, mut count) = fours_in_front(bytes);
-    while count < bytes.len() {
-        let digit = value_of_digit(bytes[count]);
+    let mut value = number;
+    let mut at = from;
+    while at < end {
+        let digit = value_of_hexadecimal_digit(bytes[at]);
         if digit > 15 {
             break;
         }
         value = value.wrapping_mul(16).wrapping_add(u64::from(digit));
-        count += 1;
+        at += 1;
     }
-    if count == 0 || count > 16 {
-        return None;
-    }
-    Some((value, &bytes[count..]))
+    (value, at)
 }
 
-/// The number that the bytes begin with, and what follows it. (A decimal number of 20 digits is not looked for.)
+/// The hexadecimal number at a place, of at most 16 digits, and where it ends. (More digits may follow.)
 #[inline(always)]
-pub fn number_in_front(bytes: &[u8]) -> Option<(u64, &[u8])>
-    ensures { IfSome result (λ found. HasNumber bytes.now found.0 found.1.now) }
+fn hexadecimal_at(bytes: &[u8], from: usize) -> Option<(u64, usize)>
+    requires { from + 16 ≤ length bytes.now }
+    ensures numeral { IfSome result (λ found. HasNumeral 16 16 (drop from bytes.now) found.0 (drop found.1 bytes.now)) }
+    ensures near { IfSome result (λ found. found.1 ≤ from + 16) }
 {
-    match bytes {
-        [b'0', b'x', digits @ ..] => hexadecimal_in_front(digits),
-        _ => decimal_in_front(bytes),
+    let (value, at) = fours_at(bytes, from);
+    if at > from + 12 {
+        return Some((value, at));
     }
+    let (value, at) = with_digits_at(bytes, at, at + 3, value);
+    if at == from {
+        return None;
+    }
+    Some((value, at))
+}
+
+/// The same of at most four digits.
+#[inline(always)]
+fn short_hexadecimal_at(bytes: &[u8], from: usize) -> Option<(u64, usize)>
+    requires { from + 4 ≤ length bytes.now }
+    ensures numeral { IfSome result (λ found. HasNumeral 16 16 (drop from bytes.now) found.0 (drop found.1 bytes.now)) }
+    ensures near { IfSome result (λ found. found.1 ≤ from + 4) }
+{
+    let (value, at) = with_digits_at(bytes, from, from + 4, 0);
+    if at == from {
+        return None;
+    }
+    Some((value, at))
+}
+
+/// Whether `0x` stands at a place.
+#[inline(always)]
+fn has_prefix_at(bytes: &[u8], from: usize) -> bool
+    requires { from + 2 ≤ length bytes.now }
+    ensures { OnTrue result ((get_or bytes.now from 0 ≡ 48) × (get_or bytes.now (from + 1) 0 ≡ 120)) }
+{
+    if bytes[from] != b'0' {
+        return false;
+    }
+    bytes[from + 1] == b'x'
+}
+
+/// The number at a place and where it ends. (A decimal number of 20 digits is not looked for.)
+#[inline(always)]
+pub(crate) fn number_at(bytes: &[u8], from: usize) -> Option<(u64, usize)>
+    requires { from + 19 ≤ length bytes.now }
+    ensures number { IfSome result (λ found. HasNumber (drop from bytes.now) found.0 (drop found.1 bytes.now)) }
+    ensures near { IfSome result (λ found. found.1 ≤ from + 19) }
+{
+    if has_prefix_at(bytes, from) {
+        return hexadecimal_at(bytes, from + 2);
+    }
+    decimal_at(bytes, from, 19)
+}
+
+/// The same of at most five decimal or four hexadecimal digits.
+#[inline(always)]
+pub(crate) fn short_number_at(bytes: &[u8], from: usize) -> Option<(u64, usize)>
+    requires { from + 6 ≤ length bytes.now }
+    ensures number { IfSome result (λ found. HasNumber (drop from bytes.now) found.0 (drop found.1 bytes.now)) }
+    ensures near { IfSome result (λ found. found.1 ≤ from + 6) }
+{
+    if has_prefix_at(bytes, from) {
+        return short_hexadecimal_at(bytes, from + 2);
+    }
+    decimal_at(bytes, from, 5)
 }
 
 /// The number that a numeral of at most `most` digits stands for, where it has 64 bits.
