@@ -6,7 +6,7 @@ use Rattle.std.proofs.lemmas.List.{append_assoc, drop_more, length-append, lengt
 use Rattle.std.specs.Char.{digit_value}
 use Rattle.std.specs.Str.Parse.{AllDigits, digits_value}
 use Rattle.hg_wire.specs.Numbers.{Decimal, Hexadecimal}
-use Rattle.hg_wire.specs.InFront.{HasRun, IsFourDigits, HasNumeral, HasNumber}
+use Rattle.hg_wire.specs.InFront.{HasRun, HasDigits, IsFourDigits, HasNumeral, HasNumber}
 use Rattle.hg_wire.proofs.NumberLemmas.{digits_value_is}
 
 pub run_starts : (base most : ℕ) (bytes : List ℕ) → HasRun base most bytes bytes 0
@@ -82,18 +82,18 @@ run_on_by_four start bytes i value four room f h =
     (drop_next bytes i 2 (omega arith) ∙ ap (λ r. get_or bytes (i + 2) 0 ∷ r) (drop_next bytes i 3 (omega arith)))) in
     run_grows_by_four start (drop (i + 4) bytes) _ _ _ _ value four f (subst (λ r. HasRun 16 16 start r value) parts h)
 
-pub run_ends : (base most : ℕ) (bytes : List ℕ) (from end value : ℕ) → value < 2 ^ 64 → from < end → end ≤ from + most → end ≤ length bytes
-    → HasRun base most (drop from bytes) (drop end bytes) value → HasNumeral base most (drop from bytes) value (drop end bytes)
-run_ends base most bytes from end value fits some few within h =
-    let count : length (drop from bytes) ≡ length h.digits + length (drop end bytes) = ap length h.joined ∙ length-append h.digits (drop end bytes) in
-    let is : length h.digits + from ≡ end = omega (arith, length-drop from bytes, length-drop end bytes) in
-    let few' : length h.digits ≤ most = omega arith in
+pub run_ends : (base most : ℕ) (bytes : List ℕ) (from end value : ℕ) → HasDigits base most bytes from end value → HasNumeral base most (drop from bytes) value (drop end bytes)
+run_ends base most bytes from end value h =
+    let run = h.run in
+    let count : length (drop from bytes) ≡ length run.digits + length (drop end bytes) = ap length run.joined ∙ length-append run.digits (drop end bytes) in
+    let is : length run.digits + from ≡ end = omega (arith, h.some, h.within, length-drop from bytes, length-drop end bytes) in
+    let few : length run.digits ≤ most = omega (arith, h.few) in
     record {
-      digits = h.digits;
-      numeral = record { some = omega arith; few = few'; each = h.each };
-      value = h.read few' ∙ digits_value_is base h.digits;
-      fits = fits;
-      joined = h.joined;
+      digits = run.digits;
+      numeral = record { some = omega (arith, h.some); few = few; each = run.each };
+      value = run.read few ∙ digits_value_is base run.digits;
+      fits = h.fits;
+      joined = run.joined;
     }
 
 -- ---- digits
@@ -122,13 +122,15 @@ four_digits a b c d x y z w p q r s low =
 
 -- ---- numbers
 
-pub decimal_number : (bytes : List ℕ) (n : ℕ) (rest : List ℕ) → HasNumeral 10 19 bytes n rest → HasNumber bytes n rest
-decimal_number bytes n rest h =
+pub decimal_number : (bytes : List ℕ) (from end n : ℕ) → HasDigits 10 19 bytes from end n → HasNumber (drop from bytes) n (drop end bytes)
+decimal_number bytes from end n digits =
+    let h = run_ends 10 19 bytes from end n digits in
     record { text = h.digits; spelled = Decimal (record { some = h.numeral.some; few = omega (arith, h.numeral.few); each = h.numeral.each }) h.value; fits = h.fits; joined = h.joined }
 
-pub hexadecimal_number : (bytes : List ℕ) (from n : ℕ) (rest : List ℕ) → from + 2 ≤ length bytes → get_or bytes from 0 ≡ 48 → get_or bytes (from + 1) 0 ≡ 120
-    → HasNumeral 16 16 (drop (from + 2) bytes) n rest → HasNumber (drop from bytes) n rest
-hexadecimal_number bytes from n rest long first second h =
+pub hexadecimal_number : (bytes : List ℕ) (from end n : ℕ) → get_or bytes from 0 ≡ 48 → get_or bytes (from + 1) 0 ≡ 120 → HasDigits 16 16 bytes (from + 2) end n → HasNumber (drop from bytes) n (drop end bytes)
+hexadecimal_number bytes from end n first second digits =
+    let h = run_ends 16 16 bytes (from + 2) end n digits in
+    let long : from + 2 < length bytes = omega (arith, digits.some, digits.within) in
     record {
       text = codes "0x" ++ h.digits;
       spelled = Hexadecimal h.digits refl h.numeral h.value;

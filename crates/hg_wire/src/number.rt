@@ -1,11 +1,11 @@
 //! Numbers of the trace text.
 
-ghost use Rattle.std.specs.Prelude.{◌≡◌, ◌⊎◌, ◌+◌, ◌≤◌, ℕ, List, IfSome, is_some, length, get_or, drop};
+ghost use Rattle.std.specs.Prelude.{◌≡◌, ◌⊎◌, ◌+◌, ◌<◌, ◌≤◌, ℕ, List, IfSome, is_some, length, get_or, drop};
 ghost use Rattle.std.specs.Bool.{OnTrue};
 ghost use Rattle.std.specs.Char.{digit_value, is_digit};
 ghost use Rattle.std.specs.List.{list_all};
 ghost use Rattle.hg_wire.specs.Numbers.{number_of, numeral};
-ghost use Rattle.hg_wire.specs.InFront.{HasRun, HasNumeral, HasNumber, IsFourDigits};
+ghost use Rattle.hg_wire.specs.InFront.{HasRun, HasDigits, HasNumber, IsFourDigits};
 ghost use Rattle.hg_wire.specs.Lines.{fitting, operand_of};
 
 /// The value of each byte as a digit of base 36, in either case, and 36 for the bytes that are none.
@@ -74,17 +74,16 @@ fn value_of_decimal_digit(byte: u8) -> u8
     byte.wrapping_sub(b'0')
 }
 
-/// The decimal number at a place, of at most so many digits, and where it ends. (More digits may follow.)
+/// The decimal number at a place, of at most 19 digits, and where it ends. (More digits may follow.)
 #[inline(always)]
-fn decimal_at(bytes: &[u8], from: usize, most: usize) -> Option<(u64, usize)>
-    requires few { most ≤ 19 }
-    requires room { from + most ≤ length bytes.now }
-    ensures numeral { IfSome result (λ found. HasNumeral 10 19 (drop from bytes.now) found.0 (drop found.1 bytes.now)) }
-    ensures near { IfSome result (λ found. found.1 ≤ from + most) }
+fn decimal_at(bytes: &[u8], from: usize) -> Option<(u64, usize)>
+    requires { from + 19 ≤ length bytes.now }
+    ensures digits { IfSome result (λ found. HasDigits 10 19 bytes.now from found.1 found.0) }
+    ensures near { IfSome result (λ found. found.1 ≤ from + 19) }
 {
     let mut value = 0u64;
     let mut at = from;
-    while at < from + most {
+    while at < from + 19 {
         let digit = value_of_decimal_digit(bytes[at]);
         if digit > 9 {
             break;
@@ -96,6 +95,53 @@ fn decimal_at(bytes: &[u8], from: usize, most: usize) -> Option<(u64, usize)>
         return None;
     }
     Some((value, at))
+}
+
+/// A number with the decimal digit at a place behind its own, where there is one.
+#[inline(always)]
+fn with_decimal_digit_at(bytes: &[u8], at: usize, number: u64) -> Option<u64>
+    requires { at < length bytes.now }
+    ensures { IfSome result (λ more. (start : List ℕ) → HasRun 10 19 start (drop at bytes.now) number → HasRun 10 19 start (drop (at + 1) bytes.now) more) }
+{
+    let digit = value_of_decimal_digit(bytes[at]);
+    if digit > 9 {
+        return None;
+    }
+    Some(number.wrapping_mul(10).wrapping_add(u64::from(digit)))
+}
+
+/// The same with up to four digits, and where they end.
+#[inline(always)]
+fn with_decimal_digits_at(bytes: &[u8], at: usize, number: u64) -> (u64, usize)
+    requires { at + 4 ≤ length bytes.now }
+    ensures within { (at ≤ result.1) × (result.1 ≤ at + 4) }
+    ensures digits { (start : List ℕ) → HasRun 10 19 start (drop at bytes.now) number → HasRun 10 19 start (drop result.1 bytes.now) result.0 }
+{
+    let Some(one) = with_decimal_digit_at(bytes, at, number) else {
+        return (number, at);
+    };
+    let Some(two) = with_decimal_digit_at(bytes, at + 1, one) else {
+        return (one, at + 1);
+    };
+    let Some(three) = with_decimal_digit_at(bytes, at + 2, two) else {
+        return (two, at + 2);
+    };
+    let Some(four) = with_decimal_digit_at(bytes, at + 3, three) else {
+        return (three, at + 3);
+    };
+    (four, at + 4)
+}
+
+/// The decimal digits at a place, of which the first five count, and where they end.
+#[inline(always)]
+#[tactic(auto, using(crate::proofs::RunLemmas::run_starts))]
+fn few_decimal_digits_at(bytes: &[u8], from: usize) -> Option<(u64, usize)>
+    requires { from + 5 ≤ length bytes.now }
+    ensures digits { IfSome result (λ found. HasDigits 10 19 bytes.now from found.1 found.0) }
+    ensures near { IfSome result (λ found. found.1 ≤ from + 5) }
+{
+    let one = with_decimal_digit_at(bytes, from, 0)?;
+    Some(with_decimal_digits_at(bytes, from + 1, one))
 }
 
 /// The number that four hexadecimal digits write, where they are digits.
@@ -114,80 +160,95 @@ fn number_of_four(a: u8, b: u8, c: u8, d: u8) -> Option<u64>
     Some(u64::from(value))
 }
 
-/// The number that the hexadecimal digits at a place write, taken by four and at most 16 of them, and where they end.
+/// A number with the four hexadecimal digits at a place behind its own, where there are four.
 #[inline(always)]
-fn fours_at(bytes: &[u8], from: usize) -> (u64, usize)
-    requires { from + 16 ≤ length bytes.now }
-    ensures within { (from ≤ result.1) × (result.1 ≤ from + 16) }
-    ensures digits { HasRun 16 16 (drop from bytes.now) (drop result.1 bytes.now) result.0 }
+fn with_four_digits_at(bytes: &[u8], at: usize, number: u64) -> Option<u64>
+    requires { at + 4 ≤ length bytes.now }
+    ensures { IfSome result (λ more. (start : List ℕ) → HasRun 16 16 start (drop at bytes.now) number → HasRun 16 16 start (drop (at + 4) bytes.now) more) }
 {
-    let mut value = 0u64;
-    let mut at = from;
-    while at <= from + 12 {
-        // Most numbers end here, and then there is no need to look at four bytes.
-        if bytes[at] == b' ' {
-            break;
-        }
-        let next = number_of_four(bytes[at], bytes[at + 1], bytes[at + 2], bytes[at + 3]);
-        let Some(four) = next else {
-            break;
-        };
-        value = value.wrapping_mul(65_536).wrapping_add(four);
-        at += 4;
-    }
-    (value, at)
-}
-
-/// A number with the hexadecimal digits behind its own, up to a place, and where they end.
-#[inline(always)]
-fn with_digits_at(bytes: &[u8], from: usize, end: usize, number: u64) -> (u64, usize)
-    requires { (from ≤ end) × (end ≤ length bytes.now) }
-    ensures within { (from ≤ result.1) × (result.1 ≤ end) }
-    ensures digits { (start : List ℕ) → HasRun 16 16 start (drop from bytes.now) number → HasRun 16 16 start (drop result.1 bytes.now) result.0 }
-{
-    let mut value = number;
-    let mut at = from;
-    while at < end {
-        let digit = value_of_hexadecimal_digit(bytes[at]);
-        if digit > 15 {
-            break;
-        }
-        value = value.wrapping_mul(16).wrapping_add(u64::from(digit));
-        at += 1;
-    }
-    (value, at)
-}
-
-/// The hexadecimal number at a place, of at most 16 digits, and where it ends. (More digits may follow.)
-#[inline(always)]
-fn hexadecimal_at(bytes: &[u8], from: usize) -> Option<(u64, usize)>
-    requires { from + 16 ≤ length bytes.now }
-    ensures numeral { IfSome result (λ found. HasNumeral 16 16 (drop from bytes.now) found.0 (drop found.1 bytes.now)) }
-    ensures near { IfSome result (λ found. found.1 ≤ from + 16) }
-{
-    let (value, at) = fours_at(bytes, from);
-    if at > from + 12 {
-        return Some((value, at));
-    }
-    let (value, at) = with_digits_at(bytes, at, at + 3, value);
-    if at == from {
+    // Most numbers end here, and then there is no need to look at four bytes.
+    if bytes[at] == b' ' {
         return None;
     }
-    Some((value, at))
+    let four = number_of_four(bytes[at], bytes[at + 1], bytes[at + 2], bytes[at + 3])?;
+    Some(number.wrapping_mul(65_536).wrapping_add(four))
 }
 
-/// The same of at most four digits.
+/// A number with the hexadecimal digit at a place behind its own, where there is one.
 #[inline(always)]
-fn short_hexadecimal_at(bytes: &[u8], from: usize) -> Option<(u64, usize)>
+fn with_digit_at(bytes: &[u8], at: usize, number: u64) -> Option<u64>
+    requires { at < length bytes.now }
+    ensures { IfSome result (λ more. (start : List ℕ) → HasRun 16 16 start (drop at bytes.now) number → HasRun 16 16 start (drop (at + 1) bytes.now) more) }
+{
+    let digit = value_of_hexadecimal_digit(bytes[at]);
+    if digit > 15 {
+        return None;
+    }
+    Some(number.wrapping_mul(16).wrapping_add(u64::from(digit)))
+}
+
+/// The same with up to three digits, and where they end.
+#[inline(always)]
+fn with_digits_at(bytes: &[u8], at: usize, number: u64) -> (u64, usize)
+    requires { at + 3 ≤ length bytes.now }
+    ensures within { (at ≤ result.1) × (result.1 ≤ at + 3) }
+    ensures digits { (start : List ℕ) → HasRun 16 16 start (drop at bytes.now) number → HasRun 16 16 start (drop result.1 bytes.now) result.0 }
+{
+    let Some(one) = with_digit_at(bytes, at, number) else {
+        return (number, at);
+    };
+    let Some(two) = with_digit_at(bytes, at + 1, one) else {
+        return (one, at + 1);
+    };
+    let Some(three) = with_digit_at(bytes, at + 2, two) else {
+        return (two, at + 2);
+    };
+    (three, at + 3)
+}
+
+/// The hexadecimal digits at a place, of which the first four count, and where they end.
+#[inline(always)]
+#[tactic(auto, using(crate::proofs::RunLemmas::run_starts))]
+fn few_digits_at(bytes: &[u8], from: usize) -> Option<(u64, usize)>
     requires { from + 4 ≤ length bytes.now }
-    ensures numeral { IfSome result (λ found. HasNumeral 16 16 (drop from bytes.now) found.0 (drop found.1 bytes.now)) }
+    ensures digits { IfSome result (λ found. HasDigits 16 16 bytes.now from found.1 found.0) }
     ensures near { IfSome result (λ found. found.1 ≤ from + 4) }
 {
-    let (value, at) = with_digits_at(bytes, from, from + 4, 0);
-    if at == from {
-        return None;
-    }
-    Some((value, at))
+    let one = with_digit_at(bytes, from, 0)?;
+    Some(with_digits_at(bytes, from + 1, one))
+}
+
+/// A number with the hexadecimal digits at a place behind its own, taken by four and at most twelve of them, and where they end.
+#[inline(always)]
+fn with_fours_at(bytes: &[u8], at: usize, number: u64) -> (u64, usize)
+    requires { at + 12 ≤ length bytes.now }
+    ensures within { (at ≤ result.1) × (result.1 ≤ at + 12) }
+    ensures digits { (start : List ℕ) → HasRun 16 16 start (drop at bytes.now) number → HasRun 16 16 start (drop result.1 bytes.now) result.0 }
+{
+    let Some(four) = with_four_digits_at(bytes, at, number) else {
+        return with_digits_at(bytes, at, number);
+    };
+    let Some(eight) = with_four_digits_at(bytes, at + 4, four) else {
+        return with_digits_at(bytes, at + 4, four);
+    };
+    let Some(twelve) = with_four_digits_at(bytes, at + 8, eight) else {
+        return with_digits_at(bytes, at + 8, eight);
+    };
+    (twelve, at + 12)
+}
+
+/// The hexadecimal digits at a place, of which the first 16 count, and where they end.
+#[inline(always)]
+#[tactic(auto, using(crate::proofs::RunLemmas::run_starts))]
+fn digits_at(bytes: &[u8], from: usize) -> Option<(u64, usize)>
+    requires { from + 16 ≤ length bytes.now }
+    ensures digits { IfSome result (λ found. HasDigits 16 16 bytes.now from found.1 found.0) }
+    ensures near { IfSome result (λ found. found.1 ≤ from + 16) }
+{
+    let Some(four) = with_four_digits_at(bytes, from, 0) else {
+        return few_digits_at(bytes, from);
+    };
+    Some(with_fours_at(bytes, from + 4, four))
 }
 
 /// Whether `0x` stands at a place.
@@ -202,7 +263,7 @@ fn has_prefix_at(bytes: &[u8], from: usize) -> bool
     bytes[from + 1] == b'x'
 }
 
-/// The number at a place and where it ends. (A decimal number of 20 digits is not looked for.)
+/// The number at a place and where it ends. (A decimal number of 20 digits is not looked for. More digits may follow.)
 #[inline(always)]
 pub(crate) fn number_at(bytes: &[u8], from: usize) -> Option<(u64, usize)>
     requires { from + 19 ≤ length bytes.now }
@@ -210,9 +271,9 @@ pub(crate) fn number_at(bytes: &[u8], from: usize) -> Option<(u64, usize)>
     ensures near { IfSome result (λ found. found.1 ≤ from + 19) }
 {
     if has_prefix_at(bytes, from) {
-        return hexadecimal_at(bytes, from + 2);
+        return digits_at(bytes, from + 2);
     }
-    decimal_at(bytes, from, 19)
+    decimal_at(bytes, from)
 }
 
 /// The same of at most five decimal or four hexadecimal digits.
@@ -223,9 +284,9 @@ pub(crate) fn short_number_at(bytes: &[u8], from: usize) -> Option<(u64, usize)>
     ensures near { IfSome result (λ found. found.1 ≤ from + 6) }
 {
     if has_prefix_at(bytes, from) {
-        return short_hexadecimal_at(bytes, from + 2);
+        return few_digits_at(bytes, from + 2);
     }
-    decimal_at(bytes, from, 5)
+    few_decimal_digits_at(bytes, from)
 }
 
 /// The number that a numeral of at most `most` digits stands for, where it has 64 bits.

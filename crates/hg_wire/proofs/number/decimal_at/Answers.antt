@@ -1,5 +1,5 @@
 use Rattle.std.proofs.Common.{sym, ◌∙◌, drop, arith}
-use Rattle.hg_wire.proofs.RunLemmas.{run_on, run_ends}
+use Rattle.hg_wire.proofs.RunLemmas.{run_on}
 use Rattle.hg_wire.proofs.number.decimal_at.Goals as goal
 
 pub loop-at-preserved : goal.loop-at-preserved
@@ -9,9 +9,3 @@ loop-at-preserved c =
       omega arith,
       run_on 10 19 (drop c.args.from c.args.bytes.now) c.args.bytes.now c.loop-at.at c.loop-at.value c.from.result (omega arith) (omega arith) digit (omega arith) c.loop-at.invariant.2,
     )
-
-pub returns : goal.returns
-returns c = record {
-  numeral = run_ends 10 19 c.args.bytes.now c.args.from c.loop-at.at c.loop-at.value (omega arith) (omega arith) (omega arith) (omega arith) c.loop-at.invariant.2;
-  near = omega arith;
-}
