@@ -1,16 +1,17 @@
 -- A verb and its operands make an event.
-use Rattle.std.proofs.Common.{◌≡◌, ℕ, ◌<◌, ◌≤◌, ◌^◌, Bool, true, false, if◌then◌else◌, List, [], ◌∷◌, ◌++◌, length, drop, refl, sym, ◌∙◌, ap, arith}
-use Rattle.std.proofs.lemmas.List.{append_assoc, length-append, length-drop}
+use Rattle.std.proofs.Common.{◌≡◌, ℕ, ◌<◌, ◌≤◌, ◌^◌, Bool, true, false, if◌then◌else◌, List, [], ◌∷◌, ◌++◌, length, drop, Ok, refl, sym, ◌∙◌, ap, arith}
+use Rattle.std.proofs.Math.Seq.{drop-append_seam}
+use Rattle.std.proofs.lemmas.List.{append_assoc, append_cancel_right, length-append, length-drop}
 use Rattle.hg_model.specs.declared.event.Event.{Event}
 use Rattle.hg_wire.specs.declared.verb.Verb.{Verb}
 use Rattle.hg_model.specs.declared.event.Event.TheVariants.{Read, Write}
 use Rattle.hg_wire.specs.declared.verb.VerbKind.TheVariants as kind
 use Rattle.hg_wire.specs.Verbs.{row_of, verb_of, AllFit, Makes}
-use Rattle.hg_wire.specs.Lines.{AreOperands}
+use Rattle.hg_wire.specs.Lines.{AreOperands, line_of}
 use Rattle.hg_wire.specs.InFront.{HasOperands, HasEvent, HasEventLine, EndsLineBefore}
 use Rattle.hg_wire.proofs.WordLemmas.{led_by}
 use Rattle.hg_wire.proofs.VerbLemmas.{each_is_verb}
-use Rattle.hg_wire.proofs.LineLemmas.{operands_are_words}
+use Rattle.hg_wire.proofs.LineLemmas.{operands_are_words, event_reads}
 use Rattle.hg_wire.proofs.OperandLemmas.{refit_operands}
 
 pub event_follows : (verb : Verb) (wide bytes operands values rest : List ℕ) (event : Event) → bytes ≡ (row_of verb).text ++ operands → HasOperands wide operands values rest → Makes verb values event
@@ -26,6 +27,13 @@ event_follows verb wide bytes operands values rest event begins wide_enough make
       spelled = record { verb = verb; words = h.words; values = values; operands = h.operands; spelled = refl; made = makes.1; short = short };
       joined = begins ∙ (ap (λ more. text ++ more) h.joined ∙ sym (append_assoc text (led_by 32 h.words) rest));
     }
+
+-- a line that was written in front of other bytes is an event if one ends where the line does
+pub event_ends : (line written pad : List ℕ) (end : ℕ) (event : Event) → written ≡ line → end ≡ length line → HasEvent (written ++ pad) event (drop end (written ++ pad)) → line_of line ≡ Ok event
+event_ends line written pad end event same ends h =
+    let rest : drop end (written ++ pad) ≡ pad = ap (λ k. drop k (written ++ pad)) (ends ∙ sym (ap length same)) ∙ drop-append_seam written pad in
+    let alone : written ≡ h.text = append_cancel_right written h.text pad (h.joined ∙ ap (λ more. h.text ++ more) rest) in
+    ap line_of (sym same ∙ alone) ∙ event_reads h.text event h.spelled
 
 -- an event and a line feed are a line of a stream, which ends where the line feed does
 pub event_line : (bytes : List ℕ) (event : Event) (middle : List ℕ) (end : ℕ) → HasEvent bytes event middle → EndsLineBefore middle (drop end bytes) → end ≤ length bytes → HasEventLine bytes event end

@@ -1,6 +1,6 @@
 //! One line of the trace text.
 
-ghost use Rattle.std.specs.Prelude.{◌≡◌, ◌+◌, ◌≤◌, length, drop, IfSome};
+ghost use Rattle.std.specs.Prelude.{◌≡◌, ◌+◌, ◌≤◌, length, drop, Ok, IfSome};
 ghost use Rattle.hg_wire.specs.Accesses.{event_of};
 ghost use Rattle.hg_wire.specs.Lines.{line_of};
 ghost use Rattle.hg_wire.specs.InFront.{HasEvent, HasEventLine, EndsLineBefore};
@@ -26,18 +26,38 @@ pub enum LineFault {
 /// The most bytes of a line that is neither empty nor a comment, its line end not counted.
 pub const MOST_LINE_BYTES: usize = 256;
 
+/// So many bytes hold each line that is looked for at the front of a piece: a verb of 6 letters, a thread in 7 bytes with its
+/// space, an address in 20, a length in 7, and a line end of 2. So one test of how many bytes there are serves all that is read of a line.
+pub(crate) const WINDOW: usize = 42;
+
 /// The event that a line of the trace text spells, or the first of its faults (this project's profile).
 /// The line comes without its line feed and the carriage return before that.
 #[inline]
 pub fn read_line(line: &[u8]) -> Result<Event, LineFault>
     ensures { result ≡ line_of line.now }
 {
+    if let Some(event) = event_alone(line) {
+        return Ok(event);
+    }
     line_by_words(line)
 }
 
-/// So many bytes hold each line that is looked for at the front of a piece: a verb of 6 letters, a thread in 7 bytes with its
-/// space, an address in 20, a length in 7, and a line end of 2. So one test of how many bytes there are serves all that is read of a line.
-pub(crate) const WINDOW: usize = 42;
+/// The event that a line spells which has fewer bytes than the window. (`None` says nothing of the line.)
+#[inline(always)]
+fn event_alone(line: &[u8]) -> Option<Event>
+    ensures { IfSome result (λ event. line_of line.now ≡ Ok event) }
+{
+    if line.len() > WINDOW {
+        return None;
+    }
+    let mut window = [0; WINDOW];
+    window[..line.len()].copy_from_slice(line);
+    let (event, end) = event_in_front(&window)?;
+    if end != line.len() {
+        return None;
+    }
+    Some(event)
+}
 
 /// The event that the bytes begin with, and where it ends. (`None` says nothing of the bytes.)
 #[inline(always)]
