@@ -60,7 +60,8 @@ fn event_alone(line: &[u8]) -> Option<Event>
 }
 
 /// The event that the bytes begin with, and where it ends. (`None` says nothing of the bytes.)
-#[inline(always)]
+/// It is large, and its callers are slower with it inside them.
+#[inline(never)]
 fn event_in_front(bytes: &[u8]) -> Option<(Event, usize)>
     requires { 42 ≤ length bytes.now }
     ensures event { IfSome result (λ found. HasEvent bytes.now found.0 (drop found.1 bytes.now)) }

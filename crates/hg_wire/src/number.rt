@@ -74,8 +74,8 @@ fn value_of_decimal_digit(byte: u8) -> u8
     byte.wrapping_sub(b'0')
 }
 
-/// The decimal digits at a place, of which the first 19 count, and where they end. (Few addresses are spelled so.)
-#[inline(never)]
+/// The decimal digits at a place, of which the first 19 count, and where they end.
+#[inline(always)]
 fn decimal_at(bytes: &[u8], from: usize) -> Option<(u64, usize)>
     requires { from + 19 ≤ length bytes.now }
     ensures digits { IfSome result (λ found. HasDigits 10 19 bytes.now from found.1 found.0) }
@@ -188,8 +188,8 @@ fn with_digit_at(bytes: &[u8], at: usize, number: u64) -> Option<u64>
 }
 
 /// The same with up to three digits, and where they end.
-#[inline(never)]
-fn with_more_digits_at(bytes: &[u8], at: usize, number: u64) -> (u64, usize)
+#[inline(always)]
+fn with_digits_at(bytes: &[u8], at: usize, number: u64) -> (u64, usize)
     requires { at + 3 ≤ length bytes.now }
     ensures within { (at ≤ result.1) × (result.1 ≤ at + 3) }
     ensures digits { (start : List ℕ) → HasRun 16 16 start (drop at bytes.now) number → HasRun 16 16 start (drop result.1 bytes.now) result.0 }
@@ -206,21 +206,8 @@ fn with_more_digits_at(bytes: &[u8], at: usize, number: u64) -> (u64, usize)
     (three, at + 3)
 }
 
-/// The same: most numbers end in a space here, and take no call.
+/// The hexadecimal digits at a place, of which the first four count, and where they end.
 #[inline(always)]
-fn with_digits_at(bytes: &[u8], at: usize, number: u64) -> (u64, usize)
-    requires { at + 3 ≤ length bytes.now }
-    ensures within { (at ≤ result.1) × (result.1 ≤ at + 3) }
-    ensures digits { (start : List ℕ) → HasRun 16 16 start (drop at bytes.now) number → HasRun 16 16 start (drop result.1 bytes.now) result.0 }
-{
-    if bytes[at] == b' ' {
-        return (number, at);
-    }
-    with_more_digits_at(bytes, at, number)
-}
-
-/// The hexadecimal digits at a place, of which the first four count, and where they end. (Few threads and locks are spelled so.)
-#[inline(never)]
 #[tactic(auto, using(crate::proofs::RunLemmas::run_starts))]
 fn few_digits_at(bytes: &[u8], from: usize) -> Option<(u64, usize)>
     requires { from + 4 ≤ length bytes.now }
@@ -228,7 +215,7 @@ fn few_digits_at(bytes: &[u8], from: usize) -> Option<(u64, usize)>
     ensures near { IfSome result (λ found. found.1 ≤ from + 4) }
 {
     let one = with_digit_at(bytes, from, 0)?;
-    Some(with_more_digits_at(bytes, from + 1, one))
+    Some(with_digits_at(bytes, from + 1, one))
 }
 
 /// A number with the hexadecimal digits at a place behind its own, taken by four and at most twelve of them, and where they end.
