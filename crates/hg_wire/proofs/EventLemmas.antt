@@ -1,6 +1,7 @@
 -- A verb and its operands make an event.
-use Rattle.std.proofs.Common.{◌≡◌, ℕ, ◌<◌, ◌≤◌, ◌^◌, Bool, true, false, if◌then◌else◌, List, [], ◌∷◌, ◌++◌, length, Ok, refl, sym, ◌∙◌, ap, arith, ◌-◌, inl, inr}
-use Rattle.std.proofs.lemmas.List.{append_assoc, append-nil, length-append, nil_from_length}
+use Rattle.std.proofs.Common.{◌≡◌, ℕ, ◌<◌, ◌≤◌, ◌^◌, Bool, true, false, if◌then◌else◌, List, [], ◌∷◌, ◌++◌, length, drop, Ok, refl, sym, ◌∙◌, ap, arith}
+use Rattle.std.proofs.Math.Seq.{drop-append_seam}
+use Rattle.std.proofs.lemmas.List.{append_assoc, append_cancel_right, length-append, length-drop}
 use Rattle.hg_model.specs.declared.event.Event.{Event}
 use Rattle.hg_wire.specs.declared.verb.Verb.{Verb}
 use Rattle.hg_model.specs.declared.event.Event.TheVariants.{Read, Write}
@@ -27,32 +28,17 @@ event_follows verb wide bytes operands values rest event begins wide_enough make
       joined = begins ∙ (ap (λ more. text ++ more) h.joined ∙ sym (append_assoc text (led_by 32 h.words) rest));
     }
 
--- an event and nothing more is a line
-pub event_alone : (bytes : List ℕ) (event : Event) (rest : List ℕ) → HasEvent bytes event rest → length rest < 1 → line_of bytes ≡ Ok event
-event_alone bytes event rest h none =
-    let nothing : rest ≡ [] = nil_from_length rest (omega arith) in
-    let alone : bytes ≡ h.text = h.joined ∙ (ap (λ more. h.text ++ more) nothing ∙ append-nil h.text) in
-    ap line_of alone ∙ event_reads h.text event h.spelled
+-- a line that was written in front of other bytes is an event if one ends where the line does
+pub event_ends : (line written pad : List ℕ) (end : ℕ) (event : Event) → written ≡ line → end ≡ length line → HasEvent (written ++ pad) event (drop end (written ++ pad)) → line_of line ≡ Ok event
+event_ends line written pad end event same ends h =
+    let rest : drop end (written ++ pad) ≡ pad = ap (λ k. drop k (written ++ pad)) (ends ∙ sym (ap length same)) ∙ drop-append_seam written pad in
+    let alone : written ≡ h.text = append_cancel_right written h.text pad (h.joined ∙ ap (λ more. h.text ++ more) rest) in
+    ap line_of (sym same ∙ alone) ∙ event_reads h.text event h.spelled
 
--- an event and a line feed are a line of a stream
-pub event_line : (bytes : List ℕ) (event : Event) (middle rest : List ℕ) → HasEvent bytes event middle → EndsLineBefore middle rest → HasEventLine bytes event (length bytes - length rest)
-event_line bytes event middle rest h ends =
-    record {
-      text = h.text;
-      spelled = h.spelled;
-      middle = middle;
-      rest = rest;
-      joined = h.joined;
-      ends = ends;
-      count = (
-          let shorter : length rest ≤ length middle = shorter_after middle rest ends in
-          omega (arith, ap length h.joined, length-append h.text middle)
-          );
-    }
-  where
-    shorter_after : (middle rest : List ℕ) → EndsLineBefore middle rest → length rest ≤ length middle
-    shorter_after middle rest (inl e) = omega (arith, ap length e)
-    shorter_after middle rest (inr e) = omega (arith, ap length e)
+-- an event and a line feed are a line of a stream, which ends where the line feed does
+pub event_line : (bytes : List ℕ) (event : Event) (middle : List ℕ) (end : ℕ) → HasEvent bytes event middle → EndsLineBefore middle (drop end bytes) → end ≤ length bytes → HasEventLine bytes event end
+event_line bytes event middle end h ends within =
+    record { text = h.text; spelled = h.spelled; middle = middle; rest = drop end bytes; joined = h.joined; ends = ends; count = omega (arith, length-drop end bytes) }
 
 -- operands fit their widths
 pub operands_fit : (widths : List ℕ) (words : List (List ℕ)) (values : List ℕ) → AreOperands widths words values → AllFit widths values

@@ -13,3 +13,4 @@ pub mod HeldLemmas
 pub mod StreamLemmas
 pub mod SplitterLemmas
 pub mod ReaderLemmas
+pub mod TableLemmas

@@ -1,20 +1,19 @@
 -- Operands that follow one another.
-use Rattle.std.proofs.Common.{◌≡◌, ℕ, ◌≤◌, List, [], ◌∷◌, ◌++◌, length, get_or, refl, sym, ◌∙◌, ap}
-use Rattle.std.proofs.lemmas.List.{append_assoc, append-nil}
-use Rattle.std.proofs.lemmas.Slice.{first_rest}
-use Rattle.std.specs.List.{between}
+use Rattle.std.proofs.Common.{◌≡◌, ℕ, ◌+◌, ◌<◌, List, [], ◌∷◌, ◌++◌, length, get_or, drop, refl, sym, ◌∙◌, ap}
+use Rattle.std.proofs.lemmas.List.{append_assoc, append-nil, drop_more}
 use Rattle.hg_wire.specs.InFront.{HasNumber}
 use Rattle.hg_wire.specs.Verbs.{AllFit}
 use Rattle.hg_wire.specs.Lines.{AreOperands}
 use Rattle.hg_wire.specs.InFront.{HasOperands}
 use Rattle.hg_wire.proofs.WordLemmas.{led_by}
 
-pub one_operand : (bytes : List ℕ) (n : ℕ) (rest : List ℕ) → 1 ≤ length bytes → get_or bytes 0 0 ≡ 32 → HasNumber (between 1 (length bytes) bytes) n rest → HasOperands (64 ∷ []) bytes (n ∷ []) rest
-one_operand bytes n rest some space h =
+pub one_operand : (bytes : List ℕ) (from n : ℕ) (rest : List ℕ) → from < length bytes → get_or bytes from 0 ≡ 32 → HasNumber (drop (from + 1) bytes) n rest
+    → HasOperands (64 ∷ []) (drop from bytes) (n ∷ []) rest
+one_operand bytes from n rest within space h =
     record {
       words = h.text ∷ [];
       operands = (h.spelled, h.fits, tt);
-      joined = first_rest bytes 0 some ∙ (ap (λ b. b ∷ between 1 (length bytes) bytes) space ∙ (ap (λ more. 32 ∷ more) h.joined
+      joined = drop_more bytes from 0 within ∙ (ap (λ b. b ∷ drop (from + 1) bytes) space ∙ (ap (λ more. 32 ∷ more) h.joined
           ∙ ap (λ text. 32 ∷ (text ++ rest)) (sym (append-nil h.text))));
     }
 

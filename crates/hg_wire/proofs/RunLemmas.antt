@@ -1,15 +1,12 @@
 -- A run of digits that is read from the left.
-use Rattle.std.proofs.Common.{◌≡◌, ℕ, ◌+◌, ◌-◌, ◌*◌, ◌^◌, ◌%◌, ◌<◌, ◌≤◌, List, [], ◌∷◌, ◌++◌, length, get_or, drop, bit_or, codes, refl, sym, ◌∙◌, ap, subst, arith}
+use Rattle.std.proofs.Common.{◌≡◌, ℕ, ◌+◌, ◌*◌, ◌^◌, ◌%◌, ◌<◌, ◌≤◌, List, [], ◌∷◌, ◌++◌, length, get_or, drop, ◌⊎◌, ⊎_elim, codes, refl, sym, ◌∙◌, ap, subst, arith}
 use Rattle.std.proofs.Math.Nat.{pow-le-pow_right, mod-eq_of_lt}
 use Rattle.std.proofs.lemmas.Int.Digits.{digits_push, digits_value_push, digits_value-lt}
 use Rattle.std.proofs.lemmas.List.{append_assoc, drop_more, length-append, length-drop, length_push}
-use Rattle.std.proofs.lemmas.Nat.{le_or_l, le_or_r}
-use Rattle.std.proofs.lemmas.Slice.{between_to_end}
 use Rattle.std.specs.Char.{digit_value}
-use Rattle.std.specs.List.{between}
 use Rattle.std.specs.Str.Parse.{AllDigits, digits_value}
 use Rattle.hg_wire.specs.Numbers.{Decimal, Hexadecimal}
-use Rattle.hg_wire.specs.InFront.{HasRun, IsFourDigits, HasNumeral, HasNumber}
+use Rattle.hg_wire.specs.InFront.{HasRun, HasDigits, IsFourDigits, HasNumeral, HasNumber}
 use Rattle.hg_wire.proofs.NumberLemmas.{digits_value_is}
 
 pub run_starts : (base most : ℕ) (bytes : List ℕ) → HasRun base most bytes bytes 0
@@ -41,10 +38,10 @@ run_grows base most bytes more first value digit fits is small h =
     }
 
 -- the same at a place
-pub run_on : (base most : ℕ) (bytes : List ℕ) (i value digit : ℕ) → base ^ most ≤ 2 ^ 64 → i < length bytes → digit_value (get_or bytes i 0) ≡ digit → digit < base
-    → HasRun base most bytes (drop i bytes) value → HasRun base most bytes (drop (i + 1) bytes) ((value * base % 2 ^ 64 + digit) % 2 ^ 64)
-run_on base most bytes i value digit fits within is small h =
-    run_grows base most bytes (drop (i + 1) bytes) (get_or bytes i 0) value digit fits is small (subst (λ r. HasRun base most bytes r value) (drop_more bytes i 0 within) h)
+pub run_on : (base most : ℕ) (start bytes : List ℕ) (i value digit : ℕ) → base ^ most ≤ 2 ^ 64 → i < length bytes → digit_value (get_or bytes i 0) ≡ digit → digit < base
+    → HasRun base most start (drop i bytes) value → HasRun base most start (drop (i + 1) bytes) ((value * base % 2 ^ 64 + digit) % 2 ^ 64)
+run_on base most start bytes i value digit fits within is small h =
+    run_grows base most start (drop (i + 1) bytes) (get_or bytes i 0) value digit fits is small (subst (λ r. HasRun base most start r value) (drop_more bytes i 0 within) h)
 
 -- four digits at once
 pub run_grows_by_four : (bytes more : List ℕ) (a b c d value four : ℕ) → IsFourDigits a b c d four → HasRun 16 16 bytes (a ∷ b ∷ c ∷ d ∷ more) value
@@ -75,67 +72,69 @@ drop_next bytes i k within =
     let next : i + k + 1 ≡ i + (k + 1) = omega arith in
     drop_more bytes (i + k) 0 within ∙ ap (λ n. get_or bytes (i + k) 0 ∷ drop n bytes) next
 
-pub run_on_by_four : (bytes : List ℕ) (i value four : ℕ) → 4 ≤ length bytes - i
-    → IsFourDigits (get_or bytes i 0) (get_or bytes (i + 1) 0) (get_or bytes (i + 2) 0) (get_or bytes (i + 3) 0) four → HasRun 16 16 bytes (drop i bytes) value
-    → HasRun 16 16 bytes (drop (i + 4) bytes) ((value * 65536 % 2 ^ 64 + four) % 2 ^ 64)
-run_on_by_four bytes i value four room f h =
+pub run_on_by_four : (start bytes : List ℕ) (i value four : ℕ) → i + 4 ≤ length bytes
+    → IsFourDigits (get_or bytes i 0) (get_or bytes (i + 1) 0) (get_or bytes (i + 2) 0) (get_or bytes (i + 3) 0) four → HasRun 16 16 start (drop i bytes) value
+    → HasRun 16 16 start (drop (i + 4) bytes) ((value * 65536 % 2 ^ 64 + four) % 2 ^ 64)
+run_on_by_four start bytes i value four room f h =
     let parts : drop i bytes ≡ get_or bytes i 0 ∷ get_or bytes (i + 1) 0 ∷ get_or bytes (i + 2) 0 ∷ get_or bytes (i + 3) 0 ∷ drop (i + 4) bytes =
     drop_more bytes i 0 (omega arith) ∙ ap (λ r. get_or bytes i 0 ∷ r)
     (drop_next bytes i 1 (omega arith) ∙ ap (λ r. get_or bytes (i + 1) 0 ∷ r)
     (drop_next bytes i 2 (omega arith) ∙ ap (λ r. get_or bytes (i + 2) 0 ∷ r) (drop_next bytes i 3 (omega arith)))) in
-    run_grows_by_four bytes (drop (i + 4) bytes) _ _ _ _ value four f (subst (λ r. HasRun 16 16 bytes r value) parts h)
+    run_grows_by_four start (drop (i + 4) bytes) _ _ _ _ value four f (subst (λ r. HasRun 16 16 start r value) parts h)
 
-pub run_ends : (base most : ℕ) (bytes : List ℕ) (i value : ℕ) → value < 2 ^ 64 → 1 ≤ i → i ≤ most → i ≤ length bytes → HasRun base most bytes (drop i bytes) value
-    → HasNumeral base most bytes value (between i (length bytes) bytes)
-run_ends base most bytes i value fits some few within h =
-    let count : length bytes ≡ length h.digits + length (drop i bytes) = ap length h.joined ∙ length-append h.digits (drop i bytes) in
-    let is : length h.digits ≡ i = omega (arith, length-drop i bytes) in
-    let few' : length h.digits ≤ most = omega arith in
-    let rest : between i (length bytes) bytes ≡ drop i bytes = between_to_end bytes i (length bytes) (omega arith) in
+pub run_ends : (base most : ℕ) (bytes : List ℕ) (from end value : ℕ) → HasDigits base most bytes from end value → HasNumeral base most (drop from bytes) value (drop end bytes)
+run_ends base most bytes from end value h =
+    let run = h.run in
+    let count : length (drop from bytes) ≡ length run.digits + length (drop end bytes) = ap length run.joined ∙ length-append run.digits (drop end bytes) in
+    let is : length run.digits + from ≡ end = omega (arith, h.some, h.within, length-drop from bytes, length-drop end bytes) in
+    let few : length run.digits ≤ most = omega (arith, h.few) in
     record {
-      digits = h.digits;
-      numeral = record { some = omega arith; few = few'; each = h.each };
-      value = h.read few' ∙ digits_value_is base h.digits;
-      fits = fits;
-      joined = h.joined ∙ ap (λ r. h.digits ++ r) (sym rest);
+      digits = run.digits;
+      numeral = record { some = omega (arith, h.some); few = few; each = run.each };
+      value = run.read few ∙ digits_value_is base run.digits;
+      fits = h.fits;
+      joined = run.joined;
     }
 
 -- ---- digits
 
-pub four_digits : (a b c d x y z w : ℕ) → x ≡ digit_value a → y ≡ digit_value b → z ≡ digit_value c → w ≡ digit_value d → bit_or (bit_or (bit_or x y) z) w ≤ 15
-    → IsFourDigits a b c d (x * 4096 + y * 256 + z * 16 + w)
+-- what the table has for a byte: a digit's value, or too much
+abbrev pub IsHexadecimal : ℕ → ℕ → Type 0
+IsHexadecimal byte value = (value ≤ 15 → digit_value byte ≡ value) × ((value ≤ 15) ⊎ (value ≡ 65536))
+
+small : (byte value : ℕ) → IsHexadecimal byte value → value ≤ 65535 → value ≤ 15
+small byte value h few = ⊎_elim (λ low. low) (λ none. absurd (omega (arith, none, few))) h.1
+
+pub four_digits : (a b c d x y z w : ℕ) → IsHexadecimal a x → IsHexadecimal b y → IsHexadecimal c z → IsHexadecimal d w → ((x * 16 + y) * 16 + z) * 16 + w ≤ 65535
+    → IsFourDigits a b c d (((x * 16 + y) * 16 + z) * 16 + w)
 four_digits a b c d x y z w p q r s low =
-    let first : x ≤ 15 = omega (arith, le_or_l x y, le_or_l (bit_or x y) z, le_or_l (bit_or (bit_or x y) z) w) in
-    let second : y ≤ 15 = omega (arith, le_or_r x y, le_or_l (bit_or x y) z, le_or_l (bit_or (bit_or x y) z) w) in
-    let third : z ≤ 15 = omega (arith, le_or_r (bit_or x y) z, le_or_l (bit_or (bit_or x y) z) w) in
-    let fourth : w ≤ 15 = omega (arith, le_or_r (bit_or (bit_or x y) z) w) in
+    let first : x ≤ 15 = small a x p (omega (arith, low)) in
+    let second : y ≤ 15 = small b y q (omega (arith, low)) in
+    let third : z ≤ 15 = small c z r (omega (arith, low)) in
+    let fourth : w ≤ 15 = small d w s (omega (arith, low)) in
     record {
-      each = (below_sixteen a x p first, (below_sixteen b y q second, (below_sixteen c z r third, (below_sixteen d w s fourth, tt))));
-      read = rw (← p, ← q, ← r, ← s) refl;
+      each = (below_sixteen a x (p.0 first) first, (below_sixteen b y (q.0 second) second, (below_sixteen c z (r.0 third) third, (below_sixteen d w (s.0 fourth) fourth, tt))));
+      read = omega (arith, p.0 first, q.0 second, r.0 third, s.0 fourth);
     }
   where
-    below_sixteen : (byte value : ℕ) → value ≡ digit_value byte → value ≤ 15 → digit_value byte < 16
-    below_sixteen byte value is small = subst (λ v. v < 16) is (omega arith)
+    below_sixteen : (byte value : ℕ) → digit_value byte ≡ value → value ≤ 15 → digit_value byte < 16
+    below_sixteen byte value is few = omega (arith, is, few)
 
 -- ---- numbers
 
-after_two : (bytes : List ℕ) (a b : ℕ) → 2 ≤ length bytes → get_or bytes 0 0 ≡ a → get_or bytes 1 0 ≡ b → bytes ≡ a ∷ b ∷ between 2 (length bytes) bytes
-after_two [] a b long first second = absurd (omega arith)
-after_two (x ∷ []) a b long first second = absurd (omega arith)
-after_two (x ∷ y ∷ bytes) a b long first second =
-    let whole : between 2 (length (x ∷ y ∷ bytes)) (x ∷ y ∷ bytes) ≡ bytes = between_to_end (x ∷ y ∷ bytes) 2 (length (x ∷ y ∷ bytes)) (omega arith) in
-    rw whole (let a_is : x ≡ a = first in let b_is : y ≡ b = second in cc)
-
-pub decimal_number : (bytes : List ℕ) (n : ℕ) (rest : List ℕ) → HasNumeral 10 19 bytes n rest → HasNumber bytes n rest
-decimal_number bytes n rest h =
+pub decimal_number : (bytes : List ℕ) (from end n : ℕ) → HasDigits 10 19 bytes from end n → HasNumber (drop from bytes) n (drop end bytes)
+decimal_number bytes from end n digits =
+    let h = run_ends 10 19 bytes from end n digits in
     record { text = h.digits; spelled = Decimal (record { some = h.numeral.some; few = omega (arith, h.numeral.few); each = h.numeral.each }) h.value; fits = h.fits; joined = h.joined }
 
-pub hexadecimal_number : (bytes : List ℕ) (n : ℕ) (rest : List ℕ) → 2 ≤ length bytes → get_or bytes 0 0 ≡ 48 → get_or bytes 1 0 ≡ 120
-    → HasNumeral 16 16 (between 2 (length bytes) bytes) n rest → HasNumber bytes n rest
-hexadecimal_number bytes n rest long first second h =
+pub hexadecimal_number : (bytes : List ℕ) (from end n : ℕ) → get_or bytes from 0 ≡ 48 → get_or bytes (from + 1) 0 ≡ 120 → HasDigits 16 16 bytes (from + 2) end n → HasNumber (drop from bytes) n (drop end bytes)
+hexadecimal_number bytes from end n first second digits =
+    let h = run_ends 16 16 bytes (from + 2) end n digits in
+    let long : from + 2 < length bytes = omega (arith, digits.some, digits.within) in
     record {
       text = codes "0x" ++ h.digits;
       spelled = Hexadecimal h.digits refl h.numeral h.value;
       fits = h.fits;
-      joined = after_two bytes 48 120 long first second ∙ ap (λ more. 48 ∷ 120 ∷ more) h.joined;
+      joined = drop_more bytes from 0 (omega arith) ∙ (ap (λ r. get_or bytes from 0 ∷ r) (drop_next bytes from 1 (omega arith))
+          ∙ (ap (λ b. b ∷ get_or bytes (from + 1) 0 ∷ drop (from + 2) bytes) first ∙ (ap (λ b. 48 ∷ b ∷ drop (from + 2) bytes) second ∙ ap (λ more. 48 ∷ 120 ∷ more) h.joined)));
     }

@@ -1,5 +1,5 @@
 -- For proofs alone: digits, numbers and events in front of bytes that go on.
-use Rattle.std.specs.Prelude.{◌≡◌, ◌⊎◌, ℕ, ◌+◌, ◌*◌, ◌^◌, ◌<◌, ◌≤◌, List, [], ◌∷◌, ◌++◌, length}
+use Rattle.std.specs.Prelude.{◌≡◌, ◌⊎◌, ℕ, ◌+◌, ◌*◌, ◌^◌, ◌<◌, ◌≤◌, List, [], ◌∷◌, ◌++◌, length, drop}
 use Rattle.std.specs.Char.{digit_value}
 use Rattle.std.specs.List.{flat_map}
 use Rattle.std.specs.Str.Parse.{AllDigits, digits_value}
@@ -13,6 +13,14 @@ pub record HasRun (base most : ℕ) (bytes rest : List ℕ) (value : ℕ) : Type
   pub each : AllDigits base digits
   pub joined : bytes ≡ digits ++ rest
   pub read : length digits ≤ most → value ≡ digits_value base digits
+
+-- From one place to another there are digits, at most so many, and the value of 64 bits is theirs.
+pub record HasDigits (base most : ℕ) (bytes : List ℕ) (from end value : ℕ) : Type 0 where
+  pub some : from < end
+  pub few : end ≤ from + most
+  pub within : end ≤ length bytes
+  pub fits : value < 2 ^ 64
+  pub run : HasRun base most (drop from bytes) (drop end bytes) value
 
 -- The four bytes are hexadecimal digits, which write the value.
 pub record IsFourDigits (a b c d value : ℕ) : Type 0 where

@@ -1,11 +1,11 @@
 //! One line of the trace text.
 
-ghost use Rattle.std.specs.Prelude.{◌≡◌, IfSome};
+ghost use Rattle.std.specs.Prelude.{◌≡◌, ◌+◌, ◌≤◌, length, drop, Ok, IfSome};
 ghost use Rattle.hg_wire.specs.Accesses.{event_of};
 ghost use Rattle.hg_wire.specs.Lines.{line_of};
 ghost use Rattle.hg_wire.specs.InFront.{HasEvent, HasEventLine, EndsLineBefore};
 
-use crate::operands::{long_in_front, short_in_front};
+use crate::operands::{long_at, short_at};
 use crate::verb::{VerbKind, access_verb_in_front, pair_event, sized_event, verb_in_front};
 use crate::words::line_by_words;
 use hg_model::event::{Access, Event};
@@ -26,31 +26,55 @@ pub enum LineFault {
 /// The most bytes of a line that is neither empty nor a comment, its line end not counted.
 pub const MOST_LINE_BYTES: usize = 256;
 
+/// So many bytes hold each line that is looked for at the front of a piece: a verb of 6 letters, a thread in 7 bytes with its
+/// space, an address in 20, a length in 7, and a line end of 2. So one test of how many bytes there are serves all that is read of a line.
+pub(crate) const WINDOW: usize = 42;
+
 /// The event that a line of the trace text spells, or the first of its faults (this project's profile).
 /// The line comes without its line feed and the carriage return before that.
 #[inline]
 pub fn read_line(line: &[u8]) -> Result<Event, LineFault>
     ensures { result ≡ line_of line.now }
 {
-    if let Some((event, [])) = event_in_front(line) {
+    if let Some(event) = event_alone(line) {
         return Ok(event);
     }
     line_by_words(line)
 }
 
-/// The event that the bytes begin with, and what follows it. (`None` says nothing of the bytes.)
+/// The event that a line spells which has fewer bytes than the window. (`None` says nothing of the line.)
 #[inline(always)]
-pub(crate) fn event_in_front(bytes: &[u8]) -> Option<(Event, &[u8])>
-    ensures { IfSome result (λ found. HasEvent bytes.now found.0 found.1.now) }
+fn event_alone(line: &[u8]) -> Option<Event>
+    ensures { IfSome result (λ event. line_of line.now ≡ Ok event) }
 {
-    let (kind, operands) = verb_in_front(bytes)?;
-    let (first, rest) = short_in_front(operands)?;
-    let (second, rest) = long_in_front(rest)?;
-    if let VerbKind::Pair { verb } = kind {
-        return Some((pair_event(verb, first, second)?, rest));
+    if line.len() > WINDOW {
+        return None;
     }
-    let (third, rest) = short_in_front(rest)?;
-    Some((sized_event(kind, first, second, third)?, rest))
+    let mut window = [0; WINDOW];
+    window[..line.len()].copy_from_slice(line);
+    let (event, end) = event_in_front(&window)?;
+    if end != line.len() {
+        return None;
+    }
+    Some(event)
+}
+
+/// The event that the bytes begin with, and where it ends. (`None` says nothing of the bytes.)
+/// It is large, and its callers are slower with it inside them.
+#[inline(never)]
+fn event_in_front(bytes: &[u8]) -> Option<(Event, usize)>
+    requires { 42 ≤ length bytes.now }
+    ensures event { IfSome result (λ found. HasEvent bytes.now found.0 (drop found.1 bytes.now)) }
+    ensures near { IfSome result (λ found. found.1 ≤ 40) }
+{
+    let (kind, end) = verb_in_front(bytes)?;
+    let (first, end) = short_at(bytes, end)?;
+    let (second, end) = long_at(bytes, end)?;
+    if let VerbKind::Pair { verb } = kind {
+        return Some((pair_event(verb, first, second)?, end));
+    }
+    let (third, end) = short_at(bytes, end)?;
+    Some((sized_event(kind, first, second, third)?, end))
 }
 
 /// The event whose line the bytes begin with, and how many bytes that line takes with its line feed. (`None` says nothing of the bytes.)
@@ -58,9 +82,12 @@ pub(crate) fn event_in_front(bytes: &[u8]) -> Option<(Event, &[u8])>
 pub(crate) fn event_line_in_front(bytes: &[u8]) -> Option<(Event, usize)>
     ensures { IfSome result (λ found. HasEventLine bytes.now found.0 found.1) }
 {
-    let (event, rest) = event_in_front(bytes)?;
-    let after = after_line_end(rest)?;
-    Some((event, bytes.len() - after.len()))
+    if bytes.len() < WINDOW {
+        return None;
+    }
+    let (event, end) = event_in_front(bytes)?;
+    let used = line_end_at(bytes, end)?;
+    Some((event, used))
 }
 
 /// A read or a write, and how many bytes its line takes with its line feed.
@@ -76,14 +103,17 @@ pub struct AccessLine {
 pub(crate) fn access_line_in_front(bytes: &[u8]) -> Option<AccessLine>
     ensures { IfSome result (λ found. HasEventLine bytes.now (event_of found) found.used) }
 {
-    let (is_write, operands) = access_verb_in_front(bytes)?;
-    let (t, rest) = short_in_front(operands)?;
-    let (at, rest) = long_in_front(rest)?;
-    let (len, rest) = short_in_front(rest)?;
+    if bytes.len() < WINDOW {
+        return None;
+    }
+    let (is_write, end) = access_verb_in_front(bytes)?;
+    let (t, end) = short_at(bytes, end)?;
+    let (at, end) = long_at(bytes, end)?;
+    let (len, end) = short_at(bytes, end)?;
     if len > 0xff {
         return None;
     }
-    let after = after_line_end(rest)?;
+    let used = line_end_at(bytes, end)?;
     let access = Access {
         t,
         at,
@@ -92,18 +122,22 @@ pub(crate) fn access_line_in_front(bytes: &[u8]) -> Option<AccessLine>
     Some(AccessLine {
         is_write,
         access,
-        used: bytes.len() - after.len(),
+        used,
     })
 }
 
-/// What follows the line feed that the bytes begin with, perhaps behind one carriage return.
+/// Where the line feed at a place ends, perhaps behind one carriage return.
 #[inline(always)]
-fn after_line_end(bytes: &[u8]) -> Option<&[u8]>
-    ensures { IfSome result (λ rest. EndsLineBefore bytes.now rest.now) }
+fn line_end_at(bytes: &[u8], from: usize) -> Option<usize>
+    requires { from + 2 ≤ length bytes.now }
+    ensures ends { IfSome result (λ end. EndsLineBefore (drop from bytes.now) (drop end bytes.now)) }
+    ensures within { IfSome result (λ end. end ≤ from + 2) }
 {
-    match bytes {
-        [b'\n', rest @ ..] => Some(rest),
-        [b'\r', b'\n', rest @ ..] => Some(rest),
-        _ => None,
+    if bytes[from] == b'\n' {
+        return Some(from + 1);
     }
+    if bytes[from] == b'\r' && bytes[from + 1] == b'\n' {
+        return Some(from + 2);
+    }
+    None
 }

@@ -1,10 +1,11 @@
 //! Numbers of the trace text.
 
-ghost use Rattle.std.specs.Prelude.{◌≡◌, ◌≤◌, IfSome, is_some, length, drop};
+ghost use Rattle.std.specs.Prelude.{◌≡◌, ◌⊎◌, ◌+◌, ◌<◌, ◌≤◌, ℕ, List, IfSome, is_some, length, get_or, drop};
+ghost use Rattle.std.specs.Bool.{OnTrue};
 ghost use Rattle.std.specs.Char.{digit_value, is_digit};
 ghost use Rattle.std.specs.List.{list_all};
 ghost use Rattle.hg_wire.specs.Numbers.{number_of, numeral};
-ghost use Rattle.hg_wire.specs.InFront.{HasRun, HasNumeral, HasNumber, IsFourDigits};
+ghost use Rattle.hg_wire.specs.InFront.{HasRun, HasDigits, HasNumber, IsFourDigits};
 ghost use Rattle.hg_wire.specs.Lines.{fitting, operand_of};
 
 /// The value of each byte as a digit of base 36, in either case, and 36 for the bytes that are none.
@@ -35,6 +36,36 @@ fn value_of_digit(byte: u8) -> u8
     DIGIT_VALUES[usize::from(byte)]
 }
 
+/// The value of each byte as a hexadecimal digit, in either case, and 65536 for the bytes that are none: in a sum of four
+/// digits it is seen that one is none.
+#[rattlefmt::skip]
+static HEXADECIMAL_VALUES: [u32; 256] = [
+    65536, 65536, 65536, 65536, 65536, 65536, 65536, 65536, 65536, 65536, 65536, 65536, 65536, 65536, 65536, 65536,
+    65536, 65536, 65536, 65536, 65536, 65536, 65536, 65536, 65536, 65536, 65536, 65536, 65536, 65536, 65536, 65536,
+    65536, 65536, 65536, 65536, 65536, 65536, 65536, 65536, 65536, 65536, 65536, 65536, 65536, 65536, 65536, 65536,
+        0,     1,     2,     3,     4,     5,     6,     7,     8,     9, 65536, 65536, 65536, 65536, 65536, 65536,
+    65536,    10,    11,    12,    13,    14,    15, 65536, 65536, 65536, 65536, 65536, 65536, 65536, 65536, 65536,
+    65536, 65536, 65536, 65536, 65536, 65536, 65536, 65536, 65536, 65536, 65536, 65536, 65536, 65536, 65536, 65536,
+    65536,    10,    11,    12,    13,    14,    15, 65536, 65536, 65536, 65536, 65536, 65536, 65536, 65536, 65536,
+    65536, 65536, 65536, 65536, 65536, 65536, 65536, 65536, 65536, 65536, 65536, 65536, 65536, 65536, 65536, 65536,
+    65536, 65536, 65536, 65536, 65536, 65536, 65536, 65536, 65536, 65536, 65536, 65536, 65536, 65536, 65536, 65536,
+    65536, 65536, 65536, 65536, 65536, 65536, 65536, 65536, 65536, 65536, 65536, 65536, 65536, 65536, 65536, 65536,
+    65536, 65536, 65536, 65536, 65536, 65536, 65536, 65536, 65536, 65536, 65536, 65536, 65536, 65536, 65536, 65536,
+    65536, 65536, 65536, 65536, 65536, 65536, 65536, 65536, 65536, 65536, 65536, 65536, 65536, 65536, 65536, 65536,
+    65536, 65536, 65536, 65536, 65536, 65536, 65536, 65536, 65536, 65536, 65536, 65536, 65536, 65536, 65536, 65536,
+    65536, 65536, 65536, 65536, 65536, 65536, 65536, 65536, 65536, 65536, 65536, 65536, 65536, 65536, 65536, 65536,
+    65536, 65536, 65536, 65536, 65536, 65536, 65536, 65536, 65536, 65536, 65536, 65536, 65536, 65536, 65536, 65536,
+    65536, 65536, 65536, 65536, 65536, 65536, 65536, 65536, 65536, 65536, 65536, 65536, 65536, 65536, 65536, 65536,
+];
+
+#[inline(always)]
+fn value_of_hexadecimal_digit(byte: u8) -> u32
+    ensures digit { result ≤ 15 → digit_value byte ≡ result }
+    ensures none { (result ≤ 15) ⊎ (result ≡ 65536) }
+{
+    HEXADECIMAL_VALUES[usize::from(byte)]
+}
+
 /// The value of a decimal digit, and more than 9 for any other byte.
 #[inline(always)]
 fn value_of_decimal_digit(byte: u8) -> u8
@@ -43,25 +74,74 @@ fn value_of_decimal_digit(byte: u8) -> u8
     byte.wrapping_sub(b'0')
 }
 
-/// The decimal number that the bytes begin with, and what follows it, where it has at most 19 digits.
+/// The decimal digits at a place, of which the first 19 count, and where they end.
 #[inline(always)]
-fn decimal_in_front(bytes: &[u8]) -> Option<(u64, &[u8])>
-    ensures { IfSome result (λ found. HasNumeral 10 19 bytes.now found.0 found.1.now) }
+fn decimal_at(bytes: &[u8], from: usize) -> Option<(u64, usize)>
+    requires { from + 19 ≤ length bytes.now }
+    ensures digits { IfSome result (λ found. HasDigits 10 19 bytes.now from found.1 found.0) }
+    ensures near { IfSome result (λ found. found.1 ≤ from + 19) }
 {
     let mut value = 0u64;
-    let mut count = 0;
-    while count < bytes.len() {
-        let digit = value_of_decimal_digit(bytes[count]);
+    let mut at = from;
+    while at < from + 19 {
+        let digit = value_of_decimal_digit(bytes[at]);
         if digit > 9 {
             break;
         }
         value = value.wrapping_mul(10).wrapping_add(u64::from(digit));
-        count += 1;
+        at += 1;
     }
-    if count == 0 || count > 19 {
+    if at == from {
         return None;
     }
-    Some((value, &bytes[count..]))
+    Some((value, at))
+}
+
+/// A number with the decimal digit at a place behind its own, where there is one.
+#[inline(always)]
+fn with_decimal_digit_at(bytes: &[u8], at: usize, number: u64) -> Option<u64>
+    requires { at < length bytes.now }
+    ensures { IfSome result (λ more. (start : List ℕ) → HasRun 10 19 start (drop at bytes.now) number → HasRun 10 19 start (drop (at + 1) bytes.now) more) }
+{
+    let digit = value_of_decimal_digit(bytes[at]);
+    if digit > 9 {
+        return None;
+    }
+    Some(number.wrapping_mul(10).wrapping_add(u64::from(digit)))
+}
+
+/// The same with up to four digits, and where they end.
+#[inline(always)]
+fn with_decimal_digits_at(bytes: &[u8], at: usize, number: u64) -> (u64, usize)
+    requires { at + 4 ≤ length bytes.now }
+    ensures within { (at ≤ result.1) × (result.1 ≤ at + 4) }
+    ensures digits { (start : List ℕ) → HasRun 10 19 start (drop at bytes.now) number → HasRun 10 19 start (drop result.1 bytes.now) result.0 }
+{
+    let Some(one) = with_decimal_digit_at(bytes, at, number) else {
+        return (number, at);
+    };
+    let Some(two) = with_decimal_digit_at(bytes, at + 1, one) else {
+        return (one, at + 1);
+    };
+    let Some(three) = with_decimal_digit_at(bytes, at + 2, two) else {
+        return (two, at + 2);
+    };
+    let Some(four) = with_decimal_digit_at(bytes, at + 3, three) else {
+        return (three, at + 3);
+    };
+    (four, at + 4)
+}
+
+/// The decimal digits at a place, of which the first five count, and where they end.
+#[inline(always)]
+#[tactic(auto, using(crate::proofs::RunLemmas::run_starts))]
+fn few_decimal_digits_at(bytes: &[u8], from: usize) -> Option<(u64, usize)>
+    requires { from + 5 ≤ length bytes.now }
+    ensures digits { IfSome result (λ found. HasDigits 10 19 bytes.now from found.1 found.0) }
+    ensures near { IfSome result (λ found. found.1 ≤ from + 5) }
+{
+    let one = with_decimal_digit_at(bytes, from, 0)?;
+    Some(with_decimal_digits_at(bytes, from + 1, one))
 }
 
 /// The number that four hexadecimal digits write, where they are digits.
@@ -69,70 +149,144 @@ fn decimal_in_front(bytes: &[u8]) -> Option<(u64, &[u8])>
 fn number_of_four(a: u8, b: u8, c: u8, d: u8) -> Option<u64>
     ensures { IfSome result (IsFourDigits a b c d) }
 {
-    let a = u64::from(value_of_digit(a));
-    let b = u64::from(value_of_digit(b));
-    let c = u64::from(value_of_digit(c));
-    let d = u64::from(value_of_digit(d));
-    if a | b | c | d > 15 {
+    let a = value_of_hexadecimal_digit(a);
+    let b = value_of_hexadecimal_digit(b);
+    let c = value_of_hexadecimal_digit(c);
+    let d = value_of_hexadecimal_digit(d);
+    let value = ((a * 16 + b) * 16 + c) * 16 + d;
+    if value > 0xffff {
         return None;
     }
-    Some(a * 4096 + b * 256 + c * 16 + d)
+    Some(u64::from(value))
 }
 
-/// The number that the hexadecimal digits in front of the bytes write, taken by four, and how many they are.
-/// (It is right as long as they are at most 16.)
+/// A number with the four hexadecimal digits at a place behind its own, where there are four.
 #[inline(always)]
-fn fours_in_front(bytes: &[u8]) -> (u64, usize)
-    ensures within { result.1 ≤ length bytes.now }
-    ensures digits { HasRun 16 16 bytes.now (drop result.1 bytes.now) result.0 }
+fn with_four_digits_at(bytes: &[u8], at: usize, number: u64) -> Option<u64>
+    requires { at + 4 ≤ length bytes.now }
+    ensures { IfSome result (λ more. (start : List ℕ) → HasRun 16 16 start (drop at bytes.now) number → HasRun 16 16 start (drop (at + 4) bytes.now) more) }
 {
-    let mut value = 0u64;
-    let mut count = 0;
-    while bytes.len() - count >= 4 {
-        let next = number_of_four(
-            bytes[count],
-            bytes[count + 1],
-            bytes[count + 2],
-            bytes[count + 3],
-        );
-        let Some(four) = next else {
-            break;
-        };
-        value = value.wrapping_mul(65_536).wrapping_add(four);
-        count += 4;
-    }
-    (value, count)
-}
-
-/// The hexadecimal number that the bytes begin with, and what follows it, where it has at most 16 digits.
-#[inline(always)]
-fn hexadecimal_in_front(bytes: &[u8]) -> Option<(u64, &[u8])>
-    ensures { IfSome result (λ found. HasNumeral 16 16 bytes.now found.0 found.1.now) }
-{
-    let (mut value, mut count) = fours_in_front(bytes);
-    while count < bytes.len() {
-        let digit = value_of_digit(bytes[count]);
-        if digit > 15 {
-            break;
-        }
-        value = value.wrapping_mul(16).wrapping_add(u64::from(digit));
-        count += 1;
-    }
-    if count == 0 || count > 16 {
+    // Where a number ends there is no need to look at four bytes.
+    if bytes[at] == b' ' {
         return None;
     }
-    Some((value, &bytes[count..]))
+    let four = number_of_four(bytes[at], bytes[at + 1], bytes[at + 2], bytes[at + 3])?;
+    Some(number.wrapping_mul(65_536).wrapping_add(four))
 }
 
-/// The number that the bytes begin with, and what follows it. (A decimal number of 20 digits is not looked for.)
+/// A number with the hexadecimal digit at a place behind its own, where there is one.
 #[inline(always)]
-pub fn number_in_front(bytes: &[u8]) -> Option<(u64, &[u8])>
-    ensures { IfSome result (λ found. HasNumber bytes.now found.0 found.1.now) }
+fn with_digit_at(bytes: &[u8], at: usize, number: u64) -> Option<u64>
+    requires { at < length bytes.now }
+    ensures { IfSome result (λ more. (start : List ℕ) → HasRun 16 16 start (drop at bytes.now) number → HasRun 16 16 start (drop (at + 1) bytes.now) more) }
 {
-    match bytes {
-        [b'0', b'x', digits @ ..] => hexadecimal_in_front(digits),
-        _ => decimal_in_front(bytes),
+    let digit = value_of_hexadecimal_digit(bytes[at]);
+    if digit > 15 {
+        return None;
     }
+    Some(number.wrapping_mul(16).wrapping_add(u64::from(digit)))
+}
+
+/// The same with up to three digits, and where they end.
+#[inline(always)]
+fn with_digits_at(bytes: &[u8], at: usize, number: u64) -> (u64, usize)
+    requires { at + 3 ≤ length bytes.now }
+    ensures within { (at ≤ result.1) × (result.1 ≤ at + 3) }
+    ensures digits { (start : List ℕ) → HasRun 16 16 start (drop at bytes.now) number → HasRun 16 16 start (drop result.1 bytes.now) result.0 }
+{
+    let Some(one) = with_digit_at(bytes, at, number) else {
+        return (number, at);
+    };
+    let Some(two) = with_digit_at(bytes, at + 1, one) else {
+        return (one, at + 1);
+    };
+    let Some(three) = with_digit_at(bytes, at + 2, two) else {
+        return (two, at + 2);
+    };
+    (three, at + 3)
+}
+
+/// The hexadecimal digits at a place, of which the first four count, and where they end.
+#[inline(always)]
+#[tactic(auto, using(crate::proofs::RunLemmas::run_starts))]
+fn few_digits_at(bytes: &[u8], from: usize) -> Option<(u64, usize)>
+    requires { from + 4 ≤ length bytes.now }
+    ensures digits { IfSome result (λ found. HasDigits 16 16 bytes.now from found.1 found.0) }
+    ensures near { IfSome result (λ found. found.1 ≤ from + 4) }
+{
+    let one = with_digit_at(bytes, from, 0)?;
+    Some(with_digits_at(bytes, from + 1, one))
+}
+
+/// A number with the hexadecimal digits at a place behind its own, taken by four and at most twelve of them, and where they end.
+#[inline(always)]
+fn with_fours_at(bytes: &[u8], at: usize, number: u64) -> (u64, usize)
+    requires { at + 12 ≤ length bytes.now }
+    ensures within { (at ≤ result.1) × (result.1 ≤ at + 12) }
+    ensures digits { (start : List ℕ) → HasRun 16 16 start (drop at bytes.now) number → HasRun 16 16 start (drop result.1 bytes.now) result.0 }
+{
+    let Some(four) = with_four_digits_at(bytes, at, number) else {
+        return with_digits_at(bytes, at, number);
+    };
+    let Some(eight) = with_four_digits_at(bytes, at + 4, four) else {
+        return with_digits_at(bytes, at + 4, four);
+    };
+    let Some(twelve) = with_four_digits_at(bytes, at + 8, eight) else {
+        return with_digits_at(bytes, at + 8, eight);
+    };
+    (twelve, at + 12)
+}
+
+/// The hexadecimal digits at a place, of which the first 16 count, and where they end.
+#[inline(always)]
+#[tactic(auto, using(crate::proofs::RunLemmas::run_starts))]
+fn digits_at(bytes: &[u8], from: usize) -> Option<(u64, usize)>
+    requires { from + 16 ≤ length bytes.now }
+    ensures digits { IfSome result (λ found. HasDigits 16 16 bytes.now from found.1 found.0) }
+    ensures near { IfSome result (λ found. found.1 ≤ from + 16) }
+{
+    let Some(four) = with_four_digits_at(bytes, from, 0) else {
+        return few_digits_at(bytes, from);
+    };
+    Some(with_fours_at(bytes, from + 4, four))
+}
+
+/// Whether `0x` stands at a place.
+#[inline(always)]
+fn has_prefix_at(bytes: &[u8], from: usize) -> bool
+    requires { from + 2 ≤ length bytes.now }
+    ensures { OnTrue result ((get_or bytes.now from 0 ≡ 48) × (get_or bytes.now (from + 1) 0 ≡ 120)) }
+{
+    if bytes[from] != b'0' {
+        return false;
+    }
+    bytes[from + 1] == b'x'
+}
+
+/// The number at a place and where it ends. (A decimal number of 20 digits is not looked for. More digits may follow.)
+#[inline(always)]
+pub(crate) fn number_at(bytes: &[u8], from: usize) -> Option<(u64, usize)>
+    requires { from + 19 ≤ length bytes.now }
+    ensures number { IfSome result (λ found. HasNumber (drop from bytes.now) found.0 (drop found.1 bytes.now)) }
+    ensures near { IfSome result (λ found. found.1 ≤ from + 19) }
+{
+    if has_prefix_at(bytes, from) {
+        return digits_at(bytes, from + 2);
+    }
+    decimal_at(bytes, from)
+}
+
+/// The same of at most five decimal or four hexadecimal digits.
+#[inline(always)]
+pub(crate) fn short_number_at(bytes: &[u8], from: usize) -> Option<(u64, usize)>
+    requires { from + 6 ≤ length bytes.now }
+    ensures number { IfSome result (λ found. HasNumber (drop from bytes.now) found.0 (drop found.1 bytes.now)) }
+    ensures near { IfSome result (λ found. found.1 ≤ from + 6) }
+{
+    if has_prefix_at(bytes, from) {
+        return few_digits_at(bytes, from + 2);
+    }
+    few_decimal_digits_at(bytes, from)
 }
 
 /// The number that a numeral of at most `most` digits stands for, where it has 64 bits.

@@ -1,29 +1,36 @@
 //! The operands that follow a verb.
 
-ghost use Rattle.std.specs.Prelude.{[], ◌∷◌, IfSome};
+ghost use Rattle.std.specs.Prelude.{◌+◌, ◌≤◌, [], ◌∷◌, length, drop, IfSome};
 ghost use Rattle.hg_wire.specs.InFront.{HasOperands};
 
-use crate::number::number_in_front;
+use crate::number::{number_at, short_number_at};
 
-/// A space and a number of 64 bits, and what follows.
+/// A space and a number of 64 bits at a place, and where they end.
 #[inline(always)]
-pub fn long_in_front(bytes: &[u8]) -> Option<(u64, &[u8])>
-    ensures { IfSome result (λ found. HasOperands (64 ∷ []) bytes.now (found.0 ∷ []) found.1.now) }
+pub(crate) fn long_at(bytes: &[u8], from: usize) -> Option<(u64, usize)>
+    requires { from + 20 ≤ length bytes.now }
+    ensures operand { IfSome result (λ found. HasOperands (64 ∷ []) (drop from bytes.now) (found.0 ∷ []) (drop found.1 bytes.now)) }
+    ensures near { IfSome result (λ found. found.1 ≤ from + 20) }
 {
-    let [b' ', number @ ..] = bytes else {
+    if bytes[from] != b' ' {
         return None;
-    };
-    number_in_front(number)
+    }
+    number_at(bytes, from + 1)
 }
 
-/// The same of 16 bits.
+/// The same of 16 bits, spelled by few digits.
 #[inline(always)]
-pub fn short_in_front(bytes: &[u8]) -> Option<(u16, &[u8])>
-    ensures { IfSome result (λ found. HasOperands (16 ∷ []) bytes.now (found.0 ∷ []) found.1.now) }
+pub(crate) fn short_at(bytes: &[u8], from: usize) -> Option<(u16, usize)>
+    requires { from + 7 ≤ length bytes.now }
+    ensures operand { IfSome result (λ found. HasOperands (16 ∷ []) (drop from bytes.now) (found.0 ∷ []) (drop found.1 bytes.now)) }
+    ensures near { IfSome result (λ found. found.1 ≤ from + 7) }
 {
-    let (value, rest) = long_in_front(bytes)?;
+    if bytes[from] != b' ' {
+        return None;
+    }
+    let (value, end) = short_number_at(bytes, from + 1)?;
     if value > 0xffff {
         return None;
     }
-    Some((value as u16, rest))
+    Some((value as u16, end))
 }

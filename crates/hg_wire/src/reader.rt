@@ -76,7 +76,7 @@ impl EventReader {
     }
 
     /// Takes the next line of the stream where it is a read or a write that stands whole in front of the piece. `None`
-    /// takes nothing, and says nothing of the piece.
+    /// takes nothing, and says nothing of the piece: a line is looked for only where 42 bytes are there.
     #[inline(always)]
     pub fn take_access(&mut self, piece: &[u8]) -> Option<AccessLine>
         requires { self.old.lines + length piece.now < 2 ^ 64 }

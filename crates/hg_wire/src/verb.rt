@@ -1,6 +1,7 @@
 //! The verbs of the trace text.
 
-ghost use Rattle.std.specs.Prelude.{◌≡◌, ◌++◌, [], ◌∷◌, IfSome};
+ghost use Rattle.std.specs.Prelude.{◌≡◌, ◌≤◌, ◌++◌, [], ◌∷◌, length, take, drop, IfSome};
+ghost use Rattle.std.specs.Int.{to_le_bytes, w32};
 ghost use Rattle.hg_wire.specs.Verbs.{row_of, verb_of, Makes};
 
 use hg_model::event::{Access, Block, Event};
@@ -65,14 +66,6 @@ impl Verb {
         }
     }
 
-    /// What follows the verb in bytes that begin with it.
-    #[inline(always)]
-    pub fn after(self, bytes: &[u8]) -> Option<&[u8]>
-        ensures { IfSome result (λ rest. bytes.now ≡ (row_of self).text ++ rest.now) }
-    {
-        bytes.strip_prefix(self.text())
-    }
-
     /// The verb that the word is, if it is one.
     #[tactic(auto, unfolding(crate::specs::Lines::verb_named))]
     pub fn named(word: &[u8]) -> Option<Verb>
@@ -93,52 +86,109 @@ pub enum VerbKind {
     Block { is_alloc: bool },
 }
 
-/// The verb that the bytes begin with, and what follows.
+// The first four letters of each verb, as `first_letters` gives them.
+const FIRST_OF_WRITE: u32 = 0x7469_7277;
+
+const FIRST_OF_READ: u32 = 0x6461_6572;
+
+const FIRST_OF_ALLOC: u32 = 0x6f6c_6c61;
+
+const FIRST_OF_FREE: u32 = 0x6565_7266;
+
+const FIRST_OF_LOCK: u32 = 0x6b63_6f6c;
+
+const FIRST_OF_UNLOCK: u32 = 0x6f6c_6e75;
+
+const FIRST_OF_RDLOCK: u32 = 0x6f6c_6472;
+
+const FIRST_OF_FORK: u32 = 0x6b72_6f66;
+
+const FIRST_OF_JOIN: u32 = 0x6e69_6f6a;
+
+/// The number that the first four bytes are.
 #[inline(always)]
-pub fn verb_in_front(bytes: &[u8]) -> Option<(VerbKind, &[u8])>
-    ensures { IfSome result (λ found. bytes.now ≡ (row_of (verb_of found.0)).text ++ found.1.now) }
+fn first_letters(bytes: &[u8]) -> u32
+    requires { 4 ≤ length bytes.now }
+    ensures { to_le_bytes w32 result ≡ take 4 bytes.now }
 {
-    if let Some((is_write, rest)) = access_verb_in_front(bytes) {
-        return Some((VerbKind::Access { is_write }, rest));
-    }
-    if let Some(rest) = Verb::Alloc.after(bytes) {
-        return Some((VerbKind::Block { is_alloc: true }, rest));
-    }
-    if let Some(rest) = Verb::Free.after(bytes) {
-        return Some((VerbKind::Block { is_alloc: false }, rest));
-    }
-    let (verb, rest) = pair_verb_in_front(bytes)?;
-    Some((VerbKind::Pair { verb }, rest))
+    u32::from_le_bytes([bytes[0], bytes[1], bytes[2], bytes[3]])
 }
 
-/// Whether the bytes begin with `write` (or else with `read`), and what follows.
+/// The verb that the bytes begin with, and where it ends.
 #[inline(always)]
-pub fn access_verb_in_front(bytes: &[u8]) -> Option<(bool, &[u8])>
-    ensures { IfSome result (λ found. bytes.now ≡ (row_of (verb_of (VerbKind.Access found.0))).text ++ found.1.now) }
+pub(crate) fn verb_in_front(bytes: &[u8]) -> Option<(VerbKind, usize)>
+    requires { 6 ≤ length bytes.now }
+    ensures verb { IfSome result (λ found. bytes.now ≡ (row_of (verb_of found.0)).text ++ drop found.1 bytes.now) }
+    ensures near { IfSome result (λ found. found.1 ≤ 6) }
 {
-    if let Some(rest) = Verb::Write.after(bytes) {
-        return Some((true, rest));
+    if let Some((is_write, end)) = access_verb_in_front(bytes) {
+        return Some((VerbKind::Access { is_write }, end));
     }
-    Some((false, Verb::Read.after(bytes)?))
+    if let Some((is_alloc, end)) = block_verb_in_front(bytes) {
+        return Some((VerbKind::Block { is_alloc }, end));
+    }
+    let (verb, end) = pair_verb_in_front(bytes)?;
+    Some((VerbKind::Pair { verb }, end))
 }
 
+/// Whether the bytes begin with `write` (or else with `read`), and where it ends.
 #[inline(always)]
-fn pair_verb_in_front(bytes: &[u8]) -> Option<(Verb, &[u8])>
-    ensures { IfSome result (λ found. bytes.now ≡ (row_of found.0).text ++ found.1.now) }
+pub(crate) fn access_verb_in_front(bytes: &[u8]) -> Option<(bool, usize)>
+    requires { 6 ≤ length bytes.now }
+    ensures verb { IfSome result (λ found. bytes.now ≡ (row_of (verb_of (VerbKind.Access found.0))).text ++ drop found.1 bytes.now) }
+    ensures near { IfSome result (λ found. found.1 ≤ 6) }
 {
-    if let Some(rest) = Verb::Lock.after(bytes) {
-        return Some((Verb::Lock, rest));
+    let first = first_letters(bytes);
+    if first == FIRST_OF_WRITE && bytes[4] == b'e' {
+        return Some((true, 5));
     }
-    if let Some(rest) = Verb::Unlock.after(bytes) {
-        return Some((Verb::Unlock, rest));
+    if first == FIRST_OF_READ {
+        return Some((false, 4));
     }
-    if let Some(rest) = Verb::RdLock.after(bytes) {
-        return Some((Verb::RdLock, rest));
+    None
+}
+
+/// Whether the bytes begin with `alloc` (or else with `free`), and where it ends.
+#[inline(always)]
+fn block_verb_in_front(bytes: &[u8]) -> Option<(bool, usize)>
+    requires { 6 ≤ length bytes.now }
+    ensures verb { IfSome result (λ found. bytes.now ≡ (row_of (verb_of (VerbKind.Block found.0))).text ++ drop found.1 bytes.now) }
+    ensures near { IfSome result (λ found. found.1 ≤ 6) }
+{
+    let first = first_letters(bytes);
+    if first == FIRST_OF_ALLOC && bytes[4] == b'c' {
+        return Some((true, 5));
     }
-    if let Some(rest) = Verb::Fork.after(bytes) {
-        return Some((Verb::Fork, rest));
+    if first == FIRST_OF_FREE {
+        return Some((false, 4));
     }
-    Some((Verb::Join, Verb::Join.after(bytes)?))
+    None
+}
+
+/// Which of the other verbs the bytes begin with, and where it ends.
+#[inline(always)]
+fn pair_verb_in_front(bytes: &[u8]) -> Option<(Verb, usize)>
+    requires { 6 ≤ length bytes.now }
+    ensures verb { IfSome result (λ found. bytes.now ≡ (row_of found.0).text ++ drop found.1 bytes.now) }
+    ensures near { IfSome result (λ found. found.1 ≤ 6) }
+{
+    let first = first_letters(bytes);
+    if first == FIRST_OF_LOCK {
+        return Some((Verb::Lock, 4));
+    }
+    if first == FIRST_OF_UNLOCK && bytes[4] == b'c' && bytes[5] == b'k' {
+        return Some((Verb::Unlock, 6));
+    }
+    if first == FIRST_OF_RDLOCK && bytes[4] == b'c' && bytes[5] == b'k' {
+        return Some((Verb::RdLock, 6));
+    }
+    if first == FIRST_OF_FORK {
+        return Some((Verb::Fork, 4));
+    }
+    if first == FIRST_OF_JOIN {
+        return Some((Verb::Join, 4));
+    }
+    None
 }
 
 /// The event of a verb that takes two operands, where they fit.

@@ -109,10 +109,12 @@ fn reads_a_stream_however_it_is_cut(rt: HostRuntime) -> Result<(), Fail> {
     Ok(())
 }
 
-/// The read or write in front of a stream, and how many lines were counted.
+/// The read or write in front of a stream that goes on with a long comment, and how many lines were counted.
 fn access_in_front(stream: &[u8], alloc: Global) -> Result<(Option<AccessLine>, u64), AllocError> {
+    let mut piece = stream.to_vec(alloc)?;
+    piece.extend_from_slice(b"# A reader looks only where some bytes are there.\n")?;
     let mut reader = EventReader::new(alloc)?;
-    let found = reader.take_access(stream);
+    let found = reader.take_access(&piece);
     Ok((found, reader.lines()))
 }
 

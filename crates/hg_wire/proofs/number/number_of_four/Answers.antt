@@ -1,8 +1,14 @@
-use Rattle.std.proofs.Common.{◌∙◌}
+use Rattle.std.proofs.Common.{sym, subst, arith}
+use Rattle.hg_wire.specs.InFront.{IsFourDigits}
 use Rattle.hg_wire.proofs.RunLemmas.{four_digits}
 use Rattle.hg_wire.proofs.number.number_of_four.Goals as goal
 
 pub returns : goal.returns
 returns c =
-    four_digits c.args.a c.args.b c.args.c c.args.d _ _ _ _ (c.from-a.ensures ∙ c.value_of_digit.ensures) (c.from-b.ensures ∙ c.value_of_digit-2.ensures)
-    (c.from-c.ensures ∙ c.value_of_digit-3.ensures) (c.from-d.ensures ∙ c.value_of_digit-4.ensures) c.if-a-b-gt15.false
+    let a = c.value_of_hexadecimal_digit-a in
+    let b = c.value_of_hexadecimal_digit-b in
+    let third = c.value_of_hexadecimal_digit-c in
+    let d = c.value_of_hexadecimal_digit-d in
+    subst (IsFourDigits c.args.a c.args.b c.args.c c.args.d) (sym c.from.ensures)
+    (four_digits c.args.a c.args.b c.args.c c.args.d a.result b.result third.result d.result (a.ensures.digit, a.ensures.none) (b.ensures.digit, b.ensures.none)
+    (third.ensures.digit, third.ensures.none) (d.ensures.digit, d.ensures.none) (omega arith))
