@@ -8,17 +8,17 @@ use Rattle.hg_commands.proofs.checkpointing.write.Goals as goal
 
 pub returns-in-Ok-clause-kept : goal.returns-in-Ok-clause-kept
 returns-in-Ok-clause-kept g c =
-    keeps_checkpoint g.D.Disk c.args.store.now c.write_root-done.new.self c.args.output.now.calls c.args.moments.now c.push.new.self c.of.result c.args.store.now.in_doubt (λ honest. ap (λ (d : detect.Shown (pool.Shown g.row.D.Denot)). detect.content (pools.live g.D.Disk) d) c.write_root-done.ensures.slots.1) c.write_root-done.ensures.done.committed
+    keeps_checkpoint g.D.Disk c.args.store.now c.write_root-done.new.self c.args.output.now.calls c.args.moments.now c.push.new.self c.of.result c.args.store.now.in_doubt (λ honest. ap (λ (d : detect.Shown (pool.Shown g.row.D.Denot)). detect.content (pools.live g.D.Disk) d) c.write_root-done.ensures.slots.detector) c.write_root-done.ensures.done.committed
     c.write_root-done.ensures.images c.stands.ensures.backs c.push.ensures c.of.ensures
 
 pub returns-in-Err-clause-kept : goal.returns-in-Err-clause-kept
 returns-in-Err-clause-kept g c =
-    keeps_checkpoint g.D.Disk c.args.store.now c.write_root-done.new.self c.args.output.now.calls c.args.moments.now c.push.new.self c.of.result c.args.store.now.in_doubt (λ honest. ap (λ (d : detect.Shown (pool.Shown g.row.D.Denot)). detect.content (pools.live g.D.Disk) d) c.write_root-done.ensures.slots.1) c.write_root-done.ensures.done.committed
+    keeps_checkpoint g.D.Disk c.args.store.now c.write_root-done.new.self c.args.output.now.calls c.args.moments.now c.push.new.self c.of.result c.args.store.now.in_doubt (λ honest. ap (λ (d : detect.Shown (pool.Shown g.row.D.Denot)). detect.content (pools.live g.D.Disk) d) c.write_root-done.ensures.slots.detector) c.write_root-done.ensures.done.committed
     c.write_root-done.ensures.images c.stands.ensures.backs c.push.ensures c.of.ensures
 
 pub returns-in-Err-clause-stays : goal.returns-in-Err-clause-stays
 returns-in-Err-clause-stays g c = record {
-  live = (λ honest. ap (λ (d : detect.Shown (pool.Shown g.row.D.Denot)). detect.content (pools.live g.D.Disk) d) c.write_root-done.ensures.slots.1);
+  live = (λ honest. ap (λ (d : detect.Shown (pool.Shown g.row.D.Denot)). detect.content (pools.live g.D.Disk) d) c.write_root-done.ensures.slots.detector);
   committed = c.write_root-done.ensures.done.committed;
   pending = c.write_root-done.ensures.done.pending;
   failures = omega (arith, c.write_root-done.ensures.device, failed_is c.write_root-done.result c.in-Err.fault c.in-Err.is, c.refusal_of.ensures.counted);
