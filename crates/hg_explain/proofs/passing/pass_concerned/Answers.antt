@@ -14,7 +14,7 @@ use Rattle.hg_explain.proofs.passing.pass_concerned.Goals as goal
 pub tell_event-requires-clause-actor : goal.tell_event-requires-clause-actor
 tell_event-requires-clause-actor c =
     let accepted = c.in_ok-stopped.was ∙ ap (λ (x : Option Ending). Ok x) (none_stopped c.in_ok-stopped.stopped (sym c.is_some.ensures ∙ c.if-is_some.false)) in
-    subst (λ (e : Event). actor_of e < 1024) (sym c.event_of-event.ensures)
+    subst (λ (e : Event). actor_of e < 1024) (sym c.access_event-event.ensures)
     (actor_is_low (standing_of (content_of c.args.detector.now)) (next_named (content_of c.args.detector.now) (event_of c.args.found.now))
     (accepted_is_allowed c.args.line (event_of c.args.found.now) c.args.detector.now.sets c.apply_access.new.detector.sets (content_of c.args.detector.now) (content_of c.apply_access.new.detector)
     (λ later last end h. c.apply_access.ensures.accepted later last end accepted h)))
@@ -25,5 +25,5 @@ returns-clause-tells c same =
     tells_concerned c.args.asked.word c.args.asked.form (content_of c.args.detector.now) c.args.more.now (record { line = c.args.line; event = Ok (event_of c.args.found.now) }) (content_of c.apply_access.new.detector) c.tell_event.new.more c.args.held.now.items c.tell_event.new.held.items
     (event_of c.args.found.now) c.args.look.now c.kept-from.result refl (c.apply_access.ensures.content accepted) c.requires.met
     c.requires.looks (c.kept-from.ensures.count ∙ sym (length-map c.args.detector.now.kept (report_of c.args.detector.now.sets.sets)))
-    (c.in_ok-tell_event.ensures.ok.0 ∙ ap (λ (e : Event). c.args.held.now.items ++ (told_by c.args.asked.word c.args.asked.form c.args.look.now c.kept-from.result (content_of c.apply_access.new.detector) c.args.more.now c.args.line e).0) c.event_of-event.ensures)
-    (c.in_ok-tell_event.ensures.ok.1 ∙ ap (λ (e : Event). (told_by c.args.asked.word c.args.asked.form c.args.look.now c.kept-from.result (content_of c.apply_access.new.detector) c.args.more.now c.args.line e).1) c.event_of-event.ensures)
+    (c.in_ok-tell_event.ensures.ok.0 ∙ ap (λ (e : Event). c.args.held.now.items ++ (told_by c.args.asked.word c.args.asked.form c.args.look.now c.kept-from.result (content_of c.apply_access.new.detector) c.args.more.now c.args.line e).0) c.access_event-event.ensures)
+    (c.in_ok-tell_event.ensures.ok.1 ∙ ap (λ (e : Event). (told_by c.args.asked.word c.args.asked.form c.args.look.now c.kept-from.result (content_of c.apply_access.new.detector) c.args.more.now c.args.line e).1) c.access_event-event.ensures)
