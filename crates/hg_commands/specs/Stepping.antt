@@ -85,11 +85,12 @@ module _ {D W : Type 0} (g : disk.Ghosts D) where
   abbrev pub ack_due : Feeding D W → List ℕ
   ack_due f = if nat_eq ((f.fed.accepted + 1) % 256) 0 then ack_of f else []
 
-module _ {D W R V : Type 0} (g : disk.Ghosts D) where
+module _ {D W R : Type 0} (g : disk.Ghosts D) where
   -- What was read since led from the content of then to that of now, and to this ending.
   abbrev pub FeedsFrom : Incoming R → Incoming R → Feeding D W → Feeding D W → Ending → Type 0
   FeedsFrom first now old new end = Feeds g first.calls now.calls old.fed.source old.store.detector.sets (live g old.store) (live g new.store) end
 
+module _ {D W R V : Type 0} (g : disk.Ghosts D) where
   -- What was written since is a front of what is due for the input.
   abbrev pub LeftFront : Incoming R → Incoming R → Feeding D W → Outgoing V → Outgoing V → Type 0
   LeftFront first now old before after =
@@ -110,6 +111,7 @@ module _ {D W R V : Type 0} (g : disk.Ghosts D) where
   FrontWhere first now old before after result =
       IsTrue g.is_honest → OnErr result (WroteFrontFrom old.fed.source old.store.detector.sets (live g old.store) first.calls now.calls before.calls after.calls)
 
+module _ {D R V : Type 0} (g : disk.Ghosts D) where
   -- A front of what is due from the devices was written, or nothing.
   abbrev pub WroteFront : ℕ → Devices D → Incoming R → Incoming R → Outgoing V → Outgoing V → Type 0
   WroteFront source devices first now before after = WroteFeedFront g source devices first.calls now.calls before.calls after.calls
