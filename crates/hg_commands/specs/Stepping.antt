@@ -1,7 +1,6 @@
 -- What was done to a store that is fed, with the input that was read and the output that was written.
 use Rattle.std.specs.Prelude.{◌≡◌, ℕ, ◌+◌, ◌%◌, nat_eq, Bool, List, [], Option, None, Some, Result, Ok, IfErr, IfOk, OnErr, IsTrue, if◌then◌else◌}
 use Rattle.hg_model.specs.declared.verdict.Refusal.{Refusal}
-use Rattle.hg_streams.specs.declared.call.WriteCall.{WriteCall}
 use Rattle.hg_streams.specs.Shown.{Incoming, Outgoing}
 use Rattle.hg_disk.specs.declared.disk.Disk as disk
 use Rattle.hg_store.specs.declared.devices.Devices.{Devices}
