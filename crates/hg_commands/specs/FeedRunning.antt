@@ -25,7 +25,7 @@ use Rattle.hg_store.specs.Shown.{Shown, live, saved}
 use Rattle.hg_store.specs.Steps.{ContentOffered, OfferDone}
 use Rattle.hg_store.specs.Store.{Backs}
 use Rattle.hg_wire.specs.declared.reader.Reading.{Reading}
-use Rattle.hg_wire.specs.Streams.{Pending, ended_from, ended_readings, readings, readings_from}
+use Rattle.hg_wire.specs.Streams.{ended_readings, readings}
 use Rattle.hg_check.specs.declared.checker.Ending.{Ending}
 use Rattle.hg_check.specs.declared.checker.Ending.TheVariants.{Ended, Refused, Bad}
 use Rattle.hg_check.specs.Printing.{MayBe, Took}
@@ -133,20 +133,6 @@ module _ {D : Type 0} (g : disk.Ghosts D) where
     pub goes : GoesOn old new
     pub leads : IsTrue g.is_honest → (later : List Reading) → LeadsOn old (reading ∷ later) (content_at g new) end
 
-  -- From a piece before the reader, feeding has come this far with the rest of it before the reader.
-  pub record FeedReaches (before : Pending) (old : Place D) (piece : List ℕ) (now : Pending) (new : Place D) (rest : List ℕ) : Type 0 where
-    pub goes : GoesOn old new
-    pub leads : IsTrue g.is_honest → (more : List ℕ) (last : Content) (end : Ending) → LeadsOn new (readings_from now (rest ++ more)) last end → LeadsOn old (readings_from before (piece ++ more)) last end
-    pub back : IsTrue g.is_honest → (more : List ℕ) (last : Content) (end : Ending) → HasRoom end → LeadsOn old (readings_from before (piece ++ more)) last end → LeadsOn new (readings_from now (rest ++ more)) last end
-    pub ended : IsTrue g.is_honest → (more : List ℕ) (last : Content) (end : Ending) → LeadsOn new (ended_from now (rest ++ more)) last end → LeadsOn old (ended_from before (piece ++ more)) last end
-    pub lines : now.lines + length rest ≤ before.lines + length piece
-    pub number : new.fed.number + length rest ≤ old.fed.number + length piece
-
-  -- Whatever follows the piece, feeding ends here.
-  pub record FeedEndsIn (before : Pending) (old : Place D) (piece : List ℕ) (new : Place D) (end : Ending) : Type 0 where
-    pub goes : GoesOn old new
-    pub leads : IsTrue g.is_honest → (more : List ℕ) → LeadsOn old (readings_from before (piece ++ more)) (content_at g new) end
-
   -- Each of these reads was needed: before the last of them none had met the end of the input, and each line that had come whole was passed: its event was accepted, or was sent before.
   pub record EachIsNeeded (source : ℕ) (table : Table) (start : Content) (reads : List ReadCall) : Type 0 where
     pub last : ReadCall
@@ -163,17 +149,6 @@ module _ {D : Type 0} (g : disk.Ghosts D) where
     pub needed : EachIsNeeded source table start later
     pub leads : IsTrue g.is_honest → FeedEndsBy source table start later last end
 
-  -- From the first reads to those of now none failed and none met the end, each line that a line feed ended was passed, and whatever follows what they gave, what that leads to from here is what all of it leads to.
-  pub record HasFed (first now : List ReadCall) (source : ℕ) (table : Table) (start : Content) (p : Pending) (here : Place D) : Type 0 where
-    pub later : List ReadCall
-    pub since : now ≡ later ++ first
-    pub intact : failed_reads later ≡ 0
-    pub underway : ends_met later ≡ 0
-    pub none_left : ended_from p [] ≡ []
-    pub back : IsTrue g.is_honest → (more : List ℕ) (last : Content) (end : Ending) → HasRoom end → FeedsTo source (readings (given later ++ more)) table start 0 last end → LeadsOn here (readings_from p more) last end
-    pub ended : IsTrue g.is_honest → (more : List ℕ) (last : Content) (end : Ending) → LeadsOn here (ended_from p more) last end → FeedsTo source (ended_readings (given later ++ more)) table start 0 last end
-    pub leads : IsTrue g.is_honest → (more : List ℕ) (last : Content) (end : Ending) → LeadsOn here (readings_from p more) last end → FeedsTo source (readings (given later ++ more)) table start 0 last end
-
   -- What was written since the output was as it was at first is a front of what is due for this content: a front, and the lines of commits up to it.
   abbrev pub FrontFor : Place D → List WriteCall → Content → Type 0
   FrontFor old now last = (first : List WriteCall) (front : List ℕ) (events : ℕ) → IsPrinted first front events old → TookFront first now (front ++ acks_text events (last.events - events))
@@ -182,24 +157,11 @@ module _ {D : Type 0} (g : disk.Ghosts D) where
   abbrev pub BreaksAt : Place D → Reading → List WriteCall → Type 0
   BreaksAt old reading now = IsTrue g.is_honest → (later : List Reading) (last : Content) (end : Ending) → HasRoom end → LeadsOn old (reading ∷ later) last end → FrontFor old now last
 
-  -- the same in a piece
-  abbrev pub BreaksIn : Pending → Place D → List ℕ → List WriteCall → Type 0
-  BreaksIn before old piece now = IsTrue g.is_honest → (more : List ℕ) (last : Content) (end : Ending) → HasRoom end → LeadsOn old (readings_from before (piece ++ more)) last end → FrontFor old now last
-
-  -- the same at the end of the input
-  abbrev pub BreaksLast : Pending → Place D → List WriteCall → Type 0
-  BreaksLast before old now = IsTrue g.is_honest → (last : Content) (end : Ending) → HasRoom end → LeadsOn old (readings_from before []) last end → FrontFor old now last
-
   -- Whatever the whole input may be by the reads that were made, what was written is a front of what is due for it.
   pub record HasFront (first reads : List ReadCall) (source : ℕ) (table : Table) (start : Content) (old : Place D) (now : List WriteCall) : Type 0 where
     pub later : List ReadCall
     pub since : reads ≡ later ++ first
     pub front : IsTrue g.is_honest → (input : List ℕ) (last : Content) (end : Ending) → HasRoom end → MayBe later input → FeedsTo source (readings input) table start 0 last end → FrontFor old now last
-
-  -- Feeding was broken off by a read or behind it.
-  abbrev pub FeedBreaks : List ReadCall → List ReadCall → Pending → Place D → List WriteCall → Type 0
-  FeedBreaks reads later before old now =
-      (first : List ReadCall) (source : ℕ) (table : Table) (start : Content) → HasFed first reads source table start before old → HasFront first later source table start old now
 
   -- What was written is a front of what is due from the content and the table of the devices; or nothing was written.
   abbrev pub WroteFeedFront : ℕ → Devices D → List ReadCall → List ReadCall → List WriteCall → List WriteCall → Type 0
@@ -212,24 +174,6 @@ module _ {D : Type 0} (g : disk.Ghosts D) where
   abbrev pub EndsByFeedFault : ℕ → Devices D → Devices D → List ReadCall → List ReadCall → List WriteCall → List WriteCall → List WriteCall → List WriteCall → Type 0
   EndsByFeedFault source old new reads_old reads_new calls_old calls_new faults_old faults_new =
       (r : Refusal) × (HasFeedCause g old new reads_old reads_new calls_old calls_new r × (IsTold faults_old faults_new r × WroteFeedFront source old reads_old reads_new calls_old calls_new))
-
-  -- A read of at most so many bytes brought feeding from here to there.
-  pub record FeedAdvances (reads later : List ReadCall) (before : Pending) (old : Place D) (now : Pending) (new : Place D) (room : ℕ) : Type 0 where
-    pub goes : GoesOn old new
-    pub leads : (first : List ReadCall) (source : ℕ) (table : Table) (start : Content) → HasFed first reads source table start before old → HasFed first later source table start now new
-    pub lines : now.lines ≤ before.lines + room
-    pub number : new.fed.number ≤ old.fed.number + room
-
-  -- A read met the end of the input, and left feeding as it was.
-  pub record FeedMeetsEnd (reads later : List ReadCall) (before : Pending) (old : Place D) (now : Pending) (new : Place D) : Type 0 where
-    pub met : later ≡ Gave [] ∷ reads
-    pub pending : now ≡ before
-    pub place : new ≡ old
-
-  -- A read came upon the line that ends feeding.
-  pub record FeedStops (reads later : List ReadCall) (before : Pending) (old new : Place D) (end : Ending) : Type 0 where
-    pub goes : GoesOn old new
-    pub leads : (first : List ReadCall) (source : ℕ) (table : Table) (start : Content) → HasFed first reads source table start before old → Feeds first later source table start (content_at g new) end
 
   -- A commit was answered Ok.
   pub record WasCommitted (old new : Shown D) : Type 0 where

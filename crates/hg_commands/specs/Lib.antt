@@ -8,3 +8,4 @@ pub mod Printed
 pub mod Instants
 pub mod Taking
 pub mod TakingLaws
+pub mod Stepping

@@ -1,23 +1,17 @@
 //! Feeding the events of a trace text to a store.
 
-ghost use Rattle.std.specs.Prelude.{◌≡◌, ℕ, ◌+◌, ◌<◌, ◌≤◌, ◌^◌, ◌++◌, false, Option, [], Ok, Some, None, length, IfOk, IfErr, IsTrue, OnErr, OnOk};
-ghost use Rattle.hg_streams.specs.Calls.{failed_reads, failed_writes};
+ghost use Rattle.std.specs.Prelude.{◌≡◌, ◌+◌, ◌<◌, ◌≤◌, ◌++◌, false, Option, [], Ok, IfOk, IfErr, OnErr, OnOk};
+ghost use Rattle.hg_streams.specs.Calls.{failed_writes};
 ghost use Rattle.hg_streams.specs.Told.{told};
 ghost use Rattle.hg_check.specs.Printing.{Took};
-ghost use Rattle.hg_check.specs.declared.checker.Ending.{Ending as EndingOf};
-ghost use Rattle.hg_check.specs.Printing.{status_of};
-ghost use Rattle.hg_store.specs.Shown.{live};
 ghost use Rattle.hg_store.specs.Store.{IsIdle};
-ghost use Rattle.hg_commands.specs.Feeding.{checkpoint_text, feed_end_text};
-ghost use Rattle.hg_commands.specs.FeedRunning.{EndsByFeedFault, FeedDone, Feeds, GoesOn, HasFront, IsReady, WasCheckpointed, WasFed, WroteFeedFront, WroteFrontFrom, is_due, place};
+ghost use Rattle.hg_commands.specs.FeedRunning.{EndsByFeedFault, IsReady, is_due, place};
 ghost use Rattle.hg_check.specs.Streaming.{IsStreamFault};
-ghost use Rattle.hg_commands.specs.Instants.{instant};
-ghost use Rattle.hg_commands.specs.Keeping.{EachAckIsKept, KeepsOn};
 ghost use Rattle.hg_commands.specs.Printed.{IsPrintedNow};
-ghost use Rattle.hg_commands.specs.Storing.{FeedFails, HasFeedCause, IsFeedFault, failed_calls};
+ghost use Rattle.hg_commands.specs.Stepping.{AcksAreKept, Checkpointed, Done, Failed, FailedFor, Fails, FedOrFault, FedWhere, FeedsFrom, FrontWhere, LeftFront, MayHaveTold, StaysKept, Went, WroteFront, end_of};
+ghost use Rattle.hg_commands.specs.Storing.{IsFeedFault};
 
-use crate::checkpointing::make_checkpoint;
-use crate::lines::{Fed, acknowledge, feed_reading};
+use crate::lines::{Fed, Feeding};
 use crate::listing::hold_end_line;
 use crate::moment::{Moment, Outcome};
 use crate::opening::open_store;
@@ -41,15 +35,6 @@ use hg_wire::reader::Reading;
 use std::alloc::Global;
 use std::io::{Read, Write};
 
-/// A store that is fed.
-pub(crate) struct Feeding<D: Disk, W> {
-    pub store: Store<D>,
-    /// How far its source has come.
-    pub fed: Fed,
-    /// The moments so far, for contracts alone.
-    pub moments: Trail<Moment<D, W>>,
-}
-
 impl<D: Disk, W: Write> Sink<W> for Feeding<D, W> {
     ghost use Rattle.hg_commands.specs.Taking.{MayTake, Takes};
     ghost use Rattle.hg_commands.specs.TakingLaws.{takes_fewer, takes_none, takes_on, takes_room};
@@ -65,13 +50,7 @@ impl<D: Disk, W: Write> Sink<W> for Feeding<D, W> {
         reading: &Reading,
         output: &mut Output<W>,
     ) -> Result<Option<Ending>, Refusal> {
-        feed_reading(
-            &mut self.store,
-            &mut self.fed,
-            reading,
-            output,
-            &mut self.moments,
-        )
+        self.feed_reading(reading, output)
     }
 
     fn offer_access(
@@ -84,13 +63,7 @@ impl<D: Disk, W: Write> Sink<W> for Feeding<D, W> {
             line,
             event: Ok(access_event(found)),
         };
-        feed_reading(
-            &mut self.store,
-            &mut self.fed,
-            &reading,
-            output,
-            &mut self.moments,
-        )
+        self.feed_reading(&reading, output)
     }
 
     /// Nothing is held: what is due was printed at each line.
@@ -107,29 +80,10 @@ impl<D: Disk, W: Write> Sink<W> for Feeding<D, W> {
     ghost fewer = { λ s n more. takes_fewer (place s.store s.fed []) n more };
 }
 
-/// Reads a trace text to its end, or up to the line that ends the feeding, and offers its events.
-fn feed_all<D: Disk, R: Read, W: Write>(
-    alloc: Global,
-    feeding: &mut Feeding<D, W>,
-    input: &mut Input<R>,
-    output: &mut Output<W>,
-) -> Result<Ending, Refusal>
-    requires ready { IsReady feeding.old.store feeding.old.fed }
-    requires start { feeding.old.fed.number ≡ 0 }
-    ensures goes { OnOk result (GoesOn ⟦<D as Disk>⟧ (place feeding.old.store feeding.old.fed output.old.calls) (place feeding.new.store feeding.new.fed output.new.calls)) }
-    ensures feeds { IfOk result (λ end. Feeds ⟦<D as Disk>⟧ input.old.calls input.new.calls feeding.old.fed.source feeding.old.store.detector.sets (live ⟦<D as Disk>⟧ feeding.old.store) (live ⟦<D as Disk>⟧ feeding.new.store) end) }
-    ensures front { OnErr result (HasFront ⟦<D as Disk>⟧ input.old.calls input.new.calls feeding.old.fed.source feeding.old.store.detector.sets (live ⟦<D as Disk>⟧ feeding.old.store) (place feeding.old.store feeding.old.fed output.old.calls) output.new.calls) }
-    ensures cause { IfErr result (λ r. FeedFails ⟦<D as Disk>⟧ feeding.old.store.devices feeding.new.store.devices input.old.calls input.new.calls output.old.calls output.new.calls r) }
-    ensures kept { KeepsOn ⟦<D as Disk>⟧ feeding.old.store output.old.calls feeding.old.moments feeding.new.store output.new.calls feeding.new.moments }
-{
-    let stop = read(alloc, input, feeding, output)?;
-    Ok(ended(stop))
-}
-
 /// Holds the last line: the end line, or the line that was refused or bad.
 fn hold_last_line<D: Disk>(store: &Store<D>, end: Ending, held: &mut Vec<u8>) -> Result<(), Refusal>
     requires works { store.now.is_broken ≡ false }
-    ensures ok { OnOk result (held.new.items ≡ held.old.items ++ feed_end_text (live ⟦<D as Disk>⟧ store.now) end) }
+    ensures ok { OnOk result (held.new.items ≡ held.old.items ++ end_of ⟦<D as Disk>⟧ store.now end) }
     ensures cause { IfErr result (λ r. r ≡ Refusal.OutOfMemory) }
 {
     match end {
@@ -147,10 +101,10 @@ fn print_end<D: Disk, W: Write>(
     output: &mut Output<W>,
 ) -> Result<(), Refusal>
     requires works { store.now.is_broken ≡ false }
-    ensures printed { OnOk result (Took output.old.calls output.new.calls (feed_end_text (live ⟦<D as Disk>⟧ store.now) end)) }
+    ensures printed { OnOk result (Took output.old.calls output.new.calls (end_of ⟦<D as Disk>⟧ store.now end)) }
     ensures cause { IfErr result IsStreamFault }
     ensures fault { failed_writes output.new.calls ≡ told result + failed_writes output.old.calls }
-    ensures calls { IsPrintedNow output.old.calls output.new.calls (feed_end_text (live ⟦<D as Disk>⟧ store.now) end) }
+    ensures calls { IsPrintedNow output.old.calls output.new.calls (end_of ⟦<D as Disk>⟧ store.now end) }
 {
     let mut held = Vec::new(alloc);
     hold_last_line(store, end, &mut held)?;
@@ -169,59 +123,73 @@ fn checkpoint_is_due(asked: bool, end: Ending) -> bool
     }
 }
 
-/// Makes the checkpoint that is due, and tells its number.
-fn checkpoint_if_due<D: Disk, W: Write>(
-    alloc: Global,
-    store: &mut Store<D>,
-    is_made: bool,
-    output: &mut Output<W>,
-    moments: &mut Trail<Moment<D, W>>,
-) -> Result<(), Refusal>
-    requires works { store.old.is_broken ≡ false }
-    ensures made { OnOk result (WasCheckpointed ⟦<D as Disk>⟧ is_made store.old store.new output.old.calls output.new.calls) }
-    ensures front { OnErr result ((checkpoint : Option ℕ) × IsPrintedNow output.old.calls output.new.calls (checkpoint_text checkpoint)) }
-    ensures cause { IfErr result IsFeedFault }
-    ensures fault { failed_calls ⟦<D as Disk>⟧ store.new.devices output.new.calls ≡ told result + failed_calls ⟦<D as Disk>⟧ store.old.devices output.old.calls }
-    ensures kept { KeepsOn ⟦<D as Disk>⟧ store.old output.old.calls moments.old store.new output.new.calls moments.new }
-{
-    if !is_made {
-        return Ok(());
+impl<D: Disk, W: Write> Feeding<D, W> {
+    /// Reads a trace text to its end, or up to the line that ends the feeding, and offers its events.
+    fn feed_all<R: Read>(
+        &mut self,
+        alloc: Global,
+        input: &mut Input<R>,
+        output: &mut Output<W>,
+    ) -> Result<Ending, Refusal>
+        requires ready { IsReady self.old.store self.old.fed }
+        requires start { self.old.fed.number ≡ 0 }
+        ensures goes { OnOk result (Went ⟦<D as Disk>⟧ self.old output.old self.new output.new) }
+        ensures feeds { IfOk result (FeedsFrom ⟦<D as Disk>⟧ input.old input.new self.old self.new) }
+        ensures front { OnErr result (LeftFront ⟦<D as Disk>⟧ input.old input.new self.old output.old output.new) }
+        ensures cause { Fails ⟦<D as Disk>⟧ input.old input.new self.old output.old self.new output.new result }
+        ensures kept { StaysKept ⟦<D as Disk>⟧ self.old output.old self.new output.new }
+    {
+        let stop = read(alloc, input, self, output)?;
+        Ok(ended(stop))
     }
-    let number = make_checkpoint(alloc, store, &*output, moments)?;
-    print_number(b"checkpoint ", number, output)
-}
 
-/// Feeds a trace text to a store, with all that is printed of it.
-fn feed_store<D: Disk, R: Read, W: Write>(
-    alloc: Global,
-    feeding: &mut Feeding<D, W>,
-    checkpoint: bool,
-    input: &mut Input<R>,
-    output: &mut Output<W>,
-) -> Result<Ending, Refusal>
-    requires idle { IsIdle feeding.old.store }
-    requires number { feeding.old.fed.number ≡ 0 }
-    requires accepted { feeding.old.fed.accepted ≡ 0 }
-    ensures fed { IfOk result (λ end. WasFed ⟦<D as Disk>⟧ input.old.calls input.new.calls feeding.old.fed.source checkpoint feeding.old.store feeding.new.store output.old.calls output.new.calls end) }
-    ensures front { IsTrue D.is_honest → OnErr result (WroteFrontFrom feeding.old.fed.source feeding.old.store.detector.sets (live ⟦<D as Disk>⟧ feeding.old.store) input.old.calls input.new.calls output.old.calls output.new.calls) }
-    ensures cause { IfErr result (λ r. FeedFails ⟦<D as Disk>⟧ feeding.old.store.devices feeding.new.store.devices input.old.calls input.new.calls output.old.calls output.new.calls r) }
-    ensures kept { KeepsOn ⟦<D as Disk>⟧ feeding.old.store output.old.calls feeding.old.moments feeding.new.store output.new.calls feeding.new.moments }
-{
-    let last = feeding.store.last(feeding.fed.source)?;
-    print_number(b"resume ", last, output)?;
-    let end = feed_all(alloc, feeding, input, output)?;
-    acknowledge(&mut feeding.store, output, &mut feeding.moments)?;
-    let is_made = checkpoint_is_due(checkpoint, end);
-    checkpoint_if_due(
-        alloc,
-        &mut feeding.store,
-        is_made,
-        output,
-        &mut feeding.moments,
-    )?;
-    print_end(alloc, &feeding.store, end, output)?;
-    feeding.store.stands();
-    Ok(end)
+    /// Makes the checkpoint that is due, and tells its number.
+    fn checkpoint_if_due(
+        &mut self,
+        alloc: Global,
+        is_made: bool,
+        output: &mut Output<W>,
+    ) -> Result<(), Refusal>
+        requires works { self.old.store.is_broken ≡ false }
+        ensures made { OnOk result (Checkpointed ⟦<D as Disk>⟧ is_made self.old output.old self.new output.new) }
+        ensures front { OnErr result (MayHaveTold output.old output.new) }
+        ensures cause { IfErr result IsFeedFault }
+        ensures fault { Failed ⟦<D as Disk>⟧ (told result) self.old output.old self.new output.new }
+        ensures kept { StaysKept ⟦<D as Disk>⟧ self.old output.old self.new output.new }
+    {
+        if !is_made {
+            return Ok(());
+        }
+        let number = self.make_checkpoint(alloc, &*output)?;
+        print_number(b"checkpoint ", number, output)
+    }
+
+    /// Feeds a trace text to the store, with all that is printed of it.
+    fn feed_store<R: Read>(
+        &mut self,
+        alloc: Global,
+        asked: bool,
+        input: &mut Input<R>,
+        output: &mut Output<W>,
+    ) -> Result<Ending, Refusal>
+        requires idle { IsIdle self.old.store }
+        requires number { self.old.fed.number ≡ 0 }
+        requires accepted { self.old.fed.accepted ≡ 0 }
+        ensures fed { Done ⟦<D as Disk>⟧ asked input.old input.new self.old output.old self.new output.new result }
+        ensures front { FrontWhere ⟦<D as Disk>⟧ input.old input.new self.old output.old output.new result }
+        ensures cause { Fails ⟦<D as Disk>⟧ input.old input.new self.old output.old self.new output.new result }
+        ensures kept { StaysKept ⟦<D as Disk>⟧ self.old output.old self.new output.new }
+    {
+        let last = self.store.last(self.fed.source)?;
+        print_number(b"resume ", last, output)?;
+        let end = self.feed_all(alloc, input, output)?;
+        self.acknowledge(output)?;
+        let is_made = checkpoint_is_due(asked, end);
+        self.checkpoint_if_due(alloc, is_made, output)?;
+        print_end(alloc, &self.store, end, output)?;
+        self.store.stands();
+        Ok(end)
+    }
 }
 
 /// Recovers a store, feeds a trace text to it, and hands its devices back, with the moments since it is open.
@@ -235,10 +203,10 @@ fn recover_and_feed<D: Disk, R: Read, W: Write>(
     output: &mut Output<W>,
 ) -> (Result<Ending, Refusal>, Devices<D>, Trail<Moment<D, W>>)
     requires frames { (4 ≤ frames) × (frames ≤ 4096) }
-    ensures fed { IfOk result.0 (λ end. FeedDone ⟦<D as Disk>⟧ input.old.calls input.new.calls source checkpoint devices result.1 output.old.calls output.new.calls end) }
-    ensures front { OnErr result.0 (WroteFeedFront ⟦<D as Disk>⟧ source devices input.old.calls input.new.calls output.old.calls output.new.calls) }
-    ensures cause { IfErr result.0 (λ r. HasFeedCause ⟦<D as Disk>⟧ devices result.1 input.old.calls input.new.calls output.old.calls output.new.calls r) }
-    ensures kept { IsTrue D.is_honest → EachAckIsKept ⟦<D as Disk>⟧ (instant devices output.old.calls) result.2 (instant result.1 output.new.calls) }
+    ensures fed { FedWhere ⟦<D as Disk>⟧ source checkpoint devices input.old input.new output.old output.new result }
+    ensures front { OnErr result.0 (WroteFront ⟦<D as Disk>⟧ source devices input.old input.new output.old output.new) }
+    ensures cause { FailedFor ⟦<D as Disk>⟧ devices input.old input.new output.old output.new result }
+    ensures kept { AcksAreKept ⟦<D as Disk>⟧ devices output.old result.2 result.1 output.new }
 {
     match open_store(alloc, devices, frames) {
         Ok(store) => {
@@ -254,7 +222,7 @@ fn recover_and_feed<D: Disk, R: Read, W: Write>(
                 fed,
                 moments,
             };
-            let end = feed_store(alloc, &mut feeding, checkpoint, input, output);
+            let end = feeding.feed_store(alloc, checkpoint, input, output);
             let Feeding {
                 store,
                 fed: _,
@@ -289,10 +257,10 @@ pub fn feed<D: Disk, R: Read, W: Write, V: Write>(
     faults: &mut Output<V>,
 ) -> Outcome<D, W>
     requires { (4 ≤ frames) × (frames ≤ 4096) }
-    ensures fed { (result.status ≡ 3 → ⊥) → (end : EndingOf) × (result.status ≡ status_of end) × FeedDone ⟦<D as Disk>⟧ input.old.calls input.new.calls source checkpoint devices result.devices output.old.calls output.new.calls end }
+    ensures fed { FedOrFault ⟦<D as Disk>⟧ source checkpoint devices input.old input.new output.old output.new result }
     ensures quiet { (result.status ≡ 3 → ⊥) → Took faults.old.calls faults.new.calls [] }
     ensures fault { result.status ≡ 3 → EndsByFeedFault ⟦<D as Disk>⟧ source devices result.devices input.old.calls input.new.calls output.old.calls output.new.calls faults.old.calls faults.new.calls }
-    ensures kept { IsTrue D.is_honest → EachAckIsKept ⟦<D as Disk>⟧ (instant devices output.old.calls) result.moments (instant result.devices output.new.calls) }
+    ensures kept { AcksAreKept ⟦<D as Disk>⟧ devices output.old result.moments result.devices output.new }
 {
     let (done, devices, moments) = recover_and_feed(
         alloc, devices, source, frames, checkpoint, input, output,

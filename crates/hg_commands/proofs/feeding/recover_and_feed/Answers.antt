@@ -19,19 +19,19 @@ returns-in-Ok-clause-fed g c =
     let before = c.args.output.now.calls in
     let after = c.feed_store-end.new.output.calls in
     IfOk-weaker c.feed_store-end.result
-    (λ (end : Ending). WasFed g.D.Disk reads later c.args.source c.args.checkpoint c.in-Ok.store c.feed_store-end.new.feeding.store before after end)
+    (λ (end : Ending). WasFed g.D.Disk reads later c.args.source c.args.checkpoint c.in-Ok.store c.feed_store-end.new.self.store before after end)
     (λ (end : Ending). FeedDone g.D.Disk reads later c.args.source c.args.checkpoint c.args.devices c.into_devices.result before after end)
-    (λ end was. feed_done g.D.Disk reads later c.args.source c.args.checkpoint c.args.devices c.into_devices.result c.in-Ok.store c.feed_store-end.new.feeding.store
+    (λ end was. feed_done g.D.Disk reads later c.args.source c.args.checkpoint c.args.devices c.into_devices.result c.in-Ok.store c.feed_store-end.new.self.store
     before after end c.in-Ok.ensures.content c.in-Ok.ensures.sets c.in-Ok.ensures.device was c.into_devices.ensures)
     c.feed_store-end.ensures.fed
 
 pub returns-in-Ok-clause-kept : goal.returns-in-Ok-clause-kept
 returns-in-Ok-clause-kept g c honest =
     let s = c.in-Ok.store in
-    let u = c.feed_store-end.new.feeding.store in
+    let u = c.feed_store-end.new.self.store in
     let before = c.args.output.now.calls in
     let after = c.feed_store-end.new.output.calls in
-    fed_is_kept g.D.Disk c.args.devices c.into_devices.result s u before after c.new-moments.result c.push.new.self c.feed_store-end.new.feeding.moments c.of.result
+    fed_is_kept g.D.Disk c.args.devices c.into_devices.result s u before after c.new-moments.result c.push.new.self c.feed_store-end.new.self.moments c.of.result
     (c.in-Ok.ensures.images honest) (c.in-Ok.ensures.content honest) honest c.feed_store-end.ensures.kept c.push.ensures c.of.ensures c.new-moments.ensures c.into_devices.ensures
 
 pub returns-in-Err-clause-kept : goal.returns-in-Err-clause-kept
@@ -55,7 +55,7 @@ returns-in-Ok-clause-cause g c =
     let before = c.args.output.now.calls in
     let after = c.feed_store-end.new.output.calls in
     IfErr-weaker c.feed_store-end.result
-    (λ r. FeedFails g.D.Disk c.in-Ok.store.devices c.feed_store-end.new.feeding.store.devices reads later before after r)
+    (λ r. FeedFails g.D.Disk c.in-Ok.store.devices c.feed_store-end.new.self.store.devices reads later before after r)
     (λ r. HasFeedCause g.D.Disk c.args.devices c.into_devices.result reads later before after r)
     (λ r fails. inr (c.in-Ok.store.devices, (c.in-Ok.ensures.device, subst (λ (d : Devices g.row.D.Denot). FeedFails g.D.Disk c.in-Ok.store.devices d reads later before after r) (sym c.into_devices.ensures) fails)))
     c.feed_store-end.ensures.cause

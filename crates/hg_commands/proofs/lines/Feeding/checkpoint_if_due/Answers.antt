@@ -6,12 +6,12 @@ use Rattle.hg_commands.specs.Printed.{IsPrintedNow}
 use Rattle.hg_commands.specs.Storing.{number_text}
 use Rattle.hg_commands.proofs.Checkpointed.{checkpointed}
 use Rattle.hg_commands.proofs.Kept.{keeps_printed, keeps_then}
-use Rattle.hg_commands.proofs.feeding.checkpoint_if_due.Goals as goal
+use Rattle.hg_commands.proofs.lines.Feeding.checkpoint_if_due.Goals as goal
 
 pub returns-clause-made : goal.returns-clause-made
 returns-clause-made g c =
     on_ok_weaker c.print_number.result
-    (λ printed. checkpointed g.D.Disk c.args.is_made c.if-not-is_made.false c.args.store.now c.make_checkpoint.new.store c.in_ok-number.number c.args.output.now.calls c.print_number.new.output.calls
+    (λ printed. checkpointed g.D.Disk c.args.is_made c.if-not-is_made.false c.args.self.now.store c.make_checkpoint.new.self.store c.in_ok-number.number c.args.output.now.calls c.print_number.new.output.calls
     c.in_ok-number.ensures.stays c.in_ok-number.ensures.made c.in_ok-number.ensures.works printed)
     c.print_number.ensures.printed
 
@@ -22,11 +22,11 @@ returns-clause-front g c =
 
 pub returns-clause-kept : goal.returns-clause-kept
 returns-clause-kept g c =
-    let s = c.args.store.now in
-    let m = c.make_checkpoint.new.store in
+    let s = c.args.self.now.store in
+    let m = c.make_checkpoint.new.self.store in
     let calls = c.args.output.now.calls in
     let number = c.in_ok-number.number in
-    keeps_then g.D.Disk s m m calls calls c.print_number.new.output.calls c.args.moments.now c.make_checkpoint.new.moments c.make_checkpoint.new.moments
+    keeps_then g.D.Disk s m m calls calls c.print_number.new.output.calls c.args.self.now.moments c.make_checkpoint.new.self.moments c.make_checkpoint.new.self.moments
     c.make_checkpoint.ensures.kept
-    (keeps_printed g.D.Disk m calls c.print_number.new.output.calls c.make_checkpoint.new.moments (number_text (codes "checkpoint ") number) c.print_number.ensures.calls
+    (keeps_printed g.D.Disk m calls c.print_number.new.output.calls c.make_checkpoint.new.self.moments (number_text (codes "checkpoint ") number) c.print_number.ensures.calls
     (λ honest backs. inr (inr (inr (inl (number, refl))))))

@@ -4,16 +4,16 @@ use Rattle.hg_pool.specs.Maps as pools
 use Rattle.hg_pool.specs.Shown as pool
 use Rattle.hg_commands.proofs.Checkpointed.{failed_is}
 use Rattle.hg_commands.proofs.Kept.{keeps_checkpoint}
-use Rattle.hg_commands.proofs.checkpointing.write.Goals as goal
+use Rattle.hg_commands.proofs.lines.Feeding.write.Goals as goal
 
 pub returns-in-Ok-clause-kept : goal.returns-in-Ok-clause-kept
 returns-in-Ok-clause-kept g c =
-    keeps_checkpoint g.D.Disk c.args.store.now c.write_root-done.new.self c.args.output.now.calls c.args.moments.now c.push.new.self c.of.result c.args.store.now.in_doubt (λ honest. ap (λ (d : detect.Shown (pool.Shown g.row.D.Denot)). detect.content (pools.live g.D.Disk) d) c.write_root-done.ensures.slots.detector) c.write_root-done.ensures.done.committed
+    keeps_checkpoint g.D.Disk c.args.self.now.store c.write_root-done.new.self c.args.output.now.calls c.args.self.now.moments c.push.new.self c.of.result c.args.self.now.store.in_doubt (λ honest. ap (λ (d : detect.Shown (pool.Shown g.row.D.Denot)). detect.content (pools.live g.D.Disk) d) c.write_root-done.ensures.slots.detector) c.write_root-done.ensures.done.committed
     c.write_root-done.ensures.images c.stands.ensures.backs c.push.ensures c.of.ensures
 
 pub returns-in-Err-clause-kept : goal.returns-in-Err-clause-kept
 returns-in-Err-clause-kept g c =
-    keeps_checkpoint g.D.Disk c.args.store.now c.write_root-done.new.self c.args.output.now.calls c.args.moments.now c.push.new.self c.of.result c.args.store.now.in_doubt (λ honest. ap (λ (d : detect.Shown (pool.Shown g.row.D.Denot)). detect.content (pools.live g.D.Disk) d) c.write_root-done.ensures.slots.detector) c.write_root-done.ensures.done.committed
+    keeps_checkpoint g.D.Disk c.args.self.now.store c.write_root-done.new.self c.args.output.now.calls c.args.self.now.moments c.push.new.self c.of.result c.args.self.now.store.in_doubt (λ honest. ap (λ (d : detect.Shown (pool.Shown g.row.D.Denot)). detect.content (pools.live g.D.Disk) d) c.write_root-done.ensures.slots.detector) c.write_root-done.ensures.done.committed
     c.write_root-done.ensures.images c.stands.ensures.backs c.push.ensures c.of.ensures
 
 pub returns-in-Err-clause-stays : goal.returns-in-Err-clause-stays

@@ -1,16 +1,16 @@
 use Rattle.std.proofs.Common.{arith}
 use Rattle.hg_commands.proofs.Checkpointed.{failed_is}
 use Rattle.hg_commands.proofs.Kept.{keeps_checkpoint}
-use Rattle.hg_commands.proofs.checkpointing.put.Goals as goal
+use Rattle.hg_commands.proofs.lines.Feeding.put.Goals as goal
 
 pub returns-in-Ok-clause-kept : goal.returns-in-Ok-clause-kept
 returns-in-Ok-clause-kept g c =
-    keeps_checkpoint g.D.Disk c.args.store.now c.put-done.new.self c.args.output.now.calls c.args.moments.now c.push.new.self c.of.result c.args.store.now.in_doubt (λ honest. c.put-done.ensures.live honest) c.put-done.ensures.done.committed
+    keeps_checkpoint g.D.Disk c.args.self.now.store c.put-done.new.self c.args.output.now.calls c.args.self.now.moments c.push.new.self c.of.result c.args.self.now.store.in_doubt (λ honest. c.put-done.ensures.live honest) c.put-done.ensures.done.committed
     c.put-done.ensures.images c.stands.ensures.backs c.push.ensures c.of.ensures
 
 pub returns-in-Err-clause-kept : goal.returns-in-Err-clause-kept
 returns-in-Err-clause-kept g c =
-    keeps_checkpoint g.D.Disk c.args.store.now c.put-done.new.self c.args.output.now.calls c.args.moments.now c.push.new.self c.of.result c.args.store.now.in_doubt (λ honest. c.put-done.ensures.live honest) c.put-done.ensures.done.committed
+    keeps_checkpoint g.D.Disk c.args.self.now.store c.put-done.new.self c.args.output.now.calls c.args.self.now.moments c.push.new.self c.of.result c.args.self.now.store.in_doubt (λ honest. c.put-done.ensures.live honest) c.put-done.ensures.done.committed
     c.put-done.ensures.images c.stands.ensures.backs c.push.ensures c.of.ensures
 
 pub returns-in-Err-clause-stays : goal.returns-in-Err-clause-stays

@@ -1,0 +1,56 @@
+use Rattle.std.proofs.Common.{Ok, subst, ap, ◌∙◌}
+use Rattle.hg_detect.specs.declared.detector.Answer.{Answer}
+use Rattle.hg_commands.specs.FeedRunning.{WasSent}
+use Rattle.hg_commands.proofs.FeedSteps.{breaks_accepted, breaks_still, ends_refused, fault_counted, fault_is_told, passes_accepted, passes_duplicate}
+use Rattle.hg_commands.proofs.Kept.{keeps_then}
+use Rattle.hg_check.proofs.Printed.{always_err}
+use Rattle.hg_commands.proofs.lines.Feeding.feed_reading.Goals as goal
+
+pub returns-in_ok-count_accepted-in-Ok-Accepted-clause-passes : goal.returns-in_ok-count_accepted-in-Ok-Accepted-clause-passes
+returns-in_ok-count_accepted-in-Ok-Accepted-clause-passes g c = λ _.
+    passes_accepted g.D.Disk c.args.self.now.store c.send.new.self.store c.count_accepted.new.self.store c.args.self.now.fed c.send.new.self.fed c.count_accepted.new.self.fed c.in-Ok.event
+    c.args.output.now.calls c.count_accepted.new.output.calls c.args.reading.now c.in-Ok.is c.requires.ready
+    (subst (λ r. WasSent g.D.Disk c.args.self.now.store c.send.new.self.store c.args.self.now.fed c.send.new.self.fed c.in-Ok.event r) (c.in-Ok-Accepted.is ∙ ap (λ (a : Answer). Ok a) c.in-Ok-Accepted.field-0-is) c.send.ensures.sent)
+    c.in_ok-count_accepted-in-Ok-Accepted.ensures.counted
+
+pub returns-in-Ok-Duplicate-clause-passes : goal.returns-in-Ok-Duplicate-clause-passes
+returns-in-Ok-Duplicate-clause-passes g c = λ _.
+    passes_duplicate g.D.Disk c.args.self.now.store c.send.new.self.store c.args.self.now.fed c.send.new.self.fed c.in-Ok.event c.in-Ok-Duplicate.field-0-0
+    c.args.output.now.calls c.args.reading.now c.in-Ok.is c.requires.ready
+    (subst (λ r. WasSent g.D.Disk c.args.self.now.store c.send.new.self.store c.args.self.now.fed c.send.new.self.fed c.in-Ok.event r) (c.in-Ok-Duplicate.is ∙ ap (λ (a : Answer). Ok a) c.in-Ok-Duplicate.field-0-is) c.send.ensures.sent)
+
+pub returns-in-Err-clause-ends : goal.returns-in-Err-clause-ends
+returns-in-Err-clause-ends g c end given =
+    ends_refused g.D.Disk c.args.self.now.store c.send.new.self.store c.args.self.now.fed c.send.new.self.fed c.in-Ok.event c.in-Err.refusal
+    c.args.output.now.calls c.args.reading.now c.end_line.result end c.in-Ok.is c.requires.ready
+    (subst (λ r. WasSent g.D.Disk c.args.self.now.store c.send.new.self.store c.args.self.now.fed c.send.new.self.fed c.in-Ok.event r) c.in-Err.is c.send.ensures.sent)
+    c.end_line.ensures given
+
+pub returns-in_err-count_accepted-in-Ok-Accepted-clause-kept : goal.returns-in_err-count_accepted-in-Ok-Accepted-clause-kept
+returns-in_err-count_accepted-in-Ok-Accepted-clause-kept g c =
+    keeps_then g.D.Disk c.args.self.now.store c.send.new.self.store c.count_accepted.new.self.store c.args.output.now.calls c.args.output.now.calls c.count_accepted.new.output.calls c.args.self.now.moments c.send.new.self.moments c.count_accepted.new.self.moments
+    c.send.ensures.kept c.count_accepted.ensures.kept
+
+pub returns-in_ok-count_accepted-in-Ok-Accepted-clause-kept : goal.returns-in_ok-count_accepted-in-Ok-Accepted-clause-kept
+returns-in_ok-count_accepted-in-Ok-Accepted-clause-kept g c =
+    keeps_then g.D.Disk c.args.self.now.store c.send.new.self.store c.count_accepted.new.self.store c.args.output.now.calls c.args.output.now.calls c.count_accepted.new.output.calls c.args.self.now.moments c.send.new.self.moments c.count_accepted.new.self.moments
+    c.send.ensures.kept c.count_accepted.ensures.kept
+
+pub returns-in_err-count_accepted-in-Ok-Accepted-clause-front : goal.returns-in_err-count_accepted-in-Ok-Accepted-clause-front
+returns-in_err-count_accepted-in-Ok-Accepted-clause-front g c =
+    always_err _ (breaks_accepted g.D.Disk c.args.self.now.store c.send.new.self.store c.args.self.now.fed c.send.new.self.fed c.in-Ok.event
+    c.args.output.now.calls c.count_accepted.new.output.calls c.args.reading.now c.in-Ok.is c.requires.ready
+    (subst (λ r. WasSent g.D.Disk c.args.self.now.store c.send.new.self.store c.args.self.now.fed c.send.new.self.fed c.in-Ok.event r) (c.in-Ok-Accepted.is ∙ ap (λ (a : Answer). Ok a) c.in-Ok-Accepted.field-0-is) c.send.ensures.sent)
+    c.count_accepted.ensures.calls)
+
+pub returns-in-Err-clause-front : goal.returns-in-Err-clause-front
+returns-in-Err-clause-front g c = always_err _ (breaks_still g.D.Disk c.args.self.now.store c.args.self.now.fed c.args.output.now.calls c.args.reading.now)
+
+pub returns-in-Err-clause-cause : goal.returns-in-Err-clause-cause
+returns-in-Err-clause-cause g c = fault_is_told c.args.reading.now.line c.in-Err.refusal c.end_line.result c.end_line.ensures
+
+pub returns-in-Err-clause-fault : goal.returns-in-Err-clause-fault
+returns-in-Err-clause-fault g c =
+    fault_counted g.D.Disk c.args.self.now.store c.send.new.self.store c.args.self.now.fed c.send.new.self.fed c.in-Ok.event c.args.output.now.calls c.args.reading.now.line c.in-Err.refusal c.end_line.result
+    (subst (λ r. WasSent g.D.Disk c.args.self.now.store c.send.new.self.store c.args.self.now.fed c.send.new.self.fed c.in-Ok.event r) c.in-Err.is c.send.ensures.sent)
+    c.end_line.ensures

@@ -1,0 +1,136 @@
+-- What was done to a store that is fed, with the input that was read and the output that was written.
+use Rattle.std.specs.Prelude.{◌≡◌, ℕ, ◌+◌, ◌%◌, nat_eq, Bool, List, [], Option, None, Some, Result, Ok, IfErr, IfOk, OnErr, IsTrue, if◌then◌else◌}
+use Rattle.hg_model.specs.declared.verdict.Refusal.{Refusal}
+use Rattle.hg_streams.specs.Shown.{Incoming, Outgoing}
+use Rattle.hg_disk.specs.declared.disk.Disk as disk
+use Rattle.hg_store.specs.declared.devices.Devices.{Devices}
+use Rattle.hg_store.specs.Images.{HasOpened}
+use Rattle.hg_store.specs.Shown.{Shown, captured, live}
+use Rattle.hg_wire.specs.declared.reader.Reading.{Reading}
+use Rattle.hg_check.specs.declared.checker.Ending.{Ending}
+use Rattle.hg_check.specs.Printing.{status_of}
+use Rattle.hg_commands.specs.declared.lines.Feeding.{Feeding}
+use Rattle.hg_commands.specs.declared.moment.Outcome.{Outcome}
+use Rattle.hg_commands.specs.Feeding.{ack_text, checkpoint_text, feed_end_text}
+use Rattle.hg_commands.specs.FeedRunning.{BreaksAt, EndsAt, FeedDone, Feeds, GoesOn, HasFront, Passes, Place, WasCheckpointed, WasCounted, WasFed, WroteFeedFront, WroteFrontFrom, place}
+use Rattle.hg_commands.specs.Instants.{Instant, instant}
+use Rattle.hg_commands.specs.Keeping.{EachAckIsKept, KeepsOn}
+use Rattle.hg_commands.specs.Printed.{IsPrintedNow}
+use Rattle.hg_commands.specs.Storing.{FeedFails, HasFeedCause, failed_calls}
+
+-- where a store that is fed stands, with its output
+abbrev pub at : {D W V : Type 0} → Feeding D W → Outgoing V → Place D
+at f output = place f.store f.fed output.calls
+
+-- the last line of a feeding that leaves a store so
+abbrev pub end_of : {D : Type 0} → disk.Ghosts D → Shown D → Ending → List ℕ
+end_of g s end = feed_end_text (live g s) end
+
+-- what recovering a store and feeding it answers: how it ended, the devices, and the moments since it is open
+abbrev pub Recovered : Type 0 → Type 0
+Recovered D = Result Ending Refusal × Devices D × List (Instant D)
+
+-- The line of some checkpoint was printed, or its print broken off; or nothing was.
+abbrev pub MayHaveTold : {V : Type 0} → Outgoing V → Outgoing V → Type 0
+MayHaveTold before after = (checkpoint : Option ℕ) × IsPrintedNow before.calls after.calls (checkpoint_text checkpoint)
+
+module _ {D W V : Type 0} (g : disk.Ghosts D) where
+  -- From one moment to another so many calls of the devices and of the output failed.
+  abbrev pub Failed : ℕ → Feeding D W → Outgoing V → Feeding D W → Outgoing V → Type 0
+  Failed n old before new after = failed_calls g new.store.devices after.calls ≡ n + failed_calls g old.store.devices before.calls
+
+  -- What is kept of its events stays kept.
+  abbrev pub StaysKept : Feeding D W → Outgoing V → Feeding D W → Outgoing V → Type 0
+  StaysKept old before new after = KeepsOn g old.store before.calls old.moments new.store after.calls new.moments
+
+  -- An accepted event was counted.
+  abbrev pub Counted : Feeding D W → Outgoing V → Feeding D W → Outgoing V → Type 0
+  Counted old before new after = WasCounted g (at old before) (at new after)
+
+  -- Where a line was passed.
+  abbrev pub PassesWhere : Reading → Feeding D W → Outgoing V → Result (Option Ending) Refusal → Feeding D W → Outgoing V → Type 0
+  PassesWhere reading old before r new after = r ≡ Ok None → Passes g (at old before) (at new after) reading
+
+  -- Where a line ended the feeding.
+  abbrev pub EndsWhere : Reading → Feeding D W → Outgoing V → Result (Option Ending) Refusal → Feeding D W → Outgoing V → Type 0
+  EndsWhere reading old before r new after = (end : Ending) → r ≡ Ok (Some end) → EndsAt g (at old before) (at new after) reading end
+
+  -- Where a line broke it off: what was written is a front of what is due.
+  abbrev pub BreaksWhere : Reading → Feeding D W → Outgoing V → Result (Option Ending) Refusal → Outgoing V → Type 0
+  BreaksWhere reading old before r after = OnErr r (BreaksAt g (at old before) reading after.calls)
+
+  -- The checkpoint that was due was made, and told; or none was due.
+  abbrev pub Checkpointed : Bool → Feeding D W → Outgoing V → Feeding D W → Outgoing V → Type 0
+  Checkpointed is_made old before new after = WasCheckpointed g is_made old.store new.store before.calls after.calls
+
+  -- No call failed since, what was printed is what was due so far, and the store is ready for more.
+  abbrev pub Went : Feeding D W → Outgoing V → Feeding D W → Outgoing V → Type 0
+  Went old before new after = GoesOn g (at old before) (at new after)
+
+module _ {D W : Type 0} (g : disk.Ghosts D) where
+  -- Each image of the devices has the content that was frozen as its newest checkpoint, of this number.
+  abbrev pub OpensFrozen : Feeding D W → Feeding D W → ℕ → Type 0
+  OpensFrozen old new number = HasOpened g new.store.devices number (captured g old.store)
+
+  -- Each image of the devices has the content of all events as its newest checkpoint, of this number.
+  abbrev pub OpensLive : Feeding D W → Feeding D W → ℕ → Type 0
+  OpensLive old new number = HasOpened g new.store.devices number (live g old.store)
+
+  -- the line of a commit that makes all events durable
+  abbrev pub ack_of : Feeding D W → List ℕ
+  ack_of f = ack_text (live g f.store).events
+
+  -- the line that is due where one more is accepted: that of a commit, where it is the 256th
+  abbrev pub ack_due : Feeding D W → List ℕ
+  ack_due f = if nat_eq ((f.fed.accepted + 1) % 256) 0 then ack_of f else []
+
+module _ {D W R : Type 0} (g : disk.Ghosts D) where
+  -- What was read since led from the content of then to that of now, and to this ending.
+  abbrev pub FeedsFrom : Incoming R → Incoming R → Feeding D W → Feeding D W → Ending → Type 0
+  FeedsFrom first now old new end = Feeds g first.calls now.calls old.fed.source old.store.detector.sets (live g old.store) (live g new.store) end
+
+module _ {D W R V : Type 0} (g : disk.Ghosts D) where
+  -- What was written since is a front of what is due for the input.
+  abbrev pub LeftFront : Incoming R → Incoming R → Feeding D W → Outgoing V → Outgoing V → Type 0
+  LeftFront first now old before after =
+      HasFront g first.calls now.calls old.fed.source old.store.detector.sets (live g old.store) (at old before) after.calls
+
+  -- Where it failed, it has one of the few causes, and each call that failed is told.
+  abbrev pub Fails : {T : Type 0} → Incoming R → Incoming R → Feeding D W → Outgoing V → Feeding D W → Outgoing V → Result T Refusal → Type 0
+  Fails first now old before new after result =
+      IfErr result (λ r. FeedFails g old.store.devices new.store.devices first.calls now.calls before.calls after.calls r)
+
+  -- Where it was done, the store was fed all of the input, or up to the line that ended it.
+  abbrev pub Done : Bool → Incoming R → Incoming R → Feeding D W → Outgoing V → Feeding D W → Outgoing V → Result Ending Refusal → Type 0
+  Done checkpoint first now old before new after result =
+      IfOk result (λ end. WasFed g first.calls now.calls old.fed.source checkpoint old.store new.store before.calls after.calls end)
+
+  -- Where it was broken off, a front of what is due for the input was written.
+  abbrev pub FrontWhere : Incoming R → Incoming R → Feeding D W → Outgoing V → Outgoing V → Result Ending Refusal → Type 0
+  FrontWhere first now old before after result =
+      IsTrue g.is_honest → OnErr result (WroteFrontFrom old.fed.source old.store.detector.sets (live g old.store) first.calls now.calls before.calls after.calls)
+
+module _ {D R V : Type 0} (g : disk.Ghosts D) where
+  -- A front of what is due from the devices was written, or nothing.
+  abbrev pub WroteFront : ℕ → Devices D → Incoming R → Incoming R → Outgoing V → Outgoing V → Type 0
+  WroteFront source devices first now before after = WroteFeedFront g source devices first.calls now.calls before.calls after.calls
+
+  -- Where the devices' store was fed, what that did.
+  abbrev pub FedWhere : ℕ → Bool → Devices D → Incoming R → Incoming R → Outgoing V → Outgoing V → Recovered D → Type 0
+  FedWhere source checkpoint devices first now before after result =
+      IfOk result.0 (λ end. FeedDone g first.calls now.calls source checkpoint devices result.1 before.calls after.calls end)
+
+  -- Where it was not, what was the cause.
+  abbrev pub FailedFor : Devices D → Incoming R → Incoming R → Outgoing V → Outgoing V → Recovered D → Type 0
+  FailedFor devices first now before after result =
+      IfErr result.0 (λ r. HasFeedCause g devices result.1 first.calls now.calls before.calls after.calls r)
+
+  -- The status is 3; or it tells how the feeding ended, and that did what it is to do.
+  abbrev pub FedOrFault : ℕ → Bool → Devices D → Incoming R → Incoming R → Outgoing V → Outgoing V → Outcome D V → Type 0
+  FedOrFault source checkpoint devices first now before after outcome =
+      (outcome.status ≡ 3 → ⊥) → (end : Ending) × (outcome.status ≡ status_of end) × FeedDone g first.calls now.calls source checkpoint devices outcome.devices before.calls after.calls end
+
+module _ {D V : Type 0} (g : disk.Ghosts D) where
+  -- At each moment of it a crash leaves each event that an `ack` counts that was written by then.
+  abbrev pub AcksAreKept : Devices D → Outgoing V → List (Instant D) → Devices D → Outgoing V → Type 0
+  AcksAreKept old before moments new after = IsTrue g.is_honest → EachAckIsKept g (instant old before.calls) moments (instant new after.calls)
