@@ -1,6 +1,6 @@
 -- What an accepted event meets, and what it does to the threads.
-use Rattle.std.proofs.Common.{◌≡◌, ℕ, ◌+◌, Bool, true, false, cond, not, ◌||◌, ◌&&◌, nat_eq, nat_le, nat_lt, List, [], ◌∷◌, length, map, refl, sym, ap, ◌∙◌, subst, ⊎_elim, eqb-true}
-use Rattle.std.proofs.lemmas.Bool.{or_cases, or_parts, or_left, or_right, and_parts, and_from, not_from_false, false≢true, not-false, false_from_ne_true}
+use Rattle.std.proofs.Common.{◌≡◌, ℕ, ◌+◌, ◌<◌, ◌≤◌, Bool, true, false, cond, not, ◌||◌, ◌&&◌, nat_eq, nat_le, nat_lt, List, [], ◌∷◌, length, map, refl, sym, ap, ◌∙◌, subst, ⊎_elim, eqb-true}
+use Rattle.std.proofs.lemmas.Bool.{lt-leb, le-ltb, or_cases, or_parts, or_left, or_right, and_parts, and_from, not_from_false, false≢true, not-false, false_from_ne_true}
 use Rattle.std.specs.List.{list_any, AllByRecursion}
 use Rattle.hg_model.specs.declared.event.Event.{Event}
 use Rattle.hg_model.specs.declared.event.Event.TheVariants.{Fork, Join, Lock, RdLock, Unlock, Read, Write, Alloc, Free}
@@ -42,6 +42,14 @@ no_cause s n h =
     none_applies (causes s n)
     (gap_passed (nat_lt (s.last n.source + 1) n.number) (Gap (s.last n.source + 1)) (first_cause (causes s n))
     (duplicate_passed (nat_le n.number (s.last n.source)) (s.last n.source) _ h))
+
+-- where the number is the next one, the causes alone decide
+pub next_is_judged : (s : Standing) (n : Named) → s.last n.source < n.number → n.number ≤ s.last n.source + 1 → first_cause (causes s n) ≡ verdict s n
+next_is_judged s n above near =
+    let last = s.last n.source in
+    let fresh : nat_le n.number last ≡ false = lt-leb n.number last above in
+    let next : nat_lt (last + 1) n.number ≡ false = le-ltb (last + 1) n.number near in
+    sym (ap (λ b. cond b (Duplicate last) (cond (nat_lt (last + 1) n.number) (Refuse (Gap (last + 1))) (first_cause (causes s n)))) fresh ∙ ap (λ b. cond b (Refuse (Gap (last + 1))) (first_cause (causes s n))) next)
 
 abbrev pub IsUsed : List Event → ℕ → Type 0
 IsUsed past t = list_any (λ u. nat_eq u t) (used past) ≡ true

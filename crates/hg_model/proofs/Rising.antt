@@ -4,7 +4,7 @@ use Rattle.std.proofs.lemmas.Bool.{ltb-true, ltb-false, leb-true, leb-false, lt-
 use Rattle.std.specs.List.{position_or_len, insert, remove}
 use Rattle.std.specs.List.Sorted.{IsStrictlyIncreasing}
 use Rattle.hg_model.specs.declared.held.HeldLock.{HeldLock}
-use Rattle.hg_model.specs.Locks.{with_hold, without_lock, has_lock, counted, IsByRisingLock}
+use Rattle.hg_model.specs.Locks.{with_hold, has_lock, counted, IsByRisingLock}
 
 -- rising numbers from n on
 abbrev pub From : ℕ → List ℕ → Type 0
@@ -60,8 +60,53 @@ from_with n h (x ∷ hs) le f =
 pub rising_with : (h : HeldLock) (hs : List HeldLock) → IsByRisingLock hs → IsByRisingLock (with_hold h hs)
 rising_with h hs f = increasing_from 0 _ (from_with 0 h hs (omega arith) (from_increasing 0 _ (λ _. omega arith) f))
 
+-- items by the number that stands for each
+module _ {X : Type 0} (key : X → ℕ) where
+  abbrev pub place_by : ℕ → List X → ℕ
+  place_by l xs = position_or_len (λ x. nat_le l (key x)) xs
+
+  abbrev pub without_by : ℕ → List X → List X
+  without_by l xs = filter (λ x. not (nat_eq (key x) l)) xs
+
+  -- items of greater number stay
+  all_above : (l : ℕ) (xs : List X) → From (suc l) (map key xs) → without_by l xs ≡ xs
+  all_above l [] f = refl
+  all_above l (x ∷ xs) f =
+      rw (ne_eqb (key x) l (λ e. let le = f.0 in omega arith)) (ap (λ r. x ∷ r) (all_above l xs (from_less (suc l) (suc (key x)) _ (let le = f.0 in omega arith) f.1)))
+
+  step_out : (x : X) (xs : List X) (n : ℕ) → remove (x ∷ xs) (1 + n) ≡ x ∷ remove xs n
+  step_out x xs n = ap (λ (m : ℕ). remove (x ∷ xs) m) (one-add n)
+
+  -- the item stands at its place
+  pub removed : (l n : ℕ) (xs : List X) (d : X) → From n (map key xs) → place_by l xs < length xs → key (get_or xs (place_by l xs) d) ≡ l → remove xs (place_by l xs) ≡ without_by l xs
+  removed l n [] d f = λ lt is. absurd (omega arith)
+  removed l n (x ∷ xs) d f =
+      elim (nat_le l (key x)) as (λ b. nat_le l (key x) ≡ b → cond (not b) (1 + place_by l xs) 0 < suc (length xs) → key (get_or (x ∷ xs) (cond (not b) (1 + place_by l xs) 0) d) ≡ l → remove (x ∷ xs) (cond (not b) (1 + place_by l xs) 0) ≡ without_by l (x ∷ xs)) [
+        | true ↦ λ le lt is. rw (eq-eqb (key x) l is) (sym (all_above l xs (from_less (suc l) (suc (key x)) _ (omega arith) f.1)))
+        | false ↦ λ gt lt is.
+            let more = leb-false l (key x) gt in
+            let e : 1 + place_by l xs ≡ suc (place_by l xs) = omega arith in
+            rw (ne_eqb (key x) l (λ s. omega arith)) (step_out x xs (place_by l xs) ∙ ap (λ r. x ∷ r) (removed l (suc (key x)) xs d f.1 (omega arith) (ap (λ (m : ℕ). key (get_or (x ∷ xs) m d)) (sym e) ∙ is)))
+      ] refl
+
+  -- the number is not among them
+  pub kept : (l n : ℕ) (xs : List X) (d : X) → From n (map key xs) → (place_by l xs < length xs → key (get_or xs (place_by l xs) d) ≡ l → ⊥) → without_by l xs ≡ xs
+  kept l n [] d f = λ no. refl
+  kept l n (x ∷ xs) d f =
+      elim (nat_le l (key x)) as (λ b. nat_le l (key x) ≡ b → (cond (not b) (1 + place_by l xs) 0 < suc (length xs) → key (get_or (x ∷ xs) (cond (not b) (1 + place_by l xs) 0) d) ≡ l → ⊥) → without_by l (x ∷ xs) ≡ x ∷ xs) [
+        | true ↦ λ le no. rw (ne_eqb (key x) l (no (omega arith))) (ap (λ r. x ∷ r) (all_above l xs (from_less (suc l) (suc (key x)) _ (let m = leb-true l (key x) le in let ne = no (omega arith) in omega arith) f.1)))
+        | false ↦ λ gt no.
+            let more = leb-false l (key x) gt in
+            let e : 1 + place_by l xs ≡ suc (place_by l xs) = omega arith in
+            rw (ne_eqb (key x) l (λ s. omega arith)) (ap (λ r. x ∷ r) (kept l (suc (key x)) xs d f.1 (λ lt is. no (omega arith) (ap (λ (m : ℕ). key (get_or (x ∷ xs) m d)) e ∙ is))))
+      ] refl
+
 abbrev pub place : ℕ → List HeldLock → ℕ
-place l hs = position_or_len (λ h. nat_le l h.lock) hs
+place l hs = place_by (λ (h : HeldLock). h.lock) l hs
+
+-- where a number stands among numbers, or belongs
+abbrev pub place_among : ℕ → List ℕ → ℕ
+place_among l ns = place_by (λ (n : ℕ). n) l ns
 
 step_in : (h x : HeldLock) (hs : List HeldLock) (n : ℕ) → insert (x ∷ hs) (1 + n) h ≡ x ∷ insert hs n h
 step_in h x hs n = ap (λ (m : ℕ). insert (x ∷ hs) m h) (one-add n)
@@ -75,37 +120,4 @@ inserted h (x ∷ hs) absent =
     elim (nat_le h.lock x.lock) as (λ b. nat_le h.lock x.lock ≡ b → insert (x ∷ hs) (cond (not b) (1 + place h.lock hs) 0) h ≡ with_hold h (x ∷ hs)) [
       | true ↦ λ le. rw (lt-ltb h.lock x.lock (let l = leb-true h.lock x.lock le in omega arith)) refl
       | false ↦ λ gt. rw (le-ltb h.lock x.lock (let l = leb-false h.lock x.lock gt in omega arith), ne_eqb h.lock x.lock (λ e. differs (sym e))) (step_in h x hs (place h.lock hs) ∙ ap (λ r. x ∷ r) (inserted h hs parts.1))
-    ] refl
-
--- locks of greater number stay
-all_above : (l : ℕ) (hs : List HeldLock) → From (suc l) (map (λ h. h.lock) hs) → without_lock l hs ≡ hs
-all_above l [] f = refl
-all_above l (x ∷ hs) f =
-    rw (ne_eqb x.lock l (λ e. let le = f.0 in omega arith)) (ap (λ r. x ∷ r) (all_above l hs (from_less (suc l) (suc x.lock) _ (let le = f.0 in omega arith) f.1)))
-
-step_out : (x : HeldLock) (hs : List HeldLock) (n : ℕ) → remove (x ∷ hs) (1 + n) ≡ x ∷ remove hs n
-step_out x hs n = ap (λ (m : ℕ). remove (x ∷ hs) m) (one-add n)
-
--- the lock stands at its place
-pub removed : (l n : ℕ) (hs : List HeldLock) (d : HeldLock) → From n (map (λ h. h.lock) hs) → place l hs < length hs → (get_or hs (place l hs) d).lock ≡ l → remove hs (place l hs) ≡ without_lock l hs
-removed l n [] d f = λ lt is. absurd (omega arith)
-removed l n (x ∷ hs) d f =
-    elim (nat_le l x.lock) as (λ b. nat_le l x.lock ≡ b → cond (not b) (1 + place l hs) 0 < suc (length hs) → (get_or (x ∷ hs) (cond (not b) (1 + place l hs) 0) d).lock ≡ l → remove (x ∷ hs) (cond (not b) (1 + place l hs) 0) ≡ without_lock l (x ∷ hs)) [
-      | true ↦ λ le lt is. rw (eq-eqb x.lock l is) (sym (all_above l hs (from_less (suc l) (suc x.lock) _ (omega arith) f.1)))
-      | false ↦ λ gt lt is.
-          let more = leb-false l x.lock gt in
-          let e : 1 + place l hs ≡ suc (place l hs) = omega arith in
-          rw (ne_eqb x.lock l (λ s. omega arith)) (step_out x hs (place l hs) ∙ ap (λ r. x ∷ r) (removed l (suc x.lock) hs d f.1 (omega arith) (ap (λ (m : ℕ). (get_or (x ∷ hs) m d).lock) (sym e) ∙ is)))
-    ] refl
-
--- the lock is not among them
-pub kept : (l n : ℕ) (hs : List HeldLock) (d : HeldLock) → From n (map (λ h. h.lock) hs) → (place l hs < length hs → (get_or hs (place l hs) d).lock ≡ l → ⊥) → without_lock l hs ≡ hs
-kept l n [] d f = λ no. refl
-kept l n (x ∷ hs) d f =
-    elim (nat_le l x.lock) as (λ b. nat_le l x.lock ≡ b → (cond (not b) (1 + place l hs) 0 < suc (length hs) → (get_or (x ∷ hs) (cond (not b) (1 + place l hs) 0) d).lock ≡ l → ⊥) → without_lock l (x ∷ hs) ≡ x ∷ hs) [
-      | true ↦ λ le no. rw (ne_eqb x.lock l (no (omega arith))) (ap (λ r. x ∷ r) (all_above l hs (from_less (suc l) (suc x.lock) _ (let m = leb-true l x.lock le in let ne = no (omega arith) in omega arith) f.1)))
-      | false ↦ λ gt no.
-          let more = leb-false l x.lock gt in
-          let e : 1 + place l hs ≡ suc (place l hs) = omega arith in
-          rw (ne_eqb x.lock l (λ s. omega arith)) (ap (λ r. x ∷ r) (kept l (suc x.lock) hs d f.1 (λ lt is. no (omega arith) (ap (λ (m : ℕ). (get_or (x ∷ hs) m d).lock) e ∙ is))))
     ] refl

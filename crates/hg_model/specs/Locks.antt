@@ -23,6 +23,10 @@ with_hold h (x ∷ xs) = if nat_lt h.lock x.lock then h ∷ x ∷ xs else if h.l
 abbrev pub without_lock : ℕ → List HeldLock → List HeldLock
 without_lock l hs = filter (λ h. not (h.lock == l)) hs
 
+-- the numbers without this one
+abbrev pub without_number : ℕ → List ℕ → List ℕ
+without_number l ns = filter (λ n. not (n == l)) ns
+
 -- All locks that thread t holds, with their modes, by rising lock number.
 abbrev pub held : List Event → ℕ → List HeldLock
 held [] t = []

@@ -1,9 +1,9 @@
 //! The locks that one thread holds.
 
-ghost use Rattle.std.specs.Prelude.{◌≡◌, ◌<◌, ◌≤◌, false, length, nat_le, [], MatchOption};
-ghost use Rattle.std.specs.List.{position_or_len, remove};
+ghost use Rattle.std.specs.Prelude.{◌≡◌, ◌<◌, ◌≤◌, false, length, nat_le, [], MatchOption, if◌then◌else◌};
+ghost use Rattle.std.specs.List.{insert, position_or_len, remove};
 ghost use Rattle.std.specs.List.Sorted.{IsStrictlyIncreasing};
-ghost use Rattle.hg_model.specs.Locks.{counted, with_hold, without_lock, has_lock, has_lock_for_writing, IsByRisingLock};
+ghost use Rattle.hg_model.specs.Locks.{counted, with_hold, without_lock, without_number, has_lock, has_lock_for_writing, IsByRisingLock};
 
 use crate::limits::MOST_HELD;
 use arrayvec::ArrayVec;
@@ -118,8 +118,8 @@ impl HeldLocks {
     {
         let place = place_of(self.holds.as_slice(), held.lock);
         self.holds.insert(place, held);
-        refill(&mut self.any, self.holds.as_slice(), false);
-        refill(&mut self.writing, self.holds.as_slice(), true);
+        self.any.insert(place, held.lock);
+        count_writer(&mut self.writing, held);
     }
 
     /// Gives up a lock, and nothing where it is not held.
@@ -128,8 +128,8 @@ impl HeldLocks {
     {
         if let Some(place) = index_of(self.holds.as_slice(), lock) {
             self.holds.remove(place);
-            refill(&mut self.any, self.holds.as_slice(), false);
-            refill(&mut self.writing, self.holds.as_slice(), true);
+            self.any.remove(place);
+            leave_out(&mut self.writing, lock);
         }
     }
 }
@@ -161,15 +161,50 @@ fn index_of(holds: &[HeldLock], lock: u16) -> Option<usize>
     }
 }
 
-/// Puts the numbers of these locks into the list, or of those held in write mode alone.
-fn refill(list: &mut ArrayVec<u16, MOST_HELD>, holds: &[HeldLock], write: bool)
-    requires { length holds.now ≤ 64 }
-    ensures { list.new.items ≡ counted write holds.now }
+/// How many of the numbers come before this one, which is the place where it stands or belongs.
+fn place_among(numbers: &[u16], number: u16) -> usize
+    ensures place { result ≡ position_or_len (λ n. nat_le number n) numbers.now }
+    ensures within { result ≤ length numbers.now }
 {
-    list.clear();
-    for h in holds {
-        if h.write || !write {
-            list.push(h.lock);
+    for (i, n) in numbers.iter().enumerate() {
+        if number <= *n {
+            return i;
         }
+    }
+    numbers.len()
+}
+
+/// Adds a lock that is not held yet to the numbers of those that are held in write mode.
+fn count_writer(writing: &mut ArrayVec<u16, MOST_HELD>, held: HeldLock)
+    requires { length writing.old.items < 64 }
+    ensures { writing.new.items ≡ (if held.write then insert writing.old.items (position_or_len (λ n. nat_le held.lock n) writing.old.items) held.lock else writing.old.items) }
+{
+    if held.write {
+        let place = place_among(writing.as_slice(), held.lock);
+        writing.insert(place, held.lock);
+    }
+}
+
+/// Takes a number out, and nothing where it is not there.
+fn leave_out(numbers: &mut ArrayVec<u16, MOST_HELD>, number: u16)
+    requires { IsStrictlyIncreasing numbers.old.items }
+    ensures { numbers.new.items ≡ without_number number numbers.old.items }
+{
+    if let Some(place) = index_among(numbers.as_slice(), number) {
+        numbers.remove(place);
+    }
+}
+
+/// Where the number stands.
+fn index_among(numbers: &[u16], number: u16) -> Option<usize>
+    requires { IsStrictlyIncreasing numbers.now }
+    ensures { MatchOption result (without_number number numbers.now ≡ numbers.now)
+        (λ i. (i < length numbers.now) × (remove numbers.now i ≡ without_number number numbers.now)) }
+{
+    let place = place_among(numbers, number);
+    if place < numbers.len() && numbers[place] == number {
+        Some(place)
+    } else {
+        None
     }
 }
