@@ -1,10 +1,10 @@
 //! Pages of cells.
 
-ghost use Rattle.std.specs.Prelude.{ℕ, IfSome, ◌≡◌, ◌<◌, ◌≤◌, Some, length, replicate, slice_get, slice_set};
+ghost use Rattle.std.specs.Prelude.{ℕ, IfSome, IsTrue, ◌≡◌, ◌⊎◌, ◌<◌, ◌≤◌, Some, length, replicate, slice_get, slice_set};
 ghost use Rattle.hg_cells.specs.Pages.{filled};
-ghost use Rattle.hg_cells.specs.declared.cell.Cell.TheVariants.{New};
+ghost use Rattle.hg_cells.specs.declared.cell.Cell.TheVariants.{New, Exclusive};
 
-use crate::cell::{Cell, are_same};
+use crate::cell::{Cell, are_same, is_new_or_owned};
 use std::marker::Model;
 
 /// How many words a page has, of 4 bytes each.
@@ -56,19 +56,33 @@ impl Page {
     }
 
     /// The cell that the words from `from` up to, not including, `to` all have, if there is one.
-    #[inline]
+    #[inline(always)]
     pub fn same(&self, from: usize, to: usize) -> Option<Cell>
         requires in_order { from < to }
         requires in_page { to ≤ PAGE_WORDS }
         ensures { IfSome result (λ cell. (i : ℕ) → from ≤ i → i < to → slice_get self.now i ≡ Some cell) }
     {
         let cell = self.cells[from];
-        for i in from..to {
+        for i in from + 1..to {
             if !are_same(self.cells[i], cell) {
                 return None;
             }
         }
         Some(cell)
+    }
+
+    /// Whether the words from `from` up to, not including, `to` are each new or owned by that segment.
+    #[inline(always)]
+    pub fn are_new_or_owned(&self, from: usize, to: usize, owner: u32) -> bool
+        requires in_page { to ≤ PAGE_WORDS }
+        ensures { IsTrue result → (i : ℕ) → from ≤ i → i < to → (slice_get self.now i ≡ Some New) ⊎ (slice_get self.now i ≡ Some (Exclusive owner)) }
+    {
+        for i in from..to {
+            if !is_new_or_owned(self.cells[i], owner) {
+                return false;
+            }
+        }
+        true
     }
 
     /// Gives a word a cell.

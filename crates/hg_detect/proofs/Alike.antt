@@ -1,13 +1,17 @@
 -- An access to words that all have one cell.
-use Rattle.std.proofs.Common.{◌≡◌, ℕ, zero, suc, ◌+◌, ◌-◌, ◌*◌, ◌<◌, ◌≤◌, Bool, true, false, not, cond, List, [], ◌∷◌, ◌++◌, length, replicate, Option, Some, None, Ok, Err, refl, sym, ap, ◌∙◌, subst, ◌⊎◌, inl, inr, ⊎_elim, arith}
+use Rattle.std.proofs.Common.{◌≡◌, ℕ, zero, suc, ◌+◌, ◌-◌, ◌*◌, ◌<◌, ◌≤◌, Bool, true, false, not, ◌&&◌, cond, List, [], ◌∷◌, ◌++◌, length, replicate, Option, Some, None, Ok, Err, refl, sym, ap, ◌∙◌, subst, ◌⊎◌, inl, inr, ⊎_elim, arith}
 use Rattle.std.specs.List.{All, range_with_len}
 use Rattle.std.proofs.lemmas.Bool.{cases_eq, cases_lt, eq-eqb, ne_eqb}
 use Rattle.std.proofs.lemmas.List.{length_push, length-replicate, get_or_append_left, get_or-append_right}
 use Rattle.std.proofs.lemmas.List.Elements.{All-head}
 use Rattle.hg_model.specs.declared.segment.Segment.{Segment}
 use Rattle.hg_cells.specs.declared.cell.Cell.{Cell}
-use Rattle.hg_cells.specs.declared.cell.Cell.TheVariants.{Exclusive}
+use Rattle.hg_cells.specs.declared.cell.Cell.TheVariants.{Exclusive, New, SharedRead, SharedModified}
 use Rattle.hg_cells.specs.Cells.{meaning, IsWithin}
+use Rattle.hg_model.specs.declared.word.WordState.TheVariants as state
+use Rattle.hg_model.specs.Change.{is_racy}
+use Rattle.hg_model.specs.Sets.{common, with_member}
+use Rattle.hg_model.specs.Sharing.{shared}
 use Rattle.hg_model.proofs.Reaching.{reaches_itself}
 use Rattle.hg_sets.specs.Interning.{Table, Interns, KeepsNumbers, StandsAt, set_at}
 use Rattle.hg_sets.specs.declared.fault.SetFault.{SetFault}
@@ -18,7 +22,7 @@ use Rattle.hg_detect.specs.declared.plan.Planned.{Planned}
 use Rattle.hg_detect.specs.Making.{Asks, AsksBy, sets_in}
 use Rattle.hg_detect.specs.Planning.{Actor, ArePlanned, IsPlanned, touched_by, wanted}
 use Rattle.hg_detect.specs.Shown.{found, given, threads_number}
-use Rattle.hg_detect.proofs.Plans.{kept_twice, owned_asked, owned_on, stands_on}
+use Rattle.hg_detect.proofs.Plans.{kept_twice, owned_asked, owned_new, owned_on, shared_already, stands_on}
 use Rattle.hg_detect.proofs.Sequences.{asks_more, refused_more}
 use Rattle.hg_detect.proofs.Stepping.{given_outside}
 
@@ -38,6 +42,24 @@ stays_owned segments sets a within =
 -- and asks for no set
 pub owned_asks_none : (segments : List Segment) (old : Table) (a : Actor) → Asks old (sets_in (touched_by segments a (meaning old.sets (Exclusive a.segment)))) None old
 owned_asks_none segments old a = owned_asked old (touched_by segments a (meaning old.sets (Exclusive a.segment))) a.segment (owned_on segments old.sets a (Exclusive a.segment) a.segment refl (reaches_itself segments a.segment))
+
+-- the segment owns new words from now on
+pub new_owned : (segments : List Segment) (sets : List (List ℕ)) (a : Actor) → a.segment < length segments → IsPlanned segments sets sets a New (owned a.segment)
+new_owned segments sets a within =
+    record {
+      state = sym (owned_new segments sets a New refl);
+      report = refl;
+      within = within;
+    }
+
+-- so it does of words that pass to it
+pub passing_planned : (segments : List Segment) (sets : List (List ℕ)) (a : Actor) (cell : Cell) → a.segment < length segments → touched_by segments a (meaning sets cell) ≡ state.Exclusive a.segment → IsPlanned segments sets sets a cell (owned a.segment)
+passing_planned segments sets a cell within passes =
+    record {
+      state = sym passes;
+      report = refl;
+      within = within;
+    }
 
 -- one plan serves each of the words
 pub alike_planned : (segments : List Segment) (old new : List (List ℕ)) (a : Actor) (cell_of : ℕ → Cell) (cell : Cell) (p : Planned) (first n : ℕ) → IsPlanned segments old new a cell p → ((w : ℕ) → first ≤ w → w < first + n → cell_of w ≡ cell)
@@ -164,3 +186,67 @@ alike_refused segments old new a cell_of cell first n r some alike cause h =
 
     without : AsksBy old one (Err refusal.OutOfMemory) new → AsksBy old all (Err refusal.OutOfMemory) new
     without = λ k. ⊎_elim (λ same. inl same) (λ asked. inr (⊎_elim (λ done. inl (each None done)) (λ short. inr (each (Some fault.OutOfMemory) short.0, short.1)) asked)) k
+
+-- each of the words is new or the segment's own
+abbrev pub AreOwnable : (ℕ → Cell) → ℕ → ℕ → ℕ → Type 0
+AreOwnable cell_of g first n = (w : ℕ) → first ≤ w → w < first + n → (cell_of w ≡ New) ⊎ (cell_of w ≡ Exclusive g)
+
+-- the segment owns them all from now on
+pub ownable_planned : (segments : List Segment) (sets : List (List ℕ)) (a : Actor) (cell_of : ℕ → Cell) (first n : ℕ) → a.segment < length segments → AreOwnable cell_of a.segment first n
+    → ArePlanned segments sets sets a cell_of first (replicate n (owned a.segment))
+ownable_planned segments sets a cell_of first zero within each = tt
+ownable_planned segments sets a cell_of first (suc n) within each = (
+  ⊎_elim
+      (λ is. subst (λ (c : Cell). IsPlanned segments sets sets a c (owned a.segment)) (sym is) (new_owned segments sets a within))
+      (λ is. subst (λ (c : Cell). IsPlanned segments sets sets a c (owned a.segment)) (sym is) (stays_owned segments sets a within))
+      (each first (omega arith) (omega arith)),
+  ownable_planned segments sets a cell_of (first + 1) n within (λ w low high. each w (omega arith) (omega arith)),
+)
+
+-- and they ask for no set
+pub ownable_asked : (segments : List Segment) (old : Table) (a : Actor) (cell_of : ℕ → Cell) (first n : ℕ) → AreOwnable cell_of a.segment first n → Asks old (wanted segments old.sets a cell_of (range_with_len first n)) None old
+ownable_asked segments old a cell_of first zero each = refl
+ownable_asked segments old a cell_of first (suc n) each =
+    let none : sets_in (touched_by segments a (meaning old.sets (cell_of first))) ≡ [] =
+    ⊎_elim
+    (λ is. ap sets_in (owned_new segments old.sets a (cell_of first) is))
+    (λ is. ap sets_in (owned_on segments old.sets a (cell_of first) a.segment is (reaches_itself segments a.segment)))
+    (each first (omega arith) (omega arith))
+    in
+    subst (λ (xs : List (List ℕ)). Asks old (xs ++ wanted segments old.sets a cell_of (range_with_len (first + 1) n)) None old) (sym none)
+    (ownable_asked segments old a cell_of (first + 1) n (λ w low high. each w (omega arith) (omega arith)))
+
+-- what is planned for words that stay as they are
+abbrev pub unchanged : Cell → Planned
+unchanged cell = record { cell = cell; reported = false }
+
+never : (b : Bool) → false ≡ (b && not b)
+never true = refl
+never false = refl
+
+-- a shared word whose sets stay keeps its state
+pub modified_stays : (segments : List Segment) (sets : List (List ℕ)) (a : Actor) (threads locks : ℕ) → with_member (set_at sets threads) a.thread ≡ set_at sets threads → common (set_at sets locks) a.locks ≡ set_at sets locks
+    → meaning sets (SharedModified threads locks) ≡ touched_by segments a (meaning sets (SharedModified threads locks))
+modified_stays segments sets a threads locks more fewer = λ i. state.SharedModified (sym more i) (sym fewer i)
+
+pub read_stays : (segments : List Segment) (sets : List (List ℕ)) (a : Actor) (threads locks : ℕ) → a.write ≡ false → with_member (set_at sets threads) a.thread ≡ set_at sets threads → common (set_at sets locks) a.locks ≡ set_at sets locks
+    → meaning sets (SharedRead threads locks) ≡ touched_by segments a (meaning sets (SharedRead threads locks))
+read_stays segments sets a threads locks reads more fewer =
+    (λ i. state.SharedRead (sym more i) (sym fewer i)) ∙ ap (λ (b : Bool). shared b (with_member (set_at sets threads) a.thread) (common (set_at sets locks) a.locks)) (sym reads)
+
+pub stays_planned : (segments : List Segment) (sets : List (List ℕ)) (a : Actor) (before cell : Cell) → before ≡ cell → IsWithin (length segments) (length sets) before → meaning sets cell ≡ touched_by segments a (meaning sets cell)
+    → IsPlanned segments sets sets a before (unchanged before)
+stays_planned segments sets a before cell is within stays =
+    record {
+      state = subst (λ (c : Cell). meaning sets c ≡ touched_by segments a (meaning sets c)) (sym is) stays;
+      report = never (is_racy (meaning sets before));
+      within = within;
+    }
+
+-- and asks for sets that stand in the table
+pub stays_asked : (segments : List Segment) (old : Table) (a : Actor) (cell : Cell) (threads locks : ℕ) → (cell ≡ SharedRead threads locks) ⊎ (cell ≡ SharedModified threads locks) → threads < length old.sets → locks < length old.sets
+    → with_member (set_at old.sets threads) a.thread ≡ set_at old.sets threads → common (set_at old.sets locks) a.locks ≡ set_at old.sets locks → Asks old (sets_in (touched_by segments a (meaning old.sets cell))) None old
+stays_asked segments old a cell threads locks is in_threads in_locks more fewer =
+    let asked = with_member (set_at old.sets threads) a.thread ∷ common (set_at old.sets locks) a.locks ∷ [] in
+    let stand : Stand old asked = ((threads, (in_threads, sym more)), ((locks, (in_locks, sym fewer)), tt)) in
+    subst (λ (s : List (List ℕ)). Asks old s None old) (sym (shared_already segments old.sets a cell threads locks is)) (asks_again asked old stand)

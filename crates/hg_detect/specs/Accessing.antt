@@ -1,14 +1,2 @@
 -- The event of an access.
-use Rattle.std.specs.Prelude.{ℕ, Bool, if◌then◌else◌}
-use Rattle.hg_model.specs.declared.event.Access.{Access}
-use Rattle.hg_model.specs.declared.event.Event.{Event}
-use Rattle.hg_model.specs.declared.event.Event.TheVariants.{Read, Write}
-use Rattle.hg_model.specs.declared.event.Named.{Named}
-
--- a write or a read
-abbrev pub access_event : Bool → Access → Event
-access_event write a = if write then Write a else Read a
-
--- under the number that its source gave it
-abbrev pub access_named : ℕ → ℕ → Bool → Access → Named
-access_named source number write a = record { source = source; number = number; event = access_event write a }
+pub use Rattle.hg_model.specs.Accessing.{access_event, access_named}

@@ -1,12 +1,15 @@
 //! The parts of a detector, and what an accepted event does to them.
 
-ghost use Rattle.std.specs.Prelude.{◌≡◌, ◌⊎◌, ℕ, ◌+◌, ◌-◌, ◌/◌, ◌*◌, ◌≤◌, ◌<◌, ◌^◌, [], ◌∷◌, All, IfOk, get_or, length, vec_capacity, IfErr, IfSome, OnOk, Ok, Err, None, if◌then◌else◌, ◌==◌};
+ghost use Rattle.std.specs.Prelude.{◌≡◌, ◌⊎◌, ℕ, ◌+◌, ◌-◌, ◌/◌, ◌*◌, ◌≤◌, ◌<◌, ◌^◌, [], ◌∷◌, All, IfOk, get_or, length, vec_capacity, IfErr, IfSome, IsTrue, Bool, false, OnOk, Ok, Err, None, if◌then◌else◌, ◌==◌};
 ghost use Rattle.std.specs.List.{list_any, range_with_len};
 ghost use Rattle.hg_graph.specs.Graph.{names};
-ghost use Rattle.hg_model.specs.Segments.{of_thread};
+ghost use Rattle.hg_model.specs.Segments.{of_thread, present};
+ghost use Rattle.hg_model.specs.declared.word.WordState.TheVariants.{Exclusive as Owned};
 ghost use Rattle.hg_model.specs.Parts.{HasParts};
-ghost use Rattle.hg_model.specs.Change.{empty_content};
-ghost use Rattle.hg_sets.specs.Interning.{AreSets, KeepsNumbers};
+ghost use Rattle.hg_model.specs.Accessing.{access_named};
+ghost use Rattle.hg_model.specs.Change.{empty_content, locks_of};
+ghost use Rattle.hg_model.specs.Sets.{common, with_member};
+ghost use Rattle.hg_sets.specs.Interning.{AreSets, KeepsNumbers, set_at};
 ghost use Rattle.hg_cells.specs.declared.cell.Cell.TheVariants.{New};
 ghost use Rattle.hg_cells.specs.Cells.{IsWithin, meaning};
 ghost use Rattle.hg_cells.specs.declared.report.KeptReport.{KeptReport as KeptReportOf};
@@ -18,7 +21,7 @@ ghost use Rattle.hg_model.specs.Verdicts as rules;
 ghost use Rattle.hg_detect.specs.Engine.{Answers, AtPresent, IsOnLock, IsSound, actor_of, set_refusal, shown_of};
 
 use crate::kept::{add_reports, reserve_reports};
-use crate::plan::{Acting, Planned, plan_alike, plan_word, plan_words};
+use crate::plan::{Accessor, Planned, plan_alike, plan_word, plan_words};
 use crate::setting::set_words;
 use crate::words::Words;
 use hg_cells::{Cell, KeptReport, are_same};
@@ -181,7 +184,7 @@ impl<W: Words> Engine<W> {
         let len = u16::from(access.len);
         self.words
             .bring(access.at, len, self.state.segments(), &self.sets)?;
-        let acting = Acting {
+        let accessor = Accessor {
             thread: access.t,
             segment: self.graph.present(access.t),
             write,
@@ -191,7 +194,7 @@ impl<W: Words> Engine<W> {
             &self.graph,
             &mut self.sets,
             &self.words,
-            &acting,
+            &accessor,
             first,
             end,
             &mut self.plan,
@@ -216,42 +219,86 @@ impl<W: Words> Engine<W> {
         ensures refusal { IfErr result (λ r. (r ≡ Refusal.FullSets) ⊎ (r ≡ Refusal.OutOfMemory)) }
     {
         let locks = self.state.counted(access.t, write);
-        let acting = Acting {
+        let accessor = Accessor {
             thread: access.t,
             segment: self.graph.present(access.t),
             write,
             locks,
         };
-        plan_word(&self.graph, &mut self.sets, &acting, cell).map_err(refusal_of)
+        plan_word(&self.graph, &mut self.sets, &accessor, cell).map_err(refusal_of)
+    }
+
+    /// Whether words with this cell pass to the acting segment: they are new, or their owner reaches it.
+    #[inline(always)]
+    fn passes(&self, access: &Access, cell: Cell) -> bool
+        requires thread { access.now.t < 1024 }
+        ensures { IsTrue result → (write : Bool) → touched_by self.now.graph (actor_of self.now access.now write) (meaning self.now.sets.sets cell) ≡ Owned (present self.now.graph access.now.t) }
+    {
+        match cell {
+            Cell::New => true,
+            Cell::Exclusive(owner) => self.graph.reaches_now(owner, access.t),
+            _ => false,
+        }
+    }
+
+    /// Whether words with this cell are shared and certainly stay as they are: the access brings no new thread, and takes no
+    /// candidate lock away.
+    #[inline(always)]
+    fn stays_shared(&self, access: &Access, write: bool, cell: Cell) -> bool
+        requires within { IsWithin (length self.now.graph) (length self.now.sets.sets) cell }
+        ensures planned { IsTrue result → IsPlanned self.now.graph self.now.sets.sets self.now.sets.sets (actor_of self.now access.now write) cell (record { cell = cell; reported = false }) }
+        ensures asked { IsTrue result → Asks self.now.sets (sets_in (touched_by self.now.graph (actor_of self.now access.now write) (meaning self.now.sets.sets cell))) None self.now.sets }
+    {
+        match cell {
+            Cell::SharedRead(threads, locks) => {
+                !write && self.keeps_sets(access, write, threads, locks)
+            }
+            Cell::SharedModified(threads, locks) => self.keeps_sets(access, write, threads, locks),
+            _ => false,
+        }
+    }
+
+    /// Whether an access certainly leaves a thread set and a candidate lockset as they are.
+    #[inline(always)]
+    fn keeps_sets(&self, access: &Access, write: bool, threads: u32, locks: u32) -> bool
+        requires threads { threads < length self.now.sets.sets }
+        requires locks { locks < length self.now.sets.sets }
+        ensures threads { IsTrue result → with_member (set_at self.now.sets.sets threads) access.now.t ≡ set_at self.now.sets.sets threads }
+        ensures locks { IsTrue result → common (set_at self.now.sets.sets locks) (locks_of self.now.state.threads access.now.t write) ≡ set_at self.now.sets.sets locks }
+    {
+        self.sets.remembers_member(threads, access.t)
+            && self
+                .sets
+                .is_subset(locks, self.state.counted(access.t, write))
     }
 
     /// Accepts an access to `count` words from `first` on, which all have this cell: one plan serves them all.
     #[inline(always)]
     fn access_alike(
         &mut self,
-        named: &Named,
+        source: u16,
+        number: u64,
         access: &Access,
         write: bool,
         first: u64,
         count: u64,
         cell: Cell,
     ) -> Result<(), Refusal>
-        requires event { named.now.event ≡ (if write then Event.Write access.now else Event.Read access.now) }
         requires sound { IsSound self.old }
-        requires accepted { rules.verdict (rules.standing self.old.state) named.now ≡ Verdict.Accept }
+        requires accepted { rules.verdict (rules.standing self.old.state) (access_named source number write access.now) ≡ Verdict.Accept }
         requires lawful { AtPresent W.may_bring (shown_of self.old) }
         requires first { first ≡ access.now.at / 4 }
         requires count { count ≡ (access.now.at + access.now.len + 3) / 4 - first }
         requires cells { (w : ℕ) → first ≤ w → w < first + count → W.cell_of self.old.words w ≡ cell }
         requires within { IsWithin (length self.old.graph) (length self.old.sets.sets) cell }
         requires fillable { W.may_fill self.old.words first count }
-        ensures answers { Answers W.cell_of W.may_bring W.is_faithful W.may_refuse self.old named.now result self.new }
+        ensures answers { Answers W.cell_of W.may_bring W.is_faithful W.may_refuse self.old (access_named source number write access.now) result self.new }
         ensures went { W.went self.old.words self.new.words }
         ensures failures { W.failures self.new.words ≡ failed_after result (W.failures self.old.words) }
     {
         let planned = self.plan_for(access, write, cell)?;
         if !planned.reported {
-            self.state.follow(named);
+            self.state.follow_access(source, number);
             if are_same(planned.cell, cell) {
                 return Ok(());
             }
@@ -260,12 +307,12 @@ impl<W: Words> Engine<W> {
         }
         plan_alike(&mut self.plan, planned, count);
         reserve_reports(&mut self.kept, self.plan.as_slice()).map_err(out_of_memory)?;
-        let number = self.state.events() + 1;
-        self.state.follow(named);
+        let next = self.state.events() + 1;
+        self.state.follow_access(source, number);
         self.words.fill(first, count, planned.cell);
         let reports = add_reports(
             &mut self.kept,
-            number,
+            next,
             write,
             access.t,
             first,
@@ -277,63 +324,97 @@ impl<W: Words> Engine<W> {
 
     /// Accepts an access to memory.
     #[inline(always)]
-    fn access(&mut self, named: &Named, access: &Access, write: bool) -> Result<(), Refusal>
-        requires event { named.now.event ≡ (if write then Event.Write access.now else Event.Read access.now) }
+    pub(crate) fn access(
+        &mut self,
+        source: u16,
+        number: u64,
+        access: &Access,
+        write: bool,
+    ) -> Result<(), Refusal>
         requires sound { IsSound self.old }
-        requires accepted { rules.verdict (rules.standing self.old.state) named.now ≡ Verdict.Accept }
+        requires accepted { rules.verdict (rules.standing self.old.state) (access_named source number write access.now) ≡ Verdict.Accept }
         requires lawful { AtPresent W.may_bring (shown_of self.old) }
-        ensures answers { Answers W.cell_of W.may_bring W.is_faithful W.may_refuse self.old named.now result self.new }
+        ensures answers { Answers W.cell_of W.may_bring W.is_faithful W.may_refuse self.old (access_named source number write access.now) result self.new }
         ensures went { W.went self.old.words self.new.words }
         ensures failures { W.failures self.new.words ≡ failed_after result (W.failures self.old.words) }
     {
         let first = access.at / 4;
         let last = (access.at + (u64::from(access.len) - 1)) / 4;
         let found = self.words.same(first, last + 1 - first);
-        self.access_found(named, access, write, first, last + 1 - first, found)
+        self.access_found(
+            source,
+            number,
+            access,
+            write,
+            first,
+            last + 1 - first,
+            found,
+        )
     }
 
     /// Accepts an access, where the map was asked whether its words all have one cell.
     #[inline(always)]
     fn access_found(
         &mut self,
-        named: &Named,
+        source: u16,
+        number: u64,
         access: &Access,
         write: bool,
         first: u64,
         count: u64,
         found: Option<Cell>,
     ) -> Result<(), Refusal>
-        requires event { named.now.event ≡ (if write then Event.Write access.now else Event.Read access.now) }
         requires sound { IsSound self.old }
-        requires accepted { rules.verdict (rules.standing self.old.state) named.now ≡ Verdict.Accept }
+        requires accepted { rules.verdict (rules.standing self.old.state) (access_named source number write access.now) ≡ Verdict.Accept }
         requires lawful { AtPresent W.may_bring (shown_of self.old) }
         requires first { first ≡ access.now.at / 4 }
         requires count { count ≡ (access.now.at + access.now.len + 3) / 4 - first }
         requires cells { IfSome found (λ cell. (w : ℕ) → first ≤ w → w < first + count → W.cell_of self.old.words w ≡ cell) }
         requires within { IfSome found (IsWithin (length self.old.graph) (length self.old.sets.sets)) }
         requires fillable { IfSome found (λ cell. W.may_fill self.old.words first count) }
-        ensures answers { Answers W.cell_of W.may_bring W.is_faithful W.may_refuse self.old named.now result self.new }
+        ensures answers { Answers W.cell_of W.may_bring W.is_faithful W.may_refuse self.old (access_named source number write access.now) result self.new }
         ensures went { W.went self.old.words self.new.words }
         ensures failures { W.failures self.new.words ≡ failed_after result (W.failures self.old.words) }
     {
         if let Some(cell) = found {
-            if are_same(cell, Cell::Exclusive(self.graph.present(access.t))) {
-                self.state.follow(named);
+            let owned = Cell::Exclusive(self.graph.present(access.t));
+            if are_same(cell, owned) {
+                self.state.follow_access(source, number);
                 return Ok(());
             }
-            return self.access_alike(named, access, write, first, count, cell);
+            if self.passes(access, cell) {
+                self.state.follow_access(source, number);
+                self.words.fill(first, count, owned);
+                return Ok(());
+            }
+            if self.stays_shared(access, write, cell) {
+                self.state.follow_access(source, number);
+                return Ok(());
+            }
+            return self.access_alike(source, number, access, write, first, count, cell);
         }
-        self.access_unlike(*named, *access, write)
+        let segment = self.graph.present(access.t);
+        if self.words.are_new_or_owned(first, count, segment) {
+            self.state.follow_access(source, number);
+            self.words.fill(first, count, Cell::Exclusive(segment));
+            return Ok(());
+        }
+        self.access_unlike(source, number, *access, write)
     }
 
     /// Accepts an access to words that have different cells, or that may not be filled.
     #[inline(never)]
-    fn access_unlike(&mut self, named: Named, access: Access, write: bool) -> Result<(), Refusal>
-        requires event { named.event ≡ (if write then Event.Write access else Event.Read access) }
+    fn access_unlike(
+        &mut self,
+        source: u16,
+        number: u64,
+        access: Access,
+        write: bool,
+    ) -> Result<(), Refusal>
         requires sound { IsSound self.old }
-        requires accepted { rules.verdict (rules.standing self.old.state) named ≡ Verdict.Accept }
+        requires accepted { rules.verdict (rules.standing self.old.state) (access_named source number write access) ≡ Verdict.Accept }
         requires lawful { AtPresent W.may_bring (shown_of self.old) }
-        ensures answers { Answers W.cell_of W.may_bring W.is_faithful W.may_refuse self.old named result self.new }
+        ensures answers { Answers W.cell_of W.may_bring W.is_faithful W.may_refuse self.old (access_named source number write access) result self.new }
         ensures went { W.went self.old.words self.new.words }
         ensures failures { W.failures self.new.words ≡ failed_after result (W.failures self.old.words) }
     {
@@ -341,7 +422,7 @@ impl<W: Words> Engine<W> {
         let last = (access.at + (u64::from(access.len) - 1)) / 4;
         self.prepare(&access, write, first, last + 1)?;
         let event = self.state.events() + 1;
-        self.state.follow(&named);
+        self.state.follow_access(source, number);
         set_words(&mut self.words, first, self.plan.as_slice());
         self.total += add_reports(
             &mut self.kept,
@@ -385,6 +466,7 @@ impl<W: Words> Engine<W> {
     }
 
     /// Accepts an event on a lock.
+    #[inline(always)]
     fn hold(&mut self, named: &Named)
         requires event { IsOnLock named.now.event }
         requires sound { IsSound self.old }
@@ -398,7 +480,7 @@ impl<W: Words> Engine<W> {
     }
 
     /// Accepts that a block was allocated or freed: its words become new.
-    fn renew(&mut self, named: &Named, block: &Block) -> Result<(), Refusal>
+    fn reset(&mut self, named: &Named, block: &Block) -> Result<(), Refusal>
         requires event { (named.now.event ≡ Event.Alloc block.now) ⊎ (named.now.event ≡ Event.Free block.now) }
         requires sound { IsSound self.old }
         requires accepted { rules.verdict (rules.standing self.old.state) named.now ≡ Verdict.Accept }
@@ -426,11 +508,11 @@ impl<W: Words> Engine<W> {
         ensures failures { W.failures self.new.words ≡ failed_after result (W.failures self.old.words) }
     {
         match &named.event {
-            Event::Read(access) => self.access(named, access, false),
-            Event::Write(access) => self.access(named, access, true),
+            Event::Read(access) => self.access(named.source, named.number, access, false),
+            Event::Write(access) => self.access(named.source, named.number, access, true),
             Event::Fork { p, c } => self.fork(named, *p, *c),
             Event::Join { p, c } => self.join(named, *p, *c),
-            Event::Alloc(block) | Event::Free(block) => self.renew(named, block),
+            Event::Alloc(block) | Event::Free(block) => self.reset(named, block),
             Event::Lock { .. } | Event::RdLock { .. } | Event::Unlock { .. } => {
                 self.hold(named);
                 Ok(())

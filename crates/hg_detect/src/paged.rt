@@ -69,6 +69,14 @@ impl PagedWords {
                 return Some(hint);
             }
         }
+        self.look_up(number)
+    }
+
+    /// The place of a page that no hint gives.
+    #[inline(never)]
+    fn look_up(&self, number: u64) -> Option<usize>
+        ensures { MatchOption result (get nat_eq self.now.pages number ≡ None) (λ place. StandsIn self.now.pages number place) }
+    {
         self.pages.get_index_of(&number)
     }
 
@@ -202,6 +210,7 @@ impl Words for PagedWords {
         self.cell(word)
     }
 
+    #[inline(always)]
     fn same(&mut self, first: u64, count: u64) -> Option<Cell> {
         let number = first / WORDS;
         let from = first % WORDS;
@@ -213,6 +222,21 @@ impl Words for PagedWords {
             return None;
         }
         page.same(from as usize, (from + count) as usize)
+    }
+
+    #[inline]
+    fn are_new_or_owned(&self, first: u64, count: u64, owner: u32) -> bool {
+        let number = first / WORDS;
+        let from = first % WORDS;
+        if count > WORDS - from {
+            return false;
+        }
+        match self.pages.get_index(self.hint(number)) {
+            Some((key, page)) if *key == number => {
+                page.are_new_or_owned(from as usize, (from + count) as usize, owner)
+            }
+            _ => false,
+        }
     }
 
     fn fill(&mut self, first: u64, count: u64, cell: Cell) {

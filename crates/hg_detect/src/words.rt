@@ -1,13 +1,13 @@
 //! Shadow memory, as the detector sees it.
 
-ghost use Rattle.std.specs.Prelude.{◌≡◌, ◌+◌, ◌^◌, ◌<◌, ◌≤◌, ◌==◌, ◌⊎◌, ℕ, length, OnOk, IfErr, IfSome, if◌then◌else◌};
+ghost use Rattle.std.specs.Prelude.{◌≡◌, ◌+◌, ◌^◌, ◌<◌, ◌≤◌, ◌==◌, ◌⊎◌, ℕ, length, OnOk, IfErr, IfSome, IsTrue, if◌then◌else◌};
 ghost use Rattle.hg_model.specs.History.{overlaps};
 ghost use Rattle.hg_cells.specs.Cells.{IsWithin};
 ghost use Rattle.hg_detect.specs.Words.{SameCells, ForOverlapped, KeepsLaw, failed_after};
 ghost use Rattle.hg_model.specs.declared.verdict.Refusal.{Refusal as RefusalOf};
 ghost use Rattle.hg_model.specs.declared.verdict.Refusal.TheVariants.{FullSets};
 ghost use Rattle.hg_cells.specs.declared.cell.Cell.{Cell as CellOf};
-ghost use Rattle.hg_cells.specs.declared.cell.Cell.TheVariants.{New};
+ghost use Rattle.hg_cells.specs.declared.cell.Cell.TheVariants.{New, Exclusive};
 
 use hg_cells::Cell;
 use hg_model::verdict::Refusal;
@@ -93,6 +93,15 @@ pub trait Words {
         ensures faithful { KeepsLaw (is_faithful self.old) (is_faithful self.new) }
         ensures went { went self.old self.new }
         ensures failures { failures self.new ≡ failures self.old };
+
+    /// Whether `count` words from `first` on are each new or owned by that segment, and may be filled. (`false` says nothing of
+    /// them.)
+    fn are_new_or_owned(&self, first: u64, count: u64, owner: u32) -> bool
+        ensures cells { IsTrue result → (w : ℕ) → first ≤ w → w < first + count → (cell_of self.now w ≡ New) ⊎ (cell_of self.now w ≡ Exclusive owner) }
+        ensures fillable { IsTrue result → may_fill self.now first count }
+    {
+        false
+    }
 
     /// Gives `count` words from `first` on a cell.
     fn fill(&mut self, first: u64, count: u64, cell: Cell)

@@ -1,8 +1,9 @@
 //! The table of sets.
 
-ghost use Rattle.std.specs.Prelude.{◌≡◌, ◌<◌, ◌≤◌, length, Contains, MatchOption, IfOk};
+ghost use Rattle.std.specs.Prelude.{◌≡◌, ◌<◌, ◌≤◌, length, Contains, MatchOption, IfOk, IsTrue};
 ghost use Rattle.std.specs.List.Sorted.{IsStrictlyIncreasing};
-ghost use Rattle.hg_model.specs.Sets.{common, with_member};
+ghost use Rattle.hg_model.specs.Sets.{common, contains, with_member};
+ghost use Rattle.std.specs.List.{list_all};
 ghost use Rattle.hg_sets.specs.Interning.{AreSets, Interns, KeepsNumbers, StandsAt, first_table, set_at};
 
 use crate::fault::SetFault;
@@ -143,6 +144,27 @@ impl SetTable {
             return Ok(a);
         }
         self.meet_fewer(a, others)
+    }
+
+    /// Whether it is remembered that the set `a` has this member. (`false` says nothing.)
+    #[inline(always)]
+    pub fn remembers_member(&self, a: u32, member: u16) -> bool
+        ensures { IsTrue result → with_member (set_at self.now.sets a) member ≡ set_at self.now.sets a }
+    {
+        match &self.joins[join_place(a, member)] {
+            Some(known) => known.set == a && known.member == member && known.answer == a,
+            None => false,
+        }
+    }
+
+    /// Whether these others, which rise strictly, have all members of the set `a`.
+    #[inline(always)]
+    pub fn is_subset(&self, a: u32, others: &[u16]) -> bool
+        requires known { a < length self.now.sets }
+        requires rising { IsStrictlyIncreasing others.now }
+        ensures { result ≡ list_all (contains others.now) (set_at self.now.sets a) }
+    {
+        is_subset(self.interner.members(a), others)
     }
 
     #[inline(never)]

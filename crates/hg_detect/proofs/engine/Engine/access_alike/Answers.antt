@@ -1,6 +1,7 @@
 use Rattle.std.proofs.Common.{◌≡◌, ◌⊎◌, ◌+◌, ◌-◌, ◌/◌, ◌<◌, ◌≤◌, ◌++◌, ℕ, length, take, replicate, add-zero, Ok, Err, IfOk, OnOk, IfErr, None, inl, inr, ⊎_elim, refl, sym, ap, ◌∙◌, subst, arith}
 use Rattle.std.proofs.lemmas.List.{append-nil, length-replicate, take_all}
-use Rattle.hg_model.specs.Verdicts.{standing}
+use Rattle.hg_model.specs.Accessing.{access_event, access_named}
+use Rattle.hg_model.specs.Verdicts.{standing, verdict}
 use Rattle.hg_model.specs.declared.verdict.Refusal.TheVariants as refusal
 use Rattle.hg_cells.specs.Cells.{meaning}
 use Rattle.hg_detect.specs.Engine.{actor_of, shown_of}
@@ -14,13 +15,16 @@ use Rattle.hg_detect.proofs.Answering.{Keeps, access_answers, refused_answers, s
 use Rattle.hg_detect.proofs.Reports.{found_few}
 use Rattle.hg_detect.proofs.engine.Engine.access_alike.Goals as goal
 
+pub follow_access-requires : goal.follow_access-requires
+follow_access-requires g c = (c.args.write, c.args.access.now, ap (λ e. verdict (standing e.state) (access_named c.args.source c.args.number c.args.write c.args.access.now)) c.plan_for.ensures.others ∙ c.requires.accepted)
+
 pub returns-in_err-planned-clause-answers : goal.returns-in_err-planned-clause-answers
 returns-in_err-planned-clause-answers g c =
     let words = g.W.Words in
     let laws = g.met.W.Words in
     let old = c.args.self.now in
     let a = c.args.access.now in
-    let passed = access_passes (standing old.state) c.args.named.now c.args.write a c.requires.event c.requires.accepted in
+    let passed = access_passes (standing old.state) (access_named c.args.source c.args.number c.args.write c.args.access.now) c.args.write a refl c.requires.accepted in
     let actor = actor_of old a c.args.write in
     let first = a.at / 4 in
     let n : ℕ = (a.at + a.len + 3) / 4 - first in
@@ -34,9 +38,9 @@ returns-in_err-planned-clause-answers g c =
     in
     let cause : (r ≡ refusal.FullSets) ⊎ (r ≡ refusal.OutOfMemory) = subst (λ x. IfErr x (λ e. (e ≡ refusal.FullSets) ⊎ (e ≡ refusal.OutOfMemory))) fails c.plan_for.ensures.refusal in
     let k = sets_changed words.cell_of words.may_bring words.is_faithful old c.plan_for.new.self c.plan_for.ensures.others c.plan_for.ensures.sets c.plan_for.ensures.numbers c.requires.sound in
-    refused_answers words.cell_of words.may_bring words.is_faithful words.may_refuse old c.plan_for.new.self c.args.named.now c.from_residual.result r
+    refused_answers words.cell_of words.may_bring words.is_faithful words.may_refuse old c.plan_for.new.self (access_named c.args.source c.args.number c.args.write c.args.access.now) c.from_residual.result r
     same k laws.brings_more laws.more_faithful laws.faithful_within c.requires.sound c.requires.lawful
-    (λ h. asked_from words.cell_of (shown_of old) c.args.named.now.event c.args.write a actor _ c.from_residual.result (Err r) c.plan_for.new.self.sets c.requires.event passed.some refl refl same
+    (λ h. asked_from words.cell_of (shown_of old) (access_event c.args.write c.args.access.now) c.args.write a actor _ c.from_residual.result (Err r) c.plan_for.new.self.sets refl passed.some refl refl same
     (alike_refused old.graph old.sets c.plan_for.new.self.sets actor (words.cell_of old.words) c.args.cell first n r some alike cause asked))
     (subst (λ x. IfErr x (λ e. (e ≡ refusal.FullSets) ⊎ ((e ≡ refusal.OutOfMemory) ⊎ words.may_refuse e))) (sym same) (⊎_elim (λ full. inl full) (λ out. inr (inl out)) cause))
 
@@ -47,7 +51,7 @@ returns-then-are_same-clause-answers g c =
     let old = c.args.self.now in
     let mid = c.plan_for.new.self in
     let a = c.args.access.now in
-    let passed = access_passes (standing old.state) c.args.named.now c.args.write a c.requires.event c.requires.accepted in
+    let passed = access_passes (standing old.state) (access_named c.args.source c.args.number c.args.write c.args.access.now) c.args.write a refl c.requires.accepted in
     let actor = actor_of old a c.args.write in
     let first = a.at / 4 in
     let n : ℕ = (a.at + a.len + 3) / 4 - first in
@@ -65,14 +69,14 @@ returns-then-are_same-clause-answers g c =
     let k = sets_changed words.cell_of words.may_bring words.is_faithful old c.plan_for.new.self c.plan_for.ensures.others c.plan_for.ensures.sets c.plan_for.ensures.numbers c.requires.sound in
     let none = alike_found (mid.state.events + 1) c.args.write a.t first p n (quiet p.reported c.if-not-planned.true) in
     let same : p.cell ≡ c.args.cell = c.are_same.ensures.0 c.if-are_same.true in
-    access_answers words.cell_of words.may_bring words.is_faithful words.may_refuse old mid _ c.args.named.now c.args.write a (mid.state.events + 1) 0 _ plan
-    c.requires.event passed k laws.brings_more laws.more_faithful laws.faithful_within c.requires.sound c.requires.lawful
-    c.follow.ensures refl refl refl refl all_planned (length-replicate n p)
+    access_answers words.cell_of words.may_bring words.is_faithful words.may_refuse old mid _ (access_named c.args.source c.args.number c.args.write c.args.access.now) c.args.write a (mid.state.events + 1) 0 _ plan
+    refl passed k laws.brings_more laws.more_faithful laws.faithful_within c.requires.sound c.requires.lawful
+    (λ content parts. c.follow_access.ensures content c.args.write c.args.access.now parts) refl refl refl refl all_planned (length-replicate n p)
     (alike_given (words.cell_of mid.words) (words.cell_of mid.words) p first n (λ w low high. alike_mid w low high ∙ sym same) (λ w out. refl))
     (λ s m each h. h)
     (λ s m each h. h)
     refl (sym (ap (λ xs. take 65536 (mid.kept.items ++ xs)) none ∙ ap (take 65536) (append-nil mid.kept.items) ∙ take_all 65536 mid.kept.items (omega (arith, c.requires.sound.few, ap length k.kept)))) (sym (ap length none)) (sym (add-zero mid.total))
-    (λ h. asked_from words.cell_of (shown_of old) c.args.named.now.event c.args.write a actor _ (Ok tt) (Ok tt) mid.sets c.requires.event passed.some refl refl refl asked)
+    (λ h. asked_from words.cell_of (shown_of old) (access_event c.args.write c.args.access.now) c.args.write a actor _ (Ok tt) (Ok tt) mid.sets refl passed.some refl refl refl asked)
 
 pub returns-then-not-planned-clause-answers : goal.returns-then-not-planned-clause-answers
 returns-then-not-planned-clause-answers g c =
@@ -81,7 +85,7 @@ returns-then-not-planned-clause-answers g c =
     let old = c.args.self.now in
     let mid = c.plan_for.new.self in
     let a = c.args.access.now in
-    let passed = access_passes (standing old.state) c.args.named.now c.args.write a c.requires.event c.requires.accepted in
+    let passed = access_passes (standing old.state) (access_named c.args.source c.args.number c.args.write c.args.access.now) c.args.write a refl c.requires.accepted in
     let actor = actor_of old a c.args.write in
     let first = a.at / 4 in
     let n : ℕ = (a.at + a.len + 3) / 4 - first in
@@ -101,14 +105,14 @@ returns-then-not-planned-clause-answers g c =
     let inside : (w : ℕ) → first ≤ w → w < first + n → words.cell_of c.fill.new.self w ≡ p.cell = λ w low high. c.fill.ensures.inside w (omega (arith, c.requires.first)) (omega (arith, c.requires.first, c.requires.count)) in
     let outside : (w : ℕ) → (w < first) ⊎ (first + n ≤ w) → words.cell_of c.fill.new.self w ≡ words.cell_of mid.words w =
     λ w out. c.fill.ensures.outside w (⊎_elim (λ low. inl (omega (arith, c.requires.first))) (λ high. inr (omega (arith, c.requires.first, c.requires.count))) out) in
-    access_answers words.cell_of words.may_bring words.is_faithful words.may_refuse old mid _ c.args.named.now c.args.write a (mid.state.events + 1) 0 _ plan
-    c.requires.event passed k laws.brings_more laws.more_faithful laws.faithful_within c.requires.sound c.requires.lawful
-    c.follow.ensures refl refl refl refl all_planned (length-replicate n p)
+    access_answers words.cell_of words.may_bring words.is_faithful words.may_refuse old mid _ (access_named c.args.source c.args.number c.args.write c.args.access.now) c.args.write a (mid.state.events + 1) 0 _ plan
+    refl passed k laws.brings_more laws.more_faithful laws.faithful_within c.requires.sound c.requires.lawful
+    (λ content parts. c.follow_access.ensures content c.args.write c.args.access.now parts) refl refl refl refl all_planned (length-replicate n p)
     (alike_given (words.cell_of mid.words) (words.cell_of c.fill.new.self) p first n inside outside)
     (λ s m each h. c.fill.ensures.lawful s m (alike_within s m p n some each) h)
     (λ s m each h. c.fill.ensures.faithful s m (alike_within s m p n some each) h)
     refl (sym (ap (λ xs. take 65536 (mid.kept.items ++ xs)) none ∙ ap (take 65536) (append-nil mid.kept.items) ∙ take_all 65536 mid.kept.items (omega (arith, c.requires.sound.few, ap length k.kept)))) (sym (ap length none)) (sym (add-zero mid.total))
-    (λ h. asked_from words.cell_of (shown_of old) c.args.named.now.event c.args.write a actor _ (Ok tt) (Ok tt) mid.sets c.requires.event passed.some refl refl refl asked)
+    (λ h. asked_from words.cell_of (shown_of old) (access_event c.args.write c.args.access.now) c.args.write a actor _ (Ok tt) (Ok tt) mid.sets refl passed.some refl refl refl asked)
 
 pub returns-in_err-map_err-clause-answers : goal.returns-in_err-map_err-clause-answers
 returns-in_err-map_err-clause-answers g c =
@@ -117,7 +121,7 @@ returns-in_err-map_err-clause-answers g c =
     let old = c.args.self.now in
     let mid = c.plan_for.new.self in
     let a = c.args.access.now in
-    let passed = access_passes (standing old.state) c.args.named.now c.args.write a c.requires.event c.requires.accepted in
+    let passed = access_passes (standing old.state) (access_named c.args.source c.args.number c.args.write c.args.access.now) c.args.write a refl c.requires.accepted in
     let actor = actor_of old a c.args.write in
     let first = a.at / 4 in
     let n : ℕ = (a.at + a.len + 3) / 4 - first in
@@ -149,16 +153,16 @@ returns-in_err-map_err-clause-answers g c =
     }
     in
     let same : c.from_residual-in_err-map_err.result ≡ Err refusal.OutOfMemory = grind arith in
-    refused_answers words.cell_of words.may_bring words.is_faithful words.may_refuse old roomy c.args.named.now c.from_residual-in_err-map_err.result refusal.OutOfMemory
+    refused_answers words.cell_of words.may_bring words.is_faithful words.may_refuse old roomy (access_named c.args.source c.args.number c.args.write c.args.access.now) c.from_residual-in_err-map_err.result refusal.OutOfMemory
     same roomier laws.brings_more laws.more_faithful laws.faithful_within c.requires.sound c.requires.lawful
-    (λ h. asked_from words.cell_of (shown_of old) c.args.named.now.event c.args.write a actor _ c.from_residual-in_err-map_err.result (Err refusal.OutOfMemory) mid.sets c.requires.event passed.some refl refl same (inr (inl asked)))
+    (λ h. asked_from words.cell_of (shown_of old) (access_event c.args.write c.args.access.now) c.args.write a actor _ c.from_residual-in_err-map_err.result (Err refusal.OutOfMemory) mid.sets refl passed.some refl refl same (inr (inl asked)))
     (subst (λ x. IfErr x (λ e. (e ≡ refusal.FullSets) ⊎ ((e ≡ refusal.OutOfMemory) ⊎ words.may_refuse e))) (sym same) (inr (inl refl)))
 
 pub add_reports-reports-requires-clause-fits : goal.add_reports-reports-requires-clause-fits
 add_reports-reports-requires-clause-fits g c =
     let old = c.args.self.now in
     let a = c.args.access.now in
-    let passed = access_passes (standing old.state) c.args.named.now c.args.write a c.requires.event c.requires.accepted in
+    let passed = access_passes (standing old.state) (access_named c.args.source c.args.number c.args.write c.args.access.now) c.args.write a refl c.requires.accepted in
     let len = ap length (c.as_slice-2.ensures.value ∙ c.plan_alike.ensures.items) ∙ length-replicate c.args.count c.in_ok-planned.planned in
     omega (arith, len, c.requires.count, c.requires.first, passed.within, passed.some)
 
@@ -166,8 +170,8 @@ pub overflow_add-self : goal.overflow_add-self
 overflow_add-self g c =
     let old = c.args.self.now in
     let a = c.args.access.now in
-    let passed = access_passes (standing old.state) c.args.named.now c.args.write a c.requires.event c.requires.accepted in
-    let few = found_few (c.events-number.result + 1) c.args.write a.t c.args.first c.as_slice-2.result.now in
+    let passed = access_passes (standing old.state) (access_named c.args.source c.args.number c.args.write c.args.access.now) c.args.write a refl c.requires.accepted in
+    let few = found_few (c.events-next.result + 1) c.args.write a.t c.args.first c.as_slice-2.result.now in
     let len = ap length (c.as_slice-2.ensures.value ∙ c.plan_alike.ensures.items) ∙ length-replicate c.args.count c.in_ok-planned.planned in
     omega (arith, few, len, c.add_reports-reports.ensures.count, ap (λ e. e.total) c.plan_for.ensures.others, c.requires.sound.total, passed.events, c.requires.count, c.requires.first, passed.few, passed.some)
 
@@ -178,7 +182,7 @@ returns-clause-answers g c =
     let old = c.args.self.now in
     let mid = c.plan_for.new.self in
     let a = c.args.access.now in
-    let passed = access_passes (standing old.state) c.args.named.now c.args.write a c.requires.event c.requires.accepted in
+    let passed = access_passes (standing old.state) (access_named c.args.source c.args.number c.args.write c.args.access.now) c.args.write a refl c.requires.accepted in
     let actor = actor_of old a c.args.write in
     let first = a.at / 4 in
     let n : ℕ = (a.at + a.len + 3) / 4 - first in
@@ -214,13 +218,13 @@ returns-clause-answers g c =
     let outside : (w : ℕ) → (w < first) ⊎ (first + n ≤ w) → words.cell_of c.fill-2.new.self w ≡ words.cell_of mid.words w =
     λ w out. c.fill-2.ensures.outside w (⊎_elim (λ low. inl (omega (arith, c.requires.first))) (λ high. inr (omega (arith, c.requires.first, c.requires.count))) out) in
     let slice : c.as_slice-2.result.now ≡ replicate n p = c.as_slice-2.ensures.value ∙ planned_room in
-    let items = c.add_reports-reports.ensures.items ∙ (λ i. take 65536 (c.reserve_reports.new.kept.items ++ found (c.events-number.result + 1) c.args.write a.t (c.requires.first i) (slice i))) in
-    let count = c.add_reports-reports.ensures.count ∙ (λ i. length (found (c.events-number.result + 1) c.args.write a.t (c.requires.first i) (slice i))) in
-    access_answers words.cell_of words.may_bring words.is_faithful words.may_refuse old roomy _ c.args.named.now c.args.write a (c.events-number.result + 1) c.add_reports-reports.result _ plan
-    c.requires.event passed roomier laws.brings_more laws.more_faithful laws.faithful_within c.requires.sound c.requires.lawful
-    c.follow-2.ensures refl refl refl refl all_planned (length-replicate n p)
+    let items = c.add_reports-reports.ensures.items ∙ (λ i. take 65536 (c.reserve_reports.new.kept.items ++ found (c.events-next.result + 1) c.args.write a.t (c.requires.first i) (slice i))) in
+    let count = c.add_reports-reports.ensures.count ∙ (λ i. length (found (c.events-next.result + 1) c.args.write a.t (c.requires.first i) (slice i))) in
+    access_answers words.cell_of words.may_bring words.is_faithful words.may_refuse old roomy _ (access_named c.args.source c.args.number c.args.write c.args.access.now) c.args.write a (c.events-next.result + 1) c.add_reports-reports.result _ plan
+    refl passed roomier laws.brings_more laws.more_faithful laws.faithful_within c.requires.sound c.requires.lawful
+    (λ content parts. c.follow_access-2.ensures content c.args.write c.args.access.now parts) refl refl refl refl all_planned (length-replicate n p)
     (alike_given (words.cell_of mid.words) (words.cell_of c.fill-2.new.self) p first n inside outside)
     (λ s m each h. c.fill-2.ensures.lawful s m (alike_within s m p n some each) h)
     (λ s m each h. c.fill-2.ensures.faithful s m (alike_within s m p n some each) h)
-    (ap (λ (x : ℕ). x + 1) c.events-number.ensures) items count refl
-    (λ h. asked_from words.cell_of (shown_of old) c.args.named.now.event c.args.write a actor _ (Ok tt) (Ok tt) mid.sets c.requires.event passed.some refl refl refl asked)
+    (ap (λ (x : ℕ). x + 1) c.events-next.ensures) items count refl
+    (λ h. asked_from words.cell_of (shown_of old) (access_event c.args.write c.args.access.now) c.args.write a actor _ (Ok tt) (Ok tt) mid.sets refl passed.some refl refl refl asked)
