@@ -14,3 +14,4 @@ pub mod StreamLemmas
 pub mod SplitterLemmas
 pub mod ReaderLemmas
 pub mod TableLemmas
+pub mod Numbering

@@ -171,6 +171,7 @@ pub record IsTakenTo (old now : Pending) (piece rest : List ℕ) : Type 0 where
   pub shorter : length rest ≤ length piece
   pub left : drop (length piece - length rest) piece ≡ rest
   pub counted : now.lines + length rest ≤ old.lines + length piece
+  pub rising : old.lines ≤ now.lines
   pub readings : (over : Bool) (more : List ℕ) → read_from over old (piece ++ more) ≡ read_from over now (rest ++ more)
 
 line_gives : (over : Bool) (old new : Splitting) (piece : List ℕ) (used : ℕ) (rs : List Reading) → EndsLine old new piece used → rs ≡ readings_in ((new.pending.lines, new.last) ∷ []) → (more : List ℕ)
@@ -189,6 +190,7 @@ taken_on : (old : Pending) (now new : Splitting) (piece rest : List ℕ) (used :
     → rs ≡ readings_in ((new.pending.lines, new.last) ∷ [])
     → (length (drop used rest) < length rest) × (drop (length piece - length (drop used rest)) piece ≡ drop used rest)
     × (new.pending.lines + length (drop used rest) ≤ old.lines + length piece)
+    × (old.lines < new.pending.lines)
     × ((over : Bool) (more : List ℕ) → read_from over old (piece ++ more) ≡ rs ++ read_from over new.pending (drop used rest ++ more))
 taken_on old now new piece rest used rs t h is =
     let count : length (drop used rest) ≡ length rest - used = length-drop used rest in
@@ -196,6 +198,7 @@ taken_on old now new piece rest used rs t h is =
       omega (arith, h.some, h.within),
       ap (λ k. drop k piece) place ∙ (sym (drop-drop used (length piece - length rest) piece) ∙ ap (drop used) t.left),
       omega (arith, t.counted, h.counted, h.some, h.within),
+      omega (arith, t.rising, h.counted),
       λ over more. t.readings over more ∙ line_gives over now new rest used rs h is more,
     )
 
@@ -205,7 +208,16 @@ taken_skips old now new piece rest used t h none =
     let on = taken_on old now new piece rest used [] t h none in
     let P : List ℕ → Type 0 = IsTakenTo old new.pending piece in
     subst P (sym (between_to_end rest used (length rest) (omega arith)))
-    (record { shorter = omega (arith, on.0, t.shorter); left = on.1; counted = on.2; readings = on.3 })
+    (record { shorter = omega (arith, on.0, t.shorter); left = on.1; counted = on.2; rising = omega (arith, on.3); readings = on.4 })
+
+-- what is read of a line has its number
+number_of_one : (n : ℕ) (line : List ℕ) (reading : Reading) → reading ∷ [] ≡ readings_in ((n, line) ∷ []) → reading.line ≡ n
+number_of_one n line reading one =
+    elim (cases_Bool (not (is_skipped line))) [
+      | inl read ↦ (let same : reading ∷ [] ≡ reading_of (n, line) ∷ [] = one ∙ read_more n line [] read in
+          let is : reading ≡ reading_of (n, line) = cc in ap (λ (r : Reading). r.line) is)
+      | inr skipped ↦ absurd (let none : reading ∷ [] ≡ [] = one ∙ skip_more n line [] skipped in cc)
+    ]
 
 pub taken_gives : (old : Pending) (now new : Splitting) (piece rest : List ℕ) (used : ℕ) (reading : Reading) → IsTakenTo old now.pending piece rest → EndsLine now new rest used
     → reading ∷ [] ≡ readings_in ((new.pending.lines, new.last) ∷ [])
@@ -219,8 +231,11 @@ taken_gives old now new piece rest used reading t h one =
       some = omega (arith, on.0, t.shorter);
       within = omega arith;
       counted = omega (arith, on.2, on.0, t.shorter);
-      readings = λ more. on.3 true more ∙ ap (λ left. reading ∷ read_from true new.pending (left ++ more)) (sym on.1);
-      ended = λ more. on.3 false more ∙ ap (λ left. reading ∷ read_from false new.pending (left ++ more)) (sym on.1);
+      rising = on.3;
+      numbered = number_of_one new.pending.lines new.last reading one;
+      between = h.begun;
+      readings = λ more. on.4 true more ∙ ap (λ left. reading ∷ read_from true new.pending (left ++ more)) (sym on.1);
+      ended = λ more. on.4 false more ∙ ap (λ left. reading ∷ read_from false new.pending (left ++ more)) (sym on.1);
     }
     )
 
@@ -238,7 +253,7 @@ pub event_gives : (pending : Pending) (piece : List ℕ) (event : Event) (used :
     → GivesReading pending (record { lines = pending.lines + 1; begun = pending.begun }) piece (record { line = pending.lines + 1; event = Ok event }) used
 event_gives pending piece event used between_lines h =
     let left = event_line_rest piece event used h in
-    record { some = left.1; within = left.2; counted = omega (arith, left.1); readings = gives true; ended = gives false }
+    record { some = left.1; within = left.2; counted = omega (arith, left.1); rising = omega arith; numbered = refl; between = between_lines; readings = gives true; ended = gives false }
   where
     gives : (over : Bool) (more : List ℕ)
         → read_from over pending (piece ++ more)

@@ -22,6 +22,7 @@ ends_line n begun last piece end h p =
       some = omega arith;
       within = omega (arith, p.within);
       counted = refl;
+      begun = refl;
       line = λ over more. ap (enumerate_from (n + 1)) (line_taken over begun piece more end h p);
     }
 

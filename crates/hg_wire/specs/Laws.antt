@@ -1,9 +1,9 @@
 -- Definition: part of what `check` promises. The laws of the grammar, which empty public functions promise.
-use Rattle.std.specs.Prelude.{◌≡◌, ℕ, ◌↔◌, List, Ok, Err}
+use Rattle.std.specs.Prelude.{◌≡◌, ℕ, ◌↔◌, List, Ok, Err, map}
 use Rattle.hg_model.specs.declared.event.Event.{Event}
 use Rattle.hg_wire.specs.declared.line.LineFault.{LineFault}
 use Rattle.hg_wire.specs.Lines.{IsLine, HasFault, line_of}
-use Rattle.hg_wire.specs.Streams.{readings, readings_from, at_start}
+use Rattle.hg_wire.specs.Streams.{at_start, between_lines, ended_from, numbered_on, readings, readings_from}
 
 -- An event is read of just the lines that spell it.
 abbrev pub EventsAreSpelled : Type 0
@@ -16,3 +16,8 @@ FaultsAreFirst = (bytes : List ℕ) (fault : LineFault) → (line_of bytes ≡ E
 -- What is read from the start of a stream on is what is read of all of it.
 abbrev pub StreamsAreWhole : Type 0
 StreamsAreWhole = (stream : List ℕ) → readings_from at_start stream ≡ readings stream
+
+-- What is read behind some lines is what is read at the start of a stream, with those lines added to each number.
+abbrev pub LinesAreNumberedOn : Type 0
+LinesAreNumberedOn = (k : ℕ) (stream : List ℕ) → (readings_from (between_lines k) stream ≡ map (numbered_on k) (readings_from at_start stream))
+    × (ended_from (between_lines k) stream ≡ map (numbered_on k) (ended_from at_start stream))

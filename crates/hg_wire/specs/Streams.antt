@@ -1,6 +1,7 @@
 -- For proofs alone: how far a reader has come in a stream, and what each call of it takes.
-use Rattle.std.specs.Prelude.{◌≡◌, ℕ, ◌+◌, ◌<◌, ◌≤◌, Bool, true, false, nat_lt, List, [], ◌∷◌, ◌++◌, length, take, drop, map, if◌then◌else◌}
+use Rattle.std.specs.Prelude.{◌≡◌, ◌⊎◌, ℕ, ◌+◌, ◌<◌, ◌≤◌, Bool, true, false, nat_lt, List, [], ◌∷◌, ◌++◌, length, take, drop, map, Some, None, if◌then◌else◌}
 use Rattle.std.specs.List.{enumerate_from}
+use Rattle.memchr.specs.Find.{IsFirstByte, IsLastByte, is_byte}
 use Rattle.hg_wire.specs.declared.reader.Reading.{Reading}
 use Rattle.hg_wire.specs.declared.reader.Taken.{Taken}
 use Rattle.hg_wire.specs.declared.reader.Taken.TheVariants.{Line, More}
@@ -14,6 +15,14 @@ pub record Pending : Type 0 where
 
 abbrev pub at_start : Pending
 at_start = record { lines = 0; begun = [] }
+
+-- So many lines have ended, and none has begun since.
+abbrev pub between_lines : ℕ → Pending
+between_lines n = record { lines = n; begun = [] }
+
+-- The reading, of a line that stands so many lines further on.
+abbrev pub numbered_on : ℕ → Reading → Reading
+numbered_on k reading = record { line = k + reading.line; event = reading.event }
 
 -- What is read of the rest of a stream.
 abbrev pub readings_from : Pending → List ℕ → List Reading
@@ -41,6 +50,7 @@ pub record EndsLine (old new : Splitting) (piece : List ℕ) (used : ℕ) : Type
   pub some : 0 < used
   pub within : used ≤ length piece
   pub counted : new.pending.lines ≡ old.pending.lines + 1
+  pub begun : new.pending.begun ≡ []
   pub line : (over : Bool) (more : List ℕ) → lines_from over old.pending (piece ++ more) ≡ (new.pending.lines, new.last) ∷ lines_from over new.pending (drop used piece ++ more)
 
 -- Taking all of the piece ends no line.
@@ -60,6 +70,9 @@ pub record GivesReading (old new : Pending) (piece : List ℕ) (reading : Readin
   pub some : 0 < used
   pub within : used ≤ length piece
   pub counted : new.lines ≤ old.lines + used
+  pub rising : old.lines < new.lines
+  pub numbered : reading.line ≡ new.lines
+  pub between : new.begun ≡ []
   pub readings : (more : List ℕ) → readings_from old (piece ++ more) ≡ reading ∷ readings_from new (drop used piece ++ more)
   pub ended : (more : List ℕ) → ended_from old (piece ++ more) ≡ reading ∷ ended_from new (drop used piece ++ more)
 
@@ -74,3 +87,11 @@ pub record GivesNoReading (old new : Pending) (piece : List ℕ) : Type 0 where
 abbrev pub Takes : Pending → Pending → List ℕ → Taken → Type 0
 Takes old new piece (Line reading used) = GivesReading old new piece reading used
 Takes old new piece More = GivesNoReading old new piece
+
+-- So many bytes end with the first line feed of a text, or are all of it where it has none.
+abbrev pub EndFirstLine : List ℕ → ℕ → Type 0
+EndFirstLine text end = (IsFirstByte (is_byte 10) text None × (end ≡ length text)) ⊎ ((at : ℕ) × IsFirstByte (is_byte 10) text (Some at) × (end ≡ at + 1))
+
+-- So many bytes end with the last line feed of a text, or are none where it has none.
+abbrev pub EndLastLine : List ℕ → ℕ → Type 0
+EndLastLine text end = (IsLastByte (is_byte 10) text None × (end ≡ 0)) ⊎ ((at : ℕ) × IsLastByte (is_byte 10) text (Some at) × (end ≡ at + 1))

@@ -1,6 +1,6 @@
 //! Laws of the grammar, each the promise of a function without a body.
 
-ghost use Rattle.hg_wire.specs.Laws.{EventsAreSpelled, FaultsAreFirst, StreamsAreWhole};
+ghost use Rattle.hg_wire.specs.Laws.{EventsAreSpelled, FaultsAreFirst, LinesAreNumberedOn, StreamsAreWhole};
 
 /// A line gives an event exactly where its bytes spell that event.
 pub fn events_are_spelled()
@@ -15,4 +15,9 @@ pub fn faults_are_first()
 /// What is read from the start of a stream on is what is read of all of it.
 pub fn streams_are_whole()
     ensures { StreamsAreWhole }
+{}
+
+/// What is read behind some lines is what is read at the start of a stream, with those lines added to each number.
+pub fn lines_are_numbered_on()
+    ensures { LinesAreNumberedOn }
 {}

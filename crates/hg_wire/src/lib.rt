@@ -1,6 +1,7 @@
 //! The language of bytes: the text of traces and reports.
 #![tactic(auto)]
 
+pub mod cuts;
 pub mod diagnosis;
 mod held;
 pub mod laws;

@@ -1,6 +1,6 @@
 //! The events of a stream of trace text.
 
-ghost use Rattle.std.specs.Prelude.{◌≡◌, ◌+◌, ◌<◌, ◌^◌, ◌∷◌, [], length, option_to_list, IfOk, IfSome, IfNone, Ok};
+ghost use Rattle.std.specs.Prelude.{◌≡◌, ◌+◌, ◌<◌, ◌^◌, ◌∷◌, [], length, option_to_list, IfOk, IfSome, IfNone, IsTrue, ◌↔◌, Ok};
 ghost use Rattle.hg_wire.specs.Streams.{Takes, readings_in};
 
 use crate::line::{AccessLine, LineFault, access_line_in_front, event_line_in_front, read_line};
@@ -97,6 +97,29 @@ impl EventReader {
         ensures { result ≡ self.now.lines }
     {
         self.splitter.lines()
+    }
+
+    /// Whether no line has begun that has not ended.
+    #[inline(always)]
+    pub fn is_between_lines(&self) -> bool
+        ensures { IsTrue result ↔ (self.now.begun ≡ []) }
+    {
+        self.splitter.is_between_lines()
+    }
+
+    /// Counts lines that were taken from the stream elsewhere, as wholes and between lines.
+    pub fn count_lines(&mut self, count: u64)
+        requires { self.old.lines + count < 2 ^ 64 }
+        ensures { self.new ≡ record { lines = self.old.lines + count; begun = self.old.begun } }
+    {
+        self.splitter.count_lines(count);
+    }
+
+    /// Goes to the start of a stream, in the memory that it has.
+    pub fn reset(&mut self)
+        ensures { self.new ≡ at_start }
+    {
+        self.splitter.reset();
     }
 
     /// What the last line says, which may lack its line feed, where it is neither empty nor a comment.

@@ -83,6 +83,26 @@ impl Splitter {
         self.lines += 1;
     }
 
+    /// Counts lines that were taken from the stream elsewhere, as wholes and between lines.
+    #[inline(always)]
+    pub fn count_lines(&mut self, count: u64)
+        requires { self.old.pending.lines + count < 2 ^ 64 }
+        ensures { self.new ≡ record {
+          pending = record { lines = self.old.pending.lines + count; begun = self.old.pending.begun };
+          last = self.old.last;
+        } }
+    {
+        self.lines += count;
+    }
+
+    /// Goes to the start of a stream, in the memory that it has.
+    pub fn reset(&mut self)
+        ensures { self.new.pending ≡ at_start }
+    {
+        self.lines = 0;
+        self.line.clear();
+    }
+
     /// Takes the piece up to and with its first line feed, which ends a line, or all of it where it has none.
     /// The answer says how many bytes were taken where a line has ended.
     pub fn take(&mut self, piece: &[u8]) -> Option<usize>
