@@ -1,3 +1,6 @@
 pub mod Passing
 pub mod Runs
 pub mod Through
+pub mod Keeping
+pub mod Parsing
+pub mod Pushing

@@ -1,5 +1,5 @@
 -- What was read by one sink, seen as what a part of it took.
-use Rattle.std.proofs.Common.{◌≡◌, List, Option, None, Result, Ok}
+use Rattle.std.proofs.Common.{List, Option, None, Result, Ok}
 use Rattle.hg_model.specs.declared.verdict.Refusal.{Refusal}
 use Rattle.hg_streams.specs.declared.call.ReadCall.{ReadCall}
 use Rattle.hg_streams.specs.declared.call.WriteCall.{WriteCall}

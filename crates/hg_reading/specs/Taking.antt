@@ -42,6 +42,12 @@ module _ {S E : Type 0} (takes : Taking S E) where
     pub steps : takes before at_first lines r now at_last
     pub front : (more : List ℕ) → (rest : List Reading) × (readings_from old (piece ++ more) ≡ lines ++ rest)
 
+  -- What came of a piece: each line was passed and the piece taken whole, or a line ended the run or was broken off.
+  abbrev pub Pushes : Pending → S → List WriteCall → List ℕ → Result (Option E) Refusal → Pending → S → List WriteCall → Type 0
+  Pushes old before at_first piece (Ok None) new now at_last = Passes old before at_first piece new now at_last []
+  Pushes old before at_first piece (Ok (Some end)) new now at_last = StopsIn old before at_first piece (Ok (Some end)) now at_last
+  Pushes old before at_first piece (Err r) new now at_last = StopsIn old before at_first piece (Err r) now at_last
+
   -- From the first reads to those of now none failed and none met the end, and each line that a line feed ended was passed.
   pub record HasRead (first now : List ReadCall) (before : S) (at_first : List WriteCall) (p : Pending) (here : S) (at_last : List WriteCall) : Type 0 where
     pub later : List ReadCall

@@ -1,11 +1,12 @@
 //! A whole trace text.
 
-ghost use Rattle.std.specs.Prelude.{◌≡◌, ◌+◌, ◌*◌, ◌<◌, ◌^◌, [], Ok, Err, None, IfErr, IfOk, length};
+ghost use Rattle.std.specs.Prelude.{◌≡◌, ◌+◌, ◌*◌, ◌<◌, ◌≤◌, ◌^◌, [], Ok, Err, None, IfErr, IfOk, length};
 ghost use Rattle.hg_model.specs.declared.verdict.Refusal.{Refusal as RefusalOf};
 ghost use Rattle.hg_wire.specs.Streams.{at_start, readings_from};
 ghost use Rattle.hg_reading.specs.Taking.{Advances, Breaks, MeetsEnd, Reads, Stops};
 
-use crate::pieces::push;
+use crate::pieces::{Alone, Pieces};
+use crate::side_by_side::SideBySide;
 use crate::sink::Sink;
 use hg_model::verdict::Refusal;
 use hg_streams::input::Input;
@@ -13,9 +14,14 @@ use hg_streams::output::Output;
 use hg_wire::reader::EventReader;
 use std::alloc::{AllocError, Global};
 use std::io::Read;
+use std::marker::Sync;
+use std::thread::Threads;
 
 /// How many bytes are read at once.
 const PIECE: usize = 65_536;
+
+/// How many bytes are read at once where several threads parse them.
+const LARGE_PIECE: usize = 4_194_304;
 
 /// After how many reads an input counts as failed.
 const MOST_READS: u64 = 1 << 32;
@@ -46,22 +52,35 @@ fn reader_at_start(alloc: Global) -> Result<EventReader, Refusal>
 }
 
 /// Room for a piece.
-fn piece_buffer(alloc: Global) -> Result<Vec<u8>, Refusal>
-    ensures size { IfOk result (λ buffer. length buffer.items ≡ 65536) }
+fn piece_buffer(alloc: Global, size: usize) -> Result<Vec<u8>, Refusal>
+    ensures size { IfOk result (λ buffer. length buffer.items ≡ size) }
     ensures cause { IfErr result (λ r. r ≡ Refusal.OutOfMemory) }
 {
-    vec![in alloc; 0; PIECE].map_err(out_of_memory)
+    vec![in alloc; 0; size].map_err(out_of_memory)
+}
+
+/// Threads that parse side by side, and the memory for what they keep.
+fn side_by_side<'a, T: Threads + Sync>(
+    rt: &'a T,
+    jobs: usize,
+    alloc: Global,
+) -> Result<SideBySide<'a, T>, Refusal>
+    ensures cause { IfErr result (λ r. r ≡ Refusal.OutOfMemory) }
+{
+    SideBySide::new(rt, jobs, alloc).map_err(out_of_memory)
 }
 
 /// Reads once, and offers the lines of what came.
 #[inline(always)]
-fn advance<R: Read, W, S: Sink<W>>(
+fn advance<P: Pieces<W, S>, R: Read, W, S: Sink<W>>(
+    pieces: &mut P,
     input: &mut Input<R>,
     buffer: &mut [u8],
     reader: &mut EventReader,
     sink: &mut S,
     output: &mut Output<W>,
 ) -> Result<Progress<S::End>, Refusal>
+    requires may { P.may_push pieces.old }
     requires some { 0 < length buffer.old }
     requires lines { reader.old.lines + length buffer.old < 2 ^ 64 }
     requires room { S.may_take sink.old (length buffer.old) }
@@ -72,6 +91,7 @@ fn advance<R: Read, W, S: Sink<W>>(
     ensures breaks { (r : RefusalOf) → result ≡ Err r → Breaks S.takes input.old.calls input.new.calls reader.old sink.old output.old.calls r sink.new output.new.calls }
     ensures size { length buffer.new ≡ length buffer.old }
     ensures counted { length input.new.calls ≡ 1 + length input.old.calls }
+    ensures may { P.may_push pieces.new }
 {
     let Some(count) = input.read(buffer)? else {
         return Ok(Progress::Underway);
@@ -79,7 +99,7 @@ fn advance<R: Read, W, S: Sink<W>>(
     if count == 0 {
         return Ok(Progress::AtEnd);
     }
-    match push(reader, sink, &buffer[..count], output)? {
+    match pieces.push(reader, sink, &buffer[..count], output)? {
         None => {
             sink.print(output)?;
             Ok(Progress::Underway)
@@ -115,12 +135,66 @@ pub fn read<R: Read, W, S: Sink<W>>(
     requires room { S.may_take sink.old (2 ^ 48) }
     ensures { Reads S.takes input.old.calls input.new.calls sink.old output.old.calls result sink.new output.new.calls }
 {
-    let mut reader = reader_at_start(alloc)?;
-    let mut buffer = piece_buffer(alloc)?;
+    let reader = reader_at_start(alloc)?;
+    let mut buffer = piece_buffer(alloc, PIECE)?;
+    read_pieces(
+        &mut Alone,
+        reader,
+        buffer.as_mut_slice(),
+        input,
+        sink,
+        output,
+    )
+}
+
+/// As `read`, with the lines parsed by up to so many threads, the one that calls among them. What the sink takes does not depend on them.
+pub fn read_side_by_side<T: Threads + Sync, R: Read, W, S: Sink<W>>(
+    rt: &T,
+    jobs: usize,
+    alloc: Global,
+    input: &mut Input<R>,
+    sink: &mut S,
+    output: &mut Output<W>,
+) -> Result<Option<S::End>, Refusal>
+    requires room { S.may_take sink.old (2 ^ 54) }
+    ensures { Reads S.takes input.old.calls input.new.calls sink.old output.old.calls result sink.new output.new.calls }
+{
+    if jobs < 2 {
+        return read(alloc, input, sink, output);
+    }
+    let reader = reader_at_start(alloc)?;
+    let mut buffer = piece_buffer(alloc, LARGE_PIECE)?;
+    let mut pieces = side_by_side(rt, jobs, alloc)?;
+    read_pieces(
+        &mut pieces,
+        reader,
+        buffer.as_mut_slice(),
+        input,
+        sink,
+        output,
+    )
+}
+
+/// Reads a trace text in pieces of at most the size of the buffer.
+#[inline(always)]
+fn read_pieces<P: Pieces<W, S>, R: Read, W, S: Sink<W>>(
+    pieces: &mut P,
+    mut reader: EventReader,
+    buffer: &mut [u8],
+    input: &mut Input<R>,
+    sink: &mut S,
+    output: &mut Output<W>,
+) -> Result<Option<S::End>, Refusal>
+    requires may { P.may_push pieces.old }
+    requires start { reader ≡ at_start }
+    requires size { (0 < length buffer.old) × (length buffer.old ≤ 2 ^ 22) }
+    requires room { S.may_take sink.old (length buffer.old * 2 ^ 32) }
+    ensures { Reads S.takes input.old.calls input.new.calls sink.old output.old.calls result sink.new output.new.calls }
+{
     let mut reads = 0;
     while reads < MOST_READS {
         reads += 1;
-        match advance(input, buffer.as_mut_slice(), &mut reader, sink, output)? {
+        match advance(pieces, input, buffer, &mut reader, sink, output)? {
             Progress::Underway => {}
             Progress::Stopped(end) => return Ok(Some(end)),
             Progress::AtEnd => return finish(reader, sink, output),

@@ -1,14 +1,15 @@
 use Rattle.std.proofs.Common.{◌≡◌, ◌+◌, ◌-◌, ◌*◌, ◌≤◌, ◌^◌, length}
 use Rattle.hg_reading.specs.Taking.{HasRead}
-use Rattle.hg_reading.proofs.whole.read.Given as goal
+use Rattle.hg_reading.proofs.whole.read_pieces.Given as goal
 
 abbrev pub invariant-loop-reads : goal.invariant-loop-reads
 invariant-loop-reads g l =
     record {
       run : HasRead g.S.Sink.takes l.fn.input.calls l.input.calls l.fn.sink l.fn.output.calls l.reader l.sink l.output.calls;
-      lines : l.reader.lines ≤ 65536 * l.reads;
-      room : g.S.Sink.may_take l.sink (65536 * (2 ^ 32 - l.reads));
-      size : length l.buffer.items ≡ 65536;
+      lines : l.reader.lines ≤ length l.fn.buffer * l.reads;
+      room : g.S.Sink.may_take l.sink (length l.fn.buffer * (2 ^ 32 - l.reads));
+      size : length l.buffer ≡ length l.fn.buffer;
+      may : g.P.Pieces.may_push l.pieces;
       counted : length l.input.calls ≡ l.reads + length l.fn.input.calls;
     }
 

@@ -1,0 +1,161 @@
+-- Pieces in parts: what came of the first bytes, and then of the others.
+use Rattle.std.proofs.Common.{◌≡◌, ℕ, ◌+◌, ◌-◌, List, [], ◌∷◌, ◌++◌, length, take, drop, Option, None, Some, Result, Ok, Err, refl, sym, ap, ◌∙◌, subst, arith}
+use Rattle.std.proofs.lemmas.List.{append-nil, append_assoc, length-append, length-drop, drop_at}
+use Rattle.hg_model.specs.declared.verdict.Refusal.{Refusal}
+use Rattle.hg_streams.specs.declared.call.WriteCall.{WriteCall}
+use Rattle.hg_wire.specs.declared.reader.Reading.{Reading}
+use Rattle.hg_wire.specs.Streams.{Pending, between_lines, ended_from, readings_from}
+use Rattle.hg_reading.specs.declared.kept.Kept.{Kept}
+use Rattle.hg_reading.specs.declared.part.Part.{Part}
+use Rattle.hg_reading.specs.Keeping.{AreHeld, IsKept, IsOffered, readings_kept}
+use Rattle.hg_reading.specs.Taking.{Passes, Pushes, StopsIn, Taking}
+
+module _ {S E : Type 0} (takes : Taking S E) where
+  pub pushes_by : (p : Pending) (a : S) (at_a : List WriteCall) (piece : List ℕ) (r : Result (Option E) Refusal) (q : Pending) (b : S) (at_b : List WriteCall)
+      → (r ≡ Ok None → Passes takes p a at_a piece q b at_b []) → ((end : E) → r ≡ Ok (Some end) → StopsIn takes p a at_a piece (Ok (Some end)) b at_b)
+      → ((x : Refusal) → r ≡ Err x → StopsIn takes p a at_a piece (Err x) b at_b) → Pushes takes p a at_a piece r q b at_b
+  pushes_by p a at_a piece (Ok None) q b at_b passes ends breaks = passes refl
+  pushes_by p a at_a piece (Ok (Some end)) q b at_b passes ends breaks = ends end refl
+  pushes_by p a at_a piece (Err x) q b at_b passes ends breaks = breaks x refl
+
+  -- where it stopped
+  pub pushes_stop : (p : Pending) (a : S) (at_a : List WriteCall) (piece : List ℕ) (r : Result (Option E) Refusal) (q : Pending) (b : S) (at_b : List WriteCall)
+      → (r ≡ Ok None → ⊥) → Pushes takes p a at_a piece r q b at_b → StopsIn takes p a at_a piece r b at_b
+  pushes_stop p a at_a piece (Ok None) q b at_b never h = absurd (never refl)
+  pushes_stop p a at_a piece (Ok (Some end)) q b at_b never h = h
+  pushes_stop p a at_a piece (Err x) q b at_b never h = h
+
+  pub stop_pushes : (p : Pending) (a : S) (at_a : List WriteCall) (piece : List ℕ) (r : Result (Option E) Refusal) (q : Pending) (b : S) (at_b : List WriteCall)
+      → (r ≡ Ok None → ⊥) → StopsIn takes p a at_a piece r b at_b → Pushes takes p a at_a piece r q b at_b
+  stop_pushes p a at_a piece (Ok None) q b at_b never h = absurd (never refl)
+  stop_pushes p a at_a piece (Ok (Some end)) q b at_b never h = h
+  stop_pushes p a at_a piece (Err x) q b at_b never h = h
+
+  pub pushes_pass : (p : Pending) (a : S) (at_a : List WriteCall) (piece : List ℕ) (r : Result (Option E) Refusal) (q : Pending) (b : S) (at_b : List WriteCall)
+      → r ≡ Ok None → Pushes takes p a at_a piece r q b at_b → Passes takes p a at_a piece q b at_b []
+  pushes_pass p a at_a piece r q b at_b is h = subst (λ x. Pushes takes p a at_a piece x q b at_b) is h
+
+  -- what was passed of a piece was passed of a longer one
+  pub passes_longer : (p q : Pending) (a b : S) (at_a at_b : List WriteCall) (piece rest tail : List ℕ) → Passes takes p a at_a piece q b at_b rest → Passes takes p a at_a (piece ++ tail) q b at_b (rest ++ tail)
+  passes_longer p q a b at_a at_b piece rest tail h = record {
+    lines = h.lines;
+    steps = h.steps;
+    readings = λ more. ap (readings_from p) (append_assoc piece tail more) ∙ (h.readings (tail ++ more) ∙ ap (λ x. h.lines ++ readings_from q x) (sym (append_assoc rest tail more)));
+    ended = λ more. ap (ended_from p) (append_assoc piece tail more) ∙ (h.ended (tail ++ more) ∙ ap (λ x. h.lines ++ ended_from q x) (sym (append_assoc rest tail more)));
+    counted = omega (arith, h.counted, length-append piece tail, length-append rest tail);
+    few = omega (arith, h.few, length-append piece tail, length-append rest tail);
+  }
+
+  pub stops_longer : (p : Pending) (a b : S) (at_a at_b : List WriteCall) (piece tail : List ℕ) (r : Result (Option E) Refusal) → StopsIn takes p a at_a piece r b at_b → StopsIn takes p a at_a (piece ++ tail) r b at_b
+  stops_longer p a b at_a at_b piece tail r h = record {
+    lines = h.lines;
+    steps = h.steps;
+    front = λ more. let rest = h.front (tail ++ more) in (rest.0, ap (readings_from p) (append_assoc piece tail more) ∙ rest.1);
+  }
+
+  -- there is room for what is left
+  pub room_left : (may_take : S → ℕ → Type 0)
+      → ((a b : S) (at_a at_b : List WriteCall) (first : List Reading) (n : ℕ) → may_take a (length first + n) → takes a at_a first (Ok None) b at_b → may_take b n)
+      → ((s : S) (n more : ℕ) → may_take s (n + more) → may_take s n)
+      → (p q : Pending) (a b : S) (at_a at_b : List WriteCall) (piece rest : List ℕ) → Passes takes p a at_a piece q b at_b rest → may_take a (length piece) → may_take b (length rest)
+  room_left may_take room fewer p q a b at_a at_b piece rest h may =
+      let over = length piece - length h.lines - length rest in
+      let count : length piece ≡ length h.lines + (length rest + over) = omega (arith, h.few) in
+      fewer b (length rest) over (room a b at_a at_b h.lines (length rest + over) (subst (λ (k : ℕ). may_take a k) count may) h.steps)
+
+  module _ (on : (a b c : S) (at_a at_b at_c : List WriteCall) (first later : List Reading) (r : Result (Option E) Refusal)
+      → takes a at_a first (Ok None) b at_b → takes b at_b later r c at_c → takes a at_a (first ++ later) r c at_c)
+    where
+      pub passes_then : (p q s : Pending) (a b c : S) (at_a at_b at_c : List WriteCall) (piece mid rest : List ℕ)
+          → Passes takes p a at_a piece q b at_b mid → Passes takes q b at_b mid s c at_c rest → Passes takes p a at_a piece s c at_c rest
+      passes_then p q s a b c at_a at_b at_c piece mid rest h k = record {
+        lines = h.lines ++ k.lines;
+        steps = on a b c at_a at_b at_c h.lines k.lines (Ok None) h.steps k.steps;
+        readings = λ more. h.readings more ∙ (ap (λ xs. h.lines ++ xs) (k.readings more) ∙ sym (append_assoc h.lines k.lines (readings_from s (rest ++ more))));
+        ended = λ more. h.ended more ∙ (ap (λ xs. h.lines ++ xs) (k.ended more) ∙ sym (append_assoc h.lines k.lines (ended_from s (rest ++ more))));
+        counted = omega (arith, h.counted, k.counted);
+        few = omega (arith, h.few, k.few, length-append h.lines k.lines);
+      }
+
+      pub stops_then : (p q : Pending) (a b c : S) (at_a at_b at_c : List WriteCall) (piece mid : List ℕ) (r : Result (Option E) Refusal)
+          → Passes takes p a at_a piece q b at_b mid → StopsIn takes q b at_b mid r c at_c → StopsIn takes p a at_a piece r c at_c
+      stops_then p q a b c at_a at_b at_c piece mid r h k = record {
+        lines = h.lines ++ k.lines;
+        steps = on a b c at_a at_b at_c h.lines k.lines r h.steps k.steps;
+        front = λ more. let rest = k.front more in (rest.0, h.readings more ∙ (ap (λ xs. h.lines ++ xs) rest.1 ∙ sym (append_assoc h.lines k.lines rest.0)));
+      }
+
+      pub pushes_then : (p q s : Pending) (a b c : S) (at_a at_b at_c : List WriteCall) (piece mid : List ℕ) (r : Result (Option E) Refusal)
+          → Passes takes p a at_a piece q b at_b mid → Pushes takes q b at_b mid r s c at_c → Pushes takes p a at_a piece r s c at_c
+      pushes_then p q s a b c at_a at_b at_c piece mid (Ok None) h k = passes_then p q s a b c at_a at_b at_c piece mid [] h k
+      pushes_then p q s a b c at_a at_b at_c piece mid (Ok (Some end)) h k = stops_then p q a b c at_a at_b at_c piece mid (Ok (Some end)) h k
+      pushes_then p q s a b c at_a at_b at_c piece mid (Err x) h k = stops_then p q a b c at_a at_b at_c piece mid (Err x) h k
+
+      -- a piece in two: all of its first part was passed
+      pub pushes_front : (p q s : Pending) (a b c : S) (at_a at_b at_c : List WriteCall) (piece first later : List ℕ) (r : Result (Option E) Refusal) → piece ≡ first ++ later
+          → Passes takes p a at_a first q b at_b [] → Pushes takes q b at_b later r s c at_c → Pushes takes p a at_a piece r s c at_c
+      pushes_front p q s a b c at_a at_b at_c piece first later r is h k =
+          pushes_then p q s a b c at_a at_b at_c piece later r (subst (λ x. Passes takes p a at_a x q b at_b later) (sym is) (passes_longer p q a b at_a at_b first [] later h)) k
+
+  -- a piece in two: its first part was not passed
+  pub stops_front : (p : Pending) (a b : S) (at_a at_b : List WriteCall) (piece first later : List ℕ) (r : Result (Option E) Refusal) → piece ≡ first ++ later → StopsIn takes p a at_a first r b at_b → StopsIn takes p a at_a piece r b at_b
+  stops_front p a b at_a at_b piece first later r is h = subst (λ x. StopsIn takes p a at_a x r b at_b) (sym is) (stops_longer p a b at_a at_b first later r h)
+
+  -- ---- what a part holds
+
+  pub part_passes : (p : Pending) (a b : S) (at_a at_b : List WriteCall) (text : List ℕ) (kept : List Kept) (lines bytes n : ℕ) (r : Result (Option E) Refusal) → p.begun ≡ [] → n ≡ p.lines → IsKept text kept lines bytes
+      → IsOffered takes a at_a (readings_kept n kept) r b at_b → r ≡ Ok None → Passes takes p a at_a text (record { lines = p.lines + lines; begun = p.begun }) b at_b (drop bytes text)
+  part_passes p a b at_a at_b text kept lines bytes n r begun is h offered passed =
+      let stands : p ≡ between_lines p.lines = ap (λ x. record { lines = p.lines; begun = x }) begun in
+      let after : between_lines (p.lines + lines) ≡ record { lines = p.lines + lines; begun = p.begun } = ap (λ x. record { lines = p.lines + lines; begun = x }) (sym begun) in
+      let all : readings_kept p.lines kept ≡ offered.lines = ap (λ (m : ℕ). readings_kept m kept) (sym is) ∙ (offered.joined ∙ (ap (λ xs. offered.lines ++ xs) (offered.all passed) ∙ append-nil offered.lines)) in
+      record {
+        lines = offered.lines;
+        steps = subst (λ x. takes a at_a offered.lines x b at_b) passed offered.steps;
+        readings = λ more. ap (λ (x : Pending). readings_from x (text ++ more)) stands ∙ (h.readings p.lines more
+            ∙ (ap (λ xs. xs ++ readings_from (between_lines (p.lines + lines)) (drop bytes text ++ more)) all ∙ ap (λ (x : Pending). offered.lines ++ readings_from x (drop bytes text ++ more)) after));
+        ended = λ more. ap (λ (x : Pending). ended_from x (text ++ more)) stands ∙ (h.ended p.lines more
+            ∙ (ap (λ xs. xs ++ ended_from (between_lines (p.lines + lines)) (drop bytes text ++ more)) all ∙ ap (λ (x : Pending). offered.lines ++ ended_from x (drop bytes text ++ more)) after));
+        counted = omega (arith, h.counted, h.within, length-drop bytes text);
+        few = omega (arith, h.few p.lines, ap length all, h.within, length-drop bytes text);
+      }
+
+  pub part_stops : (p : Pending) (a b : S) (at_a at_b : List WriteCall) (text : List ℕ) (kept : List Kept) (lines bytes n : ℕ) (r : Result (Option E) Refusal) → p.begun ≡ [] → n ≡ p.lines → IsKept text kept lines bytes
+      → IsOffered takes a at_a (readings_kept n kept) r b at_b → StopsIn takes p a at_a text r b at_b
+  part_stops p a b at_a at_b text kept lines bytes n r begun is h offered =
+      let stands : p ≡ between_lines p.lines = ap (λ x. record { lines = p.lines; begun = x }) begun in
+      let all : readings_kept p.lines kept ≡ offered.lines ++ offered.left = ap (λ (m : ℕ). readings_kept m kept) (sym is) ∙ offered.joined in
+      record {
+        lines = offered.lines;
+        steps = offered.steps;
+        front = λ more. let after = readings_from (between_lines (p.lines + lines)) (drop bytes text ++ more) in (
+          offered.left ++ after,
+          ap (λ (x : Pending). readings_from x (text ++ more)) stands ∙ (h.readings p.lines more ∙ (ap (λ xs. xs ++ after) all ∙ append_assoc offered.lines offered.left after)),
+        );
+      }
+
+  -- there is room for the first part of a piece, and then for the other
+  pub room_first : (may_take : S → ℕ → Type 0) → ((s : S) (n more : ℕ) → may_take s (n + more) → may_take s n)
+      → (a : S) (piece first later : List ℕ) → piece ≡ first ++ later → may_take a (length piece) → may_take a (length first)
+  room_first may_take fewer a piece first later is may = fewer a (length first) (length later) (subst (λ (k : ℕ). may_take a k) (ap length is ∙ length-append first later) may)
+
+  pub room_second : (may_take : S → ℕ → Type 0)
+      → ((a b : S) (at_a at_b : List WriteCall) (first : List Reading) (n : ℕ) → may_take a (length first + n) → takes a at_a first (Ok None) b at_b → may_take b n)
+      → ((s : S) (n more : ℕ) → may_take s (n + more) → may_take s n)
+      → (p q : Pending) (a b : S) (at_a at_b : List WriteCall) (piece first later : List ℕ) → piece ≡ first ++ later → Passes takes p a at_a first q b at_b [] → may_take a (length piece) → may_take b (length later)
+  room_second may_take room fewer p q a b at_a at_b piece first later is h may =
+      room_left may_take room fewer p q a b at_a at_b (first ++ later) later (passes_longer p q a b at_a at_b first [] later h) (subst (λ x. may_take a (length x)) is may)
+
+-- ---- texts that parts hold
+
+pub held_both : (front back : List Part) (first later : List ℕ) → AreHeld front first → AreHeld back later → AreHeld (front ++ back) (first ++ later)
+held_both [] back first later none h = subst (λ x. AreHeld back (x ++ later)) (sym none) h
+held_both (part ∷ front) back first later held h =
+    (held.0, held.1 ++ later, ap (λ x. x ++ later) held.2 ∙ append_assoc held.0 held.1 later, held.3, held_both front back held.1 later held.4 h)
+
+-- what is left behind the text of the next part
+pub held_next : (part : Part) (parts : List Part) (text first later : List ℕ) → AreHeld (part ∷ parts) text → first ≡ take part.given text → later ≡ drop part.given text → AreHeld parts later
+held_next part parts text first later held front back =
+    let size : length held.0 ≡ part.given = sym held.3.given in
+    let rest : later ≡ held.1 = back ∙ (ap (drop part.given) held.2 ∙ drop_at held.0 held.1 part.given size) in
+    subst (AreHeld parts) (sym rest) held.4

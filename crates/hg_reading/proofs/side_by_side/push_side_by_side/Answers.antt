@@ -1,0 +1,30 @@
+use Rattle.std.proofs.Common.{◌≡◌, None, Some, Ok, Err, sym, ap, subst, arith}
+use Rattle.hg_reading.specs.Taking.{Pushes}
+use Rattle.hg_reading.proofs.Pushing.{pushes_front, room_second, stops_front}
+use Rattle.hg_reading.proofs.side_by_side.push_side_by_side.Goals as goal
+
+pub returns-in_err-end-clause-pushes : goal.returns-in_err-end-clause-pushes
+returns-in_err-end-clause-pushes g c =
+    let same : c.from_residual.result ≡ Err c.in_err-end.field-0.0 = grind arith in
+    let r = c.in_err-end.field-0.0 in
+    subst (λ x. Pushes g.S.Sink.takes c.args.reader.now c.args.sink.now c.args.output.now.calls c.args.piece.now x c.push-2.new.reader c.push-2.new.sink c.push-2.new.output.calls) (sym same)
+    (stops_front g.S.Sink.takes c.args.reader.now c.args.sink.now c.push-2.new.sink c.args.output.now.calls c.push-2.new.output.calls c.args.piece.now c.split_at.result.0.now c.split_at.result.1.now
+    (Err r) c.split_at.ensures.by_index.0 (c.in_err-end.ensures.breaks r (cc)))
+
+pub returns-in-Some-clause-pushes : goal.returns-in-Some-clause-pushes
+returns-in-Some-clause-pushes g c =
+    stops_front g.S.Sink.takes c.args.reader.now c.args.sink.now c.push-2.new.sink c.args.output.now.calls c.push-2.new.output.calls c.args.piece.now c.split_at.result.0.now c.split_at.result.1.now
+    (Ok (Some c.in-Some.end)) c.split_at.ensures.by_index.0 (c.in_ok-end.ensures.ends c.in-Some.end (ap Ok c.in-Some.is))
+
+pub push_lines-requires-clause-room : goal.push_lines-requires-clause-room
+push_lines-requires-clause-room g c κs within =
+    let none : c.in_ok-end.field-0 ≡ None = grind arith in
+    room_second g.S.Sink.takes g.S.Sink.may_take g.met.S.Sink.room g.met.S.Sink.fewer c.args.reader.now c.push-2.new.reader c.args.sink.now c.push-2.new.sink
+    c.args.output.now.calls c.push-2.new.output.calls c.args.piece.now c.split_at.result.0.now c.split_at.result.1.now c.split_at.ensures.by_index.0 (c.in_ok-end.ensures.passes (ap Ok none)) c.requires.room
+
+pub returns-clause-pushes : goal.returns-clause-pushes
+returns-clause-pushes g c =
+    let none : c.in_ok-end.field-0 ≡ None = grind arith in
+    pushes_front g.S.Sink.takes g.met.S.Sink.on c.args.reader.now c.push-2.new.reader c.push_lines.new.reader c.args.sink.now c.push-2.new.sink c.push_lines.new.sink
+    c.args.output.now.calls c.push-2.new.output.calls c.push_lines.new.output.calls c.args.piece.now c.split_at.result.0.now c.split_at.result.1.now c.push_lines.result c.split_at.ensures.by_index.0
+    (c.in_ok-end.ensures.passes (ap Ok none)) c.push_lines.ensures.pushes

@@ -1,0 +1,27 @@
+use Rattle.std.proofs.Common.{◌≡◌, ℕ, ◌+◌, ◌-◌, ◌^◌, Err, sym, subst, inr, arith}
+use Rattle.hg_reading.specs.Taking.{Reads}
+use Rattle.hg_reading.proofs.Runs.{read_nothing}
+use Rattle.hg_reading.proofs.whole.read_side_by_side.Goals as goal
+
+pub returns-in_err-reader : goal.returns-in_err-reader
+returns-in_err-reader g c =
+    let same : c.from_residual.result ≡ Err c.in_err-reader.field-0.0 = grind arith in
+    subst (λ x. Reads g.S.Sink.takes c.args.input.now.calls c.args.input.now.calls c.args.sink.now c.args.output.now.calls x c.args.sink.now c.args.output.now.calls) (sym same)
+    (inr (read_nothing g.S.Sink.takes g.met.S.Sink.on c.args.input.now.calls c.args.sink.now c.args.output.now.calls c.in_err-reader.field-0.0 (g.met.S.Sink.none c.args.sink.now c.args.output.now.calls) c.in_err-reader.ensures.cause))
+
+pub returns-in_err-buffer : goal.returns-in_err-buffer
+returns-in_err-buffer g c =
+    let same : c.from_residual-in_err-buffer.result ≡ Err c.in_err-buffer.field-0.0 = grind arith in
+    subst (λ x. Reads g.S.Sink.takes c.args.input.now.calls c.args.input.now.calls c.args.sink.now c.args.output.now.calls x c.args.sink.now c.args.output.now.calls) (sym same)
+    (inr (read_nothing g.S.Sink.takes g.met.S.Sink.on c.args.input.now.calls c.args.sink.now c.args.output.now.calls c.in_err-buffer.field-0.0 (g.met.S.Sink.none c.args.sink.now c.args.output.now.calls) c.in_err-buffer.ensures.cause))
+
+pub returns-in_err-pieces : goal.returns-in_err-pieces
+returns-in_err-pieces g c =
+    let same : c.from_residual-in_err-pieces.result ≡ Err c.in_err-pieces.field-0.0 = grind arith in
+    subst (λ x. Reads g.S.Sink.takes c.args.input.now.calls c.args.input.now.calls c.args.sink.now c.args.output.now.calls x c.args.sink.now c.args.output.now.calls) (sym same)
+    (inr (read_nothing g.S.Sink.takes g.met.S.Sink.on c.args.input.now.calls c.args.sink.now c.args.output.now.calls c.in_err-pieces.field-0.0 (g.met.S.Sink.none c.args.sink.now c.args.output.now.calls) c.in_err-pieces.ensures.cause))
+
+pub read-requires : goal.read-requires
+read-requires g c =
+    let split : 2 ^ 54 ≡ 2 ^ 48 + (2 ^ 54 - 2 ^ 48) = omega arith in
+    record { room = g.met.S.Sink.fewer c.args.sink.now (2 ^ 48) (2 ^ 54 - 2 ^ 48) (subst (λ (n : ℕ). g.S.Sink.may_take c.args.sink.now n) split c.requires.room) }

@@ -1,0 +1,85 @@
+-- For proofs alone: what is kept of lines that were parsed before they are offered.
+use Rattle.std.specs.Prelude.{◌≡◌, ℕ, ◌+◌, ◌≤◌, List, [], ◌∷◌, ◌++◌, length, drop, Bool, Option, None, Result, Ok, ⊤, if◌then◌else◌}
+use Rattle.hg_model.specs.declared.event.Access.{Access}
+use Rattle.hg_model.specs.declared.event.Event.{Event}
+use Rattle.hg_model.specs.declared.event.Event.TheVariants as events
+use Rattle.hg_model.specs.declared.verdict.Refusal.{Refusal}
+use Rattle.hg_streams.specs.declared.call.WriteCall.{WriteCall}
+use Rattle.hg_wire.specs.declared.reader.Reading.{Reading}
+use Rattle.hg_wire.specs.Streams.{GivesNoReading, GivesReading, Pending, between_lines, ended_from, readings_from}
+use Rattle.hg_reading.specs.declared.kept.Kept.{Kept}
+use Rattle.hg_reading.specs.declared.kept.Kept.TheVariants.{Passed, Fork, Join, Lock, RdLock, Unlock, Read, Write, Alloc, Free}
+use Rattle.hg_reading.specs.declared.part.Next.{Next}
+use Rattle.hg_reading.specs.declared.part.Next.TheVariants.{Bad, End}
+use Rattle.hg_reading.specs.declared.part.Next.TheVariants as next
+use Rattle.hg_reading.specs.declared.part.Part.{Part}
+use Rattle.hg_reading.specs.Taking.{Taking}
+
+-- what is read of the line of an event behind n lines
+abbrev pub one : ℕ → Event → List Reading
+one n event = record { line = n + 1; event = Ok event } ∷ []
+
+-- the event of a read or a write
+abbrev pub access_of : Bool → Access → Event
+access_of is_write access = if is_write then events.Write access else events.Read access
+
+-- how many lines something kept stands for
+abbrev pub lines_by : Kept → ℕ
+lines_by (Passed count) = count
+lines_by _ = 1
+
+-- what was read of them, behind n lines
+abbrev pub reading_kept : ℕ → Kept → List Reading
+reading_kept n (Passed count) = []
+reading_kept n (Fork p c) = one n (events.Fork p c)
+reading_kept n (Join p c) = one n (events.Join p c)
+reading_kept n (Lock t l) = one n (events.Lock t l)
+reading_kept n (RdLock t l) = one n (events.RdLock t l)
+reading_kept n (Unlock t l) = one n (events.Unlock t l)
+reading_kept n (Read len t at) = one n (events.Read (record { t = t; at = at; len = len }))
+reading_kept n (Write len t at) = one n (events.Write (record { t = t; at = at; len = len }))
+reading_kept n (Alloc t len at) = one n (events.Alloc (record { t = t; at = at; len = len }))
+reading_kept n (Free t len at) = one n (events.Free (record { t = t; at = at; len = len }))
+
+-- how many lines all that is kept stands for
+abbrev pub lines_kept : List Kept → ℕ
+lines_kept [] = 0
+lines_kept (it ∷ kept) = lines_by it + lines_kept kept
+
+-- what was read of them, behind n lines
+abbrev pub readings_kept : ℕ → List Kept → List Reading
+readings_kept n [] = []
+readings_kept n (it ∷ kept) = reading_kept n it ++ readings_kept (n + lines_by it) kept
+
+-- Of lines that were offered, these were taken, from the first on: all, where each was passed.
+pub record IsOffered {S E : Type 0} (takes : Taking S E) (before : S) (at_first : List WriteCall) (due : List Reading) (r : Result (Option E) Refusal) (now : S) (at_last : List WriteCall) : Type 0 where
+  pub lines : List Reading
+  pub left : List Reading
+  pub joined : due ≡ lines ++ left
+  pub steps : takes before at_first lines r now at_last
+  pub all : r ≡ Ok None → left ≡ []
+
+-- What is kept of a text is all that is read of its first lines, behind however many lines they come.
+pub record IsKept (text : List ℕ) (kept : List Kept) (lines bytes : ℕ) : Type 0 where
+  pub within : bytes ≤ length text
+  pub counted : lines ≤ bytes
+  pub stands_for : lines_kept kept ≤ length text
+  pub few : (n : ℕ) → length (readings_kept n kept) ≤ bytes
+  pub readings : (n : ℕ) (more : List ℕ) → readings_from (between_lines n) (text ++ more) ≡ readings_kept n kept ++ readings_from (between_lines (n + lines)) (drop bytes text ++ more)
+  pub ended : (n : ℕ) (more : List ℕ) → ended_from (between_lines n) (text ++ more) ≡ readings_kept n kept ++ ended_from (between_lines (n + lines)) (drop bytes text ++ more)
+
+-- what was taken of the rest of a text
+abbrev pub FindsNext : Pending → Pending → List ℕ → Next → Type 0
+FindsNext old new rest (next.Event event used) = GivesReading old new rest (record { line = new.lines; event = Ok event }) used
+FindsNext old new rest Bad = ⊤
+FindsNext old new rest End = GivesNoReading old new rest
+
+-- A part has what is kept of this text.
+pub record Holds (part : Part) (text : List ℕ) : Type 0 where
+  pub given : part.given ≡ length text
+  pub kept : IsKept text part.kept.items part.extent.lines part.extent.bytes
+
+-- The parts hold a text between them, each the next stretch of it.
+abbrev pub AreHeld : List Part → List ℕ → Type 0
+AreHeld [] text = text ≡ []
+AreHeld (part ∷ parts) text = (given : List ℕ) × (behind : List ℕ) × (text ≡ given ++ behind) × Holds part given × AreHeld parts behind

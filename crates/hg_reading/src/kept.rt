@@ -1,0 +1,199 @@
+//! What is kept of lines that were parsed before they are offered.
+
+ghost use Rattle.std.specs.Prelude.{◌≡◌, ℕ, ◌+◌, ◌++◌, ◌∷◌, [], ◌<◌, ◌≤◌, ◌^◌, length, vec_capacity, vec_len};
+ghost use Rattle.std.specs.Bool.{OnFalse, OnTrue};
+ghost use Rattle.hg_reading.specs.Keeping.{IsOffered, access_of, lines_by, lines_kept, one, reading_kept, readings_kept};
+
+use crate::sink::Sink;
+use hg_model::event::{Access, Block, Event};
+use hg_model::verdict::Refusal;
+use hg_streams::output::Output;
+use hg_wire::line::AccessLine;
+use hg_wire::reader::Reading;
+
+/// A line with its event, or lines without one. It takes 16 bytes, where a `Reading` takes 48: what was parsed goes through the memory of two processors.
+#[derive(Clone, Copy, Debug, PartialEq, Eq, Drop)]
+pub enum Kept {
+    /// So many lines are empty or comments.
+    Passed(u64),
+    Fork { p: u16, c: u16 },
+    Join { p: u16, c: u16 },
+    Lock { t: u16, l: u16 },
+    RdLock { t: u16, l: u16 },
+    Unlock { t: u16, l: u16 },
+    Read { len: u8, t: u16, at: u64 },
+    Write { len: u8, t: u16, at: u64 },
+    Alloc { t: u16, len: u16, at: u64 },
+    Free { t: u16, len: u16, at: u64 },
+}
+
+impl Kept {
+    /// The line of an event.
+    #[inline(always)]
+    fn line_of(event: Event) -> Self
+        ensures reading { (n : ℕ) → reading_kept n result ≡ one n event }
+        ensures lines { lines_by result ≡ 1 }
+    {
+        match event {
+            Event::Fork { p, c } => Kept::Fork { p, c },
+            Event::Join { p, c } => Kept::Join { p, c },
+            Event::Lock { t, l } => Kept::Lock { t, l },
+            Event::RdLock { t, l } => Kept::RdLock { t, l },
+            Event::Unlock { t, l } => Kept::Unlock { t, l },
+            Event::Read(Access { t, at, len }) => Kept::Read { len, t, at },
+            Event::Write(Access { t, at, len }) => Kept::Write { len, t, at },
+            Event::Alloc(Block { t, at, len }) => Kept::Alloc { t, len, at },
+            Event::Free(Block { t, at, len }) => Kept::Free { t, len, at },
+        }
+    }
+
+    /// How many lines it stands for.
+    #[inline(always)]
+    fn lines(&self) -> u64
+        ensures { result ≡ lines_by self.now }
+    {
+        match *self {
+            Kept::Passed(count) => count,
+            _ => 1,
+        }
+    }
+}
+
+/// Keeps a line's event, behind lines that have none. `false` says that there is no room, and then nothing is kept.
+#[inline(always)]
+pub fn keep(kept: &mut Vec<Kept>, passed: u64, event: Event) -> bool
+    ensures readings { OnTrue result ((n : ℕ) → readings_kept n kept.new.items ≡ readings_kept n kept.old.items ++ one (n + lines_kept kept.old.items + passed) event) }
+    ensures lines { OnTrue result (lines_kept kept.new.items ≡ lines_kept kept.old.items + passed + 1) }
+    ensures full { OnFalse result (kept.new.items ≡ kept.old.items) }
+{
+    if kept.capacity() - kept.len() < 2 {
+        return false;
+    }
+    if passed == 0 {
+        push(kept, Kept::line_of(event));
+        return true;
+    }
+    push(kept, Kept::Passed(passed));
+    push(kept, Kept::line_of(event));
+    true
+}
+
+/// Keeps one more in the room that there is.
+#[inline(always)]
+fn push(kept: &mut Vec<Kept>, it: Kept)
+    requires room { vec_len kept.old < vec_capacity kept.old }
+    ensures items { kept.new.items ≡ kept.old.items ++ it ∷ [] }
+    ensures len { vec_len kept.new ≡ vec_len kept.old + 1 }
+    ensures capacity { vec_capacity kept.old ≤ vec_capacity kept.new }
+{
+    kept.push(it).unwrap();
+}
+
+/// Offers what is kept behind so many lines, up to the first line that is not passed. `None` says that each was passed.
+pub fn offer_all<W, S: Sink<W>>(
+    lines: u64,
+    kept: &[Kept],
+    sink: &mut S,
+    output: &mut Output<W>,
+) -> Result<Option<S::End>, Refusal>
+    requires lines { lines + lines_kept kept.now < 2 ^ 64 }
+    requires room { S.may_take sink.old (length (readings_kept lines kept.now)) }
+    ensures { IsOffered S.takes sink.old output.old.calls (readings_kept lines kept.now) result sink.new output.new.calls }
+{
+    let mut lines = lines;
+    for it in kept {
+        if let Some(end) = offer(lines, it, sink, output)? {
+            return Ok(Some(end));
+        }
+        lines += it.lines();
+    }
+    Ok(None)
+}
+
+/// Offers one of them.
+#[inline(always)]
+fn offer<W, S: Sink<W>>(
+    lines: u64,
+    kept: &Kept,
+    sink: &mut S,
+    output: &mut Output<W>,
+) -> Result<Option<S::End>, Refusal>
+    requires lines { lines + lines_by kept.now < 2 ^ 64 }
+    requires room { S.may_take sink.old (length (reading_kept lines kept.now)) }
+    ensures { S.takes sink.old output.old.calls (reading_kept lines kept.now) result sink.new output.new.calls }
+{
+    match *kept {
+        Kept::Passed(_) => Ok(None),
+        Kept::Fork { p, c } => offer_event(lines, Event::Fork { p, c }, sink, output),
+        Kept::Join { p, c } => offer_event(lines, Event::Join { p, c }, sink, output),
+        Kept::Lock { t, l } => offer_event(lines, Event::Lock { t, l }, sink, output),
+        Kept::RdLock { t, l } => offer_event(lines, Event::RdLock { t, l }, sink, output),
+        Kept::Unlock { t, l } => offer_event(lines, Event::Unlock { t, l }, sink, output),
+        Kept::Read { len, t, at } => offer_access(
+            lines,
+            false,
+            Access { t, at, len },
+            sink,
+            output,
+        ),
+        Kept::Write { len, t, at } => offer_access(
+            lines,
+            true,
+            Access { t, at, len },
+            sink,
+            output,
+        ),
+        Kept::Alloc { t, len, at } => offer_event(
+            lines,
+            Event::Alloc(Block { t, at, len }),
+            sink,
+            output,
+        ),
+        Kept::Free { t, len, at } => offer_event(
+            lines,
+            Event::Free(Block { t, at, len }),
+            sink,
+            output,
+        ),
+    }
+}
+
+/// Offers the line of an event behind so many lines.
+#[inline(always)]
+fn offer_event<W, S: Sink<W>>(
+    lines: u64,
+    event: Event,
+    sink: &mut S,
+    output: &mut Output<W>,
+) -> Result<Option<S::End>, Refusal>
+    requires lines { lines + 1 < 2 ^ 64 }
+    requires room { S.may_take sink.old 1 }
+    ensures { S.takes sink.old output.old.calls (one lines event) result sink.new output.new.calls }
+{
+    let reading = Reading {
+        line: lines + 1,
+        event: Ok(event),
+    };
+    sink.offer(&reading, output)
+}
+
+/// Offers the line of a read or write behind so many lines.
+#[inline(always)]
+fn offer_access<W, S: Sink<W>>(
+    lines: u64,
+    is_write: bool,
+    access: Access,
+    sink: &mut S,
+    output: &mut Output<W>,
+) -> Result<Option<S::End>, Refusal>
+    requires lines { lines + 1 < 2 ^ 64 }
+    requires room { S.may_take sink.old 1 }
+    ensures { S.takes sink.old output.old.calls (one lines (access_of is_write access)) result sink.new output.new.calls }
+{
+    let found = AccessLine {
+        is_write,
+        access,
+        used: 0,
+    };
+    sink.offer_access(lines + 1, &found, output)
+}

@@ -1,0 +1,124 @@
+//! A part of a trace text, parsed before it is offered.
+
+ghost use Rattle.std.specs.Prelude.{◌≡◌, ◌+◌, ◌<◌, ◌≤◌, ◌^◌, [], length, vec_capacity, IfOk};
+ghost use Rattle.hg_wire.specs.Streams.{at_start};
+ghost use Rattle.hg_reading.specs.Keeping.{IsKept, FindsNext};
+
+use crate::kept::{Kept, keep};
+use crate::sink::access_event;
+use hg_model::event::Event;
+use hg_wire::reader::{EventReader, Taken};
+use std::alloc::{AllocError, Global};
+
+/// How far a text was parsed.
+#[derive(Clone, Copy, Debug, PartialEq, Eq, Drop)]
+pub struct Extent {
+    pub lines: u64,
+    pub bytes: usize,
+}
+
+/// What comes next in a text.
+#[derive(Clone, Copy, Debug, PartialEq, Eq, Drop)]
+pub enum Next {
+    /// A line that has an event. It ends behind so many bytes.
+    Event { event: Event, used: usize },
+    /// A line that is bad.
+    Bad,
+    /// No line more.
+    End,
+}
+
+/// Parts of texts, one after another in the same memory.
+#[derive(Drop)]
+pub struct Part {
+    reader: EventReader,
+    /// What is kept of the text that was parsed last.
+    pub kept: Vec<Kept>,
+    /// How many bytes that text has.
+    pub given: usize,
+    /// How far it was parsed: up to a line that is bad, or for which there is no room.
+    pub extent: Extent,
+}
+
+impl Part {
+    ghost use Rattle.hg_reading.specs.Keeping.{Holds};
+
+    /// With room for so many lines.
+    pub fn with_room(alloc: Global, lines: usize) -> Result<Self, AllocError>
+        ensures room { IfOk result (λ part. lines ≤ vec_capacity part.kept) }
+    {
+        Ok(Part {
+            reader: EventReader::new(alloc)?,
+            kept: Vec::with_capacity(alloc, lines)?,
+            given: 0,
+            extent: Extent { lines: 0, bytes: 0 },
+        })
+    }
+
+    /// Parses a text, and takes no memory.
+    pub fn parse(&mut self, text: &[u8])
+        ensures { Holds self.new text.now }
+    {
+        self.reader.reset();
+        self.kept.clear();
+        self.given = text.len();
+        self.extent = keep_lines(&mut self.reader, &mut self.kept, text);
+    }
+}
+
+/// Keeps the lines of a text, up to one that is bad or finds no room.
+fn keep_lines(reader: &mut EventReader, kept: &mut Vec<Kept>, text: &[u8]) -> Extent
+    requires start { reader.old ≡ at_start }
+    requires none { kept.old.items ≡ [] }
+    ensures { IsKept text.now kept.new.items result.lines result.bytes }
+{
+    let mut extent = Extent { lines: 0, bytes: 0 };
+    let mut rest = text;
+    loop {
+        match next_line(reader, rest) {
+            Next::Event { event, used } => {
+                let lines = reader.lines();
+                if !keep(kept, lines - extent.lines - 1, event) {
+                    return extent;
+                }
+                rest = &rest[used..];
+                extent = Extent {
+                    lines,
+                    bytes: extent.bytes + used,
+                };
+            }
+            Next::Bad => return extent,
+            Next::End => {
+                return if reader.is_between_lines() {
+                    Extent {
+                        lines: reader.lines(),
+                        bytes: text.len(),
+                    }
+                } else {
+                    extent
+                };
+            }
+        }
+    }
+}
+
+/// Takes the next line that is neither empty nor a comment.
+#[inline(always)]
+fn next_line(reader: &mut EventReader, rest: &[u8]) -> Next
+    requires { reader.old.lines + length rest.now < 2 ^ 64 }
+    ensures { FindsNext reader.old reader.new rest.now result }
+{
+    if let Some(found) = reader.take_access(rest) {
+        return Next::Event {
+            event: access_event(&found),
+            used: found.used,
+        };
+    }
+    match reader.take(rest) {
+        Taken::Line { reading, used } => match reading.event {
+            Ok(event) => Next::Event { event, used },
+            Err(_) => Next::Bad,
+        },
+        Taken::More => Next::End,
+    }
+}
