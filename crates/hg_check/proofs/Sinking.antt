@@ -1,12 +1,12 @@
 -- What a detector takes of one line, and what it prints.
-use Rattle.std.proofs.Common.{◌≡◌, ◌+◌, ◌≤◌, ℕ, Bool, true, false, List, [], ◌∷◌, ◌++◌, length, drop, Option, None, Some, Result, Ok, Err, IfErr, OnErr, OnOk, refl, sym, ap, ◌∙◌, subst, inl, arith}
+use Rattle.std.proofs.Common.{◌≡◌, ◌+◌, ℕ, Bool, true, false, List, [], ◌∷◌, ◌++◌, length, drop, Option, None, Result, Ok, Err, IfErr, OnErr, OnOk, refl, sym, ap, ◌∙◌, subst, inl, arith}
 use Rattle.std.specs.Bool.{⊤}
 use Rattle.hg_model.specs.declared.verdict.Refusal.{Refusal}
 use Rattle.hg_model.specs.declared.verdict.Refusal.TheVariants.{OutOfMemory}
 use Rattle.hg_model.specs.Contents.{Content}
 use Rattle.hg_detect.specs.declared.detector.Detector.{Detector}
 use Rattle.hg_detect.specs.declared.paged.PagedWords.{PagedWords}
-use Rattle.hg_detect.specs.Memory.{IsWhole, content_of}
+use Rattle.hg_detect.specs.Memory.{content_of}
 use Rattle.hg_streams.specs.declared.call.WriteCall.{WriteCall}
 use Rattle.hg_streams.specs.Calls.{failed_writes}
 use Rattle.hg_streams.specs.Told.{told, told_refusal}
@@ -16,7 +16,7 @@ use Rattle.hg_check.specs.declared.checker.Ending.{Ending}
 use Rattle.hg_check.specs.declared.checking.Checking.{Checking}
 use Rattle.hg_check.specs.Holding.{IsDue}
 use Rattle.hg_check.specs.Printing.{reports_text}
-use Rattle.hg_check.specs.Running.{HasFew, LeadsFrom, ReportsGrow, Steps, live_text}
+use Rattle.hg_check.specs.Running.{ReportsGrow, Steps, live_text}
 use Rattle.hg_check.specs.Streaming.{HasWriteCause}
 use Rattle.hg_check.specs.Taking.{Takes}
 use Rattle.hg_check.specs.TakingLaws.{steps_none}
@@ -40,37 +40,19 @@ front_grown first now before mid last live grow on f =
     front_more first now (live_text live before) more.0 (live_text live last) more.1 f
 
 -- one line was offered
-pub takes_line : (old new : Checking) (calls : List WriteCall) (reading : Reading) (r : Result (Option Ending) Refusal)
-    → ((later : List Reading) (last : Content) (end : Ending) → r ≡ Ok None → LeadsFrom new.detector later last end → LeadsFrom old.detector (reading ∷ later) last end)
-    → ((later : List Reading) (end : Ending) → r ≡ Ok (Some end) → LeadsFrom old.detector (reading ∷ later) (content_of new.detector) end)
-    → ((later : List Reading) (last : Content) (end : Ending) → r ≡ Ok None → LeadsFrom old.detector (reading ∷ later) last end → LeadsFrom new.detector later last end)
-    → ((later : List Reading) (last : Content) (end : Ending) → HasFew (content_of old.detector) → LeadsFrom old.detector (reading ∷ later) last end → ReportsGrow (content_of new.detector) last)
-    → (HasFew (content_of old.detector) → HasFew (content_of new.detector))
-    → IfErr r (λ x. x ≡ OutOfMemory)
-    → (content_of new.detector).last 0 ≤ (content_of old.detector).last 0 + 1
-    → ReportsGrow (content_of old.detector) (content_of new.detector)
-    → IsWhole new.detector
+pub takes_line : (old new : Checking) (calls : List WriteCall) (reading : Reading) (r : Result (Option Ending) Refusal) → Steps old.detector (reading ∷ []) r new.detector → IfErr r (λ x. x ≡ OutOfMemory)
     → new.live ≡ old.live → new.printed ≡ old.printed → new.held.items ≡ old.held.items
     → Takes old calls (reading ∷ []) r new calls
-takes_line old new calls reading r accepted ended back front few memory counted reports whole live printed held = record {
-  steps = record {
-    leads = λ is later last end h. accepted later last end is h;
-    back = λ is later last end h. back later last end is h;
-    ends = λ end is later. ended later end is;
-    front = λ never later last end few_before h. front later last end few_before h;
-    few = few;
-    reports = reports;
-    counted = omega (arith, counted);
-    whole = λ before. whole;
-  };
+takes_line old new calls reading r steps memory live printed held = record {
+  steps = steps;
   live = live;
   printed = λ fine first p. record {
     before = p.before;
     count = printed ∙ p.count;
-    grow = reports_grow_on p.before (content_of old.detector) (content_of new.detector) p.grow reports;
+    grow = reports_grow_on p.before (content_of old.detector) (content_of new.detector) p.grow steps.reports;
     due = subst (λ items. IsDue first calls items [] (live_text new.live p.before)) (sym held) (subst (λ l. IsDue first calls old.held.items [] (live_text l p.before)) (sym live) p.due);
   };
-  front = λ x is first p. front_grown first calls p.before (content_of old.detector) (content_of new.detector) old.live p.grow reports (front_due first calls old.held.items [] (live_text old.live p.before) p.due);
+  front = λ x is first p. front_grown first calls p.before (content_of old.detector) (content_of new.detector) old.live p.grow steps.reports (front_due first calls old.held.items [] (live_text old.live p.before) p.due);
   cause = λ x is. inl (memory_alone r memory x is);
   failures = none_failed r (failed_writes calls) memory;
 }

@@ -47,3 +47,7 @@ pub record IsFresh (live : Bool) (s : Checking) : Type 0 where
 abbrev pub ending_of : Option Ending → Ending
 ending_of None = Ended
 ending_of (Some end) = end
+
+-- The text that a run prints while it reads was written, or is held.
+abbrev pub HasPrinted : List WriteCall → List WriteCall → Bool → Checking → Type 0
+HasPrinted first now live s = IsDue first now s.held.items [] (live_text live (content_of s.detector))

@@ -1,22 +1,22 @@
 //! A run over a whole trace text.
 
-ghost use Rattle.std.specs.Prelude.{◌≡◌, [], IfErr, IfOk, OnErr, OnOk};
-ghost use Rattle.hg_check.specs.Holding.{IsDue};
-ghost use Rattle.hg_check.specs.Printing.{ReadsTo, WroteFront};
+ghost use Rattle.std.specs.Prelude.{◌≡◌, IfErr, IfOk, OnOk};
+ghost use Rattle.hg_check.specs.Printing.{LeavesFront, ReadsTo};
 ghost use Rattle.hg_check.specs.Running.{live_text};
 ghost use Rattle.hg_check.specs.Streaming.{HasCause};
-ghost use Rattle.hg_check.specs.Taking.{IsFresh, ending_of};
+ghost use Rattle.hg_check.specs.Taking.{HasPrinted, IsFresh, ending_of};
 ghost use Rattle.hg_detect.specs.Memory.{content_of};
 
 use crate::checker::Ending;
 use crate::checking::Checking;
 use hg_model::verdict::Refusal;
 use hg_reading::sink::Sink;
-use hg_reading::whole::read;
+use hg_reading::whole::read_side_by_side;
 use hg_streams::input::Input;
 use hg_streams::output::Output;
 use std::alloc::Global;
 use std::io::{Read, Write};
+use std::thread::Threads;
 
 /// How a run ended: where no line ended it, it came to the end of its input.
 pub fn ended(stop: Option<Ending>) -> Ending
@@ -29,8 +29,11 @@ pub fn ended(stop: Option<Ending>) -> Ending
 }
 
 /// Reads a trace text to its end, or up to the first line that is refused or bad, and offers its events to a detector that has accepted
-/// none. Where reports are printed as they come, all that the detector keeps are printed or held at the end.
-pub fn run<R: Read, W: Write>(
+/// none. Where reports are printed as they come, all that the detector keeps are printed or held at the end. Up to `jobs` threads read
+/// the lines of large pieces; what comes of them never depends on that.
+pub fn run<T: Threads + Sync, R: Read, W: Write>(
+    rt: &T,
+    jobs: usize,
     alloc: Global,
     checking: &mut Checking,
     input: &mut Input<R>,
@@ -38,11 +41,12 @@ pub fn run<R: Read, W: Write>(
 ) -> Result<Ending, Refusal>
     requires fresh { IsFresh checking.old.live checking.old }
     ensures ends { IfOk result (ReadsTo input.old.calls input.new.calls (content_of checking.new.detector)) }
-    ensures printed { OnOk result (IsDue output.old.calls output.new.calls checking.new.held.items [] (live_text checking.old.live (content_of checking.new.detector))) }
-    ensures front { OnErr result (WroteFront (λ c end. live_text checking.old.live c) input.old.calls input.new.calls output.old.calls output.new.calls) }
+    ensures printed { OnOk result (HasPrinted output.old.calls output.new.calls checking.old.live checking.new) }
+    ensures front { LeavesFront result (λ c end. live_text checking.old.live c)
+        input.old.calls input.new.calls output.old.calls output.new.calls }
     ensures cause { IfErr result (HasCause input.old.calls input.new.calls output.old.calls output.new.calls) }
 {
-    let stop = read(alloc, input, checking, output)?;
+    let stop = read_side_by_side(rt, jobs, alloc, input, checking, output)?;
     checking.print(output)?;
     Ok(ended(stop))
 }

@@ -1,10 +1,8 @@
 //! Writing what is held.
 
-ghost use Rattle.std.specs.Prelude.{◌≡◌, ℕ, ◌+◌, List, [], IfErr, OnErr, OnOk};
-ghost use Rattle.hg_streams.specs.declared.call.WriteCall.{WriteCall};
+ghost use Rattle.std.specs.Prelude.{◌≡◌, ◌+◌, [], IfErr, OnOk};
 ghost use Rattle.hg_streams.specs.Calls.{failed_writes};
-ghost use Rattle.hg_check.specs.Holding.{IsDue};
-ghost use Rattle.hg_check.specs.Written.{TookFront};
+ghost use Rattle.hg_check.specs.Holding.{HoldsOrWrites, WritesFront};
 ghost use Rattle.hg_streams.specs.Told.{told};
 
 use hg_model::verdict::Refusal;
@@ -13,10 +11,8 @@ use std::io::Write;
 
 /// Writes the text that is held. None is held afterwards.
 pub fn write_out<W: Write>(held: &mut Vec<u8>, output: &mut Output<W>) -> Result<(), Refusal>
-    ensures printed { (first : List WriteCall) (rest goal : List ℕ) → IsDue first output.old.calls held.old.items rest goal
-        → OnOk result (IsDue first output.new.calls held.new.items rest goal) }
-    ensures front { (first : List WriteCall) (rest goal : List ℕ) → IsDue first output.old.calls held.old.items rest goal
-        → OnErr result (TookFront first output.new.calls goal) }
+    ensures printed { HoldsOrWrites [] output.old.calls held.old.items result output.new.calls held.new.items }
+    ensures front { WritesFront [] output.old.calls held.old.items result output.new.calls }
     ensures cause { IfErr result (λ r. r ≡ Refusal.DeviceFault) }
     ensures fault { failed_writes output.new.calls ≡ told result + failed_writes output.old.calls }
     ensures none { OnOk result (held.new.items ≡ []) }

@@ -77,6 +77,15 @@ silence = record (new_rule (codes "silence")) {
   parser = Some (parser.Signed (pos 1) (pos 65535));
 }
 
+-- how many threads read a trace: 1 to 64, and 1 where nothing is said
+abbrev pub jobs : Rule
+jobs = record (new_rule (codes "jobs")) {
+  long = Some (codes "jobs");
+  value_names = 1;
+  parser = Some (parser.Signed (pos 1) (pos 64));
+  defaults = codes "1" ∷ [];
+}
+
 -- the address of a word, whose text is read as one of a trace
 abbrev pub address : Rule
 address = record (new_rule (codes "ADDRESS")) {
@@ -98,10 +107,10 @@ verbose = record (new_rule (codes "verbose")) {
 }
 
 abbrev pub check : Shape
-check = (with_rule (new_app (codes "check")) verbose).top
+check = (with_rule (with_rule (new_app (codes "check")) jobs) verbose).top
 
 abbrev pub graph : Shape
-graph = (with_rule (with_rule (new_app (codes "graph")) (directory false)) verbose).top
+graph = (with_rule (with_rule (with_rule (new_app (codes "graph")) (directory false)) jobs) verbose).top
 
 abbrev pub explain : Shape
 explain = (with_rule (with_rule (with_rule (new_app (codes "explain")) address) (directory false)) all).top

@@ -7,6 +7,7 @@ use Rattle.clap.specs.declared.error.kind.ErrorKind.TheVariants as kind
 use Rattle.hg_wire.specs.Lines.{operand_of}
 use Rattle.hg_options.specs.declared.task.Explaining.{Explaining}
 use Rattle.hg_options.specs.declared.task.Frames.{Frames}
+use Rattle.hg_options.specs.declared.task.Jobs.{Jobs}
 use Rattle.hg_options.specs.declared.task.Serving.{Serving}
 use Rattle.hg_options.specs.declared.task.Source.{Source}
 use Rattle.hg_options.specs.declared.task.StoreTask.{StoreTask}
@@ -28,6 +29,9 @@ IsNumber id low high other rows n = (Spells id rows n × (low ≤ n) × (n ≤ h
 
 abbrev pub AreFrames : List Row → Frames → Type 0
 AreFrames rows frames = IsNumber (codes "frames") 4 4096 64 rows frames.pages
+
+abbrev pub AreJobs : List Row → Jobs → Type 0
+AreJobs rows jobs = IsNumber (codes "jobs") 1 64 1 rows jobs.threads
 
 abbrev pub IsSource : List Row → Source → Type 0
 IsSource rows source = IsNumber (codes "SOURCE") 0 1023 0 rows source.number
@@ -67,8 +71,8 @@ IsStoreTask name rows (store.Serve serving) = (name ≡ codes "serve") × AreSer
 
 -- what the command `name` with these arguments asks for
 abbrev pub IsTask : Text × List Row → Task → Type 0
-IsTask (name, rows) (task.Check verbose) = (name ≡ codes "check") × IsFlag (codes "verbose") rows verbose
-IsTask (name, rows) (task.Graph verbose) = (name ≡ codes "graph") × (first_of (codes "DIR") rows ≡ None) × IsFlag (codes "verbose") rows verbose
+IsTask (name, rows) (task.Check jobs verbose) = (name ≡ codes "check") × AreJobs rows jobs × IsFlag (codes "verbose") rows verbose
+IsTask (name, rows) (task.Graph jobs verbose) = (name ≡ codes "graph") × (first_of (codes "DIR") rows ≡ None) × AreJobs rows jobs × IsFlag (codes "verbose") rows verbose
 IsTask (name, rows) (task.Explain explaining) = (name ≡ codes "explain") × (first_of (codes "DIR") rows ≡ None) × IsExplaining rows explaining
 IsTask (name, rows) (task.OnStore directory given) =
     (first_of (codes "DIR") rows ≡ Some directory.now) × IsStoreTask name rows given

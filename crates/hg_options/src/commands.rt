@@ -37,6 +37,9 @@ pub const EVERY: &str = "every";
 /// The name of the option that is how many seconds a client may be silent.
 pub const SILENCE: &str = "silence";
 
+/// The name of the option that is how many threads read a trace.
+pub const JOBS: &str = "jobs";
+
 /// The name of the argument that is the address of a word.
 pub const ADDRESS: &str = "ADDRESS";
 
@@ -154,6 +157,19 @@ fn silence<'a>(alloc: Global) -> Arg<'a>
         .help("How long a client may be silent before its connection ends [default: for ever]")
 }
 
+/// How many threads read a trace.
+fn jobs<'a>(alloc: Global) -> Arg<'a>
+    ensures rule { rule_of result ≡ spec.jobs }
+    ensures local { result.global ≡ false }
+{
+    Arg::new(alloc, JOBS)
+        .long(JOBS)
+        .value_name("N")
+        .value_parser(value_parser!(u16).range(1..=64))
+        .default_value("1")
+        .help("How many threads read a large trace")
+}
+
 /// The address of a word.
 fn address<'a>(alloc: Global) -> Arg<'a>
     ensures rule { rule_of result ≡ spec.address }
@@ -186,7 +202,7 @@ fn verbose<'a>(alloc: Global) -> Arg<'a>
         .help("Say on standard error what a refused or bad line, or a fault, means")
 }
 
-/// `check [--verbose]`.
+/// `check [--jobs N] [--verbose]`.
 fn check<'a>(alloc: Global) -> Result<Command<'a>, AllocError>
     ensures app { IfOk result (λ c. shape_of c ≡ spec.check) }
     ensures local { IfOk result HasNoGlobals }
@@ -194,19 +210,21 @@ fn check<'a>(alloc: Global) -> Result<Command<'a>, AllocError>
     Command::new(alloc, "check")
         .about("Reads a trace on standard input, and prints its data races")
         .after_help(LANGUAGE)
+        .arg(jobs(alloc))?
         .arg(verbose(alloc))
 }
 
-/// `graph [DIR] [--verbose]`.
+/// `graph [DIR] [--jobs N] [--verbose]`.
 fn graph<'a>(alloc: Global) -> Result<Command<'a>, AllocError>
     ensures app { IfOk result (λ c. shape_of c ≡ spec.graph) }
     ensures local { IfOk result HasNoGlobals }
 {
-    Command::new(alloc, "graph")
+    let begun = Command::new(alloc, "graph")
         .about("Prints the thread segments of a store, or of a trace on standard input")
-        .after_help(LANGUAGE)
-        .arg(directory(alloc, false))?
-        .arg(verbose(alloc))
+        .after_help(LANGUAGE);
+    let of_store = begun.arg(directory(alloc, false))?;
+    let with_jobs = of_store.arg(jobs(alloc))?;
+    with_jobs.arg(verbose(alloc))
 }
 
 /// `explain ADDRESS [DIR] [--all]`.

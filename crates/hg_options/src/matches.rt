@@ -2,13 +2,13 @@
 
 ghost use Rattle.std.specs.Prelude.{◌≡◌, ◌≤◌, ℕ, Some, None, MatchResult, codes};
 ghost use Rattle.clap.specs.Words.{first_of, found_of, rows_of};
-ghost use Rattle.hg_options.specs.Tasks.{AreFrames, AreServing, IsExplaining, IsFlag, IsNumber, IsSource, IsStoreTask, IsTask, IsUnasked};
+ghost use Rattle.hg_options.specs.Tasks.{AreFrames, AreJobs, AreServing, IsExplaining, IsFlag, IsNumber, IsSource, IsStoreTask, IsTask, IsUnasked};
 
 use crate::commands::{
-    ADDRESS, ALL, CHECKPOINT, CONNECTIONS, DIRECTORY, EVERY, FRAMES, PORT, SILENCE, SOURCE,
+    ADDRESS, ALL, CHECKPOINT, CONNECTIONS, DIRECTORY, EVERY, FRAMES, JOBS, PORT, SILENCE, SOURCE,
     VERBOSE, WORKERS,
 };
-use crate::task::{Explaining, Frames, Misread, Serving, Source, StoreTask, Task};
+use crate::task::{Explaining, Frames, Jobs, Misread, Serving, Source, StoreTask, Task};
 use clap::ArgMatches;
 use hg_wire::number::number_of_word;
 
@@ -50,6 +50,15 @@ fn frames(given: &ArgMatches<'_>) -> Frames
 {
     Frames {
         pages: number(given, FRAMES, 4, 4096, 64),
+    }
+}
+
+/// How many threads read a trace.
+fn jobs(given: &ArgMatches<'_>) -> Jobs
+    ensures { AreJobs (rows_of (found_of given.now)) result }
+{
+    Jobs {
+        threads: number(given, JOBS, 1, 64, 1),
     }
 }
 
@@ -139,9 +148,11 @@ fn stream_task<'a>(name: &str, given: &ArgMatches<'_>) -> Result<Task<'a>, Misre
 {
     match name {
         "check" => Ok(Task::Check {
+            jobs: jobs(given),
             verbose: is_set(given, VERBOSE),
         }),
         "graph" => Ok(Task::Graph {
+            jobs: jobs(given),
             verbose: is_set(given, VERBOSE),
         }),
         "explain" => Ok(Task::Explain {

@@ -8,9 +8,9 @@ use std::string::String;
 #[derive(Clone, Copy, Drop)]
 pub enum Task<'a> {
     /// The races of the trace on standard input; and, where `verbose` is set, its last line in words.
-    Check { verbose: bool },
+    Check { jobs: Jobs, verbose: bool },
     /// The segments of the trace on standard input, and the same.
-    Graph { verbose: bool },
+    Graph { jobs: Jobs, verbose: bool },
     /// The life of a word in the trace on standard input.
     Explain { explaining: Explaining },
     /// What is asked for of the store in a directory.
@@ -56,6 +56,13 @@ pub struct Explaining {
     pub address: u64,
     /// Whether each access has a line, be it that it changes nothing.
     pub all: bool,
+}
+
+/// How many threads read a trace: 1 to 64.
+#[derive(Clone, Copy, Drop)]
+pub struct Jobs {
+    pub threads: u16,
+    ghost fits: { (1 ≤ threads) × (threads ≤ 64) },
 }
 
 /// How many pages of words a store may have in memory: 4 to 4,096.

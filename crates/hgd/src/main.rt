@@ -15,7 +15,7 @@ use hg_check::telling::tell;
 use hg_disk::FileDisk;
 use hg_model::verdict::Refusal;
 use hg_options::reading::read;
-use hg_options::task::{Misread, Serving, StoreTask, Task};
+use hg_options::task::{Jobs, Misread, Serving, StoreTask, Task};
 use hg_server::serving::{Plan, serve};
 use hg_server::worker::OpenGate;
 use hg_store::devices::Devices;
@@ -62,7 +62,17 @@ enum Outcome<'a> {
     Done {
         status: u8,
     },
-    /// A store is to be served. Threads can be made in `main` alone.
+    /// The trace on standard input is to be checked. Threads can be made in `main` alone.
+    Check {
+        jobs: Jobs,
+        verbose: bool,
+    },
+    /// Its segments are to be printed.
+    Graph {
+        jobs: Jobs,
+        verbose: bool,
+    },
+    /// A store is to be served.
     Serve {
         directory: &'a str,
         serving: Serving,
@@ -87,7 +97,7 @@ fn perform_on_store<'a>(rt: &HostRuntime, directory: &'a str, task: StoreTask) -
     Outcome::Done { status }
 }
 
-/// Does what the words of the command line ask for, but for serving a store.
+/// Does what the words of the command line ask for, but for what needs threads.
 fn perform<'a>(rt: &HostRuntime, words: &'a [String]) -> Outcome<'a> {
     let task = match read(rt.alloc(), words) {
         Ok(task) => task,
@@ -98,12 +108,8 @@ fn perform<'a>(rt: &HostRuntime, words: &'a [String]) -> Outcome<'a> {
         }
     };
     match task {
-        Task::Check { verbose } => Outcome::Done {
-            status: check_input(rt, verbose),
-        },
-        Task::Graph { verbose } => Outcome::Done {
-            status: graph_input(rt, verbose),
-        },
+        Task::Check { jobs, verbose } => Outcome::Check { jobs, verbose },
+        Task::Graph { jobs, verbose } => Outcome::Graph { jobs, verbose },
         Task::Explain { explaining } => Outcome::Done {
             status: explain_input(rt, explaining),
         },
@@ -157,6 +163,8 @@ fn main(rt: HostRuntime) -> ExitCode {
             match words {
                 Ok(words) => match perform(&rt, words.as_slice()) {
                     Outcome::Done { status } => status,
+                    Outcome::Check { jobs, verbose } => check_input(&rt, jobs, &rt, verbose),
+                    Outcome::Graph { jobs, verbose } => graph_input(&rt, jobs, &rt, verbose),
                     Outcome::Serve { directory, serving } => {
                         match open_directory(&rt, directory, Access::Change) {
                             Ok(devices) => {

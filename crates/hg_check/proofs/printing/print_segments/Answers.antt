@@ -22,18 +22,18 @@ returns-in_err-hold_segment-clause-front g c first rest goal p =
     always_err _ (front_due first c.loop-segment.output.calls c.loop-segment.held.items (segments_text c.loop-segment.number (drop c.loop-segment.segment-index c.args.segments.now) ++ rest) goal
     (c.loop-segment.invariant.0 first rest goal p))
 
-pub returns-in_err-write_large-clause-front : goal.returns-in_err-write_large-clause-front
-returns-in_err-write_large-clause-front g c first rest goal p =
-    always_err _ (c.in_err-write_large.ensures.front first (segments_text (c.loop-segment.number + 1) (drop (c.loop-segment.segment-index + 1) c.args.segments.now) ++ rest) goal
+pub returns-in_err-write_if_large-clause-front : goal.returns-in_err-write_if_large-clause-front
+returns-in_err-write_if_large-clause-front g c first rest goal p =
+    always_err _ (c.in_err-write_if_large.ensures.front first (segments_text (c.loop-segment.number + 1) (drop (c.loop-segment.segment-index + 1) c.args.segments.now) ++ rest) goal
     (holds c.args.segments.now c.loop-segment.segment-index c.loop-segment.number c.segment-item.result c.loop-segment.held.items c.hold_segment.new.held.items
     c.loop-segment-test.true c.segment-item.is c.in_ok-hold_segment.ensures.ok first c.loop-segment.output.calls rest goal
     (c.loop-segment.invariant.0 first rest goal p)))
 
 pub loop-segment-preserved : goal.loop-segment-preserved
 loop-segment-preserved g c = (
-  λ first rest goal p. c.in_ok-write_large.ensures.printed first (segments_text (c.loop-segment.number + 1) (drop (c.loop-segment.segment-index + 1) c.args.segments.now) ++ rest) goal
+  λ first rest goal p. c.in_ok-write_if_large.ensures.printed first (segments_text (c.loop-segment.number + 1) (drop (c.loop-segment.segment-index + 1) c.args.segments.now) ++ rest) goal
       (holds c.args.segments.now c.loop-segment.segment-index c.loop-segment.number c.segment-item.result c.loop-segment.held.items c.hold_segment.new.held.items
       c.loop-segment-test.true c.segment-item.is c.in_ok-hold_segment.ensures.ok first c.loop-segment.output.calls rest goal
       (c.loop-segment.invariant.0 first rest goal p)),
-  (omega (arith, c.in_ok-write_large.ensures.fault, c.loop-segment.invariant.1), omega (arith, c.loop-segment.invariant.1)),
+  (omega (arith, c.in_ok-write_if_large.ensures.fault, c.loop-segment.invariant.1), omega (arith, c.loop-segment.invariant.1)),
 )

@@ -3,7 +3,4 @@ use Rattle.hg_check.proofs.Sinking.{takes_line}
 use Rattle.hg_check.proofs.checking.CheckingSink.offer_access.Goals as goal
 
 pub returns : goal.returns
-returns g c = record {
-  takes = takes_line c.args.self.now _ c.args._output.now.calls _ c.apply_access.result c.apply_access.ensures.accepted c.apply_access.ensures.ended c.apply_access.ensures.back c.apply_access.ensures.front
-      c.apply_access.ensures.few c.apply_access.ensures.fault c.apply_access.ensures.counted c.apply_access.ensures.reports c.apply_access.ensures.whole refl refl refl;
-}
+returns g c = record { takes = takes_line c.args.self.now _ c.args._output.now.calls _ c.apply_access.result c.apply_access.ensures.steps c.apply_access.ensures.fault refl refl refl }
