@@ -1,9 +1,8 @@
 -- The calls of a disk, with their answers and bytes.
-use Rattle.std.specs.Prelude.{ℕ, List}
-use Rattle.std.specs.Prelude.{Result, Ok, Err}
+use Rattle.std.specs.Prelude.{ℕ, Bool, List, [], ◌∷◌, Result, Ok, Err, if◌then◌else◌}
 use Rattle.hg_disk.specs.declared.call.Call.{Call}
 use Rattle.hg_disk.specs.declared.call.Answer.{Answer}
-use Rattle.hg_disk.specs.declared.call.Answer.TheVariants.{Done, Failed}
+use Rattle.hg_disk.specs.declared.call.Answer.TheVariants.{Done, Failed, Refused}
 pub use Rattle.hg_disk.specs.declared.record.Event.{Event}
 
 -- one call with its answer and bytes
@@ -14,3 +13,15 @@ event call answer bytes = record { told = record { call = call; answer = answer 
 abbrev pub answer_of : {T E : Type 0} → Result T E → Answer
 answer_of (Ok value) = Done
 answer_of (Err error) = Failed
+
+-- the calls with one more on top, that took effect and wrote the bytes, or failed
+abbrev pub with_answer : {T E : Type 0} → Call → List ℕ → (is_done : Bool) → Result T E → List Event → List Event
+with_answer call bytes is_done result earlier = event call (answer_of result) (if is_done then bytes else []) ∷ earlier
+
+-- the calls with one more on top, that was refused
+abbrev pub with_refusal : Call → List Event → List Event
+with_refusal call earlier = event call Refused [] ∷ earlier
+
+-- the calls with a refused one on top, but where it was made
+abbrev pub refused_unless : (is_made : Bool) → Call → List Event → List Event
+refused_unless is_made call earlier = if is_made then earlier else event call Refused [] ∷ earlier

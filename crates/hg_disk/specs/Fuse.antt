@@ -1,6 +1,6 @@
 -- What a `FuseDisk` shows.
 use Rattle.std.specs.Prelude.{◌≡◌, ℕ, zero, suc, ◌+◌, min, Bool, true, false, if◌then◌else◌, Option, Some, None, List, [], ◌∷◌, length, Result, IsErr}
-use Rattle.hg_disk.specs.State.{DiskState, Change, counted}
+use Rattle.hg_disk.specs.State.{DiskState, Change, Fills, SameImages, after_cut, after_write, counted}
 use Rattle.hg_disk.specs.State.Change.{Written, CutTo}
 use Rattle.hg_disk.specs.Event.{Event}
 use Rattle.hg_disk.specs.declared.call.Call.{Call}
@@ -116,3 +116,35 @@ module _ {D : Type 0} (g : disk.Ghosts D) where
     pub passed : is_next (calls_left old) ≡ false → g.failures (inner_of new) ≡ counted result (g.failures (inner_of old))
     pub left : calls_left new ≡ left_after (stops old) (calls_left old)
     pub stops_still : stops new ≡ stops old
+
+  -- The buffer was filled with what a read gives from the offset on.
+  abbrev pub ReadsInto : FuseDisk D → (at : ℕ) → (old new : List ℕ) → Type 0
+  ReadsInto f at old new = Fills (fuse_state f) at old new
+
+  -- Its clock moved on by one call.
+  abbrev pub Ticks : (old new : FuseDisk D) → Type 0
+  Ticks old new = fuse_past new ≡ fuse_state old ∷ fuse_past old
+
+  -- Its failures are one more where the call failed.
+  abbrev pub CountsFailure : {T E : Type 0} → (old new : FuseDisk D) → Result T E → Type 0
+  CountsFailure old new result = fuse_failures new ≡ counted result (fuse_failures old)
+
+  -- It has the bytes written,
+  abbrev pub HasWritten : (at : ℕ) → (bytes : List ℕ) → (old new : FuseDisk D) → Type 0
+  HasWritten at bytes old new = fuse_state new ≡ after_write at bytes (fuse_state old)
+
+  -- or the images of a write that failed.
+  abbrev pub MayHaveWritten : (at : ℕ) → (bytes : List ℕ) → (old new : FuseDisk D) → Type 0
+  MayHaveWritten at bytes old new = SameImages (after_write at bytes (fuse_state old)) (fuse_state new)
+
+  -- It is cut to this length,
+  abbrev pub IsCut : (to : ℕ) → (old new : FuseDisk D) → Type 0
+  IsCut to old new = fuse_state new ≡ after_cut to (fuse_state old)
+
+  -- or has the images of a cut that failed.
+  abbrev pub MayBeCut : (to : ℕ) → (old new : FuseDisk D) → Type 0
+  MayBeCut to old new = SameImages (after_cut to (fuse_state old)) (fuse_state new)
+
+  -- It has the images that it had.
+  abbrev pub KeepsImages : (old new : FuseDisk D) → Type 0
+  KeepsImages old new = SameImages (fuse_state old) (fuse_state new)

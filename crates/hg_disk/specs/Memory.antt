@@ -1,5 +1,5 @@
 -- What a `MemDisk` shows.
-use Rattle.std.specs.Prelude.{◌⊎◌, ◌++◌, ◌∷◌, [], Result, OnOk, OnErr, IsErr, true, ◌≡◌, ◌+◌, ◌-◌, ◌≤◌, ℕ, Bool, false, max, List, length}
+use Rattle.std.specs.Prelude.{◌⊎◌, ◌++◌, ◌∷◌, [], Result, OnOk, OnErr, IsErr, IsOk, true, ◌≡◌, ◌+◌, ◌-◌, ◌≤◌, ◌^◌, ℕ, Bool, false, max, List, length}
 use Rattle.std.specs.Vec.{vec_capacity}
 use Rattle.hg_disk.specs.Event.{Event}
 use Rattle.hg_disk.specs.State.{DiskState}
@@ -52,6 +52,16 @@ pub record HasRoom (m : MemDisk) (calls bytes : ℕ) : Type 0 where
 -- the bytes that a write takes of the room: those that it writes, or by which the length grows, if these are more
 abbrev pub room_taken : List ℕ → ℕ → List ℕ → ℕ
 room_taken file at bytes = max (length bytes) (at + length bytes - length file)
+
+-- A call that writes nothing succeeds within the room, and takes one call of it,
+abbrev pub StaysInRoom : {T E : Type 0} → (old new : MemDisk) → Result T E → Type 0
+StaysInRoom old new result = (n b : ℕ) → HasRoom old (n + 1) b → IsOk result × HasRoom new n b
+
+-- and so does a write within the greatest length, which takes its bytes of it too.
+abbrev pub WritesInRoom : {T E : Type 0} → (at : ℕ) → (bytes : List ℕ) → (old new : MemDisk) → Result T E → Type 0
+WritesInRoom at bytes old new result =
+    (n b : ℕ) → HasRoom old (n + 1) (room_taken (state_of old).contents at bytes + b) → at + length bytes ≤ 2 ^ 62
+    → IsOk result × HasRoom new n b
 
 -- A call is kept as data, but where it failed for want of the memory to keep it, and then the disk is full. A full disk
 -- refuses each call.

@@ -1,11 +1,15 @@
 -- What a crash may leave from one moment of a disk to another.
-use Rattle.std.specs.Prelude.{◌-◌, length, get_or, ◌≡◌, ◌⊎◌, ℕ, List, [], ◌∷◌, ◌++◌}
-use Rattle.hg_disk.specs.State.{DiskState, IsImage}
+use Rattle.std.specs.Prelude.{◌-◌, length, get_or, ◌≡◌, ◌≤◌, ◌⊎◌, ℕ, List, [], ◌∷◌, ◌++◌}
+use Rattle.hg_disk.specs.State.{DiskState, IsImage, after_write}
 use Rattle.hg_disk.specs.declared.disk.Disk as disk
 
 -- each image of the state has P
 abbrev pub Leaves : (List ℕ → Type 0) → DiskState → Type 0
 Leaves P s = (image : List ℕ) → IsImage s image → P image
+
+-- each image of the state is so long
+abbrev pub LeavesLong : (n : ℕ) → DiskState → Type 0
+LeavesLong n s = Leaves (λ image. n ≤ length image) s
 
 -- each image of each of these states has P
 abbrev pub EachLeaves : (List ℕ → Type 0) → List DiskState → Type 0
@@ -36,6 +40,18 @@ module _ {D : Type 0} (g : disk.Ghosts D) where
     pub has_gone : HasGone old new later
     pub first : Leaves P (g.state old)
     pub each : EachLeaves P later
+
+  -- A crash at any moment from `old` to `new` leaves what it might have left at the first one.
+  abbrev pub AddsNoImage : (old new : D) → Type 0
+  AddsNoImage old new = LeavesOnly old new (IsImage (g.state old))
+
+  -- A crash at any moment from `old` to `new` leaves what a torn write of these bytes may leave.
+  abbrev pub LeavesTorn : (at : ℕ) → (bytes : List ℕ) → (old new : D) → Type 0
+  LeavesTorn at bytes old new = LeavesOnly old new (IsImage (after_write at bytes (g.state old)))
+
+  -- Images that were so long are no shorter at any moment from `old` to `new`.
+  abbrev pub IsNeverShorter : (n : ℕ) → (old new : D) → Type 0
+  IsNeverShorter n old new = LeavesLong n (g.state old) → LeavesOnly old new (λ image. n ≤ length image)
 
   -- No moment of the disk lies before its earlier one.
   abbrev pub GoesOn : D → D → Type 0

@@ -1,5 +1,5 @@
 -- A disk's calls made again, for an image.
-use Rattle.std.specs.Prelude.{◌≡◌, ℕ, List}
+use Rattle.std.specs.Prelude.{◌≡◌, ℕ, List, ◌∷◌}
 use Rattle.hg_disk.specs.Blots.{limit_of}
 use Rattle.hg_disk.specs.Event.{Event}
 use Rattle.hg_disk.specs.History.{replay}
@@ -11,3 +11,7 @@ pub record Stands (r : Replay) (start : List ℕ) (events : List Event) : Type 0
   pub contents : r.contents.items ≡ (replay start events).contents
   pub torn : IsTorn r.tear start events r.torn.items
   pub left : r.left ≡ left_of (limit_of r.tear) events
+
+-- Wherever it stood, it stands behind one call more.
+abbrev pub StandsAfter : Event → (old new : Replay) → Type 0
+StandsAfter e old new = (start : List ℕ) (earlier : List Event) → Stands old start earlier → Stands new start (e ∷ earlier)

@@ -66,3 +66,15 @@ pub record SameImages (s t : DiskState) : Type 0 where
 -- how many calls have failed after this answer
 abbrev pub counted : {T E : Type 0} → Result T E → ℕ → ℕ
 counted result before = if is_ok result then before else before + 1
+
+-- the buffer was filled with what a read gives from the offset on
+abbrev pub Fills : DiskState → (at : ℕ) → (old new : List ℕ) → Type 0
+Fills s at old new = new ≡ take (length old) (drop at s.contents)
+
+-- these bytes in place of those at this offset, within the file
+abbrev pub replaced : List ℕ → ℕ → List ℕ → List ℕ
+replaced file at bytes = take at file ++ (bytes ++ drop (at + length bytes) file)
+
+-- all that it holds is durable
+abbrev pub IsDurable : DiskState → Type 0
+IsDurable s = s ≡ settled s.contents

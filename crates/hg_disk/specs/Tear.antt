@@ -1,18 +1,24 @@
 -- The images that a `MemDisk` computes.
-use Rattle.std.specs.Prelude.{◌≡◌, ◌⊎◌, ◌<◌, ◌≤◌, ◌-◌, ◌==◌, ℕ, true, false, if◌then◌else◌, List, [], ◌∷◌, length, take, drop, get_or}
+use Rattle.std.specs.Prelude.{◌≡◌, ◌⊎◌, ◌<◌, ◌≤◌, ◌+◌, ◌-◌, ◌==◌, ℕ, true, false, if◌then◌else◌, List, [], ◌∷◌, length, take, drop, get_or}
 use Rattle.hg_disk.specs.State.{DiskState, least, is_written, overwritten}
-use Rattle.hg_disk.specs.Event.{Event}
+use Rattle.hg_disk.specs.Blots.{limit_of}
+use Rattle.hg_disk.specs.Event.{Event, event}
 use Rattle.hg_disk.specs.History.{replay}
 use Rattle.hg_disk.specs.declared.call.Call.{Call}
 use Rattle.hg_disk.specs.declared.call.Call.TheVariants.{Read, Write, Cut, Sync}
 use Rattle.hg_disk.specs.declared.call.Answer.{Answer}
 use Rattle.hg_disk.specs.declared.call.Answer.TheVariants.{Done, Failed, Refused}
+use Rattle.hg_disk.specs.declared.call.Answered.{Answered}
 use Rattle.hg_disk.specs.declared.tear.Tear.{Tear}
 use Rattle.hg_disk.specs.declared.tear.Tear.TheVariants.{Lost, Kept, Front, Fill}
 
 -- the first k calls, of calls that come the newest first
 abbrev pub first : ℕ → List Event → List Event
 first k events = drop (length events - k) events
+
+-- It is the call number i, counted from 0, with its bytes.
+abbrev pub IsCallAt : (i : ℕ) → List Event → Answered → List ℕ → Type 0
+IsCallAt i events told bytes = first (i + 1) events ≡ record { told = told; bytes = bytes } ∷ first i events
 
 -- how many bytes are left of n after a call, where n were left after the last sync and `before` before the call
 abbrev pub left_by : Call → Answer → List ℕ → ℕ → ℕ → ℕ
@@ -60,3 +66,25 @@ IsTorn Lost start events image = image ≡ (replay start events).synced
 IsTorn Kept start events image = image ≡ (replay start events).contents
 IsTorn (Front n) start events image = image ≡ front n start events
 IsTorn (Fill b) start events image = IsFilled b (replay start events) image
+
+-- An image after any calls becomes the image after one call more: a write, of which `left` bytes are let through,
+abbrev pub FollowsWrite : Tear → (left at : ℕ) → (bytes old new : List ℕ) → Type 0
+FollowsWrite tear left at bytes old new =
+    (start : List ℕ) (earlier : List Event) (len : ℕ) → left ≡ left_of (limit_of tear) earlier → IsTorn tear start earlier old
+    → IsTorn tear start (event (Write at len) Done bytes ∷ earlier) new
+
+-- a cut, that is let through if bytes are left,
+abbrev pub FollowsCut : Tear → (left to : ℕ) → (old new : List ℕ) → Type 0
+FollowsCut tear left to old new =
+    (start : List ℕ) (earlier : List Event) → left ≡ left_of (limit_of tear) earlier → IsTorn tear start earlier old
+    → IsTorn tear start (event (Cut to) Done [] ∷ earlier) new
+
+-- a sync of what a read gives,
+abbrev pub FollowsSync : Tear → (contents new : List ℕ) → Type 0
+FollowsSync tear contents new =
+    (start : List ℕ) (earlier : List Event) → contents ≡ (replay start earlier).contents → IsTorn tear start (event Sync Done [] ∷ earlier) new
+
+-- or a call that failed.
+abbrev pub FollowsFailed : Tear → Call → (old new : List ℕ) → Type 0
+FollowsFailed tear call old new =
+    (start : List ℕ) (earlier : List Event) → IsTorn tear start earlier old → IsTorn tear start (event call Failed [] ∷ earlier) new

@@ -1,6 +1,6 @@
 //! The trait of a disk.
-ghost use Rattle.std.specs.Prelude.{◌≡◌, ◌+◌, ◌≤◌, ◌^◌, ◌∷◌, ◌↔◌, Bool, List, ℕ, length, take, drop, IsTrue, OnOk, OnErr};
-ghost use Rattle.hg_disk.specs.State.{DiskState, IsImage, SameImages, after_write, after_cut, after_sync, counted};
+ghost use Rattle.std.specs.Prelude.{◌≡◌, ◌+◌, ◌≤◌, ◌^◌, ◌∷◌, ◌↔◌, Bool, List, ℕ, length, IsTrue, OnOk, OnErr};
+ghost use Rattle.hg_disk.specs.State.{DiskState, Fills, IsImage, SameImages, after_write, after_cut, after_sync, counted};
 
 use thiserror::Error;
 
@@ -39,7 +39,7 @@ pub trait Disk {
     /// Fills the buffer with the bytes from the offset `at` on. After a failure the buffer may have any bytes.
     fn read_at(&mut self, at: u64, buf: &mut [u8]) -> Result<(), DiskFault>
         requires { at + length buf.old ≤ length (state self.old).contents }
-        ensures bytes { IsTrue is_honest → OnOk result (buf.new ≡ take (length buf.old) (drop at (state self.old).contents)) }
+        ensures bytes { IsTrue is_honest → OnOk result (Fills (state self.old) at buf.old buf.new) }
         ensures state { state self.new ≡ state self.old }
         ensures clock { past self.new ≡ state self.old ∷ past self.old }
         ensures failures { failures self.new ≡ counted result (failures self.old) };

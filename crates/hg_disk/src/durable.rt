@@ -1,8 +1,8 @@
 //! A write and the sync that makes it durable.
 ghost use Rattle.std.specs.Prelude.{◌≡◌, ◌+◌, ◌≤◌, ◌^◌, length, OnOk};
-ghost use Rattle.hg_disk.specs.State.{IsImage, settled, overwritten, after_write, counted};
+ghost use Rattle.hg_disk.specs.State.{settled, overwritten, counted};
 ghost use Rattle.hg_disk.specs.Calls.{CallsAtMost};
-ghost use Rattle.hg_disk.specs.Moments.{LeavesOnly};
+ghost use Rattle.hg_disk.specs.Moments.{LeavesTorn};
 
 use crate::{Disk, DiskFault};
 
@@ -11,7 +11,7 @@ use crate::{Disk, DiskFault};
 /// calls at most.
 pub fn write_through<D: Disk>(disk: &mut D, at: u64, bytes: &[u8]) -> Result<(), DiskFault>
     ensures durable { OnOk result (D.state disk.new ≡ settled (overwritten (D.state disk.old).contents at bytes.now)) }
-    ensures any_moment { LeavesOnly ⟦<D as Disk>⟧ disk.old disk.new (IsImage (after_write at bytes.now (D.state disk.old))) }
+    ensures any_moment { LeavesTorn ⟦<D as Disk>⟧ at bytes.now disk.old disk.new }
     ensures fits { OnOk result (at + length bytes.now ≤ 2 ^ 62) }
     ensures calls { CallsAtMost ⟦<D as Disk>⟧ 2 disk.old disk.new }
     ensures failures { D.failures disk.new ≡ counted result (D.failures disk.old) }

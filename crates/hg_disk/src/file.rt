@@ -1,6 +1,6 @@
 //! A file of the operating system, or one that is missing.
-ghost use Rattle.std.specs.Prelude.{◌≡◌, ◌↔◌, ◌+◌, ◌-◌, ◌<◌, ◌≤◌, ◌^◌, ◌∷◌, false, [], length, replicate, IfOk, IsNone, OnOk, is_ok, if◌then◌else◌};
-ghost use Rattle.hg_disk.specs.Event.{answer_of, event};
+ghost use Rattle.std.specs.Prelude.{◌≡◌, ◌↔◌, ◌+◌, ◌-◌, ◌<◌, ◌≤◌, ◌^◌, false, [], length, replicate, IfOk, IsNone, OnOk, is_ok};
+ghost use Rattle.hg_disk.specs.Event.{with_answer};
 ghost use Rattle.hg_disk.specs.History.{KeepsError, replay};
 ghost use Rattle.hg_disk.specs.Kept.{has_contents};
 
@@ -95,7 +95,7 @@ fn note(
     answer: io::Result<()>,
 ) -> Result<(), DiskFault>
     ensures same { is_ok result ≡ is_ok answer }
-    ensures noted { history.new.events ≡ event call (answer_of result) (if is_ok answer then bytes.now else []) ∷ history.old.events }
+    ensures noted { history.new.events ≡ with_answer call bytes.now (is_ok answer) result history.old.events }
     ensures error { KeepsError error.old history.old.events → KeepsError error.new history.new.events }
 {
     if let Err(cause) = &answer {

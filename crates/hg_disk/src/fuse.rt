@@ -1,10 +1,10 @@
 //! A disk that fails at a chosen call.
-ghost use Rattle.std.specs.Prelude.{◌≡◌, ◌+◌, ◌-◌, ◌<◌, ◌≤◌, ◌^◌, ◌∷◌, [], length, take, drop, true, false, IsTrue, Some, OnOk, OnErr, if◌then◌else◌};
-ghost use Rattle.hg_disk.specs.State.{SameImages, after_write, after_cut, after_sync, counted};
-ghost use Rattle.hg_disk.specs.Event.{event};
+ghost use Rattle.std.specs.Prelude.{◌≡◌, ◌+◌, ◌-◌, ◌<◌, ◌≤◌, ◌^◌, length, true, false, IsTrue, Some, OnOk, OnErr, if◌then◌else◌};
+ghost use Rattle.hg_disk.specs.State.{after_sync};
+ghost use Rattle.hg_disk.specs.Event.{with_refusal};
 ghost use Rattle.hg_disk.specs.Fuse.{is_next, left_after};
 
-use crate::call::{Answer, Call};
+use crate::call::Call;
 use crate::record::Record;
 use crate::{Disk, DiskFault};
 
@@ -87,7 +87,7 @@ impl<D: Disk> FuseDisk<D> {
 fn refuses(calls_left: &mut Option<u64>, stops: bool, history: &mut Record, call: Call) -> bool
     ensures which { result ≡ is_next calls_left.old }
     ensures left { calls_left.new ≡ left_after stops calls_left.old }
-    ensures noted { history.new.events ≡ (if result then event call Answer.Refused [] ∷ history.old.events else history.old.events) }
+    ensures noted { history.new.events ≡ (if result then with_refusal call history.old.events else history.old.events) }
 {
     match *calls_left {
         None => false,
@@ -106,7 +106,7 @@ fn refuses(calls_left: &mut Option<u64>, stops: bool, history: &mut Record, call
 }
 
 impl<D: Disk> Disk for FuseDisk<D> {
-    ghost use Rattle.hg_disk.specs.Fuse.{shown, shown_past, refusals_in, fuse_state, fuse_past, fuse_failures, Burns};
+    ghost use Rattle.hg_disk.specs.Fuse.{Burns, CountsFailure, HasWritten, IsCut, KeepsImages, MayBeCut, MayHaveWritten, ReadsInto, Ticks, fuse_state, refusals_in, shown, shown_past};
     ghost use Rattle.hg_disk.specs.FuseImages.{shown_image};
 
     ghost is_honest = { D.Disk.is_honest };
@@ -125,10 +125,10 @@ impl<D: Disk> Disk for FuseDisk<D> {
 
     fn read_at(&mut self, at: u64, buf: &mut [u8]) -> Result<(), DiskFault>
         requires { at + length buf.old ≤ length (fuse_state ⟦<D as Disk>⟧ self.old).contents }
-        ensures bytes { IsTrue D.is_honest → OnOk result (buf.new ≡ take (length buf.old) (drop at (fuse_state ⟦<D as Disk>⟧ self.old).contents)) }
+        ensures bytes { IsTrue D.is_honest → OnOk result (ReadsInto ⟦<D as Disk>⟧ self.old at buf.old buf.new) }
         ensures state { fuse_state ⟦<D as Disk>⟧ self.new ≡ fuse_state ⟦<D as Disk>⟧ self.old }
-        ensures clock { fuse_past ⟦<D as Disk>⟧ self.new ≡ fuse_state ⟦<D as Disk>⟧ self.old ∷ fuse_past ⟦<D as Disk>⟧ self.old }
-        ensures failures { fuse_failures ⟦<D as Disk>⟧ self.new ≡ counted result (fuse_failures ⟦<D as Disk>⟧ self.old) }
+        ensures clock { Ticks ⟦<D as Disk>⟧ self.old self.new }
+        ensures failures { CountsFailure ⟦<D as Disk>⟧ self.old self.new result }
         ensures fuse { Burns ⟦<D as Disk>⟧ self.old self.new result }
     {
         if refuses(
@@ -144,11 +144,11 @@ impl<D: Disk> Disk for FuseDisk<D> {
     }
 
     fn write_at(&mut self, at: u64, bytes: &[u8]) -> Result<(), DiskFault>
-        ensures ok { OnOk result (fuse_state ⟦<D as Disk>⟧ self.new ≡ after_write at bytes.now (fuse_state ⟦<D as Disk>⟧ self.old)) }
-        ensures err { OnErr result (SameImages (after_write at bytes.now (fuse_state ⟦<D as Disk>⟧ self.old)) (fuse_state ⟦<D as Disk>⟧ self.new)) }
+        ensures ok { OnOk result (HasWritten ⟦<D as Disk>⟧ at bytes.now self.old self.new) }
+        ensures err { OnErr result (MayHaveWritten ⟦<D as Disk>⟧ at bytes.now self.old self.new) }
         ensures fits { OnOk result (at + length bytes.now ≤ 2 ^ 62) }
-        ensures clock { fuse_past ⟦<D as Disk>⟧ self.new ≡ fuse_state ⟦<D as Disk>⟧ self.old ∷ fuse_past ⟦<D as Disk>⟧ self.old }
-        ensures failures { fuse_failures ⟦<D as Disk>⟧ self.new ≡ counted result (fuse_failures ⟦<D as Disk>⟧ self.old) }
+        ensures clock { Ticks ⟦<D as Disk>⟧ self.old self.new }
+        ensures failures { CountsFailure ⟦<D as Disk>⟧ self.old self.new result }
         ensures fuse { Burns ⟦<D as Disk>⟧ self.old self.new result }
     {
         let call = Call::Write {
@@ -164,10 +164,10 @@ impl<D: Disk> Disk for FuseDisk<D> {
 
     fn cut(&mut self, to: u64) -> Result<(), DiskFault>
         requires { to ≤ length (fuse_state ⟦<D as Disk>⟧ self.old).contents }
-        ensures ok { OnOk result (fuse_state ⟦<D as Disk>⟧ self.new ≡ after_cut to (fuse_state ⟦<D as Disk>⟧ self.old)) }
-        ensures err { OnErr result (SameImages (after_cut to (fuse_state ⟦<D as Disk>⟧ self.old)) (fuse_state ⟦<D as Disk>⟧ self.new)) }
-        ensures clock { fuse_past ⟦<D as Disk>⟧ self.new ≡ fuse_state ⟦<D as Disk>⟧ self.old ∷ fuse_past ⟦<D as Disk>⟧ self.old }
-        ensures failures { fuse_failures ⟦<D as Disk>⟧ self.new ≡ counted result (fuse_failures ⟦<D as Disk>⟧ self.old) }
+        ensures ok { OnOk result (IsCut ⟦<D as Disk>⟧ to self.old self.new) }
+        ensures err { OnErr result (MayBeCut ⟦<D as Disk>⟧ to self.old self.new) }
+        ensures clock { Ticks ⟦<D as Disk>⟧ self.old self.new }
+        ensures failures { CountsFailure ⟦<D as Disk>⟧ self.old self.new result }
         ensures fuse { Burns ⟦<D as Disk>⟧ self.old self.new result }
     {
         if refuses(
@@ -185,9 +185,9 @@ impl<D: Disk> Disk for FuseDisk<D> {
 
     fn sync(&mut self) -> Result<(), DiskFault>
         ensures ok { OnOk result (fuse_state ⟦<D as Disk>⟧ self.new ≡ after_sync (fuse_state ⟦<D as Disk>⟧ self.old)) }
-        ensures err { OnErr result (SameImages (fuse_state ⟦<D as Disk>⟧ self.old) (fuse_state ⟦<D as Disk>⟧ self.new)) }
-        ensures clock { fuse_past ⟦<D as Disk>⟧ self.new ≡ fuse_state ⟦<D as Disk>⟧ self.old ∷ fuse_past ⟦<D as Disk>⟧ self.old }
-        ensures failures { fuse_failures ⟦<D as Disk>⟧ self.new ≡ counted result (fuse_failures ⟦<D as Disk>⟧ self.old) }
+        ensures err { OnErr result (KeepsImages ⟦<D as Disk>⟧ self.old self.new) }
+        ensures clock { Ticks ⟦<D as Disk>⟧ self.old self.new }
+        ensures failures { CountsFailure ⟦<D as Disk>⟧ self.old self.new result }
         ensures fuse { Burns ⟦<D as Disk>⟧ self.old self.new result }
     {
         if refuses(

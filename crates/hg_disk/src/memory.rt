@@ -1,8 +1,8 @@
 //! A disk in memory.
-ghost use Rattle.std.specs.Prelude.{◌≡◌, ◌+◌, ◌-◌, ◌<◌, ◌≤◌, ◌^◌, ◌∷◌, ℕ, [], true, false, length, take, drop, IsTrue, IsOk, IsErr, IfOk, OnOk, OnErr, if◌then◌else◌};
+ghost use Rattle.std.specs.Prelude.{◌≡◌, ◌+◌, ◌-◌, ◌<◌, ◌≤◌, ◌^◌, ◌∷◌, [], true, false, length, take, IsTrue, IsErr, IfOk, OnOk, OnErr, if◌then◌else◌};
 ghost use Rattle.std.specs.Vec.{vec_capacity};
-ghost use Rattle.hg_disk.specs.Room.{TapeHasRoom};
-ghost use Rattle.hg_disk.specs.State.{IsImage, SameImages, overwritten, after_write, after_cut, after_sync, counted};
+ghost use Rattle.hg_disk.specs.Room.{KeepsRoomFor, TapeHasRoom, WritesSurely};
+ghost use Rattle.hg_disk.specs.State.{Fills, IsImage, SameImages, overwritten, after_write, after_cut, after_sync, counted};
 ghost use Rattle.hg_disk.specs.History.{replay};
 ghost use Rattle.hg_disk.specs.Kept.{has_contents};
 
@@ -141,7 +141,7 @@ impl MemDisk {
 }
 
 impl Disk for MemDisk {
-    ghost use Rattle.hg_disk.specs.Memory.{state_of, past_of, failures_of, fails_next, HasRoom, KeepsCall, room_taken};
+    ghost use Rattle.hg_disk.specs.Memory.{KeepsCall, StaysInRoom, WritesInRoom, failures_of, fails_next, past_of, state_of};
 
     ghost is_honest = { true };
 
@@ -159,13 +159,13 @@ impl Disk for MemDisk {
 
     fn read_at(&mut self, at: u64, buf: &mut [u8]) -> Result<(), DiskFault>
         requires { at + length buf.old ≤ length (state_of self.old).contents }
-        ensures bytes { OnOk result (buf.new ≡ take (length buf.old) (drop at (state_of self.old).contents)) }
+        ensures bytes { OnOk result (Fills (state_of self.old) at buf.old buf.new) }
         ensures state { state_of self.new ≡ state_of self.old }
         ensures clock { past_of self.new ≡ state_of self.old ∷ past_of self.old }
         ensures failures { failures_of self.new ≡ counted result (failures_of self.old) }
         ensures kept { KeepsCall self.old self.new Call.Read result }
         ensures next { (fails_next self.new ≡ false) × (IsTrue (fails_next self.old) → IsErr result) }
-        ensures room { (n b : ℕ) → HasRoom self.old (n + 1) b → IsOk result × HasRoom self.new n b }
+        ensures room { StaysInRoom self.old self.new result }
     {
         let is_sound = !mem::replace(&mut self.fails_next, false);
         if !self.tape.makes_room(Call::Read) {
@@ -185,7 +185,7 @@ impl Disk for MemDisk {
         ensures unchanged { OnErr result ((state_of self.new).contents ≡ (state_of self.old).contents) }
         ensures kept { KeepsCall self.old self.new (Call.Write at (length bytes.now)) result }
         ensures next { (fails_next self.new ≡ false) × (IsTrue (fails_next self.old) → IsErr result) }
-        ensures room { (n b : ℕ) → HasRoom self.old (n + 1) (room_taken (state_of self.old).contents at bytes.now + b) → at + length bytes.now ≤ 2 ^ 62 → IsOk result × HasRoom self.new n b }
+        ensures room { WritesInRoom at bytes.now self.old self.new result }
     {
         let call = Call::Write {
             at,
@@ -208,7 +208,7 @@ impl Disk for MemDisk {
         ensures unchanged { OnErr result ((state_of self.new).contents ≡ (state_of self.old).contents) }
         ensures kept { KeepsCall self.old self.new (Call.Cut to) result }
         ensures next { (fails_next self.new ≡ false) × (IsTrue (fails_next self.old) → IsErr result) }
-        ensures room { (n b : ℕ) → HasRoom self.old (n + 1) b → IsOk result × HasRoom self.new n b }
+        ensures room { StaysInRoom self.old self.new result }
     {
         let is_sound = !mem::replace(&mut self.fails_next, false);
         if !self.tape.makes_room(Call::Cut { to }) {
@@ -225,7 +225,7 @@ impl Disk for MemDisk {
         ensures failures { failures_of self.new ≡ counted result (failures_of self.old) }
         ensures kept { KeepsCall self.old self.new Call.Sync result }
         ensures next { (fails_next self.new ≡ false) × (IsTrue (fails_next self.old) → IsErr result) }
-        ensures room { (n b : ℕ) → HasRoom self.old (n + 1) b → IsOk result × HasRoom self.new n b }
+        ensures room { StaysInRoom self.old self.new result }
     {
         let is_sound = !mem::replace(&mut self.fails_next, false);
         if !self.tape.makes_room(Call::Sync) {
@@ -255,8 +255,8 @@ fn writes(tape: &mut Tape, file: &mut Vec<u8>, at: u64, bytes: &[u8], is_sound: 
     ensures record { tape.new.history.events ≡ tape.old.history.events }
     ensures file { file.new.items ≡ (if result then overwritten file.old.items at bytes.now else file.old.items) }
     ensures made { TapeHasRoom tape.new 1 (if result then length bytes.now else 0) }
-    ensures room { (n b : ℕ) → IsTrue is_sound → TapeHasRoom tape.old (n + 1) (length bytes.now + b) → at + length bytes.now ≤ 2 ^ 62 → at + length bytes.now ≤ vec_capacity file.old → IsTrue result }
-    ensures stays { (n b : ℕ) → TapeHasRoom tape.old (n + 1) (length bytes.now + b) → TapeHasRoom tape.new (n + 1) (length bytes.now + b) }
+    ensures room { WritesSurely tape.old at bytes.now (vec_capacity file.old) is_sound result }
+    ensures stays { KeepsRoomFor (length bytes.now) tape.old tape.new }
     ensures capacity { vec_capacity file.old ≤ vec_capacity file.new }
 {
     if !is_sound || !is_within(at, bytes.len()) {

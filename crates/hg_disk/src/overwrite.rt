@@ -1,7 +1,7 @@
 //! A write into a file that stands in memory.
-ghost use Rattle.std.specs.Prelude.{◌≡◌, ◌+◌, ◌<◌, ◌≤◌, ◌^◌, ◌++◌, length, take, drop, OnOk, OnErr, IsOk};
+ghost use Rattle.std.specs.Prelude.{◌≡◌, ◌+◌, ◌<◌, ◌≤◌, ◌^◌, length, OnOk, OnErr, IsOk};
 ghost use Rattle.std.specs.Vec.{vec_capacity};
-ghost use Rattle.hg_disk.specs.State.{overwritten};
+ghost use Rattle.hg_disk.specs.State.{overwritten, replaced};
 
 use std::alloc::AllocError;
 
@@ -25,7 +25,7 @@ pub(crate) fn overwrite(file: &mut Vec<u8>, at: usize, bytes: &[u8]) -> Result<(
 // Puts the bytes there, within the file.
 fn put(file: &mut Vec<u8>, at: usize, bytes: &[u8])
     requires { at + length bytes.now ≤ length file.old.items }
-    ensures items { file.new.items ≡ take at file.old.items ++ (bytes.now ++ drop (at + length bytes.now) file.old.items) }
+    ensures items { file.new.items ≡ replaced file.old.items at bytes.now }
     ensures capacity { vec_capacity file.new ≡ vec_capacity file.old }
 {
     file[at..at + bytes.len()].copy_from_slice(bytes);

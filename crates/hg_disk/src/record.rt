@@ -1,6 +1,6 @@
 //! The calls of a disk with the bytes that they wrote, for clauses alone.
-ghost use Rattle.std.specs.Prelude.{◌≡◌, [], ◌∷◌, is_ok, if◌then◌else◌};
-ghost use Rattle.hg_disk.specs.Event.{event, answer_of};
+ghost use Rattle.std.specs.Prelude.{◌≡◌, [], ◌∷◌, is_ok};
+ghost use Rattle.hg_disk.specs.Event.{event, with_answer, with_refusal};
 
 use crate::DiskFault;
 use crate::call::{Answer, Answered, Call};
@@ -37,7 +37,7 @@ impl Record {
         is_done: bool,
     ) -> Result<(), DiskFault>
         ensures same { is_ok result ≡ is_done }
-        ensures noted { self.new.events ≡ event call (answer_of result) (if is_done then bytes.now else []) ∷ self.old.events }
+        ensures noted { self.new.events ≡ with_answer call bytes.now is_done result self.old.events }
     {
         if !is_done {
             self.note(call, Answer::Failed, &[]);
@@ -49,7 +49,7 @@ impl Record {
 
     /// Adds a call that was refused.
     pub(crate) fn note_refusal(&mut self, call: Call)
-        ensures { self.new.events ≡ event call Answer.Refused [] ∷ self.old.events }
+        ensures { self.new.events ≡ with_refusal call self.old.events }
     {
         self.note(call, Answer::Refused, &[]);
     }

@@ -1,6 +1,6 @@
 //! The calls of a disk made again, for an image.
-ghost use Rattle.std.specs.Prelude.{◌≡◌, ◌+◌, ◌≤◌, ◌^◌, ◌∷◌, ℕ, List, length, IfOk, OnOk, []};
-ghost use Rattle.hg_disk.specs.Event.{Event, event};
+ghost use Rattle.std.specs.Prelude.{◌≡◌, ◌+◌, ◌≤◌, ◌^◌, length, IfOk, OnOk, []};
+ghost use Rattle.hg_disk.specs.Event.{event};
 ghost use Rattle.hg_disk.specs.Tape.{Fits};
 
 use crate::Tear;
@@ -19,7 +19,7 @@ pub(crate) struct Replay {
 }
 
 impl Replay {
-    ghost use Rattle.hg_disk.specs.Replay.{Stands};
+    ghost use Rattle.hg_disk.specs.Replay.{Stands, StandsAfter};
 
     pub fn new(alloc: Global, start: &[u8], tear: Tear) -> Result<Replay, AllocError>
         ensures tear { IfOk result (λ r. r.tear ≡ tear) }
@@ -37,7 +37,7 @@ impl Replay {
     pub fn step(&mut self, told: Answered, bytes: &[u8]) -> Result<(), AllocError>
         requires { Fits told.call told.answer bytes.now }
         ensures tear { self.new.tear ≡ self.old.tear }
-        ensures stands { OnOk result ((start : List ℕ) (earlier : List Event) → Stands self.old start earlier → Stands self.new start (record { told = told; bytes = bytes.now } ∷ earlier)) }
+        ensures stands { OnOk result (StandsAfter (record { told = told; bytes = bytes.now }) self.old self.new) }
     {
         match told.answer {
             Answer::Done => self.make(told.call, bytes),
@@ -56,7 +56,7 @@ impl Replay {
     fn make(&mut self, call: Call, bytes: &[u8]) -> Result<(), AllocError>
         requires { Fits call Answer.Done bytes.now }
         ensures tear { self.new.tear ≡ self.old.tear }
-        ensures stands { OnOk result ((start : List ℕ) (earlier : List Event) → Stands self.old start earlier → Stands self.new start (event call Answer.Done bytes.now ∷ earlier)) }
+        ensures stands { OnOk result (StandsAfter (event call Answer.Done bytes.now) self.old self.new) }
     {
         match call {
             Call::Read => Ok(()),
@@ -72,7 +72,7 @@ impl Replay {
     fn write(&mut self, at: u64, len: usize, bytes: &[u8]) -> Result<(), AllocError>
         requires { (len ≡ length bytes.now) × (at + len ≤ 2 ^ 62) }
         ensures tear { self.new.tear ≡ self.old.tear }
-        ensures stands { OnOk result ((start : List ℕ) (earlier : List Event) → Stands self.old start earlier → Stands self.new start (event (Call.Write at len) Answer.Done bytes.now ∷ earlier)) }
+        ensures stands { OnOk result (StandsAfter (event (Call.Write at len) Answer.Done bytes.now) self.old self.new) }
     {
         self.tear
             .write(&mut self.torn, self.left, at as usize, bytes)?;
@@ -83,7 +83,7 @@ impl Replay {
 
     fn cut(&mut self, to: u64)
         ensures tear { self.new.tear ≡ self.old.tear }
-        ensures stands { (start : List ℕ) (earlier : List Event) → Stands self.old start earlier → Stands self.new start (event (Call.Cut to) Answer.Done [] ∷ earlier) }
+        ensures stands { StandsAfter (event (Call.Cut to) Answer.Done []) self.old self.new }
     {
         self.tear.cut(&mut self.torn, self.left, to as usize);
         self.contents.truncate(to as usize);
@@ -91,7 +91,7 @@ impl Replay {
 
     fn sync(&mut self) -> Result<(), AllocError>
         ensures tear { self.new.tear ≡ self.old.tear }
-        ensures stands { OnOk result ((start : List ℕ) (earlier : List Event) → Stands self.old start earlier → Stands self.new start (event Call.Sync Answer.Done [] ∷ earlier)) }
+        ensures stands { OnOk result (StandsAfter (event Call.Sync Answer.Done []) self.old self.new) }
     {
         self.tear.sync(&mut self.torn, &self.contents)?;
         self.left = self.tear.limit();
@@ -101,7 +101,7 @@ impl Replay {
     // A call that failed.
     fn fail(&mut self, call: Call)
         ensures tear { self.new.tear ≡ self.old.tear }
-        ensures stands { (start : List ℕ) (earlier : List Event) → Stands self.old start earlier → Stands self.new start (event call Answer.Failed [] ∷ earlier) }
+        ensures stands { StandsAfter (event call Answer.Failed []) self.old self.new }
     {
         match call {
             Call::Read => {}

@@ -1,7 +1,7 @@
 //! The calls of a disk, kept as data.
-ghost use Rattle.std.specs.Prelude.{◌≡◌, ◌+◌, ◌<◌, ◌^◌, ◌∷◌, ℕ, [], true, false, not, is_ok, length, IsTrue, IfOk, if◌then◌else◌};
-ghost use Rattle.hg_disk.specs.Event.{event, answer_of};
-ghost use Rattle.hg_disk.specs.Tear.{first};
+ghost use Rattle.std.specs.Prelude.{◌≡◌, ◌+◌, ◌<◌, ◌^◌, ℕ, [], true, false, not, is_ok, length, IsTrue, IfOk, if◌then◌else◌};
+ghost use Rattle.hg_disk.specs.Event.{refused_unless, with_answer};
+ghost use Rattle.hg_disk.specs.Tear.{IsCallAt, first};
 ghost use Rattle.hg_disk.specs.Tape.{kept, calls_in, written_in, Fits, AllFit, AllFit_prop};
 
 use crate::DiskFault;
@@ -24,7 +24,7 @@ pub(crate) struct Tape {
 }
 
 impl Tape {
-    ghost use Rattle.hg_disk.specs.Room.{TapeHasRoom};
+    ghost use Rattle.hg_disk.specs.Room.{KeepsRoomFor, TapeHasRoom};
 
     pub fn new(alloc: Global) -> Tape
         ensures made { result.history.events ≡ [] }
@@ -53,7 +53,7 @@ impl Tape {
 
     /// Makes room for one more call. Where it finds none, the tape is full, and the call goes on record as refused.
     pub fn makes_room(&mut self, call: Call) -> bool
-        ensures record { self.new.history.events ≡ (if result then self.old.history.events else event call Answer.Refused [] ∷ self.old.history.events) }
+        ensures record { self.new.history.events ≡ refused_unless result call self.old.history.events }
         ensures made { IsTrue result → TapeHasRoom self.new 1 0 }
         ensures full { self.new.is_full ≡ not result }
         ensures refuses { self.old.is_full ≡ true → result ≡ false }
@@ -74,7 +74,7 @@ impl Tape {
         ensures record { self.new.history.events ≡ self.old.history.events }
         ensures made { TapeHasRoom self.new 1 (if result then len else 0) }
         ensures room { (n b : ℕ) → TapeHasRoom self.old (n + 1) (len + b) → IsTrue result }
-        ensures stays { (n b : ℕ) → TapeHasRoom self.old (n + 1) (len + b) → TapeHasRoom self.new (n + 1) (len + b) }
+        ensures stays { KeepsRoomFor len self.old self.new }
     {
         self.written.reserve(len).is_ok()
     }
@@ -83,7 +83,7 @@ impl Tape {
     pub fn call(&self, i: usize, from: usize) -> (Answered, &[u8])
         requires there { i < length (calls_in (kept self.now.history.events)) }
         requires from { from ≡ length (written_in (first i (kept self.now.history.events))) }
-        ensures next { first (i + 1) (kept self.now.history.events) ≡ record { told = result.0; bytes = result.1.now } ∷ first i (kept self.now.history.events) }
+        ensures next { IsCallAt i (kept self.now.history.events) result.0 result.1.now }
         ensures fits { Fits result.0.call result.0.answer result.1.now }
         ensures small { from + length result.1.now < 2 ^ 64 }
     {
@@ -98,7 +98,7 @@ impl Tape {
         requires fits { Fits call (if is_done then Answer.Done else Answer.Failed) (if is_done then bytes.now else []) }
         ensures result { is_ok result ≡ is_done }
         ensures full { self.new.is_full ≡ self.old.is_full }
-        ensures record { self.new.history.events ≡ event call (answer_of result) (if is_done then bytes.now else []) ∷ self.old.history.events }
+        ensures record { self.new.history.events ≡ with_answer call bytes.now is_done result self.old.history.events }
         ensures stays { (n b : ℕ) → TapeHasRoom self.old (n + 1) (length bytes.now + b) → TapeHasRoom self.new n b }
     {
         let answer = if is_done {

@@ -1,11 +1,9 @@
 //! Which of its images a disk in memory gives, and how a call changes it.
-ghost use Rattle.std.specs.Prelude.{◌≡◌, ◌+◌, ◌-◌, ◌<◌, ◌≤◌, ◌^◌, ◌∷◌, ◌++◌, [], ℕ, List, length, take, drop, replicate, OnOk};
+ghost use Rattle.std.specs.Prelude.{◌≡◌, ◌+◌, ◌-◌, ◌<◌, ◌≤◌, ◌^◌, ◌++◌, length, take, drop, replicate, OnOk};
 ghost use Rattle.hg_disk.specs.State.{overwritten};
-ghost use Rattle.hg_disk.specs.Event.{Event, event};
-ghost use Rattle.hg_disk.specs.History.{replay};
 ghost use Rattle.hg_disk.specs.Blots.{blotted, blotted_within, cut_off};
 
-use crate::call::{Answer, Call};
+use crate::call::Call;
 use crate::overwrite::overwrite;
 use std::alloc::AllocError;
 
@@ -23,7 +21,7 @@ pub enum Tear {
 }
 
 impl Tear {
-    ghost use Rattle.hg_disk.specs.Tear.{IsTorn, left_of};
+    ghost use Rattle.hg_disk.specs.Tear.{FollowsCut, FollowsFailed, FollowsSync, FollowsWrite};
     ghost use Rattle.hg_disk.specs.Blots.{limit_of};
 
     /// How many bytes are to be written.
@@ -47,7 +45,7 @@ impl Tear {
         bytes: &[u8],
     ) -> Result<(), AllocError>
         requires { at + length bytes.now < 2 ^ 64 }
-        ensures { OnOk result ((start : List ℕ) (earlier : List Event) (len : ℕ) → left ≡ left_of (limit_of self) earlier → IsTorn self start earlier torn.old.items → IsTorn self start (event (Call.Write at len) Answer.Done bytes.now ∷ earlier) torn.new.items) }
+        ensures { OnOk result (FollowsWrite self left at bytes.now torn.old.items torn.new.items) }
     {
         match self {
             Tear::Lost => Ok(()),
@@ -59,7 +57,7 @@ impl Tear {
 
     /// A cut that took effect.
     pub(crate) fn cut(self, torn: &mut Vec<u8>, left: usize, to: usize)
-        ensures { (start : List ℕ) (earlier : List Event) → left ≡ left_of (limit_of self) earlier → IsTorn self start earlier torn.old.items → IsTorn self start (event (Call.Cut to) Answer.Done [] ∷ earlier) torn.new.items }
+        ensures { FollowsCut self left to torn.old.items torn.new.items }
     {
         match self {
             Tear::Lost => {}
@@ -71,7 +69,7 @@ impl Tear {
 
     /// A sync that took effect.
     pub(crate) fn sync(self, torn: &mut Vec<u8>, contents: &[u8]) -> Result<(), AllocError>
-        ensures { OnOk result ((start : List ℕ) (earlier : List Event) → contents.now ≡ (replay start earlier).contents → IsTorn self start (event Call.Sync Answer.Done [] ∷ earlier) torn.new.items) }
+        ensures { OnOk result (FollowsSync self contents.now torn.new.items) }
     {
         torn.clear();
         torn.extend_from_slice(contents)
@@ -79,7 +77,7 @@ impl Tear {
 
     /// A write that failed.
     pub(crate) fn fail_write(self, torn: &mut Vec<u8>, at: u64, len: usize)
-        ensures { (start : List ℕ) (earlier : List Event) → IsTorn self start earlier torn.old.items → IsTorn self start (event (Call.Write at len) Answer.Failed [] ∷ earlier) torn.new.items }
+        ensures { FollowsFailed self (Call.Write at len) torn.old.items torn.new.items }
     {
         if let Tear::Fill(byte) = self {
             blot_within(torn, at as usize, len, byte);
@@ -88,7 +86,7 @@ impl Tear {
 
     /// A cut that failed.
     pub(crate) fn fail_cut(self, torn: &mut Vec<u8>, to: u64)
-        ensures { (start : List ℕ) (earlier : List Event) → IsTorn self start earlier torn.old.items → IsTorn self start (event (Call.Cut to) Answer.Failed [] ∷ earlier) torn.new.items }
+        ensures { FollowsFailed self (Call.Cut to) torn.old.items torn.new.items }
     {
         if let Tear::Fill(byte) = self {
             blot_from(torn, to as usize, byte);

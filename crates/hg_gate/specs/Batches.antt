@@ -1,7 +1,11 @@
 -- The bytes of a log: a header, open batches, the first gate that is closed, and then anything.
-use Rattle.std.specs.Prelude.{◌≡◌, ◌⊎◌, ◌≢◌, ◌≤◌, ℕ, List, [], ◌∷◌, ◌++◌, length}
+use Rattle.std.specs.Prelude.{◌≡◌, ◌⊎◌, ◌≢◌, ◌≤◌, ◌+◌, ℕ, List, [], ◌∷◌, ◌++◌, length}
 use Rattle.std.specs.List.{flat_map, AllByRecursion}
 use Rattle.std.specs.Int.{w32, to_be_bytes}
+use Rattle.hg_disk.specs.Calls.{CallsAtMost}
+use Rattle.hg_disk.specs.Moments.{Leaves}
+use Rattle.hg_disk.specs.State.{DiskState}
+use Rattle.hg_disk.specs.declared.disk.Disk as disk
 
 -- "HGJRNL1" and a line feed
 abbrev pub header : List ℕ
@@ -53,3 +57,16 @@ pub record IsLog (bytes : List ℕ) (bodies : List (List ℕ)) : Type 0 where
 -- the batches with one more, or without
 abbrev pub IsBeforeOrAfter : List (List ℕ) → List ℕ → List ℕ → Type 0
 IsBeforeOrAfter bodies body bytes = IsLog bytes bodies ⊎ IsLog bytes (bodies ++ body ∷ [])
+
+-- The bytes are none of a log.
+abbrev pub IsNoLog : List ℕ → Type 0
+IsNoLog bytes = (bodies : List (List ℕ)) → ¬ IsLog bytes bodies
+
+-- Each image of the state has these batches.
+abbrev pub LeavesLog : List (List ℕ) → DiskState → Type 0
+LeavesLog bodies s = Leaves (λ image. IsLog image bodies) s
+
+module _ {D : Type 0} (g : disk.Ghosts D) where
+  -- If the bytes are a log's, the disk was called once a batch and twice more at most.
+  abbrev pub OneCallABatch : (old new : D) → Type 0
+  OneCallABatch old new = (bodies : List (List ℕ)) → IsLog (g.state old).contents bodies → CallsAtMost g (length bodies + 2) old new

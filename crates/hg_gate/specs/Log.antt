@@ -1,14 +1,16 @@
 -- What a log shows.
-use Rattle.std.specs.Prelude.{◌≡◌, ℕ, Bool, false, List, [], ◌∷◌, length, Option, Some, None, Result, Ok, Err}
+use Rattle.std.specs.Prelude.{◌≡◌, ◌≢◌, ◌⊎◌, ℕ, Bool, false, IsTrue, List, [], ◌∷◌, ◌++◌, length, Option, Some, None, Result, Ok, Err, OnOk, IfOk, IfErr}
 use Rattle.hg_disk.specs.declared.disk.Disk as disk
+use Rattle.hg_disk.specs.Moments.{LeavesOnly}
 use Rattle.hg_disk.specs.State.{settled}
 use Rattle.hg_gate.specs.declared.batch.Batch.{Batch}
 use Rattle.hg_gate.specs.declared.fault.GateFault.{GateFault}
+use Rattle.hg_gate.specs.declared.fault.GateFault.TheVariants.{Damaged, DeviceFault, OutOfMemory}
 use Rattle.hg_gate.specs.declared.log.Batches.{Batches}
 use Rattle.hg_gate.specs.declared.log.Log.{Log}
 use Rattle.hg_gate.specs.Batch.{body_of}
 use Rattle.hg_gate.specs.Fault.{after_fault}
-use Rattle.hg_gate.specs.Batches.{IsLog, spelled}
+use Rattle.hg_gate.specs.Batches.{IsBeforeOrAfter, IsLog, IsNoLog, LeavesLog, closed_gate, header, spelled}
 
 module _ {D : Type 0} {g : disk.Ghosts D} where
   abbrev pub disk_of : Log D g → D
@@ -28,6 +30,33 @@ module _ {D : Type 0} {g : disk.Ghosts D} where
   pub record Has (log : Log D g) (bodies : List (List ℕ)) : Type 0 where
     pub reads : Reads log bodies
     pub durable : g.state log.disk ≡ settled (g.state log.disk).contents
+
+  -- It has some batches, if only none.
+  abbrev pub HasSome : Log D g → Type 0
+  HasSome log = (bodies : List (List ℕ)) × Has log bodies
+
+  -- The bytes of its disk have some batches, if only none.
+  abbrev pub ReadsSome : Log D g → Type 0
+  ReadsSome log = (bodies : List (List ℕ)) × Reads log bodies
+
+  -- It has no batches, and its disk the header and a closed gate; no call has failed since the disk was this one.
+  abbrev pub IsEmptyOn : D → Log D g → Type 0
+  IsEmptyOn before log =
+      Has log [] × (g.state (disk_of log) ≡ settled (header ++ closed_gate ∷ [])) × (g.failures (disk_of log) ≡ g.failures before)
+
+  -- A batch is added, and is durable,
+  abbrev pub AddsBatch : {T E : Type 0} → (body : List ℕ) → (old new : Log D g) → Result T E → Type 0
+  AddsBatch body old new result = (bodies : List (List ℕ)) → Has old bodies → OnOk result (Has new (bodies ++ body ∷ []))
+
+  -- in each image.
+  abbrev pub AddsDurably : {T E : Type 0} → (body : List ℕ) → (old new : Log D g) → Result T E → Type 0
+  AddsDurably body old new result =
+      (bodies : List (List ℕ)) → Has old bodies → OnOk result (LeavesLog (bodies ++ body ∷ []) (g.state (disk_of new)))
+
+  -- A crash at any moment leaves the batches from before, with the new one or without.
+  abbrev pub LeavesBeforeOrAfter : (body : List ℕ) → (old new : Log D g) → Type 0
+  LeavesBeforeOrAfter body old new =
+      (bodies : List (List ℕ)) → Has old bodies → LeavesOnly g (disk_of old) (disk_of new) (IsBeforeOrAfter bodies body)
 
   -- the disk after a call that makes a log of it, or hands it back
   abbrev pub disk_after : Result (Log D g) (GateFault × D) → D
@@ -52,3 +81,23 @@ given (Some batch) = body_of batch ∷ []
 abbrev pub IsFirst : Option Batch → List (List ℕ) → Type 0
 IsFirst None left = left ≡ []
 IsFirst (Some batch) left = (later : List (List ℕ)) × (left ≡ body_of batch ∷ later)
+
+-- Where it was refused as damaged, the bytes are none of a log.
+abbrev pub IsNoLogIfDamaged : {D : Type 0} → List ℕ → (GateFault × D) → Type 0
+IsNoLogIfDamaged bytes refused = refused.0 ≡ Damaged → IsNoLog bytes
+
+-- A device call failed, or there was no memory, and the disk was not called.
+abbrev pub FailedOrUncalled : {D : Type 0} → D → (GateFault × D) → Type 0
+FailedOrUncalled before refused = (refused.0 ≡ DeviceFault) ⊎ ((refused.0 ≡ OutOfMemory) × (refused.1 ≡ before))
+
+module _ {D : Type 0} {g : disk.Ghosts D} where
+  -- From an honest disk the next batch is read, if one is left, and the place is behind it,
+  abbrev pub ReadsNext : {E : Type 0} → Log D g → (old new : Batches) → Result (Option Batch) E → Type 0
+  ReadsNext log old new result =
+      (seen left : List (List ℕ)) → IsTrue g.is_honest → Reads log (seen ++ left) → IsBehind old seen
+      → IfOk result (λ found. IsFirst found left × IsBehind new (seen ++ given found))
+
+  -- and there is no damage.
+  abbrev pub ReadsUndamaged : {T : Type 0} → Log D g → (old : Batches) → Result T GateFault → Type 0
+  ReadsUndamaged log old result =
+      (seen left : List (List ℕ)) → IsTrue g.is_honest → Reads log (seen ++ left) → IsBehind old seen → IfErr result (λ e. e ≢ Damaged)

@@ -2,6 +2,7 @@
 use Rattle.std.specs.Prelude.{◌≡◌, ◌≢◌, ◌<◌, ◌+◌, ℕ, Option, Some, None, List, ◌∷◌, ◌++◌, length, drop}
 use Rattle.std.specs.List.{flat_map, AllByRecursion}
 use Rattle.std.specs.Int.{w32, to_be_bytes}
+use Rattle.hg_disk.specs.State.{DiskState}
 use Rattle.hg_gate.specs.Batches.{open_gate, IsClosed, IsBodyLength, IsBody, batch, spelled, IsLog}
 
 -- open batches, a gate that is closed, and then anything
@@ -11,6 +12,14 @@ pub record IsTail (bytes : List ℕ) (bodies : List (List ℕ)) : Type 0 where
   pub spelling : bytes ≡ flat_map batch bodies ++ gate ∷ rest
   pub closed : gate ≢ open_gate
   pub each : AllByRecursion IsBody bodies
+
+-- The bytes are none of these.
+abbrev pub IsNoTail : List ℕ → Type 0
+IsNoTail bytes = (bodies : List (List ℕ)) → ¬ IsTail bytes bodies
+
+-- From this place on, what a read gives is none of these.
+abbrev pub HasNoTail : (at : ℕ) → DiskState → Type 0
+HasNoTail at s = IsNoTail (drop at s.contents)
 
 -- an open gate, the length n of a body, so many bytes, and more
 pub record IsOpen (bytes : List ℕ) (n : ℕ) : Type 0 where

@@ -1,11 +1,11 @@
 //! A file whose first byte says whether the rest counts.
-ghost use Rattle.std.specs.Prelude.{◌≡◌, ◌≢◌, ◌+◌, ◌<◌, ◌≤◌, ◌^◌, ◌↔◌, ◌++◌, ◌∷◌, [], ℕ, List, length, get_or, take, drop, false, IsTrue, OnOk, OnErr, IsErrOf, Err, IfOk, IfErr, MatchOption};
-ghost use Rattle.hg_disk.specs.State.{IsImage, settled, counted};
+ghost use Rattle.std.specs.Prelude.{◌≡◌, ◌+◌, ◌<◌, ◌≤◌, ◌^◌, [], ℕ, List, length, drop, false, IsTrue, OnOk, OnErr, IsErrOf, Err, IfOk, IfErr};
+ghost use Rattle.hg_disk.specs.State.{counted};
 ghost use Rattle.hg_disk.specs.Calls.{CallsAtMost};
-ghost use Rattle.hg_disk.specs.Moments.{Leaves, LeavesOnly};
+ghost use Rattle.hg_disk.specs.Moments.{AddsNoImage};
 ghost use Rattle.std.specs.Int.{w64, to_be_bytes};
-ghost use Rattle.hg_gate.specs.Gated.{framed, IsOpenWith};
-ghost use Rattle.hg_gate.specs.Batches.{open_gate, closed_gate, IsClosed};
+ghost use Rattle.hg_gate.specs.Gated.{HasLength, IsNotOpen, LeavesClosed, ReplacesBody, TellsGate};
+ghost use Rattle.hg_gate.specs.Batches.{open_gate};
 ghost use Rattle.hg_gate.specs.Fault.{failures_after, IsBrokenOrDevice, IsDamagedOrDevice};
 
 use crate::fault::GateFault;
@@ -32,7 +32,7 @@ impl<D: Disk + Drop> Drop for Gated<D> {
 }
 
 impl<D: Disk> Gated<D> {
-    ghost use Rattle.hg_gate.specs.Gated.{Rests, IsClosedOrOpenWith, IsBehindGate, disk_of, is_broken};
+    ghost use Rattle.hg_gate.specs.Gated.{ClosesGate, HasBody, LeavesRest, OpensDurably, OpensGate, PutsBody, Rests, StaysClosed, StaysClosedOrOpens, TellsTrueDamage, disk_of, is_broken};
 
     /// The file on a disk, whatever its bytes are. It makes no device call.
     pub fn attach(disk: D) -> Gated<D>
@@ -59,12 +59,11 @@ impl<D: Disk> Gated<D> {
     /// The gate is written whatever it was, and a crash may leave any byte of a write. So a crash in the call may leave
     /// a gate that was closed open: who wants it to stay closed at each moment makes no call.
     pub fn close(&mut self) -> Result<(), GateFault>
-        ensures closed { (file : List ℕ) → Rests ⟦<D as Disk>⟧ self.old file → OnOk result (Rests ⟦<D as Disk>⟧ self.new (closed_gate ∷ drop 1 file)) }
+        ensures closed { ClosesGate ⟦<D as Disk>⟧ self.old self.new result }
 
         // A crash at any moment of the call leaves what stands behind the gate. The gate itself may be any byte, open too,
         // whatever it was.
-        ensures any_moment { (gate : ℕ) (rest : List ℕ) → Rests ⟦<D as Disk>⟧ self.old (gate ∷ rest)
-            → LeavesOnly ⟦<D as Disk>⟧ (disk_of self.old) (disk_of self.new) (IsBehindGate rest) }
+        ensures any_moment { LeavesRest ⟦<D as Disk>⟧ self.old self.new }
 
         ensures fault { IfErr result IsBrokenOrDevice }
         ensures calls { CallsAtMost ⟦<D as Disk>⟧ 2 (disk_of self.old) (disk_of self.new) }
@@ -85,11 +84,10 @@ impl<D: Disk> Gated<D> {
     /// Puts a body behind the gate, which is to be closed, and ends the file there. It makes four device calls at most;
     /// after an `Err` each later call but `into_disks` answers `Broken`.
     pub fn write_body(&mut self, body: &[u8]) -> Result<(), GateFault>
-        ensures written { (gate : ℕ) (rest : List ℕ) → Rests ⟦<D as Disk>⟧ self.old (gate ∷ rest) → OnOk result (Rests ⟦<D as Disk>⟧ self.new (gate ∷ framed body.now)) }
+        ensures written { PutsBody ⟦<D as Disk>⟧ body.now self.old self.new result }
 
         // While the gate is closed, no image is open.
-        ensures any_moment { (gate : ℕ) (rest : List ℕ) → Rests ⟦<D as Disk>⟧ self.old (gate ∷ rest) → gate ≢ open_gate
-            → LeavesOnly ⟦<D as Disk>⟧ (disk_of self.old) (disk_of self.new) IsClosed }
+        ensures any_moment { StaysClosed ⟦<D as Disk>⟧ self.old self.new }
 
         ensures fault { IfErr result IsBrokenOrDevice }
         ensures calls { CallsAtMost ⟦<D as Disk>⟧ 4 (disk_of self.old) (disk_of self.new) }
@@ -110,12 +108,11 @@ impl<D: Disk> Gated<D> {
     /// Opens the gate. It makes two device calls at most; after an `Err` a crash leaves the file closed, or open with the
     /// body that stands there, and each later call but `into_disks` answers `Broken`.
     pub fn open_gate(&mut self) -> Result<(), GateFault>
-        ensures opened { (gate : ℕ) (rest : List ℕ) → Rests ⟦<D as Disk>⟧ self.old (gate ∷ rest) → OnOk result (Rests ⟦<D as Disk>⟧ self.new (open_gate ∷ rest)) }
-        ensures durable { (gate : ℕ) (body rest : List ℕ) → Rests ⟦<D as Disk>⟧ self.old (gate ∷ (framed body ++ rest)) → OnOk result (Leaves (IsOpenWith body) (D.state (disk_of self.new))) }
+        ensures opened { OpensGate ⟦<D as Disk>⟧ self.old self.new result }
+        ensures durable { OpensDurably ⟦<D as Disk>⟧ self.old self.new result }
 
         // A crash at any moment of the call leaves the file closed, or open with the body that stands there.
-        ensures any_moment { (gate : ℕ) (body rest : List ℕ) → Rests ⟦<D as Disk>⟧ self.old (gate ∷ (framed body ++ rest))
-            → LeavesOnly ⟦<D as Disk>⟧ (disk_of self.old) (disk_of self.new) (IsClosedOrOpenWith body) }
+        ensures any_moment { StaysClosedOrOpens ⟦<D as Disk>⟧ self.old self.new }
 
         ensures fault { IfErr result IsBrokenOrDevice }
         ensures calls { CallsAtMost ⟦<D as Disk>⟧ 2 (disk_of self.old) (disk_of self.new) }
@@ -136,9 +133,8 @@ impl<D: Disk> Gated<D> {
     /// The body, or none where the gate is closed. `Damaged` where the file is empty, or is open with a length that it
     /// is too short for. After an `Err` it can be tried again. It makes three device calls at most.
     pub fn read(&mut self, alloc: Global) -> Result<Option<Vec<u8>>, GateFault>
-        ensures read { IsTrue D.is_honest → IfOk result (λ found.
-            MatchOption found (IsClosed (D.state (disk_of self.old)).contents) (λ body. IsOpenWith body.items (D.state (disk_of self.old)).contents)) }
-        ensures damaged { IsTrue D.is_honest → IsErrOf result GateFault.Damaged → (body : List ℕ) → ¬ IsClosedOrOpenWith body (D.state (disk_of self.old)).contents }
+        ensures read { IsTrue D.is_honest → IfOk result (HasBody (D.state (disk_of self.old)).contents) }
+        ensures damaged { TellsTrueDamage ⟦<D as Disk>⟧ self.old result }
 
         // So an open file has one body (the law `one_body`).
         ensures fits { OnOk result (length (D.state (disk_of self.old)).contents ≤ 2 ^ 62) }
@@ -146,7 +142,7 @@ impl<D: Disk> Gated<D> {
         // The file stays as it is.
         ensures rests { (file : List ℕ) → Rests ⟦<D as Disk>⟧ self.old file → Rests ⟦<D as Disk>⟧ self.new file }
         ensures state { D.state (disk_of self.new) ≡ D.state (disk_of self.old) }
-        ensures any_moment { LeavesOnly ⟦<D as Disk>⟧ (disk_of self.old) (disk_of self.new) (IsImage (D.state (disk_of self.old))) }
+        ensures any_moment { AddsNoImage ⟦<D as Disk>⟧ (disk_of self.old) (disk_of self.new) }
         ensures calls { CallsAtMost ⟦<D as Disk>⟧ 3 (disk_of self.old) (disk_of self.new) }
         ensures device { D.failures (disk_of self.new) ≡ failures_after result (D.failures (disk_of self.old)) }
         ensures works { is_broken self.new ≡ is_broken self.old }
@@ -168,8 +164,8 @@ impl<D: Disk> Gated<D> {
 
 // Puts a length and a body behind the first byte of a file, and ends it there.
 fn replace_body<D: Disk>(disk: &mut D, body: &[u8]) -> Result<(), DiskFault>
-    ensures written { (gate : ℕ) (rest : List ℕ) → D.state disk.old ≡ settled (gate ∷ rest) → OnOk result (D.state disk.new ≡ settled (gate ∷ framed body.now)) }
-    ensures any_moment { (gate : ℕ) (rest : List ℕ) → D.state disk.old ≡ settled (gate ∷ rest) → gate ≢ open_gate → LeavesOnly ⟦<D as Disk>⟧ disk.old disk.new IsClosed }
+    ensures written { ReplacesBody ⟦<D as Disk>⟧ body.now disk.old disk.new result }
+    ensures any_moment { LeavesClosed ⟦<D as Disk>⟧ disk.old disk.new }
     ensures calls { CallsAtMost ⟦<D as Disk>⟧ 4 disk.old disk.new }
     ensures failures { D.failures disk.new ≡ counted result (D.failures disk.old) }
 {
@@ -183,13 +179,13 @@ fn replace_body<D: Disk>(disk: &mut D, body: &[u8]) -> Result<(), DiskFault>
 fn is_open<D: Disk>(disk: &mut D) -> Result<bool, GateFault>
     ensures some { OnOk result (1 ≤ length (D.state disk.old).contents) }
     ensures fits { OnOk result (length (D.state disk.old).contents ≤ 2 ^ 62) }
-    ensures open { IsTrue D.is_honest → IfOk result (λ is_open. IsTrue is_open ↔ (get_or (D.state disk.old).contents 0 0 ≡ open_gate)) }
+    ensures open { IsTrue D.is_honest → IfOk result (TellsGate (D.state disk.old).contents) }
     ensures damaged { IsErrOf result GateFault.Damaged → (D.state disk.old).contents ≡ [] }
     ensures fault { IfErr result IsDamagedOrDevice }
     ensures device { D.failures disk.new ≡ failures_after result (D.failures disk.old) }
     ensures calls { CallsAtMost ⟦<D as Disk>⟧ 1 disk.old disk.new }
     ensures state { D.state disk.new ≡ D.state disk.old }
-    ensures any_moment { LeavesOnly ⟦<D as Disk>⟧ disk.old disk.new (IsImage (D.state disk.old)) }
+    ensures any_moment { AddsNoImage ⟦<D as Disk>⟧ disk.old disk.new }
 {
     if disk.len() == 0 {
         return Err(GateFault::Damaged);
@@ -202,13 +198,13 @@ fn is_open<D: Disk>(disk: &mut D) -> Result<bool, GateFault>
 // The length behind the first byte of a file. It is refused where the file is too short for it.
 fn read_length<D: Disk>(disk: &mut D) -> Result<u64, GateFault>
     ensures within { IfOk result (λ len. 9 + len ≤ length (D.state disk.old).contents) }
-    ensures bytes { IsTrue D.is_honest → IfOk result (λ len. take 8 (drop 1 (D.state disk.old).contents) ≡ to_be_bytes w64 len) }
-    ensures damaged { IsTrue D.is_honest → IsErrOf result GateFault.Damaged → (body : List ℕ) → ¬ IsOpenWith body (D.state disk.old).contents }
+    ensures bytes { IsTrue D.is_honest → IfOk result (HasLength (D.state disk.old).contents) }
+    ensures damaged { IsTrue D.is_honest → IsErrOf result GateFault.Damaged → IsNotOpen (D.state disk.old).contents }
     ensures fault { IfErr result IsDamagedOrDevice }
     ensures device { D.failures disk.new ≡ failures_after result (D.failures disk.old) }
     ensures calls { CallsAtMost ⟦<D as Disk>⟧ 1 disk.old disk.new }
     ensures state { D.state disk.new ≡ D.state disk.old }
-    ensures any_moment { LeavesOnly ⟦<D as Disk>⟧ disk.old disk.new (IsImage (D.state disk.old)) }
+    ensures any_moment { AddsNoImage ⟦<D as Disk>⟧ disk.old disk.new }
 {
     let file_len = disk.len();
     if file_len < BODY_AT {

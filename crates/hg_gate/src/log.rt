@@ -1,9 +1,9 @@
 //! A log of batches.
-ghost use Rattle.std.specs.Prelude.{◌≡◌, ◌≢◌, ◌⊎◌, ◌+◌, ◌≤◌, ◌^◌, ◌++◌, ◌∷◌, [], ℕ, List, length, vec_capacity, false, IsTrue, IfOk, IfErr, OnOk, OnErr, IsErrOf, Err};
-ghost use Rattle.hg_disk.specs.State.{IsImage, settled};
+ghost use Rattle.std.specs.Prelude.{◌≡◌, ◌⊎◌, ◌+◌, ◌≤◌, ◌^◌, ◌++◌, ◌∷◌, [], ℕ, List, length, vec_capacity, false, IsTrue, IfOk, IfErr, OnOk, OnErr, IsErrOf, Err};
+ghost use Rattle.hg_disk.specs.State.{IsDurable};
 ghost use Rattle.hg_disk.specs.Calls.{CallsAtMost};
-ghost use Rattle.hg_disk.specs.Moments.{Leaves, LeavesOnly};
-ghost use Rattle.hg_gate.specs.Batches.{IsLog, IsBeforeOrAfter, sized, closed_gate, header};
+ghost use Rattle.hg_disk.specs.Moments.{AddsNoImage};
+ghost use Rattle.hg_gate.specs.Batches.{OneCallABatch, closed_gate, sized};
 ghost use Rattle.hg_gate.specs.Fault.{failures_after, IsBrokenOrDevice, IsDamagedOrDevice};
 
 use crate::batch::{Batch, MAX_BODY_LEN};
@@ -66,10 +66,10 @@ impl<D: Disk + Drop> Drop for Log<D> {
 
 // The length, the body and a closed gate. The room is there, so it can't fail.
 fn fill(buffer: &mut Vec<u8>, body: &[u8])
-    requires room { 23557 ≤ vec_capacity buffer.old }
-    requires fits { length body.now ≤ 23552 }
+    requires room { MAX_FRAME ≤ vec_capacity buffer.old }
+    requires fits { length body.now ≤ MAX_BODY_LEN }
     ensures items { buffer.new.items ≡ sized body.now ++ closed_gate ∷ [] }
-    ensures room { 23557 ≤ vec_capacity buffer.new }
+    ensures room { MAX_FRAME ≤ vec_capacity buffer.new }
 {
     buffer.clear();
     let _ = buffer.extend_from_slice(&(body.len() as u32).to_be_bytes());
@@ -79,16 +79,16 @@ fn fill(buffer: &mut Vec<u8>, body: &[u8])
 
 impl<D: Disk> Log<D> {
     ghost use Rattle.hg_gate.specs.Batch.{body_of};
-    ghost use Rattle.hg_gate.specs.Log.{Has, Reads, IsBehind, IsFirst, given, disk_of, disk_after, failures_of_making, is_broken};
+    ghost use Rattle.hg_gate.specs.Log.{AddsBatch, AddsDurably, FailedOrUncalled, Has, HasSome, IsBehind, IsEmptyOn, IsNoLogIfDamaged, LeavesBeforeOrAfter, Reads, ReadsNext, ReadsSome, ReadsUndamaged, disk_after, disk_of, failures_of_making, is_broken};
 
     /// A log of no batches, on an empty disk. A refusal hands the disk back; with `OutOfMemory` it was not called. It makes
     /// two device calls at most.
     pub fn create(alloc: Global, disk: D) -> Result<Log<D>, (GateFault, D)>
         requires { length (D.state disk).contents ≡ 0 }
-        ensures empty { IfOk result (λ log. Has log [] × (D.state (disk_of log) ≡ settled (header ++ closed_gate ∷ [])) × (D.failures (disk_of log) ≡ D.failures disk)) }
+        ensures empty { IfOk result (IsEmptyOn disk) }
         ensures calls { CallsAtMost ⟦<D as Disk>⟧ 2 disk (disk_after result) }
         ensures device { IfErr result (λ e. e.0 ≡ GateFault.DeviceFault → D.failures e.1 ≡ D.failures disk + 1) }
-        ensures memory { IfErr result (λ e. (e.0 ≡ GateFault.DeviceFault) ⊎ ((e.0 ≡ GateFault.OutOfMemory) × (e.1 ≡ disk))) }
+        ensures memory { IfErr result (FailedOrUncalled disk) }
     {
         match LogRoom::new(alloc) {
             Ok(room) => Log::create_in(room, disk),
@@ -100,7 +100,7 @@ impl<D: Disk> Log<D> {
     /// two device calls at most.
     pub fn create_in(room: LogRoom, disk: D) -> Result<Log<D>, (GateFault, D)>
         requires { length (D.state disk).contents ≡ 0 }
-        ensures empty { IfOk result (λ log. Has log [] × (D.state (disk_of log) ≡ settled (header ++ closed_gate ∷ [])) × (D.failures (disk_of log) ≡ D.failures disk)) }
+        ensures empty { IfOk result (IsEmptyOn disk) }
         ensures calls { CallsAtMost ⟦<D as Disk>⟧ 2 disk (disk_after result) }
         ensures device { IfErr result (λ e. (e.0 ≡ GateFault.DeviceFault) × (D.failures e.1 ≡ D.failures disk + 1)) }
     {
@@ -121,18 +121,18 @@ impl<D: Disk> Log<D> {
     /// the bytes are none of a log, `DeviceFault` or `OutOfMemory`. It changes nothing, and reads five bytes a batch. What
     /// it reads is durable where the disk was synced before.
     pub fn attach(alloc: Global, disk: D) -> Result<Log<D>, (GateFault, D)>
-        ensures reads { IsTrue D.is_honest → IfOk result (λ log. (bodies : List (List ℕ)) × Reads log bodies) }
-        ensures has { IsTrue D.is_honest → D.state disk ≡ settled (D.state disk).contents → IfOk result (λ log. (bodies : List (List ℕ)) × Has log bodies) }
-        ensures damaged { IsTrue D.is_honest → IfErr result (λ e. e.0 ≡ GateFault.Damaged → (bodies : List (List ℕ)) → ¬ IsLog (D.state disk).contents bodies) }
+        ensures reads { IsTrue D.is_honest → IfOk result ReadsSome }
+        ensures has { IsTrue D.is_honest → IsDurable (D.state disk) → IfOk result HasSome }
+        ensures damaged { IsTrue D.is_honest → IfErr result (IsNoLogIfDamaged (D.state disk).contents) }
         ensures works { IfOk result (λ log. is_broken log ≡ false) }
         ensures fault { IfErr result (λ e. IsDamagedOrDevice e.0 ⊎ (e.0 ≡ GateFault.OutOfMemory)) }
         // As many device calls as the disk has bytes, at most; of an honest one two, and one a batch.
         ensures calls { CallsAtMost ⟦<D as Disk>⟧ (length (D.state disk).contents) disk (disk_after result) }
-        ensures one_a_batch { IsTrue D.is_honest → (bodies : List (List ℕ)) → IsLog (D.state disk).contents bodies → CallsAtMost ⟦<D as Disk>⟧ (length bodies + 2) disk (disk_after result) }
+        ensures one_a_batch { IsTrue D.is_honest → OneCallABatch ⟦<D as Disk>⟧ disk (disk_after result) }
 
         ensures device { D.failures (disk_after result) ≡ failures_of_making result (D.failures disk) }
         ensures state { D.state (disk_after result) ≡ D.state disk }
-        ensures any_moment { LeavesOnly ⟦<D as Disk>⟧ disk (disk_after result) (IsImage (D.state disk)) }
+        ensures any_moment { AddsNoImage ⟦<D as Disk>⟧ disk (disk_after result) }
     {
         let buffer = match Vec::with_capacity(alloc, MAX_FRAME) {
             Ok(buffer) => buffer,
@@ -167,12 +167,11 @@ impl<D: Disk> Log<D> {
     /// from before, with the new one or without; each later call but `into_disks` answers `Broken`. It makes four
     /// device calls at most.
     pub fn append(&mut self, batch: &Batch) -> Result<(), GateFault>
-        ensures added { (bodies : List (List ℕ)) → Has self.old bodies → OnOk result (Has self.new (bodies ++ body_of batch.now ∷ [])) }
-        ensures durable { (bodies : List (List ℕ)) → Has self.old bodies → OnOk result (Leaves (λ image. IsLog image (bodies ++ body_of batch.now ∷ [])) (D.state (disk_of self.new))) }
+        ensures added { AddsBatch (body_of batch.now) self.old self.new result }
+        ensures durable { AddsDurably (body_of batch.now) self.old self.new result }
 
         // A crash at any moment of the call leaves the batches from before it, with the new one or without.
-        ensures any_moment { (bodies : List (List ℕ)) → Has self.old bodies
-            → LeavesOnly ⟦<D as Disk>⟧ (disk_of self.old) (disk_of self.new) (IsBeforeOrAfter bodies (body_of batch.now)) }
+        ensures any_moment { LeavesBeforeOrAfter (body_of batch.now) self.old self.new }
 
         ensures fault { IfErr result IsBrokenOrDevice }
         ensures calls { CallsAtMost ⟦<D as Disk>⟧ 4 (disk_of self.old) (disk_of self.new) }
@@ -214,10 +213,8 @@ impl<D: Disk> Log<D> {
     /// Reads the next batch, or none behind the last. After an `Err` it can be tried again. It makes two device calls
     /// at most, and takes memory for the one batch alone.
     pub fn next_batch(&mut self, batches: &mut Batches) -> Result<Option<Batch>, GateFault>
-        ensures next { (seen left : List (List ℕ)) → IsTrue D.is_honest → Reads self.old (seen ++ left) → IsBehind batches.old seen
-            → IfOk result (λ found. IsFirst found left × IsBehind batches.new (seen ++ given found)) }
-        ensures whole { (seen left : List (List ℕ)) → IsTrue D.is_honest → Reads self.old (seen ++ left) → IsBehind batches.old seen
-            → IfErr result (λ e. e ≢ GateFault.Damaged) }
+        ensures next { ReadsNext self.old batches.old batches.new result }
+        ensures whole { ReadsUndamaged self.old batches.old result }
         ensures again { OnErr result (batches.new ≡ batches.old) }
 
         // The log stays as it is.
@@ -225,7 +222,7 @@ impl<D: Disk> Log<D> {
         ensures reads { (bodies : List (List ℕ)) → Reads self.old bodies → Reads self.new bodies }
         ensures has { (bodies : List (List ℕ)) → Has self.old bodies → Has self.new bodies }
         ensures state { D.state (disk_of self.new) ≡ D.state (disk_of self.old) }
-        ensures any_moment { LeavesOnly ⟦<D as Disk>⟧ (disk_of self.old) (disk_of self.new) (IsImage (D.state (disk_of self.old))) }
+        ensures any_moment { AddsNoImage ⟦<D as Disk>⟧ (disk_of self.old) (disk_of self.new) }
         ensures calls { CallsAtMost ⟦<D as Disk>⟧ 2 (disk_of self.old) (disk_of self.new) }
         ensures device { D.failures (disk_of self.new) ≡ failures_after result (D.failures (disk_of self.old)) }
         ensures broken { IsErrOf result GateFault.Broken → IsTrue (is_broken self.old) }

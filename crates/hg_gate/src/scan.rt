@@ -1,11 +1,11 @@
 //! Where the batches of a log end.
-ghost use Rattle.std.specs.Prelude.{◌≡◌, ◌⊎◌, ◌+◌, ◌<◌, ◌≤◌, ◌↔◌, ◌^◌, ℕ, List, length, take, drop, IsTrue, IfOk, IfErr, OnOk, IsErrOf};
-ghost use Rattle.hg_disk.specs.State.{IsImage};
+ghost use Rattle.std.specs.Prelude.{◌≡◌, ◌⊎◌, ◌+◌, ◌<◌, ◌≤◌, ◌↔◌, ◌^◌, ℕ, List, length, take, drop, IsTrue, IfOk, IfErr, OnOk, OnErr, IsErrOf};
+ghost use Rattle.hg_disk.specs.State.{Fills};
 ghost use Rattle.hg_disk.specs.Calls.{CallsAtMost};
-ghost use Rattle.hg_disk.specs.Moments.{LeavesOnly};
-ghost use Rattle.hg_gate.specs.Batches.{IsLog, IsBodyLength};
+ghost use Rattle.hg_disk.specs.Moments.{AddsNoImage};
+ghost use Rattle.hg_gate.specs.Batches.{IsBodyLength, IsNoLog, OneCallABatch};
 ghost use Rattle.hg_gate.specs.Fault.{failures_after, IsDamagedOrDevice};
-ghost use Rattle.hg_gate.specs.Scan.{IsTail, IsHead, EndsAt, Walked, HasBodyLength, batch_len};
+ghost use Rattle.hg_gate.specs.Scan.{HasNoTail, IsNoTail, IsHead, EndsAt, Walked, HasBodyLength, batch_len};
 
 use crate::batch::MAX_BODY_LEN;
 use crate::fault::GateFault;
@@ -25,7 +25,7 @@ fn parse_head(head: &[u8], room: u64) -> Result<Option<u32>, GateFault>
     ensures within { IfOk result (λ found. batch_len found ≤ room) }
     ensures length { IfOk result HasBodyLength }
     ensures head { (tail : List ℕ) → head.now ≡ take 5 tail → room ≡ length tail → IfOk result (IsHead tail) }
-    ensures damaged { (tail : List ℕ) → head.now ≡ take 5 tail → room ≡ length tail → IfErr result (λ _. (bodies : List (List ℕ)) → ¬ IsTail tail bodies) }
+    ensures damaged { (tail : List ℕ) → head.now ≡ take 5 tail → room ≡ length tail → OnErr result (IsNoTail tail) }
     ensures fault { IfErr result (λ e. e ≡ GateFault.Damaged) }
 {
     if head.is_empty() {
@@ -58,12 +58,12 @@ pub(crate) fn read_head<D: Disk>(disk: &mut D, at: u64) -> Result<Option<u32>, G
     ensures fits { IfOk result (λ found. at + batch_len found ≤ 2 ^ 62) }
     ensures length { IfOk result HasBodyLength }
     ensures head { IsTrue D.is_honest → IfOk result (IsHead (drop at (D.state disk.old).contents)) }
-    ensures damaged { IsTrue D.is_honest → IsErrOf result GateFault.Damaged → (bodies : List (List ℕ)) → ¬ IsTail (drop at (D.state disk.old).contents) bodies }
+    ensures damaged { IsTrue D.is_honest → IsErrOf result GateFault.Damaged → HasNoTail at (D.state disk.old) }
     ensures fault { IfErr result IsDamagedOrDevice }
     ensures device { D.failures disk.new ≡ failures_after result (D.failures disk.old) }
     ensures calls { CallsAtMost ⟦<D as Disk>⟧ 1 disk.old disk.new }
     ensures state { D.state disk.new ≡ D.state disk.old }
-    ensures any_moment { LeavesOnly ⟦<D as Disk>⟧ disk.old disk.new (IsImage (D.state disk.old)) }
+    ensures any_moment { AddsNoImage ⟦<D as Disk>⟧ disk.old disk.new }
 {
     let room = disk.len() - at;
     let count = room.min(HEAD_LEN as u64) as usize;
@@ -76,13 +76,13 @@ pub(crate) fn read_head<D: Disk>(disk: &mut D, at: u64) -> Result<Option<u32>, G
 pub(crate) fn find_end<D: Disk>(disk: &mut D) -> Result<u64, GateFault>
     ensures found { IsTrue D.is_honest → IfOk result (EndsAt (D.state disk.old).contents) }
     ensures fits { IfOk result (λ at. at ≤ 2 ^ 62) }
-    ensures damaged { IsTrue D.is_honest → IsErrOf result GateFault.Damaged → (bodies : List (List ℕ)) → ¬ IsLog (D.state disk.old).contents bodies }
+    ensures damaged { IsTrue D.is_honest → IsErrOf result GateFault.Damaged → IsNoLog (D.state disk.old).contents }
     ensures fault { IfErr result IsDamagedOrDevice }
     ensures device { D.failures disk.new ≡ failures_after result (D.failures disk.old) }
     ensures calls { CallsAtMost ⟦<D as Disk>⟧ (length (D.state disk.old).contents) disk.old disk.new }
-    ensures one_a_batch { IsTrue D.is_honest → (bodies : List (List ℕ)) → IsLog (D.state disk.old).contents bodies → CallsAtMost ⟦<D as Disk>⟧ (length bodies + 2) disk.old disk.new }
+    ensures one_a_batch { IsTrue D.is_honest → OneCallABatch ⟦<D as Disk>⟧ disk.old disk.new }
     ensures state { D.state disk.new ≡ D.state disk.old }
-    ensures any_moment { LeavesOnly ⟦<D as Disk>⟧ disk.old disk.new (IsImage (D.state disk.old)) }
+    ensures any_moment { AddsNoImage ⟦<D as Disk>⟧ disk.old disk.new }
 {
     read_header(disk)?;
     let mut at = HEADER.len() as u64;
@@ -96,13 +96,13 @@ pub(crate) fn find_end<D: Disk>(disk: &mut D) -> Result<u64, GateFault>
 fn read_header<D: Disk>(disk: &mut D) -> Result<(), GateFault>
     ensures found { IsTrue D.is_honest → OnOk result (Walked (D.state disk.old).contents 8) }
     ensures within { OnOk result (8 ≤ length (D.state disk.old).contents) }
-    ensures damaged { IsTrue D.is_honest → IsErrOf result GateFault.Damaged → (bodies : List (List ℕ)) → ¬ IsLog (D.state disk.old).contents bodies }
+    ensures damaged { IsTrue D.is_honest → IsErrOf result GateFault.Damaged → IsNoLog (D.state disk.old).contents }
     ensures fault { IfErr result IsDamagedOrDevice }
     ensures device { D.failures disk.new ≡ failures_after result (D.failures disk.old) }
     ensures calls { CallsAtMost ⟦<D as Disk>⟧ 1 disk.old disk.new }
     ensures few { CallsAtMost ⟦<D as Disk>⟧ (length (D.state disk.old).contents) disk.old disk.new }
     ensures state { D.state disk.new ≡ D.state disk.old }
-    ensures any_moment { LeavesOnly ⟦<D as Disk>⟧ disk.old disk.new (IsImage (D.state disk.old)) }
+    ensures any_moment { AddsNoImage ⟦<D as Disk>⟧ disk.old disk.new }
 {
     if disk.len() < HEADER.len() as u64 {
         return Err(GateFault::Damaged);
@@ -118,12 +118,12 @@ fn read_header<D: Disk>(disk: &mut D) -> Result<(), GateFault>
 // Fills the buffer with the bytes from the offset `at` on.
 pub(crate) fn read_bytes<D: Disk>(disk: &mut D, at: u64, buf: &mut [u8]) -> Result<(), GateFault>
     requires { at + length buf.old ≤ length (D.state disk.old).contents }
-    ensures bytes { IsTrue D.is_honest → OnOk result (buf.new ≡ take (length buf.old) (drop at (D.state disk.old).contents)) }
+    ensures bytes { IsTrue D.is_honest → OnOk result (Fills (D.state disk.old) at buf.old buf.new) }
     ensures fault { IfErr result (λ e. e ≡ GateFault.DeviceFault) }
     ensures device { D.failures disk.new ≡ failures_after result (D.failures disk.old) }
     ensures calls { CallsAtMost ⟦<D as Disk>⟧ 1 disk.old disk.new }
     ensures state { D.state disk.new ≡ D.state disk.old }
-    ensures any_moment { LeavesOnly ⟦<D as Disk>⟧ disk.old disk.new (IsImage (D.state disk.old)) }
+    ensures any_moment { AddsNoImage ⟦<D as Disk>⟧ disk.old disk.new }
 {
     disk.read_at(at, buf)?;
     Ok(())
@@ -143,7 +143,7 @@ pub(crate) fn read_vec<D: Disk>(
     ensures device { D.failures disk.new ≡ failures_after result (D.failures disk.old) }
     ensures calls { CallsAtMost ⟦<D as Disk>⟧ 1 disk.old disk.new }
     ensures state { D.state disk.new ≡ D.state disk.old }
-    ensures any_moment { LeavesOnly ⟦<D as Disk>⟧ disk.old disk.new (IsImage (D.state disk.old)) }
+    ensures any_moment { AddsNoImage ⟦<D as Disk>⟧ disk.old disk.new }
 {
     let mut bytes = vec![in alloc; 0; len]?;
     read_bytes(disk, at, &mut bytes)?;

@@ -1,10 +1,12 @@
 -- The events of a journal.
-use Rattle.std.specs.Prelude.{◌≡◌, ◌⊎◌, ℕ, ◌+◌, List, map, Result, Ok, Err}
+use Rattle.std.specs.Prelude.{◌≡◌, ◌⊎◌, ℕ, ◌+◌, List, ◌++◌, map, Result, Ok, Err}
 use Rattle.std.specs.List.{flat_map, AllByRecursion}
 use Rattle.hg_model.specs.declared.event.Named.{Named}
 use Rattle.hg_model.specs.declared.verdict.Refusal.{Refusal}
 use Rattle.hg_model.specs.declared.verdict.Refusal.TheVariants.{Broken, Damaged, DeviceFault, OutOfMemory}
 use Rattle.hg_records.specs.Records.{RecordFits, record_text}
+use Rattle.hg_disk.specs.Moments.{Leaves}
+use Rattle.hg_disk.specs.State.{DiskState}
 use Rattle.hg_gate.specs.Batches.{IsLog}
 use Rattle.hg_gate.specs.declared.fault.GateFault.{GateFault}
 use Rattle.hg_gate.specs.declared.fault.GateFault.TheVariants as fault
@@ -19,6 +21,26 @@ pub record IsJournal (bytes : List ℕ) (events : List Named) : Type 0 where
   pub log : IsLog bytes (map batch_text batches)
   pub fits : AllByRecursion RecordFits events
   pub whole : events ≡ flat_map (λ batch. batch) batches
+
+-- The bytes are none of a journal.
+abbrev pub IsNoJournal : List ℕ → Type 0
+IsNoJournal bytes = (events : List Named) → ¬ IsJournal bytes events
+
+-- They are a journal of the events from before, with all the new ones or none.
+abbrev pub IsAllOrNone : (past events : List Named) → List ℕ → Type 0
+IsAllOrNone past events bytes = IsJournal bytes past ⊎ IsJournal bytes (past ++ events)
+
+-- Each image is a journal of these events.
+abbrev pub LeavesJournal : List Named → DiskState → Type 0
+LeavesJournal events s = Leaves (λ image. IsJournal image events) s
+
+-- Where it was refused as damaged, the bytes are none of a journal.
+abbrev pub IsNoJournalIfDamaged : {D : Type 0} → List ℕ → (Refusal × D) → Type 0
+IsNoJournalIfDamaged bytes refused = refused.0 ≡ Damaged → IsNoJournal bytes
+
+-- A device call failed, or there was no memory, and the disk was not called.
+abbrev pub FailedOrUncalled : {D : Type 0} → D → (Refusal × D) → Type 0
+FailedOrUncalled before refused = (refused.0 ≡ DeviceFault) ⊎ ((refused.0 ≡ OutOfMemory) × (refused.1 ≡ before))
 
 -- what a log's refusal is told as
 abbrev pub told_as : GateFault → Refusal

@@ -1,15 +1,20 @@
 -- What a journal shows that can be used, and how far its events were read.
-use Rattle.std.specs.Prelude.{◌≡◌, ℕ, zero, suc, ◌≤◌, Bool, List, ◌++◌, length, drop, map, Result, Ok, Err}
+use Rattle.std.specs.Global.{Vec}
+use Rattle.std.specs.Prelude.{◌≡◌, ◌≢◌, ℕ, zero, suc, ◌-◌, ◌≤◌, Bool, IsTrue, List, [], ◌∷◌, ◌++◌, length, take, drop, map, Option, MatchBool, MatchOption, Result, Ok, Err, OnOk, OnErr, IfOk, IfErr, IsErrOf}
 use Rattle.std.specs.List.{flat_map, AllByRecursion}
 use Rattle.hg_model.specs.declared.event.Named.{Named}
 use Rattle.hg_model.specs.declared.verdict.Refusal.{Refusal}
+use Rattle.hg_model.specs.declared.verdict.Refusal.TheVariants.{Damaged}
 use Rattle.hg_records.specs.Records.{BeginsWith, RecordFits}
+use Rattle.hg_disk.specs.Moments.{LeavesOnly}
+use Rattle.hg_disk.specs.State.{settled}
 use Rattle.hg_disk.specs.declared.disk.Disk as disk
+use Rattle.hg_gate.specs.Batches.{closed_gate, header}
 use Rattle.hg_gate.specs.Log as log
 use Rattle.hg_gate.specs.Log.{Has, IsBehind}
 use Rattle.hg_journal.specs.declared.journal.Journal.{Journal}
 use Rattle.hg_journal.specs.declared.journal.JournalReader.{JournalReader}
-use Rattle.hg_journal.specs.Journal.{batch_text, after_refusal}
+use Rattle.hg_journal.specs.Journal.{IsAllOrNone, IsJournal, IsNoJournal, LeavesJournal, after_refusal, batch_text}
 
 -- the bytes of the present batch that were not read yet
 abbrev pub rest_of : JournalReader → List ℕ
@@ -62,3 +67,97 @@ module _ {D : Type 0} {g : disk.Ghosts D} where
   abbrev pub failures_of_making : Result (Journal D g) (Refusal × D) → ℕ → ℕ
   failures_of_making (Ok journal) n = n
   failures_of_making (Err refused) n = after_refusal refused.0 n
+
+  -- It has no events, and its disk the header and a closed gate; no call has failed since the disk was this one.
+  abbrev pub IsEmptyOn : D → Journal D g → Type 0
+  IsEmptyOn before j =
+      Keeps j [] × (g.state (disk_of j) ≡ settled (header ++ closed_gate ∷ [])) × (g.failures (disk_of j) ≡ g.failures before)
+
+  -- It has some batches, if only none.
+  abbrev pub OpensSome : Journal D g → Type 0
+  OpensSome j = (bodies : List (List ℕ)) × Opens j bodies
+
+  -- It is broken, as it was, and its disk is what it was.
+  abbrev pub StaysBroken : (old new : Journal D g) → Type 0
+  StaysBroken old new = IsTrue (is_broken old) → (disk_of new ≡ disk_of old) × IsTrue (is_broken new)
+
+  -- Events are added, and are durable,
+  abbrev pub AddsEvents : {T E : Type 0} → (events : List Named) → (old new : Journal D g) → Result T E → Type 0
+  AddsEvents events old new result = (past : List Named) → Keeps old past → OnOk result (Keeps new (past ++ events))
+
+  -- in each image.
+  abbrev pub AddsDurably : {T E : Type 0} → (events : List Named) → (old new : Journal D g) → Result T E → Type 0
+  AddsDurably events old new result = (past : List Named) → Keeps old past → OnOk result (LeavesJournal (past ++ events) (g.state (disk_of new)))
+
+  -- A crash at any moment leaves the events from before, with all the new ones or none.
+  abbrev pub LeavesAllOrNone : (events : List Named) → (old new : Journal D g) → Type 0
+  LeavesAllOrNone events old new =
+      (past : List Named) → Keeps old past → LeavesOnly g (disk_of old) (disk_of new) (IsAllOrNone past events)
+
+  -- The reader of a journal that can be used has read nothing.
+  abbrev pub BeginsAtFirst : {E : Type 0} → Journal D g → Result JournalReader E → Type 0
+  BeginsAtFirst j result = (bodies : List (List ℕ)) → Opens j bodies → IfOk result (λ reader. IsAt j reader [])
+
+  -- What a reader finds in a journal, of which it had read the events `seen`: bytes of a batch, or that these are all events;
+  abbrev pub FindsMore : {E : Type 0} → Journal D g → JournalReader → Journal D g → JournalReader → Result Bool E → Type 0
+  FindsMore old before new after result =
+      (seen : List Named) → IsTrue g.is_honest → IsAt old before seen
+      → IfOk result (λ more. MatchBool more (IsAt new after seen × (1 ≤ length (rest_of after))) (Keeps new seen))
+
+  -- and no damage.
+  abbrev pub FindsUndamaged : {T : Type 0} → Journal D g → JournalReader → Result T Refusal → Type 0
+  FindsUndamaged old before result = (seen : List Named) → IsTrue g.is_honest → IsAt old before seen → IfErr result (λ e. e ≢ Damaged)
+
+  -- After an `Err` the reader is where it was,
+  abbrev pub StaysOnErr : {T E : Type 0} → Journal D g → JournalReader → Journal D g → JournalReader → Result T E → Type 0
+  StaysOnErr old before new after result = (seen : List Named) → IsAt old before seen → OnErr result (IsAt new after seen)
+
+  -- of an honest disk at least.
+  abbrev pub CanBeTriedAgain : {T E : Type 0} → Journal D g → JournalReader → Journal D g → JournalReader → Result T E → Type 0
+  CanBeTriedAgain old before new after result =
+      (seen : List Named) → IsTrue g.is_honest → IsAt old before seen → OnErr result (IsAt new after seen)
+
+  -- The reader has read one event more, or has read all.
+  abbrev pub ReadsNext : {E : Type 0} → Journal D g → JournalReader → Journal D g → JournalReader → Result (Option Named) E → Type 0
+  ReadsNext old before new after result =
+      (seen : List Named) → IsTrue g.is_honest → IsAt old before seen
+      → IfOk result (λ found. MatchOption found (Keeps new seen) (λ named. IsAt new after (seen ++ named ∷ [])))
+
+  -- It has read so many events more, where that is not 0;
+  abbrev pub ReadsMore : {E : Type 0} → Journal D g → JournalReader → Journal D g → JournalReader → Result ℕ E → Type 0
+  ReadsMore old before new after result =
+      (seen : List Named) → IsTrue g.is_honest → IsAt old before seen
+      → IfOk result (λ count. 1 ≤ count → (more : List Named) × (length more ≡ count) × IsAt new after (seen ++ more))
+
+  -- and where it is 0, it has read all.
+  abbrev pub HasReadAll : {E : Type 0} → Journal D g → JournalReader → Journal D g → Result ℕ E → Type 0
+  HasReadAll old before new result =
+      (seen : List Named) → IsTrue g.is_honest → IsAt old before seen → IfOk result (λ count. count ≡ 0 → Keeps new seen)
+
+  -- Damage is told where the bytes are none of a journal.
+  abbrev pub TellsTrueDamage : {T : Type 0} → Journal D g → JournalReader → Result T Refusal → Type 0
+  TellsTrueDamage old before result =
+      (seen : List Named) → IsTrue g.is_honest → IsAt old before seen → IsErrOf result Damaged → IsNoJournal (g.state (disk_of old)).contents
+
+  -- What a read gives is a journal of the events that it keeps,
+  abbrev pub ReadsKept : Journal D g → List Named → Type 0
+  ReadsKept j events = Keeps j events → IsJournal (g.state (disk_of j)).contents events
+
+  -- and so is what a crash leaves.
+  abbrev pub LeavesKept : Journal D g → List Named → Type 0
+  LeavesKept j events = Keeps j events → LeavesJournal events (g.state (disk_of j))
+
+  -- What a reader has read is the front of the journal's events.
+  abbrev pub HasReadFront : Journal D g → JournalReader → (seen events : List Named) → Type 0
+  HasReadFront j reader seen events =
+      IsAt j reader seen → IsJournal (g.state (disk_of j)).contents events → (left : List Named) × (events ≡ seen ++ left)
+
+  -- Of the first `count` events those from number `from` on are found, at most so many,
+  abbrev pub Collects : {E : Type 0} → Journal D g → (count from most : ℕ) → Result (Vec Named) E → Type 0
+  Collects old count from most result =
+      (events : List Named) → IsTrue g.is_honest → Keeps old events → length events ≡ count
+      → IfOk result (λ found. found.items ≡ take most (drop (from - 1) events))
+
+  -- and no damage.
+  abbrev pub CollectsUndamaged : {T : Type 0} → Journal D g → Result T Refusal → Type 0
+  CollectsUndamaged old result = (events : List Named) → IsTrue g.is_honest → Keeps old events → IfErr result (λ e. e ≢ Damaged)

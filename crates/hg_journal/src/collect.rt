@@ -1,12 +1,11 @@
 //! Reading events back.
 
-ghost use Rattle.std.specs.Prelude.{◌≡◌, ◌≢◌, ◌+◌, ◌-◌, ◌*◌, List, length, take, drop, IsTrue, IfOk, IfErr, OnOk, ◌++◌, ◌∷◌, [], false};
+ghost use Rattle.std.specs.Prelude.{◌≡◌, ◌+◌, ◌-◌, ◌*◌, List, IfErr, OnOk, ◌++◌, ◌∷◌, [], false};
 ghost use Rattle.hg_model.specs.declared.event.Named.{Named as NamedOf};
-ghost use Rattle.hg_disk.specs.State.{IsImage};
 ghost use Rattle.hg_disk.specs.Calls.{CallsAtMost};
-ghost use Rattle.hg_disk.specs.Moments.{LeavesOnly};
+ghost use Rattle.hg_disk.specs.Moments.{AddsNoImage};
 ghost use Rattle.hg_journal.specs.Journal.{IsOfReading, failed_after};
-ghost use Rattle.hg_journal.specs.Reading.{Keeps, disk_of, is_broken};
+ghost use Rattle.hg_journal.specs.Reading.{Collects, CollectsUndamaged, Keeps, disk_of, is_broken};
 
 use crate::journal::Journal;
 use hg_disk::Disk;
@@ -24,15 +23,15 @@ pub fn collect<D: Disk>(
     max: usize,
 ) -> Result<Vec<Named>, Refusal>
     requires works { is_broken journal.old ≡ false }
-    ensures events { (events : List NamedOf) → IsTrue D.is_honest → Keeps journal.old events → length events ≡ count → IfOk result (λ found. found.items ≡ take max (drop (from - 1) events)) }
-    ensures whole { (events : List NamedOf) → IsTrue D.is_honest → Keeps journal.old events → IfErr result (λ refusal. refusal ≢ Refusal.Damaged) }
+    ensures events { Collects journal.old count from max result }
+    ensures whole { CollectsUndamaged journal.old result }
     ensures keeps { (events : List NamedOf) → Keeps journal.old events → Keeps journal.new events }
     ensures works { is_broken journal.new ≡ false }
     ensures refusal { IfErr result IsOfReading }
     ensures calls { CallsAtMost ⟦<D as Disk>⟧ (2 * count) (disk_of journal.old) (disk_of journal.new) }
     ensures device { D.failures (disk_of journal.new) ≡ failed_after result (D.failures (disk_of journal.old)) }
     ensures state { D.state (disk_of journal.new) ≡ D.state (disk_of journal.old) }
-    ensures any_moment { LeavesOnly ⟦<D as Disk>⟧ (disk_of journal.old) (disk_of journal.new) (IsImage (D.state (disk_of journal.old))) }
+    ensures any_moment { AddsNoImage ⟦<D as Disk>⟧ (disk_of journal.old) (disk_of journal.new) }
 {
     let mut found = Vec::new(alloc);
     let mut reader = journal.events()?;

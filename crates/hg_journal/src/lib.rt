@@ -4,3 +4,4 @@
 pub mod collect;
 pub mod journal;
 pub mod laws;
+mod reader;

@@ -57,6 +57,18 @@ IsKnown segments sets (SharedModified threads locks) = IsThreadSet sets threads 
 abbrev pub AreKnown : ℕ → List (List ℕ) → List Cell → Type 0
 AreKnown segments sets cells = AllByRecursion (IsKnown segments sets) cells
 
+-- The bytes are not the slot of a page that names only what is there.
+abbrev pub IsNoKnownSlot : (page segments : ℕ) → List (List ℕ) → (bytes : List ℕ) → Type 0
+IsNoKnownSlot page segments sets bytes = (cells : List Cell) → IsSlot page cells bytes → ¬ AreKnown segments sets cells
+
+-- The bytes are this cell, and what it names is there.
+abbrev pub IsKnownCell : (segments : ℕ) → List (List ℕ) → (bytes : List ℕ) → Cell → Type 0
+IsKnownCell segments sets bytes cell = CellFits cell × IsKnown segments sets cell × (bytes ≡ cell_text cell)
+
+-- They are no such cell.
+abbrev pub IsNoKnownCell : (segments : ℕ) → List (List ℕ) → (bytes : List ℕ) → Type 0
+IsNoKnownCell segments sets bytes = (cell : Cell) → CellFits cell → bytes ≡ cell_text cell → ¬ IsKnown segments sets cell
+
 -- The slot of the file has these bytes.
 abbrev pub HasBytes : ℕ → List ℕ → List ℕ → Type 0
 HasBytes slot bytes file = (length bytes ≡ 3080) × Holds file (3080 * slot) bytes
@@ -66,7 +78,15 @@ pub record HasSlot (slot page : ℕ) (cells : List Cell) (file : List ℕ) : Typ
   pub page_is : IsPage page cells
   pub bytes : HasBytes slot (slot_text page cells) file
 
+-- The slot does not lie within the file.
+abbrev pub IsOutside : (slot : ℕ) → (file : List ℕ) → Type 0
+IsOutside slot file = (bytes : List ℕ) → ¬ HasBytes slot bytes file
+
 -- The same, and what its cells name is there.
 pub record HasPage (segments : ℕ) (sets : List (List ℕ)) (slot page : ℕ) (cells : List Cell) (file : List ℕ) : Type 0 where
   pub stands : HasSlot slot page cells file
   pub known : AreKnown segments sets cells
+
+-- P has one page at most, with one list of cells.
+abbrev pub HasOnePage : (ℕ → List Cell → Type 0) → Type 0
+HasOnePage P = (page other : ℕ) (cells others : List Cell) → P page cells → P other others → (page ≡ other) × (cells ≡ others)

@@ -1,5 +1,5 @@
 -- Tables of pages, each with the slot that it lies in.
-use Rattle.std.specs.Prelude.{◌≡◌, ◌≢◌, ◌<◌, ◌≤◌, ◌==◌, ℕ, List, [], ◌∷◌, Option, Some, None, slice_get, map, AllPairs, if◌then◌else◌}
+use Rattle.std.specs.Prelude.{◌≡◌, ◌≢◌, ◌<◌, ◌≤◌, ◌+◌, ◌==◌, ℕ, List, [], ◌∷◌, Option, Some, None, MatchOption, is_some, length, slice_get, map, AllPairs, if◌then◌else◌}
 use Rattle.std.specs.List.Sorted.{IsStrictlyIncreasing}
 
 -- The entries of a table, a page and its slot each; how many entries its memory is for; and the slots below which it has memory to
@@ -30,3 +30,43 @@ SomeNames tables slot = (i : ℕ) × (table : Shown) × (slice_get tables i ≡ 
 -- each slot from the one on, up to the other, is named
 abbrev pub EachNamed : (ℕ → Type 0) → ℕ → ℕ → Type 0
 EachNamed named from to = (slot : ℕ) → from ≤ slot → slot < to → named slot
+
+-- the least slot up to the most that no table names, or none where each is named
+abbrev pub IsLeastFree : List Shown → (most : ℕ) → Option ℕ → Type 0
+IsLeastFree tables most found =
+    MatchOption found (EachNamed (SomeNames tables) 0 most) (λ free. (free < most) × (¬ SomeNames tables free) × EachNamed (SomeNames tables) 0 free)
+
+-- the same from a slot on
+abbrev pub IsLeastFreeFrom : (from : ℕ) → List Shown → (most : ℕ) → Option ℕ → Type 0
+IsLeastFreeFrom from tables most found =
+    MatchOption found (EachNamed (SomeNames tables) from most)
+    (λ free. (from ≤ free) × (free < most) × (¬ SomeNames tables free) × EachNamed (SomeNames tables) from free)
+
+-- The page has the slot, and each other page the one that it had.
+abbrev pub GivesSlot : (page slot : ℕ) → (old new : List (ℕ × ℕ)) → Type 0
+GivesSlot page slot old new = (other : ℕ) → slot_in new other ≡ (if page == other then Some slot else slot_in old other)
+
+-- The page has none, and each other page the one that it had.
+abbrev pub LosesPage : (page : ℕ) → (old new : List (ℕ × ℕ)) → Type 0
+LosesPage page old new = (other : ℕ) → slot_in new other ≡ (if page == other then None else slot_in old other)
+
+-- There is one entry more, if the page had none.
+abbrev pub GrowsByNew : (page : ℕ) → (old new : List (ℕ × ℕ)) → Type 0
+GrowsByNew page old new = length new ≡ length old + (if is_some (slot_in old page) then 0 else 1)
+
+-- In a table, an entry is found by its page,
+abbrev pub FindsListed : List (ℕ × ℕ) → (place page slot : ℕ) → Type 0
+FindsListed entries place page slot = AreEntries entries → slice_get entries place ≡ Some (page, slot) → slot_in entries page ≡ Some slot
+
+-- what is found by a page is an entry,
+abbrev pub ListsFound : List (ℕ × ℕ) → (page slot : ℕ) → Type 0
+ListsFound entries page slot = slot_in entries page ≡ Some slot → (place : ℕ) × (slice_get entries place ≡ Some (page, slot))
+
+-- pages that have the slot are one,
+abbrev pub AreOneIn : (slot : ℕ) → List (ℕ × ℕ) → (page other : ℕ) → Type 0
+AreOneIn slot entries page other = AreEntries entries → slot_in entries page ≡ Some slot → slot_in entries other ≡ Some slot → page ≡ other
+
+-- and tables with the same look-ups have one list of entries.
+abbrev pub AreOneList : (entries others : List (ℕ × ℕ)) → Type 0
+AreOneList entries others =
+    AreEntries entries → AreEntries others → ((page : ℕ) → slot_in entries page ≡ slot_in others page) → entries ≡ others

@@ -1,8 +1,8 @@
 //! A cell as twelve bytes, and back.
-ghost use Rattle.std.specs.Prelude.{◌≡◌, ◌≢◌, ◌+◌, ◌≤◌, ◌↔◌, length, take, drop, IsTrue, IfSome, IfNone};
-ghost use Rattle.std.specs.Int.{w32, from_be_bytes};
+ghost use Rattle.std.specs.Prelude.{◌≡◌, ◌≢◌, ◌+◌, ◌≤◌, ◌↔◌, length, IsTrue, IfSome, IfNone};
+ghost use Rattle.std.specs.Int.{from_be_bytes};
 ghost use Rattle.hg_cells.specs.declared.cell.Cell.{Cell as CellOf};
-ghost use Rattle.hg_pages.specs.Reading.{cell_in, cell_with, number_at};
+ghost use Rattle.hg_pages.specs.Reading.{cell_with, number_at};
 ghost use Rattle.hg_pages.specs.Slots.{CellFits, IsKnown, IsThreadSet, cell_of_parts, cell_text};
 
 use hg_cells::Cell;

@@ -1,9 +1,8 @@
 //! The bytes of a slot as a page.
-ghost use Rattle.std.specs.Prelude.{◌≡◌, ◌<◌, ◌≤◌, List, length, take, IfSome, IfNone};
+ghost use Rattle.std.specs.Prelude.{◌≡◌, ◌<◌, ◌≤◌, length, take, IfSome, IfNone};
 ghost use Rattle.std.specs.Int.{w64, to_be_bytes};
-ghost use Rattle.hg_cells.specs.declared.cell.Cell.{Cell as CellOf};
 ghost use Rattle.hg_pages.specs.Reading.{cell_bytes};
-ghost use Rattle.hg_pages.specs.Slots.{AreKnown, CellFits, IsKnown, IsSlot, cell_text};
+ghost use Rattle.hg_pages.specs.Slots.{AreKnown, IsKnownCell, IsNoKnownCell, IsNoKnownSlot, IsSlot};
 
 use crate::cell::{CELL_LEN, cell_of, is_known};
 use crate::encoded::SLOT_LEN;
@@ -33,7 +32,7 @@ pub(crate) fn page_in(bytes: &[u8]) -> u64
 pub fn decode(bytes: &[u8], page: u64, segments: u32, sets: &SetTable) -> Option<Page>
     requires { length bytes.now ≡ SLOT_LEN }
     ensures some { IfSome result (λ cells. IsSlot page cells bytes.now × AreKnown segments sets.now.sets cells) }
-    ensures none { IfNone result ((cells : List CellOf) → IsSlot page cells bytes.now → ¬ AreKnown segments sets.now.sets cells) }
+    ensures none { IfNone result (IsNoKnownSlot page segments sets.now.sets bytes.now) }
 {
     if page >= MOST_PAGES || page_in(bytes) != page {
         return None;
@@ -52,8 +51,8 @@ pub fn decode(bytes: &[u8], page: u64, segments: u32, sets: &SetTable) -> Option
 fn known_cell(bytes: &[u8], word: usize, segments: u32, sets: &SetTable) -> Option<Cell>
     requires word { word < 256 }
     requires length { length bytes.now ≡ SLOT_LEN }
-    ensures some { IfSome result (λ cell. CellFits cell × IsKnown segments sets.now.sets cell × (cell_bytes bytes.now word ≡ cell_text cell)) }
-    ensures none { IfNone result ((cell : CellOf) → CellFits cell → cell_bytes bytes.now word ≡ cell_text cell → ¬ IsKnown segments sets.now.sets cell) }
+    ensures some { IfSome result (IsKnownCell segments sets.now.sets (cell_bytes bytes.now word)) }
+    ensures none { IfNone result (IsNoKnownCell segments sets.now.sets (cell_bytes bytes.now word)) }
 {
     let at = CELLS_AT + CELL_LEN * word;
     let cell = cell_of(&bytes[at..at + CELL_LEN])?;

@@ -1,12 +1,11 @@
 //! A file of slots, each of which has one page.
-ghost use Rattle.std.specs.Prelude.{◌≡◌, ◌≢◌, ◌+◌, ◌*◌, ◌<◌, ◌≤◌, ◌↔◌, ◌^◌, ℕ, List, ◌∷◌, length, max, take, false, IsTrue, OnOk, OnErr, IsErrOf, Err, IfOk, IfErr, MatchOption, map};
+ghost use Rattle.std.specs.Prelude.{◌≡◌, ◌+◌, ◌*◌, ◌<◌, ◌≤◌, ◌↔◌, ℕ, ◌∷◌, length, take, false, IsTrue, OnOk, OnErr, IsErrOf, Err, IfOk, IfErr, map};
 ghost use Rattle.std.specs.Int.{w64, to_be_bytes};
-ghost use Rattle.hg_disk.specs.State.{IsImage, after_sync, counted};
-ghost use Rattle.hg_disk.specs.Moments.{Leaves, LeavesOnly};
+ghost use Rattle.hg_disk.specs.State.{after_sync, counted};
+ghost use Rattle.hg_disk.specs.Moments.{AddsNoImage, IsNeverShorter};
 ghost use Rattle.hg_disk.specs.Calls.{CallsAtMost};
-ghost use Rattle.hg_cells.specs.declared.cell.Cell.{Cell as CellOf};
-ghost use Rattle.hg_pages.specs.Slots.{AreKnown, HasBytes, HasPage};
-ghost use Rattle.hg_pages.specs.Tables.{EachNamed, SomeNames};
+ghost use Rattle.hg_pages.specs.Slots.{AreKnown, HasBytes, IsOutside};
+ghost use Rattle.hg_pages.specs.Tables.{IsLeastFree, IsLeastFreeFrom, SomeNames};
 ghost use Rattle.hg_pages.specs.Fault.{failures_after, IsBrokenOrDevice};
 ghost use Rattle.hg_pages.specs.declared.fault.SlotFault.TheVariants.{Damaged};
 
@@ -38,7 +37,7 @@ fn is_named(tables: &[&Table], slot: u32) -> bool
 // A sync, which adds no image.
 fn sync<D: Disk>(disk: &mut D) -> Result<(), DiskFault>
     ensures ok { OnOk result (D.state disk.new ≡ after_sync (D.state disk.old)) }
-    ensures any_moment { LeavesOnly ⟦<D as Disk>⟧ disk.old disk.new (IsImage (D.state disk.old)) }
+    ensures any_moment { AddsNoImage ⟦<D as Disk>⟧ disk.old disk.new }
     ensures clock { D.past disk.new ≡ D.state disk.old ∷ D.past disk.old }
     ensures failures { D.failures disk.new ≡ counted result (D.failures disk.old) }
 {
@@ -65,7 +64,7 @@ impl<D: Disk + Drop> Drop for SlotFile<D> {
 }
 
 impl<D: Disk> SlotFile<D> {
-    ghost use Rattle.hg_pages.specs.Files.{disk_of, is_broken, known};
+    ghost use Rattle.hg_pages.specs.Files.{KeepsOthers, LeavesKnown, LeavesOthers, GrowsToSlot, ReadsPage, StandsIn, TellsTrueDamage, disk_of, is_broken, known};
 
     /// The file on a disk, whatever its bytes are. It makes no device call.
     pub fn attach(disk: D) -> SlotFile<D>
@@ -109,8 +108,7 @@ impl<D: Disk> SlotFile<D> {
 
     /// The least slot that no handed table names, or none where each of the 1,048,576 is named. It makes no device call.
     pub fn free_slot(&self, tables: &[&Table]) -> Option<u32>
-        ensures { let named = SomeNames (map (λ t. t.now) tables.now) in
-            MatchOption result (EachNamed named 0 1048576) (λ free. (free < 1048576) × (¬ named free) × EachNamed named 0 free) }
+        ensures { IsLeastFree (map (λ t. t.now) tables.now) MOST_SLOTS result }
     {
         self.free_slot_from(0, tables)
     }
@@ -118,8 +116,7 @@ impl<D: Disk> SlotFile<D> {
     /// The least slot from this one on that no handed table names. Whoever picks several goes on behind the last one: a search
     /// looks at no slot twice then, however many pages there are. It makes no device call.
     pub fn free_slot_from(&self, from: u32, tables: &[&Table]) -> Option<u32>
-        ensures { let named = SomeNames (map (λ t. t.now) tables.now) in
-            MatchOption result (EachNamed named from 1048576) (λ free. (from ≤ free) × (free < 1048576) × (¬ named free) × EachNamed named from free) }
+        ensures { IsLeastFreeFrom from (map (λ t. t.now) tables.now) MOST_SLOTS result }
     {
         for slot in from..MOST_SLOTS {
             if !is_named(tables, slot) {
@@ -135,20 +132,19 @@ impl<D: Disk> SlotFile<D> {
     /// Whatever a crash at any moment leaves in another slot, it leaves there still.
     pub fn write(&mut self, slot: u32, page: &EncodedPage) -> Result<(), SlotFault>
         ensures written { OnOk result (HasBytes slot page.now.bytes (known ⟦<D as Disk>⟧ self.new)) }
-        ensures others { (other : ℕ) (bytes : List ℕ) → other ≢ slot → HasBytes other bytes (known ⟦<D as Disk>⟧ self.old) → OnOk result (HasBytes other bytes (known ⟦<D as Disk>⟧ self.new)) }
+        ensures others { KeepsOthers ⟦<D as Disk>⟧ slot self.old self.new result }
 
         // The file ends where it ended, or where the slot does.
-        ensures length { OnOk result (length (known ⟦<D as Disk>⟧ self.new) ≡ max (length (known ⟦<D as Disk>⟧ self.old)) (3080 * slot + 3080)) }
+        ensures length { OnOk result (GrowsToSlot ⟦<D as Disk>⟧ slot self.old self.new) }
 
         // What a read gives after a failure is left open; what is known is what it gave before.
         ensures lost { OnErr result (known ⟦<D as Disk>⟧ self.new ≡ known ⟦<D as Disk>⟧ self.old) }
 
         // What each image has in another slot, it has at each moment of the call.
-        ensures any_moment { (other : ℕ) (bytes : List ℕ) → other ≢ slot → Leaves (HasBytes other bytes) (D.state (disk_of self.old))
-            → LeavesOnly ⟦<D as Disk>⟧ (disk_of self.old) (disk_of self.new) (HasBytes other bytes) }
+        ensures any_moment { LeavesOthers ⟦<D as Disk>⟧ slot self.old self.new }
 
         // No image gets shorter than each was.
-        ensures long { (n : ℕ) → Leaves (λ image. n ≤ length image) (D.state (disk_of self.old)) → LeavesOnly ⟦<D as Disk>⟧ (disk_of self.old) (disk_of self.new) (λ image. n ≤ length image) }
+        ensures long { (n : ℕ) → IsNeverShorter ⟦<D as Disk>⟧ n (disk_of self.old) (disk_of self.new) }
 
         ensures fault { IfErr result IsBrokenOrDevice }
         ensures calls { CallsAtMost ⟦<D as Disk>⟧ 1 (disk_of self.old) (disk_of self.new) }
@@ -174,8 +170,8 @@ impl<D: Disk> SlotFile<D> {
     /// answers `Broken`.
     pub fn seal(&mut self) -> Result<(), SlotFault>
         ensures known { known ⟦<D as Disk>⟧ self.new ≡ known ⟦<D as Disk>⟧ self.old }
-        ensures durable { OnOk result (Leaves (λ image. image ≡ known ⟦<D as Disk>⟧ self.old) (D.state (disk_of self.new))) }
-        ensures any_moment { LeavesOnly ⟦<D as Disk>⟧ (disk_of self.old) (disk_of self.new) (IsImage (D.state (disk_of self.old))) }
+        ensures durable { OnOk result (LeavesKnown ⟦<D as Disk>⟧ self.old self.new) }
+        ensures any_moment { AddsNoImage ⟦<D as Disk>⟧ (disk_of self.old) (disk_of self.new) }
         ensures fault { IfErr result IsBrokenOrDevice }
         ensures calls { CallsAtMost ⟦<D as Disk>⟧ 1 (disk_of self.old) (disk_of self.new) }
         ensures device { D.failures (disk_of self.new) ≡ failures_after result (D.failures (disk_of self.old)) }
@@ -198,12 +194,12 @@ impl<D: Disk> SlotFile<D> {
     /// where the slot does not lie within the file. The file stays as it is, and after an `Err` it can be tried again. It makes
     /// one device call at most, and takes 3,080 bytes of memory.
     pub fn read(&mut self, alloc: Global, slot: u32) -> Result<EncodedPage, SlotFault>
-        ensures read { IsTrue D.is_honest → IfOk result (λ found. HasBytes slot found.bytes (known ⟦<D as Disk>⟧ self.old)) }
+        ensures read { IsTrue D.is_honest → IfOk result (StandsIn slot (known ⟦<D as Disk>⟧ self.old)) }
         ensures number { IfOk result (λ found. to_be_bytes w64 found.page ≡ take 8 found.bytes) }
-        ensures damaged { IsErrOf result SlotFault.Damaged → (bytes : List ℕ) → ¬ HasBytes slot bytes (known ⟦<D as Disk>⟧ self.old) }
+        ensures damaged { IsErrOf result SlotFault.Damaged → IsOutside slot (known ⟦<D as Disk>⟧ self.old) }
         ensures known { known ⟦<D as Disk>⟧ self.new ≡ known ⟦<D as Disk>⟧ self.old }
         ensures state { D.state (disk_of self.new) ≡ D.state (disk_of self.old) }
-        ensures any_moment { LeavesOnly ⟦<D as Disk>⟧ (disk_of self.old) (disk_of self.new) (IsImage (D.state (disk_of self.old))) }
+        ensures any_moment { AddsNoImage ⟦<D as Disk>⟧ (disk_of self.old) (disk_of self.new) }
         ensures calls { CallsAtMost ⟦<D as Disk>⟧ 1 (disk_of self.old) (disk_of self.new) }
         ensures device { D.failures (disk_of self.new) ≡ failures_after result (D.failures (disk_of self.old)) }
         ensures works { is_broken self.new ≡ is_broken self.old }
@@ -230,15 +226,15 @@ impl<D: Disk> SlotFile<D> {
         segments: u32,
         sets: &SetTable,
     ) -> Result<Page, SlotFault>
-        ensures read { IsTrue D.is_honest → IfOk result (λ cells. HasPage segments sets.now.sets slot page cells (known ⟦<D as Disk>⟧ self.old)) }
-        ensures damaged { IsTrue D.is_honest → IsErrOf result SlotFault.Damaged → (cells : List CellOf) → ¬ HasPage segments sets.now.sets slot page cells (known ⟦<D as Disk>⟧ self.old) }
+        ensures read { ReadsPage ⟦<D as Disk>⟧ self.old slot page segments sets.now.sets result }
+        ensures damaged { TellsTrueDamage ⟦<D as Disk>⟧ self.old slot page segments sets.now.sets result }
 
         // Also of a disk that lies: what is named is there.
         ensures named { IfOk result (AreKnown segments sets.now.sets) }
         ensures memory { ¬ IsErrOf result SlotFault.OutOfMemory }
         ensures known { known ⟦<D as Disk>⟧ self.new ≡ known ⟦<D as Disk>⟧ self.old }
         ensures state { D.state (disk_of self.new) ≡ D.state (disk_of self.old) }
-        ensures any_moment { LeavesOnly ⟦<D as Disk>⟧ (disk_of self.old) (disk_of self.new) (IsImage (D.state (disk_of self.old))) }
+        ensures any_moment { AddsNoImage ⟦<D as Disk>⟧ (disk_of self.old) (disk_of self.new) }
         ensures calls { CallsAtMost ⟦<D as Disk>⟧ 1 (disk_of self.old) (disk_of self.new) }
         ensures device { D.failures (disk_of self.new) ≡ failures_after result (D.failures (disk_of self.old)) }
         ensures works { is_broken self.new ≡ is_broken self.old }
@@ -258,12 +254,12 @@ impl<D: Disk> SlotFile<D> {
     fn fill(&mut self, slot: u32, bytes: &mut [u8]) -> Result<(), SlotFault>
         requires { length bytes.old ≡ SLOT_LEN }
         ensures read { IsTrue D.is_honest → OnOk result (HasBytes slot bytes.new (known ⟦<D as Disk>⟧ self.old)) }
-        ensures damaged { IsErrOf result SlotFault.Damaged → (found : List ℕ) → ¬ HasBytes slot found (known ⟦<D as Disk>⟧ self.old) }
+        ensures damaged { IsErrOf result SlotFault.Damaged → IsOutside slot (known ⟦<D as Disk>⟧ self.old) }
         ensures length { length bytes.new ≡ SLOT_LEN }
         ensures memory { ¬ IsErrOf result SlotFault.OutOfMemory }
         ensures known { known ⟦<D as Disk>⟧ self.new ≡ known ⟦<D as Disk>⟧ self.old }
         ensures state { D.state (disk_of self.new) ≡ D.state (disk_of self.old) }
-        ensures any_moment { LeavesOnly ⟦<D as Disk>⟧ (disk_of self.old) (disk_of self.new) (IsImage (D.state (disk_of self.old))) }
+        ensures any_moment { AddsNoImage ⟦<D as Disk>⟧ (disk_of self.old) (disk_of self.new) }
         ensures calls { CallsAtMost ⟦<D as Disk>⟧ 1 (disk_of self.old) (disk_of self.new) }
         ensures device { D.failures (disk_of self.new) ≡ failures_after result (D.failures (disk_of self.old)) }
         ensures works { is_broken self.new ≡ is_broken self.old }

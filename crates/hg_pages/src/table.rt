@@ -1,8 +1,8 @@
 //! Which slot each page lies in.
-ghost use Rattle.std.specs.Prelude.{◌≡◌, ◌+◌, ◌≤◌, ◌<◌, ◌↔◌, ◌==◌, ℕ, [], Some, None, length, is_some, slice_index_or, false, IsTrue, IsOk, OnOk, OnErr, IfOk, if◌then◌else◌};
+ghost use Rattle.std.specs.Prelude.{◌≡◌, ◌+◌, ◌≤◌, ◌<◌, ◌↔◌, ℕ, [], Some, length, is_some, slice_index_or, false, IsTrue, IsOk, OnOk, OnErr, IfOk, if◌then◌else◌};
 ghost use Rattle.std.specs.Option.{ForSome};
 ghost use Rattle.hg_pages.specs.Marks.{cleared, marked};
-ghost use Rattle.hg_pages.specs.Tables.{AreEntries, IsNamed, slot_in};
+ghost use Rattle.hg_pages.specs.Tables.{AreEntries, GivesSlot, GrowsByNew, IsNamed, LosesPage, slot_in};
 
 use crate::entries::{find, put, take_out};
 use std::alloc::{AllocError, Global};
@@ -121,12 +121,12 @@ impl Table {
     /// slot, and the page has one already or there is room for its entry.
     pub fn set(&mut self, page: u64, slot: u32) -> Result<(), AllocError>
         requires free { (other : ℕ) → slot_in self.old.entries other ≡ Some slot → other ≡ page }
-        ensures ok { OnOk result ((other : ℕ) → slot_in self.new.entries other ≡ (if page == other then Some slot else slot_in self.old.entries other)) }
+        ensures ok { OnOk result (GivesSlot page slot self.old.entries self.new.entries) }
         ensures err { OnErr result (self.new.entries ≡ self.old.entries) }
         ensures adds { length self.old.entries < self.old.capacity → slot < self.old.slots → IsOk result }
         ensures replaces { IsTrue (is_some (slot_in self.old.entries page)) → slot < self.old.slots → IsOk result }
         ensures no_less { (self.old.capacity ≤ self.new.capacity) × (self.old.slots ≤ self.new.slots) }
-        ensures length { OnOk result (length self.new.entries ≡ length self.old.entries + (if is_some (slot_in self.old.entries page) then 0 else 1)) }
+        ensures length { OnOk result (GrowsByNew page self.old.entries self.new.entries) }
     {
         let index = slot as usize;
         reach(&mut self.named, index + 1)?;
@@ -138,7 +138,7 @@ impl Table {
     /// Takes a page out, and answers the slot that it had. It takes no memory, and leaves the room for its entry.
     pub fn remove(&mut self, page: u64) -> Option<u32>
         ensures answer { result ≡ slot_in self.old.entries page }
-        ensures removed { (other : ℕ) → slot_in self.new.entries other ≡ (if page == other then None else slot_in self.old.entries other) }
+        ensures removed { LosesPage page self.old.entries self.new.entries }
         ensures room { (self.new.capacity ≡ self.old.capacity) × (self.new.slots ≡ self.old.slots) }
         ensures length { length self.new.entries + (if is_some result then 1 else 0) ≡ length self.old.entries }
     {

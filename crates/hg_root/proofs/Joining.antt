@@ -1,5 +1,5 @@
 -- One image of each file makes an image of all.
-use Rattle.std.proofs.Common.{◌⊎◌, inl, inr, ⊎_elim, ℕ, List, Option}
+use Rattle.std.proofs.Common.{inl, inr, ⊎_elim}
 use Rattle.hg_disk.proofs.Moments.{may_leave}
 use Rattle.hg_disk.specs.declared.disk.Disk as disk
 use Rattle.hg_root.specs.Checkpoints.{HasSlotsOf, JointImages}

@@ -1,7 +1,6 @@
 -- What a crash leaves of two root files in the steps of a root.
-use Rattle.std.proofs.Common.{◌≡◌, ◌≢◌, ◌⊎◌, inl, inr, ⊎_elim, ℕ, Bool, false, List, [], ◌∷◌, ◌++◌, Option, Some, None, OnOk, Ok, Err, Result, refl, sym, ◌∙◌, ap, subst, append_assoc, append-nil}
+use Rattle.std.proofs.Common.{◌≡◌, ◌≢◌, inl, inr, ⊎_elim, ℕ, Bool, false, List, [], ◌∷◌, ◌++◌, Option, Some, None, OnOk, Ok, Err, Result, refl, sym, ◌∙◌, ap, subst, append_assoc, append-nil}
 use Rattle.std.proofs.lemmas.Bool.{cases_eq}
-use Rattle.std.proofs.lemmas.List.{append_cancel_right}
 use Rattle.hg_disk.specs.State.{DiskState, IsImage, settled}
 use Rattle.hg_disk.specs.Moments.{LeavesOnly, MayLeave, history}
 use Rattle.hg_disk.specs.declared.disk.Disk as disk

@@ -1,11 +1,13 @@
 -- What is checked of the parts that were read. (No promise to a reader rests on this file but on HaveLast.)
+use Rattle.std.specs.Global.{Vec}
 use Rattle.std.specs.Prelude.{◌≡◌, ℕ, ◌≤◌, ◌*◌, ◌^◌, ◌==◌, List, [], ◌∷◌, length, map, min, slice_index, All, if◌then◌else◌}
 use Rattle.hg_model.specs.Restoring.{AreThreads}
 use Rattle.hg_model.specs.declared.segment.Segment.{Segment}
 use Rattle.hg_model.specs.declared.thread.ThreadState.{ThreadState}
 use Rattle.hg_sets.specs.Interning.{AreSets}
+use Rattle.hg_root.specs.declared.body.Back.{Back}
 use Rattle.hg_root.specs.declared.parts.SourceCount.{SourceCount}
-use Rattle.hg_root.specs.Body.{BackParts}
+use Rattle.hg_root.specs.Body.{BackParts, seen}
 use Rattle.hg_root.specs.Lawful.{AreInOrder, HaveSent, HaveSlots, IsReport, named_threads}
 use Rattle.hg_root.specs.Parts.{Parts}
 
@@ -28,6 +30,10 @@ pub record AreCounts (number events total kept : ℕ) : Type 0 where
 abbrev pub made_parts : ℕ → ℕ → List Segment → List ThreadState → BackParts → Parts
 made_parts number events segments threads b =
     record { number = number; events = events; segments = segments; threads = threads; sets = b.0; total = b.1.0; reports = b.1.1.0; sources = b.1.1.1.0; pages = b.1.1.1.1 }
+
+-- what stands before the threads, the threads, and what stands behind them
+abbrev pub parts_read : ℕ × (ℕ × Vec Segment) → List ThreadState → Back → Parts
+parts_read front threads back = made_parts front.0 front.1.0 front.1.1.items threads (seen back)
 
 -- the rules that are not seen while the body is read
 pub record IsChecked (p : Parts) : Type 0 where

@@ -1,5 +1,5 @@
 -- What two root files and a file of slots have together.
-use Rattle.std.specs.Prelude.{◌≡◌, ◌⊎◌, ◌≤◌, ◌+◌, ◌*◌, ℕ, List, length, Option, Some, None, All, IfSome}
+use Rattle.std.specs.Prelude.{◌⊎◌, ◌≤◌, ◌+◌, ◌*◌, ℕ, List, length, Option, Some, None, All, IfSome}
 use Rattle.hg_cells.specs.declared.cell.Cell.{Cell}
 use Rattle.hg_disk.specs.Moments.{LeavesOnly, MayLeave}
 use Rattle.hg_disk.specs.declared.disk.Disk as disk

@@ -1,14 +1,17 @@
 -- What is found of two root files.
-use Rattle.std.specs.Prelude.{◌≡◌, ◌≤◌, ◌⊎◌, ℕ, List, Bool, true, false, Option, Some, None, IfSome}
+use Rattle.std.specs.Prelude.{◌≡◌, ◌≤◌, ◌⊎◌, ℕ, List, Bool, true, false, IsTrue, Option, Some, None, IfSome, Result, IfOk, IsErrOf}
 use Rattle.hg_disk.specs.Calls.{CallsAtMost}
 use Rattle.hg_disk.specs.Moments.{LeavesOnly}
-use Rattle.hg_disk.specs.State.{IsImage}
+use Rattle.hg_disk.specs.State.{IsImage, settled}
 use Rattle.hg_disk.specs.declared.disk.Disk as disk
+use Rattle.hg_gate.specs.Gated.{Rests}
 use Rattle.hg_root.specs.Lawful.{IsLawful}
-use Rattle.hg_root.specs.Newest.{IsBelow, IsFormer, IsNewest, IsRootFile}
-use Rattle.hg_root.specs.Pairs.{Stands, first_bytes, second_bytes}
+use Rattle.hg_root.specs.Newest.{IsBelow, IsFormer, IsNewest, IsNoRootFile, IsRootFile}
+use Rattle.hg_root.specs.Pairs.{Stands, first_bytes, first_of, second_bytes, second_of}
 use Rattle.hg_root.specs.Parts.{Parts}
 use Rattle.hg_root.specs.Roots.{IsWhole, parts_of}
+use Rattle.hg_root.specs.declared.fault.RootFault.{RootFault}
+use Rattle.hg_root.specs.declared.fault.RootFault.TheVariants.{Damaged}
 use Rattle.hg_root.specs.declared.pair.Newest.{Newest}
 use Rattle.hg_root.specs.declared.pair.RootPair.{RootPair}
 use Rattle.hg_root.specs.declared.root.Root.{Root}
@@ -35,6 +38,21 @@ pub record AreRootsOf (found : Newest) (one other : List ℕ) : Type 0 where
 abbrev pub number_in : Option Parts → ℕ
 number_in None = 0
 number_in (Some root) = root.number
+
+-- The file has what was found: a root, or none where it is closed.
+abbrev pub HasRoot : List ℕ → Option Root → Type 0
+HasRoot bytes found = IsRootFile bytes (root_in found)
+
+-- What was found of two files that have these roots, or are closed, is theirs.
+abbrev pub ChoosesFrom : {E : Type 0} → (in_older in_newer : Option Root) → Result Newest E → Type 0
+ChoosesFrom in_older in_newer result =
+    (one other : List ℕ) → IsRootFile one (root_in in_older) → IsRootFile other (root_in in_newer)
+    → IfOk result (λ found. AreRootsOf found one other)
+
+-- They are damaged: both are open with one number.
+abbrev pub HaveOneNumber : (in_older in_newer : Option Root) → RootFault → Type 0
+HaveOneNumber in_older in_newer fault =
+    (fault ≡ Damaged) × (1 ≤ number_in (root_in in_older)) × (number_in (root_in in_older) ≡ number_in (root_in in_newer))
 
 -- Two files are to take turns, or not. (No promise to a reader rests on this.)
 abbrev pub IsDue : ℕ → ℕ → Bool → Type 0
@@ -63,3 +81,18 @@ module _ {D : Type 0} (g : disk.Ghosts D) where
   -- The pair stands with them.
   abbrev pub StandsWith : RootPair D → Newest → Type 0
   StandsWith p found = Stands g p (root_in found.root) (root_in found.former)
+
+  -- An honest disk is told as damaged where its bytes are those of no root file.
+  abbrev pub TellsTrueDamage : {T : Type 0} → D → Result T RootFault → Type 0
+  TellsTrueDamage d result = IsTrue g.is_honest → IsErrOf result Damaged → IsNoRootFile (g.state d).contents
+
+  -- Where both files were durable, the pair stands with what was found.
+  abbrev pub StandsDurably : {E : Type 0} → (old new : RootPair D) → Result Newest E → Type 0
+  StandsDurably old new result =
+      (one other : List ℕ) → g.state (first_of old) ≡ settled one → g.state (second_of old) ≡ settled other → IfOk result (StandsWith new)
+
+  -- Where both files are durable and have these roots, or are closed, the pair stands with what was found.
+  abbrev pub StandsByChoice : {E : Type 0} → (old : RootPair D) → (in_older in_newer : Option Root) → (new : RootPair D) → Result Newest E → Type 0
+  StandsByChoice old in_older in_newer new result =
+      (one other : List ℕ) → Rests g old.older one → Rests g old.newer other
+      → IsRootFile one (root_in in_older) → IsRootFile other (root_in in_newer) → IfOk result (StandsWith new)

@@ -10,6 +10,10 @@ abbrev pub IsRootFile : List ℕ → Option Parts → Type 0
 IsRootFile bytes None = IsClosed bytes
 IsRootFile bytes (Some parts) = (body : List ℕ) × IsOpenWith body bytes × IsRoot body parts
 
+-- The file is neither.
+abbrev pub IsNoRootFile : List ℕ → Type 0
+IsNoRootFile bytes = (root : Option Parts) → ¬ IsRootFile bytes root
+
 -- no root, or one with a lesser number
 abbrev pub IsBelow : Option Parts → Option Parts → Type 0
 IsBelow None root = Unit {0}

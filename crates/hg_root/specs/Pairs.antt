@@ -1,10 +1,12 @@
 -- What a crash may leave of two root files, and how a pair of them stands in each step.
-use Rattle.std.specs.Prelude.{◌≡◌, ◌≢◌, ◌⊎◌, ◌+◌, ℕ, Bool, true, false, not, List, [], ◌∷◌, Option, Some, None, if◌then◌else◌}
+use Rattle.std.specs.Prelude.{◌≡◌, ◌≢◌, ◌⊎◌, ◌+◌, ℕ, Bool, true, false, IsTrue, not, List, ◌∷◌, Option, Some, None, Result, OnOk, OnErr, if◌then◌else◌}
 use Rattle.hg_disk.specs.Moments.{GoesOn, MayLeave}
+use Rattle.hg_disk.specs.State.{settled}
 use Rattle.hg_disk.specs.declared.disk.Disk as disk
-use Rattle.hg_gate.specs.Batches.{open_gate}
+use Rattle.hg_gate.specs.Batches.{IsClosed, open_gate}
 use Rattle.hg_gate.specs.Gated as gated
 use Rattle.hg_gate.specs.Gated.{Rests, framed}
+use Rattle.hg_root.specs.Lawful.{IsRoot}
 use Rattle.hg_root.specs.Newest.{IsBelow, IsNewest, IsRootFile}
 use Rattle.hg_root.specs.Parts.{Parts}
 use Rattle.hg_root.specs.declared.pair.RootPair.{RootPair}
@@ -31,6 +33,10 @@ is_other_broken p = gated.is_broken p.newer
 -- None failed.
 abbrev pub IsWorking : {D : Type 0} → RootPair D → Type 0
 IsWorking p = (is_broken p ≡ false) × (is_other_broken p ≡ false)
+
+-- One failed.
+abbrev pub IsEitherBroken : {D : Type 0} → RootPair D → Type 0
+IsEitherBroken p = IsTrue (is_broken p) ⊎ IsTrue (is_other_broken p)
 
 -- whether the file that is written next is known to be closed, and whether the other is
 abbrev pub is_closed : {D : Type 0} → RootPair D → Bool
@@ -110,3 +116,45 @@ module _ {D : Type 0} (g : disk.Ghosts D) where
 -- the newest open root is the one or the other
 abbrev pub IsEither : Option Parts → Option Parts → List ℕ → List ℕ → Type 0
 IsEither root next one other = IsNewest root None one other ⊎ IsNewest next root one other
+
+module _ {D : Type 0} (g : disk.Ghosts D) where
+  -- The pair of two durable files that are closed stands with no root.
+  abbrev pub StandsClosed : (root0 root1 : D) → RootPair D → Type 0
+  StandsClosed root0 root1 p =
+      (one other : List ℕ) → g.state root0 ≡ settled one → g.state root1 ≡ settled other → IsClosed one → IsClosed other → Stands g p None None
+
+  -- After an `Err` the pair stands as before.
+  abbrev pub StaysOnErr : {T E : Type 0} → (old new : RootPair D) → Result T E → Type 0
+  StaysOnErr old new result = (root former : Option Parts) → Stands g old root former → OnErr result (Stands g new root former)
+
+  -- A pair that stands is prepared,
+  abbrev pub Prepares : {T E : Type 0} → (old new : RootPair D) → Result T E → Type 0
+  Prepares old new result = (root former : Option Parts) → Stands g old root former → OnOk result ((rest : List ℕ) × IsPrepared g new root rest)
+
+  -- and each image on the way has its roots.
+  abbrev pub LeavesRoots : (old new : RootPair D) → Type 0
+  LeavesRoots old new = (root former : Option Parts) → Stands g old root former → EachPair g old new (IsNewest root former)
+
+  -- A pair that is prepared has the body behind the gate,
+  abbrev pub PutsBody : {T E : Type 0} → (body : List ℕ) → (old new : RootPair D) → Result T E → Type 0
+  PutsBody body old new result = (root : Option Parts) (rest : List ℕ) → IsPrepared g old root rest → OnOk result (IsPrepared g new root (framed body))
+
+  -- and each image on the way has the one root.
+  abbrev pub LeavesRoot : (old new : RootPair D) → Type 0
+  LeavesRoot old new = (root : Option Parts) (rest : List ℕ) → IsPrepared g old root rest → EachPair g old new (IsNewest root None)
+
+  -- A pair that is prepared with a greater root's body is opened,
+  abbrev pub OpensNext : {T E : Type 0} → (old new : RootPair D) → Result T E → Type 0
+  OpensNext old new result =
+      (root : Option Parts) (next : Parts) (body : List ℕ) → IsPrepared g old root (framed body) → IsRoot body next → IsBelow root (Some next)
+      → OnOk result (IsOpened g new root next)
+
+  -- and each image on the way has the root or the next one.
+  abbrev pub LeavesEither : (old new : RootPair D) → Type 0
+  LeavesEither old new =
+      (root : Option Parts) (next : Parts) (body : List ℕ) → IsPrepared g old root (framed body) → IsRoot body next → IsBelow root (Some next)
+      → EachPair g old new (IsEither root (Some next))
+
+  -- A pair that was opened stands with the next root, and the former one.
+  abbrev pub StandsOpened : (old new : RootPair D) → Type 0
+  StandsOpened old new = (root : Option Parts) (next : Parts) → IsOpened g old root next → Stands g new (Some next) root

@@ -93,6 +93,10 @@ is_thread segments p = is_last segments p.0 p.1.1.0 && are_held p.1.1.1
 abbrev pub thread_at : List Segment → Reader ThreadState
 thread_at segments = made (λ p. record { number = p.0; alive = p.1.0; held = p.1.1.1 }) (such_that (is_thread segments) raw_thread_at)
 
+-- so many threads
+abbrev pub threads_at : List Segment → ℕ → Reader (List ThreadState)
+threads_at segments count = times (thread_at segments) count
+
 abbrev pub members_at : Reader (List ℕ)
 members_at = listed (number_at w16) (number_at w16)
 

@@ -1,9 +1,8 @@
 //! The body of a root, part after part.
-ghost use Rattle.std.specs.Prelude.{◌≡◌, List, length};
+ghost use Rattle.std.specs.Prelude.{◌≡◌, length};
 ghost use Rattle.std.specs.Int.{w16, w32};
-ghost use Rattle.hg_model.specs.declared.segment.Segment.{Segment as SegmentOf};
 ghost use Rattle.hg_root.specs.Body.{back_at, front_at, middle_at, seen};
-ghost use Rattle.hg_root.specs.Last.{IsLastTable};
+ghost use Rattle.hg_root.specs.Last.{ForTable};
 ghost use Rattle.hg_root.specs.Reading.{Gives, ended, listed, number_at};
 
 use crate::fault::RootFault;
@@ -11,6 +10,7 @@ use crate::parts::{PageSlot, SourceCount};
 use crate::piece::{Piece, take_times, u16_at, u32_at, u64_at};
 use crate::threads::threads_of;
 use hg_cells::KeptReport;
+use hg_model::limits::THREAD_NUMBERS;
 use hg_model::segment::Segment;
 use hg_model::sets::NumberSet;
 use hg_model::thread::ThreadState;
@@ -68,8 +68,8 @@ pub(crate) fn middle_of<'a>(
     lasts: &[Option<u32>],
     bytes: &'a [u8],
 ) -> Result<(Vec<ThreadState>, &'a [u8]), RootFault>
-    requires { length lasts.now ≡ 1024 }
-    ensures { (segments : List SegmentOf) → IsLastTable segments lasts.now → Gives (λ x. (x.0.items, x.1.now)) result (middle_at segments bytes.now) }
+    requires { length lasts.now ≡ THREAD_NUMBERS }
+    ensures { ForTable lasts.now (λ segments. Gives (λ x. (x.0.items, x.1.now)) result (middle_at segments bytes.now)) }
 {
     let (count, rest) = u16_at(bytes)?;
     threads_of(alloc, lasts, count, rest)

@@ -2,9 +2,7 @@
 ghost use Rattle.std.specs.Prelude.{◌≡◌, ◌≤◌, ◌^◌, List, ℕ, Option, length, IsTrue, OnOk, IfOk, IfErr, IsErrOf, Err};
 ghost use Rattle.hg_gate.specs.Gated.{Rests, disk_of, is_broken};
 ghost use Rattle.hg_root.specs.Fault.{failures_after};
-ghost use Rattle.hg_root.specs.Finding.{IsDue, IsWholeIn, WasRead, number_in, root_in};
-ghost use Rattle.hg_root.specs.Newest.{IsRootFile};
-ghost use Rattle.hg_root.specs.Parts.{Parts};
+ghost use Rattle.hg_root.specs.Finding.{HasRoot, IsDue, IsWholeIn, TellsTrueDamage, WasRead, number_in, root_in};
 
 use crate::fault::RootFault;
 use crate::root::Root;
@@ -17,9 +15,9 @@ pub(crate) fn root_of<D: Disk>(
     alloc: Global,
     file: &mut Gated<D>,
 ) -> Result<Option<Root>, RootFault>
-    ensures found { IsTrue D.is_honest → IfOk result (λ found. IsRootFile (D.state (disk_of file.old)).contents (root_in found)) }
+    ensures found { IsTrue D.is_honest → IfOk result (HasRoot (D.state (disk_of file.old)).contents) }
     ensures whole { IfOk result IsWholeIn }
-    ensures damaged { IsTrue D.is_honest → IsErrOf result RootFault.Damaged → (root : Option Parts) → ¬ IsRootFile (D.state (disk_of file.old)).contents root }
+    ensures damaged { TellsTrueDamage ⟦<D as Disk>⟧ (disk_of file.old) result }
     ensures fits { OnOk result (length (D.state (disk_of file.old)).contents ≤ 2 ^ 62) }
     ensures read { WasRead ⟦<D as Disk>⟧ (disk_of file.old) (disk_of file.new) }
     ensures rests { (bytes : List ℕ) → Rests ⟦<D as Disk>⟧ file.old bytes → Rests ⟦<D as Disk>⟧ file.new bytes }

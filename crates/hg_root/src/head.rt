@@ -1,15 +1,15 @@
 //! The head of a root: everything of a content but the words, encoded.
 ghost use Rattle.std.specs.Prelude.{◌≡◌, ◌++◌, ◌<◌, ◌^◌, All, OnOk, IfOk, length};
-ghost use Rattle.std.specs.Int.{w16, w32, to_be_bytes};
-ghost use Rattle.std.specs.List.{AllByRecursion, flat_map};
-ghost use Rattle.hg_root.specs.Grammar.{HeadFits, PagesFit, SetFits, ThreadFits, head_text, many_text, pages_text, set_text, some_text, thread_text};
-ghost use Rattle.hg_root.specs.Heads.{head_parts};
+ghost use Rattle.std.specs.Int.{to_be_bytes};
+ghost use Rattle.hg_root.specs.Grammar.{PagesFit, SetFits, ThreadFits, many_text, pages_text, set_text, some_text, thread_text};
+ghost use Rattle.hg_root.specs.Heads.{FitHead, IsHeadOf};
 
 use crate::body::HEADER;
 use crate::parts::{PageSlot, SourceCount};
 use crate::piece::{Piece, put_each};
 use hg_cells::KeptReport;
 use hg_graph::Graph;
+use hg_model::limits::THREAD_NUMBERS;
 use hg_model::thread::ThreadState;
 use hg_sets::SetTable;
 use std::alloc::{AllocError, Global};
@@ -42,9 +42,9 @@ impl RootHead {
         reports: &[KeptReport],
         sources: &[SourceCount],
     ) -> Result<RootHead, AllocError>
-        requires fits { HeadFits (head_parts number events graph.now threads.now sets.now total reports.now sources.now) }
-        requires threads { All (λ t. t.number < 1024) threads.now }
-        ensures { IfOk result (λ head. head ≡ head_text (head_parts number events graph.now threads.now sets.now total reports.now sources.now)) }
+        requires fits { FitHead number events graph.now threads.now sets.now total reports.now sources.now }
+        requires threads { All (λ t. t.number < THREAD_NUMBERS) threads.now }
+        ensures { IfOk result (IsHeadOf number events graph.now threads.now sets.now total reports.now sources.now) }
     {
         let mut bytes = Vec::new(alloc);
         bytes.extend_from_slice(&HEADER.to_be_bytes())?;
@@ -75,7 +75,7 @@ impl RootHead {
 fn put_many<T: Piece>(items: &[T], out: &mut Vec<u8>) -> Result<(), AllocError>
     requires count { length items.now < 2 ^ 32 }
     requires fits { All T.fits items.now }
-    ensures { OnOk result (out.new.items ≡ out.old.items ++ (to_be_bytes w32 (length items.now) ++ flat_map T.text items.now)) }
+    ensures { OnOk result (out.new.items ≡ out.old.items ++ many_text T.text items.now) }
 {
     out.extend_from_slice(&(items.len() as u32).to_be_bytes())?;
     put_each(items, out)
@@ -85,7 +85,7 @@ fn put_many<T: Piece>(items: &[T], out: &mut Vec<u8>) -> Result<(), AllocError>
 fn put_some<T: Piece>(items: &[T], out: &mut Vec<u8>) -> Result<(), AllocError>
     requires count { length items.now < 2 ^ 16 }
     requires fits { All T.fits items.now }
-    ensures { OnOk result (out.new.items ≡ out.old.items ++ (to_be_bytes w16 (length items.now) ++ flat_map T.text items.now)) }
+    ensures { OnOk result (out.new.items ≡ out.old.items ++ some_text T.text items.now) }
 {
     out.extend_from_slice(&(items.len() as u16).to_be_bytes())?;
     put_each(items, out)
@@ -93,7 +93,7 @@ fn put_some<T: Piece>(items: &[T], out: &mut Vec<u8>) -> Result<(), AllocError>
 
 /// A thread, with its last segment.
 fn put_thread(graph: &Graph, thread: &ThreadState, out: &mut Vec<u8>) -> Result<(), AllocError>
-    requires number { thread.now.number < 1024 }
+    requires number { thread.now.number < THREAD_NUMBERS }
     requires fits { ThreadFits thread.now }
     ensures { OnOk result (out.new.items ≡ out.old.items ++ thread_text graph.now thread.now) }
 {
@@ -117,7 +117,7 @@ fn put_thread(graph: &Graph, thread: &ThreadState, out: &mut Vec<u8>) -> Result<
 /// The threads.
 fn put_threads(graph: &Graph, threads: &[ThreadState], out: &mut Vec<u8>) -> Result<(), AllocError>
     requires count { length threads.now < 2 ^ 16 }
-    requires numbers { All (λ t. t.number < 1024) threads.now }
+    requires numbers { All (λ t. t.number < THREAD_NUMBERS) threads.now }
     requires fits { All ThreadFits threads.now }
     ensures { OnOk result (out.new.items ≡ out.old.items ++ some_text (thread_text graph.now) threads.now) }
 {

@@ -1,9 +1,9 @@
 //! The segments of a body: whether each may stand behind those before it, and which is the last of each thread.
-ghost use Rattle.std.specs.Prelude.{◌≡◌, ◌<◌, ◌≤◌, ◌==◌, ◌&&◌, ℕ, List, Option, length, IfErr, IfOk, IsErrOf};
+ghost use Rattle.std.specs.Prelude.{◌≡◌, ◌<◌, ◌≤◌, ◌==◌, ◌&&◌, Option, length, IfErr, IfOk, IsErrOf};
 ghost use Rattle.std.specs.List.{list_any};
-ghost use Rattle.hg_graph.specs.Restoring.{AreSegments, are_predecessors, has_former, has_thread};
+ghost use Rattle.hg_graph.specs.Restoring.{AreSegments, are_predecessors, has_former};
 ghost use Rattle.hg_root.specs.Fault.{IsDamagedOrMemory};
-ghost use Rattle.hg_root.specs.Last.{IsLastTable};
+ghost use Rattle.hg_root.specs.Last.{AreNoSegments, IsLastTable, may_stand};
 
 use crate::fault::RootFault;
 use hg_model::limits::{MOST_SEGMENTS, THREAD_NUMBERS};
@@ -41,7 +41,7 @@ fn is_among(number: u32, numbers: &[u32]) -> bool
 
 /// Whether a segment may stand at this place, where its thread has that former one.
 fn fits(place: u32, segment: &Segment, former: Option<u32>) -> bool
-    ensures { result ≡ (has_thread place segment.now.thread && (are_predecessors place segment.now.before && has_former former segment.now.before)) }
+    ensures { result ≡ may_stand place segment.now former }
 {
     let most = if place == 0 { 1 } else { THREAD_NUMBERS };
     let before = segment.before.as_slice();
@@ -55,8 +55,8 @@ fn fits(place: u32, segment: &Segment, former: Option<u32>) -> bool
 pub(crate) fn lasts_of(alloc: Global, segments: &[Segment]) -> Result<Vec<Option<u32>>, RootFault>
     ensures table { IfOk result (λ lasts. IsLastTable segments.now lasts.items) }
     ensures lawful { IfOk result (λ lasts. AreSegments segments.now) }
-    ensures count { IfOk result (λ lasts. (1 ≤ length segments.now) × (length segments.now ≤ 1048576)) }
-    ensures damaged { IsErrOf result RootFault.Damaged → 1 ≤ length segments.now → length segments.now ≤ 1048576 → ¬ AreSegments segments.now }
+    ensures count { IfOk result (λ lasts. (1 ≤ length segments.now) × (length segments.now ≤ MOST_SEGMENTS)) }
+    ensures damaged { IsErrOf result RootFault.Damaged → AreNoSegments MOST_SEGMENTS segments.now }
     ensures fault { IfErr result IsDamagedOrMemory }
 {
     if segments.len() == 0 || segments.len() > MOST_SEGMENTS as usize {

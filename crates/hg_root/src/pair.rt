@@ -1,13 +1,7 @@
 //! Two root files that take turns.
-ghost use Rattle.std.specs.Prelude.{◌≡◌, ◌≤◌, ◌⊎◌, ℕ, List, Option, Some, None, Err, IsOk, is_ok, OnOk, OnErr, IfOk, IfErr, IsTrue, IsErrOf, false};
+ghost use Rattle.std.specs.Prelude.{◌≡◌, ℕ, Option, None, Err, IsOk, is_ok, OnOk, OnErr, IfOk, IfErr, IsTrue, IsErrOf, false};
 ghost use Rattle.hg_disk.specs.Calls.{CallsAtMost};
-ghost use Rattle.hg_disk.specs.State.{settled};
-ghost use Rattle.hg_gate.specs.Batches.{IsClosed};
-ghost use Rattle.hg_gate.specs.Gated.{Rests, framed};
 ghost use Rattle.hg_root.specs.Fault.{IsBrokenOrDevice, failures_after};
-ghost use Rattle.hg_root.specs.Lawful.{IsRoot};
-ghost use Rattle.hg_root.specs.Newest.{IsBelow, IsNewest, IsRootFile};
-ghost use Rattle.hg_root.specs.Parts.{Parts};
 
 use crate::fault::RootFault;
 use crate::found::{are_turns_due, number_of, root_of};
@@ -40,8 +34,8 @@ pub struct RootPair<D: Disk> {
 }
 
 impl<D: Disk> RootPair<D> {
-    ghost use Rattle.hg_root.specs.Finding.{AreRootsOf, AreWhole, HasNoNewest, IsNewestOf, IsOnlyOf, IsWholeIn, StandsWith, WasRead, number_in, root_in};
-    ghost use Rattle.hg_root.specs.Pairs.{EachPair, IsEither, IsOpened, IsPrepared, IsWorking, Stands, failures, first_of, is_broken, is_closed, is_other_broken, is_other_closed, is_turned, newer, older, second_of, turned};
+    ghost use Rattle.hg_root.specs.Finding.{HaveOneNumber, AreWhole, ChoosesFrom, HasNoNewest, IsNewestOf, IsOnlyOf, IsWholeIn, StandsByChoice, StandsDurably, WasRead, root_in};
+    ghost use Rattle.hg_root.specs.Pairs.{IsEitherBroken, IsWorking, LeavesEither, LeavesRoot, LeavesRoots, OpensNext, Prepares, PutsBody, StandsClosed, StandsOpened, StaysOnErr, failures, first_of, is_broken, is_closed, is_other_broken, is_other_closed, is_turned, newer, older, second_of, turned};
 
     /// The pair of two files, whatever their bytes are. It makes no device call. Which of them has the newest open root is told by
     /// `newest`, which comes first.
@@ -65,8 +59,7 @@ impl<D: Disk> RootPair<D> {
         ensures first { first_of result ≡ root0 }
         ensures second { second_of result ≡ root1 }
         ensures works { IsWorking result }
-        ensures stands { (one other : List ℕ) → D.state root0 ≡ settled one → D.state root1 ≡ settled other → IsClosed one → IsClosed other
-            → Stands ⟦<D as Disk>⟧ result None None }
+        ensures stands { StandsClosed ⟦<D as Disk>⟧ root0 root1 result }
     {
         RootPair {
             older: Gated::attach(root0),
@@ -104,18 +97,17 @@ impl<D: Disk> RootPair<D> {
         ensures found { IsTrue D.is_honest → IfOk result (IsNewestOf ⟦<D as Disk>⟧ self.old) }
         ensures only { IsTrue D.is_honest → IfOk result (IsOnlyOf ⟦<D as Disk>⟧ self.old) }
         ensures whole { IfOk result AreWhole }
-        ensures stands { IsTrue D.is_honest → (one other : List ℕ) → D.state (first_of self.old) ≡ settled one → D.state (second_of self.old) ≡ settled other
-            → IfOk result (StandsWith ⟦<D as Disk>⟧ self.new) }
+        ensures stands { IsTrue D.is_honest → StandsDurably ⟦<D as Disk>⟧ self.old self.new result }
         ensures none_open { IfOk result (λ found. root_in found.root ≡ None → older self.new ≡ first_of self.new) }
         ensures damaged { IsTrue D.is_honest → IsErrOf result RootFault.Damaged → HasNoNewest ⟦<D as Disk>⟧ self.old }
-        ensures stays { (root former : Option Parts) → Stands ⟦<D as Disk>⟧ self.old root former → OnErr result (Stands ⟦<D as Disk>⟧ self.new root former) }
+        ensures stays { StaysOnErr ⟦<D as Disk>⟧ self.old self.new result }
 
         // Neither file is changed.
         ensures first { WasRead ⟦<D as Disk>⟧ (first_of self.old) (first_of self.new) }
         ensures second { WasRead ⟦<D as Disk>⟧ (second_of self.old) (second_of self.new) }
 
         ensures device { failures ⟦<D as Disk>⟧ self.new ≡ failures_after result (failures ⟦<D as Disk>⟧ self.old) }
-        ensures broken { IsErrOf result RootFault.Broken → IsTrue (is_broken self.old) ⊎ IsTrue (is_other_broken self.old) }
+        ensures broken { IsErrOf result RootFault.Broken → IsEitherBroken self.old }
         ensures works { OnOk result (IsWorking self.old × IsWorking self.new) }
     {
         let older = root_of(alloc, &mut self.older)?;
@@ -129,13 +121,11 @@ impl<D: Disk> RootPair<D> {
         in_older: Option<Root>,
         in_newer: Option<Root>,
     ) -> Result<Newest, RootFault>
-        ensures found { (one other : List ℕ) → IsRootFile one (root_in in_older) → IsRootFile other (root_in in_newer)
-            → IfOk result (λ found. AreRootsOf found one other) }
+        ensures found { ChoosesFrom in_older in_newer result }
         ensures whole { IsWholeIn in_older → IsWholeIn in_newer → IfOk result AreWhole }
-        ensures stands { (one other : List ℕ) → Rests ⟦<D as Disk>⟧ self.old.older one → Rests ⟦<D as Disk>⟧ self.old.newer other
-            → IsRootFile one (root_in in_older) → IsRootFile other (root_in in_newer) → IfOk result (StandsWith ⟦<D as Disk>⟧ self.new) }
+        ensures stands { StandsByChoice ⟦<D as Disk>⟧ self.old in_older in_newer self.new result }
         ensures none_open { IfOk result (λ found. root_in found.root ≡ None → older self.new ≡ first_of self.new) }
-        ensures damaged { IfErr result (λ fault. (fault ≡ RootFault.Damaged) × (1 ≤ number_in (root_in in_older)) × (number_in (root_in in_older) ≡ number_in (root_in in_newer))) }
+        ensures damaged { IfErr result (HaveOneNumber in_older in_newer) }
         ensures first { first_of self.new ≡ first_of self.old }
         ensures second { second_of self.new ≡ second_of self.old }
         ensures same { OnErr result (self.new ≡ self.old) }
@@ -161,8 +151,8 @@ impl<D: Disk> RootPair<D> {
     /// Closes the older file, where it is open. It makes two device calls at most, and none where the file is closed already: a
     /// byte that a crash tears may be an open gate.
     pub fn prepare(&mut self) -> Result<(), RootFault>
-        ensures prepared { (root former : Option Parts) → Stands ⟦<D as Disk>⟧ self.old root former → OnOk result ((rest : List ℕ) × IsPrepared ⟦<D as Disk>⟧ self.new root rest) }
-        ensures any_moment { (root former : Option Parts) → Stands ⟦<D as Disk>⟧ self.old root former → EachPair ⟦<D as Disk>⟧ self.old self.new (IsNewest root former) }
+        ensures prepared { Prepares ⟦<D as Disk>⟧ self.old self.new result }
+        ensures any_moment { LeavesRoots ⟦<D as Disk>⟧ self.old self.new }
         ensures known { is_closed self.new ≡ is_ok result }
         ensures newer { newer self.new ≡ newer self.old }
         ensures turn { is_turned self.new ≡ is_turned self.old }
@@ -188,8 +178,8 @@ impl<D: Disk> RootPair<D> {
 
     /// Writes the body of the next root behind the closed gate of the older file. It makes four device calls at most.
     pub fn write(&mut self, body: &[u8]) -> Result<(), RootFault>
-        ensures written { (root : Option Parts) (rest : List ℕ) → IsPrepared ⟦<D as Disk>⟧ self.old root rest → OnOk result (IsPrepared ⟦<D as Disk>⟧ self.new root (framed body.now)) }
-        ensures any_moment { (root : Option Parts) (rest : List ℕ) → IsPrepared ⟦<D as Disk>⟧ self.old root rest → EachPair ⟦<D as Disk>⟧ self.old self.new (IsNewest root None) }
+        ensures written { PutsBody ⟦<D as Disk>⟧ body.now self.old self.new result }
+        ensures any_moment { LeavesRoot ⟦<D as Disk>⟧ self.old self.new }
         ensures known { is_closed self.new ≡ is_closed self.old }
         ensures newer { newer self.new ≡ newer self.old }
         ensures turn { is_turned self.new ≡ is_turned self.old }
@@ -209,10 +199,8 @@ impl<D: Disk> RootPair<D> {
     /// Opens the gate of the older file, which has a root of a greater number: from then on that is the newest one. It makes two
     /// device calls at most. After an `Ok` the files are to take turns (`take_turns`).
     pub fn open_gate(&mut self) -> Result<(), RootFault>
-        ensures any_moment { (root : Option Parts) (next : Parts) (body : List ℕ) → IsPrepared ⟦<D as Disk>⟧ self.old root (framed body) → IsRoot body next → IsBelow root (Some next)
-            → EachPair ⟦<D as Disk>⟧ self.old self.new (IsEither root (Some next)) }
-        ensures opened { (root : Option Parts) (next : Parts) (body : List ℕ) → IsPrepared ⟦<D as Disk>⟧ self.old root (framed body) → IsRoot body next → IsBelow root (Some next)
-            → OnOk result (IsOpened ⟦<D as Disk>⟧ self.new root next) }
+        ensures any_moment { LeavesEither ⟦<D as Disk>⟧ self.old self.new }
+        ensures opened { OpensNext ⟦<D as Disk>⟧ self.old self.new result }
         ensures newer { newer self.new ≡ newer self.old }
         ensures turn { is_turned self.new ≡ is_turned self.old }
         ensures other { is_other_broken self.new ≡ is_other_broken self.old }
@@ -237,7 +225,7 @@ impl<D: Disk> RootPair<D> {
         ensures newer { newer self.new ≡ older self.old }
         ensures first { first_of self.new ≡ first_of self.old }
         ensures second { second_of self.new ≡ second_of self.old }
-        ensures stands { (root : Option Parts) (next : Parts) → IsOpened ⟦<D as Disk>⟧ self.old root next → Stands ⟦<D as Disk>⟧ self.new (Some next) root }
+        ensures stands { StandsOpened ⟦<D as Disk>⟧ self.old self.new }
     {
         swap(&mut self.older, &mut self.newer);
         swap(&mut self.is_closed, &mut self.is_other_closed);

@@ -1,10 +1,10 @@
 //! The pieces of a body, each with its bytes: read from the front of what is left, and put at the end of what there is.
-ghost use Rattle.std.specs.Prelude.{◌≡◌, ◌++◌, ◌<◌, ◌^◌, ℕ, List, Option, All, length, OnOk, OnErr};
+ghost use Rattle.std.specs.Prelude.{◌≡◌, ◌++◌, ◌<◌, ◌^◌, ℕ, List, Option, All, OnOk};
 ghost use Rattle.std.specs.Int.{w16, w32, w64, to_be_bytes};
 ghost use Rattle.std.specs.List.{flat_map};
 ghost use Rattle.hg_root.specs.Grammar as text;
 ghost use Rattle.hg_root.specs.Reading as reading;
-ghost use Rattle.hg_root.specs.Reading.{Gives, Reader, byte_at, number_at, times, mode_at, alive_at, kind_at};
+ghost use Rattle.hg_root.specs.Reading.{Gives, byte_at, number_at, times, mode_at, alive_at, kind_at};
 
 use crate::fault::RootFault;
 use crate::parts::{PageSlot, SourceCount};

@@ -1,13 +1,11 @@
 //! A root, as its body spells it.
-ghost use Rattle.std.specs.Prelude.{◌≡◌, ◌↔◌, ◌≤◌, ◌^◌, ◌++◌, ◌∷◌, [], List, All, OnOk, if◌then◌else◌, IsTrue, IsErrOf, length, map, IfErr, IfOk};
+ghost use Rattle.std.specs.Prelude.{◌≡◌, ◌↔◌, ◌≤◌, ◌^◌, ◌++◌, ◌∷◌, [], All, OnOk, if◌then◌else◌, IsTrue, IsErrOf, length, map, IfErr, IfOk};
 ghost use Rattle.hg_model.specs.Restoring.{AreThreads};
-ghost use Rattle.hg_model.specs.declared.segment.Segment.{Segment as SegmentOf};
 ghost use Rattle.hg_sets.specs.Interning.{AreSets};
-ghost use Rattle.hg_root.specs.Body.{seen};
-ghost use Rattle.hg_root.specs.Checking.{AreCounts, HaveLast, IsChecked, made_parts};
+ghost use Rattle.hg_root.specs.Checking.{AreCounts, HaveLast, IsChecked, parts_read};
 ghost use Rattle.hg_root.specs.Roots.{IsWhole, parts_of};
 ghost use Rattle.hg_root.specs.Fault.{IsDamagedOrMemory};
-ghost use Rattle.hg_root.specs.Last.{IsLastTable};
+ghost use Rattle.hg_root.specs.Last.{ForTable, IsLastTable};
 ghost use Rattle.hg_root.specs.Lawful.{HaveSent, IsRoot, named_threads};
 ghost use Rattle.hg_root.specs.Parts.{Parts};
 
@@ -17,7 +15,7 @@ use crate::lasts::lasts_of;
 use crate::parts::{PageSlot, SourceCount};
 use crate::rules::{are_in_order, are_pages, are_reports, are_sources};
 use hg_cells::KeptReport;
-use hg_model::limits::{MOST_EVENTS, SOURCE_NUMBERS, THREAD_NUMBERS};
+use hg_model::limits::{MOST_EVENTS, MOST_SEGMENTS, SOURCE_NUMBERS, THREAD_NUMBERS};
 use hg_model::segment::Segment;
 use hg_model::sets::NumberSet;
 use hg_model::state::TraceState;
@@ -73,8 +71,8 @@ fn push_if(number: u16, is_wanted: bool, numbers: &mut Vec<u16>) -> Result<(), A
 
 /// The threads that have a last segment.
 fn named_of(alloc: Global, lasts: &[Option<u32>]) -> Result<Vec<u16>, AllocError>
-    requires { length lasts.now ≡ 1024 }
-    ensures { (segments : List SegmentOf) → IsLastTable segments lasts.now → IfOk result (λ named. named.items ≡ named_threads segments) }
+    requires { length lasts.now ≡ THREAD_NUMBERS }
+    ensures { ForTable lasts.now (λ segments. IfOk result (λ named. named.items ≡ named_threads segments)) }
 {
     let mut named = Vec::new(alloc);
     for t in 0..THREAD_NUMBERS {
@@ -94,7 +92,7 @@ fn are_numbers(alloc: Global, threads: &[ThreadState], named: &[u16]) -> Result<
 /// The last number of each source, by the source's number.
 fn last_numbers(alloc: Global, sources: &[SourceCount]) -> Result<Vec<u64>, AllocError>
     requires { All (λ s. s.source ≤ 1023) sources.now }
-    ensures len { IfOk result (λ last. length last.items ≡ 1024) }
+    ensures len { IfOk result (λ last. length last.items ≡ SOURCE_NUMBERS) }
     ensures each { IfOk result (λ last. HaveLast sources.now last.items) }
 {
     let mut last = vec![in alloc; 0; SOURCE_NUMBERS]?;
@@ -118,9 +116,9 @@ fn are_counts(number: u64, events: u64, total: u64, kept: usize) -> bool
 
 /// The table of these sets, with room for 262,144.
 fn sets_of(alloc: Global, sets: &[NumberSet]) -> Result<SetTable, RootFault>
-    ensures table { IfOk result (λ table. table ≡ record { limit = 262144; sets = sets.now }) }
+    ensures table { IfOk result (λ table. table ≡ record { limit = MOST_SETS; sets = sets.now }) }
     ensures sets { IfOk result AreSets }
-    ensures damaged { IsErrOf result RootFault.Damaged → ¬ AreSets (record { limit = 262144; sets = sets.now }) }
+    ensures damaged { IsErrOf result RootFault.Damaged → ¬ AreSets (record { limit = MOST_SETS; sets = sets.now }) }
     ensures fault { IfErr result IsDamagedOrMemory }
 {
     match SetTable::restore(alloc, MOST_SETS, sets)? {
@@ -137,8 +135,8 @@ fn state_of(
     threads: &[ThreadState],
     sources: &[SourceCount],
 ) -> Result<TraceState, RootFault>
-    requires few_events { events ≤ 2 ^ 58 }
-    requires few_segments { segments ≤ 1048576 }
+    requires few_events { events ≤ MOST_EVENTS }
+    requires few_segments { segments ≤ MOST_SEGMENTS }
     requires sources { HaveSent events sources.now }
     ensures events { IfOk result (λ state. state.events ≡ events) }
     ensures segments { IfOk result (λ state. state.segments ≡ segments) }
@@ -164,13 +162,13 @@ fn checked(
     threads: &[ThreadState],
     back: Back,
 ) -> Result<Root, RootFault>
-    requires lasts { length lasts.now ≡ 1024 }
+    requires lasts { length lasts.now ≡ THREAD_NUMBERS }
     requires table { IsLastTable front.1.1.items lasts.now }
-    requires few_segments { length front.1.1.items ≤ 1048576 }
-    ensures parts { IfOk result (λ r. parts_of r ≡ made_parts front.0 front.1.0 front.1.1.items threads.now (seen back)) }
-    ensures checked { IfOk result (λ r. IsChecked (made_parts front.0 front.1.0 front.1.1.items threads.now (seen back))) }
+    requires few_segments { length front.1.1.items ≤ MOST_SEGMENTS }
+    ensures parts { IfOk result (λ r. parts_of r ≡ parts_read front threads.now back) }
+    ensures checked { IfOk result (λ r. IsChecked (parts_read front threads.now back)) }
     ensures known { IfOk result IsWhole }
-    ensures damaged { IsErrOf result RootFault.Damaged → ¬ IsChecked (made_parts front.0 front.1.0 front.1.1.items threads.now (seen back)) }
+    ensures damaged { IsErrOf result RootFault.Damaged → ¬ IsChecked (parts_read front threads.now back) }
     ensures fault { IfErr result IsDamagedOrMemory }
 {
     let (number, (events, segments)) = front;

@@ -1,5 +1,5 @@
 //! The rules of a body's lists.
-ghost use Rattle.std.specs.Prelude.{◌≡◌, ◌≢◌, ◌↔◌, ◌≤◌, ◌<◌, ◌^◌, map, sum, IsTrue, Contains, All, AllPairs, IfOk};
+ghost use Rattle.std.specs.Prelude.{◌≡◌, ◌≢◌, ◌↔◌, ◌≤◌, ◌<◌, map, sum, IsTrue, Contains, All, AllPairs, IfOk};
 ghost use Rattle.std.specs.List.Sorted.{IsStrictlyIncreasing};
 ghost use Rattle.hg_root.specs.Lawful.{AreInOrder, HaveSent, HaveSlots, IsBefore, IsReport};
 
@@ -131,7 +131,7 @@ fn pages_rise(pages: &[PageSlot]) -> bool
 
 /// Whether each page and each slot is one of the profile.
 fn each_within(pages: &[PageSlot]) -> bool
-    ensures { IsTrue result ↔ All (λ p. (p.page < 2 ^ 54) × (p.slot < 1048576)) pages.now }
+    ensures { IsTrue result ↔ All (λ p. (p.page < PAGES) × (p.slot < SLOTS)) pages.now }
 {
     for page in pages {
         if page.page >= PAGES || page.slot >= SLOTS {

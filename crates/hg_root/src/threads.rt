@@ -1,10 +1,9 @@
 //! The threads of a body, each with the locks that it holds.
-ghost use Rattle.std.specs.Prelude.{◌≡◌, ◌↔◌, ◌<◌, ℕ, List, Some, None, length, map, slice_index_or, IsTrue, MatchOption};
+ghost use Rattle.std.specs.Prelude.{◌≡◌, ◌↔◌, ◌<◌, Some, None, length, map, slice_index_or, IsTrue, MatchOption};
 ghost use Rattle.std.specs.List.Sorted.{IsStrictlyIncreasing};
-ghost use Rattle.hg_model.specs.declared.segment.Segment.{Segment as SegmentOf};
 ghost use Rattle.hg_root.specs.Lawful.{AreHeld};
-ghost use Rattle.hg_root.specs.Last.{IsLastTable};
-ghost use Rattle.hg_root.specs.Reading.{Gives, thread_at, times};
+ghost use Rattle.hg_root.specs.Last.{ForTable};
+ghost use Rattle.hg_root.specs.Reading.{Gives, thread_at, threads_at};
 
 use crate::fault::RootFault;
 use crate::piece::{alive_of, take_times, u8_at, u16_at, u32_at};
@@ -42,7 +41,7 @@ fn held_of(locks: &[HeldLock]) -> Option<HeldLocks>
 /// Whether this is the last segment of that thread.
 fn is_last(lasts: &[Option<u32>], thread: u16, last: u32) -> bool
     requires { length lasts.now ≡ THREAD_NUMBERS }
-    ensures { IsTrue result ↔ ((thread < 1024) × (slice_index_or lasts.now thread None ≡ Some last)) }
+    ensures { IsTrue result ↔ ((thread < THREAD_NUMBERS) × (slice_index_or lasts.now thread None ≡ Some last)) }
 {
     let place = usize::from(thread);
     place < THREAD_NUMBERS && lasts[place] == Some(last)
@@ -55,7 +54,7 @@ fn thread_of<'a>(
     bytes: &'a [u8],
 ) -> Result<(ThreadState, &'a [u8]), RootFault>
     requires { length lasts.now ≡ THREAD_NUMBERS }
-    ensures { (segments : List SegmentOf) → IsLastTable segments lasts.now → Gives (λ x. (x.0, x.1.now)) result (thread_at segments bytes.now) }
+    ensures { ForTable lasts.now (λ segments. Gives (λ x. (x.0, x.1.now)) result (thread_at segments bytes.now)) }
 {
     let (number, rest) = u16_at(bytes)?;
     let (alive, rest) = alive_of(rest)?;
@@ -86,7 +85,7 @@ pub(crate) fn threads_of<'a>(
     bytes: &'a [u8],
 ) -> Result<(Vec<ThreadState>, &'a [u8]), RootFault>
     requires { length lasts.now ≡ THREAD_NUMBERS }
-    ensures { (segments : List SegmentOf) → IsLastTable segments lasts.now → Gives (λ x. (x.0.items, x.1.now)) result (times (thread_at segments) count bytes.now) }
+    ensures { ForTable lasts.now (λ s. Gives (λ x. (x.0.items, x.1.now)) result (threads_at s count bytes.now)) }
 {
     let mut threads = Vec::new(alloc);
     let mut rest = bytes;

@@ -1,0 +1,159 @@
+//! Reading the events of a journal, one after the other.
+ghost use Rattle.std.specs.Prelude.{◌≡◌, ◌⊎◌, ◌<◌, ◌≤◌, ℕ, List, IsTrue, IfOk, IfErr, IfSome, IfNone, IsErrOf, Err};
+ghost use Rattle.hg_model.specs.declared.event.Named.{Named as NamedOf};
+ghost use Rattle.hg_disk.specs.Calls.{CallsAtMost};
+ghost use Rattle.hg_disk.specs.Moments.{AddsNoImage};
+ghost use Rattle.hg_records.specs.Records.{BeginsWith};
+ghost use Rattle.hg_records.specs.Lengths.{HasNoRecord};
+ghost use Rattle.hg_journal.specs.Journal.{IsOfReading, failed_after};
+ghost use Rattle.hg_journal.specs.Reading.{BeginsAtFirst, CanBeTriedAgain, FindsMore, FindsUndamaged, HasReadAll, Keeps, Opens, Passes, ReadsMore, ReadsNext, StaysOnErr, TellsTrueDamage, disk_of, is_broken, rest_of};
+
+use crate::journal::{Journal, JournalReader, refusal_of};
+use hg_disk::Disk;
+use hg_model::event::Named;
+use hg_model::verdict::Refusal;
+use hg_records::record::{read_record, record_len};
+
+impl JournalReader {
+    // Takes the record at the front of what is left of the present batch, if there is one.
+    fn take(&mut self) -> Option<Named>
+        ensures some { IfSome result (λ named. BeginsWith (rest_of self.old) named (rest_of self.new)) }
+        ensures none { IfNone result (HasNoRecord (rest_of self.old)) }
+        ensures place { self.new.place ≡ self.old.place }
+        ensures stays { IfNone result (self.new ≡ self.old) }
+    {
+        let (named, len) = read_record(&self.body[self.at..])?;
+        self.at += len;
+        Some(named)
+    }
+
+    // Passes over records at the front of what is left of the present batch, at most so many, and says how many.
+    fn pass(&mut self, most: u64) -> u64
+        ensures few { result ≤ most }
+        ensures passed { Passes result (rest_of self.old) (rest_of self.new) }
+        ensures none { result < most → HasNoRecord (rest_of self.new) }
+        ensures place { self.new.place ≡ self.old.place }
+    {
+        let mut count = 0;
+        while count < most {
+            let Some(len) = record_len(&self.body[self.at..]) else {
+                return count;
+            };
+            self.at += len;
+            count += 1;
+        }
+        count
+    }
+}
+
+impl<D: Disk> Journal<D> {
+    /// The events, from the first on, for `next`. It takes no memory.
+    pub fn events(&self) -> Result<JournalReader, Refusal>
+        ensures first { BeginsAtFirst self.now result }
+        ensures fault { IfErr result (λ e. (e ≡ Refusal.Broken) × IsTrue (is_broken self.now)) }
+        ensures refuses { IsTrue (is_broken self.now) → result ≡ Err Refusal.Broken }
+    {
+        match self.log.batches() {
+            Ok(place) => Ok(JournalReader {
+                place,
+                body: Vec::new(*self.body.allocator()),
+                at: 0,
+            }),
+            Err(fault) => Err(refusal_of(fault)),
+        }
+    }
+
+    // Goes on to a batch of which there are bytes left, and says whether there is one.
+    fn find(&mut self, reader: &mut JournalReader) -> Result<bool, Refusal>
+        ensures found { FindsMore self.old reader.old self.new reader.new result }
+        ensures whole { FindsUndamaged self.old reader.old result }
+        ensures again { StaysOnErr self.old reader.old self.new reader.new result }
+        ensures keeps { (events : List NamedOf) → Keeps self.old events → Keeps self.new events }
+        ensures opens { (bodies : List (List ℕ)) → Opens self.old bodies → Opens self.new bodies }
+        ensures state { D.state (disk_of self.new) ≡ D.state (disk_of self.old) }
+        ensures any_moment { AddsNoImage ⟦<D as Disk>⟧ (disk_of self.old) (disk_of self.new) }
+        ensures fault { IfErr result (λ e. IsOfReading e ⊎ (e ≡ Refusal.Broken)) }
+        ensures calls { CallsAtMost ⟦<D as Disk>⟧ 2 (disk_of self.old) (disk_of self.new) }
+        ensures device { D.failures (disk_of self.new) ≡ failed_after result (D.failures (disk_of self.old)) }
+        ensures broken { IsErrOf result Refusal.Broken → IsTrue (is_broken self.old) }
+        ensures refuses { IsTrue (is_broken self.old) → result ≡ Err Refusal.Broken }
+        ensures same { IsTrue (is_broken self.old) → self.new ≡ self.old }
+        ensures broken_or_not { is_broken self.new ≡ is_broken self.old }
+    {
+        if let Err(fault) = self.log.batches() {
+            return Err(refusal_of(fault));
+        }
+        if reader.at < reader.body.len() {
+            return Ok(true);
+        }
+        match self.log.next_batch(&mut reader.place) {
+            Ok(Some(batch)) => {
+                reader.body = batch.into_body();
+                reader.at = 0;
+                Ok(true)
+            }
+            Ok(None) => Ok(false),
+            Err(fault) => Err(refusal_of(fault)),
+        }
+    }
+
+    /// Reads the next event, or none behind the last. After an `Err` it can be tried again; `Damaged` says that the
+    /// bytes are none of a journal. It makes two device calls at most, and takes memory for one batch alone.
+    pub fn next(&mut self, reader: &mut JournalReader) -> Result<Option<Named>, Refusal>
+        ensures next { ReadsNext self.old reader.old self.new reader.new result }
+        ensures damaged { TellsTrueDamage self.old reader.old result }
+        ensures again { CanBeTriedAgain self.old reader.old self.new reader.new result }
+
+        // The journal stays as it is.
+        ensures broken_or_not { is_broken self.new ≡ is_broken self.old }
+        ensures keeps { (events : List NamedOf) → Keeps self.old events → Keeps self.new events }
+        ensures opens { (bodies : List (List ℕ)) → Opens self.old bodies → Opens self.new bodies }
+        ensures state { D.state (disk_of self.new) ≡ D.state (disk_of self.old) }
+        ensures any_moment { AddsNoImage ⟦<D as Disk>⟧ (disk_of self.old) (disk_of self.new) }
+        ensures fault { IfErr result (λ e. IsOfReading e ⊎ (e ≡ Refusal.Broken)) }
+        ensures calls { CallsAtMost ⟦<D as Disk>⟧ 2 (disk_of self.old) (disk_of self.new) }
+        ensures device { D.failures (disk_of self.new) ≡ failed_after result (D.failures (disk_of self.old)) }
+        ensures broken { IsErrOf result Refusal.Broken → IsTrue (is_broken self.old) }
+        ensures refuses { IsTrue (is_broken self.old) → result ≡ Err Refusal.Broken }
+        ensures same { IsTrue (is_broken self.old) → self.new ≡ self.old }
+    {
+        if !self.find(reader)? {
+            return Ok(None);
+        }
+        match reader.take() {
+            Some(named) => Ok(Some(named)),
+            None => Err(Refusal::Damaged),
+        }
+    }
+
+    /// Passes over events of one batch, and answers how many: `most` of them, or as many as the batch has left. Behind the
+    /// last event, and only there, it answers 0. It makes no events of their bytes, so it is much faster than `next`. After an
+    /// `Err` it can be tried again; `Damaged` says that the bytes are none of a journal. It makes two device calls at most, and
+    /// takes memory for one batch alone.
+    pub fn pass(&mut self, reader: &mut JournalReader, most: u64) -> Result<u64, Refusal>
+        requires some { 0 < most }
+        ensures few { IfOk result (λ count. count ≤ most) }
+        ensures passed { ReadsMore self.old reader.old self.new reader.new result }
+        ensures at_end { HasReadAll self.old reader.old self.new result }
+        ensures damaged { TellsTrueDamage self.old reader.old result }
+
+        // The journal stays as it is.
+        ensures broken_or_not { is_broken self.new ≡ is_broken self.old }
+        ensures state { D.state (disk_of self.new) ≡ D.state (disk_of self.old) }
+        ensures any_moment { AddsNoImage ⟦<D as Disk>⟧ (disk_of self.old) (disk_of self.new) }
+        ensures fault { IfErr result (λ e. IsOfReading e ⊎ (e ≡ Refusal.Broken)) }
+        ensures calls { CallsAtMost ⟦<D as Disk>⟧ 2 (disk_of self.old) (disk_of self.new) }
+        ensures device { D.failures (disk_of self.new) ≡ failed_after result (D.failures (disk_of self.old)) }
+        ensures broken { IsErrOf result Refusal.Broken → IsTrue (is_broken self.old) }
+        ensures refuses { IsTrue (is_broken self.old) → result ≡ Err Refusal.Broken }
+    {
+        if !self.find(reader)? {
+            return Ok(0);
+        }
+        let count = reader.pass(most);
+        if count == 0 {
+            return Err(Refusal::Damaged);
+        }
+        Ok(count)
+    }
+}
