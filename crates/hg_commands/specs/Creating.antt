@@ -5,9 +5,10 @@ use Rattle.hg_model.specs.declared.verdict.Refusal.TheVariants.{DeviceFault, Out
 use Rattle.hg_disk.specs.declared.disk.Disk as disk
 use Rattle.hg_disk.specs.State.{settled}
 use Rattle.hg_model.specs.Change.{empty_content}
-use Rattle.hg_contents.specs.Images.{HasContent}
+use Rattle.hg_contents.specs.Images.{HasContent, Image}
+use Rattle.hg_contents.specs.Stores.{IsLeft}
 use Rattle.hg_store.specs.declared.devices.Devices.{Devices}
-use Rattle.hg_store.specs.Images.{EachImage}
+use Rattle.hg_store.specs.Images.{EachImage, states_of}
 use Rattle.hg_store.specs.Recovering.{IsEmpty}
 use Rattle.hg_streams.specs.declared.call.WriteCall.{WriteCall}
 use Rattle.hg_streams.specs.Calls.{failed_writes}
@@ -33,6 +34,10 @@ module _ {D : Type 0} (g : disk.Ghosts D) where
     pub slots : IsEmptied old.slots new.slots
     pub root0 : IsEmptied old.root0 new.root0
     pub root1 : IsEmptied old.root1 new.root1
+
+  -- Whatever a crash leaves of the devices is a store with no event.
+  abbrev pub LeavesAnEmptyStore : Devices D → Type 0
+  LeavesAnEmptyStore devices = (image : Image) → IsLeft (states_of g devices) image → HasContent image empty_content
 
   -- What is left of the devices: those that had bytes are as they were, and those that had none have none again.
   abbrev pub IsLeftBy : Devices D → Devices D → Devices D → Type 0

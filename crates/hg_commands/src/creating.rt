@@ -3,12 +3,9 @@
 ghost use Rattle.std.specs.Prelude.{◌≡◌, ◌⊎◌, [], Ok, Err, OnErr, OnOk, IfOk, IfErr, codes};
 ghost use Rattle.hg_check.specs.Printing.{Took};
 ghost use Rattle.hg_disk.specs.State.{counted, settled};
-ghost use Rattle.hg_model.specs.Change.{empty_content};
-ghost use Rattle.hg_contents.specs.Images.{HasContent, Image};
-ghost use Rattle.hg_contents.specs.Stores.{IsLeft};
-ghost use Rattle.hg_store.specs.Images.{failures_of, read_of, states_of};
+ghost use Rattle.hg_store.specs.Images.{failures_of, read_of};
 ghost use Rattle.hg_store.specs.Recovering.{IsEmpty, empty_image};
-ghost use Rattle.hg_commands.specs.Creating.{CreatedIsKept, EndsByCreateFault, HasCreateCause, IsCleared, WroteAnswer};
+ghost use Rattle.hg_commands.specs.Creating.{CreatedIsKept, EndsByCreateFault, HasCreateCause, IsCleared, LeavesAnEmptyStore, WroteAnswer};
 ghost use Rattle.hg_commands.specs.Instants.{instant};
 
 use crate::moment::{Moment, Outcome};
@@ -54,15 +51,16 @@ fn make_and_print<D: Disk, W: Write>(
 ) -> (Result<u8, Refusal>, Devices<D>)
     requires none { moments.old ≡ [] }
     ensures status { IfOk result.0 (λ s. (s ≡ 0) ⊎ (s ≡ 2)) }
-    ensures durable { result.0 ≡ Ok 0 → (image : Image) → IsLeft (states_of ⟦<D as Disk>⟧ result.1) image → HasContent image empty_content }
+    ensures durable { result.0 ≡ Ok 0 → LeavesAnEmptyStore ⟦<D as Disk>⟧ result.1 }
     ensures created { result.0 ≡ Ok 0 → IsEmpty ⟦<D as Disk>⟧ devices × (read_of ⟦<D as Disk>⟧ result.1 ≡ empty_image)
         × Took output.old.calls output.new.calls (codes "created\n") }
     ensures not_empty { result.0 ≡ Ok 2 → ¬ IsEmpty ⟦<D as Disk>⟧ devices × (result.1 ≡ devices)
         × Took output.old.calls output.new.calls (codes "not empty\n") }
     ensures front { OnErr result.0 (WroteAnswer ⟦<D as Disk>⟧ devices output.old.calls output.new.calls) }
     ensures device { OnOk result.0 (failures_of ⟦<D as Disk>⟧ result.1 ≡ failures_of ⟦<D as Disk>⟧ devices) }
-    ensures cause { IfErr result.0 (λ r. HasCreateCause ⟦<D as Disk>⟧ devices result.1 output.old.calls output.new.calls r) }
-    ensures kept { CreatedIsKept ⟦<D as Disk>⟧ (instant devices output.old.calls) moments.new (instant result.1 output.new.calls) }
+    ensures cause { IfErr result.0 (HasCreateCause ⟦<D as Disk>⟧ devices result.1 output.old.calls output.new.calls) }
+    ensures kept { CreatedIsKept ⟦<D as Disk>⟧ (instant devices output.old.calls)
+        moments.new (instant result.1 output.new.calls) }
 {
     match Store::create(alloc, devices, 64, Caps::profile()) {
         Ok(store) => {
@@ -96,15 +94,19 @@ pub fn create_store<D: Disk, W: Write, V: Write>(
     faults: &mut Output<V>,
 ) -> Outcome<D, W>
     ensures status { (result.status ≡ 0) ⊎ ((result.status ≡ 2) ⊎ (result.status ≡ 3)) }
-    ensures durable { result.status ≡ 0 → (image : Image) → IsLeft (states_of ⟦<D as Disk>⟧ result.devices) image → HasContent image empty_content }
-    ensures created { result.status ≡ 0 → IsEmpty ⟦<D as Disk>⟧ devices × (read_of ⟦<D as Disk>⟧ result.devices ≡ empty_image)
+    ensures durable { result.status ≡ 0 → LeavesAnEmptyStore ⟦<D as Disk>⟧ result.devices }
+    ensures created { result.status ≡ 0 → IsEmpty ⟦<D as Disk>⟧ devices
+        × (read_of ⟦<D as Disk>⟧ result.devices ≡ empty_image)
         × Took output.old.calls output.new.calls (codes "created\n") }
     ensures not_empty { result.status ≡ 2 → ¬ IsEmpty ⟦<D as Disk>⟧ devices × (result.devices ≡ devices)
         × Took output.old.calls output.new.calls (codes "not empty\n") }
-    ensures device { (result.status ≡ 3 → ⊥) → failures_of ⟦<D as Disk>⟧ result.devices ≡ failures_of ⟦<D as Disk>⟧ devices }
+    ensures device { (result.status ≡ 3 → ⊥)
+        → failures_of ⟦<D as Disk>⟧ result.devices ≡ failures_of ⟦<D as Disk>⟧ devices }
     ensures quiet { (result.status ≡ 3 → ⊥) → Took faults.old.calls faults.new.calls [] }
-    ensures fault { result.status ≡ 3 → EndsByCreateFault ⟦<D as Disk>⟧ devices result.devices output.old.calls output.new.calls faults.old.calls faults.new.calls }
-    ensures kept { CreatedIsKept ⟦<D as Disk>⟧ (instant devices output.old.calls) result.moments (instant result.devices output.new.calls) }
+    ensures fault { result.status ≡ 3 → EndsByCreateFault ⟦<D as Disk>⟧ devices result.devices
+        output.old.calls output.new.calls faults.old.calls faults.new.calls }
+    ensures kept { CreatedIsKept ⟦<D as Disk>⟧ (instant devices output.old.calls)
+        result.moments (instant result.devices output.new.calls) }
 {
     let mut moments = Trail::new();
     let (made, devices) = make_and_print(alloc, devices, output, &mut moments);

@@ -18,7 +18,7 @@ use crate::opening::open_store;
 use crate::printing::{print_now, print_number};
 use hg_check::checker::Ending;
 use hg_check::commands::status_of_end;
-use hg_check::printing::hold_stop;
+use hg_check::holding::hold_stop;
 use hg_check::run::ended;
 use hg_check::telling::tell;
 use hg_disk::Disk;
@@ -259,7 +259,8 @@ pub fn feed<D: Disk, R: Read, W: Write, V: Write>(
     requires { (4 ≤ frames) × (frames ≤ 4096) }
     ensures fed { FedOrFault ⟦<D as Disk>⟧ source checkpoint devices input.old input.new output.old output.new result }
     ensures quiet { (result.status ≡ 3 → ⊥) → Took faults.old.calls faults.new.calls [] }
-    ensures fault { result.status ≡ 3 → EndsByFeedFault ⟦<D as Disk>⟧ source devices result.devices input.old.calls input.new.calls output.old.calls output.new.calls faults.old.calls faults.new.calls }
+    ensures fault { result.status ≡ 3 → EndsByFeedFault ⟦<D as Disk>⟧ source devices result.devices
+        input.old.calls input.new.calls output.old.calls output.new.calls faults.old.calls faults.new.calls }
     ensures kept { AcksAreKept ⟦<D as Disk>⟧ devices output.old result.moments result.devices output.new }
 {
     let (done, devices, moments) = recover_and_feed(

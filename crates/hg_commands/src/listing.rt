@@ -1,20 +1,21 @@
 //! The commands that print what a store holds.
 
-ghost use Rattle.std.specs.Prelude.{◌≡◌, ◌⊎◌, ◌++◌, ◌+◌, ◌≤◌, [], ℕ, List, Option, Ok, Err, OnErr, OnOk, IfErr, IsTrue, true, false};
+ghost use Rattle.std.specs.Prelude.{◌≡◌, ◌⊎◌, ◌++◌, ◌+◌, ◌≤◌, [], Ok, Err, OnErr, OnOk, IfErr, IsTrue, true, false};
 ghost use Rattle.hg_streams.specs.Calls.{failed_writes};
 ghost use Rattle.hg_streams.specs.Told.{told};
-ghost use Rattle.hg_streams.specs.declared.call.WriteCall.{WriteCall};
 ghost use Rattle.hg_model.specs.Contents.{Content};
 ghost use Rattle.hg_contents.specs.Images.{HasContent};
 ghost use Rattle.hg_store.specs.Images.{Recovers, failures_of, read_of};
 ghost use Rattle.hg_store.specs.Shown.{live};
+ghost use Rattle.hg_check.specs.Holding.{HoldsOrWrites, WritesFront};
 ghost use Rattle.hg_check.specs.Printing.{IsDue, Took, line_text, reports_text, segments_text};
 ghost use Rattle.hg_commands.specs.Storing.{EndsByStoreFault, HasStoreCause, WroteListing, listing_text, store_end_line};
 ghost use Rattle.hg_check.specs.Written.{TookFront};
 ghost use Rattle.hg_check.specs.Streaming.{IsStreamFault};
 
 use crate::opening::open_store;
-use hg_check::printing::{hold_report, out_of_memory, print_segments, write_large};
+use hg_check::holding::{end_line, hold_report};
+use hg_check::printing::{print_segments, write_if_large};
 use hg_check::streams::write_out;
 use hg_check::telling::tell;
 use hg_disk::Disk;
@@ -39,14 +40,15 @@ pub enum Listing {
 /// Holds the end line of a store that works: the counts of its accepted events, its reports and its segments.
 pub fn hold_end_line<D: Disk>(store: &Store<D>, held: &mut Vec<u8>) -> Result<(), Refusal>
     requires works { store.now.is_broken ≡ false }
-    ensures ok { OnOk result (held.new.items ≡ held.old.items ++ line_text (store_end_line (live ⟦<D as Disk>⟧ store.now))) }
+    ensures ok { OnOk result (held.new.items ≡ held.old.items
+        ++ line_text (store_end_line (live ⟦<D as Disk>⟧ store.now))) }
     ensures cause { IfErr result (λ r. r ≡ Refusal.OutOfMemory) }
 {
     let events = store.events()?;
     let races = store.total()?;
     let segments = store.graph()?.len() as u64;
-    put_end_line(events, races, segments, held).map_err(out_of_memory)?;
-    held.extend_from_slice(b"\n").map_err(out_of_memory)
+    put_end_line(events, races, segments, held)?;
+    end_line(held)
 }
 
 /// Prints the lines of kept reports.
@@ -55,19 +57,16 @@ fn print_kept<W: Write>(
     held: &mut Vec<u8>,
     output: &mut Output<W>,
 ) -> Result<(), Refusal>
-    ensures printed { (first : List WriteCall) (rest goal : List ℕ)
-        → IsDue first output.old.calls held.old.items (reports_text 1 reports.now ++ rest) goal
-        → OnOk result (IsDue first output.new.calls held.new.items rest goal) }
-    ensures front { (first : List WriteCall) (rest goal : List ℕ)
-        → IsDue first output.old.calls held.old.items (reports_text 1 reports.now ++ rest) goal
-        → OnErr result (TookFront first output.new.calls goal) }
+    ensures printed { HoldsOrWrites (reports_text 1 reports.now)
+        output.old.calls held.old.items result output.new.calls held.new.items }
+    ensures front { WritesFront (reports_text 1 reports.now) output.old.calls held.old.items result output.new.calls }
     ensures cause { IfErr result IsStreamFault }
     ensures fault { failed_writes output.new.calls ≡ told result + failed_writes output.old.calls }
 {
     let mut before = 0;
     for report in reports {
         hold_report(before + 1, report, held)?;
-        write_large(held, output)?;
+        write_if_large(held, output)?;
         before += 1;
     }
     Ok(())
@@ -83,8 +82,10 @@ fn print_listing<D: Disk, W: Write>(
 ) -> Result<(), Refusal>
     requires works { store.now.is_broken ≡ false }
     requires none { held.old.items ≡ [] }
-    ensures printed { OnOk result (IsDue output.old.calls output.new.calls held.new.items [] (listing_text listing (live ⟦<D as Disk>⟧ store.now))) }
-    ensures front { OnErr result (TookFront output.old.calls output.new.calls (listing_text listing (live ⟦<D as Disk>⟧ store.now))) }
+    ensures printed { OnOk result (IsDue output.old.calls output.new.calls held.new.items []
+        (listing_text listing (live ⟦<D as Disk>⟧ store.now))) }
+    ensures front { OnErr result (TookFront output.old.calls output.new.calls
+        (listing_text listing (live ⟦<D as Disk>⟧ store.now))) }
     ensures cause { IfErr result IsStreamFault }
     ensures fault { failed_writes output.new.calls ≡ told result + failed_writes output.old.calls }
 {
@@ -106,8 +107,10 @@ fn print_store<D: Disk, W: Write>(
     output: &mut Output<W>,
 ) -> Result<(), Refusal>
     requires works { store.now.is_broken ≡ false }
-    ensures printed { OnOk result (Took output.old.calls output.new.calls (listing_text listing (live ⟦<D as Disk>⟧ store.now))) }
-    ensures front { OnErr result (TookFront output.old.calls output.new.calls (listing_text listing (live ⟦<D as Disk>⟧ store.now))) }
+    ensures printed { OnOk result (Took output.old.calls output.new.calls
+        (listing_text listing (live ⟦<D as Disk>⟧ store.now))) }
+    ensures front { OnErr result (TookFront output.old.calls output.new.calls
+        (listing_text listing (live ⟦<D as Disk>⟧ store.now))) }
     ensures cause { IfErr result IsStreamFault }
     ensures fault { failed_writes output.new.calls ≡ told result + failed_writes output.old.calls }
 {
@@ -131,7 +134,7 @@ fn recover_and_print<D: Disk, W: Write>(
         × Took output.old.calls output.new.calls (listing_text listing c)) }
     ensures front { OnErr result.0 (WroteListing ⟦<D as Disk>⟧ listing devices output.old.calls output.new.calls) }
     ensures device { OnOk result.0 (failures_of ⟦<D as Disk>⟧ result.1 ≡ failures_of ⟦<D as Disk>⟧ devices) }
-    ensures cause { IfErr result.0 (λ r. HasStoreCause ⟦<D as Disk>⟧ devices result.1 output.old.calls output.new.calls r) }
+    ensures cause { IfErr result.0 (HasStoreCause ⟦<D as Disk>⟧ devices result.1 output.old.calls output.new.calls) }
     ensures images { IsTrue D.is_honest → Recovers ⟦<D as Disk>⟧ devices result.1 }
 {
     match open_store(alloc, devices, frames) {
@@ -158,7 +161,8 @@ fn list_store<D: Disk, W: Write, V: Write>(
         × Took output.old.calls output.new.calls (listing_text listing c) }
     ensures device { result.0 ≡ 0 → failures_of ⟦<D as Disk>⟧ result.1 ≡ failures_of ⟦<D as Disk>⟧ devices }
     ensures quiet { result.0 ≡ 0 → Took faults.old.calls faults.new.calls [] }
-    ensures fault { result.0 ≡ 3 → EndsByStoreFault ⟦<D as Disk>⟧ listing devices result.1 output.old.calls output.new.calls faults.old.calls faults.new.calls }
+    ensures fault { result.0 ≡ 3 → EndsByStoreFault ⟦<D as Disk>⟧ listing devices result.1
+        output.old.calls output.new.calls faults.old.calls faults.new.calls }
     ensures images { IsTrue D.is_honest → Recovers ⟦<D as Disk>⟧ devices result.1 }
 {
     let (printed, devices) = recover_and_print(alloc, devices, frames, listing, output);
@@ -188,7 +192,8 @@ pub fn store_reports<D: Disk, W: Write, V: Write>(
         × Took output.old.calls output.new.calls (reports_text 1 c.reports ++ line_text (store_end_line c)) }
     ensures device { result.0 ≡ 0 → failures_of ⟦<D as Disk>⟧ result.1 ≡ failures_of ⟦<D as Disk>⟧ devices }
     ensures quiet { result.0 ≡ 0 → Took faults.old.calls faults.new.calls [] }
-    ensures fault { result.0 ≡ 3 → EndsByStoreFault ⟦<D as Disk>⟧ Listing.Reports devices result.1 output.old.calls output.new.calls faults.old.calls faults.new.calls }
+    ensures fault { result.0 ≡ 3 → EndsByStoreFault ⟦<D as Disk>⟧ Listing.Reports devices result.1
+        output.old.calls output.new.calls faults.old.calls faults.new.calls }
     ensures images { IsTrue D.is_honest → Recovers ⟦<D as Disk>⟧ devices result.1 }
 {
     list_store(alloc, devices, frames, Listing::Reports, output, faults)
@@ -208,7 +213,8 @@ pub fn store_graph<D: Disk, W: Write, V: Write>(
         × Took output.old.calls output.new.calls (segments_text 0 c.segments) }
     ensures device { result.0 ≡ 0 → failures_of ⟦<D as Disk>⟧ result.1 ≡ failures_of ⟦<D as Disk>⟧ devices }
     ensures quiet { result.0 ≡ 0 → Took faults.old.calls faults.new.calls [] }
-    ensures fault { result.0 ≡ 3 → EndsByStoreFault ⟦<D as Disk>⟧ Listing.Segments devices result.1 output.old.calls output.new.calls faults.old.calls faults.new.calls }
+    ensures fault { result.0 ≡ 3 → EndsByStoreFault ⟦<D as Disk>⟧ Listing.Segments devices result.1
+        output.old.calls output.new.calls faults.old.calls faults.new.calls }
     ensures images { IsTrue D.is_honest → Recovers ⟦<D as Disk>⟧ devices result.1 }
 {
     list_store(alloc, devices, frames, Listing::Segments, output, faults)

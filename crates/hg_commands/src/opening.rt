@@ -1,12 +1,9 @@
 //! Opening a store.
 
 ghost use Rattle.std.specs.Prelude.{◌≡◌, ◌≤◌, IfOk, IfErr, IsTrue};
-ghost use Rattle.hg_model.specs.Contents.{Content};
-ghost use Rattle.hg_contents.specs.Images.{HasContent};
-ghost use Rattle.hg_store.specs.Images.{Recovers, failures_of, read_of};
-ghost use Rattle.hg_store.specs.Recovering.{HasTable, made_of};
-ghost use Rattle.hg_store.specs.Shown.{live};
-ghost use Rattle.hg_store.specs.Store.{IsFresh, IsIdle};
+ghost use Rattle.hg_store.specs.Images.{Recovers, failures_of};
+ghost use Rattle.hg_store.specs.Recovering.{HasItsTable, IsRecovered, made_of};
+ghost use Rattle.hg_store.specs.Store.{IsIdle};
 ghost use Rattle.hg_commands.specs.Storing.{IsCounted, IsTrueOf};
 
 use hg_disk::Disk;
@@ -24,11 +21,13 @@ pub fn open_store<D: Disk>(
 ) -> Result<Store<D>, (Refusal, Devices<D>)>
     requires { (4 ≤ frames) × (frames ≤ 4096) }
     ensures idle { IfOk result IsIdle }
-    ensures content { IsTrue D.is_honest → IfOk result (λ store. (c : Content) × HasContent (read_of ⟦<D as Disk>⟧ devices) c × IsFresh ⟦<D as Disk>⟧ store c) }
-    ensures sets { IsTrue D.is_honest → IfOk result (λ store. HasTable 262144 (read_of ⟦<D as Disk>⟧ devices) (live ⟦<D as Disk>⟧ store) store.detector.sets) }
-    ensures device { IfOk result (λ store. failures_of ⟦<D as Disk>⟧ store.devices ≡ failures_of ⟦<D as Disk>⟧ devices) }
+    ensures content { IsTrue D.is_honest → IfOk result (IsRecovered ⟦<D as Disk>⟧ devices) }
+    ensures sets { IsTrue D.is_honest → IfOk result (HasItsTable ⟦<D as Disk>⟧ 262144 devices) }
+    ensures device { IfOk result (λ store.
+        failures_of ⟦<D as Disk>⟧ store.devices ≡ failures_of ⟦<D as Disk>⟧ devices) }
     ensures cause { IfErr result (λ e. IsTrueOf ⟦<D as Disk>⟧ devices e.0) }
-    ensures fault { IfErr result (λ e. IsCounted e.0 (failures_of ⟦<D as Disk>⟧ devices) (failures_of ⟦<D as Disk>⟧ e.1)) }
+    ensures fault { IfErr result (λ e.
+        IsCounted e.0 (failures_of ⟦<D as Disk>⟧ devices) (failures_of ⟦<D as Disk>⟧ e.1)) }
     ensures images { IsTrue D.is_honest → Recovers ⟦<D as Disk>⟧ devices (made_of result) }
 {
     match Store::recover(alloc, devices, frames, Caps::profile()) {

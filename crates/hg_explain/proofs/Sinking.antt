@@ -15,7 +15,7 @@ use Rattle.hg_wire.specs.declared.reader.Reading.{Reading}
 use Rattle.hg_reading.specs.Taking.{as_stop}
 use Rattle.hg_check.specs.declared.checker.Ending.{Ending}
 use Rattle.hg_check.specs.Holding.{IsDue}
-use Rattle.hg_check.specs.Running.{HasFew, LeadsFrom, ReportsGrow, Steps}
+use Rattle.hg_check.specs.Running.{Steps}
 use Rattle.hg_check.specs.Streaming.{HasWriteCause}
 use Rattle.hg_check.specs.TakingLaws.{steps_none}
 use Rattle.hg_check.specs.Written.{TookFront}
@@ -25,8 +25,8 @@ use Rattle.hg_explain.specs.declared.explaining.Explaining.{Explaining}
 use Rattle.hg_explain.specs.declared.form.Asked.{Asked}
 use Rattle.hg_explain.specs.declared.form.Form.{Form}
 use Rattle.hg_explain.specs.Life.{life, look_of, more_text}
-use Rattle.hg_explain.specs.Taking.{Adds, IsReady, Takes}
-use Rattle.hg_explain.specs.Telling.{Stays, Tells, WentOn}
+use Rattle.hg_explain.specs.Taking.{Adds, IsReady, PassesLine, Takes}
+use Rattle.hg_explain.specs.Telling.{Stays, Tells}
 
 adds_line : (w : ℕ) (form : Form) (c d : Content) (k j : ℕ) (reading : Reading) (held kept : List ℕ) → (t : Tells w form c k reading d j held kept) → Adds w form c k (reading ∷ []) (Ok None) d j t.added
 adds_line w form c d k j reading held kept t = record {
@@ -60,26 +60,6 @@ adds_any w form c d k j lines x = record {
   counted = λ fine. absurd (fine x refl);
   on = λ is. absurd (cc);
   ends = λ end is. absurd (cc);
-}
-
-steps_line : (d e : Detector PagedWords) (reading : Reading) (r : Result (Option Ending) Refusal)
-    → (r ≡ Ok None → WentOn d e reading)
-    → ((later : List Reading) (end : Ending) → r ≡ Ok (Some end) → LeadsFrom d (reading ∷ later) (content_of e) end)
-    → ((later : List Reading) (last : Content) (end : Ending) → HasFew (content_of d) → LeadsFrom d (reading ∷ later) last end → ReportsGrow (content_of e) last)
-    → (HasFew (content_of d) → HasFew (content_of e))
-    → (content_of e).last 0 ≤ (content_of d).last 0 + 1
-    → ReportsGrow (content_of d) (content_of e)
-    → IsWhole e
-    → Steps d (reading ∷ []) r e
-steps_line d e reading r went ended front few counted reports whole = record {
-  leads = λ is later last end h. (went is).leads later last end h;
-  back = λ is later last end h. (went is).back later last end h;
-  ends = λ end is later. ended later end is;
-  front = λ never later last end few_before h. front later last end few_before h;
-  few = few;
-  reports = reports;
-  counted = omega (arith, counted);
-  whole = λ before. whole;
 }
 
 -- A line was passed.
@@ -138,25 +118,10 @@ takes_broken old new calls reading y asked steps memory = record {
 }
 
 -- One line was offered.
-pub takes_line : (old new : Explaining) (calls : List WriteCall) (reading : Reading) (r : Result (Option Ending) Refusal) → IsReady old → new.asked ≡ old.asked
-    → (r ≡ Ok None → WentOn old.detector new.detector reading)
-    → (r ≡ Ok None → Tells old.asked.word old.asked.form (content_of old.detector) old.more reading (content_of new.detector) new.more old.held.items new.held.items)
-    → (r ≡ Ok None → new.look ≡ look_of ((content_of new.detector).words old.asked.word))
-    → ((later : List Reading) (end : Ending) → r ≡ Ok (Some end) → LeadsFrom old.detector (reading ∷ later) (content_of new.detector) end)
-    → ((end : Ending) → r ≡ Ok (Some end) → Stays old.detector old.more old.held.items new.detector new.more new.held.items)
-    → ((later : List Reading) (last : Content) (end : Ending) → HasFew (content_of old.detector) → LeadsFrom old.detector (reading ∷ later) last end → ReportsGrow (content_of new.detector) last)
-    → (HasFew (content_of old.detector) → HasFew (content_of new.detector))
-    → (content_of new.detector).last 0 ≤ (content_of old.detector).last 0 + 1
-    → ReportsGrow (content_of old.detector) (content_of new.detector)
-    → IsWhole new.detector
-    → IfErr r (λ x. x ≡ OutOfMemory)
-    → Takes old calls (reading ∷ []) r new calls
-takes_line old new calls reading (Ok None) is_ready asked went tells looks ended stays front few counted reports whole memory =
-    takes_passed old new calls reading is_ready asked (steps_line old.detector new.detector reading (Ok None) went ended front few counted reports whole) whole (tells refl) (looks refl)
-takes_line old new calls reading (Ok (Some end)) is_ready asked went tells looks ended stays front few counted reports whole memory =
-    takes_stop old new calls reading end asked (steps_line old.detector new.detector reading (Ok (Some end)) went ended front few counted reports whole) (stays end refl)
-takes_line old new calls reading (Err y) is_ready asked went tells looks ended stays front few counted reports whole memory =
-    takes_broken old new calls reading y asked (steps_line old.detector new.detector reading (Err y) went ended front few counted reports whole) memory
+pub takes_line : (old new : Explaining) (calls : List WriteCall) (line : Reading) (r : Result (Option Ending) Refusal) → IsReady old → PassesLine old line r new → Takes old calls (line ∷ []) r new calls
+takes_line old new calls line (Ok None) ready p = takes_passed old new calls line ready p.asked p.steps (p.steps.whole ready.whole) (p.tells refl) (p.looks refl ∙ ap (λ (q : Asked). look_of ((content_of new.detector).words q.word)) p.asked)
+takes_line old new calls line (Ok (Some end)) ready p = takes_stop old new calls line end p.asked p.steps (p.stays end refl)
+takes_line old new calls line (Err y) ready p = takes_broken old new calls line y p.asked p.steps p.fault
 
 -- What is held was written.
 pub takes_printed : {T : Type 0} (old new : Explaining) (before now : List WriteCall) (r : Result T Refusal)

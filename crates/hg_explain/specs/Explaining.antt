@@ -10,11 +10,11 @@ use Rattle.hg_wire.specs.Readings.{readings}
 use Rattle.hg_wire.specs.Reports.{sixteen_digits}
 use Rattle.hg_check.specs.declared.checker.Ending.{Ending}
 use Rattle.hg_check.specs.Checking.{ChecksTo}
-use Rattle.hg_check.specs.Printing.{MayBe, ReadsTo, last_line, line_text}
+use Rattle.hg_check.specs.Printing.{MayBe, ReadsTo, last_line, line_text, status_of}
 use Rattle.hg_check.specs.Written.{Took, TookFront}
 use Rattle.hg_check.specs.Streaming.{HasCause, IsTold}
 use Rattle.hg_explain.specs.declared.form.Form.{Form}
-use Rattle.hg_explain.specs.Life.{life}
+use Rattle.hg_explain.specs.Life.{life, more_text}
 
 -- the first line, by the word's address
 abbrev pub word_line : ℕ → List ℕ
@@ -42,3 +42,11 @@ pub record WroteFrontOf (w : ℕ) (form : Form) (reads_old reads_new : List Read
 abbrev pub BreaksOff : ℕ → Form → List ReadCall → List ReadCall → List WriteCall → List WriteCall → List WriteCall → List WriteCall → Type 0
 BreaksOff w form reads_old reads_new old new faults_old faults_new =
     (r : Refusal) × (HasCause reads_old reads_new old new r × (IsTold faults_old faults_new r × WroteFrontOf w form reads_old reads_new old new))
+
+-- A status other than 3 says how the run ended, and the text of the word was printed.
+abbrev pub EndsWell : ℕ → ℕ → Form → List ReadCall → List ReadCall → List WriteCall → List WriteCall → Type 0
+EndsWell status w form reads later writes now = (status ≡ 3 → ⊥) → (end : Ending) × (status ≡ status_of end) × Explains w form reads later writes now end
+
+-- what stands behind the last line of an event: how many accesses were not shown, and how the run ended
+abbrev pub end_text : ℕ → Content → Ending → List ℕ
+end_text more c end = more_text more ++ line_text (last_line c end)

@@ -1,6 +1,8 @@
 -- What explaining a word takes of a trace text, and tells of it.
-use Rattle.std.specs.Prelude.{◌≡◌, ◌+◌, ◌<◌, ◌≤◌, ◌^◌, ℕ, List, [], ◌++◌, Option, None, Some, Result, Ok, Err}
+use Rattle.std.specs.Prelude.{◌≡◌, ◌+◌, ◌<◌, ◌≤◌, ◌^◌, ℕ, List, [], ◌++◌, ◌∷◌, Option, None, Some, Result, Ok, Err, IfErr}
+use Rattle.hg_model.specs.declared.event.Event.{Event}
 use Rattle.hg_model.specs.declared.verdict.Refusal.{Refusal}
+use Rattle.hg_model.specs.declared.verdict.Refusal.TheVariants.{OutOfMemory}
 use Rattle.hg_model.specs.Contents.{Content}
 use Rattle.hg_detect.specs.Memory.{IsWhole, content_of}
 use Rattle.hg_streams.specs.declared.call.WriteCall.{WriteCall}
@@ -12,9 +14,14 @@ use Rattle.hg_check.specs.Holding.{IsDue}
 use Rattle.hg_check.specs.Running.{IsStart, LeadsFrom, Steps}
 use Rattle.hg_check.specs.Streaming.{HasWriteCause}
 use Rattle.hg_check.specs.Written.{TookFront}
+use Rattle.hg_streams.specs.declared.call.ReadCall.{ReadCall}
+use Rattle.hg_explain.specs.Explaining.{word_line}
 use Rattle.hg_explain.specs.declared.explaining.Explaining.{Explaining}
 use Rattle.hg_explain.specs.declared.form.Form.{Form}
-use Rattle.hg_explain.specs.Life.{life, look_of, more_text}
+use Rattle.hg_check.specs.Printing.{line_text}
+use Rattle.hg_explain.specs.declared.look.Look.{Look}
+use Rattle.hg_explain.specs.Life.{event_line, life, look_of, more_text, told_by}
+use Rattle.hg_explain.specs.Telling.{HasRun, Stays, Tells}
 
 -- It is known how the word looks, and no more accesses are not shown than events came.
 pub record IsReady (s : Explaining) : Type 0 where
@@ -57,3 +64,43 @@ pub record IsFresh (s : Explaining) : Type 0 where
   pub ready : IsReady s
   pub start : IsStart s.detector
   pub none : s.more ≡ 0
+
+-- How the word looks is known.
+abbrev pub Looks : Explaining → Type 0
+Looks s = s.look ≡ look_of ((content_of s.detector).words s.asked.word)
+
+-- An accepted line added this to the text that is held.
+abbrev pub TellsLine : Explaining → Reading → Explaining → Type 0
+TellsLine old line new =
+    Tells old.asked.word old.asked.form (content_of old.detector) old.more line (content_of new.detector) new.more old.held.items new.held.items
+
+-- A line that ended the run changed nothing of the content and of the text.
+abbrev pub StaysAsTold : Explaining → Explaining → Type 0
+StaysAsTold old new = Stays old.detector old.more old.held.items new.detector new.more new.held.items
+
+-- A line was offered: it was accepted, and told where it concerns the word, or it ended the run, or memory was refused.
+pub record PassesLine (old : Explaining) (line : Reading) (r : Result (Option Ending) Refusal) (new : Explaining) : Type 0 where
+  pub asked : new.asked ≡ old.asked
+  pub steps : Steps old.detector (line ∷ []) r new.detector
+  pub tells : r ≡ Ok None → TellsLine old line new
+  pub looks : r ≡ Ok None → Looks new
+  pub stays : (end : Ending) → r ≡ Ok (Some end) → StaysAsTold old new
+  pub fault : IfErr r (λ x. x ≡ OutOfMemory)
+
+-- What an event that concerns the word adds where it is shown: how many accesses were not shown before it, and its line.
+abbrev pub shown_text : Explaining → Look → ℕ → ℕ → Event → List ℕ
+shown_text s before from line e = more_text s.more ++ line_text (event_line s.asked.word s.asked.form before from (content_of s.detector) line e)
+
+-- An event that concerns the word, and was accepted just now, was told or counted, by how the word looked before it and by how many reports there were.
+abbrev pub TellsEvent : Explaining → ℕ → ℕ → Event → Explaining → Type 0
+TellsEvent old from line e new =
+    (new.held.items ≡ old.held.items ++ (told_by old.asked.word old.asked.form old.look from (content_of old.detector) old.more line e).0)
+    × (new.more ≡ (told_by old.asked.word old.asked.form old.look from (content_of old.detector) old.more line e).1)
+
+-- The line of the word is held, or was written.
+abbrev pub HoldsWord : Explaining → List WriteCall → List WriteCall → Type 0
+HoldsWord s first now = IsDue first now s.held.items [] (line_text (word_line s.asked.word))
+
+-- A run came to an ending, and the life of the word was written or is held.
+abbrev pub HasExplained : Explaining → Explaining → List ReadCall → List ReadCall → List WriteCall → List WriteCall → Ending → Type 0
+HasExplained old new reads later writes now end = HasRun old.asked.word old.asked.form reads later writes now old.held.items new.held.items (content_of new.detector) new.more end

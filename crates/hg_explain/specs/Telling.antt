@@ -4,16 +4,15 @@ use Rattle.hg_model.specs.Contents.{Content}
 use Rattle.hg_model.specs.Change.{empty_content}
 use Rattle.hg_detect.specs.declared.detector.Detector.{Detector}
 use Rattle.hg_detect.specs.declared.paged.PagedWords.{PagedWords}
-use Rattle.hg_detect.specs.Memory.{IsWhole, content_of}
+use Rattle.hg_detect.specs.Memory.{content_of}
 use Rattle.hg_streams.specs.declared.call.ReadCall.{ReadCall}
 use Rattle.hg_streams.specs.declared.call.WriteCall.{WriteCall}
 use Rattle.hg_check.specs.Holding.{IsDue}
 use Rattle.hg_wire.specs.declared.reader.Reading.{Reading}
 use Rattle.hg_wire.specs.Streams.{readings}
 use Rattle.hg_check.specs.declared.checker.Ending.{Ending}
-use Rattle.hg_check.specs.Checking.{LeadsTo}
 use Rattle.hg_check.specs.Printing.{MayBe, ReadsTo}
-use Rattle.hg_check.specs.Running.{HasFew, ReportsGrow}
+use Rattle.hg_check.specs.Running.{ReportsGrow}
 use Rattle.hg_explain.specs.declared.form.Form.{Form}
 use Rattle.hg_explain.specs.Life.{life, more_text}
 
@@ -24,15 +23,6 @@ pub record Tells (w : ℕ) (form : Form) (c : Content) (k : ℕ) (r : Reading) (
   pub counted : d.events ≡ c.events + 1
   pub few : k ≤ c.last 0 → j ≤ d.last 0
   pub text : (n : ℕ) (later : List Reading) → life w form c k (suc n) (r ∷ later) ≡ added ++ life w form d j n later
-
--- An accepted line led on.
-pub record WentOn (before now : Detector PagedWords) (reading : Reading) : Type 0 where
-  pub leads : (later : List Reading) (last : Content) (end : Ending) → LeadsTo later now.sets (content_of now) last end → LeadsTo (reading ∷ later) before.sets (content_of before) last end
-  pub back : (later : List Reading) (last : Content) (end : Ending) → LeadsTo (reading ∷ later) before.sets (content_of before) last end → LeadsTo later now.sets (content_of now) last end
-  pub few : HasFew (content_of before) → HasFew (content_of now)
-  pub events : (content_of now).last 0 ≤ (content_of before).last 0 + 1
-  pub reports : ReportsGrow (content_of before) (content_of now)
-  pub whole : IsWhole now
 
 -- A line that ends the run changed nothing of the content and of the text.
 pub record Stays (before : Detector PagedWords) (k : ℕ) (held : List ℕ) (now : Detector PagedWords) (j : ℕ) (kept : List ℕ) : Type 0 where

@@ -1,13 +1,11 @@
 //! The command that explains a word of a trace text.
 
 ghost use Rattle.std.specs.Prelude.{◌≡◌, ◌/◌, ◌++◌, ◌<◌, ◌^◌, [], IfOk, IfErr, OnErr, OnOk};
-ghost use Rattle.hg_check.specs.Printing.{last_line, line_text, status_of};
-ghost use Rattle.hg_explain.specs.Life.{more_text};
+ghost use Rattle.hg_check.specs.Printing.{line_text};
 ghost use Rattle.hg_check.specs.Streaming.{HasCause};
 ghost use Rattle.hg_check.specs.Written.{Took};
-ghost use Rattle.hg_check.specs.declared.checker.Ending.{Ending as EndingOf};
 ghost use Rattle.hg_detect.specs.Memory.{content_of};
-ghost use Rattle.hg_explain.specs.Explaining.{BreaksOff, Explains, WroteFrontOf, word_line};
+ghost use Rattle.hg_explain.specs.Explaining.{BreaksOff, EndsWell, Explains, WroteFrontOf, end_text, word_line};
 ghost use Rattle.hg_explain.specs.Taking.{IsFresh};
 
 use crate::address::hold_word;
@@ -17,7 +15,7 @@ use crate::run::run;
 use crate::telling::hold_more;
 use hg_check::checker::Ending;
 use hg_check::commands::status_of_end;
-use hg_check::printing::hold_last_line;
+use hg_check::holding::hold_last_line;
 use hg_check::streams::write_out;
 use hg_check::telling::tell;
 use hg_detect::memory::MemoryDetector;
@@ -36,8 +34,10 @@ fn run_explain<R: Read, W: Write>(
 ) -> Result<Ending, Refusal>
     requires fresh { IsFresh explaining.old }
     requires none { explaining.old.held.items ≡ [] }
-    ensures prints { IfOk result (Explains explaining.old.asked.word explaining.old.asked.form input.old.calls input.new.calls output.old.calls output.new.calls) }
-    ensures front { OnErr result (WroteFrontOf explaining.old.asked.word explaining.old.asked.form input.old.calls input.new.calls output.old.calls output.new.calls) }
+    ensures prints { IfOk result (Explains explaining.old.asked.word explaining.old.asked.form
+        input.old.calls input.new.calls output.old.calls output.new.calls) }
+    ensures front { OnErr result (WroteFrontOf explaining.old.asked.word explaining.old.asked.form
+        input.old.calls input.new.calls output.old.calls output.new.calls) }
     ensures cause { IfErr result (λ r. HasCause input.old.calls input.new.calls output.old.calls output.new.calls r) }
 {
     hold_word(explaining.asked.word, &mut explaining.held)?;
@@ -60,7 +60,7 @@ fn hold_end(
     end: Ending,
     held: &mut Vec<u8>,
 ) -> Result<(), Refusal>
-    ensures ok { OnOk result (held.new.items ≡ held.old.items ++ (more_text more ++ line_text (last_line (content_of detector.now) end))) }
+    ensures ok { OnOk result (held.new.items ≡ held.old.items ++ end_text more (content_of detector.now) end) }
     ensures cause { IfErr result (λ r. r ≡ Refusal.OutOfMemory) }
 {
     hold_more(more, held)?;
@@ -75,8 +75,10 @@ fn print_explain<R: Read, W: Write>(
     output: &mut Output<W>,
 ) -> Result<Ending, Refusal>
     requires word { asked.word < 2 ^ 62 }
-    ensures prints { IfOk result (Explains asked.word asked.form input.old.calls input.new.calls output.old.calls output.new.calls) }
-    ensures front { OnErr result (WroteFrontOf asked.word asked.form input.old.calls input.new.calls output.old.calls output.new.calls) }
+    ensures prints { IfOk result (Explains asked.word asked.form
+        input.old.calls input.new.calls output.old.calls output.new.calls) }
+    ensures front { OnErr result (WroteFrontOf asked.word asked.form
+        input.old.calls input.new.calls output.old.calls output.new.calls) }
     ensures cause { IfErr result (λ r. HasCause input.old.calls input.new.calls output.old.calls output.new.calls r) }
 {
     let mut explaining = Explaining::new(alloc, asked)?;
@@ -96,9 +98,10 @@ pub fn explain<R: Read, W: Write, V: Write>(
     output: &mut Output<W>,
     faults: &mut Output<V>,
 ) -> u8
-    ensures prints { (result ≡ 3 → ⊥) → (end : EndingOf) × (result ≡ status_of end) × Explains (address / 4) form input.old.calls input.new.calls output.old.calls output.new.calls end }
+    ensures prints { EndsWell result (address / 4) form input.old.calls input.new.calls output.old.calls output.new.calls }
     ensures quiet { (result ≡ 3 → ⊥) → Took faults.old.calls faults.new.calls [] }
-    ensures fault { result ≡ 3 → BreaksOff (address / 4) form input.old.calls input.new.calls output.old.calls output.new.calls faults.old.calls faults.new.calls }
+    ensures fault { result ≡ 3 → BreaksOff (address / 4) form
+        input.old.calls input.new.calls output.old.calls output.new.calls faults.old.calls faults.new.calls }
 {
     let word = address / 4;
     match print_explain(alloc, Asked { word, form }, input, output) {

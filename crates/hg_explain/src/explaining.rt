@@ -1,16 +1,13 @@
 //! Explaining a word: a detector that takes the lines of a trace text, and tells those that concern the word.
 
-ghost use Rattle.std.specs.Prelude.{◌≡◌, ◌+◌, ◌<◌, ◌^◌, ℕ, List, [], IfErr, IfOk, OnErr, OnOk};
-ghost use Rattle.hg_check.specs.Holding.{IsDue};
+ghost use Rattle.std.specs.Prelude.{◌≡◌, ◌+◌, ◌<◌, ◌^◌, [], IfErr, IfOk};
+ghost use Rattle.hg_check.specs.Holding.{HoldsOrWrites, WritesFront};
 ghost use Rattle.hg_check.specs.Streaming.{HasWriteCause};
-ghost use Rattle.hg_check.specs.Written.{TookFront};
 ghost use Rattle.hg_streams.specs.Calls.{failed_writes};
 ghost use Rattle.hg_streams.specs.Told.{told};
-ghost use Rattle.hg_streams.specs.declared.call.WriteCall.{WriteCall};
 
 use crate::form::Asked;
 use crate::look::Look;
-use crate::passing::{pass, pass_access};
 use hg_check::checker::Ending;
 use hg_check::streams::write_out;
 use hg_detect::memory::{MemoryDetector, new_detector};
@@ -25,10 +22,8 @@ use std::io::Write;
 
 /// Writes what is held.
 fn write_held<W: Write>(held: &mut Vec<u8>, output: &mut Output<W>) -> Result<(), Refusal>
-    ensures printed { (first : List WriteCall) (rest goal : List ℕ) → IsDue first output.old.calls held.old.items rest goal
-        → OnOk result (IsDue first output.new.calls held.new.items rest goal) }
-    ensures front { (first : List WriteCall) (rest goal : List ℕ) → IsDue first output.old.calls held.old.items rest goal
-        → OnErr result (TookFront first output.new.calls goal) }
+    ensures printed { HoldsOrWrites [] output.old.calls held.old.items result output.new.calls held.new.items }
+    ensures front { WritesFront [] output.old.calls held.old.items result output.new.calls }
     ensures cause { IfErr result (λ r. HasWriteCause output.old.calls output.new.calls r) }
     ensures fault { failed_writes output.new.calls ≡ told result + failed_writes output.old.calls }
 {
@@ -85,14 +80,7 @@ impl<W: Write> Sink<W> for Explaining {
         reading: &Reading,
         _output: &mut Output<W>,
     ) -> Result<Option<Ending>, Refusal> {
-        pass(
-            self.asked,
-            &mut self.detector,
-            reading,
-            &mut self.look,
-            &mut self.more,
-            &mut self.held,
-        )
+        self.pass(reading)
     }
 
     #[inline(always)]
@@ -102,15 +90,7 @@ impl<W: Write> Sink<W> for Explaining {
         found: &AccessLine,
         _output: &mut Output<W>,
     ) -> Result<Option<Ending>, Refusal> {
-        pass_access(
-            self.asked,
-            &mut self.detector,
-            line,
-            found,
-            &mut self.look,
-            &mut self.more,
-            &mut self.held,
-        )
+        self.pass_access(line, found)
     }
 
     /// Writes what is held.

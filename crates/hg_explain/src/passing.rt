@@ -1,22 +1,16 @@
 //! The lines of a trace text, and what each adds to the life of a word.
 
-ghost use Rattle.std.specs.Prelude.{◌≡◌, ◌+◌, ◌<◌, ◌≤◌, ◌^◌, [], ◌∷◌, ◌++◌, true, List, Ok, Some, None, length, IfErr, OnOk};
-ghost use Rattle.hg_check.specs.Checking.{LeadsTo};
-ghost use Rattle.hg_check.specs.Running.{HasFew, LeadsFrom, ReportsGrow};
-ghost use Rattle.hg_model.specs.Contents.{Content};
-ghost use Rattle.hg_check.specs.Printing.{line_text};
-ghost use Rattle.hg_check.specs.declared.checker.Ending.{Ending as EndingOf};
+ghost use Rattle.std.specs.Prelude.{◌≡◌, ◌+◌, ◌<◌, ◌^◌, ◌++◌, true, IfErr, OnOk};
+ghost use Rattle.hg_check.specs.Running.{access_reading};
 ghost use Rattle.hg_detect.specs.Memory.{IsWhole, content_of};
-ghost use Rattle.hg_explain.specs.Telling.{Stays, Tells, WentOn};
+ghost use Rattle.hg_explain.specs.Taking.{IsReady, Looks, PassesLine, TellsEvent, shown_text};
 ghost use Rattle.hg_wire.specs.Accesses.{event_of as event_in};
-ghost use Rattle.hg_wire.specs.declared.reader.Reading.{Reading as ReadingOf};
 ghost use Rattle.hg_explain.specs.Life as life;
 
-use crate::form::Asked;
+use crate::explaining::Explaining;
 use crate::look::{Look, concerns, differs, look_at, overlaps};
 use crate::telling::{hold_event, hold_more};
 use hg_check::checker::{Ending, apply, apply_access};
-use hg_detect::memory::MemoryDetector;
 use hg_model::event::Event;
 use hg_model::verdict::Refusal;
 use hg_reading::sink::access_event;
@@ -34,179 +28,118 @@ fn accesses(event: &Event) -> u64
     }
 }
 
-/// Shows an event that was accepted just now: behind how many accesses were not shown since the last line.
-#[inline(never)]
-fn show_event(
-    asked: Asked,
-    detector: &MemoryDetector,
-    before: Look,
-    from: usize,
-    line: u64,
-    event: &Event,
-    more: &mut u64,
-    held: &mut Vec<u8>,
-) -> Result<(), Refusal>
-    requires whole { IsWhole detector.now }
-    requires word { asked.word < 2 ^ 62 }
-    requires actor { life.actor_of event.now < 1024 }
-    ensures held { OnOk result (held.new.items ≡ held.old.items ++ (life.more_text more.old ++ line_text (life.event_line asked.word asked.form before from (content_of detector.now) line event.now))) }
-    ensures none { OnOk result (more.new ≡ 0) }
-    ensures cause { IfErr result (λ r. r ≡ Refusal.OutOfMemory) }
-{
-    hold_more(*more, held)?;
-    *more = 0;
-    hold_event(asked, detector, before, from, line, event, held)
-}
+impl Explaining {
+    /// Shows an event that was accepted just now: behind how many accesses were not shown since the last line.
+    #[inline(never)]
+    fn show_event(
+        &mut self,
+        before: Look,
+        from: usize,
+        line: u64,
+        event: &Event,
+    ) -> Result<(), Refusal>
+        requires whole { IsWhole self.old.detector }
+        requires word { self.old.asked.word < 2 ^ 62 }
+        requires actor { life.actor_of event.now < 1024 }
+        ensures others { self.new ≡ record self.old { more = self.new.more; held = self.new.held } }
+        ensures held { OnOk result (self.new.held.items ≡ self.old.held.items ++ shown_text self.old before from line event.now) }
+        ensures none { OnOk result (self.new.more ≡ 0) }
+        ensures cause { IfErr result (λ r. r ≡ Refusal.OutOfMemory) }
+    {
+        hold_more(self.more, &mut self.held)?;
+        self.more = 0;
+        hold_event(
+            self.asked,
+            &self.detector,
+            before,
+            from,
+            line,
+            event,
+            &mut self.held,
+        )
+    }
 
-/// Tells an event that was accepted just now, and that concerns the word, which looked so before it.
-#[inline(always)]
-fn tell_event(
-    asked: Asked,
-    detector: &MemoryDetector,
-    from: usize,
-    line: u64,
-    event: &Event,
-    look: &mut Look,
-    more: &mut u64,
-    held: &mut Vec<u8>,
-) -> Result<(), Refusal>
-    requires whole { IsWhole detector.now }
-    requires word { asked.word < 2 ^ 62 }
-    requires actor { life.actor_of event.now < 1024 }
-    requires few { more.old + 1 < 2 ^ 64 }
-    ensures ok { OnOk result ((held.new.items ≡ held.old.items ++ (life.told_by asked.word asked.form look.old from (content_of detector.now) more.old line event.now).0)
-        × (more.new ≡ (life.told_by asked.word asked.form look.old from (content_of detector.now) more.old line event.now).1)) }
-    ensures looks { look.new ≡ life.look_of ((content_of detector.now).words asked.word) }
-    ensures cause { IfErr result (λ r. r ≡ Refusal.OutOfMemory) }
-{
-    let before = *look;
-    let after = look_at(detector, asked.word);
-    *look = after;
-    if asked.form.all || differs(before, after) {
-        return show_event(asked, detector, before, from, line, event, more, held);
+    /// Tells an event that was accepted just now, and that concerns the word.
+    #[inline(always)]
+    fn tell_event(&mut self, from: usize, line: u64, event: &Event) -> Result<(), Refusal>
+        requires whole { IsWhole self.old.detector }
+        requires word { self.old.asked.word < 2 ^ 62 }
+        requires actor { life.actor_of event.now < 1024 }
+        requires few { self.old.more + 1 < 2 ^ 64 }
+        ensures asked { self.new.asked ≡ self.old.asked }
+        ensures detector { self.new.detector ≡ self.old.detector }
+        ensures tells { OnOk result (TellsEvent self.old from line event.now self.new) }
+        ensures looks { Looks self.new }
+        ensures cause { IfErr result (λ r. r ≡ Refusal.OutOfMemory) }
+    {
+        let before = self.look;
+        self.look = look_at(&self.detector, self.asked.word);
+        if self.asked.form.all || differs(before, self.look) {
+            return self.show_event(before, from, line, event);
+        }
+        self.more += accesses(event);
+        Ok(())
     }
-    *more += accesses(event);
-    Ok(())
-}
 
-/// Offers the event of a line as the next one of source 0, and tells it where it concerns the word. `None` says that it was accepted.
-/// How the word looks is carried along, so that it is asked only behind an event that concerns the word.
-pub fn pass(
-    asked: Asked,
-    detector: &mut MemoryDetector,
-    reading: &Reading,
-    look: &mut Look,
-    more: &mut u64,
-    held: &mut Vec<u8>,
-) -> Result<Option<Ending>, Refusal>
-    requires whole { IsWhole detector.old }
-    requires word { asked.word < 2 ^ 62 }
-    requires fits { (content_of detector.old).last 0 + 1 < 2 ^ 64 }
-    requires few { more.old ≤ (content_of detector.old).last 0 }
-    requires looks { look.old ≡ life.look_of ((content_of detector.old).words asked.word) }
-    ensures went { result ≡ Ok None → WentOn detector.old detector.new reading.now }
-    ensures tells { result ≡ Ok None → Tells asked.word asked.form (content_of detector.old) more.old reading.now (content_of detector.new) more.new held.old.items held.new.items }
-    ensures looks { result ≡ Ok None → look.new ≡ life.look_of ((content_of detector.new).words asked.word) }
-    ensures ended { (later : List ReadingOf) (end : EndingOf) → result ≡ Ok (Some end)
-        → LeadsTo (reading.now ∷ later) detector.old.sets (content_of detector.old) (content_of detector.new) end }
-    ensures stays { (end : EndingOf) → result ≡ Ok (Some end) → Stays detector.old more.old held.old.items detector.new more.new held.new.items }
-    ensures front { (later : List ReadingOf) (last : Content) (end : EndingOf) → HasFew (content_of detector.old)
-        → LeadsFrom detector.old (reading.now ∷ later) last end → ReportsGrow (content_of detector.new) last }
-    ensures few { HasFew (content_of detector.old) → HasFew (content_of detector.new) }
-    ensures counted { (content_of detector.new).last 0 ≤ (content_of detector.old).last 0 + 1 }
-    ensures reports { ReportsGrow (content_of detector.old) (content_of detector.new) }
-    ensures whole { IsWhole detector.new }
-    ensures fault { IfErr result (λ r. r ≡ Refusal.OutOfMemory) }
-{
-    let line = reading.line;
-    let Ok(event) = reading.event else {
-        return apply(detector, reading);
-    };
-    if !concerns(asked.word, &event) {
-        return apply(detector, reading);
+    /// Offers the event of a line as the next one of source 0, and tells it where it concerns the word. `None` says that it was
+    /// accepted. How the word looks is carried along, so that it is asked only behind an event that concerns the word.
+    pub(crate) fn pass(&mut self, reading: &Reading) -> Result<Option<Ending>, Refusal>
+        requires ready { IsReady self.old }
+        requires fits { (content_of self.old.detector).last 0 + 1 < 2 ^ 64 }
+        ensures { PassesLine self.old reading.now result self.new }
+    {
+        let line = reading.line;
+        let Ok(event) = reading.event else {
+            return apply(&mut self.detector, reading);
+        };
+        if !concerns(self.asked.word, &event) {
+            return apply(&mut self.detector, reading);
+        }
+        let from = self.detector.kept();
+        let stopped = apply(&mut self.detector, reading)?;
+        if stopped.is_some() {
+            return Ok(stopped);
+        }
+        self.tell_event(from, line, &event)?;
+        Ok(None)
     }
-    let from = detector.kept();
-    let stopped = apply(detector, reading)?;
-    if stopped.is_some() {
-        return Ok(stopped);
-    }
-    tell_event(asked, detector, from, line, &event, look, more, held)?;
-    Ok(None)
-}
 
-/// The same for the read or write of a line.
-#[inline(always)]
-pub fn pass_access(
-    asked: Asked,
-    detector: &mut MemoryDetector,
-    line: u64,
-    found: &AccessLine,
-    look: &mut Look,
-    more: &mut u64,
-    held: &mut Vec<u8>,
-) -> Result<Option<Ending>, Refusal>
-    requires whole { IsWhole detector.old }
-    requires word { asked.word < 2 ^ 62 }
-    requires fits { (content_of detector.old).last 0 + 1 < 2 ^ 64 }
-    requires few { more.old ≤ (content_of detector.old).last 0 }
-    requires looks { look.old ≡ life.look_of ((content_of detector.old).words asked.word) }
-    ensures went { result ≡ Ok None → WentOn detector.old detector.new (record { line = line; event = Ok (event_in found.now) }) }
-    ensures tells { result ≡ Ok None → Tells asked.word asked.form (content_of detector.old) more.old (record { line = line; event = Ok (event_in found.now) }) (content_of detector.new) more.new held.old.items held.new.items }
-    ensures looks { result ≡ Ok None → look.new ≡ life.look_of ((content_of detector.new).words asked.word) }
-    ensures ended { (later : List ReadingOf) (end : EndingOf) → result ≡ Ok (Some end)
-        → LeadsTo (record { line = line; event = Ok (event_in found.now) } ∷ later) detector.old.sets (content_of detector.old) (content_of detector.new) end }
-    ensures stays { (end : EndingOf) → result ≡ Ok (Some end) → Stays detector.old more.old held.old.items detector.new more.new held.new.items }
-    ensures front { (later : List ReadingOf) (last : Content) (end : EndingOf) → HasFew (content_of detector.old)
-        → LeadsFrom detector.old ((record { line = line; event = Ok (event_in found.now) }) ∷ later) last end → ReportsGrow (content_of detector.new) last }
-    ensures few { HasFew (content_of detector.old) → HasFew (content_of detector.new) }
-    ensures counted { (content_of detector.new).last 0 ≤ (content_of detector.old).last 0 + 1 }
-    ensures reports { ReportsGrow (content_of detector.old) (content_of detector.new) }
-    ensures whole { IsWhole detector.new }
-    ensures fault { IfErr result (λ r. r ≡ Refusal.OutOfMemory) }
-{
-    if overlaps(found.access.at, u16::from(found.access.len), asked.word) {
-        return pass_concerned(asked, detector, line, found, look, more, held);
+    /// The same for the read or write of a line.
+    #[inline(always)]
+    pub(crate) fn pass_access(
+        &mut self,
+        line: u64,
+        found: &AccessLine,
+    ) -> Result<Option<Ending>, Refusal>
+        requires ready { IsReady self.old }
+        requires fits { (content_of self.old.detector).last 0 + 1 < 2 ^ 64 }
+        ensures { PassesLine self.old (access_reading line found.now) result self.new }
+    {
+        if overlaps(
+            found.access.at,
+            u16::from(found.access.len),
+            self.asked.word,
+        ) {
+            return self.pass_concerned(line, found);
+        }
+        apply_access(&mut self.detector, line, found)
     }
-    apply_access(detector, line, found)
-}
 
-/// The same for one that overlaps the word.
-#[inline(always)]
-fn pass_concerned(
-    asked: Asked,
-    detector: &mut MemoryDetector,
-    line: u64,
-    found: &AccessLine,
-    look: &mut Look,
-    more: &mut u64,
-    held: &mut Vec<u8>,
-) -> Result<Option<Ending>, Refusal>
-    requires whole { IsWhole detector.old }
-    requires word { asked.word < 2 ^ 62 }
-    requires fits { (content_of detector.old).last 0 + 1 < 2 ^ 64 }
-    requires few { more.old ≤ (content_of detector.old).last 0 }
-    requires looks { look.old ≡ life.look_of ((content_of detector.old).words asked.word) }
-    requires met { life.concerns asked.word (event_in found.now) ≡ true }
-    ensures went { result ≡ Ok None → WentOn detector.old detector.new (record { line = line; event = Ok (event_in found.now) }) }
-    ensures tells { result ≡ Ok None → Tells asked.word asked.form (content_of detector.old) more.old (record { line = line; event = Ok (event_in found.now) }) (content_of detector.new) more.new held.old.items held.new.items }
-    ensures looks { result ≡ Ok None → look.new ≡ life.look_of ((content_of detector.new).words asked.word) }
-    ensures ended { (later : List ReadingOf) (end : EndingOf) → result ≡ Ok (Some end)
-        → LeadsTo (record { line = line; event = Ok (event_in found.now) } ∷ later) detector.old.sets (content_of detector.old) (content_of detector.new) end }
-    ensures stays { (end : EndingOf) → result ≡ Ok (Some end) → Stays detector.old more.old held.old.items detector.new more.new held.new.items }
-    ensures front { (later : List ReadingOf) (last : Content) (end : EndingOf) → HasFew (content_of detector.old)
-        → LeadsFrom detector.old ((record { line = line; event = Ok (event_in found.now) }) ∷ later) last end → ReportsGrow (content_of detector.new) last }
-    ensures few { HasFew (content_of detector.old) → HasFew (content_of detector.new) }
-    ensures counted { (content_of detector.new).last 0 ≤ (content_of detector.old).last 0 + 1 }
-    ensures reports { ReportsGrow (content_of detector.old) (content_of detector.new) }
-    ensures whole { IsWhole detector.new }
-    ensures fault { IfErr result (λ r. r ≡ Refusal.OutOfMemory) }
-{
-    let from = detector.kept();
-    let stopped = apply_access(detector, line, found)?;
-    if stopped.is_some() {
-        return Ok(stopped);
+    /// The same for one that overlaps the word.
+    #[inline(always)]
+    fn pass_concerned(&mut self, line: u64, found: &AccessLine) -> Result<Option<Ending>, Refusal>
+        requires ready { IsReady self.old }
+        requires fits { (content_of self.old.detector).last 0 + 1 < 2 ^ 64 }
+        requires met { life.concerns self.old.asked.word (event_in found.now) ≡ true }
+        ensures { PassesLine self.old (access_reading line found.now) result self.new }
+    {
+        let from = self.detector.kept();
+        let stopped = apply_access(&mut self.detector, line, found)?;
+        if stopped.is_some() {
+            return Ok(stopped);
+        }
+        let event = access_event(found);
+        self.tell_event(from, line, &event)?;
+        Ok(None)
     }
-    let event = access_event(found);
-    tell_event(asked, detector, from, line, &event, look, more, held)?;
-    Ok(None)
 }

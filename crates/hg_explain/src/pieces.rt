@@ -5,10 +5,8 @@ ghost use Rattle.std.specs.Fmt.{decimal};
 ghost use Rattle.std.specs.List.{flat_map};
 ghost use Rattle.hg_wire.specs.Reports.{predecessors_text, sixteen_digits};
 
-use hg_check::printing::out_of_memory;
 use hg_model::verdict::Refusal;
 use itoa::Buffer;
-use std::alloc::AllocError;
 
 /// Holds the pieces.
 pub fn hold_all(pieces: &[&[u8]], held: &mut Vec<u8>) -> Result<(), Refusal>
@@ -16,7 +14,7 @@ pub fn hold_all(pieces: &[&[u8]], held: &mut Vec<u8>) -> Result<(), Refusal>
     ensures cause { IfErr result (λ r. r ≡ Refusal.OutOfMemory) }
 {
     for piece in pieces {
-        held.extend_from_slice(piece).map_err(out_of_memory)?;
+        held.extend_from_slice(piece)?;
     }
     Ok(())
 }
@@ -26,7 +24,7 @@ pub fn hold(bytes: &[u8], held: &mut Vec<u8>) -> Result<(), Refusal>
     ensures ok { OnOk result (held.new.items ≡ held.old.items ++ bytes.now) }
     ensures cause { IfErr result (λ r. r ≡ Refusal.OutOfMemory) }
 {
-    held.extend_from_slice(bytes).map_err(out_of_memory)
+    Ok(held.extend_from_slice(bytes)?)
 }
 
 /// Holds the bytes, and a number in decimal after them.

@@ -1,13 +1,9 @@
 //! A run over a whole trace text.
 
-ghost use Rattle.std.specs.Prelude.{◌≡◌, ◌++◌, [], List, IfOk, IfErr, OnErr};
-ghost use Rattle.hg_check.specs.Holding.{IsDue};
-ghost use Rattle.hg_check.specs.Printing.{line_text};
+ghost use Rattle.std.specs.Prelude.{List, IfOk, IfErr, OnErr};
 ghost use Rattle.hg_check.specs.Streaming.{HasCause};
-ghost use Rattle.hg_detect.specs.Memory.{content_of};
-ghost use Rattle.hg_explain.specs.Explaining.{WroteFrontOf, word_line};
-ghost use Rattle.hg_explain.specs.Taking.{IsFresh};
-ghost use Rattle.hg_explain.specs.Telling.{HasRun};
+ghost use Rattle.hg_explain.specs.Explaining.{WroteFrontOf};
+ghost use Rattle.hg_explain.specs.Taking.{HasExplained, HoldsWord, IsFresh};
 ghost use Rattle.hg_streams.specs.declared.call.WriteCall.{WriteCall};
 
 use crate::explaining::Explaining;
@@ -29,9 +25,10 @@ pub fn run<R: Read, W: Write>(
     output: &mut Output<W>,
 ) -> Result<Ending, Refusal>
     requires fresh { IsFresh explaining.old }
-    ensures ends { IfOk result (HasRun explaining.old.asked.word explaining.old.asked.form input.old.calls input.new.calls output.old.calls output.new.calls explaining.old.held.items explaining.new.held.items (content_of explaining.new.detector) explaining.new.more) }
-    ensures front { (first : List WriteCall) → IsDue first output.old.calls explaining.old.held.items [] (line_text (word_line explaining.old.asked.word))
-        → OnErr result (WroteFrontOf explaining.old.asked.word explaining.old.asked.form input.old.calls input.new.calls first output.new.calls) }
+    ensures ends { IfOk result (HasExplained explaining.old explaining.new input.old.calls input.new.calls output.old.calls output.new.calls) }
+    ensures front { (first : List WriteCall) → HoldsWord explaining.old first output.old.calls
+        → OnErr result (WroteFrontOf explaining.old.asked.word explaining.old.asked.form
+        input.old.calls input.new.calls first output.new.calls) }
     ensures cause { IfErr result (HasCause input.old.calls input.new.calls output.old.calls output.new.calls) }
 {
     let stop = read(alloc, input, explaining, output)?;

@@ -26,7 +26,8 @@ fn hold_place(
     held: &mut Vec<u8>,
 ) -> Result<(), Refusal>
     requires { t < 1024 }
-    ensures ok { OnOk result (held.new.items ≡ held.old.items ++ (verb.now ++ life.place_text (content_of detector.now) t)) }
+    ensures ok { OnOk result (held.new.items ≡ held.old.items
+        ++ (verb.now ++ life.place_text (content_of detector.now) t)) }
     ensures cause { IfErr result (λ r. r ≡ Refusal.OutOfMemory) }
 {
     let mut thread = Buffer::new();
@@ -87,7 +88,8 @@ fn hold_sets(
 ) -> Result<(), Refusal>
     requires threads { threads < length detector.now.sets.sets }
     requires locks { locks < length detector.now.sets.sets }
-    ensures ok { OnOk result (held.new.items ≡ held.old.items ++ life.sets_text kind.now (set_at detector.now.sets.sets threads) (set_at detector.now.sets.sets locks)) }
+    ensures ok { OnOk result (held.new.items ≡ held.old.items
+        ++ life.sets_text kind.now (set_at detector.now.sets.sets threads) (set_at detector.now.sets.sets locks)) }
     ensures cause { IfErr result (λ r. r ≡ Refusal.OutOfMemory) }
 {
     let sets = detector.sets();
@@ -100,7 +102,8 @@ fn hold_sets(
 /// Holds the state of a word.
 fn hold_state(detector: &MemoryDetector, word: u64, held: &mut Vec<u8>) -> Result<(), Refusal>
     requires whole { IsWhole detector.now }
-    ensures ok { OnOk result (held.new.items ≡ held.old.items ++ life.state_text ((content_of detector.now).words word)) }
+    ensures ok { OnOk result (held.new.items ≡ held.old.items
+        ++ life.state_text ((content_of detector.now).words word)) }
     ensures cause { IfErr result (λ r. r ≡ Refusal.OutOfMemory) }
 {
     match detector.words().get(word) {
@@ -137,7 +140,8 @@ fn hold_two(
     second: u32,
     held: &mut Vec<u8>,
 ) -> Result<(), Refusal>
-    ensures ok { OnOk result (held.new.items ≡ held.old.items ++ (front.now ++ decimal first ++ between.now ++ decimal second)) }
+    ensures ok { OnOk result (held.new.items ≡ held.old.items
+        ++ (front.now ++ decimal first ++ between.now ++ decimal second)) }
     ensures cause { IfErr result (λ r. r ≡ Refusal.OutOfMemory) }
 {
     let mut one = Buffer::new();
@@ -196,7 +200,8 @@ fn hold_race(
     held: &mut Vec<u8>,
 ) -> Result<(), Refusal>
     requires { word < 2 ^ 62 }
-    ensures ok { OnOk result (held.new.items ≡ held.old.items ++ life.race_text (from + 1) word (drop from (content_of detector.now).reports)) }
+    ensures ok { OnOk result (held.new.items ≡ held.old.items
+        ++ life.race_text (from + 1) word (drop from (content_of detector.now).reports)) }
     ensures cause { IfErr result (λ r. r ≡ Refusal.OutOfMemory) }
 {
     let address = 4 * word;
@@ -222,7 +227,8 @@ pub fn hold_event(
     requires whole { IsWhole detector.now }
     requires word { asked.word < 2 ^ 62 }
     requires actor { life.actor_of event.now < 1024 }
-    ensures ok { OnOk result (held.new.items ≡ held.old.items ++ line_text (life.event_line asked.word asked.form before from (content_of detector.now) line event.now)) }
+    ensures ok { OnOk result (held.new.items ≡ held.old.items
+        ++ line_text (life.event_line asked.word asked.form before from (content_of detector.now) line event.now)) }
     ensures cause { IfErr result (λ r. r ≡ Refusal.OutOfMemory) }
 {
     hold_front(detector, asked.form, line, held)?;
@@ -260,7 +266,8 @@ fn hold_changes(
 ) -> Result<(), Refusal>
     requires whole { IsWhole detector.now }
     requires actor { t < 1024 }
-    ensures ok { OnOk result (held.new.items ≡ held.old.items ++ life.changes_text before ((content_of detector.now).words word) (segments.present (content_of detector.now).segments t)) }
+    ensures ok { OnOk result (held.new.items ≡ held.old.items
+        ++ life.changes_text before ((content_of detector.now).words word) (segments.present (content_of detector.now).segments t)) }
     ensures cause { IfErr result (λ r. r ≡ Refusal.OutOfMemory) }
 {
     let after = look_at(detector, word);

@@ -22,12 +22,12 @@ returns-in_err-hold_report-clause-front g c first rest goal p =
     always_err _ (front_due first c.loop-report.output.calls c.loop-report.held.items (reports_text (c.loop-report.before + 1) (drop c.loop-report.report-index c.args.reports.now) ++ rest) goal
     (c.loop-report.invariant.due first rest goal p))
 
-pub returns-in_err-write_large-clause-front : goal.returns-in_err-write_large-clause-front
-returns-in_err-write_large-clause-front g c first rest goal p =
+pub returns-in_err-write_if_large-clause-front : goal.returns-in_err-write_if_large-clause-front
+returns-in_err-write_if_large-clause-front g c first rest goal p =
     let reports = c.args.reports.now in
     let before = c.loop-report.before in
     let index = c.loop-report.report-index in
-    always_err _ (c.in_err-write_large.ensures.front first (reports_text (before + 1 + 1) (drop (index + 1) reports) ++ rest) goal
+    always_err _ (c.in_err-write_if_large.ensures.front first (reports_text (before + 1 + 1) (drop (index + 1) reports) ++ rest) goal
     (holds reports index (before + 1) c.report-item.result c.loop-report.held.items c.hold_report.new.held.items
     c.loop-report-test.true c.report-item.is c.in_ok-hold_report.ensures.ok first c.loop-report.output.calls rest goal
     (c.loop-report.invariant.due first rest goal p)))
@@ -39,10 +39,10 @@ loop-report-preserved g c =
     let index = c.loop-report.report-index in
     let r = c.report-item.result in
     record {
-      due = λ first rest goal p. c.in_ok-write_large.ensures.printed first (reports_text (before + 1 + 1) (drop (index + 1) reports) ++ rest) goal
+      due = λ first rest goal p. c.in_ok-write_if_large.ensures.printed first (reports_text (before + 1 + 1) (drop (index + 1) reports) ++ rest) goal
           (holds_next c.loop-report.held.items c.hold_report.new.held.items (reports_text (before + 1) (drop index reports)) (line_text (report_line (before + 1) r)) (reports_text (before + 1 + 1) (drop (index + 1) reports))
           c.in_ok-hold_report.ensures.ok (next_report reports index (before + 1) r c.loop-report-test.true c.report-item.is)
           first c.loop-report.output.calls rest goal (c.loop-report.invariant.due first rest goal p));
-      intact = omega (arith, c.in_ok-write_large.ensures.fault, c.loop-report.invariant.intact);
+      intact = omega (arith, c.in_ok-write_if_large.ensures.fault, c.loop-report.invariant.intact);
       count = ap (λ (n : ℕ). n + 1) c.loop-report.invariant.count;
     }
