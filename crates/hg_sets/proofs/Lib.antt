@@ -1,4 +1,5 @@
 pub mod Rising
-pub mod Found
+pub mod Slots
+pub mod Listed
 pub mod Remembering
 pub mod Restored

@@ -1,4 +1,5 @@
 pub mod Interning
+pub mod Listing
 pub mod Soundness
 pub mod Remembered
 pub mod Consistency

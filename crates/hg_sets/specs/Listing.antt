@@ -1,0 +1,55 @@
+-- Lists that stand one after another in memory, each found by a hash of its elements.
+use Rattle.std.specs.Prelude.{◌≡◌, ◌≢◌, ◌⊎◌, ℕ, zero, suc, ◌+◌, ◌*◌, ◌/◌, ◌%◌, ◌^◌, ◌<◌, ◌≤◌, List, [], ◌∷◌, length, slice_index, take, drop, map, All, nat_lt, if◌then◌else◌}
+use Rattle.hg_sets.specs.declared.lists.Span.{Span}
+use Rattle.hg_sets.specs.declared.lists.TheConstants.{SPREAD}
+use Rattle.hg_sets.specs.Interning.{set_at}
+
+-- the elements of a list
+abbrev pub list_at : List ℕ → Span → List ℕ
+list_at elements span = take span.len (drop span.start elements)
+
+-- all lists, by their numbers
+abbrev pub lists_of : List ℕ → List Span → List (List ℕ)
+lists_of elements spans = map (list_at elements) spans
+
+-- the hash of a list behind what was hashed before
+abbrev pub hash_behind : ℕ → List ℕ → ℕ
+hash_behind hash [] = hash
+hash_behind hash (x ∷ xs) = hash_behind ((((hash + (x + 1)) % 2 ^ 64) * SPREAD) % 2 ^ 64) xs
+
+-- the hash of a list
+abbrev pub hash_of : List ℕ → ℕ
+hash_of xs = hash_behind 0 xs
+
+-- the slot where a search among so many begins
+abbrev pub first_slot : ℕ → ℕ → ℕ
+first_slot count hash = ((hash / 2 ^ 32) * count) / 2 ^ 32
+
+-- the slot that comes next
+abbrev pub next_slot : ℕ → ℕ → ℕ
+next_slot count at = if nat_lt (at + 1) count then at + 1 else 0
+
+-- From a slot on, this entry is met within so many steps, before a slot that is free.
+abbrev pub IsMet : List ℕ → ℕ → ℕ → ℕ → Type 0
+IsMet slots entry at zero = ⊥
+IsMet slots entry at (suc steps) = (slice_index slots at ≡ entry) ⊎ ((slice_index slots at ≢ 0) × IsMet slots entry (next_slot (length slots) at) steps)
+
+-- A search by this hash meets this entry.
+abbrev pub IsFoundBy : List ℕ → ℕ → ℕ → Type 0
+IsFoundBy slots hash entry = IsMet slots entry (first_slot (length slots) hash) (length slots)
+
+-- A slot is free, or has the number of a list plus one.
+abbrev pub HoldNumbers : ℕ → List ℕ → Type 0
+HoldNumbers count slots = All (λ entry. entry ≤ count) slots
+
+-- each of the first lists is found
+abbrev pub AreFound : List (List ℕ) → List ℕ → ℕ → Type 0
+AreFound lists slots count = (id : ℕ) → id < count → IsFoundBy slots (hash_of (set_at lists id)) (id + 1)
+
+-- Each list stands within the elements, and is found among the slots.
+pub record AreListed (elements : List ℕ) (spans : List Span) (slots : List ℕ) : Type 0 where
+  pub few_lists : length spans < 2 ^ 32
+  pub within : All (λ span. span.start + span.len ≤ length elements) spans
+  pub few_slots : length slots ≤ 2 ^ 32
+  pub numbers : HoldNumbers (length spans) slots
+  pub found : AreFound (lists_of elements spans) slots (length spans)
