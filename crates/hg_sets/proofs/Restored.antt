@@ -1,5 +1,5 @@
 -- Why a list of sets is no table's.
-use Rattle.std.proofs.Common.{◌≡◌, ℕ, ◌<◌, List, [], length, take, get_or, All, AllPairs, Contains, sym, ◌∙◌, ap, subst, arith, length-take, ◌≢◌}
+use Rattle.std.proofs.Common.{◌≡◌, ℕ, ◌<◌, List, length, take, get_or, Contains, sym, ◌∙◌, subst, arith, length-take}
 use Rattle.std.specs.List.Sorted.{IsStrictlyIncreasing}
 use Rattle.std.proofs.lemmas.List.{get_or-take}
 use Rattle.hg_sets.specs.Interning.{AreSets, Table}

@@ -1,4 +1,5 @@
 pub mod Interning
+pub mod Faults
 pub mod Soundness
 pub mod Remembered
 pub mod Consistency
