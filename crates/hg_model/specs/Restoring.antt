@@ -1,5 +1,5 @@
 -- What restoring a trace state asks of its parts.
-use Rattle.std.specs.Prelude.{◌≡◌, ◌⊎◌, ℕ, ◌≤◌, ◌^◌, Bool, true, ◌&&◌, ◌||◌, ◌==◌, not, nat_lt, List, length, take, slice_get, Some, if◌then◌else◌}
+use Rattle.std.specs.Prelude.{◌≡◌, ◌⊎◌, IfErr, ℕ, ◌≤◌, ◌^◌, Bool, true, ◌&&◌, ◌||◌, ◌==◌, not, nat_lt, List, Result, length, take, slice_get, Some, if◌then◌else◌}
 use Rattle.std.specs.List.{list_any, list_all}
 use Rattle.hg_model.specs.declared.held.HeldLock.{HeldLock}
 use Rattle.hg_model.specs.declared.thread.ThreadState.{ThreadState}
@@ -42,3 +42,7 @@ parts_of events segments threads last = record { events = events; segments = seg
 -- The refusal tells that P does not hold, or that memory ran out.
 abbrev pub RefusesUnless : Type 0 → Refusal → Type 0
 RefusesUnless P r = ((r ≡ Damaged) × (P → ⊥)) ⊎ (r ≡ OutOfMemory)
+
+-- The refusal tells that these parts are out of range, or that memory ran out.
+abbrev pub RefusesParts : {T : Type 0} → Parts → Result T Refusal → Type 0
+RefusesParts parts answer = (p : Parts) → p ≡ parts → IfErr answer (RefusesUnless (AreInRange p))
