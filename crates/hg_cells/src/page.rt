@@ -1,8 +1,8 @@
 //! Pages of cells.
 
-ghost use Rattle.std.specs.Prelude.{ℕ, IfSome, IsTrue, ◌≡◌, ◌⊎◌, ◌<◌, ◌≤◌, Some, length, replicate, slice_get, slice_set};
-ghost use Rattle.hg_cells.specs.Pages.{filled};
-ghost use Rattle.hg_cells.specs.declared.cell.Cell.TheVariants.{New, Exclusive};
+ghost use Rattle.std.specs.Prelude.{ℕ, IfSome, IsTrue, ◌≡◌, ◌<◌, ◌≤◌, Some, length, replicate, slice_get, slice_set};
+ghost use Rattle.hg_cells.specs.Pages.{AreNewOrOwned, filled};
+ghost use Rattle.hg_cells.specs.declared.cell.Cell.TheVariants.{New};
 
 use crate::cell::{Cell, are_same, is_new_or_owned};
 use std::marker::Model;
@@ -75,7 +75,7 @@ impl Page {
     #[inline(always)]
     pub fn are_new_or_owned(&self, from: usize, to: usize, owner: u32) -> bool
         requires in_page { to ≤ PAGE_WORDS }
-        ensures { IsTrue result → (i : ℕ) → from ≤ i → i < to → (slice_get self.now i ≡ Some New) ⊎ (slice_get self.now i ≡ Some (Exclusive owner)) }
+        ensures { IsTrue result → AreNewOrOwned self.now from to owner }
     {
         for i in from..to {
             if !is_new_or_owned(self.cells[i], owner) {

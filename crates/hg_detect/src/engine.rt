@@ -1,24 +1,20 @@
 //! The parts of a detector, and what an accepted event does to them.
 
-ghost use Rattle.std.specs.Prelude.{◌≡◌, ◌⊎◌, ℕ, ◌+◌, ◌-◌, ◌/◌, ◌*◌, ◌≤◌, ◌<◌, ◌^◌, [], ◌∷◌, All, IfOk, get_or, length, vec_capacity, IfErr, IfSome, IsTrue, Bool, false, OnOk, Ok, Err, None, if◌then◌else◌, ◌==◌};
-ghost use Rattle.std.specs.List.{list_any, range_with_len};
+ghost use Rattle.std.specs.Prelude.{◌≡◌, ◌⊎◌, ℕ, ◌+◌, ◌-◌, ◌/◌, ◌*◌, ◌≤◌, ◌<◌, ◌^◌, [], ◌∷◌, All, IfOk, length, vec_capacity, IfErr, IfSome, IsTrue, OnOk, Ok, Err, ◌==◌};
+ghost use Rattle.std.specs.List.{list_any};
 ghost use Rattle.hg_graph.specs.Graph.{names};
-ghost use Rattle.hg_model.specs.Segments.{of_thread, present};
-ghost use Rattle.hg_model.specs.declared.word.WordState.TheVariants.{Exclusive as Owned};
+ghost use Rattle.hg_model.specs.Segments.{of_thread};
 ghost use Rattle.hg_model.specs.Parts.{HasParts};
 ghost use Rattle.hg_model.specs.Accessing.{access_named};
-ghost use Rattle.hg_model.specs.Change.{empty_content, locks_of};
-ghost use Rattle.hg_model.specs.Sets.{common, with_member};
-ghost use Rattle.hg_sets.specs.Interning.{AreSets, KeepsNumbers, set_at};
+ghost use Rattle.hg_model.specs.Change.{empty_content};
+ghost use Rattle.hg_model.specs.Verdicts.{MayBeNext};
+ghost use Rattle.hg_sets.specs.Interning.{AreSets, KeepsNumbers, first_table};
 ghost use Rattle.hg_cells.specs.declared.cell.Cell.TheVariants.{New};
-ghost use Rattle.hg_cells.specs.Cells.{IsWithin, meaning};
-ghost use Rattle.hg_cells.specs.declared.report.KeptReport.{KeptReport as KeptReportOf};
-ghost use Rattle.hg_detect.specs.Words.{KeepsLaw, SameCells, failed_after};
-ghost use Rattle.hg_detect.specs.Making.{Asks, AsksBy, sets_in};
-ghost use Rattle.hg_detect.specs.Planning.{ArePlanned, IsPlanned, touched_by, wanted};
-ghost use Rattle.hg_detect.specs.Shown.{HasRoom, content, report_of};
-ghost use Rattle.hg_model.specs.Verdicts as rules;
-ghost use Rattle.hg_detect.specs.Engine.{Answers, AtPresent, IsOnLock, IsSound, actor_of, set_refusal, shown_of};
+ghost use Rattle.hg_cells.specs.Cells.{IsWithin};
+ghost use Rattle.hg_detect.specs.Words.{ForWords, HaveCell, KeepsLaw, failed_after};
+ghost use Rattle.hg_detect.specs.Planning.{as_it_is};
+ghost use Rattle.hg_detect.specs.Shown.{HasRoom, IsReportAt, content, shown_with};
+ghost use Rattle.hg_detect.specs.Engine.{Answers, AnswersAccess, AsksForAccess, AsksForCell, AtPresent, HasPlan, HasThread, IsOnLock, IsPlannedBy, IsSound, KeepsCells, KeepsLocks, PassesTo, shown_of};
 
 use crate::kept::{add_reports, reserve_reports};
 use crate::plan::{Accessor, Planned, plan_alike, plan_word, plan_words};
@@ -30,8 +26,8 @@ use hg_model::event::{Access, Block, Event, Named};
 use hg_model::report::Report;
 use hg_model::sets::NumberSet;
 use hg_model::state::TraceState;
-use hg_model::verdict::{Refusal, Verdict};
-use hg_sets::{SetFault, SetTable};
+use hg_model::verdict::Refusal;
+use hg_sets::SetTable;
 use std::alloc::{AllocError, Global};
 
 /// How many words one access overlaps at most.
@@ -75,7 +71,7 @@ impl<W> Engine<W> {
     pub(crate) fn report(&self, alloc: Global, index: usize) -> Result<Report, AllocError>
         requires known { All (λ r. r.threads < length self.now.sets.sets) self.now.kept.items }
         requires within { index < length self.now.kept.items }
-        ensures { IfOk result (λ r. (d : KeptReportOf) → r ≡ report_of self.now.sets.sets (get_or self.now.kept.items index d)) }
+        ensures { IfOk result (IsReportAt self.now.sets.sets self.now.kept.items index) }
     {
         let kept = self.kept[index];
         let mut threads = Vec::new(alloc);
@@ -97,7 +93,7 @@ impl<W: Words> Engine<W> {
         requires least { 1 ≤ most_sets }
         requires greatest { most_sets ≤ 262144 }
         ensures content { IfOk result (λ e. content W.cell_of (shown_of e) ≡ empty_content) }
-        ensures sets { IfOk result (λ e. e.sets ≡ record { limit = most_sets; sets = [] ∷ [] }) }
+        ensures sets { IfOk result (λ e. e.sets ≡ first_table most_sets) }
         ensures graph { IfOk result (λ e. length e.graph ≡ 1) }
         ensures words { IfOk result (λ e. e.words ≡ words) }
         ensures sound { IfOk result IsSound }
@@ -132,7 +128,7 @@ impl<W: Words> Engine<W> {
         requires reports { All (λ r. r.threads < length sets.sets) kept.items }
         requires few { length kept.items ≤ 65536 }
         requires total { total ≤ 17 * state.events }
-        ensures shown { IfOk result (λ e. shown_of e ≡ record { parts = state; segments = graph; sets = sets; words = words; kept = kept.items; total = total }) }
+        ensures shown { IfOk result (λ e. shown_of e ≡ shown_with state graph sets words kept.items total) }
         ensures sound { IfOk result IsSound }
         ensures handed_back { IfErr result (λ w. w ≡ words) }
     {
@@ -170,13 +166,12 @@ impl<W: Words> Engine<W> {
         ensures numbers { KeepsNumbers self.old.sets self.new.sets }
         ensures lawful { W.may_bring self.new.words (length self.old.graph) (length self.old.sets.sets) }
         ensures faithful { KeepsLaw (W.is_faithful self.old.words) (W.is_faithful self.new.words) }
-        ensures cells { (n m : ℕ) → W.is_faithful self.old.words n m → SameCells (W.cell_of self.old.words) (W.cell_of self.new.words) }
-        ensures kept { OnOk result ((w : ℕ) → first ≤ w → w < end → W.is_kept self.new.words w) }
-        ensures planned { OnOk result (ArePlanned self.old.graph self.old.sets.sets self.new.sets.sets (actor_of self.old access.now write) (W.cell_of self.new.words) first self.new.plan.items) }
+        ensures cells { KeepsCells ⟦<W as Words>⟧ self.old.words self.new.words }
+        ensures kept { OnOk result (ForWords first end (W.is_kept self.new.words)) }
+        ensures planned { OnOk result (HasPlan ⟦<W as Words>⟧ self.old access.now write first self.new) }
         ensures len { OnOk result (length self.new.plan.items ≡ end - first) }
         ensures room { OnOk result (HasRoom self.new.kept.items (vec_capacity self.new.kept) self.new.plan.items) }
-        ensures asked { (n m : ℕ) → W.is_faithful self.old.words n m
-            → AsksBy self.old.sets (wanted self.old.graph self.old.sets.sets (actor_of self.old access.now write) (W.cell_of self.old.words) (range_with_len first (end - first))) result self.new.sets }
+        ensures asked { AsksForAccess ⟦<W as Words>⟧ self.old access.now write first end result self.new }
         ensures refusal { IfErr result (λ r. (r ≡ Refusal.FullSets) ⊎ (r ≡ Refusal.OutOfMemory) ⊎ W.may_refuse r) }
         ensures went { W.went self.old.words self.new.words }
         ensures failures { W.failures self.new.words ≡ failed_after result (W.failures self.old.words) }
@@ -198,10 +193,9 @@ impl<W: Words> Engine<W> {
             first,
             end,
             &mut self.plan,
-        )
-        .map_err(refusal_of)?;
+        )?;
         self.words.keep(access.at, len)?;
-        reserve_reports(&mut self.kept, self.plan.as_slice()).map_err(out_of_memory)
+        Ok(reserve_reports(&mut self.kept, self.plan.as_slice())?)
     }
 
     /// Plans an access to words that have this cell.
@@ -213,9 +207,9 @@ impl<W: Words> Engine<W> {
         ensures others { self.new ≡ record self.old { sets = self.new.sets } }
         ensures sets { AreSets self.new.sets }
         ensures numbers { KeepsNumbers self.old.sets self.new.sets }
-        ensures planned { IfOk result (IsPlanned self.old.graph self.old.sets.sets self.new.sets.sets (actor_of self.old access.now write) cell) }
-        ensures asked { OnOk result (Asks self.old.sets (sets_in (touched_by self.old.graph (actor_of self.old access.now write) (meaning self.old.sets.sets cell))) None self.new.sets) }
-        ensures refused { IfErr result (λ r. AsksBy self.old.sets (sets_in (touched_by self.old.graph (actor_of self.old access.now write) (meaning self.old.sets.sets cell))) (Err r) self.new.sets) }
+        ensures planned { IfOk result (IsPlannedBy self.old access.now write cell self.new) }
+        ensures asked { OnOk result (AsksForCell self.old access.now write cell (Ok tt) self.new) }
+        ensures refused { IfErr result (λ r. AsksForCell self.old access.now write cell (Err r) self.new) }
         ensures refusal { IfErr result (λ r. (r ≡ Refusal.FullSets) ⊎ (r ≡ Refusal.OutOfMemory)) }
     {
         let locks = self.state.counted(access.t, write);
@@ -225,14 +219,14 @@ impl<W: Words> Engine<W> {
             write,
             locks,
         };
-        plan_word(&self.graph, &mut self.sets, &accessor, cell).map_err(refusal_of)
+        Ok(plan_word(&self.graph, &mut self.sets, &accessor, cell)?)
     }
 
     /// Whether words with this cell pass to the acting segment: they are new, or their owner reaches it.
     #[inline(always)]
     fn passes(&self, access: &Access, cell: Cell) -> bool
         requires thread { access.now.t < 1024 }
-        ensures { IsTrue result → (write : Bool) → touched_by self.now.graph (actor_of self.now access.now write) (meaning self.now.sets.sets cell) ≡ Owned (present self.now.graph access.now.t) }
+        ensures { IsTrue result → PassesTo self.now access.now cell }
     {
         match cell {
             Cell::New => true,
@@ -246,8 +240,8 @@ impl<W: Words> Engine<W> {
     #[inline(always)]
     fn stays_shared(&self, access: &Access, write: bool, cell: Cell) -> bool
         requires within { IsWithin (length self.now.graph) (length self.now.sets.sets) cell }
-        ensures planned { IsTrue result → IsPlanned self.now.graph self.now.sets.sets self.now.sets.sets (actor_of self.now access.now write) cell (record { cell = cell; reported = false }) }
-        ensures asked { IsTrue result → Asks self.now.sets (sets_in (touched_by self.now.graph (actor_of self.now access.now write) (meaning self.now.sets.sets cell))) None self.now.sets }
+        ensures planned { IsTrue result → IsPlannedBy self.now access.now write cell self.now (as_it_is cell) }
+        ensures asked { IsTrue result → AsksForCell self.now access.now write cell (Ok tt) self.now }
     {
         match cell {
             Cell::SharedRead(threads, locks) => {
@@ -263,8 +257,8 @@ impl<W: Words> Engine<W> {
     fn keeps_sets(&self, access: &Access, write: bool, threads: u32, locks: u32) -> bool
         requires threads { threads < length self.now.sets.sets }
         requires locks { locks < length self.now.sets.sets }
-        ensures threads { IsTrue result → with_member (set_at self.now.sets.sets threads) access.now.t ≡ set_at self.now.sets.sets threads }
-        ensures locks { IsTrue result → common (set_at self.now.sets.sets locks) (locks_of self.now.state.threads access.now.t write) ≡ set_at self.now.sets.sets locks }
+        ensures threads { IsTrue result → HasThread self.now threads access.now.t }
+        ensures locks { IsTrue result → KeepsLocks self.now locks access.now write }
     {
         self.sets.remembers_member(threads, access.t)
             && self
@@ -285,14 +279,14 @@ impl<W: Words> Engine<W> {
         cell: Cell,
     ) -> Result<(), Refusal>
         requires sound { IsSound self.old }
-        requires accepted { rules.verdict (rules.standing self.old.state) (access_named source number write access.now) ≡ Verdict.Accept }
+        requires accepted { MayBeNext self.old.state (access_named source number write access.now) }
         requires lawful { AtPresent W.may_bring (shown_of self.old) }
         requires first { first ≡ access.now.at / 4 }
         requires count { count ≡ (access.now.at + access.now.len + 3) / 4 - first }
-        requires cells { (w : ℕ) → first ≤ w → w < first + count → W.cell_of self.old.words w ≡ cell }
+        requires cells { HaveCell (W.cell_of self.old.words) first count cell }
         requires within { IsWithin (length self.old.graph) (length self.old.sets.sets) cell }
         requires fillable { W.may_fill self.old.words first count }
-        ensures answers { Answers W.cell_of W.may_bring W.is_faithful W.may_refuse self.old (access_named source number write access.now) result self.new }
+        ensures answers { AnswersAccess ⟦<W as Words>⟧ self.old source number write access.now result self.new }
         ensures went { W.went self.old.words self.new.words }
         ensures failures { W.failures self.new.words ≡ failed_after result (W.failures self.old.words) }
     {
@@ -306,7 +300,7 @@ impl<W: Words> Engine<W> {
             return Ok(());
         }
         plan_alike(&mut self.plan, planned, count);
-        reserve_reports(&mut self.kept, self.plan.as_slice()).map_err(out_of_memory)?;
+        reserve_reports(&mut self.kept, self.plan.as_slice())?;
         let next = self.state.events() + 1;
         self.state.follow_access(source, number);
         self.words.fill(first, count, planned.cell);
@@ -332,9 +326,9 @@ impl<W: Words> Engine<W> {
         write: bool,
     ) -> Result<(), Refusal>
         requires sound { IsSound self.old }
-        requires accepted { rules.verdict (rules.standing self.old.state) (access_named source number write access.now) ≡ Verdict.Accept }
+        requires accepted { MayBeNext self.old.state (access_named source number write access.now) }
         requires lawful { AtPresent W.may_bring (shown_of self.old) }
-        ensures answers { Answers W.cell_of W.may_bring W.is_faithful W.may_refuse self.old (access_named source number write access.now) result self.new }
+        ensures answers { AnswersAccess ⟦<W as Words>⟧ self.old source number write access.now result self.new }
         ensures went { W.went self.old.words self.new.words }
         ensures failures { W.failures self.new.words ≡ failed_after result (W.failures self.old.words) }
     {
@@ -365,14 +359,14 @@ impl<W: Words> Engine<W> {
         found: Option<Cell>,
     ) -> Result<(), Refusal>
         requires sound { IsSound self.old }
-        requires accepted { rules.verdict (rules.standing self.old.state) (access_named source number write access.now) ≡ Verdict.Accept }
+        requires accepted { MayBeNext self.old.state (access_named source number write access.now) }
         requires lawful { AtPresent W.may_bring (shown_of self.old) }
         requires first { first ≡ access.now.at / 4 }
         requires count { count ≡ (access.now.at + access.now.len + 3) / 4 - first }
-        requires cells { IfSome found (λ cell. (w : ℕ) → first ≤ w → w < first + count → W.cell_of self.old.words w ≡ cell) }
+        requires cells { IfSome found (HaveCell (W.cell_of self.old.words) first count) }
         requires within { IfSome found (IsWithin (length self.old.graph) (length self.old.sets.sets)) }
         requires fillable { IfSome found (λ cell. W.may_fill self.old.words first count) }
-        ensures answers { Answers W.cell_of W.may_bring W.is_faithful W.may_refuse self.old (access_named source number write access.now) result self.new }
+        ensures answers { AnswersAccess ⟦<W as Words>⟧ self.old source number write access.now result self.new }
         ensures went { W.went self.old.words self.new.words }
         ensures failures { W.failures self.new.words ≡ failed_after result (W.failures self.old.words) }
     {
@@ -412,9 +406,9 @@ impl<W: Words> Engine<W> {
         write: bool,
     ) -> Result<(), Refusal>
         requires sound { IsSound self.old }
-        requires accepted { rules.verdict (rules.standing self.old.state) (access_named source number write access) ≡ Verdict.Accept }
+        requires accepted { MayBeNext self.old.state (access_named source number write access) }
         requires lawful { AtPresent W.may_bring (shown_of self.old) }
-        ensures answers { Answers W.cell_of W.may_bring W.is_faithful W.may_refuse self.old (access_named source number write access) result self.new }
+        ensures answers { AnswersAccess ⟦<W as Words>⟧ self.old source number write access result self.new }
         ensures went { W.went self.old.words self.new.words }
         ensures failures { W.failures self.new.words ≡ failed_after result (W.failures self.old.words) }
     {
@@ -439,13 +433,13 @@ impl<W: Words> Engine<W> {
     fn fork(&mut self, named: &Named, p: u16, c: u16) -> Result<(), Refusal>
         requires event { named.now.event ≡ Event.Fork p c }
         requires sound { IsSound self.old }
-        requires accepted { rules.verdict (rules.standing self.old.state) named.now ≡ Verdict.Accept }
+        requires accepted { MayBeNext self.old.state named.now }
         requires lawful { AtPresent W.may_bring (shown_of self.old) }
-        ensures answers { Answers W.cell_of W.may_bring W.is_faithful W.may_refuse self.old named.now result self.new }
+        ensures answers { Answers ⟦<W as Words>⟧ self.old named.now result self.new }
         ensures went { W.went self.old.words self.new.words }
         ensures failures { W.failures self.new.words ≡ failed_after result (W.failures self.old.words) }
     {
-        self.graph.fork(p, c).map_err(out_of_memory)?;
+        self.graph.fork(p, c)?;
         self.state.follow(named);
         Ok(())
     }
@@ -454,13 +448,13 @@ impl<W: Words> Engine<W> {
     fn join(&mut self, named: &Named, p: u16, c: u16) -> Result<(), Refusal>
         requires event { named.now.event ≡ Event.Join p c }
         requires sound { IsSound self.old }
-        requires accepted { rules.verdict (rules.standing self.old.state) named.now ≡ Verdict.Accept }
+        requires accepted { MayBeNext self.old.state named.now }
         requires lawful { AtPresent W.may_bring (shown_of self.old) }
-        ensures answers { Answers W.cell_of W.may_bring W.is_faithful W.may_refuse self.old named.now result self.new }
+        ensures answers { Answers ⟦<W as Words>⟧ self.old named.now result self.new }
         ensures went { W.went self.old.words self.new.words }
         ensures failures { W.failures self.new.words ≡ failed_after result (W.failures self.old.words) }
     {
-        self.graph.join(p, c).map_err(out_of_memory)?;
+        self.graph.join(p, c)?;
         self.state.follow(named);
         Ok(())
     }
@@ -470,9 +464,9 @@ impl<W: Words> Engine<W> {
     fn hold(&mut self, named: &Named)
         requires event { IsOnLock named.now.event }
         requires sound { IsSound self.old }
-        requires accepted { rules.verdict (rules.standing self.old.state) named.now ≡ Verdict.Accept }
+        requires accepted { MayBeNext self.old.state named.now }
         requires lawful { AtPresent W.may_bring (shown_of self.old) }
-        ensures answers { Answers W.cell_of W.may_bring W.is_faithful W.may_refuse self.old named.now (Ok tt) self.new }
+        ensures answers { Answers ⟦<W as Words>⟧ self.old named.now (Ok tt) self.new }
         ensures went { W.went self.old.words self.new.words }
         ensures failures { W.failures self.new.words ≡ W.failures self.old.words }
     {
@@ -483,9 +477,9 @@ impl<W: Words> Engine<W> {
     fn reset(&mut self, named: &Named, block: &Block) -> Result<(), Refusal>
         requires event { (named.now.event ≡ Event.Alloc block.now) ⊎ (named.now.event ≡ Event.Free block.now) }
         requires sound { IsSound self.old }
-        requires accepted { rules.verdict (rules.standing self.old.state) named.now ≡ Verdict.Accept }
+        requires accepted { MayBeNext self.old.state named.now }
         requires lawful { AtPresent W.may_bring (shown_of self.old) }
-        ensures answers { Answers W.cell_of W.may_bring W.is_faithful W.may_refuse self.old named.now result self.new }
+        ensures answers { Answers ⟦<W as Words>⟧ self.old named.now result self.new }
         ensures went { W.went self.old.words self.new.words }
         ensures failures { W.failures self.new.words ≡ failed_after result (W.failures self.old.words) }
     {
@@ -501,9 +495,9 @@ impl<W: Words> Engine<W> {
     #[inline(always)]
     pub(crate) fn accept(&mut self, named: &Named) -> Result<(), Refusal>
         requires sound { IsSound self.old }
-        requires accepted { rules.verdict (rules.standing self.old.state) named.now ≡ Verdict.Accept }
+        requires accepted { MayBeNext self.old.state named.now }
         requires lawful { AtPresent W.may_bring (shown_of self.old) }
-        ensures answers { Answers W.cell_of W.may_bring W.is_faithful W.may_refuse self.old named.now result self.new }
+        ensures answers { Answers ⟦<W as Words>⟧ self.old named.now result self.new }
         ensures went { W.went self.old.words self.new.words }
         ensures failures { W.failures self.new.words ≡ failed_after result (W.failures self.old.words) }
     {
@@ -530,7 +524,7 @@ fn empty_parts(
     requires greatest { most_sets ≤ 262144 }
     ensures state { IfOk result (λ p. HasParts empty_content p.0) }
     ensures graph { IfOk result (λ p. p.1 ≡ of_thread 0 [] ∷ []) }
-    ensures sets { IfOk result (λ p. p.2 ≡ record { limit = most_sets; sets = [] ∷ [] }) }
+    ensures sets { IfOk result (λ p. p.2 ≡ first_table most_sets) }
     ensures are_sets { IfOk result (λ p. AreSets p.2) }
     ensures plan { IfOk result (λ p. 17 ≤ vec_capacity p.3) }
 {
@@ -540,21 +534,4 @@ fn empty_parts(
         SetTable::with_limit(alloc, most_sets)?,
         Vec::with_capacity(alloc, MOST_WORDS)?,
     ))
-}
-
-/// The refusal that a fault of the set table is answered with.
-fn refusal_of(fault: SetFault) -> Refusal
-    ensures { result ≡ set_refusal fault }
-{
-    match fault {
-        SetFault::Full => Refusal::FullSets,
-        SetFault::OutOfMemory => Refusal::OutOfMemory,
-    }
-}
-
-/// The refusal that a refused growth is answered with.
-fn out_of_memory(_: AllocError) -> Refusal
-    ensures { result ≡ Refusal.OutOfMemory }
-{
-    Refusal::OutOfMemory
 }

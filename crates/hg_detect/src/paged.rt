@@ -1,10 +1,10 @@
 //! A map of words in memory.
 
-ghost use Rattle.std.specs.Prelude.{◌≡◌, ℕ, ◌+◌, ◌/◌, ◌<◌, ◌≤◌, ◌^◌, true, Some, None, is_some, IfOk, IfErr, OnOk, MatchOption, nat_eq, nat_le, nat_lt, ◌==◌, ◌&&◌, ◌-◌, ◌%◌, if◌then◌else◌};
+ghost use Rattle.std.specs.Prelude.{◌≡◌, ℕ, ◌+◌, ◌/◌, ◌<◌, ◌≤◌, ◌^◌, true, None, is_some, IfOk, OnOk, MatchOption, nat_eq, ◌-◌};
 ghost use Rattle.indexmap.specs.IndexMap.{get};
 ghost use Rattle.hg_model.specs.declared.verdict.Refusal.TheVariants.{OutOfMemory};
 ghost use Rattle.hg_cells.specs.declared.cell.Cell.TheVariants.{New};
-ghost use Rattle.hg_detect.specs.Paged.{AreInPage, AreWithin, HasPage, StandsIn, cell_in, page_of};
+ghost use Rattle.hg_detect.specs.Paged.{AreInPage, AreWithin, FillsWords, HasPage, StandsIn, cell_in, page_of};
 ghost use Rattle.hg_detect.specs.PagedLaws.{each_within, more_within, never_full};
 
 use crate::words::Words;
@@ -61,7 +61,7 @@ impl PagedWords {
     /// The place of a page.
     #[inline]
     fn place(&self, number: u64) -> Option<usize>
-        ensures { MatchOption result (get nat_eq self.now.pages number ≡ None) (λ place. StandsIn self.now.pages number place) }
+        ensures { MatchOption result (get nat_eq self.now.pages number ≡ None) (StandsIn self.now.pages number) }
     {
         let hint = self.hint(number);
         if let Some((key, _)) = self.pages.get_index(hint) {
@@ -75,7 +75,7 @@ impl PagedWords {
     /// The place of a page that no hint gives.
     #[inline(never)]
     fn look_up(&self, number: u64) -> Option<usize>
-        ensures { MatchOption result (get nat_eq self.now.pages number ≡ None) (λ place. StandsIn self.now.pages number place) }
+        ensures { MatchOption result (get nat_eq self.now.pages number ≡ None) (StandsIn self.now.pages number) }
     {
         self.pages.get_index_of(&number)
     }
@@ -119,25 +119,18 @@ impl PagedWords {
     }
 
     /// Adds a page, whose words are new, where it is absent.
-    fn add(&mut self, number: u64) -> Result<(), Refusal>
+    fn add(&mut self, number: u64) -> Result<(), AllocError>
         ensures cells { (w : ℕ) → cell_in self.new w ≡ cell_in self.old w }
         ensures pages { (n : ℕ) → is_some (page_of self.old n) ≡ true → is_some (page_of self.new n) ≡ true }
         ensures added { OnOk result (is_some (page_of self.new number) ≡ true) }
-        ensures refusal { IfErr result (λ r. r ≡ OutOfMemory) }
     {
         if self.place(number).is_some() {
             return Ok(());
         }
-        let Ok(page) = Box::new(self.alloc, Page::new()) else {
-            return Err(Refusal::OutOfMemory);
-        };
-        match self.pages.insert(number, page) {
-            Ok(_) => {
-                self.note(number);
-                Ok(())
-            }
-            Err(_) => Err(Refusal::OutOfMemory),
-        }
+        let page = Box::new(self.alloc, Page::new())?;
+        self.pages.insert(number, page)?;
+        self.note(number);
+        Ok(())
     }
 
     /// Gives the words of a page from one place up to another a cell.
@@ -146,7 +139,7 @@ impl PagedWords {
         requires page { is_some (page_of self.old number) ≡ true }
         requires in_order { from ≤ to }
         requires in_page { to ≤ 256 }
-        ensures cells { (w : ℕ) → cell_in self.new w ≡ (if (w / 256 == number) && (nat_le from (w % 256) && nat_lt (w % 256) to) then cell else cell_in self.old w) }
+        ensures cells { FillsWords number from to cell self.old self.new }
         ensures pages { (n : ℕ) → is_some (page_of self.old n) ≡ true → is_some (page_of self.new n) ≡ true }
     {
         if let Some(place) = self.place(number) {

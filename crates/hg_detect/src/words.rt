@@ -3,11 +3,11 @@
 ghost use Rattle.std.specs.Prelude.{◌≡◌, ◌+◌, ◌^◌, ◌<◌, ◌≤◌, ◌==◌, ◌⊎◌, ℕ, length, OnOk, IfErr, IfSome, IsTrue, if◌then◌else◌};
 ghost use Rattle.hg_model.specs.History.{overlaps};
 ghost use Rattle.hg_cells.specs.Cells.{IsWithin};
-ghost use Rattle.hg_detect.specs.Words.{SameCells, ForOverlapped, KeepsLaw, failed_after};
+ghost use Rattle.hg_detect.specs.Words.{AreNewOrOwned, ForOverlapped, HasCellWithin, HaveCell, IsWithinWhere, KeepsLaw, KeepsLawFor, KeepsLawFrom, SameCells, failed_after};
 ghost use Rattle.hg_model.specs.declared.verdict.Refusal.{Refusal as RefusalOf};
 ghost use Rattle.hg_model.specs.declared.verdict.Refusal.TheVariants.{FullSets};
 ghost use Rattle.hg_cells.specs.declared.cell.Cell.{Cell as CellOf};
-ghost use Rattle.hg_cells.specs.declared.cell.Cell.TheVariants.{New, Exclusive};
+ghost use Rattle.hg_cells.specs.declared.cell.Cell.TheVariants.{New};
 
 use hg_cells::Cell;
 use hg_model::verdict::Refusal;
@@ -56,8 +56,8 @@ pub trait Words {
         requires within { at + len ≤ 2 ^ 64 }
         ensures cells { (n m : ℕ) → is_faithful self.old n m → SameCells (cell_of self.old) (cell_of self.new) }
         ensures brought { OnOk result (ForOverlapped at len (is_brought self.new)) }
-        ensures named { OnOk result (ForOverlapped at len (λ w. IsWithin segments (length sets.now.sets) (cell_of self.new w))) }
-        ensures lawful { (n m : ℕ) → segments ≤ n → length sets.now.sets ≤ m → may_bring self.old n m → may_bring self.new n m }
+        ensures named { OnOk result (ForOverlapped at len (HasCellWithin segments sets.now (cell_of self.new))) }
+        ensures lawful { KeepsLawFrom segments (length sets.now.sets) (may_bring self.old) (may_bring self.new) }
         ensures faithful { KeepsLaw (is_faithful self.old) (is_faithful self.new) }
         ensures refusal { IfErr result may_refuse }
         ensures went { went self.old self.new }
@@ -85,8 +85,8 @@ pub trait Words {
     /// The cell that `count` words from `first` on all have, where they may be filled. (`None` says nothing of them.) An event asks
     /// this first, so a map with frames takes it as a use of their page.
     fn same(&mut self, first: u64, count: u64) -> Option<Cell>
-        ensures cells { IfSome result (λ cell. (w : ℕ) → first ≤ w → w < first + count → cell_of self.new w ≡ cell) }
-        ensures named { IfSome result (λ cell. (segments sets : ℕ) → may_bring self.new segments sets → IsWithin segments sets cell) }
+        ensures cells { IfSome result (HaveCell (cell_of self.new) first count) }
+        ensures named { IfSome result (IsWithinWhere (may_bring self.new)) }
         ensures fillable { IfSome result (λ cell. may_fill self.new first count) }
         ensures unchanged { (n m : ℕ) → is_faithful self.old n m → SameCells (cell_of self.old) (cell_of self.new) }
         ensures lawful { KeepsLaw (may_bring self.old) (may_bring self.new) }
@@ -97,7 +97,7 @@ pub trait Words {
     /// Whether `count` words from `first` on are each new or owned by that segment, and may be filled. (`false` says nothing of
     /// them.)
     fn are_new_or_owned(&self, first: u64, count: u64, owner: u32) -> bool
-        ensures cells { IsTrue result → (w : ℕ) → first ≤ w → w < first + count → (cell_of self.now w ≡ New) ⊎ (cell_of self.now w ≡ Exclusive owner) }
+        ensures cells { IsTrue result → AreNewOrOwned (cell_of self.now) first count owner }
         ensures fillable { IsTrue result → may_fill self.now first count }
     {
         false
@@ -106,10 +106,10 @@ pub trait Words {
     /// Gives `count` words from `first` on a cell.
     fn fill(&mut self, first: u64, count: u64, cell: Cell)
         requires { may_fill self.old first count }
-        ensures inside { (w : ℕ) → first ≤ w → w < first + count → cell_of self.new w ≡ cell }
+        ensures inside { HaveCell (cell_of self.new) first count cell }
         ensures outside { (w : ℕ) → (w < first) ⊎ (first + count ≤ w) → cell_of self.new w ≡ cell_of self.old w }
-        ensures lawful { (segments sets : ℕ) → IsWithin segments sets cell → may_bring self.old segments sets → may_bring self.new segments sets }
-        ensures faithful { (segments sets : ℕ) → IsWithin segments sets cell → is_faithful self.old segments sets → is_faithful self.new segments sets }
+        ensures lawful { KeepsLawFor cell (may_bring self.old) (may_bring self.new) }
+        ensures faithful { KeepsLawFor cell (is_faithful self.old) (is_faithful self.new) }
         ensures went { went self.old self.new }
         ensures failures { failures self.new ≡ failures self.old };
 
@@ -118,8 +118,8 @@ pub trait Words {
         requires { is_kept self.old word }
         ensures cells { (w : ℕ) → cell_of self.new w ≡ (if w == word then cell else cell_of self.old w) }
         ensures kept { (w : ℕ) → is_kept self.old w → is_kept self.new w }
-        ensures lawful { (segments sets : ℕ) → IsWithin segments sets cell → may_bring self.old segments sets → may_bring self.new segments sets }
-        ensures faithful { (segments sets : ℕ) → IsWithin segments sets cell → is_faithful self.old segments sets → is_faithful self.new segments sets }
+        ensures lawful { KeepsLawFor cell (may_bring self.old) (may_bring self.new) }
+        ensures faithful { KeepsLawFor cell (is_faithful self.old) (is_faithful self.new) }
         ensures went { went self.old self.new }
         ensures failures { failures self.new ≡ failures self.old };
 

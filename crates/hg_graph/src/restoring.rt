@@ -1,9 +1,9 @@
 //! What a graph keeps beside its segments, made of segments that were there before it.
 
 ghost use Rattle.std.specs.Prelude.{◌≡◌, ◌<◌, ◌≤◌, ℕ, length, IfOk, slice_index_or};
-ghost use Rattle.hg_model.specs.Segments.{present as present_of, thread_at};
+ghost use Rattle.hg_model.specs.Segments.{thread_at};
 ghost use Rattle.hg_graph.specs.Clocks.{AreClocks, IsClock};
-ghost use Rattle.hg_graph.specs.Kept.{IsUnmarked};
+ghost use Rattle.hg_graph.specs.Kept.{ArePresent, IsUnmarked};
 ghost use Rattle.hg_graph.specs.Restoring.{AreSegments};
 
 use crate::THREADS;
@@ -17,7 +17,7 @@ pub(crate) fn present_segments(alloc: Global, segments: &[Segment]) -> Result<Ve
     requires few { length segments.now ≤ 1048576 }
     requires lawful { AreSegments segments.now }
     ensures rows { IfOk result (λ table. length table.items ≡ 1024) }
-    ensures each { IfOk result (λ table. (t : ℕ) → t < 1024 → slice_index_or table.items t 0 ≡ present_of segments.now t) }
+    ensures each { IfOk result (λ table. ArePresent segments.now table.items) }
 {
     let mut table = vec![in alloc; 0; THREADS]?;
     for number in 0..segments.len() {
@@ -37,7 +37,7 @@ pub(crate) fn clocks_of(
     requires few { length segments.now ≤ 1048576 }
     requires lawful { AreSegments segments.now }
     requires rows { length present.now ≡ 1024 }
-    requires each { (t : ℕ) → t < 1024 → slice_index_or present.now t 0 ≡ present_of segments.now t }
+    requires each { ArePresent segments.now present.now }
     requires marks { length marks.old ≡ length segments.now }
     requires clear { IsUnmarked marks.old }
     ensures clocks { IfOk result (λ clocks. AreClocks segments.now clocks.items) }

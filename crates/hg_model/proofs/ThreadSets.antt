@@ -1,5 +1,5 @@
 -- Accepted events make small sets of threads.
-use Rattle.std.proofs.Common.{◌≡◌, ℕ, zero, suc, ◌+◌, ◌-◌, ◌*◌, ◌≤◌, ◌<◌, Bool, true, false, cond, ◌||◌, nat_lt, nat_eq, List, [], ◌∷◌, ◌++◌, length, map, filter, take, Option, Some, None, refl, sym, ap, ◌∙◌, subst, arith}
+use Rattle.std.proofs.Common.{◌≡◌, ℕ, zero, suc, ◌+◌, ◌-◌, ◌≤◌, Bool, true, false, cond, ◌||◌, nat_lt, nat_eq, List, [], ◌∷◌, ◌++◌, length, map, take, Some, None, refl, sym, ◌∙◌, subst, arith}
 use Rattle.std.specs.List.{AllByRecursion}
 use Rattle.std.specs.Option.{option_and_then}
 use Rattle.std.proofs.lemmas.Bool.{eq-eqb, ltb-false, ltb-true, false≢true}
@@ -14,11 +14,11 @@ use Rattle.hg_model.specs.declared.verdict.Verdict.TheVariants.{Accept}
 use Rattle.hg_model.specs.Contents.{Content}
 use Rattle.hg_model.specs.History.{overlaps}
 use Rattle.hg_model.specs.Paths.{reaches}
-use Rattle.hg_model.specs.Segments.{of_thread, opened, present, thread_at}
+use Rattle.hg_model.specs.Segments.{opened, present, thread_at}
 use Rattle.hg_model.specs.Sets.{set_of, with_member}
 use Rattle.hg_model.specs.Sharing.{shared, threads_in}
-use Rattle.hg_model.specs.Verdicts.{actor, bad_number, causes, is_above_limit, standing_of, verdict}
-use Rattle.hg_model.specs.Change.{after, empty_content, followed, is_accept, new_reports, offered, touched, word_after}
+use Rattle.hg_model.specs.Verdicts.{actor, bad_number, is_above_limit, standing_of, verdict}
+use Rattle.hg_model.specs.Change.{after, empty_content, followed, is_accept, new_reports, touched, word_after}
 use Rattle.hg_model.specs.ThreadSets.{HasThreadSets, IsThreadSet, RisesFrom}
 use Rattle.hg_model.proofs.Accepted.{no_cause}
 use Rattle.hg_model.proofs.Following.{accept_is}

@@ -19,7 +19,8 @@ use Rattle.hg_model.specs.Reporting.{words_of}
 use Rattle.hg_model.specs.declared.verdict.Verdict.{Verdict}
 use Rattle.hg_model.specs.declared.verdict.Verdict.TheVariants.{Accept}
 use Rattle.hg_model.specs.Contents.{Content}
-use Rattle.hg_model.specs.Verdicts.{verdict, standing_of}
+use Rattle.hg_model.specs.Parts.{HasParts, Parts}
+use Rattle.hg_model.specs.Verdicts.{verdict, standing, standing_of}
 use Rattle.std.specs.Option.{option_and_then}
 
 -- the threads with thread t changed
@@ -115,6 +116,14 @@ empty_content = record { events = 0; segments = of_thread 0 [] ∷ []; threads =
 abbrev pub is_accept : Verdict → Bool
 is_accept Accept = true
 is_accept _ = false
+
+-- whether the event may be the next one where a content has these parts
+abbrev pub accepts : Parts → Named → Bool
+accepts p n = is_accept (verdict (standing p) n)
+
+-- What has the old parts has the new ones after the event.
+abbrev pub Follows : Parts → Named → Parts → Type 0
+Follows old n new = (c : Content) → HasParts c old → HasParts (after c n) new
 
 -- one offered event: the content after it, and none where it is not accepted
 abbrev pub offered : Named → Content → Option Content

@@ -1,8 +1,8 @@
 -- Which locks a thread holds. A trace is given newest event first: in `e ∷ past` the event e comes after those of past.
-use Rattle.std.specs.Prelude.{ℕ, Bool, true, false, ◌&&◌, ◌==◌, not, List, [], ◌∷◌, map, filter, Option, Some, None, if◌then◌else◌, nat_lt}
+use Rattle.std.specs.Prelude.{ℕ, Bool, true, false, ◌&&◌, ◌==◌, not, List, [], ◌∷◌, map, filter, Option, Some, None, if◌then◌else◌, nat_lt, nat_le}
 use Rattle.hg_model.specs.declared.event.Event.{Event}
 use Rattle.hg_model.specs.declared.event.Event.TheVariants.{Lock, RdLock, Unlock}
-use Rattle.std.specs.List.{list_any}
+use Rattle.std.specs.List.{insert, list_any, position_or_len}
 use Rattle.std.specs.List.Sorted.{IsStrictlyIncreasing}
 use Rattle.hg_model.specs.declared.held.HeldLock.{HeldLock}
 
@@ -26,6 +26,10 @@ without_lock l hs = filter (λ h. not (h.lock == l)) hs
 -- the numbers without this one
 abbrev pub without_number : ℕ → List ℕ → List ℕ
 without_number l ns = filter (λ n. not (n == l)) ns
+
+-- the numbers with this one, in front of the first that is as great
+abbrev pub with_number : ℕ → List ℕ → List ℕ
+with_number l ns = insert ns (position_or_len (λ n. nat_le l n) ns) l
 
 -- All locks that thread t holds, with their modes, by rising lock number.
 abbrev pub held : List Event → ℕ → List HeldLock

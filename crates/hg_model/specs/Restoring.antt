@@ -1,8 +1,10 @@
 -- What restoring a trace state asks of its parts.
-use Rattle.std.specs.Prelude.{◌≡◌, ℕ, ◌≤◌, ◌^◌, Bool, true, ◌&&◌, ◌||◌, ◌==◌, not, nat_lt, List, length, take, slice_get, Some, if◌then◌else◌}
+use Rattle.std.specs.Prelude.{◌≡◌, ◌⊎◌, IfErr, ℕ, ◌≤◌, ◌^◌, Bool, true, ◌&&◌, ◌||◌, ◌==◌, not, nat_lt, List, Result, length, take, slice_get, Some, if◌then◌else◌}
 use Rattle.std.specs.List.{list_any, list_all}
 use Rattle.hg_model.specs.declared.held.HeldLock.{HeldLock}
 use Rattle.hg_model.specs.declared.thread.ThreadState.{ThreadState}
+use Rattle.hg_model.specs.declared.verdict.Refusal.{Refusal}
+use Rattle.hg_model.specs.declared.verdict.Refusal.TheVariants.{Damaged, OutOfMemory}
 use Rattle.hg_model.specs.Locks.{has_lock, has_lock_for_writing}
 use Rattle.hg_model.specs.Parts.{Parts}
 
@@ -32,3 +34,15 @@ pub record AreInRange (p : Parts) : Type 0 where
   pub segments : p.segments ≤ 1048576
   pub threads : AreThreads p.threads
   pub last : length p.last ≡ 1024
+
+-- the parts of a trace state, as it is restored from them
+abbrev pub parts_of : ℕ → ℕ → List ThreadState → List ℕ → Parts
+parts_of events segments threads last = record { events = events; segments = segments; threads = threads; last = last }
+
+-- The refusal tells that P does not hold, or that memory ran out.
+abbrev pub RefusesUnless : Type 0 → Refusal → Type 0
+RefusesUnless P r = ((r ≡ Damaged) × (P → ⊥)) ⊎ (r ≡ OutOfMemory)
+
+-- The refusal tells that these parts are out of range, or that memory ran out.
+abbrev pub RefusesParts : {T : Type 0} → Parts → Result T Refusal → Type 0
+RefusesParts parts answer = (p : Parts) → p ≡ parts → IfErr answer (RefusesUnless (AreInRange p))

@@ -127,11 +127,15 @@ full_segments segments (Fork p c) = nat_lt 1048576 (segments + 2)
 full_segments segments (Join p c) = nat_lt 1048576 (segments + 1)
 full_segments segments _ = false
 
+-- 2^58 events were accepted
+abbrev pub full_events : ℕ → Bool
+full_events events = nat_le (2 ^ 58) events
+
 -- What may stand against an event, in the order of testing: its form, the threads, and then the locks and limits.
 abbrev pub lock_causes : Standing → Event → List (Bool × Refusal)
 lock_causes s e =
     (already_held s.threads e, AlreadyHeld) ∷ (lock_busy s.threads e, LockBusy) ∷ (not_held s.threads e, NotHeld)
-    ∷ (full_held s.threads e, FullHeld) ∷ (full_segments s.segments e, FullSegments) ∷ (nat_le (2 ^ 58) s.events, FullEvents) ∷ []
+    ∷ (full_held s.threads e, FullHeld) ∷ (full_segments s.segments e, FullSegments) ∷ (full_events s.events, FullEvents) ∷ []
 
 -- the causes that lie in the threads, and then those in the locks and limits
 abbrev pub thread_causes : Standing → Event → List (Bool × Refusal)
@@ -156,6 +160,10 @@ verdict s n =
     if nat_le n.number (s.last n.source) then Duplicate (s.last n.source)
     else if nat_lt (s.last n.source + 1) n.number then Refuse (Gap (s.last n.source + 1))
     else first_cause (causes s n)
+
+-- The event may be the next one where a content has these parts.
+abbrev pub MayBeNext : Parts → Named → Type 0
+MayBeNext p n = verdict (standing p) n ≡ Accept
 
 -- Each event of the trace is accepted after those before it.
 abbrev pub IsAccepted : List Named → Type 0

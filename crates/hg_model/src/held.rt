@@ -3,7 +3,7 @@
 ghost use Rattle.std.specs.Prelude.{◌≡◌, ◌<◌, ◌≤◌, false, length, nat_le, [], MatchOption, if◌then◌else◌};
 ghost use Rattle.std.specs.List.{insert, position_or_len, remove};
 ghost use Rattle.std.specs.List.Sorted.{IsStrictlyIncreasing};
-ghost use Rattle.hg_model.specs.Locks.{counted, with_hold, without_lock, without_number, has_lock, has_lock_for_writing, IsByRisingLock};
+ghost use Rattle.hg_model.specs.Locks.{counted, with_hold, with_number, without_lock, without_number, has_lock, has_lock_for_writing, IsByRisingLock};
 
 use crate::limits::MOST_HELD;
 use arrayvec::ArrayVec;
@@ -177,7 +177,7 @@ fn place_among(numbers: &[u16], number: u16) -> usize
 /// Adds a lock that is not held yet to the numbers of those that are held in write mode.
 fn count_writer(writing: &mut ArrayVec<u16, MOST_HELD>, held: HeldLock)
     requires { length writing.old.items < 64 }
-    ensures { writing.new.items ≡ (if held.write then insert writing.old.items (position_or_len (λ n. nat_le held.lock n) writing.old.items) held.lock else writing.old.items) }
+    ensures { writing.new.items ≡ (if held.write then with_number held.lock writing.old.items else writing.old.items) }
 {
     if held.write {
         let place = place_among(writing.as_slice(), held.lock);

@@ -1,5 +1,5 @@
 -- Interned sets: each set of numbers stands once in a table, and its number is its place.
-use Rattle.std.specs.Prelude.{◌≡◌, ◌≢◌, ◌⊎◌, ℕ, ◌<◌, ◌≤◌, List, [], ◌∷◌, ◌++◌, length, slice_index_or, All, AllPairs, Contains, Result, Ok, Err}
+use Rattle.std.specs.Prelude.{◌≡◌, ◌≢◌, ◌⊎◌, ℕ, ◌<◌, ◌≤◌, List, [], ◌∷◌, ◌++◌, length, slice_index_or, All, AllPairs, Contains, MatchOption, Option, Result, Ok, Err}
 use Rattle.std.specs.List.Sorted.{IsStrictlyIncreasing}
 use Rattle.hg_sets.specs.declared.fault.SetFault.{SetFault}
 use Rattle.hg_sets.specs.declared.fault.SetFault.TheVariants.{Full, OutOfMemory}
@@ -13,6 +13,10 @@ pub record Table : Type 0 where
 abbrev pub first_table : ℕ → Table
 first_table limit = record { limit = limit; sets = [] ∷ [] }
 
+-- these sets, each under its place, with room for so many
+abbrev pub table_with : ℕ → List (List ℕ) → Table
+table_with limit sets = record { limit = limit; sets = sets }
+
 -- the members of the set with this number
 abbrev pub set_at : List (List ℕ) → ℕ → List ℕ
 set_at sets id = slice_index_or sets id []
@@ -25,6 +29,14 @@ pub record AreSets (t : Table) : Type 0 where
   pub first_empty : set_at t.sets 0 ≡ []
   pub rising : All IsStrictlyIncreasing t.sets
   pub distinct : AllPairs ◌≢◌ t.sets
+
+-- The table is the one that was asked for, and where there is none no table may be so.
+abbrev pub IsRestored : Table → Option Table → Type 0
+IsRestored asked found = MatchOption found (¬ AreSets asked) (λ table. table ≡ asked)
+
+-- Its members rise strictly, and it does not stand among the sets.
+abbrev pub MayBeAdded : List (List ℕ) → List ℕ → Type 0
+MayBeAdded sets set = IsStrictlyIncreasing set × (¬ Contains sets set)
 
 -- the set stands in the list under this number
 abbrev pub StandsAt : List (List ℕ) → List ℕ → ℕ → Type 0

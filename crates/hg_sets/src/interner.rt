@@ -18,8 +18,8 @@ impl Interner {
     ghost use Rattle.std.specs.List.Sorted.{IsStrictlyIncreasing};
     ghost use Rattle.hg_model.specs.Sets.{common, with_member};
     ghost use Rattle.hg_sets.specs.declared.fault.SetFault.TheVariants.{Full};
-    ghost use Rattle.hg_sets.specs.Interning.{set_at, StandsAt, Interns};
-    ghost use Rattle.hg_sets.specs.Soundness.{table_of, IsSound};
+    ghost use Rattle.hg_sets.specs.Interning.{set_at, StandsAt};
+    ghost use Rattle.hg_sets.specs.Soundness.{table_of, InternsBy, IsSound};
 
     /// The table with the empty set alone.
     pub(crate) fn with_limit(alloc: Global, limit: u32) -> Result<Self, AllocError>
@@ -69,7 +69,7 @@ impl Interner {
     pub(crate) fn intern(&mut self, members: &[u16]) -> Result<u32, SetFault>
         requires sound { IsSound self.old }
         requires rising { IsStrictlyIncreasing members.now }
-        ensures exact { Interns (table_of self.old) members.now result (table_of self.new) }
+        ensures exact { InternsBy self.old members.now result self.new }
         ensures sound { IsSound self.new }
     {
         if let Some(id) = self.lists.find(members) {
@@ -85,7 +85,7 @@ impl Interner {
     fn intern_scratch(&mut self) -> Result<u32, SetFault>
         requires sound { IsSound self.old }
         requires rising { IsStrictlyIncreasing self.old.scratch.items }
-        ensures exact { Interns (table_of self.old) self.old.scratch.items result (table_of self.new) }
+        ensures exact { InternsBy self.old self.old.scratch.items result self.new }
         ensures sound { IsSound self.new }
     {
         if let Some(id) = self.lists.find(self.scratch.as_slice()) {
@@ -112,7 +112,7 @@ impl Interner {
         requires rising { IsStrictlyIncreasing self.old.scratch.items }
         requires absent { ¬ Contains self.old.lists self.old.scratch.items }
         requires below { length self.old.lists < self.old.limit }
-        ensures exact { Interns (table_of self.old) self.old.scratch.items result (table_of self.new) }
+        ensures exact { InternsBy self.old self.old.scratch.items result self.new }
         ensures sound { IsSound self.new }
     {
         let id = self.lists.len();
@@ -124,7 +124,7 @@ impl Interner {
     pub(crate) fn join(&mut self, a: u32, member: u16) -> Result<u32, SetFault>
         requires sound { IsSound self.old }
         requires known { a < length self.old.lists }
-        ensures exact { Interns (table_of self.old) (with_member (set_at self.old.lists a) member) result (table_of self.new) }
+        ensures exact { InternsBy self.old (with_member (set_at self.old.lists a) member) result self.new }
         ensures sound { IsSound self.new }
     {
         let members = self.lists.get(a);
@@ -141,7 +141,7 @@ impl Interner {
         requires sound { IsSound self.old }
         requires known { a < length self.old.lists }
         requires rising { IsStrictlyIncreasing others.now }
-        ensures exact { Interns (table_of self.old) (common (set_at self.old.lists a) others.now) result (table_of self.new) }
+        ensures exact { InternsBy self.old (common (set_at self.old.lists a) others.now) result self.new }
         ensures sound { IsSound self.new }
     {
         write_common(self.lists.get(a), others, &mut self.scratch);

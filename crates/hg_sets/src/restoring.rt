@@ -1,8 +1,8 @@
 //! A table made of sets that have their numbers already.
 
-ghost use Rattle.std.specs.Prelude.{◌≡◌, ◌<◌, ◌≤◌, ◌↔◌, true, false, length, Contains, IsTrue, IfOk, IfSome, MatchOption};
+ghost use Rattle.std.specs.Prelude.{◌≡◌, ◌<◌, ◌≤◌, ◌↔◌, true, false, length, IsTrue, IfOk, IfSome};
 ghost use Rattle.std.specs.List.Sorted.{IsStrictlyIncreasing};
-ghost use Rattle.hg_sets.specs.Interning.{AreSets, with_set};
+ghost use Rattle.hg_sets.specs.Interning.{AreSets, IsRestored, MayBeAdded, table_with, with_set};
 
 use crate::fault::SetFault;
 use crate::table::{MOST_SETS, SetTable};
@@ -18,7 +18,7 @@ impl SetTable {
         sets: &[NumberSet],
     ) -> Result<Option<Self>, AllocError>
         requires greatest { limit ≤ MOST_SETS }
-        ensures table { IfOk result (λ found. MatchOption found (¬ AreSets (record { limit = limit; sets = sets.now })) (λ t. t ≡ record { limit = limit; sets = sets.now })) }
+        ensures table { IfOk result (IsRestored (table_with limit sets.now)) }
         ensures sets { IfOk result (λ found. IfSome found AreSets) }
     {
         if sets.len() == 0 || sets.len() > limit as usize || sets[0].as_slice().len() > 0 {
@@ -47,7 +47,7 @@ impl SetTable {
     fn add(&mut self, members: &[u16]) -> Result<bool, AllocError>
         requires room { length self.old.sets < self.old.limit }
         ensures added { IfOk result (λ added. added ≡ true → self.new ≡ with_set self.old members.now) }
-        ensures refused { IfOk result (λ added. added ≡ false → ¬ (IsStrictlyIncreasing members.now × (¬ Contains self.old.sets members.now))) }
+        ensures refused { IfOk result (λ added. added ≡ false → ¬ MayBeAdded self.old.sets members.now) }
     {
         if !do_rise(members) || self.find(members).is_some() {
             return Ok(false);

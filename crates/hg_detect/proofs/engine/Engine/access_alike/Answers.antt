@@ -38,7 +38,7 @@ returns-in_err-planned-clause-answers g c =
     in
     let cause : (r ≡ refusal.FullSets) ⊎ (r ≡ refusal.OutOfMemory) = subst (λ x. IfErr x (λ e. (e ≡ refusal.FullSets) ⊎ (e ≡ refusal.OutOfMemory))) fails c.plan_for.ensures.refusal in
     let k = sets_changed words.cell_of words.may_bring words.is_faithful old c.plan_for.new.self c.plan_for.ensures.others c.plan_for.ensures.sets c.plan_for.ensures.numbers c.requires.sound in
-    refused_answers words.cell_of words.may_bring words.is_faithful words.may_refuse old c.plan_for.new.self (access_named c.args.source c.args.number c.args.write c.args.access.now) c.from_residual.result r
+    refused_answers words old c.plan_for.new.self (access_named c.args.source c.args.number c.args.write c.args.access.now) c.from_residual.result r
     same k laws.brings_more laws.more_faithful laws.faithful_within c.requires.sound c.requires.lawful
     (λ h. asked_from words.cell_of (shown_of old) (access_event c.args.write c.args.access.now) c.args.write a actor _ c.from_residual.result (Err r) c.plan_for.new.self.sets refl passed.some refl refl same
     (alike_refused old.graph old.sets c.plan_for.new.self.sets actor (words.cell_of old.words) c.args.cell first n r some alike cause asked))
@@ -69,9 +69,9 @@ returns-then-are_same-clause-answers g c =
     let k = sets_changed words.cell_of words.may_bring words.is_faithful old c.plan_for.new.self c.plan_for.ensures.others c.plan_for.ensures.sets c.plan_for.ensures.numbers c.requires.sound in
     let none = alike_found (mid.state.events + 1) c.args.write a.t first p n (quiet p.reported c.if-not-planned.true) in
     let same : p.cell ≡ c.args.cell = c.are_same.ensures.0 c.if-are_same.true in
-    access_answers words.cell_of words.may_bring words.is_faithful words.may_refuse old mid _ (access_named c.args.source c.args.number c.args.write c.args.access.now) c.args.write a (mid.state.events + 1) 0 _ plan
+    access_answers words old mid _ (access_named c.args.source c.args.number c.args.write c.args.access.now) c.args.write a (mid.state.events + 1) 0 _ plan
     refl passed k laws.brings_more laws.more_faithful laws.faithful_within c.requires.sound c.requires.lawful
-    (λ content parts. c.follow_access.ensures content c.args.write c.args.access.now parts) refl refl refl refl all_planned (length-replicate n p)
+    (c.follow_access.ensures c.args.write c.args.access.now) refl refl refl refl all_planned (length-replicate n p)
     (alike_given (words.cell_of mid.words) (words.cell_of mid.words) p first n (λ w low high. alike_mid w low high ∙ sym same) (λ w out. refl))
     (λ s m each h. h)
     (λ s m each h. h)
@@ -105,17 +105,17 @@ returns-then-not-planned-clause-answers g c =
     let inside : (w : ℕ) → first ≤ w → w < first + n → words.cell_of c.fill.new.self w ≡ p.cell = λ w low high. c.fill.ensures.inside w (omega (arith, c.requires.first)) (omega (arith, c.requires.first, c.requires.count)) in
     let outside : (w : ℕ) → (w < first) ⊎ (first + n ≤ w) → words.cell_of c.fill.new.self w ≡ words.cell_of mid.words w =
     λ w out. c.fill.ensures.outside w (⊎_elim (λ low. inl (omega (arith, c.requires.first))) (λ high. inr (omega (arith, c.requires.first, c.requires.count))) out) in
-    access_answers words.cell_of words.may_bring words.is_faithful words.may_refuse old mid _ (access_named c.args.source c.args.number c.args.write c.args.access.now) c.args.write a (mid.state.events + 1) 0 _ plan
+    access_answers words old mid _ (access_named c.args.source c.args.number c.args.write c.args.access.now) c.args.write a (mid.state.events + 1) 0 _ plan
     refl passed k laws.brings_more laws.more_faithful laws.faithful_within c.requires.sound c.requires.lawful
-    (λ content parts. c.follow_access.ensures content c.args.write c.args.access.now parts) refl refl refl refl all_planned (length-replicate n p)
+    (c.follow_access.ensures c.args.write c.args.access.now) refl refl refl refl all_planned (length-replicate n p)
     (alike_given (words.cell_of mid.words) (words.cell_of c.fill.new.self) p first n inside outside)
     (λ s m each h. c.fill.ensures.lawful s m (alike_within s m p n some each) h)
     (λ s m each h. c.fill.ensures.faithful s m (alike_within s m p n some each) h)
     refl (sym (ap (λ xs. take 65536 (mid.kept.items ++ xs)) none ∙ ap (take 65536) (append-nil mid.kept.items) ∙ take_all 65536 mid.kept.items (omega (arith, c.requires.sound.few, ap length k.kept)))) (sym (ap length none)) (sym (add-zero mid.total))
     (λ h. asked_from words.cell_of (shown_of old) (access_event c.args.write c.args.access.now) c.args.write a actor _ (Ok tt) (Ok tt) mid.sets refl passed.some refl refl refl asked)
 
-pub returns-in_err-map_err-clause-answers : goal.returns-in_err-map_err-clause-answers
-returns-in_err-map_err-clause-answers g c =
+pub returns-in_err-reserve_reports-clause-answers : goal.returns-in_err-reserve_reports-clause-answers
+returns-in_err-reserve_reports-clause-answers g c =
     let words = g.W.Words in
     let laws = g.met.W.Words in
     let old = c.args.self.now in
@@ -152,10 +152,10 @@ returns-in_err-map_err-clause-answers g c =
       cells = k.cells;
     }
     in
-    let same : c.from_residual-in_err-map_err.result ≡ Err refusal.OutOfMemory = grind arith in
-    refused_answers words.cell_of words.may_bring words.is_faithful words.may_refuse old roomy (access_named c.args.source c.args.number c.args.write c.args.access.now) c.from_residual-in_err-map_err.result refusal.OutOfMemory
+    let same : c.from_residual-in_err-reserve_reports.result ≡ Err refusal.OutOfMemory = grind arith in
+    refused_answers words old roomy (access_named c.args.source c.args.number c.args.write c.args.access.now) c.from_residual-in_err-reserve_reports.result refusal.OutOfMemory
     same roomier laws.brings_more laws.more_faithful laws.faithful_within c.requires.sound c.requires.lawful
-    (λ h. asked_from words.cell_of (shown_of old) (access_event c.args.write c.args.access.now) c.args.write a actor _ c.from_residual-in_err-map_err.result (Err refusal.OutOfMemory) mid.sets refl passed.some refl refl same (inr (inl asked)))
+    (λ h. asked_from words.cell_of (shown_of old) (access_event c.args.write c.args.access.now) c.args.write a actor _ c.from_residual-in_err-reserve_reports.result (Err refusal.OutOfMemory) mid.sets refl passed.some refl refl same (inr (inl asked)))
     (subst (λ x. IfErr x (λ e. (e ≡ refusal.FullSets) ⊎ ((e ≡ refusal.OutOfMemory) ⊎ words.may_refuse e))) (sym same) (inr (inl refl)))
 
 pub add_reports-reports-requires-clause-fits : goal.add_reports-reports-requires-clause-fits
@@ -220,9 +220,9 @@ returns-clause-answers g c =
     let slice : c.as_slice-2.result.now ≡ replicate n p = c.as_slice-2.ensures.value ∙ planned_room in
     let items = c.add_reports-reports.ensures.items ∙ (λ i. take 65536 (c.reserve_reports.new.kept.items ++ found (c.events-next.result + 1) c.args.write a.t (c.requires.first i) (slice i))) in
     let count = c.add_reports-reports.ensures.count ∙ (λ i. length (found (c.events-next.result + 1) c.args.write a.t (c.requires.first i) (slice i))) in
-    access_answers words.cell_of words.may_bring words.is_faithful words.may_refuse old roomy _ (access_named c.args.source c.args.number c.args.write c.args.access.now) c.args.write a (c.events-next.result + 1) c.add_reports-reports.result _ plan
+    access_answers words old roomy _ (access_named c.args.source c.args.number c.args.write c.args.access.now) c.args.write a (c.events-next.result + 1) c.add_reports-reports.result _ plan
     refl passed roomier laws.brings_more laws.more_faithful laws.faithful_within c.requires.sound c.requires.lawful
-    (λ content parts. c.follow_access-2.ensures content c.args.write c.args.access.now parts) refl refl refl refl all_planned (length-replicate n p)
+    (c.follow_access-2.ensures c.args.write c.args.access.now) refl refl refl refl all_planned (length-replicate n p)
     (alike_given (words.cell_of mid.words) (words.cell_of c.fill-2.new.self) p first n inside outside)
     (λ s m each h. c.fill-2.ensures.lawful s m (alike_within s m p n some each) h)
     (λ s m each h. c.fill-2.ensures.faithful s m (alike_within s m p n some each) h)

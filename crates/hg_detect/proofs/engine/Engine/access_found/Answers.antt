@@ -37,9 +37,9 @@ returns-then-are_same-clause-answers g c =
     let alike : (w : ℕ) → first ≤ w → w < first + n → words.cell_of old.words w ≡ Exclusive actor.segment = λ w low high. found_cells w (omega (arith, c.requires.first)) (omega (arith, c.requires.first, c.requires.count)) ∙ is in
     let p = owned actor.segment in
     let none = alike_found (old.state.events + 1) c.args.write a.t first p n refl in
-    access_answers words.cell_of words.may_bring words.is_faithful words.may_refuse old old _ (access_named c.args.source c.args.number c.args.write c.args.access.now) c.args.write a (old.state.events + 1) 0 _ (replicate n p)
+    access_answers words old old _ (access_named c.args.source c.args.number c.args.write c.args.access.now) c.args.write a (old.state.events + 1) 0 _ (replicate n p)
     refl passed (nothing_changed words.cell_of words.may_bring words.is_faithful old c.requires.sound) laws.brings_more laws.more_faithful laws.faithful_within c.requires.sound c.requires.lawful
-    (λ content parts. c.follow_access.ensures content c.args.write c.args.access.now parts) refl refl refl refl (alike_planned old.graph old.sets.sets old.sets.sets actor (words.cell_of old.words) (Exclusive actor.segment) p first n (stays_owned old.graph old.sets.sets actor within) alike) (length-replicate n p)
+    (c.follow_access.ensures c.args.write c.args.access.now) refl refl refl refl (alike_planned old.graph old.sets.sets old.sets.sets actor (words.cell_of old.words) (Exclusive actor.segment) p first n (stays_owned old.graph old.sets.sets actor within) alike) (length-replicate n p)
     (alike_given (words.cell_of old.words) (words.cell_of old.words) p first n alike (λ w out. refl))
     (λ s m each h. h)
     (λ s m each h. h)
@@ -75,9 +75,9 @@ returns-then-passes-clause-answers g c =
     in
     let named : (s m : ℕ) → All (λ (q : Planned). IsWithin s m q.cell) (replicate n p) → IsWithin s m (Exclusive c.present.result) = λ s m each. subst (IsWithin s m) (sym (ap Exclusive segment)) (alike_within s m p n some each) in
     let none = alike_found (old.state.events + 1) c.args.write a.t first p n refl in
-    access_answers words.cell_of words.may_bring words.is_faithful words.may_refuse old old _ (access_named c.args.source c.args.number c.args.write c.args.access.now) c.args.write a (old.state.events + 1) 0 _ (replicate n p)
+    access_answers words old old _ (access_named c.args.source c.args.number c.args.write c.args.access.now) c.args.write a (old.state.events + 1) 0 _ (replicate n p)
     refl passed (nothing_changed words.cell_of words.may_bring words.is_faithful old c.requires.sound) laws.brings_more laws.more_faithful laws.faithful_within c.requires.sound c.requires.lawful
-    (λ content parts. c.follow_access-then-passes.ensures content c.args.write c.args.access.now parts) refl refl refl refl (alike_planned old.graph old.sets.sets old.sets.sets actor (words.cell_of old.words) c.in-Some.cell p first n (passing_planned old.graph old.sets.sets actor c.in-Some.cell within passes) alike) (length-replicate n p)
+    (c.follow_access-then-passes.ensures c.args.write c.args.access.now) refl refl refl refl (alike_planned old.graph old.sets.sets old.sets.sets actor (words.cell_of old.words) c.in-Some.cell p first n (passing_planned old.graph old.sets.sets actor c.in-Some.cell within passes) alike) (length-replicate n p)
     (alike_given (words.cell_of old.words) (words.cell_of c.fill.new.self) p first n inside outside)
     (λ s m each h. c.fill.ensures.lawful s m (named s m each) h)
     (λ s m each h. c.fill.ensures.faithful s m (named s m each) h)
@@ -110,9 +110,9 @@ returns-then-are_new_or_owned-clause-answers g c =
     in
     let named : (s m : ℕ) → All (λ (q : Planned). IsWithin s m q.cell) (replicate n p) → IsWithin s m (Exclusive c.present-segment.result) = λ s m each. subst (IsWithin s m) (sym (ap Exclusive segment)) (alike_within s m p n some each) in
     let none = alike_found (old.state.events + 1) c.args.write a.t first p n refl in
-    access_answers words.cell_of words.may_bring words.is_faithful words.may_refuse old old _ (access_named c.args.source c.args.number c.args.write c.args.access.now) c.args.write a (old.state.events + 1) 0 _ (replicate n p)
+    access_answers words old old _ (access_named c.args.source c.args.number c.args.write c.args.access.now) c.args.write a (old.state.events + 1) 0 _ (replicate n p)
     refl passed (nothing_changed words.cell_of words.may_bring words.is_faithful old c.requires.sound) laws.brings_more laws.more_faithful laws.faithful_within c.requires.sound c.requires.lawful
-    (λ content parts. c.follow_access-then-are_new_or_owned.ensures content c.args.write c.args.access.now parts) refl refl refl refl (ownable_planned old.graph old.sets.sets actor (words.cell_of old.words) first n within each) (length-replicate n p)
+    (c.follow_access-then-are_new_or_owned.ensures c.args.write c.args.access.now) refl refl refl refl (ownable_planned old.graph old.sets.sets actor (words.cell_of old.words) first n within each) (length-replicate n p)
     (alike_given (words.cell_of old.words) (words.cell_of c.fill-then-are_new_or_owned.new.self) p first n inside outside)
     (λ s m each h. c.fill-then-are_new_or_owned.ensures.lawful s m (named s m each) h)
     (λ s m each h. c.fill-then-are_new_or_owned.ensures.faithful s m (named s m each) h)
@@ -138,9 +138,9 @@ returns-then-stays_shared-clause-answers g c =
     let alike : (w : ℕ) → first ≤ w → w < first + n → words.cell_of old.words w ≡ c.in-Some.cell = λ w low high. found_cells w (omega (arith, c.requires.first)) (omega (arith, c.requires.first, c.requires.count)) in
     let p = unchanged c.in-Some.cell in
     let none = alike_found (old.state.events + 1) c.args.write a.t first p n refl in
-    access_answers words.cell_of words.may_bring words.is_faithful words.may_refuse old old _ (access_named c.args.source c.args.number c.args.write c.args.access.now) c.args.write a (old.state.events + 1) 0 _ (replicate n p)
+    access_answers words old old _ (access_named c.args.source c.args.number c.args.write c.args.access.now) c.args.write a (old.state.events + 1) 0 _ (replicate n p)
     refl passed (nothing_changed words.cell_of words.may_bring words.is_faithful old c.requires.sound) laws.brings_more laws.more_faithful laws.faithful_within c.requires.sound c.requires.lawful
-    (λ content parts. c.follow_access-then-stays_shared.ensures content c.args.write c.args.access.now parts) refl refl refl refl (alike_planned old.graph old.sets.sets old.sets.sets actor (words.cell_of old.words) c.in-Some.cell p first n (c.if-stays_shared.ensures.planned refl) alike) (length-replicate n p)
+    (c.follow_access-then-stays_shared.ensures c.args.write c.args.access.now) refl refl refl refl (alike_planned old.graph old.sets.sets old.sets.sets actor (words.cell_of old.words) c.in-Some.cell p first n (c.if-stays_shared.ensures.planned refl) alike) (length-replicate n p)
     (alike_given (words.cell_of old.words) (words.cell_of old.words) p first n alike (λ w out. refl))
     (λ s m each h. h)
     (λ s m each h. h)

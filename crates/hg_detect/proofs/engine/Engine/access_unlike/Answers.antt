@@ -33,7 +33,7 @@ returns-in_err-prepare-clause-answers g c =
     let passed = access_passes (standing old.state) (access_named c.args.source c.args.number c.args.write c.args.access) c.args.write a refl c.requires.accepted in
     let same : c.from_residual.result ≡ c.prepare.result = grind arith in
     let fails : c.from_residual.result ≡ Err c.in_err-prepare.field-0.0 = grind arith in
-    refused_answers words.cell_of words.may_bring words.is_faithful words.may_refuse old c.prepare.new.self (access_named c.args.source c.args.number c.args.write c.args.access) c.from_residual.result c.in_err-prepare.field-0.0
+    refused_answers words old c.prepare.new.self (access_named c.args.source c.args.number c.args.write c.args.access) c.from_residual.result c.in_err-prepare.field-0.0
     fails k g.met.W.Words.brings_more g.met.W.Words.more_faithful g.met.W.Words.faithful_within c.requires.sound c.requires.lawful
     (λ h. asked_from words.cell_of (shown_of old) (access_event c.args.write c.args.access) c.args.write a (actor_of old a c.args.write) _ c.from_residual.result c.prepare.result c.prepare.new.self.sets refl passed.some refl (last_word a c.from.result c.from.ensures passed.some) same (p.asked (length old.graph) (length old.sets.sets) h))
     (grind arith)
@@ -81,8 +81,8 @@ returns-clause-answers g c =
     let items = c.add_reports.ensures.items ∙ ap (λ xs. take 65536 (mid.kept.items ++ found (c.events-event.result + 1) c.args.write a.t first xs)) c.as_slice-2.ensures.value in
     let count = c.add_reports.ensures.count ∙ ap (λ xs. length (found (c.events-event.result + 1) c.args.write a.t first xs)) c.as_slice-2.ensures.value in
     let ends = last_word a c.from.result c.from.ensures passed.some in
-    access_answers words.cell_of words.may_bring words.is_faithful words.may_refuse old mid _ (access_named c.args.source c.args.number c.args.write c.args.access) c.args.write a (c.events-event.result + 1) c.add_reports.result _ plan
+    access_answers words old mid _ (access_named c.args.source c.args.number c.args.write c.args.access) c.args.write a (c.events-event.result + 1) c.add_reports.result _ plan
     refl passed k laws.brings_more laws.more_faithful laws.faithful_within c.requires.sound c.requires.lawful
-    (λ content parts. c.follow_access.ensures content c.args.write c.args.access parts) refl refl refl ends done.planned done.len cells lawful faithful
+    (c.follow_access.ensures c.args.write c.args.access) refl refl refl ends done.planned done.len cells lawful faithful
     (ap (λ (x : ℕ). x + 1) c.events-event.ensures) items count refl
     (λ h. asked_from words.cell_of (shown_of old) (access_event c.args.write c.args.access) c.args.write a (actor_of old a c.args.write) _ (Ok tt) c.prepare.result mid.sets refl passed.some refl ends ok (p.asked (length old.graph) (length old.sets.sets) h))

@@ -1,16 +1,14 @@
-use Rattle.std.proofs.Common.{◌≡◌, ◌⊎◌, List, Result, Err, IfErr, sym, ap, subst, ⊎_elim, inl, inr, arith}
+use Rattle.std.proofs.Common.{◌≡◌, List, Result, Err, IfErr, sym, ap, subst, ⊎_elim, inl, inr, arith}
 use Rattle.hg_model.specs.declared.thread.ThreadState.{ThreadState}
 use Rattle.hg_model.specs.declared.verdict.Refusal.{Refusal}
-use Rattle.hg_model.specs.declared.verdict.Refusal.TheVariants.{Damaged, OutOfMemory}
 use Rattle.hg_model.specs.Parts.{Parts}
-use Rattle.hg_model.specs.Restoring.{AreInRange, AreThreads}
+use Rattle.hg_model.specs.Restoring.{AreInRange, AreThreads, RefusesUnless}
 use Rattle.hg_model.proofs.state.TraceState.restore.Goals as goal
 
 -- threads that don't fit are parts that are out of range
-passed : {S : Type 0} (p : Parts) (threads : List ThreadState) (answer : Result S Refusal) (f : Refusal) → p.threads ≡ threads → ((f ≡ Damaged) × (AreThreads threads → ⊥)) ⊎ (f ≡ OutOfMemory) → answer ≡ Err f →
-    IfErr answer (λ r. ((r ≡ Damaged) × (AreInRange p → ⊥)) ⊎ (r ≡ OutOfMemory))
+passed : {S : Type 0} (p : Parts) (threads : List ThreadState) (answer : Result S Refusal) (f : Refusal) → p.threads ≡ threads → RefusesUnless (AreThreads threads) f → answer ≡ Err f → IfErr answer (RefusesUnless (AreInRange p))
 passed p threads answer f is why fails =
-    subst (λ a. IfErr a (λ r. ((r ≡ Damaged) × (AreInRange p → ⊥)) ⊎ (r ≡ OutOfMemory))) (sym fails)
+    subst (λ a. IfErr a (RefusesUnless (AreInRange p))) (sym fails)
     (⊎_elim (λ bad. inl (bad.0, λ range. bad.1 (subst AreThreads is range.threads))) (λ out. inr out) why)
 
 pub returns-in_err-threads-clause-refusal : goal.returns-in_err-threads-clause-refusal

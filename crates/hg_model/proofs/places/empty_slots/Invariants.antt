@@ -1,5 +1,5 @@
 use Rattle.std.proofs.Common.{◌≡◌, None, replicate}
-use Rattle.hg_model.proofs.table.empty_slots.Given as goal
+use Rattle.hg_model.proofs.places.empty_slots.Given as goal
 
 -- an empty place for each turn
 abbrev pub invariant-loop : goal.invariant-loop

@@ -1,6 +1,6 @@
 use Rattle.std.proofs.Common.{◌≡◌, ◌++◌, drop}
 use Rattle.hg_model.specs.Tables.{started}
-use Rattle.hg_model.proofs.table.started_in.Given as goal
+use Rattle.hg_model.proofs.places.started_in.Given as goal
 
 -- the threads so far, and those of the places to come
 abbrev pub invariant-loop-slot : goal.invariant-loop-slot
