@@ -1,5 +1,5 @@
 -- The table of locks agrees with the threads, before and after a change of one thread.
-use Rattle.std.proofs.Common.{◌≡◌, ◌≢◌, ℕ, ◌<◌, ◌≤◌, Bool, true, false, cond, ◌&&◌, ◌||◌, nat_eq, nat_lt, List, [], ◌∷◌, filter, set, get_or, count_by, Option, Some, None, refl, sym, ap, ◌∙◌, subst, ⊎_elim, arith, length-set, get_or-set_same, get_or-set_other}
+use Rattle.std.proofs.Common.{◌≡◌, ◌≢◌, ℕ, ◌<◌, ◌≤◌, Bool, true, false, cond, ◌&&◌, ◌||◌, ◌==◌, nat_eq, nat_lt, List, [], ◌∷◌, filter, set, get_or, count_by, Option, Some, None, refl, sym, ap, ◌∙◌, subst, ⊎_elim, arith, length-set, get_or-set_same, get_or-set_other}
 use Rattle.std.proofs.lemmas.Bool.{ne_eqb, eqb-false, lt-ltb, ltb-true, ltb-false, cases_eq, or_parts, and_parts, or_right, or_left}
 use Rattle.std.proofs.lemmas.List.Sums.{sum_by-cons}
 use Rattle.std.specs.List.{list_any}
@@ -8,6 +8,7 @@ use Rattle.hg_model.specs.declared.thread.ThreadState.{ThreadState}
 use Rattle.hg_model.specs.declared.table.LockUse.{LockUse}
 use Rattle.hg_model.specs.declared.table.LockUse.TheVariants.{Reading, Writing}
 use Rattle.hg_model.specs.Locks.{with_hold, has_lock, has_lock_for_writing}
+use Rattle.hg_model.specs.Verdicts.{has_thread}
 use Rattle.hg_model.specs.Tables.{started, holders, writers, use_of, TablesAgree}
 use Rattle.hg_model.proofs.Slots.{number_at, numbered_set, one_if, count_set, count_added, any_is_count}
 
@@ -167,3 +168,14 @@ any_filter_drops p keep k (x ∷ hs) =
       | true ↦ λ yes. ap (λ b. b || list_any p (filter keep hs)) (k x yes) ∙ any_filter_drops p keep k hs
       | false ↦ λ _. any_filter_drops p keep k hs
     ] refl
+
+-- what is true of no thread is not true of one
+pub none_of_any : (threads : List ThreadState) (t : ℕ) (test : ThreadState → Bool) → list_any test threads ≡ false → has_thread threads t test ≡ false
+none_of_any [] t test h = refl
+none_of_any (x ∷ xs) t test h =
+    let parts = or_parts (test x) (list_any test xs) h in
+    (λ j. ((x.number == t) && parts.0 j) || none_of_any xs t test parts.1 j) ∙ neither (x.number == t)
+  where
+    neither : (b : Bool) → ((b && false) || false) ≡ false
+    neither true = refl
+    neither false = refl

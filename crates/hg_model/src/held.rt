@@ -1,6 +1,6 @@
 //! The locks that one thread holds.
 
-ghost use Rattle.std.specs.Prelude.{◌≡◌, ◌<◌, ◌≤◌, false, length, nat_le, [], MatchOption, if◌then◌else◌};
+ghost use Rattle.std.specs.Prelude.{◌≡◌, ◌+◌, ◌<◌, ◌≤◌, ◌++◌, ◌∷◌, ◌-◌, false, length, take, nat_le, [], MatchOption, if◌then◌else◌};
 ghost use Rattle.std.specs.List.{insert, position_or_len, remove};
 ghost use Rattle.std.specs.List.Sorted.{IsStrictlyIncreasing};
 ghost use Rattle.hg_model.specs.Locks.{counted, with_hold, with_number, without_lock, without_number, has_lock, has_lock_for_writing, IsByRisingLock};
@@ -117,8 +117,8 @@ impl HeldLocks {
         ensures { self.new ≡ with_hold held self.old }
     {
         let place = place_of(self.holds.as_slice(), held.lock);
-        self.holds.insert(place, held);
-        self.any.insert(place, held.lock);
+        put_at(&mut self.holds, place, held);
+        put_at(&mut self.any, place, held.lock);
         count_writer(&mut self.writing, held);
     }
 
@@ -127,10 +127,56 @@ impl HeldLocks {
         ensures { self.new ≡ without_lock lock self.old }
     {
         if let Some(place) = index_of(self.holds.as_slice(), lock) {
-            self.holds.remove(place);
-            self.any.remove(place);
+            take_out(&mut self.holds, place);
+            take_out(&mut self.any, place);
             leave_out(&mut self.writing, lock);
         }
+    }
+}
+
+/// Puts an item at a place. What stands there and behind it moves on by one.
+fn put_at<T: Copy>(items: &mut ArrayVec<T, MOST_HELD>, place: usize, item: T)
+    requires place { place ≤ length items.old.items }
+    requires room { length items.old.items < 64 }
+    ensures items { items.new.items ≡ insert items.old.items place item }
+    ensures len { length items.new.items ≡ length items.old.items + 1 }
+{
+    let last = move_on(items.as_mut_slice(), place, item);
+    items.push(last);
+}
+
+/// The same, within so many items: answers the one that finds no place.
+fn move_on<T: Copy>(items: &mut [T], place: usize, item: T) -> T
+    requires { place ≤ length items.old }
+    ensures { items.new ++ result ∷ [] ≡ insert items.old place item }
+{
+    let mut carried = item;
+    for i in place..items.len() {
+        let next = items[i];
+        items[i] = carried;
+        carried = next;
+    }
+    carried
+}
+
+/// Takes the item of a place out. What stands behind it moves back by one.
+fn take_out<T: Copy + Default + Drop>(items: &mut ArrayVec<T, MOST_HELD>, place: usize)
+    requires { place < length items.old.items }
+    ensures items { items.new.items ≡ remove items.old.items place }
+    ensures len { length items.new.items + 1 ≡ length items.old.items }
+{
+    move_back(items.as_mut_slice(), place);
+    let _last = items.pop();
+}
+
+/// The same, within so many items, of which the last stays where it was.
+fn move_back<T: Copy>(items: &mut [T], place: usize)
+    requires { place < length items.old }
+    ensures len { length items.new ≡ length items.old }
+    ensures items { take (length items.old - 1) items.new ≡ remove items.old place }
+{
+    for i in place..items.len() - 1 {
+        items[i] = items[i + 1];
     }
 }
 
@@ -181,7 +227,7 @@ fn count_writer(writing: &mut ArrayVec<u16, MOST_HELD>, held: HeldLock)
 {
     if held.write {
         let place = place_among(writing.as_slice(), held.lock);
-        writing.insert(place, held.lock);
+        put_at(writing, place, held.lock);
     }
 }
 
@@ -191,7 +237,7 @@ fn leave_out(numbers: &mut ArrayVec<u16, MOST_HELD>, number: u16)
     ensures { numbers.new.items ≡ without_number number numbers.old.items }
 {
     if let Some(place) = index_among(numbers.as_slice(), number) {
-        numbers.remove(place);
+        take_out(numbers, place);
     }
 }
 

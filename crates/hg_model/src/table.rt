@@ -128,10 +128,13 @@ impl ThreadTable {
         self.thread(t).is_some()
     }
 
-    /// Whether the thread holds that lock, in any mode.
+    /// Whether the thread holds that lock, in any mode. Where no thread holds it, none is looked at.
     pub(crate) fn holds(&self, t: u16, l: u16) -> bool
         ensures { result ≡ has_thread self.now t (λ x. has_lock x.held l) }
     {
+        if !self.is_held(l) {
+            return false;
+        }
         match self.thread(t) {
             Some(x) => x.held.has(l),
             None => false,

@@ -26,7 +26,7 @@ pub is_not_there : (elements : List ℕ) (spans : List Span) (list got : List �
 is_not_there elements spans list got entry id at other stands is =
     let number : entry - 1 ≡ id = omega arith in
     let got_is : got ≡ set_at (lists_of elements spans) id =
-        at ∙ ap (λ k. list_at elements (get_or spans k (record { start = 0; len = 0 }))) number ∙ sym (list_of elements spans id (omega (arith, count_of elements spans, stands.0))) in
+    at ∙ ap (λ k. list_at elements (get_or spans k (record { start = 0; len = 0 }))) number ∙ sym (list_of elements spans id (omega (arith, count_of elements spans, stands.0))) in
     true≢false (sym ((bytes_decides got list).1 (got_is ∙ stands.1)) ∙ other)
 
 -- one list more is found
@@ -35,8 +35,8 @@ pub found_more : (elements : List ℕ) (spans : List Span) (old new got : List �
 found_more elements spans old new got hash i lt at is here kept before id below =
     elim (cases_eq id i) [
       | inl same ↦
-        let one : hash ≡ hash_of (set_at (lists_of elements spans) id) = is ∙ ap hash_of (at ∙ sym (list_of elements spans i lt)) ∙ ap (λ k. hash_of (set_at (lists_of elements spans) k)) (sym same) in
-        subst (λ h. IsFoundBy new h (id + 1)) one (subst (λ k. IsFoundBy new hash (k + 1)) (sym same) here)
+          let one : hash ≡ hash_of (set_at (lists_of elements spans) id) = is ∙ ap hash_of (at ∙ sym (list_of elements spans i lt)) ∙ ap (λ k. hash_of (set_at (lists_of elements spans) k)) (sym same) in
+          subst (λ h. IsFoundBy new h (id + 1)) one (subst (λ k. IsFoundBy new hash (k + 1)) (sym same) here)
       | inr other ↦ kept (hash_of (set_at (lists_of elements spans) id)) (id + 1) (omega arith) (before id (omega arith))
     ]
 
@@ -84,14 +84,14 @@ more_listed elements list spans span slots new hash h few start len is same numb
     let lists = lists_of elements spans in
     let count = count_of elements spans in
     let pushed : AreFound (lists ++ list ∷ []) new (length spans + 1) = λ id below.
-        elim (cases_eq id (length spans)) [
-          | inl last ↦
-            let one : hash ≡ hash_of (set_at (lists ++ list ∷ []) id) = is ∙ ap hash_of (sym (get_or_push lists list [] id (count ∙ sym last))) in
-            subst (λ k. IsFoundBy new k (id + 1)) one (subst (λ k. IsFoundBy new hash (k + 1)) (sym last) here)
-          | inr other ↦
-            let one : set_at (lists ++ list ∷ []) id ≡ set_at lists id = get_or_append_left lists (list ∷ []) [] id (omega arith) in
-            subst (λ xs. IsFoundBy new (hash_of xs) (id + 1)) (sym one) (kept (hash_of (set_at lists id)) (id + 1) (omega arith) (h.found id (omega arith)))
-        ] in
+    elim (cases_eq id (length spans)) [
+      | inl last ↦
+          let one : hash ≡ hash_of (set_at (lists ++ list ∷ []) id) = is ∙ ap hash_of (sym (get_or_push lists list [] id (count ∙ sym last))) in
+          subst (λ k. IsFoundBy new k (id + 1)) one (subst (λ k. IsFoundBy new hash (k + 1)) (sym last) here)
+      | inr other ↦
+          let one : set_at (lists ++ list ∷ []) id ≡ set_at lists id = get_or_append_left lists (list ∷ []) [] id (omega arith) in
+          subst (λ xs. IsFoundBy new (hash_of xs) (id + 1)) (sym one) (kept (hash_of (set_at lists id)) (id + 1) (omega arith) (h.found id (omega arith)))
+    ] in
     record {
       few_lists = omega arith;
       within = All-push (λ (span : Span). span.start + span.len ≤ length (elements ++ list)) spans span (still_within elements list spans h.within) (omega (arith, length-append elements list));

@@ -16,8 +16,8 @@ const FIRST_SLOTS: usize = 64;
 /// There are fewer elements than so many.
 const MOST_ELEMENTS: usize = 4_294_967_296;
 
-/// There are no more slots than twice as many.
-const MOST_HALF: usize = 2_147_483_648;
+/// There are no more slots than four times as many.
+const MOST_QUARTER: usize = 1_073_741_824;
 
 /// Where the elements of a list stand.
 #[derive(Clone, Copy, Debug, PartialEq, Eq, Drop)]
@@ -256,10 +256,10 @@ fn make_slots(
     if spans.len() < slots.len() / 2 {
         return Ok(());
     }
-    if slots.len() > MOST_HALF {
+    if slots.len() > MOST_QUARTER {
         return Err(AllocError);
     }
-    let count = (slots.len() * 2).max(FIRST_SLOTS);
+    let count = (slots.len() * 4).max(FIRST_SLOTS);
     *slots = slots_for(alloc, elements, spans, count)?;
     Ok(())
 }

@@ -10,8 +10,8 @@ returns-then-slots-at-eq0-clause-found c =
 pub returns-then-slots-at-eq0-clause-kept : goal.returns-then-slots-at-eq0-clause-kept
 returns-then-slots-at-eq0-clause-kept c =
     λ h e some found.
-        let there = subst (λ slots. IsFoundBy slots h e) (sym c.loop.invariant.same) found in
-        found_kept c.loop.slots c.loop.at c.args.entry h e c.if-slots-at-eq0.true some there
+    let there = subst (λ slots. IsFoundBy slots h e) (sym c.loop.invariant.same) found in
+    found_kept c.loop.slots c.loop.at c.args.entry h e c.if-slots-at-eq0.true some there
 
 pub loop-preserved : goal.loop-preserved
 loop-preserved c =

@@ -32,14 +32,14 @@ count_writer-requires c =
 
 pub invariant_of-self : goal.invariant_of-self
 invariant_of-self c =
-    let new = put_in c.args.held _ _ _ _ _ c.self.view_is c.requires.absent c.as_slice.ensures.value c.place_of-place.ensures.place c.insert.ensures.items in (
-      put_any c.args.held _ _ _ _ _ _ _ c.self.view_is c.requires.absent c.as_slice.ensures.value c.place_of-place.ensures.place new c.self.invariant.0 c.insert-2.ensures.items,
+    let new = put_in c.args.held _ _ _ _ _ c.self.view_is c.requires.absent c.as_slice.ensures.value c.place_of-place.ensures.place c.put_at.ensures.items in (
+      put_any c.args.held _ _ _ _ _ _ _ c.self.view_is c.requires.absent c.as_slice.ensures.value c.place_of-place.ensures.place new c.self.invariant.0 c.put_at-2.ensures.items,
       put_writing c.args.held _ _ _ _ _ c.self.view_is c.requires.absent c.self.invariant.2 new c.self.invariant.1 c.count_writer.ensures,
       subst IsByRisingLock (sym new) (rising_with c.args.held c.self.inside.holds.items c.self.invariant.2),
-      let room = c.requires.room in let view = ap length c.self.view_is in let more = c.insert.ensures.len in omega arith,
+      let room = c.requires.room in let view = ap length c.self.view_is in let more = c.put_at.ensures.len in omega arith,
     )
 
 pub returns : goal.returns
 returns c =
-    put_in c.args.held _ _ _ _ _ c.self.view_is c.requires.absent c.as_slice.ensures.value c.place_of-place.ensures.place c.insert.ensures.items
+    put_in c.args.held _ _ _ _ _ c.self.view_is c.requires.absent c.as_slice.ensures.value c.place_of-place.ensures.place c.put_at.ensures.items
     ∙ ap (with_hold c.args.held) c.self.view_is

@@ -13,10 +13,10 @@ leave_out-requires c = subst IsStrictlyIncreasing (sym c.self.invariant.1) (coun
 pub invariant_of-self : goal.invariant_of-self
 invariant_of-self c =
     let old = c.self.inside.holds.items in
-    let new : c.remove.new.self.items ≡ without_lock c.args.lock old =
-    c.remove.ensures.items ∙ ap (λ hs. remove hs c.in-Some.place) (sym c.as_slice.ensures.value) ∙ c.in-Some.ensures.1 ∙ ap (without_lock c.args.lock) c.as_slice.ensures.value in (
-      c.remove-in-Some.ensures.items ∙ ap (λ ns. remove ns c.in-Some.place) c.self.invariant.0 ∙ sym (map_remove (λ (h : HeldLock). h.lock) old c.in-Some.place) ∙ ap (counted false) (sym c.remove.ensures.items),
+    let new : c.take_out.new.items.items ≡ without_lock c.args.lock old =
+    c.take_out.ensures.items ∙ ap (λ hs. remove hs c.in-Some.place) (sym c.as_slice.ensures.value) ∙ c.in-Some.ensures.1 ∙ ap (without_lock c.args.lock) c.as_slice.ensures.value in (
+      c.take_out-in-Some.ensures.items ∙ ap (λ ns. remove ns c.in-Some.place) c.self.invariant.0 ∙ sym (map_remove (λ (h : HeldLock). h.lock) old c.in-Some.place) ∙ ap (counted false) (sym c.take_out.ensures.items),
       c.leave_out.ensures ∙ ap (without_number c.args.lock) c.self.invariant.1 ∙ sym (write_without c.args.lock old) ∙ ap (counted true) (sym new),
       subst IsByRisingLock (sym new) (rising_filter (λ (h : HeldLock). not (nat_eq h.lock c.args.lock)) old c.self.invariant.2),
-      let most = c.self.invariant.3 in let less = c.remove.ensures.len in omega arith,
+      let most = c.self.invariant.3 in let less = c.take_out.ensures.len in omega arith,
     )
