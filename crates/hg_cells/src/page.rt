@@ -1,7 +1,8 @@
 //! Pages of cells.
 
-ghost use Rattle.std.specs.Prelude.{ℕ, IfSome, IsTrue, ◌≡◌, ◌<◌, ◌≤◌, Some, length, replicate, slice_get, slice_set};
-ghost use Rattle.hg_cells.specs.Pages.{AreNewOrOwned, filled};
+ghost use Rattle.std.specs.Prelude.{IfSome, IsTrue, ◌≡◌, ◌↔◌, ◌<◌, ◌≤◌, None, Some, length, replicate, slice_get, slice_set};
+ghost use Rattle.hg_cells.specs.Pages.{AreNewOrOwned, HaveCell, filled};
+ghost use Rattle.hg_cells.specs.declared.cell.Cell.{Cell as CellOf};
 ghost use Rattle.hg_cells.specs.declared.cell.Cell.TheVariants.{New};
 
 use crate::cell::{Cell, are_same, is_new_or_owned};
@@ -60,7 +61,8 @@ impl Page {
     pub fn same(&self, from: usize, to: usize) -> Option<Cell>
         requires in_order { from < to }
         requires in_page { to ≤ PAGE_WORDS }
-        ensures { IfSome result (λ cell. (i : ℕ) → from ≤ i → i < to → slice_get self.now i ≡ Some cell) }
+        ensures cells { IfSome result (HaveCell self.now from to) }
+        ensures none { result ≡ None → (cell : CellOf) → ¬ HaveCell self.now from to cell }
     {
         let cell = self.cells[from];
         for i in from + 1..to {
@@ -75,7 +77,7 @@ impl Page {
     #[inline(always)]
     pub fn are_new_or_owned(&self, from: usize, to: usize, owner: u32) -> bool
         requires in_page { to ≤ PAGE_WORDS }
-        ensures { IsTrue result → AreNewOrOwned self.now from to owner }
+        ensures { IsTrue result ↔ AreNewOrOwned self.now from to owner }
     {
         for i in from..to {
             if !is_new_or_owned(self.cells[i], owner) {

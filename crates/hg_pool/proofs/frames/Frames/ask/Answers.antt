@@ -55,5 +55,5 @@ returns-clause-cells c =
     ap (λ (x : LruCache ℕ Frame). frame_in x.entries page) (sym c.self.view_is)
     ∙ looked_framed f.held.items page f.order.entries
     ∙ ap (λ (o : Option ℕ). option_map (frame_at f.held.items) o) (sym c.in_ok-place.ensures.place) in
-    IfSome_then c.same.result c.same.ensures
+    IfSome_then c.same.result c.same.ensures.cells
     (λ cell has. (frame_at f.held.items c.in_ok-place.place, there, λ i from to. ap (λ (x : Frame). slice_get x.cells i) (sym c.frame_of.ensures) ∙ has i from to))
