@@ -4,11 +4,9 @@ ghost use Rattle.hg_pool.specs.Calls.{FreezesOnOk};
 ghost use Rattle.hg_pool.specs.Kept as pools;
 ghost use Rattle.hg_pool.specs.Kept.{IsWhole, SameMap};
 ghost use Rattle.hg_pool.specs.Maps.{disk_of, frozen, is_broken, live};
-ghost use Rattle.hg_pool.specs.Picking.{IsFreezeRefusal};
 ghost use Rattle.hg_pool.specs.Tables.{IsNameable};
 ghost use Rattle.hg_root.specs.Pairs as pairs;
 ghost use Rattle.hg_checkpointer.specs.Phases.{BreaksBy, IfRefused, IfWrongPhase, IsAllowed, failed_calls};
-ghost use Rattle.hg_checkpointer.specs.Told.{refusal_of};
 ghost use Rattle.hg_checkpointer.specs.declared.phase.Phase.TheVariants.{Idle};
 
 use crate::cause::Cause;
@@ -54,7 +52,7 @@ impl<D: Disk + Drop> Drop for Checkpointer<D> {
 }
 
 impl<D: Disk> Checkpointer<D> {
-    ghost use Rattle.hg_checkpointer.specs.Calls.{AnswersNumber, AreRootsBroken, ChangesHead, CountsRoots, DraftIsNewElsewhere, DraftIsNext, IsDrafted, IsFlushed, IsOfDevice, IsOfWriting, IsOneBroken, KeepsBodyAndHead, KeepsFile, KeepsHead, KeepsRootsAndHead, LeavesEither, LeavesRoots, LeavesSlots, OpensNext, RootsStayOnOk, SealsSurely, SpellsBody, StandsBy, StaysNext, StaysNextOver, StaysOrBreaks, StaysStanding};
+    ghost use Rattle.hg_checkpointer.specs.Calls.{AnswersNumber, AreRootsBroken, ChangesHead, CountsRoots, DraftIsNewElsewhere, DraftIsNext, IsDrafted, IsFlushed, IsOfDevice, IsOfFreezing, IsOfWriting, IsOneBroken, KeepsBodyAndHead, KeepsFile, KeepsHead, KeepsRootsAndHead, LeavesEither, LeavesRoots, LeavesSlots, OpensNext, RootsStayOnOk, SealsSurely, SpellsBody, StandsBy, StaysNext, StaysNextOver, StaysOrBreaks, StaysStanding};
 
     // Whether a call of this phase is allowed.
     fn ready(&self, phase: Phase) -> Result<(), CheckpointFault>
@@ -135,7 +133,7 @@ impl<D: Disk> Checkpointer<D> {
     ) -> Result<(), CheckpointFault>
         ensures phase { IsAllowed self.old.is_broken self.old.phase (self.old.phase ≡ Phase.Idle) result }
         ensures frozen { OnOk result (self.new.phase ≡ Phase.Flushing) }
-        ensures refusal { IfRefused (λ cause. (cause ≡ Cause.Broken) ⊎ IsFreezeRefusal pool.old (refusal_of cause)) result }
+        ensures refusal { IfRefused (IsOfFreezing pool.old) result }
         ensures refused { OnErr result ((self.new ≡ self.old) × (pool.new ≡ pool.old)) }
         ensures no_call { failed_calls result ≡ 0 }
         ensures head { OnOk result ((self.new.head ≡ Some head) × (self.new.next ≡ number)) }

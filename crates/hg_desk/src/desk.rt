@@ -88,7 +88,8 @@ impl Desk {
         share: &mut Share<A, B>,
         frame: &Frame,
     ) -> Reply
-        ensures answer { Answers ⟦<D as Disk>⟧ self.old core.old core.new share.old share.new frame.now self.new result }
+        ensures answer { Answers ⟦<D as Disk>⟧ self.old core.old core.new share.old share.new frame.now
+            self.new result }
         ensures fits { FitsFrames result }
     {
         let (stage, reply) = match self.stage {

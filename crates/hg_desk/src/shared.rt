@@ -103,7 +103,8 @@ impl<D: Disk, A: Opening, B: Column> Core<D, A, B> {
     fn tally(&mut self, shares: &mut [Share<A, B>]) -> Tally
         ensures accepted_told { result.accepted_told ≡ accepted_in shares.old }
         ensures durable_told { result.durable_told ≡ durable_in shares.old }
-        ensures accepted_book { IsTrue D.is_honest → events_of ⟦<D as Disk>⟧ self.old ≡ A.opening + result.accepted_book }
+        ensures accepted_book { IsTrue D.is_honest
+            → events_of ⟦<D as Disk>⟧ self.old ≡ A.opening + result.accepted_book }
         ensures durable_book { IsTrue D.is_honest → self.old.durable ≡ B.opening + result.durable_book }
         ensures accepted { WhereAll shares.old A.parts (result.accepted_told ≡ result.accepted_book) }
         ensures durable { WhereAll shares.old B.parts (result.durable_told ≡ result.durable_book) }
@@ -170,7 +171,8 @@ fn audit_accepted<A: Column, B: Column>(
     seen: &mut Part<A>,
 )
     requires backed { seen.old.parts ≡ 0 → seen.old.amount ≡ 0 }
-    ensures whole { seen.old.parts + length shares.old ≡ A.parts → seen.old.amount + accepted_in shares.old ≡ book.old.total }
+    ensures whole { seen.old.parts + length shares.old ≡ A.parts
+        → seen.old.amount + accepted_in shares.old ≡ book.old.total }
     ensures book { book.new.total ≡ book.old.total }
     ensures shares { shares.new ≡ shares.old }
     ensures seen { (seen.new.parts ≡ seen.old.parts) × (seen.new.amount ≡ seen.old.amount) }
@@ -192,7 +194,8 @@ fn audit_durable<A: Column, B: Column>(
     seen: &mut Part<B>,
 )
     requires backed { seen.old.parts ≡ 0 → seen.old.amount ≡ 0 }
-    ensures whole { seen.old.parts + length shares.old ≡ B.parts → seen.old.amount + durable_in shares.old ≡ book.old.total }
+    ensures whole { seen.old.parts + length shares.old ≡ B.parts
+        → seen.old.amount + durable_in shares.old ≡ book.old.total }
     ensures book { book.new.total ≡ book.old.total }
     ensures shares { shares.new ≡ shares.old }
     ensures seen { (seen.new.parts ≡ seen.old.parts) × (seen.new.amount ≡ seen.old.amount) }

@@ -64,7 +64,8 @@ impl<D: Disk, A: Opening, B: Column> Task<D, A, B> for AskTask {
 
     fn run(self, core: &mut Core<D, A, B>, share: &mut Share<A, B>) -> (Desk, Reply)
         ensures promise { AskTold D.is_honest share.old share.new result.1 × FitsFrames result.1 }
-        ensures answer { Answers ⟦<D as Disk>⟧ self.desk core.old core.new share.old share.new self.frame result.0 result.1 }
+        ensures answer { Answers ⟦<D as Disk>⟧ self.desk core.old core.new share.old share.new self.frame
+            result.0 result.1 }
         ensures fits { FitsFrames result.1 }
     {
         let AskTask {
