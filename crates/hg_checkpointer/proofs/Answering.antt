@@ -1,12 +1,12 @@
 -- Faults that are passed on, and the failed calls that they tell.
 use Rattle.std.proofs.Common.{◌≡◌, ◌∙◌, ◌+◌, ℕ, Bool, true, false, if◌then◌else◌, Err, sym, ap, arith}
 use Rattle.hg_disk.specs.declared.disk.Disk as disk
-use Rattle.hg_model.specs.declared.verdict.Refusal.{Refusal}
 use Rattle.hg_root.specs.Fault.{after_fault}
 use Rattle.hg_root.specs.Pairs.{failures, newer, older}
 use Rattle.hg_root.specs.declared.fault.RootFault.{RootFault}
 use Rattle.hg_root.specs.declared.fault.RootFault.TheVariants as fault
 use Rattle.hg_root.specs.declared.pair.RootPair.{RootPair}
+use Rattle.hg_checkpointer.specs.declared.cause.Cause.{Cause}
 use Rattle.hg_checkpointer.specs.declared.phase.CheckpointFault.{CheckpointFault}
 use Rattle.hg_checkpointer.specs.declared.phase.CheckpointFault.TheVariants.{Refused, WrongPhase}
 use Rattle.hg_checkpointer.specs.Phases.{BreaksBy, failed_in}
@@ -37,7 +37,7 @@ module _ {D : Type 0} (g : disk.Ghosts D) where
   pub counted_none : (old new : RootPair D) → new.is_turned ≡ old.is_turned → newer new ≡ newer old → g.failures (older new) ≡ g.failures (older old) → failures g new ≡ 0 + failures g old
   counted_none old new turn same count = counted old new 0 turn same (omega (arith, count))
 
-  pub counted_fault : (old new : RootPair D) (f : RootFault) (r : Refusal) → r ≡ told_as f → new.is_turned ≡ old.is_turned → newer new ≡ newer old → g.failures (older new) ≡ after_fault f (g.failures (older old))
+  pub counted_fault : (old new : RootPair D) (f : RootFault) (r : Cause) → r ≡ told_as f → new.is_turned ≡ old.is_turned → newer new ≡ newer old → g.failures (older new) ≡ after_fault f (g.failures (older old))
       → failures g new ≡ failed_in r + failures g old
   counted_fault old new f r told turn same count =
-      counted old new (failed_in r) turn same (count ∙ told_after f (g.failures (older old)) ∙ ap (λ (s : Refusal). failed_in s + g.failures (older old)) (sym told))
+      counted old new (failed_in r) turn same (count ∙ told_after f (g.failures (older old)) ∙ ap (λ (s : Cause). failed_in s + g.failures (older old)) (sym told))

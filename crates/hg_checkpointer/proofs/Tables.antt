@@ -1,5 +1,5 @@
 -- Each page of a root's table is looked up.
-use Rattle.std.proofs.Common.{if◌then◌else◌, ◌==◌, ◌||◌, ◌/◌, ◌%◌, ◌*◌, Bool, true, false, Option, None, ◌≡◌, ◌≢◌, ◌∙◌, ◌<◌, ◌≤◌, ◌+◌, ◌^◌, ◌++◌, ℕ, suc, List, [], ◌∷◌, length, map, take, get_or, Some, All, AllPairs, refl, sym, ap, subst, arith}
+use Rattle.std.proofs.Common.{if◌then◌else◌, ◌==◌, ◌||◌, ◌/◌, ◌%◌, Bool, true, false, Option, None, ◌≡◌, ◌≢◌, ◌∙◌, ◌<◌, ◌≤◌, ◌+◌, ◌^◌, ◌++◌, ℕ, suc, List, [], ◌∷◌, length, map, take, get_or, Some, All, AllPairs, refl, sym, ap, subst, arith}
 use Rattle.std.specs.List.{AllByRecursion}
 use Rattle.std.specs.List.Sorted.{IsStrictlyIncreasing}
 use Rattle.hg_root.specs.Grammar.{PageFits, PagesFit}

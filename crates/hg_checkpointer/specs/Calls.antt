@@ -1,12 +1,11 @@
 -- What the contracts of a checkpoint's calls say.
 use Rattle.std.specs.Prelude.{◌≡◌, ◌⊎◌, ◌++◌, ◌+◌, ℕ, List, [], false, Option, Some, Vec, IsTrue, IsOk, OnOk, IfOk, Result}
-use Rattle.hg_model.specs.declared.verdict.Refusal.{Refusal}
-use Rattle.hg_model.specs.declared.verdict.Refusal.TheVariants.{Broken, DeviceFault, OutOfMemory}
 use Rattle.hg_disk.specs.declared.disk.Disk as disk
 use Rattle.hg_disk.specs.Moments.{LeavesOnly}
 use Rattle.hg_cells.specs.declared.cell.Cell.{Cell}
 use Rattle.hg_pool.specs.Kept.{IsWhole}
 use Rattle.hg_pool.specs.Maps.{disk_of, is_broken, live}
+use Rattle.hg_pool.specs.Picking.{IsFreezeRefusal}
 use Rattle.hg_pool.specs.Shown.{Shown}
 use Rattle.hg_root.specs.Checkpoints.{Checkpoint, HasSlotsOf, root_of}
 use Rattle.hg_root.specs.Grammar.{pages_text}
@@ -16,12 +15,23 @@ use Rattle.hg_root.specs.declared.pair.RootPair.{RootPair}
 use Rattle.hg_contents.specs.Maps.{IsKnownTo, IsNewElsewhere, checkpoint_of}
 use Rattle.hg_checkpointer.specs.Standing.{EachEither, EachNow, IsDraft, IsHead, IsNext, RootsStand, Stands, root_with}
 use Rattle.hg_checkpointer.specs.Tables.{pages_of}
+use Rattle.hg_checkpointer.specs.Told.{refusal_of}
+use Rattle.hg_checkpointer.specs.declared.cause.Cause.{Cause}
+use Rattle.hg_checkpointer.specs.declared.cause.Cause.TheVariants.{Broken, DeviceFault, OutOfMemory}
 use Rattle.hg_checkpointer.specs.declared.checkpointer.Checkpointer.{Checkpointer}
 use Rattle.hg_checkpointer.specs.declared.phase.Phase.TheVariants.{Flushing}
 
--- The refusals of the writing of a root.
-abbrev pub IsOfWriting : Refusal → Type 0
-IsOfWriting r = (r ≡ OutOfMemory) ⊎ ((r ≡ Broken) ⊎ (r ≡ DeviceFault))
+-- A device failed, earlier or now.
+abbrev pub IsOfDevice : Cause → Type 0
+IsOfDevice cause = (cause ≡ Broken) ⊎ (cause ≡ DeviceFault)
+
+-- A freeze is refused so: a device failed earlier, or the pool refuses it.
+abbrev pub IsOfFreezing : {D : Type 0} → Shown D → Cause → Type 0
+IsOfFreezing pool cause = (cause ≡ Broken) ⊎ IsFreezeRefusal pool (refusal_of cause)
+
+-- The writing of a root is refused so: memory was refused, or a device failed.
+abbrev pub IsOfWriting : Cause → Type 0
+IsOfWriting cause = (cause ≡ OutOfMemory) ⊎ IsOfDevice cause
 
 -- Neither the file of slots, nor what is in memory of it, nor the root's table.
 abbrev pub KeepsFile : {D : Type 0} → (old new : Shown D) → Type 0

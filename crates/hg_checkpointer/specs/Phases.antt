@@ -1,7 +1,7 @@
 -- Which answers the phases allow.
 use Rattle.std.specs.Prelude.{◌≡◌, ◌⊎◌, ℕ, Bool, true, false, Result, Ok, Err}
-use Rattle.hg_model.specs.declared.verdict.Refusal.{Refusal}
-use Rattle.hg_model.specs.declared.verdict.Refusal.TheVariants as refusal
+use Rattle.hg_checkpointer.specs.declared.cause.Cause.{Cause}
+use Rattle.hg_checkpointer.specs.declared.cause.Cause.TheVariants as cause
 use Rattle.hg_checkpointer.specs.declared.phase.Phase.{Phase}
 use Rattle.hg_checkpointer.specs.declared.phase.CheckpointFault.{CheckpointFault}
 use Rattle.hg_checkpointer.specs.declared.phase.CheckpointFault.TheVariants.{Refused, WrongPhase}
@@ -11,7 +11,7 @@ use Rattle.hg_checkpointer.specs.declared.phase.CheckpointFault.TheVariants.{Ref
 abbrev pub IsAllowed : {T : Type 0} → Bool → Phase → Type 0 → Result T CheckpointFault → Type 0
 IsAllowed broken phase Allowed (Ok value) = (broken ≡ false) × Allowed
 IsAllowed broken phase Allowed (Err (WrongPhase p)) = (broken ≡ false) × (¬ Allowed) × (p ≡ phase)
-IsAllowed broken phase Allowed (Err (Refused r)) = ((broken ≡ true) × (r ≡ refusal.Broken)) ⊎ ((broken ≡ false) × Allowed)
+IsAllowed broken phase Allowed (Err (Refused r)) = ((broken ≡ true) × (r ≡ cause.Broken)) ⊎ ((broken ≡ false) × Allowed)
 
 -- P holds after a WrongPhase.
 abbrev pub IfWrongPhase : {T : Type 0} → Type 0 → Result T CheckpointFault → Type 0
@@ -23,11 +23,11 @@ IfWrongPhase P (Err (Refused r)) = Unit {0}
 abbrev pub BreaksBy : {T : Type 0} → Bool → Result T CheckpointFault → Type 0
 BreaksBy broken (Ok value) = Unit {0}
 BreaksBy broken (Err (WrongPhase p)) = Unit {0}
-BreaksBy broken (Err (Refused r)) = r ≡ refusal.DeviceFault → broken ≡ true
+BreaksBy broken (Err (Refused r)) = r ≡ cause.DeviceFault → broken ≡ true
 
 -- how many device calls failed in a call that is answered so
-abbrev pub failed_in : Refusal → ℕ
-failed_in refusal.DeviceFault = 1
+abbrev pub failed_in : Cause → ℕ
+failed_in cause.DeviceFault = 1
 failed_in _ = 0
 
 abbrev pub failed_calls : {T : Type 0} → Result T CheckpointFault → ℕ
@@ -36,7 +36,7 @@ failed_calls (Err (WrongPhase p)) = 0
 failed_calls (Err (Refused r)) = failed_in r
 
 -- P holds of what it was refused for.
-abbrev pub IfRefused : {T : Type 0} → (Refusal → Type 0) → Result T CheckpointFault → Type 0
+abbrev pub IfRefused : {T : Type 0} → (Cause → Type 0) → Result T CheckpointFault → Type 0
 IfRefused P (Ok value) = Unit {0}
 IfRefused P (Err (WrongPhase p)) = Unit {0}
 IfRefused P (Err (Refused r)) = P r

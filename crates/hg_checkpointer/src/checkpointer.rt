@@ -4,16 +4,15 @@ ghost use Rattle.hg_pool.specs.Calls.{FreezesOnOk};
 ghost use Rattle.hg_pool.specs.Kept as pools;
 ghost use Rattle.hg_pool.specs.Kept.{IsWhole, SameMap};
 ghost use Rattle.hg_pool.specs.Maps.{disk_of, frozen, is_broken, live};
-ghost use Rattle.hg_pool.specs.Picking.{IsFreezeRefusal};
 ghost use Rattle.hg_pool.specs.Tables.{IsNameable};
 ghost use Rattle.hg_root.specs.Pairs as pairs;
 ghost use Rattle.hg_checkpointer.specs.Phases.{BreaksBy, IfRefused, IfWrongPhase, IsAllowed, failed_calls};
 ghost use Rattle.hg_checkpointer.specs.declared.phase.Phase.TheVariants.{Idle};
 
-use crate::phase::{CheckpointFault, Phase, told};
+use crate::cause::Cause;
+use crate::phase::{CheckpointFault, Phase};
 use crate::rows::pages_in;
 use hg_disk::Disk;
-use hg_model::verdict::Refusal;
 use hg_pool::Pool;
 use hg_root::{RootHead, RootPair};
 use std::alloc::{AllocError, Global};
@@ -53,18 +52,18 @@ impl<D: Disk + Drop> Drop for Checkpointer<D> {
 }
 
 impl<D: Disk> Checkpointer<D> {
-    ghost use Rattle.hg_checkpointer.specs.Calls.{AnswersNumber, AreRootsBroken, ChangesHead, CountsRoots, DraftIsNewElsewhere, DraftIsNext, IsDrafted, IsFlushed, IsOfWriting, IsOneBroken, KeepsBodyAndHead, KeepsFile, KeepsHead, KeepsRootsAndHead, LeavesEither, LeavesRoots, LeavesSlots, OpensNext, RootsStayOnOk, SealsSurely, SpellsBody, StandsBy, StaysNext, StaysNextOver, StaysOrBreaks, StaysStanding};
+    ghost use Rattle.hg_checkpointer.specs.Calls.{AnswersNumber, AreRootsBroken, ChangesHead, CountsRoots, DraftIsNewElsewhere, DraftIsNext, IsDrafted, IsFlushed, IsOfDevice, IsOfFreezing, IsOfWriting, IsOneBroken, KeepsBodyAndHead, KeepsFile, KeepsHead, KeepsRootsAndHead, LeavesEither, LeavesRoots, LeavesSlots, OpensNext, RootsStayOnOk, SealsSurely, SpellsBody, StandsBy, StaysNext, StaysNextOver, StaysOrBreaks, StaysStanding};
 
     // Whether a call of this phase is allowed.
     fn ready(&self, phase: Phase) -> Result<(), CheckpointFault>
         ensures phase { IsAllowed self.now.is_broken self.now.phase (self.now.phase ≡ phase) result }
         ensures device { BreaksBy self.now.is_broken result }
         ensures no_call { failed_calls result ≡ 0 }
-        ensures refusal { IfRefused (λ r. r ≡ Refusal.Broken) result }
-        ensures broken { IfRefused (λ r. IsTrue self.now.is_broken) result }
+        ensures refusal { IfRefused (λ cause. cause ≡ Cause.Broken) result }
+        ensures broken { IfRefused (λ _. IsTrue self.now.is_broken) result }
     {
         if self.is_broken {
-            return Err(CheckpointFault::Refused(Refusal::Broken));
+            return Err(CheckpointFault::Refused(Cause::Broken));
         }
         if self.phase != phase {
             return Err(CheckpointFault::WrongPhase(self.phase));
@@ -134,8 +133,9 @@ impl<D: Disk> Checkpointer<D> {
     ) -> Result<(), CheckpointFault>
         ensures phase { IsAllowed self.old.is_broken self.old.phase (self.old.phase ≡ Phase.Idle) result }
         ensures frozen { OnOk result (self.new.phase ≡ Phase.Flushing) }
-        ensures refusal { IfRefused (λ r. (r ≡ Refusal.Broken) ⊎ IsFreezeRefusal pool.old r) result }
+        ensures refusal { IfRefused (IsOfFreezing pool.old) result }
         ensures refused { OnErr result ((self.new ≡ self.old) × (pool.new ≡ pool.old)) }
+        ensures no_call { failed_calls result ≡ 0 }
         ensures head { OnOk result ((self.new.head ≡ Some head) × (self.new.next ≡ number)) }
         ensures rest { ChangesHead self.old self.new }
         ensures live { SameMap (live ⟦<D as Disk>⟧ pool.old) (live ⟦<D as Disk>⟧ pool.new) }
@@ -155,7 +155,7 @@ impl<D: Disk> Checkpointer<D> {
                 self.phase = Phase::Flushing;
                 Ok(())
             }
-            Err(refusal) => Err(CheckpointFault::Refused(refusal)),
+            Err(refusal) => Err(CheckpointFault::Refused(Cause::of(refusal))),
         }
     }
 
@@ -180,8 +180,8 @@ impl<D: Disk> Checkpointer<D> {
         ensures refused_phase { OnErr result (self.new.phase ≡ self.old.phase) }
         ensures succeeds { SealsSurely self.old pool.old pool.new result }
         ensures device { BreaksBy self.new.is_broken result }
-        ensures refusal { IfRefused (λ r. (r ≡ Refusal.Broken) ⊎ (r ≡ Refusal.DeviceFault)) result }
-        ensures broken { IfRefused (λ r. r ≡ Refusal.Broken → IsOneBroken self.old pool.old) result }
+        ensures refusal { IfRefused IsOfDevice result }
+        ensures broken { IfRefused (λ cause. cause ≡ Cause.Broken → IsOneBroken self.old pool.old) result }
         ensures count { D.failures (disk_of pool.new) ≡ failed_calls result + D.failures (disk_of pool.old) }
         ensures breaks { OnErr result (StaysOrBreaks self.old pool.old self.new pool.new) }
         ensures rest { KeepsRootsAndHead self.old self.new }
@@ -202,7 +202,7 @@ impl<D: Disk> Checkpointer<D> {
             }
             Err(refusal) => {
                 self.is_broken = true;
-                Err(CheckpointFault::Refused(refusal))
+                Err(CheckpointFault::Refused(Cause::of(refusal)))
             }
         }
     }
@@ -212,13 +212,13 @@ impl<D: Disk> Checkpointer<D> {
         ensures phase { IsAllowed self.now.is_broken self.now.phase (IsFlushed self.now pool.now) result }
         ensures device { BreaksBy self.now.is_broken result }
         ensures no_call { failed_calls result ≡ 0 }
-        ensures refusal { IfRefused (λ r. r ≡ Refusal.Broken) result }
-        ensures broken { IfRefused (λ r. IsTrue self.now.is_broken) result }
+        ensures refusal { IfRefused (λ cause. cause ≡ Cause.Broken) result }
+        ensures broken { IfRefused (λ _. IsTrue self.now.is_broken) result }
         ensures nameable { IsNameable pool.now.slots pool.now.frozen }
     {
         let _table = pool.frozen_table();
         if self.is_broken {
-            return Err(CheckpointFault::Refused(Refusal::Broken));
+            return Err(CheckpointFault::Refused(Cause::Broken));
         }
         if self.phase != Phase::Flushing {
             return Err(CheckpointFault::WrongPhase(self.phase));
@@ -240,8 +240,8 @@ impl<D: Disk> Checkpointer<D> {
         ensures any_moment { LeavesRoots self.old self.new }
         ensures device { BreaksBy self.new.is_broken result }
         ensures count { CountsRoots self.old self.new (failed_calls result) }
-        ensures refusal { IfRefused (λ r. (r ≡ Refusal.Broken) ⊎ (r ≡ Refusal.DeviceFault)) result }
-        ensures broken { IfRefused (λ r. r ≡ Refusal.Broken → AreRootsBroken self.old) result }
+        ensures refusal { IfRefused IsOfDevice result }
+        ensures broken { IfRefused (λ cause. cause ≡ Cause.Broken → AreRootsBroken self.old) result }
         ensures breaks { OnErr result ((self.new ≡ self.old) ⊎ IsTrue self.new.is_broken) }
         ensures rest { KeepsBodyAndHead self.old self.new }
         ensures next { StaysNext self.old self.new }
@@ -256,7 +256,7 @@ impl<D: Disk> Checkpointer<D> {
             }
             Err(fault) => {
                 self.is_broken = true;
-                Err(CheckpointFault::Refused(told(fault)))
+                Err(CheckpointFault::Refused(Cause::from(fault)))
             }
         }
     }
@@ -274,8 +274,8 @@ impl<D: Disk> Checkpointer<D> {
         ensures device { BreaksBy self.new.is_broken result }
         ensures count { CountsRoots self.old self.new (failed_calls result) }
         ensures refusal { IfRefused IsOfWriting result }
-        ensures refused { IfRefused (λ r. r ≡ Refusal.OutOfMemory → self.new ≡ self.old) result }
-        ensures broken { IfRefused (λ r. r ≡ Refusal.Broken → AreRootsBroken self.old) result }
+        ensures refused { IfRefused (λ cause. cause ≡ Cause.OutOfMemory → self.new ≡ self.old) result }
+        ensures broken { IfRefused (λ cause. cause ≡ Cause.Broken → AreRootsBroken self.old) result }
         ensures breaks { OnErr result ((self.new ≡ self.old) ⊎ IsTrue self.new.is_broken) }
         ensures rest { KeepsHead self.old self.new }
         ensures next { StaysNextOver pool.now self.old self.new }
@@ -284,7 +284,7 @@ impl<D: Disk> Checkpointer<D> {
             return Err(fault);
         }
         let Ok(body) = self.body_of(alloc, pool) else {
-            return Err(CheckpointFault::Refused(Refusal::OutOfMemory));
+            return Err(CheckpointFault::Refused(Cause::OutOfMemory));
         };
         match self.roots.write(&body) {
             Ok(()) => {
@@ -294,7 +294,7 @@ impl<D: Disk> Checkpointer<D> {
             }
             Err(fault) => {
                 self.is_broken = true;
-                Err(CheckpointFault::Refused(told(fault)))
+                Err(CheckpointFault::Refused(Cause::from(fault)))
             }
         }
     }
@@ -314,8 +314,8 @@ impl<D: Disk> Checkpointer<D> {
         ensures same_pool { OnErr result (pool.new ≡ pool.old) }
         ensures device { BreaksBy self.new.is_broken result }
         ensures count { CountsRoots self.old self.new (failed_calls result) }
-        ensures refusal { IfRefused (λ r. (r ≡ Refusal.Broken) ⊎ (r ≡ Refusal.DeviceFault)) result }
-        ensures broken { IfRefused (λ r. r ≡ Refusal.Broken → AreRootsBroken self.old) result }
+        ensures refusal { IfRefused IsOfDevice result }
+        ensures broken { IfRefused (λ cause. cause ≡ Cause.Broken → AreRootsBroken self.old) result }
         ensures breaks { OnErr result ((self.new ≡ self.old) ⊎ IsTrue self.new.is_broken) }
         ensures stands { OpensNext self.old pool.old self.new pool.new result }
         ensures any_moment { LeavesEither self.old pool.old self.new }
@@ -333,7 +333,7 @@ impl<D: Disk> Checkpointer<D> {
             }
             Err(fault) => {
                 self.is_broken = true;
-                Err(CheckpointFault::Refused(told(fault)))
+                Err(CheckpointFault::Refused(Cause::from(fault)))
             }
         }
     }

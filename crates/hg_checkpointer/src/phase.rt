@@ -1,9 +1,6 @@
 //! How far a checkpoint is, and why a call was refused.
-ghost use Rattle.std.specs.Prelude.{◌≡◌};
-ghost use Rattle.hg_checkpointer.specs.Told.{told_as};
 
-use hg_model::verdict::Refusal;
-use hg_root::RootFault;
+use crate::cause::Cause;
 
 /// How far the checkpoint in progress is.
 #[derive(Clone, Copy, Debug, PartialEq, Eq, Drop)]
@@ -25,18 +22,6 @@ pub enum Phase {
 pub enum CheckpointFault {
     /// The call is not one of this phase. Nothing was changed.
     WrongPhase(Phase),
-    /// The call was refused, as others are.
-    Refused(Refusal),
-}
-
-// What a fault of a root file is told as.
-pub(crate) fn told(fault: RootFault) -> Refusal
-    ensures { result ≡ told_as fault }
-{
-    match fault {
-        RootFault::Broken => Refusal::Broken,
-        RootFault::Damaged => Refusal::Damaged,
-        RootFault::DeviceFault => Refusal::DeviceFault,
-        RootFault::OutOfMemory => Refusal::OutOfMemory,
-    }
+    /// The call is one of this phase, and was refused for this cause.
+    Refused(Cause),
 }

@@ -1,22 +1,55 @@
 -- A checkpoint of a store that is fed.
-use Rattle.std.proofs.Common.{◌≡◌, ◌∙◌, ℕ, Bool, true, false, List, Some, Result, Ok, Err, IsTrue, codes, sym, ap, subst, arith}
+use Rattle.std.proofs.Common.{◌≡◌, ◌∙◌, ◌+◌, ℕ, Bool, true, false, List, Some, Result, Ok, Err, IsTrue, codes, sym, ap, subst, arith}
 use Rattle.hg_model.specs.declared.verdict.Refusal.{Refusal}
 use Rattle.hg_disk.specs.declared.disk.Disk as disk
+use Rattle.hg_detect.specs.Shown as detect
+use Rattle.hg_pool.specs.Maps as pools
+use Rattle.hg_pool.specs.Shown as pool
+use Rattle.hg_store.specs.Doing.{SameWords}
 use Rattle.hg_store.specs.Answers.{failed_by}
 use Rattle.hg_streams.specs.declared.call.WriteCall.{WriteCall}
 use Rattle.hg_check.specs.Printing.{Took}
-use Rattle.hg_store.specs.Images.{HasOpened}
-use Rattle.hg_store.specs.Shown.{Shown, live}
+use Rattle.hg_contents.specs.Choices.{Stands}
+use Rattle.hg_store.specs.Images.{EachImage, HasOpened, failures_of}
+use Rattle.hg_store.specs.Shown.{Shown, live, saved}
+use Rattle.hg_store.specs.declared.devices.Devices.{Devices}
 use Rattle.hg_store.specs.declared.steps.StepFault.{StepFault}
 use Rattle.hg_store.specs.declared.steps.StepFault.TheVariants.{Refused, WrongPhase}
-use Rattle.hg_commands.specs.FeedRunning.{StaysFed, WasCheckpointed, WasMade, failed_of}
+use Rattle.hg_store.proofs.Moments.{all_still}
+use Rattle.hg_commands.specs.FeedRunning.{StaysFed, WasCheckpointed, WasMade, WasStepped, failed_of}
 use Rattle.hg_commands.specs.Storing.{number_text}
 
 pub failed_is : {T : Type 0} (result : Result T StepFault) (f : StepFault) → result ≡ Err f → failed_by result ≡ failed_of f
 failed_is result (WrongPhase phase) is = ap failed_by is
-failed_is result (Refused refusal) is = ap failed_by is
+failed_is result (Refused cause) is = ap failed_by is
 
 module _ {D : Type 0} (g : disk.Ghosts D) where
+  -- a step that called no device
+  pub stepped_still : {T : Type 0} (began s m : Shown D) (result : Result T StepFault) → began ≡ s → (IsTrue g.is_honest → live g m ≡ live g s) → m.committed ≡ s.committed → m.pending ≡ s.pending → failed_by result ≡ 0 → m.devices ≡ s.devices
+      → WasStepped g began m result
+  stepped_still began s m result is same committed pending none still =
+      let stepped : WasStepped g s m result = record {
+        images = λ honest backs. subst (λ (x : Devices D). EachImage g s.devices x (Stands (saved g s) (live g s) s.in_doubt)) (sym still) (all_still g s.devices (Stands (saved g s) (live g s) s.in_doubt) backs.stands);
+        live = same;
+        committed = committed;
+        pending = pending;
+        failures = omega (arith, ap (failures_of g) still, none);
+      } in
+      subst (λ (x : Shown D). WasStepped g x m result) (sym is) stepped
+
+  -- a step that left the detector
+  pub stepped_roots : {T : Type 0} (began s m : Shown D) (result : Result T StepFault) → began ≡ s → SameWords s m → m.committed ≡ s.committed → m.pending ≡ s.pending → failures_of g m.devices ≡ failed_by result + failures_of g s.devices
+      → (IsTrue g.is_honest → EachImage g s.devices m.devices (Stands (saved g s) (live g s) s.in_doubt)) → WasStepped g began m result
+  stepped_roots began s m result is same committed pending failures images =
+      let stepped : WasStepped g s m result = record {
+        images = λ honest backs. images honest;
+        live = λ honest. ap (λ (d : detect.Shown (pool.Shown D)). detect.content (pools.live g) d) same.detector;
+        committed = committed;
+        pending = pending;
+        failures = failures;
+      } in
+      subst (λ (x : Shown D). WasStepped g x m result) (sym is) stepped
+
   -- a step that was made, and what came behind it
   pub stays_then : {S T : Type 0} (a b c : Shown D) (first : S) (result : Result T Refusal) → StaysFed g {T = S} a b (Ok first) → StaysFed g b c result → StaysFed g a c result
   stays_then a b c first result one two = record {

@@ -14,11 +14,13 @@ use Rattle.hg_contents.specs.Choices.{Stands}
 use Rattle.hg_contents.specs.Images.{HasContent, Image}
 use Rattle.hg_contents.proofs.Following.{followed_append, followed_events}
 use Rattle.hg_store.specs.declared.devices.Devices.{Devices}
+use Rattle.hg_store.specs.declared.steps.StepFault.{StepFault}
 use Rattle.hg_store.specs.Images.{EachImage, Recovers, read_of}
 use Rattle.hg_store.specs.Shown.{Shown, live, saved}
 use Rattle.hg_store.specs.Steps.{CommitDone, ContentOffered, OfferDone, if_accepted}
 use Rattle.hg_store.specs.Store.{Backs, IsFresh}
 use Rattle.hg_store.proofs.Moments.{all_still}
+use Rattle.hg_commands.specs.FeedRunning.{WasStepped}
 use Rattle.hg_commands.specs.Feeding.{ack_text}
 use Rattle.hg_commands.specs.Instants.{Instant, instant}
 use Rattle.hg_commands.specs.Keeping.{AcksAtMost, EachAckIsKept, HasAtLeast, IsKept, IsKeptAlong, IsKeptBetween, KeepsOn}
@@ -149,21 +151,11 @@ module _ {D : Type 0} (g : disk.Ghosts D) where
       (λ honest b. ap (λ (d : detect.Shown (pool.Shown D)). Some (detect.content (pools.live g) d)) (sym done.answer.committed)) (λ honest b. images honest) backs pushed is
 
   -- a step of a checkpoint was made, or refused
-  pub keeps_checkpoint : (s m : Shown D) (calls : List WriteCall) (moments later : List (Instant D)) (moment : Instant D) (doubt : Bool) → (IsTrue g.is_honest → live g m ≡ live g s) → m.committed ≡ s.committed
-      → (IsTrue g.is_honest → EachImage g s.devices m.devices (Stands (saved g s) (live g s) doubt)) → (IsTrue g.is_honest → Backs g m) → later ≡ moment ∷ moments → moment ≡ instant m.devices calls
-      → KeepsOn g s calls moments m calls later
-  keeps_checkpoint s m calls moments later moment doubt same committed images backs pushed is =
-      keeps_step s m calls moments later moment doubt [] [] (λ honest. ap (λ (c : Content). Some c) (sym (same honest)))
-      (λ honest b. ap (λ (d : detect.Shown (pool.Shown D)). Some (detect.content (pools.live g) d)) (sym committed)) (λ honest b. images honest) backs pushed is
-
-  -- a step that called no device
-  pub keeps_still : (s m : Shown D) (calls : List WriteCall) (moments later : List (Instant D)) (moment : Instant D) → (IsTrue g.is_honest → live g m ≡ live g s) → m.committed ≡ s.committed → m.devices ≡ s.devices
+  pub keeps_stepped : {T : Type 0} (s m : Shown D) (calls : List WriteCall) (moments later : List (Instant D)) (moment : Instant D) (result : Result T StepFault) → WasStepped g s m result
       → (IsTrue g.is_honest → Backs g m) → later ≡ moment ∷ moments → moment ≡ instant m.devices calls → KeepsOn g s calls moments m calls later
-  keeps_still s m calls moments later moment same committed still backs pushed is =
-      keeps_step s m calls moments later moment s.in_doubt [] [] (λ honest. ap (λ (c : Content). Some c) (sym (same honest)))
-      (λ honest b. ap (λ (d : detect.Shown (pool.Shown D)). Some (detect.content (pools.live g) d)) (sym committed))
-      (λ honest b. subst (λ (x : Devices D). EachImage g s.devices x (Stands (saved g s) (live g s) s.in_doubt)) (sym still)
-      (all_still g s.devices (Stands (saved g s) (live g s) s.in_doubt) b.stands)) backs pushed is
+  keeps_stepped s m calls moments later moment result stepped backs pushed is =
+      keeps_step s m calls moments later moment s.in_doubt [] [] (λ honest. ap (λ (c : Content). Some c) (sym (stepped.live honest)))
+      (λ honest b. ap (λ (d : detect.Shown (pool.Shown D)). Some (detect.content (pools.live g) d)) (sym stepped.committed)) (λ honest b. stepped.images honest b) backs pushed is
 
   -- a text was printed that acknowledges no more than what is durable
   pub keeps_printed : (s : Shown D) (calls new : List WriteCall) (moments : List (Instant D)) (text : List ℕ) → IsPrintedNow calls new text

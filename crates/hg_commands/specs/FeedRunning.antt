@@ -14,12 +14,14 @@ use Rattle.hg_streams.specs.Told.{told}
 use Rattle.hg_disk.specs.declared.disk.Disk as disk
 use Rattle.hg_contents.specs.Images.{HasContent, Image}
 use Rattle.hg_contents.specs.Stores.{IsLeft}
-use Rattle.hg_store.specs.Answers.{failed_in}
+use Rattle.hg_contents.specs.Choices.{Stands}
+use Rattle.hg_checkpointer.specs.Phases.{failed_in}
+use Rattle.hg_store.specs.Answers.{failed_by}
 use Rattle.hg_store.specs.declared.devices.Devices.{Devices}
 use Rattle.hg_store.specs.declared.steps.StepFault.{StepFault}
 use Rattle.hg_store.specs.declared.steps.StepFault.TheVariants as step
 use Rattle.hg_store.specs.declared.steps.StepFault.TheVariants.{WrongPhase}
-use Rattle.hg_store.specs.Images.{HasOpened, failures_of, read_of, states_of}
+use Rattle.hg_store.specs.Images.{EachImage, HasOpened, failures_of, read_of, states_of}
 use Rattle.hg_store.specs.Recovering.{HasTable}
 use Rattle.hg_store.specs.Shown.{Shown, live, saved}
 use Rattle.hg_store.specs.Steps.{ContentOffered, OfferDone}
@@ -96,7 +98,7 @@ WroteFrontFrom source table start reads_old reads_new old new = WroteFrontOfAny 
 -- how many device calls failed in a step of a checkpoint that was not made
 abbrev pub failed_of : StepFault → ℕ
 failed_of (WrongPhase phase) = 0
-failed_of (step.Refused refusal) = failed_in refusal
+failed_of (step.Refused cause) = failed_in cause
 
 -- whether a checkpoint is made at an end, where one is asked for
 abbrev pub is_due : Bool → Ending → Bool
@@ -198,6 +200,14 @@ module _ {D : Type 0} (g : disk.Ghosts D) where
     pub detector : new.store.detector ≡ old.store.detector
     pub failures : failed_calls g new.store.devices new.output ≡ failed_calls g old.store.devices old.output
     pub printed : Took old.output new.output (if nat_eq ((old.fed.accepted + 1) % 256) 0 then ack_text (content_at g old).events else [])
+
+  -- The store did one step of a checkpoint, or refused it: the events stay, in memory and in each image, and a call failed where that is answered.
+  pub record WasStepped {T : Type 0} (old new : Shown D) (result : Result T StepFault) : Type 0 where
+    pub images : IsTrue g.is_honest → Backs g old → EachImage g old.devices new.devices (Stands (saved g old) (live g old) old.in_doubt)
+    pub live : IsTrue g.is_honest → live g new ≡ live g old
+    pub committed : new.committed ≡ old.committed
+    pub pending : new.pending ≡ old.pending
+    pub failures : failures_of g new.devices ≡ failed_by result + failures_of g old.devices
 
   -- One step of a checkpoint was made, or refused: the events stay, and a call failed where that is told.
   pub record StaysFed {T : Type 0} (old new : Shown D) (result : Result T Refusal) : Type 0 where

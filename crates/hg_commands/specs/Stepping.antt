@@ -43,6 +43,10 @@ module _ {D W V : Type 0} (g : disk.Ghosts D) where
   abbrev pub StaysKept : Feeding D W → Outgoing V → Feeding D W → Outgoing V → Type 0
   StaysKept old before new after = KeepsOn g old.store before.calls old.moments new.store after.calls new.moments
 
+  -- What was kept as the store began a step stays kept behind it. Nothing was written meanwhile.
+  abbrev pub KeepsStep : Shown D → Feeding D W → Outgoing V → Feeding D W → Type 0
+  KeepsStep began old output new = KeepsOn g began output.calls old.moments new.store output.calls new.moments
+
   -- An accepted event was counted.
   abbrev pub Counted : Feeding D W → Outgoing V → Feeding D W → Outgoing V → Type 0
   Counted old before new after = WasCounted g (at old before) (at new after)

@@ -1,64 +1,63 @@
 //! A checkpoint, from the freeze to its open root.
 
-ghost use Rattle.std.specs.Prelude.{◌≡◌, ◌+◌, false, IfErr, IfOk, IsTrue, OnOk};
-ghost use Rattle.hg_streams.specs.Told.{told, told_refusal};
-ghost use Rattle.hg_store.specs.Answers.{failed_in};
-ghost use Rattle.hg_commands.specs.FeedRunning.{StaysFed, failed_of};
-ghost use Rattle.hg_commands.specs.Stepping.{OpensFrozen, OpensLive, StaysKept};
+ghost use Rattle.std.specs.Prelude.{◌≡◌, Ok, false, IfErr, IfOk, IsTrue, OnOk};
+ghost use Rattle.hg_streams.specs.Told.{told_refusal};
+ghost use Rattle.hg_commands.specs.FeedRunning.{StaysFed, WasStepped, failed_of};
+ghost use Rattle.hg_commands.specs.Stepping.{KeepsStep, OpensFrozen, OpensLive, StaysKept};
 ghost use Rattle.hg_commands.specs.Storing.{IsFeedFault};
 
 use crate::lines::Feeding;
 use crate::moment::Moment;
+use hg_checkpointer::Cause;
 use hg_disk::Disk;
 use hg_model::verdict::Refusal;
 use hg_pages::EncodedPage;
+use hg_pool::Put;
 use hg_store::steps::StepFault;
+use hg_store::store::Store;
 use hg_streams::output::Output;
 use std::alloc::Global;
+use std::snapshot::Snapshot;
 
 /// The most pages that are written for one checkpoint: as many as there may be slots.
 const MOST_PAGES: u32 = 1 << 20;
 
-/// A refusal of a step as one that ends feeding.
-fn as_fault(refusal: Refusal) -> Refusal
-    ensures cause { IsFeedFault result }
-    ensures counted { told_refusal result ≡ failed_in refusal }
-{
-    match refusal {
-        Refusal::DeviceFault => Refusal::DeviceFault,
-        Refusal::OutOfMemory => Refusal::OutOfMemory,
-        Refusal::Damaged => Refusal::Damaged,
-        Refusal::FullSlots => Refusal::FullSlots,
-        Refusal::FullEvents => Refusal::FullEvents,
-        _ => Refusal::Broken,
-    }
-}
-
-/// Why a step of a checkpoint was not made, as what ends feeding. The steps are made in their order, so that none is in a wrong phase.
+/// Why a step of a checkpoint was not made, as what ends feeding. The steps are made in their order, so that none is in a wrong phase; and over
+/// devices that do not lie the root has a spelling, so that no step is `Damaged`.
 fn refusal_of(fault: StepFault) -> Refusal
     ensures cause { IsFeedFault result }
     ensures counted { told_refusal result ≡ failed_of fault }
 {
     match fault {
         StepFault::WrongPhase(_) => Refusal::Broken,
-        StepFault::Refused(refusal) => as_fault(refusal),
-    }
-}
-
-/// A refusal of a step that calls no device as one that ends feeding.
-fn as_want(refusal: Refusal) -> Refusal
-    ensures cause { IsFeedFault result }
-    ensures none { told_refusal result ≡ 0 }
-{
-    match refusal {
-        Refusal::OutOfMemory => Refusal::OutOfMemory,
-        Refusal::FullSlots => Refusal::FullSlots,
-        Refusal::FullEvents => Refusal::FullEvents,
-        _ => Refusal::Broken,
+        StepFault::Refused(Cause::Damaged) => Refusal::Broken,
+        StepFault::Refused(cause) => Refusal::from(cause),
     }
 }
 
 impl<D: Disk, W> Feeding<D, W> {
+    /// Keeps the moment behind a step of a checkpoint, which the store began as `began`, and tells why the step was not made.
+    fn note_step<T>(
+        &mut self,
+        began: Snapshot<Store<D>>,
+        done: Result<T, StepFault>,
+        output: &Output<W>,
+    ) -> Result<T, Refusal>
+        requires { WasStepped ⟦<D as Disk>⟧ began.value self.old.store done }
+        ensures store { self.new.store ≡ self.old.store }
+        ensures answer { IfOk result (λ answer. done ≡ Ok answer) }
+        ensures stays { StaysFed ⟦<D as Disk>⟧ began.value self.new.store result }
+        ensures cause { IfErr result IsFeedFault }
+        ensures kept { KeepsStep ⟦<D as Disk>⟧ began.value self.old output.now self.new }
+    {
+        self.store.stands();
+        self.moments.push(Moment::of(&self.store, output));
+        match done {
+            Ok(answer) => Ok(answer),
+            Err(fault) => Err(refusal_of(fault)),
+        }
+    }
+
     /// Freezes the words.
     fn freeze(&mut self, alloc: Global, output: &Output<W>) -> Result<(), Refusal>
         ensures stays { StaysFed ⟦<D as Disk>⟧ self.old.store self.new.store result }
@@ -66,30 +65,21 @@ impl<D: Disk, W> Feeding<D, W> {
         ensures cause { IfErr result IsFeedFault }
         ensures kept { StaysKept ⟦<D as Disk>⟧ self.old output.now self.new output.now }
     {
+        let began = Snapshot::of(&self.store);
         let done = self.store.freeze(alloc);
-        self.store.stands();
-        self.moments.push(Moment::of(&self.store, output));
-        match done {
-            Ok(()) => Ok(()),
-            Err(StepFault::WrongPhase(_)) => Err(Refusal::Broken),
-            Err(StepFault::Refused(refusal)) => Err(as_want(refusal)),
-        }
+        self.note_step(began, done, output)
     }
 
     /// Writes a page.
-    fn put(&mut self, page: &EncodedPage, output: &Output<W>) -> Result<(), Refusal>
+    fn put(&mut self, page: &EncodedPage, output: &Output<W>) -> Result<Put, Refusal>
         ensures stays { StaysFed ⟦<D as Disk>⟧ self.old.store self.new.store result }
         ensures frozen { self.new.store.frozen ≡ self.old.store.frozen }
         ensures cause { IfErr result IsFeedFault }
         ensures kept { StaysKept ⟦<D as Disk>⟧ self.old output.now self.new output.now }
     {
+        let began = Snapshot::of(&self.store);
         let done = self.store.put(page);
-        self.store.stands();
-        self.moments.push(Moment::of(&self.store, output));
-        match done {
-            Ok(_) => Ok(()),
-            Err(fault) => Err(refusal_of(fault)),
-        }
+        self.note_step(began, done, output)
     }
 
     /// Writes the page that is next, and answers whether there was one.
@@ -102,7 +92,7 @@ impl<D: Disk, W> Feeding<D, W> {
         let job = match self.store.take_job() {
             Ok(Some(job)) => job,
             Ok(None) => return Ok(false),
-            Err(_) => return Err(Refusal::Broken),
+            Err(fault) => return Err(refusal_of(fault)),
         };
         let Ok(page) = job.encode() else {
             return Err(Refusal::OutOfMemory);
@@ -135,13 +125,9 @@ impl<D: Disk, W> Feeding<D, W> {
         ensures cause { IfErr result IsFeedFault }
         ensures kept { StaysKept ⟦<D as Disk>⟧ self.old output.now self.new output.now }
     {
+        let began = Snapshot::of(&self.store);
         let done = self.store.seal_pages();
-        self.store.stands();
-        self.moments.push(Moment::of(&self.store, output));
-        match done {
-            Ok(()) => Ok(()),
-            Err(fault) => Err(refusal_of(fault)),
-        }
+        self.note_step(began, done, output)
     }
 
     /// Closes the file that the root goes to.
@@ -151,13 +137,9 @@ impl<D: Disk, W> Feeding<D, W> {
         ensures cause { IfErr result IsFeedFault }
         ensures kept { StaysKept ⟦<D as Disk>⟧ self.old output.now self.new output.now }
     {
+        let began = Snapshot::of(&self.store);
         let done = self.store.prepare_root();
-        self.store.stands();
-        self.moments.push(Moment::of(&self.store, output));
-        match done {
-            Ok(()) => Ok(()),
-            Err(fault) => Err(refusal_of(fault)),
-        }
+        self.note_step(began, done, output)
     }
 
     /// Writes the root behind its closed gate.
@@ -167,13 +149,9 @@ impl<D: Disk, W> Feeding<D, W> {
         ensures cause { IfErr result IsFeedFault }
         ensures kept { StaysKept ⟦<D as Disk>⟧ self.old output.now self.new output.now }
     {
+        let began = Snapshot::of(&self.store);
         let done = self.store.write_root(alloc);
-        self.store.stands();
-        self.moments.push(Moment::of(&self.store, output));
-        match done {
-            Ok(()) => Ok(()),
-            Err(fault) => Err(refusal_of(fault)),
-        }
+        self.note_step(began, done, output)
     }
 
     /// Opens the root, and answers its number.
@@ -184,13 +162,9 @@ impl<D: Disk, W> Feeding<D, W> {
         ensures cause { IfErr result IsFeedFault }
         ensures kept { StaysKept ⟦<D as Disk>⟧ self.old output.now self.new output.now }
     {
+        let began = Snapshot::of(&self.store);
         let done = self.store.open_root();
-        self.store.stands();
-        self.moments.push(Moment::of(&self.store, output));
-        match done {
-            Ok(number) => Ok(number),
-            Err(fault) => Err(refusal_of(fault)),
-        }
+        self.note_step(began, done, output)
     }
 
     /// Makes a checkpoint of the durable events, which are all there are, and answers its number. At `Ok` each image of the devices has it as its

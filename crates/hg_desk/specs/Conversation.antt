@@ -2,6 +2,7 @@
 use Rattle.std.specs.Prelude.{◌≡◌, ◌⊎◌, ◌+◌, ◌≤◌, ℕ, nat_lt, Bool, List, [], ◌∷◌, length, cond, Result, Ok, Err, IsTrue}
 use Rattle.hg_model.specs.Contents.{Content}
 use Rattle.hg_model.specs.Codes.{code_of}
+use Rattle.hg_model.specs.declared.event.Named.{Named}
 use Rattle.hg_model.specs.declared.verdict.Refusal.{Refusal}
 use Rattle.hg_model.specs.declared.verdict.Refusal.TheVariants.{Gap, BadNumber, Broken, Damaged, OutOfMemory}
 use Rattle.hg_detect.specs.declared.detector.Answer.{Answer}
@@ -66,6 +67,16 @@ Greets g old new told told_after (Numbered number event) stage reply = Still old
 Greets g old new told told_after Ask stage reply = Still old new told told_after × Leads stage reply Over (Fault 2)
 Greets g old new told told_after Reports stage reply = Still old new told told_after × Leads stage reply Over (Fault 2)
 Greets g old new told told_after Bye stage reply = Still old new told told_after × Leads stage reply Over (Fault 2)
+
+-- One offer to the store, and the reply that belongs to its answer.
+abbrev pub Offers : {D : Type 0} → disk.Ghosts D → Named → (old new : Shown D) → (told told_after : Told) → Reply → Type 0
+Offers g named old new told told_after reply =
+    (result : Result Answer Refusal) × StepKept g old new told told_after (Offer named) (Offered result) × (reply ≡ offer_reply named.number result)
+
+-- One commit, and the reply that belongs to its answer, with the last number of this source.
+abbrev pub Commits : {D : Type 0} → disk.Ghosts D → ℕ → (old new : Shown D) → (told told_after : Told) → Reply → Type 0
+Commits g source old new told told_after reply =
+    (result : Result ℕ Refusal) × StepKept g old new told told_after Commit (Committed result) × (reply ≡ commit_reply ((live g new).last source) result)
 
 -- between the Welcome and the end: one offer for an Event, one commit for an Ask, and no other step
 abbrev pub Talks : {D : Type 0} → disk.Ghosts D → ℕ → (old new : Shown D) → (told told_after : Told) → Frame → Stage → Reply → Type 0

@@ -1,14 +1,10 @@
 //! One conversation with a client.
 
-ghost use Rattle.std.specs.Prelude.{◌≡◌, ℕ, Result, IfOk, OnErr};
-ghost use Rattle.hg_model.specs.declared.verdict.Refusal.{Refusal as RefusalOf};
+ghost use Rattle.std.specs.Prelude.{◌≡◌, IfOk, OnErr};
 ghost use Rattle.hg_frames.specs.Spelling.{FitsFrames};
-ghost use Rattle.hg_detect.specs.declared.detector.Answer.{Answer as AnswerOf};
-ghost use Rattle.hg_store.specs.declared.steps.Step.TheVariants.{Offer, Commit};
-ghost use Rattle.hg_store.specs.declared.steps.StepResult.TheVariants.{Offered, Committed};
 ghost use Rattle.hg_store.specs.Shown.{live};
-ghost use Rattle.hg_desk.specs.Conversation.{Answers, Converses, Greets, Talks, commit_reply, expected_of, hello_reply, offer_reply, refused as refused_reply, stage_after_hello};
-ghost use Rattle.hg_desk.specs.Told.{Told, StepKept};
+ghost use Rattle.hg_desk.specs.Conversation.{Answers, Commits, Converses, Greets, Offers, Talks, expected_of, hello_reply, refused as refused_reply, stage_after_hello};
+ghost use Rattle.hg_desk.specs.Told.{Told};
 
 use crate::locked::Core;
 use crate::share::{Column, Opening, Share};
@@ -92,7 +88,8 @@ impl Desk {
         share: &mut Share<A, B>,
         frame: &Frame,
     ) -> Reply
-        ensures answer { Answers ⟦<D as Disk>⟧ self.old core.old core.new share.old share.new frame.now self.new result }
+        ensures answer { Answers ⟦<D as Disk>⟧ self.old core.old core.new share.old share.new frame.now
+            self.new result }
         ensures fits { FitsFrames result }
     {
         let (stage, reply) = match self.stage {
@@ -112,7 +109,8 @@ impl Desk {
         share: &mut Share<A, B>,
         frames: &[Frame],
     ) -> Result<Vec<Reply>, AllocError>
-        ensures ok { IfOk result (λ replies. Converses ⟦<D as Disk>⟧ self.old core.old core.new share.old share.new frames.now self.new replies.items) }
+        ensures ok { IfOk result (λ replies.
+            Converses ⟦<D as Disk>⟧ self.old core.old core.new share.old share.new frames.now self.new replies.items) }
         ensures err { OnErr result ((self.new ≡ self.old) × ((core.new ≡ core.old) × (share.new ≡ share.old))) }
     {
         let Ok(mut replies) = Vec::with_capacity(alloc, frames.len()) else {
@@ -191,7 +189,7 @@ fn offer<D: Disk, A: Opening, B: Column>(
     share: &mut Share<A, B>,
     named: &Named,
 ) -> Reply
-    ensures answer { (r : Result AnswerOf RefusalOf) × StepKept ⟦<D as Disk>⟧ core.old core.new share.old share.new (Offer named.now) (Offered r) × (result ≡ offer_reply named.now.number r) }
+    ensures answer { Offers ⟦<D as Disk>⟧ named.now core.old core.new share.old share.new result }
     ensures fits { FitsFrames result }
 {
     match core.step(alloc, share, &Step::Offer(*named)) {
@@ -200,7 +198,7 @@ fn offer<D: Disk, A: Opening, B: Column>(
         },
         StepResult::Offered(Ok(Answer::Duplicate(last))) => Reply::Duplicate { last },
         StepResult::Offered(Err(refusal)) => refused(named.number, refusal),
-        _ => Reply::Nothing,
+        _ => unreachable!(),
     }
 }
 
@@ -210,7 +208,7 @@ fn commit<D: Disk, A: Opening, B: Column>(
     share: &mut Share<A, B>,
     source: u16,
 ) -> Reply
-    ensures answer { (r : Result ℕ RefusalOf) × StepKept ⟦<D as Disk>⟧ core.old core.new share.old share.new Commit (Committed r) × (result ≡ commit_reply ((live ⟦<D as Disk>⟧ core.new).last source) r) }
+    ensures answer { Commits ⟦<D as Disk>⟧ source core.old core.new share.old share.new result }
     ensures fits { FitsFrames result }
 {
     match core.step(alloc, share, &Step::Commit) {
@@ -218,6 +216,6 @@ fn commit<D: Disk, A: Opening, B: Column>(
             number: core.last(source).unwrap_or(0),
         },
         StepResult::Committed(Err(refusal)) => refused(0, refusal),
-        _ => Reply::Nothing,
+        _ => unreachable!(),
     }
 }

@@ -13,6 +13,7 @@ use crate::desk::refused;
 use crate::moment::Moment;
 use crate::sets::are_thread_sets;
 use crate::share::{Column, Opening, Share};
+use hg_checkpointer::Cause;
 use hg_detect::detector::Answer;
 use hg_disk::Disk;
 use hg_frames::lines::{ReportLines, ReportList};
@@ -67,7 +68,7 @@ fn note_accepted<A: Column, B: Column>(
     requires counted { count.old ≡ book.old.total }
     ensures book { book.new.total ≡ book.old.total + fitting book.old.total more }
     ensures count { count.new ≡ book.new.total }
-    ensures share { share.new ≡ record { accepted = share.old.accepted + fitting book.old.total more; durable = share.old.durable } }
+    ensures share { share.new ≡ record share.old { accepted = share.old.accepted + fitting book.old.total more } }
 {
     book.audit(&mut share.accepted_part);
     let Some(total) = count.checked_add(more) else {
@@ -88,7 +89,7 @@ fn note_durable<A: Column, B: Column>(
     requires counted { count.old ≡ book.old.total }
     ensures book { book.new.total ≡ book.old.total + fitting book.old.total more }
     ensures count { count.new ≡ book.new.total }
-    ensures share { share.new ≡ record { accepted = share.old.accepted; durable = share.old.durable + fitting book.old.total more } }
+    ensures share { share.new ≡ record share.old { durable = share.old.durable + fitting book.old.total more } }
 {
     book.audit(&mut share.durable_part);
     let Some(total) = count.checked_add(more) else {
@@ -129,11 +130,11 @@ fn tells_failure(answer: &StepResult) -> bool
     match answer {
         StepResult::Offered(Err(Refusal::DeviceFault)) => true,
         StepResult::Committed(Err(Refusal::DeviceFault)) => true,
-        StepResult::Put(Err(StepFault::Refused(Refusal::DeviceFault))) => true,
-        StepResult::Sealed(Err(StepFault::Refused(Refusal::DeviceFault))) => true,
-        StepResult::Prepared(Err(StepFault::Refused(Refusal::DeviceFault))) => true,
-        StepResult::Written(Err(StepFault::Refused(Refusal::DeviceFault))) => true,
-        StepResult::Opened(Err(StepFault::Refused(Refusal::DeviceFault))) => true,
+        StepResult::Put(Err(StepFault::Refused(Cause::DeviceFault))) => true,
+        StepResult::Sealed(Err(StepFault::Refused(Cause::DeviceFault))) => true,
+        StepResult::Prepared(Err(StepFault::Refused(Cause::DeviceFault))) => true,
+        StepResult::Written(Err(StepFault::Refused(Cause::DeviceFault))) => true,
+        StepResult::Opened(Err(StepFault::Refused(Cause::DeviceFault))) => true,
         _ => false,
     }
 }

@@ -1,12 +1,9 @@
 //! The lock, and how a shared store is opened and taken in.
 
 ghost use Rattle.std.specs.Prelude.{◌≡◌, ◌+◌, ◌≤◌, ◌⊎◌, ◌≢◌, length, map, sum, vec_len, All, IfOk, IfSome, IfErr, IsTrue};
-ghost use Rattle.hg_model.specs.Contents.{Content};
-ghost use Rattle.hg_contents.specs.Images.{HasContent, Image};
-ghost use Rattle.hg_contents.specs.Stores.{IsLeft};
-ghost use Rattle.hg_store.specs.Images.{states_of};
 ghost use Rattle.hg_store.specs.Shown.{live};
 ghost use Rattle.hg_desk.specs.Going.{FailedSince, WentOnSince, began};
+ghost use Rattle.hg_desk.specs.Counting.{AreDisputed, EachImageHas, WhereAll, accepted_in, durable_in, events_of};
 ghost use Rattle.hg_desk.specs.Told.{nothing_told};
 
 use crate::locked::Core;
@@ -89,8 +86,8 @@ impl<D: Disk, A: Opening, B: Column> Shared<D, A, B> {
 
 /// What the shares were told, in all.
 fn told<A: Column, B: Column>(shares: &[Share<A, B>]) -> (u128, u128)
-    ensures accepted { result.0 ≡ sum (map (λ s. s.accepted) shares.now) }
-    ensures durable { result.1 ≡ sum (map (λ s. s.durable) shares.now) }
+    ensures accepted { result.0 ≡ accepted_in shares.now }
+    ensures durable { result.1 ≡ durable_in shares.now }
 {
     let mut accepted: u128 = 0;
     let mut durable: u128 = 0;
@@ -104,12 +101,13 @@ fn told<A: Column, B: Column>(shares: &[Share<A, B>]) -> (u128, u128)
 impl<D: Disk, A: Opening, B: Column> Core<D, A, B> {
     /// Holds the books against the shares, and tells what both have.
     fn tally(&mut self, shares: &mut [Share<A, B>]) -> Tally
-        ensures accepted_told { result.accepted_told ≡ sum (map (λ s. s.accepted) shares.old) }
-        ensures durable_told { result.durable_told ≡ sum (map (λ s. s.durable) shares.old) }
-        ensures accepted_book { IsTrue D.is_honest → (live ⟦<D as Disk>⟧ self.old).events ≡ A.opening + result.accepted_book }
+        ensures accepted_told { result.accepted_told ≡ accepted_in shares.old }
+        ensures durable_told { result.durable_told ≡ durable_in shares.old }
+        ensures accepted_book { IsTrue D.is_honest
+            → events_of ⟦<D as Disk>⟧ self.old ≡ A.opening + result.accepted_book }
         ensures durable_book { IsTrue D.is_honest → self.old.durable ≡ B.opening + result.durable_book }
-        ensures accepted { 1 ≤ length shares.old → length shares.old ≡ A.parts → result.accepted_told ≡ result.accepted_book }
-        ensures durable { 1 ≤ length shares.old → length shares.old ≡ B.parts → result.durable_told ≡ result.durable_book }
+        ensures accepted { WhereAll shares.old A.parts (result.accepted_told ≡ result.accepted_book) }
+        ensures durable { WhereAll shares.old B.parts (result.durable_told ≡ result.durable_book) }
         ensures same { self.new ≡ self.old }
         ensures shares { shares.new ≡ shares.old }
     {
@@ -151,8 +149,8 @@ fn audit<A: Column, B: Column>(
     durable: &mut Book<B>,
     shares: &mut [Share<A, B>],
 )
-    ensures accepted { 1 ≤ length shares.old → length shares.old ≡ A.parts → accepted.old.total ≡ sum (map (λ s. s.accepted) shares.old) }
-    ensures durable { 1 ≤ length shares.old → length shares.old ≡ B.parts → durable.old.total ≡ sum (map (λ s. s.durable) shares.old) }
+    ensures accepted { WhereAll shares.old A.parts (accepted.old.total ≡ accepted_in shares.old) }
+    ensures durable { WhereAll shares.old B.parts (durable.old.total ≡ durable_in shares.old) }
     ensures books { (accepted.new.total ≡ accepted.old.total) × (durable.new.total ≡ durable.old.total) }
     ensures shares { shares.new ≡ shares.old }
 {
@@ -173,7 +171,8 @@ fn audit_accepted<A: Column, B: Column>(
     seen: &mut Part<A>,
 )
     requires backed { seen.old.parts ≡ 0 → seen.old.amount ≡ 0 }
-    ensures whole { seen.old.parts + length shares.old ≡ A.parts → seen.old.amount + sum (map (λ s. s.accepted) shares.old) ≡ book.old.total }
+    ensures whole { seen.old.parts + length shares.old ≡ A.parts
+        → seen.old.amount + accepted_in shares.old ≡ book.old.total }
     ensures book { book.new.total ≡ book.old.total }
     ensures shares { shares.new ≡ shares.old }
     ensures seen { (seen.new.parts ≡ seen.old.parts) × (seen.new.amount ≡ seen.old.amount) }
@@ -195,7 +194,8 @@ fn audit_durable<A: Column, B: Column>(
     seen: &mut Part<B>,
 )
     requires backed { seen.old.parts ≡ 0 → seen.old.amount ≡ 0 }
-    ensures whole { seen.old.parts + length shares.old ≡ B.parts → seen.old.amount + sum (map (λ s. s.durable) shares.old) ≡ book.old.total }
+    ensures whole { seen.old.parts + length shares.old ≡ B.parts
+        → seen.old.amount + durable_in shares.old ≡ book.old.total }
     ensures book { book.new.total ≡ book.old.total }
     ensures shares { shares.new ≡ shares.old }
     ensures seen { (seen.new.parts ≡ seen.old.parts) × (seen.new.amount ≡ seen.old.amount) }
@@ -215,17 +215,16 @@ pub fn gather<D: Disk, A: Opening, B: Column>(
     shares: Vec<Share<A, B>>,
     shared: Shared<D, A, B>,
 ) -> Result<TakenIn<D>, (Vec<Share<A, B>>, Shared<D, A, B>, Tally)>
-    ensures events { IsTrue D.is_honest → IfOk result (λ r. (live ⟦<D as Disk>⟧ r.store).events ≡ A.opening + sum (map (λ s. s.accepted) shares.items)) }
-    ensures durable { IsTrue D.is_honest → IfOk result (λ r. r.store.durable ≡ B.opening + sum (map (λ s. s.durable) shares.items)) }
+    ensures events { IsTrue D.is_honest → IfOk result (λ r.
+        events_of ⟦<D as Disk>⟧ r.store ≡ A.opening + accepted_in shares.items) }
+    ensures durable { IsTrue D.is_honest → IfOk result (λ r. r.store.durable ≡ B.opening + durable_in shares.items) }
     ensures since { IfOk result (λ r. WentOnSince ⟦<D as Disk>⟧ A.start r.moments r.store) }
     ensures failed { IfOk result (λ r. IsTrue r.has_failed → FailedSince ⟦<D as Disk>⟧ A.start r.store) }
-    ensures images { IsTrue D.is_honest → IfOk result (λ r. (image : Image) → IsLeft (states_of ⟦<D as Disk>⟧ r.store.devices) image
-        → (k : Content) × HasContent image k × (B.opening + sum (map (λ s. s.durable) shares.items) ≤ k.events)) }
+    ensures images { IsTrue D.is_honest → IfOk result (λ r.
+        EachImageHas ⟦<D as Disk>⟧ r.store (B.opening + durable_in shares.items)) }
     // Where all shares come back, they agree with the books.
     ensures whole { 1 ≤ vec_len shares → vec_len shares ≡ A.parts → vec_len shares ≡ B.parts → IfErr result (λ e. ⊥) }
-    ensures err { IfErr result (λ e. (e.0.items ≡ shares.items)
-        × (e.2.accepted_told ≡ sum (map (λ s. s.accepted) shares.items)) × (e.2.durable_told ≡ sum (map (λ s. s.durable) shares.items))
-        × ((e.2.accepted_told ≢ e.2.accepted_book) ⊎ (e.2.durable_told ≢ e.2.durable_book))) }
+    ensures err { IfErr result (λ e. AreDisputed shares.items e.0.items e.2) }
 {
     let Shared { core } = shared;
     let mut core = core.into_inner();

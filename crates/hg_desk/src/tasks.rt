@@ -4,6 +4,7 @@ ghost use Rattle.std.specs.Prelude.{◌≡◌, ◌+◌, ◌≤◌, IsTrue};
 ghost use Rattle.hg_frames.specs.Spelling.{FitsFrames};
 ghost use Rattle.hg_store.specs.Shown.{live};
 ghost use Rattle.hg_desk.specs.Conversation.{Answers, AskTold};
+ghost use Rattle.hg_desk.specs.Counting.{AreSince, FindsAtLeast};
 ghost use Rattle.hg_desk.specs.Told.{Told, StepKept, StepTold};
 
 use crate::desk::Desk;
@@ -63,7 +64,8 @@ impl<D: Disk, A: Opening, B: Column> Task<D, A, B> for AskTask {
 
     fn run(self, core: &mut Core<D, A, B>, share: &mut Share<A, B>) -> (Desk, Reply)
         ensures promise { AskTold D.is_honest share.old share.new result.1 × FitsFrames result.1 }
-        ensures answer { Answers ⟦<D as Disk>⟧ self.desk core.old core.new share.old share.new self.frame result.0 result.1 }
+        ensures answer { Answers ⟦<D as Disk>⟧ self.desk core.old core.new share.old share.new self.frame
+            result.0 result.1 }
         ensures fits { FitsFrames result.1 }
     {
         let AskTask {
@@ -83,11 +85,11 @@ pub struct CountTask;
 impl<D: Disk, A: Opening, B: Column> Task<D, A, B> for CountTask {
     type Out = Counts;
 
-    ghost promise = { λ t old new res. (new ≡ old) × (old.accepted ≤ res.accepted) × (old.durable ≤ res.durable) };
+    ghost promise = { λ t old new res. FindsAtLeast old new res };
 
     fn run(self, core: &mut Core<D, A, B>, share: &mut Share<A, B>) -> Counts
-        ensures promise { (share.new ≡ share.old) × (share.old.accepted ≤ result.accepted) × (share.old.durable ≤ result.durable) }
-        ensures counts { IsTrue D.is_honest → ((live ⟦<D as Disk>⟧ core.old).events ≡ A.opening + result.accepted) × (core.old.durable ≡ B.opening + result.durable) }
+        ensures promise { FindsAtLeast share.old share.new result }
+        ensures counts { IsTrue D.is_honest → AreSince ⟦<D as Disk>⟧ A.opening B.opening core.old result }
         ensures same { core.new ≡ core.old }
     {
         core.counts(share)

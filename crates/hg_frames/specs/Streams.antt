@@ -1,5 +1,5 @@
 -- What the bytes of a stream give: messages, and at most one fault behind them.
-use Rattle.std.specs.Prelude.{◌≡◌, ℕ, List, [], ◌++◌, Bool, true, false, Option, Some, None}
+use Rattle.std.specs.Prelude.{◌≡◌, ℕ, ◌≤◌, List, [], ◌++◌, length, drop, Bool, true, false, Option, Some, None}
 use Rattle.std.specs.List.{flat_map, AllByRecursion}
 use Rattle.hg_frames.specs.declared.message.Message as message
 use Rattle.hg_frames.specs.declared.message.FrameFault.{FrameFault}
@@ -29,6 +29,10 @@ module _ {M : Type 0} (g : message.Ghosts M) where
     pub spelled : bytes ≡ flat_map (frame_text g) messages ++ rest
     pub fits : AllByRecursion g.fits messages
     pub ends : EndsBy fault rest
+
+  -- So many bytes are the frames of the messages that joined the old ones, and the fault begins what stands behind them.
+  abbrev pub ReadsFrames : List ℕ → (old new : List M) → ℕ → Option FrameFault → Type 0
+  ReadsFrames bytes old new used fault = (used ≤ length bytes) × ((more : List M) × (new ≡ old ++ more) × IsRead bytes more fault (drop used bytes))
 
   -- A piece of a stream gives these messages and this fault.
   pub record Gives (old new : Pending) (piece : List ℕ) (messages : List M) (fault : Option FrameFault) : Type 0 where

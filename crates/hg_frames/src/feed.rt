@@ -1,7 +1,7 @@
 //! The messages of a stream that comes in pieces.
 
 ghost use Rattle.std.specs.Prelude.{◌≡◌, ◌≤◌, ◌++◌, ◌↔◌, List, length, drop, IfOk, IfErr, OnErr, IsTrue};
-ghost use Rattle.hg_frames.specs.Streams.{Gives, IsRead, Pending, at_start};
+ghost use Rattle.hg_frames.specs.Streams.{Gives, Pending, ReadsFrames, at_start};
 
 use crate::front::{Front, read_front};
 use crate::message::{FrameFault, Message};
@@ -47,8 +47,7 @@ fn read_frames<M: Message + Drop>(
     bytes: &[u8],
     messages: &mut Vec<M>,
 ) -> Result<(usize, Option<FrameFault>), AllocError>
-    ensures { IfOk result (λ r. (r.0 ≤ length bytes.now)
-        × ((more : List M) × (messages.new.items ≡ messages.old.items ++ more) × IsRead ⟦<M as Message>⟧ bytes.now more r.1 (drop r.0 bytes.now))) }
+    ensures { IfOk result (λ r. ReadsFrames ⟦<M as Message>⟧ bytes.now messages.old.items messages.new.items r.0 r.1) }
 {
     let mut rest = bytes;
     loop {
@@ -78,7 +77,8 @@ impl<M: Message + Drop> Feed<M> {
     /// Takes the next piece, and gives what it completes. A fault is told as soon as it can be seen; every further piece is
     /// refused as `Failed`.
     pub fn push(&mut self, piece: &[u8]) -> Result<Fed<M>, FeedRefusal>
-        ensures ok { IfOk result (λ fed. Gives ⟦<M as Message>⟧ self.old self.new piece.now fed.messages.items fed.fault) }
+        ensures ok { IfOk result (λ fed.
+            Gives ⟦<M as Message>⟧ self.old self.new piece.now fed.messages.items fed.fault) }
         ensures err { OnErr result (self.new ≡ self.old) }
         ensures failed { IfErr result (λ refusal. refusal ≡ FeedRefusal.Failed ↔ IsTrue self.old.has_failed) }
     {

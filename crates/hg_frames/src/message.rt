@@ -31,7 +31,8 @@ pub trait Message {
     /// Reads a whole body. `None` says that it is no message's.
     fn read(alloc: Global, bytes: &[u8]) -> Result<Option<Self>, AllocError>
         ensures some { IfOk result (λ read. IfSome read (λ message. fits message × (bytes.now ≡ body message))) }
-        ensures none { IfOk result (λ read. IfNone read ((message : Self) → fits message → bytes.now ≡ body message → ⊥)) };
+        ensures none { IfOk result (λ read.
+            IfNone read ((message : Self) → fits message → bytes.now ≡ body message → ⊥)) };
 
     /// The length of a body fits its two bytes.
     ghost narrow: { MOST_BYTES < 2 ^ 16 };

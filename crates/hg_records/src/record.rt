@@ -4,7 +4,7 @@ ghost use Rattle.std.specs.Prelude.{◌≡◌, ◌≤◌, ◌++◌, ◌+◌, ◌
 ghost use Rattle.std.specs.Int.{w16, w64, to_be_bytes};
 ghost use Rattle.hg_model.specs.declared.event.Event.{Event as EventOf};
 ghost use Rattle.hg_records.specs.Records.{AccessFits, BeginsWith, BeginsWithEvent, BlockFits, EventFits, PairFits, RecordFits, access_text, block_text, event_text, pair_text, record_text};
-ghost use Rattle.hg_records.specs.Lengths.{HasNoRecord, HasRecord, length_by_kind};
+ghost use Rattle.hg_records.specs.Lengths.{HasNoRecord, IsRecordLength, TakesEvent, TakesRecord, length_by_kind};
 ghost use Rattle.hg_records.specs.RecordReading.{Gives, access_at, block_at, byte_at, event_at, number_at, operands_at, record_at};
 
 use hg_model::event::{Access, Block, Event, Named};
@@ -138,7 +138,7 @@ fn record_of(bytes: &[u8]) -> Option<(Named, &[u8])>
 /// Reads the record at the front of the bytes: the event under its name, and the record's length in bytes.
 /// `None` says that the bytes begin with no record. Takes no memory.
 pub fn read_record(bytes: &[u8]) -> Option<(Named, usize)>
-    ensures read { IfSome result (λ r. (r.1 ≡ length (record_text r.0)) × BeginsWith bytes.now r.0 (drop r.1 bytes.now)) }
+    ensures read { IfSome result (λ r. TakesRecord bytes.now r.0 r.1) }
     ensures none { IfNone result (HasNoRecord bytes.now) }
 {
     match record_of(bytes) {
@@ -170,7 +170,7 @@ fn len_of(kind: u8) -> usize
 /// How many bytes the record at the front of the bytes has. `None` says that the bytes begin with no record. It makes no event of them.
 #[inline]
 pub fn record_len(bytes: &[u8]) -> Option<usize>
-    ensures some { IfSome result (λ len. (1 ≤ len) × (len ≤ length bytes.now) × HasRecord bytes.now (drop len bytes.now)) }
+    ensures some { IfSome result (IsRecordLength bytes.now) }
     ensures none { IfNone result (HasNoRecord bytes.now) }
 {
     if bytes.len() < 15 {
@@ -189,7 +189,7 @@ pub fn record_len(bytes: &[u8]) -> Option<usize>
 /// Reads the event at the front of the bytes, as a record has it after its name, and how many bytes it takes. `None` says
 /// that the bytes begin with no event. Takes no memory.
 pub fn read_event(bytes: &[u8]) -> Option<(Event, usize)>
-    ensures read { IfSome result (λ r. (r.1 ≡ length (event_text r.0)) × BeginsWithEvent bytes.now r.0 (drop r.1 bytes.now)) }
+    ensures read { IfSome result (λ r. TakesEvent bytes.now r.0 r.1) }
     ensures none { IfNone result ((e : EventOf) (rest : List ℕ) → BeginsWithEvent bytes.now e rest → ⊥) }
 {
     match event_of(bytes) {

@@ -47,7 +47,7 @@ pub enum Told {
 fn fault_told(fault: StepFault) -> Told {
     match fault {
         StepFault::WrongPhase(phase) => Told::WrongPhase(phase),
-        StepFault::Refused(refusal) => Told::Refused(refusal),
+        StepFault::Refused(cause) => Told::Refused(Refusal::from(cause)),
     }
 }
 

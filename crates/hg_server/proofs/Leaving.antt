@@ -1,8 +1,7 @@
 -- What a server leaves of its devices.
-use Rattle.std.proofs.Common.{◌≡◌, ◌⊎◌, inl, inr, ◌<◌, ◌≤◌, ◌∙◌, List, map, Result, Ok, Err, IfErr, IsTrue, Bool, arith, refl, sym, subst}
+use Rattle.std.proofs.Common.{◌≡◌, inl, inr, ◌<◌, ◌≤◌, ◌∙◌, List, map, Result, Ok, Err, IfErr, IsTrue, Bool, arith, refl, sym, subst}
 use Rattle.hg_model.specs.Contents.{Content}
 use Rattle.hg_model.specs.declared.verdict.Refusal.{Refusal}
-use Rattle.hg_model.specs.declared.verdict.Refusal.TheVariants.{Broken, DeviceFault, OutOfMemory}
 use Rattle.hg_disk.specs.declared.disk.Disk as disk
 use Rattle.hg_contents.specs.Images.{HasContent}
 use Rattle.hg_store.specs.declared.devices.Devices.{Devices}
@@ -11,23 +10,20 @@ use Rattle.hg_store.specs.Shown.{Shown, live}
 use Rattle.hg_store.specs.Store.{IsFresh}
 use Rattle.hg_desk.specs.Going.{LeadsTo, Point, WentOn, began, of_points, oldest, points_of}
 use Rattle.hg_desk.proofs.Going.{along_of_points, each_of_points, each_to_points, oldest_point}
-use Rattle.hg_server.specs.Serving.{HasServeCause, IsServingFault, Served}
+use Rattle.hg_server.specs.Serving.{HasServeCause, IsServingFault, IsToldTruly, Served}
+use Rattle.hg_server.specs.declared.fault.ServingFault.{ServingFault}
+use Rattle.hg_server.specs.declared.fault.ServingFault.TheVariants as fault
 
 -- what holds of an Err, and what follows from it
 pub if_err_weaker : {T E : Type 0} (P Q : E → Type 0) (result : Result T E) → ((e : E) → P e → Q e) → IfErr result P → IfErr result Q
 if_err_weaker P Q (Ok value) more is = tt
 if_err_weaker P Q (Err e) more is = more e is
 
--- what settling a store answers
-abbrev pub IsSettlingFault : Bool → Refusal → Type 0
-IsSettlingFault has_failed r = ((r ≡ Broken) × IsTrue has_failed) ⊎ ((r ≡ DeviceFault) ⊎ (r ≡ OutOfMemory))
-
 module _ {D : Type 0} (g : disk.Ghosts D) where
   -- a call that failed before settling, and what settling answers
-  pub serving_fault : (old mid new : Devices D) (has_failed : Bool) (r : Refusal) → (IsTrue has_failed → failures_of g old < failures_of g mid) → failures_of g mid ≤ failures_of g new
-      → IsSettlingFault has_failed r → IsServingFault g old new r
-  serving_fault old mid new has_failed r failed more (inl is) = let less = failed is.1 in inl (is.0, omega (arith, less, more))
-  serving_fault old mid new has_failed r failed more (inr is) = inr is
+  pub told_truly : (old mid new : Devices D) (has_failed : Bool) (told : ServingFault) → (IsTrue has_failed → failures_of g old < failures_of g mid) → failures_of g mid ≤ failures_of g new
+      → (told ≡ fault.Broken → IsTrue has_failed) → IsToldTruly g old new told
+  told_truly old mid new has_failed told failed more is broken = let less = failed (is broken) in omega (arith, less, more)
 
   -- the same of the devices before the store was opened, of which no call failed meanwhile
   pub serve_cause : (old start new : Devices D) (r : Refusal) → failures_of g start ≡ failures_of g old → IsServingFault g start new r → HasServeCause g old new r

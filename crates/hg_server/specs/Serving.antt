@@ -1,20 +1,23 @@
 -- What a server prints, what it leaves of its devices, and how it may fail.
-use Rattle.std.specs.Prelude.{◌≡◌, ◌⊎◌, ◌<◌, ◌++◌, ℕ, List, Result, Ok, Err, IsTrue, codes, false}
+use Rattle.std.specs.Prelude.{◌≡◌, ◌⊎◌, ◌<◌, ◌++◌, ℕ, List, Result, Ok, Err, IfErr, IfOk, IsTrue, OnErr, codes, false}
 use Rattle.hg_model.specs.Contents.{Content}
 use Rattle.hg_model.specs.declared.verdict.Refusal.{Refusal}
 use Rattle.hg_model.specs.declared.verdict.Refusal.TheVariants.{Broken, DeviceFault, OutOfMemory}
 use Rattle.hg_disk.specs.declared.disk.Disk as disk
+use Rattle.hg_streams.specs.Shown.{Outgoing}
 use Rattle.hg_streams.specs.declared.call.WriteCall.{WriteCall}
 use Rattle.hg_contents.specs.Images.{HasContent}
 use Rattle.hg_store.specs.declared.devices.Devices.{Devices}
 use Rattle.hg_store.specs.Images.{EachImageAlong, IsOn, Recovers, failures_of, read_of}
 use Rattle.hg_store.specs.Shown.{Shown, live, saved}
 use Rattle.hg_store.specs.Store.{Backs}
-use Rattle.hg_desk.specs.Going.{LeadsTo, oldest}
+use Rattle.hg_desk.specs.Going.{Began, LeadsTo, WentOn, oldest}
 use Rattle.hg_check.specs.Printing.{Took, line_text}
 use Rattle.hg_check.specs.Streaming.{IsTold}
 use Rattle.hg_check.specs.Written.{TookFront}
 use Rattle.hg_commands.specs.Storing.{IsCounted, IsTrueOf, number_text, store_end_line}
+use Rattle.hg_server.specs.declared.fault.ServingFault.{ServingFault}
+use Rattle.hg_server.specs.declared.fault.ServingFault.TheVariants as fault
 use Rattle.hg_server.specs.declared.serving.Plan.{Plan}
 
 -- how many connections were served, and the end line of a store with this content
@@ -25,12 +28,39 @@ served_text connections c = number_text (codes "served ") connections ++ line_te
 abbrev pub serving_text : Plan → Content → List ℕ
 serving_text plan c = number_text (codes "ready ") plan.port ++ served_text plan.connections c
 
+-- the refusal of the same name
+abbrev pub refusal_of : ServingFault → Refusal
+refusal_of fault.Broken = Broken
+refusal_of fault.DeviceFault = DeviceFault
+refusal_of fault.OutOfMemory = OutOfMemory
+
+-- On an error a front of the text was written, behind what was written before.
+abbrev pub AddsFrontOnErr : {W T E : Type 0} → (old new : Outgoing W) → List ℕ → Result T E → Type 0
+AddsFrontOnErr old new text result =
+    (first : List WriteCall) (before : List ℕ) → Took first old.calls before → OnErr result (TookFront first new.calls (before ++ text))
+
 -- 0 with a store that works, 3 without
 abbrev pub IsStatusOf : {S E : Type 0} → Result S E → ℕ → Type 0
 IsStatusOf (Ok store) status = status ≡ 0
 IsStatusOf (Err devices) status = status ≡ 3
 
 module _ {D : Type 0} (g : disk.Ghosts D) where
+  -- how many connections were served, and the end line of this store
+  abbrev pub served_by : Plan → Shown D → List ℕ
+  served_by plan s = served_text plan.connections (live g s)
+
+  -- all that a server prints whose store is this at the end
+  abbrev pub serving_by : Plan → Shown D → List ℕ
+  serving_by plan s = serving_text plan (live g s)
+
+  -- A store that went on from its opening has still gone on from it.
+  abbrev pub StillWentOn : List (Devices D) → Shown D → List (Devices D) → Shown D → Type 0
+  StillWentOn moments s later t = (start : Began) → WentOn g start moments s → WentOn g start later t
+
+  -- `Broken` is told only where a device failed meanwhile.
+  abbrev pub IsToldTruly : (old new : Devices D) → ServingFault → Type 0
+  IsToldTruly old new told = told ≡ fault.Broken → failures_of g old < failures_of g new
+
   -- Why serving a store ends early: a device failed for a client, which broke the store; a device, the listener or the output failed; or memory was
   -- refused.
   abbrev pub IsServingFault : (old new : Devices D) → Refusal → Type 0
@@ -74,3 +104,11 @@ module _ {D : Type 0} (g : disk.Ghosts D) where
   abbrev pub EndsEarly : Plan → Devices D → List (Devices D) → Devices D → List WriteCall → List WriteCall → List WriteCall → List WriteCall → Type 0
   EndsEarly plan old moments new calls_old calls_new faults_old faults_new =
       (r : Refusal) × (HasServeCause old new r × (IsTold faults_old faults_new r × WroteServing plan old moments new calls_old calls_new))
+
+  -- With a store the server came to its end.
+  abbrev pub EndsWellOnOk : {W E : Type 0} → Plan → Devices D → List (Devices D) → (old new : Outgoing W) → Result (Shown D) E → Type 0
+  EndsWellOnOk plan devices moments old new ended = IfOk ended (λ s. EndsWell plan devices moments s old.calls new.calls)
+
+  -- Without one it ended early.
+  abbrev pub EndsEarlyOnErr : {W V S : Type 0} → Plan → Devices D → List (Devices D) → (old new : Outgoing W) → (before told : Outgoing V) → Result S (Devices D) → Type 0
+  EndsEarlyOnErr plan devices moments old new before told ended = IfErr ended (λ left. EndsEarly plan devices moments left old.calls new.calls before.calls told.calls)

@@ -7,9 +7,10 @@ ghost use Rattle.hg_streams.specs.declared.call.WriteCall.{WriteCall};
 ghost use Rattle.hg_check.specs.Printing.{Took};
 ghost use Rattle.hg_check.specs.Streaming.{IsStreamFault};
 ghost use Rattle.hg_check.specs.Written.{TookFront};
-ghost use Rattle.hg_desk.specs.Going.{Began, FailedSince, WentOn, WentOnSince, began};
-ghost use Rattle.hg_server.specs.Serving.{EndsEarly, EndsWell, HasServeCause, IsServingFault, IsSettled, IsStatusOf, WroteServing, served_text, serving_text};
+ghost use Rattle.hg_desk.specs.Going.{FailedSince, WentOn, WentOnSince, began};
+ghost use Rattle.hg_server.specs.Serving.{AddsFrontOnErr, EndsEarlyOnErr, EndsWellOnOk, HasServeCause, IsServingFault, IsSettled, IsStatusOf, IsToldTruly, StillWentOn, WroteServing, served_by, serving_by};
 
+use crate::fault::ServingFault;
 use crate::worker::{Gate, worker};
 use crossbeam_channel::Sender;
 use hg_check::telling::tell;
@@ -139,29 +140,27 @@ fn run_workers<
 fn take_in<D: Disk, A: Opening, B: Column>(
     back: Result<Vec<Share<A, B>>, AllocError>,
     shared: Shared<D, A, B>,
-) -> (TakenIn<D>, Result<(), Refusal>)
+) -> (TakenIn<D>, Result<(), AllocError>)
     ensures since { WentOnSince ⟦<D as Disk>⟧ A.start result.0.moments result.0.store }
     ensures failed { IsTrue result.0.has_failed → FailedSince ⟦<D as Disk>⟧ A.start result.0.store }
-    ensures cause { IfErr result.1 (λ r. r ≡ Refusal.OutOfMemory) }
 {
     let Ok(shares) = back else {
-        return (shared.into_store(), Err(Refusal::OutOfMemory));
+        return (shared.into_store(), Err(AllocError));
     };
     match gather(shares, shared) {
         Ok(taken_in) => (taken_in, Ok(())),
-        Err((_, shared, _)) => (shared.into_store(), Err(Refusal::OutOfMemory)),
+        Err((_, shared, _)) => (shared.into_store(), Err(AllocError)),
     }
 }
 
-/// How a commit that failed is told: `Broken` where a client was told before that a device failed.
-fn commit_fault(refusal: Refusal, has_failed: bool) -> Refusal
-    requires { (refusal ≡ Refusal.Broken) ⊎ (refusal ≡ Refusal.DeviceFault) }
-    ensures { ((result ≡ Refusal.Broken) × IsTrue has_failed) ⊎ (result ≡ Refusal.DeviceFault) }
+/// How a commit that failed is told: a device failed, for a client before, who was told, or else for the server.
+fn commit_fault(refusal: Refusal, has_failed: bool) -> ServingFault
+    ensures { result ≡ ServingFault.Broken → IsTrue has_failed }
 {
-    match refusal {
-        Refusal::Broken if has_failed => Refusal::Broken,
-        _ => Refusal::DeviceFault,
+    if has_failed && refusal == Refusal::Broken {
+        return ServingFault::Broken;
     }
+    ServingFault::DeviceFault
 }
 
 /// Makes all accepted events of a store durable.
@@ -169,12 +168,12 @@ fn commit_all<D: Disk>(
     store: &mut Store<D>,
     moments: &mut Trail<Moment<D>>,
     has_failed: bool,
-) -> Result<(), Refusal>
-    ensures went { (start : Began) → WentOn ⟦<D as Disk>⟧ start moments.old store.old → WentOn ⟦<D as Disk>⟧ start moments.new store.new }
+) -> Result<(), ServingFault>
+    ensures went { StillWentOn ⟦<D as Disk>⟧ moments.old store.old moments.new store.new }
     ensures device { failures_of ⟦<D as Disk>⟧ store.old.devices ≤ failures_of ⟦<D as Disk>⟧ store.new.devices }
     ensures works { OnOk result (store.new.is_broken ≡ false) }
     ensures settled { OnOk result (IsTrue D.is_honest → IsSettled ⟦<D as Disk>⟧ store.new) }
-    ensures cause { IfErr result (λ r. ((r ≡ Refusal.Broken) × IsTrue has_failed) ⊎ (r ≡ Refusal.DeviceFault)) }
+    ensures broken { IfErr result (λ fault. fault ≡ ServingFault.Broken → IsTrue has_failed) }
 {
     store.stands();
     moments.push(Moment::of(&*store));
@@ -191,31 +190,30 @@ fn settle<D: Disk>(
     store: &mut Store<D>,
     moments: &mut Trail<Moment<D>>,
     has_failed: bool,
-    taken_in: Result<(), Refusal>,
+    taken_in: Result<(), AllocError>,
     are_all_taken: bool,
-) -> Result<(), Refusal>
-    requires cause { IfErr taken_in (λ r. r ≡ Refusal.OutOfMemory) }
-    ensures went { (start : Began) → WentOn ⟦<D as Disk>⟧ start moments.old store.old → WentOn ⟦<D as Disk>⟧ start moments.new store.new }
+) -> Result<(), ServingFault>
+    ensures went { StillWentOn ⟦<D as Disk>⟧ moments.old store.old moments.new store.new }
     ensures device { failures_of ⟦<D as Disk>⟧ store.old.devices ≤ failures_of ⟦<D as Disk>⟧ store.new.devices }
     ensures works { OnOk result (store.new.is_broken ≡ false) }
     ensures settled { OnOk result (IsTrue D.is_honest → IsSettled ⟦<D as Disk>⟧ store.new) }
-    ensures cause { IfErr result (λ r. ((r ≡ Refusal.Broken) × IsTrue has_failed) ⊎ ((r ≡ Refusal.DeviceFault) ⊎ (r ≡ Refusal.OutOfMemory))) }
+    ensures broken { IfErr result (λ fault. fault ≡ ServingFault.Broken → IsTrue has_failed) }
 {
     taken_in?;
     commit_all(store, moments, has_failed)?;
     match are_all_taken {
         true => Ok(()),
-        false => Err(Refusal::DeviceFault),
+        false => Err(ServingFault::DeviceFault),
     }
 }
 
 /// A store that was served, and how that ended.
 #[derive(Drop)]
-struct Service<D: Disk> {
+struct Service<D: Disk, E> {
     store: Store<D>,
     /// The moments since the opening, the newest first, which contracts alone see.
     moments: Trail<Moment<D>>,
-    ended: Result<(), Refusal>,
+    ended: Result<(), E>,
 }
 
 /// Opens the lock over a store, runs the workers until the connections are served, and takes them in. At `Ok` all accepted events are
@@ -238,7 +236,7 @@ fn serve_by<
     listener: &TcpListener,
     plan: Plan,
     gate: &G,
-) -> Service<D>
+) -> Service<D, ServingFault>
     requires accepted { (accepted.name ≡ A.name) × (accepted.parts ≡ A.parts) × (accepted.parts ≡ plan.workers) }
     requires durable { (durable.name ≡ B.name) × (durable.parts ≡ B.parts) × (durable.parts ≡ plan.workers) }
     requires opening { ((live ⟦<D as Disk>⟧ store).events ≡ A.opening) × (store.durable ≡ B.opening) }
@@ -246,7 +244,7 @@ fn serve_by<
     ensures went { WentOn ⟦<D as Disk>⟧ (began ⟦<D as Disk>⟧ store) result.moments result.store }
     ensures works { OnOk result.ended (result.store.is_broken ≡ false) }
     ensures settled { OnOk result.ended (IsTrue D.is_honest → IsSettled ⟦<D as Disk>⟧ result.store) }
-    ensures cause { IfErr result.ended (λ r. IsServingFault ⟦<D as Disk>⟧ store.devices result.store.devices r) }
+    ensures cause { IfErr result.ended (IsToldTruly ⟦<D as Disk>⟧ store.devices result.store.devices) }
 {
     let count = usize::from(plan.workers);
     store.stands();
@@ -256,7 +254,7 @@ fn serve_by<
             return Service {
                 store,
                 moments: Trail::new(),
-                ended: Err(Refusal::OutOfMemory),
+                ended: Err(ServingFault::OutOfMemory),
             };
         }
     };
@@ -289,11 +287,11 @@ fn serve_over<D: Disk + Send + Drop, G: Gate + Sync, R: Threads + Wait + Clock +
     listener: &TcpListener,
     plan: Plan,
     gate: &G,
-) -> Service<D>
+) -> Service<D, ServingFault>
     ensures went { WentOn ⟦<D as Disk>⟧ (began ⟦<D as Disk>⟧ store) result.moments result.store }
     ensures works { OnOk result.ended (result.store.is_broken ≡ false) }
     ensures settled { OnOk result.ended (IsTrue D.is_honest → IsSettled ⟦<D as Disk>⟧ result.store) }
-    ensures cause { IfErr result.ended (λ r. IsServingFault ⟦<D as Disk>⟧ store.devices result.store.devices r) }
+    ensures cause { IfErr result.ended (IsToldTruly ⟦<D as Disk>⟧ store.devices result.store.devices) }
 {
     let parts = u64::from(plan.workers);
     serve_by::<D, Brand, Brand, G, R>(
@@ -316,9 +314,8 @@ fn print_end<D: Disk, W: Write>(
     output: &mut Output<W>,
 ) -> Result<(), Refusal>
     requires works { store.now.is_broken ≡ false }
-    ensures printed { OnOk result (Took output.old.calls output.new.calls (served_text plan.connections (live ⟦<D as Disk>⟧ store.now))) }
-    ensures front { (first : List WriteCall) (before : List ℕ) → Took first output.old.calls before
-        → OnErr result (TookFront first output.new.calls (before ++ served_text plan.connections (live ⟦<D as Disk>⟧ store.now))) }
+    ensures printed { OnOk result (Took output.old.calls output.new.calls (served_by ⟦<D as Disk>⟧ plan store.now)) }
+    ensures front { AddsFrontOnErr output.old output.new (served_by ⟦<D as Disk>⟧ plan store.now) result }
     ensures cause { IfErr result IsStreamFault }
 {
     print_number(b"served ", u64::from(plan.connections), output)?;
@@ -342,13 +339,15 @@ fn serve_and_print<
     plan: Plan,
     gate: &G,
     output: &mut Output<W>,
-) -> Service<D>
+) -> Service<D, Refusal>
     ensures went { WentOn ⟦<D as Disk>⟧ (began ⟦<D as Disk>⟧ store) result.moments result.store }
     ensures works { OnOk result.ended (result.store.is_broken ≡ false) }
     ensures settled { OnOk result.ended (IsTrue D.is_honest → IsSettled ⟦<D as Disk>⟧ result.store) }
-    ensures printed { OnOk result.ended (Took output.old.calls output.new.calls (serving_text plan (live ⟦<D as Disk>⟧ result.store))) }
-    ensures front { OnErr result.ended (TookFront output.old.calls output.new.calls (serving_text plan (live ⟦<D as Disk>⟧ result.store))) }
-    ensures cause { IfErr result.ended (λ r. IsServingFault ⟦<D as Disk>⟧ store.devices result.store.devices r) }
+    ensures printed { OnOk result.ended (Took output.old.calls output.new.calls
+        (serving_by ⟦<D as Disk>⟧ plan result.store)) }
+    ensures front { OnErr result.ended (TookFront output.old.calls output.new.calls
+        (serving_by ⟦<D as Disk>⟧ plan result.store)) }
+    ensures cause { IfErr result.ended (IsServingFault ⟦<D as Disk>⟧ store.devices result.store.devices) }
 {
     store.stands();
     if let Err(refusal) = print_number(b"ready ", u64::from(plan.port), output) {
@@ -363,11 +362,11 @@ fn serve_and_print<
         moments,
         ended,
     } = serve_over(rt, alloc, store, listener, plan, gate);
-    if let Err(refusal) = ended {
+    if let Err(fault) = ended {
         return Service {
             store,
             moments,
-            ended: Err(refusal),
+            ended: Err(Refusal::from(fault)),
         };
     }
     let ended = print_end(alloc, &store, plan, output);
@@ -394,9 +393,10 @@ fn recover_and_serve<
     output: &mut Output<W>,
 ) -> (Result<Store<D>, (Refusal, Devices<D>)>, Trail<Moment<D>>)
     requires frames { (4 ≤ plan.frames) × (plan.frames ≤ 4096) }
-    ensures well { IfOk result.0 (λ s. EndsWell ⟦<D as Disk>⟧ plan devices result.1 s output.old.calls output.new.calls) }
+    ensures well { EndsWellOnOk ⟦<D as Disk>⟧ plan devices result.1 output.old output.new result.0 }
     ensures cause { IfErr result.0 (λ e. HasServeCause ⟦<D as Disk>⟧ devices e.1 e.0) }
-    ensures wrote { IfErr result.0 (λ e. WroteServing ⟦<D as Disk>⟧ plan devices result.1 e.1 output.old.calls output.new.calls) }
+    ensures wrote { IfErr result.0 (λ e.
+        WroteServing ⟦<D as Disk>⟧ plan devices result.1 e.1 output.old.calls output.new.calls) }
 {
     let store = match open_store(alloc, devices, plan.frames) {
         Ok(store) => store,
@@ -449,9 +449,10 @@ pub fn serve<
 ) -> Outcome<D>
     requires frames { (4 ≤ plan.frames) × (plan.frames ≤ 4096) }
     ensures status { IsStatusOf result.ended result.status }
-    ensures well { IfOk result.ended (λ s. EndsWell ⟦<D as Disk>⟧ plan devices result.moments s output.old.calls output.new.calls) }
+    ensures well { EndsWellOnOk ⟦<D as Disk>⟧ plan devices result.moments output.old output.new result.ended }
     ensures quiet { OnOk result.ended (faults.new.calls ≡ faults.old.calls) }
-    ensures early { IfErr result.ended (λ e. EndsEarly ⟦<D as Disk>⟧ plan devices result.moments e output.old.calls output.new.calls faults.old.calls faults.new.calls) }
+    ensures early { EndsEarlyOnErr ⟦<D as Disk>⟧ plan devices result.moments output.old output.new
+        faults.old faults.new result.ended }
 {
     let (ended, moments) = recover_and_serve(rt, alloc, devices, listener, plan, gate, output);
     match ended {

@@ -15,6 +15,7 @@ use Rattle.hg_contents.specs.Choices.{Stands}
 use Rattle.hg_contents.specs.Images.{Image}
 use Rattle.hg_contents.specs.Runs.{Run, StandsFor, accepted}
 use Rattle.hg_contents.proofs.Following.{followed_append}
+use Rattle.hg_checkpointer.specs.declared.cause.Cause.{Cause}
 use Rattle.hg_store.specs.declared.devices.Devices.{Devices}
 use Rattle.hg_store.specs.declared.steps.Step.{Step}
 use Rattle.hg_store.specs.declared.steps.Step.TheVariants as step
@@ -47,7 +48,7 @@ refused_doubts false false refusal is = ap is_device_fault is
 refuses : {D X : Type 0} (s : Shown D) (Allowed : Type 0) (result : Result X StepFault) → IsAllowed s Allowed result → IfBroken s.is_broken result
 refuses s Allowed (Ok value) is broken = absurd (cc (sym is.0 ∙ broken))
 refuses s Allowed (Err (WrongPhase p)) is broken = absurd (cc (sym is.0 ∙ broken))
-refuses s Allowed (Err (Refused r)) (inl is) broken = ap (λ (x : Refusal). Err (Refused x)) is.1
+refuses s Allowed (Err (Refused r)) (inl is) broken = ap (λ (x : Cause). Err (Refused x)) is.1
 refuses s Allowed (Err (Refused r)) (inr is) broken = absurd (cc (sym is.0 ∙ broken))
 
 module _ {D : Type 0} (g : disk.Ghosts D) where

@@ -2,6 +2,9 @@
 use Rattle.std.specs.Prelude.{◌≡◌, ◌⊎◌, ℕ, true, false, Result, Ok, Err}
 use Rattle.hg_model.specs.declared.verdict.Refusal.{Refusal}
 use Rattle.hg_model.specs.declared.verdict.Refusal.TheVariants as refusal
+use Rattle.hg_checkpointer.specs.Phases as checkpoints
+use Rattle.hg_checkpointer.specs.declared.cause.Cause.{Cause}
+use Rattle.hg_checkpointer.specs.declared.cause.Cause.TheVariants as cause
 use Rattle.hg_store.specs.Shown.{Shown, phase_of}
 use Rattle.hg_store.specs.declared.steps.StepFault.{StepFault}
 use Rattle.hg_store.specs.declared.steps.StepFault.TheVariants.{Refused, WrongPhase}
@@ -10,7 +13,7 @@ use Rattle.hg_store.specs.declared.steps.StepFault.TheVariants.{Refused, WrongPh
 abbrev pub IsAllowed : {D T : Type 0} → Shown D → Type 0 → Result T StepFault → Type 0
 IsAllowed s Lawful (Ok value) = (s.is_broken ≡ false) × Lawful
 IsAllowed s Lawful (Err (WrongPhase p)) = (s.is_broken ≡ false) × (¬ Lawful) × (p ≡ phase_of s)
-IsAllowed s Lawful (Err (Refused r)) = ((s.is_broken ≡ true) × (r ≡ refusal.Broken)) ⊎ ((s.is_broken ≡ false) × Lawful)
+IsAllowed s Lawful (Err (Refused r)) = ((s.is_broken ≡ true) × (r ≡ cause.Broken)) ⊎ ((s.is_broken ≡ false) × Lawful)
 
 -- P holds after a WrongPhase.
 abbrev pub IfWrongPhase : {T : Type 0} → Type 0 → Result T StepFault → Type 0
@@ -19,7 +22,7 @@ IfWrongPhase P (Err (WrongPhase p)) = P
 IfWrongPhase P (Err (Refused r)) = Unit {0}
 
 -- P holds of what it was refused for.
-abbrev pub IfRefused : {T : Type 0} → (Refusal → Type 0) → Result T StepFault → Type 0
+abbrev pub IfRefused : {T : Type 0} → (Cause → Type 0) → Result T StepFault → Type 0
 IfRefused P (Ok value) = Unit {0}
 IfRefused P (Err (WrongPhase p)) = Unit {0}
 IfRefused P (Err (Refused r)) = P r
@@ -29,8 +32,8 @@ abbrev pub failed_in : Refusal → ℕ
 failed_in refusal.DeviceFault = 1
 failed_in _ = 0
 
--- and in a step that is answered so
+-- and in a step of a checkpoint that is answered so
 abbrev pub failed_by : {T : Type 0} → Result T StepFault → ℕ
 failed_by (Ok value) = 0
 failed_by (Err (WrongPhase p)) = 0
-failed_by (Err (Refused r)) = failed_in r
+failed_by (Err (Refused r)) = checkpoints.failed_in r

@@ -1,11 +1,7 @@
 -- What each step does and answers.
-use Rattle.std.specs.Prelude.{◌≡◌, ◌+◌, ◌<◌, ◌≤◌, ◌^◌, ℕ, List, [], Bool, true, false, Option, Some, Result, OnOk, OnErr, IfOk, MatchOption, is_some}
-use Rattle.hg_model.specs.declared.verdict.Refusal.TheVariants as refusal
-use Rattle.hg_cells.specs.declared.cell.Cell.{Cell}
+use Rattle.std.specs.Prelude.{◌≡◌, ◌+◌, ◌<◌, ◌≤◌, ◌^◌, ℕ, [], Bool, true, false, Option, Some, Result, OnOk, OnErr, IfOk, MatchOption}
 use Rattle.hg_disk.specs.declared.disk.Disk as disk
 use Rattle.hg_journal.specs.Journal.{failed_after}
-use Rattle.hg_pages.specs.Slots.{IsSlot, slot_text}
-use Rattle.hg_pages.specs.Tables.{slot_in}
 use Rattle.hg_pages.specs.Encoded.{Encoded}
 use Rattle.hg_pool.specs.Answers.{IsFrozen, least_of}
 use Rattle.hg_pool.specs.Calls.{HasWaited, IsStale}
@@ -13,6 +9,7 @@ use Rattle.hg_pool.specs.Shown as pool
 use Rattle.hg_pool.specs.declared.job.Job.{Job}
 use Rattle.hg_pool.specs.declared.job.Put.{Put}
 use Rattle.hg_pool.specs.declared.job.Put.TheVariants as put
+use Rattle.hg_checkpointer.specs.declared.cause.Cause.TheVariants as cause
 use Rattle.hg_checkpointer.specs.declared.phase.Phase.TheVariants as phase
 use Rattle.hg_store.specs.Answers.{IfRefused, IsAllowed, failed_by}
 use Rattle.hg_store.specs.Shown.{HasNextNumber, IsFlushed, IsIn, Shown, live, phase_of, words}
@@ -55,7 +52,7 @@ pub record FreezeDone {D : Type 0} (old new : Shown D) (result : Result (Unit {0
   pub done : CheckpointDone old new (phase_of old ≡ store.Idle) phase.Flushing result
   pub refused : OnErr result (new ≡ old)
   pub last : OnOk result (old.progress.number < 2 ^ 58)
-  pub full : IfRefused (λ r. r ≡ refusal.FullEvents → 2 ^ 58 ≤ old.progress.number) result
+  pub full : IfRefused (λ r. r ≡ cause.FullEvents → 2 ^ 58 ≤ old.progress.number) result
   pub number : OnOk result (HasNextNumber old new)
   pub devices : new.devices ≡ old.devices
   pub frozen : OnOk result (new.frozen ≡ old.detector)
@@ -64,7 +61,7 @@ pub record FreezeDone {D : Type 0} (old new : Shown D) (result : Result (Unit {0
 pub record JobTaken {D : Type 0} (old new : Shown D) (result : Result (Option Job) StepFault) : Type 0 where
   pub same : new ≡ old
   pub allowed : IsAllowed old (IsIn phase.Flushing old) result
-  pub refusal : IfRefused (λ r. r ≡ refusal.Broken) result
+  pub refusal : IfRefused (λ r. r ≡ cause.Broken) result
   pub job : IfOk result (IsFirstWaiting (words old))
 
 -- A page is written where it waits and the bytes are those of its cells at the freeze. The phase stays.

@@ -6,6 +6,7 @@ use Rattle.hg_model.specs.Contents.{Content}
 use Rattle.hg_model.specs.Change.{followed}
 use Rattle.hg_disk.specs.declared.disk.Disk as disk
 use Rattle.hg_contents.specs.Runs.{Run, StandsFor, accepted}
+use Rattle.hg_checkpointer.specs.declared.cause.Cause.TheVariants as cause
 use Rattle.hg_store.specs.Doing.{ContentDone, StepDone, Tells, fails_by, in_doubt_during}
 use Rattle.hg_store.specs.Images.{EachImage, failures_of}
 use Rattle.hg_store.specs.Shown.{Shown, live, saved}
@@ -46,7 +47,7 @@ CommitAnswers c is_broken (Err refusal) = refusal ≡ cond is_broken Broken Devi
 
 -- a broken store refuses so
 abbrev pub IfBroken : {X : Type 0} → Bool → Result X StepFault → Type 0
-IfBroken is_broken result = is_broken ≡ true → result ≡ Err (Refused Broken)
+IfBroken is_broken result = is_broken ≡ true → result ≡ Err (Refused cause.Broken)
 
 -- What a step may be answered after this run, by a store that was broken or not.
 abbrev pub Lawful : Content → Run → Bool → Step → StepResult → Type 0

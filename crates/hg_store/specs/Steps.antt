@@ -14,6 +14,7 @@ use Rattle.hg_detect.specs.declared.detector.Answer.{Answer}
 use Rattle.hg_detect.specs.declared.detector.Answer.TheVariants.{Accepted, Duplicate}
 use Rattle.hg_disk.specs.declared.disk.Disk as disk
 use Rattle.hg_pool.specs.OfWords.{MayRefuse}
+use Rattle.hg_checkpointer.specs.declared.cause.Cause.TheVariants as cause
 use Rattle.hg_checkpointer.specs.declared.phase.Phase.{Phase}
 use Rattle.hg_store.specs.Answers.{IfRefused, IfWrongPhase, IsAllowed}
 use Rattle.hg_store.specs.Shown.{Shown, live}
@@ -111,7 +112,7 @@ pub record CheckpointDone {D T : Type 0} (old new : Shown D) (Lawful : Type 0) (
   pub phase : OnOk result (new.progress.phase ≡ to)
   pub works : OnOk result (new.is_broken ≡ false)
   pub unchanged : IfWrongPhase (new ≡ old) result
-  pub refused : IfRefused (λ r. (new ≡ old) ⊎ ((new.is_broken ≡ true) × ((r ≡ refusal.DeviceFault) ⊎ (r ≡ refusal.Broken)))) result
+  pub refused : IfRefused (λ r. (new ≡ old) ⊎ ((new.is_broken ≡ true) × ((r ≡ cause.DeviceFault) ⊎ (r ≡ cause.Broken)))) result
   pub pending : new.pending ≡ old.pending
   pub committed : new.committed ≡ old.committed
   pub durable : new.durable ≡ old.durable

@@ -12,9 +12,8 @@ ghost use Rattle.hg_store.specs.Doing.{IsFirstWaiting, SameNumbers, SameRoots, S
 
 use crate::steps::{StepFault, StorePhase};
 use crate::store::Store;
-use hg_checkpointer::{CheckpointFault, Phase};
+use hg_checkpointer::{Cause, CheckpointFault, Phase};
 use hg_disk::Disk;
-use hg_model::verdict::Refusal;
 use hg_pages::EncodedPage;
 use hg_pool::{Job, Put};
 use hg_recovery::head_of;
@@ -50,14 +49,15 @@ impl<D: Disk> Store<D> {
         ensures done { CheckpointDone self.old self.new (phase_of self.old ≡ StorePhase.Idle) phase.Flushing result }
         ensures refused { OnErr result (self.new ≡ self.old) }
         ensures last { OnOk result (self.old.progress.number < 2 ^ 58) }
-        ensures full { IfRefused (λ r. r ≡ Refusal.FullEvents → 2 ^ 58 ≤ self.old.progress.number) result }
+        ensures no_call { failed_by result ≡ 0 }
+        ensures full { IfRefused (λ cause. cause ≡ Cause.FullEvents → 2 ^ 58 ≤ self.old.progress.number) result }
         ensures number { OnOk result (HasNextNumber self.old self.new) }
         ensures devices { self.new.devices ≡ self.old.devices }
         ensures frozen { OnOk result (self.new.frozen ≡ self.old.detector) }
         ensures live { IsTrue D.is_honest → live ⟦<D as Disk>⟧ self.new ≡ live ⟦<D as Disk>⟧ self.old }
     {
         if self.is_broken {
-            return Err(StepFault::Refused(Refusal::Broken));
+            return Err(StepFault::Refused(Cause::Broken));
         }
         let phase = self.phase_now();
         if phase != StorePhase::Idle {
@@ -65,12 +65,12 @@ impl<D: Disk> Store<D> {
         }
         let number = self.checkpointer.number();
         if number >= LAST_NUMBER {
-            return Err(StepFault::Refused(Refusal::FullEvents));
+            return Err(StepFault::Refused(Cause::FullEvents));
         }
         let _kept = self.detector.kept_reports();
         let head = match head_of(alloc, number + 1, &self.detector) {
             Ok(head) => head,
-            Err(refusal) => return Err(StepFault::Refused(refusal)),
+            Err(refusal) => return Err(StepFault::Refused(Cause::of(refusal))),
         };
         let frozen = Snapshot::of(&self.detector);
         match self
@@ -82,18 +82,18 @@ impl<D: Disk> Store<D> {
                 Ok(())
             }
             Err(CheckpointFault::WrongPhase(_)) => Err(StepFault::WrongPhase(self.phase_now())),
-            Err(CheckpointFault::Refused(refusal)) => Err(StepFault::Refused(refusal)),
+            Err(CheckpointFault::Refused(cause)) => Err(StepFault::Refused(cause)),
         }
     }
 
     /// The page with the least number of those that wait, with its cells at the freeze, or none where no page waits. It calls no device.
     pub fn take_job(&self) -> Result<Option<Job>, StepFault>
         ensures allowed { IsAllowed self.now (IsIn phase.Flushing self.now) result }
-        ensures refusal { IfRefused (λ r. r ≡ Refusal.Broken) result }
+        ensures refusal { IfRefused (λ cause. cause ≡ Cause.Broken) result }
         ensures job { IfOk result (IsFirstWaiting (words self.now)) }
     {
         if self.is_broken {
-            return Err(StepFault::Refused(Refusal::Broken));
+            return Err(StepFault::Refused(Cause::Broken));
         }
         if self.checkpointer.phase() != Phase::Flushing {
             return Err(StepFault::WrongPhase(self.phase_now()));
@@ -116,13 +116,13 @@ impl<D: Disk> Store<D> {
         ensures images { IsTrue D.is_honest → StandMeanwhile ⟦<D as Disk>⟧ self.old self.new self.old.in_doubt }
     {
         if self.is_broken {
-            return Err(StepFault::Refused(Refusal::Broken));
+            return Err(StepFault::Refused(Cause::Broken));
         }
         match self.detector.words_mut().put(page) {
             Ok(put) => Ok(put),
             Err(refusal) => {
                 self.is_broken = true;
-                Err(StepFault::Refused(refusal))
+                Err(StepFault::Refused(Cause::of(refusal)))
             }
         }
     }
@@ -138,14 +138,14 @@ impl<D: Disk> Store<D> {
         ensures images { IsTrue D.is_honest → StandMeanwhile ⟦<D as Disk>⟧ self.old self.new self.old.in_doubt }
     {
         if self.is_broken {
-            return Err(StepFault::Refused(Refusal::Broken));
+            return Err(StepFault::Refused(Cause::Broken));
         }
         match self.checkpointer.seal_pages(self.detector.words_mut()) {
             Ok(()) => Ok(()),
             Err(CheckpointFault::WrongPhase(_)) => Err(StepFault::WrongPhase(self.phase_now())),
-            Err(CheckpointFault::Refused(refusal)) => {
+            Err(CheckpointFault::Refused(cause)) => {
                 self.is_broken = true;
-                Err(StepFault::Refused(refusal))
+                Err(StepFault::Refused(cause))
             }
         }
     }
@@ -161,14 +161,14 @@ impl<D: Disk> Store<D> {
         ensures images { IsTrue D.is_honest → StandMeanwhile ⟦<D as Disk>⟧ self.old self.new self.old.in_doubt }
     {
         if self.is_broken {
-            return Err(StepFault::Refused(Refusal::Broken));
+            return Err(StepFault::Refused(Cause::Broken));
         }
         match self.checkpointer.prepare_root() {
             Ok(()) => Ok(()),
             Err(CheckpointFault::WrongPhase(_)) => Err(StepFault::WrongPhase(self.phase_now())),
-            Err(CheckpointFault::Refused(refusal)) => {
+            Err(CheckpointFault::Refused(cause)) => {
                 self.is_broken = true;
-                Err(StepFault::Refused(refusal))
+                Err(StepFault::Refused(cause))
             }
         }
     }
@@ -183,17 +183,17 @@ impl<D: Disk> Store<D> {
         ensures images { IsTrue D.is_honest → StandMeanwhile ⟦<D as Disk>⟧ self.old self.new self.old.in_doubt }
     {
         if self.is_broken {
-            return Err(StepFault::Refused(Refusal::Broken));
+            return Err(StepFault::Refused(Cause::Broken));
         }
         match self.checkpointer.write_root(alloc, self.detector.words()) {
             Ok(()) => Ok(()),
             Err(CheckpointFault::WrongPhase(_)) => Err(StepFault::WrongPhase(self.phase_now())),
-            Err(CheckpointFault::Refused(Refusal::OutOfMemory)) => {
-                Err(StepFault::Refused(Refusal::OutOfMemory))
+            Err(CheckpointFault::Refused(Cause::OutOfMemory)) => {
+                Err(StepFault::Refused(Cause::OutOfMemory))
             }
-            Err(CheckpointFault::Refused(refusal)) => {
+            Err(CheckpointFault::Refused(cause)) => {
                 self.is_broken = true;
-                Err(StepFault::Refused(refusal))
+                Err(StepFault::Refused(cause))
             }
         }
     }
@@ -211,14 +211,14 @@ impl<D: Disk> Store<D> {
         ensures images { IsTrue D.is_honest → StandMeanwhile ⟦<D as Disk>⟧ self.old self.new self.old.in_doubt }
     {
         if self.is_broken {
-            return Err(StepFault::Refused(Refusal::Broken));
+            return Err(StepFault::Refused(Cause::Broken));
         }
         match self.checkpointer.open_root(self.detector.words_mut()) {
             Ok(number) => Ok(number),
             Err(CheckpointFault::WrongPhase(_)) => Err(StepFault::WrongPhase(self.phase_now())),
-            Err(CheckpointFault::Refused(refusal)) => {
+            Err(CheckpointFault::Refused(cause)) => {
                 self.is_broken = true;
-                Err(StepFault::Refused(refusal))
+                Err(StepFault::Refused(cause))
             }
         }
     }

@@ -1,5 +1,6 @@
 //! The steps of a store, and what they answer.
 
+use hg_checkpointer::Cause;
 use hg_detect::detector::Answer;
 use hg_model::event::Named;
 use hg_model::verdict::Refusal;
@@ -28,8 +29,8 @@ pub enum StorePhase {
 pub enum StepFault {
     /// It is not one of this phase. Nothing was changed.
     WrongPhase(StorePhase),
-    /// It was refused, as other steps are.
-    Refused(Refusal),
+    /// It is one of this phase, and was refused for this cause.
+    Refused(Cause),
 }
 
 /// A step.

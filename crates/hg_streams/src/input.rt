@@ -3,8 +3,8 @@
 ghost use Rattle.std.specs.Prelude.{◌≡◌, ◌+◌, ◌<◌, ◌≤◌, ◌∷◌, [], length, IfOk, IfErr, IfSome, OnErr};
 ghost use Rattle.std.specs.declared.io.ErrorKind.{ErrorKind as ErrorKindOf};
 ghost use Rattle.hg_streams.specs.declared.call.ReadCall.TheVariants.{Erred};
-ghost use Rattle.std.specs.Io.KnownBytes.{ReadConsumes};
 ghost use Rattle.hg_streams.specs.Calls.{as_got, as_read, failed_reads, got_call, read_call};
+ghost use Rattle.hg_streams.specs.Shown.{ReadsFrom};
 ghost use Rattle.hg_streams.specs.Told.{told};
 
 use crate::call::ReadCall;
@@ -62,7 +62,7 @@ impl<R: Read> Input<R> {
         requires room { 0 < length buffer.old }
         ensures calls { self.new.calls ≡ read_call result buffer.new ∷ self.old.calls }
         ensures within { IfOk result (λ n. n ≤ length buffer.new) }
-        ensures known { ReadConsumes (R.remaining self.old.stream) (R.remaining self.new.stream) (as_read result) buffer.new }
+        ensures known { ReadsFrom R.remaining self.old self.new (as_read result) buffer.new }
     {
         match self.stream.read(buffer) {
             Ok(count) => {
@@ -85,7 +85,7 @@ impl<R: Read> Input<R> {
         ensures calls { IfOk result (λ count. self.new.calls ≡ got_call count buffer.new ∷ self.old.calls) }
         ensures failed { OnErr result ((kind : ErrorKindOf) × (self.new.calls ≡ Erred kind ∷ self.old.calls)) }
         ensures within { IfOk result (λ count. IfSome count (λ n. n ≤ length buffer.new)) }
-        ensures known { ReadConsumes (R.remaining self.old.stream) (R.remaining self.new.stream) (as_got result) buffer.new }
+        ensures known { ReadsFrom R.remaining self.old self.new (as_got result) buffer.new }
         ensures cause { IfErr result (λ r. r ≡ Refusal.DeviceFault) }
         ensures fault { failed_reads self.new.calls ≡ told result + failed_reads self.old.calls }
         ensures counted { length self.new.calls ≡ 1 + length self.old.calls }

@@ -1,5 +1,6 @@
 -- Definition: what is told of locks that are held.
-use Rattle.std.specs.Prelude.{◌≡◌, ◌⊎◌, ◌+◌, true, false, List, [], ◌∷◌, length}
+use Rattle.std.specs.Prelude.{◌≡◌, ◌⊎◌, ◌+◌, true, false, ℕ, List, [], ◌∷◌, length}
+use Rattle.std.specs.List.{AllByRecursion}
 use Rattle.hg_model.specs.declared.event.Event.{Event}
 use Rattle.hg_model.specs.declared.event.Event.TheVariants.{Lock, RdLock, Unlock}
 use Rattle.hg_verbose.specs.declared.holds.Hold.{Hold}
@@ -19,3 +20,7 @@ LetsGo _ h = ⊥
 abbrev pub IsHeld : List Event → Hold → Type 0
 IsHeld [] h = ⊥
 IsHeld (e ∷ earlier) h = (Takes e h × (h.since ≡ length earlier + 1)) ⊎ (IsHeld earlier h × (LetsGo e h → ⊥))
+
+-- The new holds are held behind the event of this number, where the old ones were held before it.
+abbrev pub HoldsFollow : Event → ℕ → (old new : List Hold) → Type 0
+HoldsFollow event since old new = (earlier : List Event) → since ≡ length earlier + 1 → AllByRecursion (IsHeld earlier) old → AllByRecursion (IsHeld (event ∷ earlier)) new

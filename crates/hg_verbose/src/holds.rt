@@ -1,10 +1,9 @@
 //! The locks that are held after some events, and since when.
 
-ghost use Rattle.std.specs.Prelude.{◌≡◌, ◌∷◌, ◌++◌, [], ◌+◌, ◌==◌, ◌&&◌, not, List, length, IfSome};
-ghost use Rattle.hg_model.specs.declared.event.Event.{Event as EventOf};
+ghost use Rattle.std.specs.Prelude.{◌≡◌, ◌∷◌, ◌++◌, [], ◌==◌, ◌&&◌, not, IfSome};
 ghost use Rattle.std.specs.Bool.{OnTrue, OnFalse};
-ghost use Rattle.std.specs.List.{AllByRecursion, filter};
-ghost use Rattle.hg_verbose.specs.Holds.{IsHeld};
+ghost use Rattle.std.specs.List.{filter};
+ghost use Rattle.hg_verbose.specs.Holds.{HoldsFollow, IsHeld};
 
 use hg_model::event::Event;
 use hg_streams::trail::Trail;
@@ -60,7 +59,7 @@ fn let_go(list: &mut Vec<Hold>, thread: u16, lock: u16)
 
 /// Makes of the holds after some events those after one more, the event of this number, unless memory is refused.
 fn change(list: &mut Vec<Hold>, event: Event, since: u64) -> bool
-    ensures changed { OnTrue result ((earlier : List EventOf) → since ≡ length earlier + 1 → AllByRecursion (IsHeld earlier) list.old.items → AllByRecursion (IsHeld (event ∷ earlier)) list.new.items) }
+    ensures changed { OnTrue result (HoldsFollow event since list.old.items list.new.items) }
     ensures refused { OnFalse result (list.new.items ≡ list.old.items) }
 {
     match event {

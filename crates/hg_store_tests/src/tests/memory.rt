@@ -3,6 +3,7 @@
 ghost use Rattle.std.specs.Prelude.{◌≤◌};
 
 use crate::tests::disks::Disks;
+use hg_checkpointer::Cause;
 use hg_detect::detector::Answer;
 use hg_disk::MemDisk;
 use hg_model::event::{Access, Event, Named};
@@ -252,7 +253,7 @@ fn keeps_going_without_memory(rt: HostRuntime) -> Result<(), Fail> {
 }
 
 /// The answer of a step of a checkpoint that is refused memory.
-const NO_MEMORY: StepFault = StepFault::Refused(Refusal::OutOfMemory);
+const NO_MEMORY: StepFault = StepFault::Refused(Cause::OutOfMemory);
 
 /// Begins a checkpoint. Where memory was refused, the store has to be as before, and it is asked again.
 fn freeze_again(
@@ -338,7 +339,7 @@ fn checkpoint_again(rt: &impl Abort, alloc: Global, kept: Kept) -> Result<Kept, 
     if opened == Ok(1) {
         return Ok(kept);
     }
-    assert_eq!(rt; opened, Err(StepFault::Refused(Refusal::DeviceFault)));
+    assert_eq!(rt; opened, Err(StepFault::Refused(Cause::DeviceFault)));
     let mut kept = recover_again(alloc, &kept.into_disks())?;
     compare_twelve(rt, &kept.store);
     assert!(rt; checkpoint(rt, alloc, &mut kept.store).is_ok());

@@ -37,4 +37,4 @@ pub returns-in-Err-clause-device : goal.returns-in-Err-clause-device
 returns-in-Err-clause-device g c = same_fault (Unit {0}) ℕ c.args.self.now.is_broken c.in-Err.fault c.in-Err.ensures.device
 
 pub returns-in-Err-open_gate-clause-count : goal.returns-in-Err-open_gate-clause-count
-returns-in-Err-open_gate-clause-count g c = counted_fault g.D.Disk c.args.self.now.roots c.open_gate.new.self c.in-Err-open_gate.fault c.told.result c.told.ensures c.open_gate.ensures.turn c.open_gate.ensures.newer c.in-Err-open_gate.ensures.device
+returns-in-Err-open_gate-clause-count g c = counted_fault g.D.Disk c.args.self.now.roots c.open_gate.new.self c.in-Err-open_gate.fault c.from.result c.from.ensures c.open_gate.ensures.turn c.open_gate.ensures.newer c.in-Err-open_gate.ensures.device

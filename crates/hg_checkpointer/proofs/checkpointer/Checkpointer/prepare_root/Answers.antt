@@ -25,4 +25,4 @@ pub returns-in-Ok-clause-count : goal.returns-in-Ok-clause-count
 returns-in-Ok-clause-count g c = counted_none g.D.Disk c.args.self.now.roots c.prepare.new.self c.prepare.ensures.turn c.prepare.ensures.newer c.in-Ok.ensures.device
 
 pub returns-in-Err-prepare-clause-count : goal.returns-in-Err-prepare-clause-count
-returns-in-Err-prepare-clause-count g c = counted_fault g.D.Disk c.args.self.now.roots c.prepare.new.self c.in-Err-prepare.fault c.told.result c.told.ensures c.prepare.ensures.turn c.prepare.ensures.newer c.in-Err-prepare.ensures.device
+returns-in-Err-prepare-clause-count g c = counted_fault g.D.Disk c.args.self.now.roots c.prepare.new.self c.in-Err-prepare.fault c.from.result c.from.ensures c.prepare.ensures.turn c.prepare.ensures.newer c.in-Err-prepare.ensures.device

@@ -25,7 +25,7 @@ pub returns-in-Ok-write-clause-count : goal.returns-in-Ok-write-clause-count
 returns-in-Ok-write-clause-count g c = counted_none g.D.Disk c.args.self.now.roots c.write.new.self c.write.ensures.turn c.write.ensures.newer c.in-Ok-write.ensures.device
 
 pub returns-clause-count : goal.returns-clause-count
-returns-clause-count g c = counted_fault g.D.Disk c.args.self.now.roots c.write.new.self c.in-Err-write.fault c.told.result c.told.ensures c.write.ensures.turn c.write.ensures.newer c.in-Err-write.ensures.device
+returns-clause-count g c = counted_fault g.D.Disk c.args.self.now.roots c.write.new.self c.in-Err-write.fault c.from.result c.from.ensures c.write.ensures.turn c.write.ensures.newer c.in-Err-write.ensures.device
 
 pub returns-in_default-body_of-clause-any_moment : goal.returns-in_default-body_of-clause-any_moment
 returns-in_default-body_of-clause-any_moment g c = λ now former stands. still_now g.D.Disk c.args.self.now.phase c.args.self.now.roots (root_of now) former c.args.self.now.body.value.items stands

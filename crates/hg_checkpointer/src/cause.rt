@@ -1,0 +1,75 @@
+//! Why a step of a checkpoint was refused, and how causes of other layers become one and one becomes theirs.
+ghost use Rattle.std.specs.Prelude.{◌≡◌};
+ghost use Rattle.hg_checkpointer.specs.Told.{IsOfCheckpoint, refusal_of};
+
+use hg_model::verdict::Refusal;
+use hg_root::RootFault;
+
+/// Why a step of a checkpoint was refused that is one of its phase.
+#[derive(Clone, Copy, Debug, PartialEq, Eq, Drop)]
+pub enum Cause {
+    /// A write, a cut or a sync of a device failed earlier.
+    Broken,
+    /// What is to be in the root has no spelling, or a file is outside the grammar.
+    Damaged,
+    /// A device failed in this call.
+    DeviceFault,
+    /// The newest root has the last number.
+    FullEvents,
+    /// Too few slots are free.
+    FullSlots,
+    /// A growth of memory was refused in this call.
+    OutOfMemory,
+}
+
+impl Cause {
+    /// The cause of this name.
+    pub fn of(refusal: Refusal) -> Cause
+        requires { IsOfCheckpoint refusal }
+        ensures { refusal ≡ refusal_of result }
+    {
+        match refusal {
+            Refusal::Broken => Cause::Broken,
+            Refusal::Damaged => Cause::Damaged,
+            Refusal::DeviceFault => Cause::DeviceFault,
+            Refusal::FullEvents => Cause::FullEvents,
+            Refusal::FullSlots => Cause::FullSlots,
+            Refusal::OutOfMemory => Cause::OutOfMemory,
+            _ => unreachable!(),
+        }
+    }
+}
+
+/// What a fault of a root file is told as.
+impl From<RootFault> for Cause {
+    ghost use Rattle.hg_checkpointer.specs.Told.{told_as};
+
+    ghost from_gives = { λ fault cause. cause ≡ told_as fault };
+
+    fn from(fault: RootFault) -> Cause {
+        match fault {
+            RootFault::Broken => Cause::Broken,
+            RootFault::Damaged => Cause::Damaged,
+            RootFault::DeviceFault => Cause::DeviceFault,
+            RootFault::OutOfMemory => Cause::OutOfMemory,
+        }
+    }
+}
+
+/// The refusal of this name, as it is printed.
+impl From<Cause> for Refusal {
+    ghost use Rattle.hg_checkpointer.specs.Told.{refusal_of};
+
+    ghost from_gives = { λ cause refusal. refusal ≡ refusal_of cause };
+
+    fn from(cause: Cause) -> Refusal {
+        match cause {
+            Cause::Broken => Refusal::Broken,
+            Cause::Damaged => Refusal::Damaged,
+            Cause::DeviceFault => Refusal::DeviceFault,
+            Cause::FullEvents => Refusal::FullEvents,
+            Cause::FullSlots => Refusal::FullSlots,
+            Cause::OutOfMemory => Refusal::OutOfMemory,
+        }
+    }
+}

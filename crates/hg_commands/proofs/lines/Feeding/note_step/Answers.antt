@@ -1,0 +1,20 @@
+use Rattle.std.proofs.Common.{arith}
+use Rattle.hg_commands.proofs.Checkpointed.{failed_is}
+use Rattle.hg_commands.proofs.Kept.{keeps_stepped}
+use Rattle.hg_commands.proofs.lines.Feeding.note_step.Goals as goal
+
+pub returns-in-Ok-clause-kept : goal.returns-in-Ok-clause-kept
+returns-in-Ok-clause-kept g c =
+    keeps_stepped g.D.Disk c.args.began.value c.args.self.now.store c.args.output.now.calls c.args.self.now.moments c.push.new.self c.of.result c.args.done c.requires c.stands.ensures.backs c.push.ensures c.of.ensures
+
+pub returns-clause-kept : goal.returns-clause-kept
+returns-clause-kept g c =
+    keeps_stepped g.D.Disk c.args.began.value c.args.self.now.store c.args.output.now.calls c.args.self.now.moments c.push.new.self c.of.result c.args.done c.requires c.stands.ensures.backs c.push.ensures c.of.ensures
+
+pub returns-clause-stays : goal.returns-clause-stays
+returns-clause-stays g c = record {
+  live = c.requires.live;
+  committed = c.requires.committed;
+  pending = c.requires.pending;
+  failures = omega (arith, c.requires.failures, failed_is c.args.done c.in-Err.fault c.in-Err.is, c.refusal_of.ensures.counted);
+}

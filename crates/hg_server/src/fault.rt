@@ -1,0 +1,42 @@
+//! Why serving a store came to no good end.
+
+ghost use Rattle.std.specs.Prelude.{◌≡◌};
+
+use hg_model::verdict::Refusal;
+use std::alloc::AllocError;
+
+/// Why a store was not served to its end, with all durable.
+#[derive(Clone, Copy, Debug, PartialEq, Eq, Drop)]
+pub(crate) enum ServingFault {
+    /// A device failed for a client, who was told.
+    Broken,
+    /// The listener failed, or a device.
+    DeviceFault,
+    /// Memory was refused.
+    OutOfMemory,
+}
+
+impl From<AllocError> for ServingFault {
+    ghost use Rattle.hg_server.specs.declared.fault.ServingFault.TheVariants.{OutOfMemory};
+
+    ghost from_gives = { λ _ fault. fault ≡ OutOfMemory };
+
+    fn from(_: AllocError) -> ServingFault {
+        ServingFault::OutOfMemory
+    }
+}
+
+/// The refusal of this name, as it is printed.
+impl From<ServingFault> for Refusal {
+    ghost use Rattle.hg_server.specs.Serving.{refusal_of};
+
+    ghost from_gives = { λ fault refusal. refusal ≡ refusal_of fault };
+
+    fn from(fault: ServingFault) -> Refusal {
+        match fault {
+            ServingFault::Broken => Refusal::Broken,
+            ServingFault::DeviceFault => Refusal::DeviceFault,
+            ServingFault::OutOfMemory => Refusal::OutOfMemory,
+        }
+    }
+}
