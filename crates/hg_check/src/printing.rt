@@ -45,7 +45,8 @@ pub fn print_reports<W: Write>(
 ) -> Result<(), Refusal>
     ensures printed { HoldsOrWrites (later_reports from (content_of detector.now))
         output.old.calls held.old.items result output.new.calls held.new.items }
-    ensures front { WritesFront (later_reports from (content_of detector.now)) output.old.calls held.old.items result output.new.calls }
+    ensures front { WritesFront (later_reports from (content_of detector.now))
+        output.old.calls held.old.items result output.new.calls }
     ensures cause { IfErr result (λ r. HasWriteCause output.old.calls output.new.calls r) }
     ensures fault { failed_writes output.new.calls ≡ told result + failed_writes output.old.calls }
 {

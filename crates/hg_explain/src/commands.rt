@@ -98,7 +98,8 @@ pub fn explain<R: Read, W: Write, V: Write>(
     output: &mut Output<W>,
     faults: &mut Output<V>,
 ) -> u8
-    ensures prints { EndsWell result (address / 4) form input.old.calls input.new.calls output.old.calls output.new.calls }
+    ensures prints { EndsWell result (address / 4) form
+        input.old.calls input.new.calls output.old.calls output.new.calls }
     ensures quiet { (result ≡ 3 → ⊥) → Took faults.old.calls faults.new.calls [] }
     ensures fault { result ≡ 3 → BreaksOff (address / 4) form
         input.old.calls input.new.calls output.old.calls output.new.calls faults.old.calls faults.new.calls }

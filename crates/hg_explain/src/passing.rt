@@ -42,7 +42,8 @@ impl Explaining {
         requires word { self.old.asked.word < 2 ^ 62 }
         requires actor { life.actor_of event.now < 1024 }
         ensures others { self.new ≡ record self.old { more = self.new.more; held = self.new.held } }
-        ensures held { OnOk result (self.new.held.items ≡ self.old.held.items ++ shown_text self.old before from line event.now) }
+        ensures held { OnOk result
+            (self.new.held.items ≡ self.old.held.items ++ shown_text self.old before from line event.now) }
         ensures none { OnOk result (self.new.more ≡ 0) }
         ensures cause { IfErr result (λ r. r ≡ Refusal.OutOfMemory) }
     {

@@ -25,7 +25,8 @@ pub fn run<R: Read, W: Write>(
     output: &mut Output<W>,
 ) -> Result<Ending, Refusal>
     requires fresh { IsFresh explaining.old }
-    ensures ends { IfOk result (HasExplained explaining.old explaining.new input.old.calls input.new.calls output.old.calls output.new.calls) }
+    ensures ends { IfOk result (HasExplained explaining.old explaining.new
+        input.old.calls input.new.calls output.old.calls output.new.calls) }
     ensures front { (first : List WriteCall) → HoldsWord explaining.old first output.old.calls
         → OnErr result (WroteFrontOf explaining.old.asked.word explaining.old.asked.form
         input.old.calls input.new.calls first output.new.calls) }

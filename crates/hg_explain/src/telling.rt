@@ -267,7 +267,8 @@ fn hold_changes(
     requires whole { IsWhole detector.now }
     requires actor { t < 1024 }
     ensures ok { OnOk result (held.new.items ≡ held.old.items
-        ++ life.changes_text before ((content_of detector.now).words word) (segments.present (content_of detector.now).segments t)) }
+        ++ life.changes_text before
+            ((content_of detector.now).words word) (segments.present (content_of detector.now).segments t)) }
     ensures cause { IfErr result (λ r. r ≡ Refusal.OutOfMemory) }
 {
     let after = look_at(detector, word);

@@ -331,7 +331,8 @@ fn with_command<'a>(
 ) -> Result<Command<'a>, AllocError>
     requires local { HasNoGlobals command }
     requires added { IfOk added HasNoGlobals }
-    ensures app { (shape : Shape) → IfOk added.entry (λ c. shape_of c ≡ shape) → IfOk result (λ c. app_of c ≡ with_subcommand (app_of command.entry) shape) }
+    ensures app { (shape : Shape) → IfOk added.entry (λ c. shape_of c ≡ shape)
+        → IfOk result (λ c. app_of c ≡ with_subcommand (app_of command.entry) shape) }
     ensures local { IfOk result HasNoGlobals }
 {
     command.subcommand(added?)

@@ -98,7 +98,8 @@ fn is_set(given: &ArgMatches<'_>, id: &str) -> bool
 
 /// The word whose life is printed.
 fn explaining(given: &ArgMatches<'_>) -> Result<Explaining, Misread>
-    ensures { MatchResult result (IsExplaining (rows_of (found_of given.now))) (IsUnasked (codes "explain", rows_of (found_of given.now))) }
+    ensures { MatchResult result (IsExplaining (rows_of (found_of given.now)))
+        (IsUnasked (codes "explain", rows_of (found_of given.now))) }
 {
     let Some(text) = given.get_str(ADDRESS) else {
         return Err(Misread::Incomplete);
@@ -114,7 +115,8 @@ fn explaining(given: &ArgMatches<'_>) -> Result<Explaining, Misread>
 
 /// What a command asks for of a store, if it is one of those that may.
 fn store_task(name: &str, given: &ArgMatches<'_>) -> Result<StoreTask, Misread>
-    ensures { MatchResult result (IsStoreTask name.now (rows_of (found_of given.now))) (IsUnasked (name.now, rows_of (found_of given.now))) }
+    ensures { MatchResult result (IsStoreTask name.now (rows_of (found_of given.now)))
+        (IsUnasked (name.now, rows_of (found_of given.now))) }
 {
     match name {
         "create" => Ok(StoreTask::Create),
@@ -144,7 +146,8 @@ fn store_task(name: &str, given: &ArgMatches<'_>) -> Result<StoreTask, Misread>
 /// What a command asks for without a store, if it is one of those that may.
 fn stream_task<'a>(name: &str, given: &ArgMatches<'_>) -> Result<Task<'a>, Misread>
     requires { first_of (codes "DIR") (rows_of (found_of given.now)) ≡ None }
-    ensures { MatchResult result (IsTask (name.now, rows_of (found_of given.now))) (IsUnasked (name.now, rows_of (found_of given.now))) }
+    ensures { MatchResult result (IsTask (name.now, rows_of (found_of given.now)))
+        (IsUnasked (name.now, rows_of (found_of given.now))) }
 {
     match name {
         "check" => Ok(Task::Check {
@@ -164,7 +167,8 @@ fn stream_task<'a>(name: &str, given: &ArgMatches<'_>) -> Result<Task<'a>, Misre
 
 /// What a command asks for.
 pub fn task<'a>(name: &str, given: &ArgMatches<'a>) -> Result<Task<'a>, Misread>
-    ensures { MatchResult result (IsTask (name.now, rows_of (found_of given.now))) (IsUnasked (name.now, rows_of (found_of given.now))) }
+    ensures { MatchResult result (IsTask (name.now, rows_of (found_of given.now)))
+        (IsUnasked (name.now, rows_of (found_of given.now))) }
 {
     match given.get_str(DIRECTORY) {
         Some(directory) => {

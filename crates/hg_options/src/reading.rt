@@ -18,7 +18,8 @@ use std::string::String;
 ///
 /// The commands are those of `specs/CommandLine.antt`.
 pub fn read<'a>(alloc: Global, words: &'a [String]) -> Result<Task<'a>, Misread>
-    ensures { IsReading (fault_of spec.hgd (texts words.entry.now)) (subcommand_of spec.hgd (texts words.entry.now)) result }
+    ensures { IsReading (fault_of spec.hgd (texts words.entry.now))
+        (subcommand_of spec.hgd (texts words.entry.now)) result }
 {
     match matches(alloc, words) {
         Ok(matches) => asked_for(&matches),
@@ -46,7 +47,8 @@ fn matches<'a>(alloc: Global, words: &'a [String]) -> Result<ArgMatches<'a>, Err
 
 /// What is told of an error.
 fn misread(alloc: Global, error: &Error) -> Misread
-    ensures { (kinds : Kinds) (command : Option (Text × List Row)) → HasKind kinds error.now → IsMisread kinds command result }
+    ensures { (kinds : Kinds) (command : Option (Text × List Row)) → HasKind kinds error.now
+        → IsMisread kinds command result }
 {
     let kind = error.kind();
     if kind == ErrorKind::OutOfMemory {

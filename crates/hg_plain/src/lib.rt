@@ -613,7 +613,8 @@ pub fn reports_of(alloc: Global, events: &[Event]) -> Result<Vec<Report>, AllocE
 /// The state of a word after a trace that is given in its order. Word w is the four bytes from the address 4 * w on.
 pub fn state_of(alloc: Global, events: &[Event], word: u64) -> Result<WordState, AllocError>
     requires { length events.now < 2 ^ 20 }
-    ensures { IfOk result (λ s. s ≡ sharing.state (segs.segments_of (reverse events.now)) (history.history word (reverse events.now))) }
+    ensures { IfOk result (λ s. s ≡ sharing.state (segs.segments_of (reverse events.now))
+        (history.history word (reverse events.now))) }
 {
     let trace = newest_first(alloc, events)?;
     let segments = segments_of(alloc, &trace)?;

@@ -1,8 +1,8 @@
 -- Lists that stand one after another in memory, each found by a hash of its elements.
-use Rattle.std.specs.Prelude.{◌≡◌, ◌≢◌, ◌⊎◌, ℕ, zero, suc, ◌+◌, ◌*◌, ◌/◌, ◌%◌, ◌^◌, ◌<◌, ◌≤◌, List, [], ◌∷◌, length, slice_index, take, drop, map, All, nat_lt, if◌then◌else◌}
+use Rattle.std.specs.Prelude.{◌≡◌, ◌≢◌, ◌⊎◌, ℕ, zero, suc, ◌+◌, ◌*◌, ◌/◌, ◌%◌, ◌^◌, ◌<◌, ◌≤◌, List, [], ◌∷◌, length, slice_index, take, drop, map, All, nat_lt, if◌then◌else◌, Contains, Option, MatchOption}
 use Rattle.hg_sets.specs.declared.lists.Span.{Span}
 use Rattle.hg_sets.specs.declared.lists.TheConstants.{SPREAD}
-use Rattle.hg_sets.specs.Interning.{set_at}
+use Rattle.hg_sets.specs.Interning.{StandsAt, set_at}
 
 -- the elements of a list
 abbrev pub list_at : List ℕ → Span → List ℕ
@@ -41,6 +41,14 @@ IsFoundBy slots hash entry = IsMet slots entry (first_slot (length slots) hash) 
 -- A slot is free, or has the number of a list plus one.
 abbrev pub HoldNumbers : ℕ → List ℕ → Type 0
 HoldNumbers count slots = All (λ entry. entry ≤ count) slots
+
+-- Slots still hold numbers of lists after this entry was put.
+abbrev pub StillHold : ℕ → List ℕ → List ℕ → Type 0
+StillHold entry old new = (count : ℕ) → entry ≤ count → HoldNumbers count old → HoldNumbers count new
+
+-- It is the number of this list, or there is none.
+abbrev pub IsNumberOf : List (List ℕ) → List ℕ → Option ℕ → Type 0
+IsNumberOf lists list found = MatchOption found (¬ Contains lists list) (StandsAt lists list)
 
 -- each of the first lists is found
 abbrev pub AreFound : List (List ℕ) → List ℕ → ℕ → Type 0

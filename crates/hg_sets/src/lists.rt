@@ -1,8 +1,8 @@
 //! Distinct lists of numbers, each under its place.
 
-ghost use Rattle.std.specs.Prelude.{◌≡◌, ◌≢◌, ◌^◌, ◌<◌, ◌≤◌, ◌+◌, ◌++◌, ◌∷◌, ℕ, true, false, [], All, length, slice_index, Contains, IfOk, IfSome, MatchOption, OnOk, OnErr};
-ghost use Rattle.hg_sets.specs.Interning.{set_at, StandsAt};
-ghost use Rattle.hg_sets.specs.Listing.{AreFound, AreListed, HoldNumbers, IsFoundBy, IsMet, first_slot, hash_of, list_at, lists_of, next_slot};
+ghost use Rattle.std.specs.Prelude.{◌≡◌, ◌^◌, ◌<◌, ◌≤◌, ◌+◌, ◌++◌, ◌∷◌, ℕ, true, false, [], All, length, IfOk, IfSome, OnOk, OnErr};
+ghost use Rattle.hg_sets.specs.Interning.{set_at};
+ghost use Rattle.hg_sets.specs.Listing.{AreListed, HoldNumbers, IsFoundBy, IsNumberOf, StillHold, first_slot, hash_of, list_at, lists_of, next_slot};
 
 use std::alloc::{AllocError, Global};
 use std::marker::Model;
@@ -78,7 +78,7 @@ impl Lists {
     }
 
     pub(crate) fn find(&self, list: &[u16]) -> Option<u32>
-        ensures { MatchOption result (¬ Contains self.now list.now) (StandsAt self.now list.now) }
+        ensures { IsNumberOf self.now list.now result }
     {
         find_among(
             self.elements.as_slice(),
@@ -161,7 +161,7 @@ fn next_slot(count: usize, at: usize) -> usize
 /// The number of a list.
 fn find_among(elements: &[u16], spans: &[Span], slots: &[u32], list: &[u16]) -> Option<u32>
     requires listed { AreListed elements.now spans.now slots.now }
-    ensures { MatchOption result (¬ Contains (lists_of elements.now spans.now) list.now) (StandsAt (lists_of elements.now spans.now) list.now) }
+    ensures { IsNumberOf (lists_of elements.now spans.now) list.now result }
 {
     let mut at = first_slot(slots.len(), hash(list));
     for _ in 0..slots.len() {
@@ -182,7 +182,7 @@ fn put_entry(slots: &mut [u32], hash: u64, entry: u32) -> bool
     requires few { length slots.old ≤ 2 ^ 32 }
     requires some { 0 < entry }
     ensures len { length slots.new ≡ length slots.old }
-    ensures numbers { (count : ℕ) → entry ≤ count → HoldNumbers count slots.old → HoldNumbers count slots.new }
+    ensures numbers { StillHold entry slots.old slots.new }
     ensures found { result ≡ true → IsFoundBy slots.new hash entry }
     ensures full { result ≡ false → slots.new ≡ slots.old }
     ensures kept { (h e : ℕ) → 0 < e → IsFoundBy slots.old h e → IsFoundBy slots.new h e }
@@ -203,7 +203,7 @@ fn put_in(slots: &mut Vec<u32>, hash: u64, entry: u32) -> bool
     requires few { length slots.old.items ≤ 2 ^ 32 }
     requires some { 0 < entry }
     ensures len { length slots.new.items ≡ length slots.old.items }
-    ensures numbers { (count : ℕ) → entry ≤ count → HoldNumbers count slots.old.items → HoldNumbers count slots.new.items }
+    ensures numbers { StillHold entry slots.old.items slots.new.items }
     ensures found { result ≡ true → IsFoundBy slots.new.items hash entry }
     ensures full { result ≡ false → slots.new.items ≡ slots.old.items }
     ensures kept { (h e : ℕ) → 0 < e → IsFoundBy slots.old.items h e → IsFoundBy slots.new.items h e }
@@ -275,8 +275,10 @@ fn push_list(
     requires listed { AreListed elements.old.items spans.old.items slots.old.items }
     requires few { length spans.old.items + 1 < 2 ^ 32 }
     ensures listed { AreListed elements.new.items spans.new.items slots.new.items }
-    ensures ok { OnOk result (lists_of elements.new.items spans.new.items ≡ lists_of elements.old.items spans.old.items ++ list.now ∷ []) }
-    ensures err { OnErr result (lists_of elements.new.items spans.new.items ≡ lists_of elements.old.items spans.old.items) }
+    ensures ok { OnOk result
+        (lists_of elements.new.items spans.new.items ≡ lists_of elements.old.items spans.old.items ++ list.now ∷ []) }
+    ensures err { OnErr result
+        (lists_of elements.new.items spans.new.items ≡ lists_of elements.old.items spans.old.items) }
 {
     make_slots(alloc, elements.as_slice(), spans.as_slice(), slots)?;
     let Some(span) = span_behind(elements.len(), list.len()) else {
