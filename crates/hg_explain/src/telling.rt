@@ -268,7 +268,7 @@ fn hold_changes(
     requires actor { t < 1024 }
     ensures ok { OnOk result (held.new.items ≡ held.old.items
         ++ life.changes_text before
-            ((content_of detector.now).words word) (segments.present (content_of detector.now).segments t)) }
+        ((content_of detector.now).words word) (segments.present (content_of detector.now).segments t)) }
     ensures cause { IfErr result (λ r. r ≡ Refusal.OutOfMemory) }
 {
     let after = look_at(detector, word);

@@ -18,7 +18,7 @@ fn put_readings(
     ensures lines { reader.new.lines ≤ reader.old.lines + length piece.now }
     ensures read { OnOk result ((more : List ℕ) →
         out.old.items ++ readings_from reader.old (piece.now ++ more)
-            ≡ out.new.items ++ readings_from reader.new more) }
+        ≡ out.new.items ++ readings_from reader.new more) }
 {
     let mut rest = piece;
     while let Taken::Line { reading, used } = reader.take(rest) {
