@@ -22,15 +22,13 @@ use std::snapshot::Snapshot;
 /// The most pages that are written for one checkpoint: as many as there may be slots.
 const MOST_PAGES: u32 = 1 << 20;
 
-/// Why a step of a checkpoint was not made, as what ends feeding. The steps are made in their order, so that none is in a wrong phase; and over
-/// devices that do not lie the root has a spelling, so that no step is `Damaged`.
+/// Why a step of a checkpoint was not made, as what ends feeding. The steps are made in their order, so that none is in a wrong phase.
 fn refusal_of(fault: StepFault) -> Refusal
     ensures cause { IsFeedFault result }
     ensures counted { told_refusal result ≡ failed_of fault }
 {
     match fault {
         StepFault::WrongPhase(_) => Refusal::Broken,
-        StepFault::Refused(Cause::Damaged) => Refusal::Broken,
         StepFault::Refused(cause) => Refusal::from(cause),
     }
 }
