@@ -17,7 +17,7 @@ returns-in-Some-clause-pushes g c =
     (Ok (Some c.in-Some.end)) c.split_at.ensures.by_index.0 (c.in_ok-end.ensures.ends c.in-Some.end (ap Ok c.in-Some.is))
 
 pub push_lines-requires-clause-room : goal.push_lines-requires-clause-room
-push_lines-requires-clause-room g c κs within =
+push_lines-requires-clause-room g c =
     let none : c.in_ok-end.field-0 ≡ None = grind arith in
     room_second g.S.Sink.takes g.S.Sink.may_take g.met.S.Sink.room g.met.S.Sink.fewer c.args.reader.now c.push-2.new.reader c.args.sink.now c.push-2.new.sink
     c.args.output.now.calls c.push-2.new.output.calls c.args.piece.now c.split_at.result.0.now c.split_at.result.1.now c.split_at.ensures.by_index.0 (c.in_ok-end.ensures.passes (ap Ok none)) c.requires.room
