@@ -11,12 +11,15 @@ use crate::sink::Sink;
 use crate::worker::{Link, Parsed, TEXT, TEXTS_EACH};
 use hg_model::verdict::Refusal;
 use hg_streams::output::Output;
-use hg_wire::cuts::{first_line_end, last_line_end};
+use hg_wire::cuts::last_line_end;
 use hg_wire::reader::EventReader;
 use std::sync::Wait;
 
 /// A piece of fewer bytes is parsed where it is offered: threads would cost more than they save.
 const FEW: usize = 131_072;
+
+/// So many bytes of a piece are parsed here, while the workers begin with those behind them.
+const FIRST: usize = 32_768;
 
 /// Pieces are parsed by the workers that these links lead to.
 #[derive(Drop)]
@@ -44,7 +47,7 @@ impl<'a, T: Wait, W, S: Sink<W>> Pieces<W, S> for SideBySide<'a, T> {
     }
 }
 
-/// Takes a piece of a trace text, as `push` does.
+/// Takes a piece of a trace text, as `push` does. Its first part is parsed here, while the workers begin.
 fn push_side_by_side<T: Wait, W, S: Sink<W>>(
     rt: &T,
     reader: &mut EventReader,
@@ -61,19 +64,21 @@ fn push_side_by_side<T: Wait, W, S: Sink<W>>(
     if piece.len() < FEW || links.is_empty() {
         return push(reader, sink, piece, output);
     }
-    let (begun, rest) = piece.split_at(rest_of_line(reader, piece));
-    if let Some(end) = push(reader, sink, begun, output)? {
+    let (first, rest) = piece.split_at(lines_within(piece, FIRST));
+    let unsent = send_first(rt, whole_lines(rest), links);
+    if let Some(end) = push(reader, sink, first, output)? {
         return Ok(Some(end));
     }
-    push_lines(rt, reader, sink, rest, output, links)
+    push_rest(rt, reader, sink, rest, unsent, output, links)
 }
 
-/// The same, where no line has begun.
-fn push_lines<T: Wait, W, S: Sink<W>>(
+/// Takes the rest of a piece, of which the workers have the first parts.
+fn push_rest<T: Wait, W, S: Sink<W>>(
     rt: &T,
     reader: &mut EventReader,
     sink: &mut S,
     piece: &[u8],
+    unsent: &[u8],
     output: &mut Output<W>,
     links: &mut [Link],
 ) -> Result<Option<S::End>, Refusal>
@@ -84,27 +89,22 @@ fn push_lines<T: Wait, W, S: Sink<W>>(
     ensures none_left { result ≡ Ok None → HasNoneLeft reader.new }
 {
     let (lines, last) = piece.split_at(last_line_end(piece));
-    if let Some(end) = offer_lines(rt, lines, reader, sink, output, links)? {
+    if let Some(end) = offer_lines(rt, lines, unsent, reader, sink, output, links)? {
         return Ok(Some(end));
     }
     push(reader, sink, last, output)
 }
 
-/// How many bytes of a piece belong to the line that the reader is in.
-fn rest_of_line(reader: &EventReader, piece: &[u8]) -> usize
-    ensures { result ≤ length piece.now }
-{
-    if reader.is_between_lines() {
-        0
-    } else {
-        first_line_end(piece)
-    }
+/// What of a text is lines that have come whole.
+fn whole_lines(text: &[u8]) -> &[u8] {
+    &text[..last_line_end(text)]
 }
 
 /// Offers the lines of a text, part by part. Behind the part that is offered the next ones are with the workers.
 fn offer_lines<T: Wait, W, S: Sink<W>>(
     rt: &T,
     text: &[u8],
+    unsent: &[u8],
     reader: &mut EventReader,
     sink: &mut S,
     output: &mut Output<W>,
@@ -115,7 +115,7 @@ fn offer_lines<T: Wait, W, S: Sink<W>>(
     requires room { S.may_take sink.old (length text.now) }
     ensures { Pushes S.takes reader.old sink.old output.old.calls text.now result reader.new sink.new output.new.calls }
 {
-    let mut unsent = send_first(rt, text, links);
+    let mut unsent = unsent;
     let mut rest = text;
     let mut turn = 0;
     while !rest.is_empty() {
