@@ -78,8 +78,3 @@ FindsNext old new rest End = GivesNoReading old new rest
 pub record Holds (part : Part) (text : List ℕ) : Type 0 where
   pub given : part.given ≡ length text
   pub kept : IsKept text part.kept.items part.extent.lines part.extent.bytes
-
--- The parts hold a text between them, each the next stretch of it.
-abbrev pub AreHeld : List Part → List ℕ → Type 0
-AreHeld [] text = text ≡ []
-AreHeld (part ∷ parts) text = (given : List ℕ) × (behind : List ℕ) × (text ≡ given ++ behind) × Holds part given × AreHeld parts behind

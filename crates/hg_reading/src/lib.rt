@@ -7,3 +7,4 @@ pub mod pieces;
 mod side_by_side;
 pub mod sink;
 pub mod whole;
+mod worker;

@@ -1,6 +1,6 @@
 //! The lines of a piece.
 
-ghost use Rattle.std.specs.Prelude.{◌≡◌, ℕ, ◌+◌, ◌<◌, ◌^◌, [], Ok, Err, Some, None, length, ⊤};
+ghost use Rattle.std.specs.Prelude.{◌≡◌, ℕ, ◌+◌, ◌<◌, ◌^◌, [], Ok, Err, Some, None, length};
 ghost use Rattle.hg_model.specs.declared.verdict.Refusal.{Refusal as RefusalOf};
 ghost use Rattle.hg_reading.specs.Taking.{HasNoneLeft, Passes, StopsIn};
 
@@ -46,9 +46,6 @@ pub fn push<W, S: Sink<W>>(
 
 /// How the pieces of a trace text are taken.
 pub(crate) trait Pieces<W, S: Sink<W>> {
-    /// What is needed besides.
-    ghost may_push: { Self → Type 0 };
-
     /// The same as `push`.
     fn push(
         &mut self,
@@ -57,14 +54,12 @@ pub(crate) trait Pieces<W, S: Sink<W>> {
         piece: &[u8],
         output: &mut Output<W>,
     ) -> Result<Option<S::End>, Refusal>
-        requires may { may_push self.old }
         requires lines { reader.old.lines + length piece.now < 2 ^ 64 }
         requires room { S.may_take sink.old (length piece.now) }
         ensures passes { result ≡ Ok None → Passes S.takes reader.old sink.old output.old.calls piece.now reader.new sink.new output.new.calls [] }
         ensures none_left { result ≡ Ok None → HasNoneLeft reader.new }
         ensures ends { (end : S.End) → result ≡ Ok (Some end) → StopsIn S.takes reader.old sink.old output.old.calls piece.now (Ok (Some end)) sink.new output.new.calls }
-        ensures breaks { (r : RefusalOf) → result ≡ Err r → StopsIn S.takes reader.old sink.old output.old.calls piece.now (Err r) sink.new output.new.calls }
-        ensures may { may_push self.new };
+        ensures breaks { (r : RefusalOf) → result ≡ Err r → StopsIn S.takes reader.old sink.old output.old.calls piece.now (Err r) sink.new output.new.calls };
 }
 
 /// Each piece is parsed where it is offered.
@@ -72,8 +67,6 @@ pub(crate) trait Pieces<W, S: Sink<W>> {
 pub(crate) struct Alone;
 
 impl<W, S: Sink<W>> Pieces<W, S> for Alone {
-    ghost may_push = { λ pieces. ⊤ };
-
     #[inline(always)]
     fn push(
         &mut self,

@@ -1,6 +1,7 @@
 //! A whole trace text.
 
 ghost use Rattle.std.specs.Prelude.{◌≡◌, ◌+◌, ◌*◌, ◌<◌, ◌≤◌, ◌^◌, [], Ok, Err, None, IfErr, IfOk, length};
+ghost use denote.Param.Send.{IsSync};
 ghost use Rattle.hg_model.specs.declared.verdict.Refusal.{Refusal as RefusalOf};
 ghost use Rattle.hg_wire.specs.Streams.{at_start, readings_from};
 ghost use Rattle.hg_reading.specs.Taking.{Advances, Breaks, MeetsEnd, Reads, Stops};
@@ -8,6 +9,7 @@ ghost use Rattle.hg_reading.specs.Taking.{Advances, Breaks, MeetsEnd, Reads, Sto
 use crate::pieces::{Alone, Pieces};
 use crate::side_by_side::SideBySide;
 use crate::sink::Sink;
+use crate::worker::{Link, Worker, linked_workers, run_all};
 use hg_model::verdict::Refusal;
 use hg_streams::input::Input;
 use hg_streams::output::Output;
@@ -15,13 +17,15 @@ use hg_wire::reader::EventReader;
 use std::alloc::{AllocError, Global};
 use std::io::Read;
 use std::marker::Sync;
-use std::thread::Threads;
+use std::mem;
+use std::sync::Wait;
+use std::thread::{Threads, join_mut};
 
 /// How many bytes are read at once.
 const PIECE: usize = 65_536;
 
 /// How many bytes are read at once where several threads parse them.
-const LARGE_PIECE: usize = 4_194_304;
+const LARGE_PIECE: usize = 1_048_576;
 
 /// After how many reads an input counts as failed.
 const MOST_READS: u64 = 1 << 32;
@@ -59,15 +63,15 @@ fn piece_buffer(alloc: Global, size: usize) -> Result<Vec<u8>, Refusal>
     vec![in alloc; 0; size].map_err(out_of_memory)
 }
 
-/// Threads that parse side by side, and the memory for what they keep.
-fn side_by_side<'a, T: Threads + Sync>(
-    rt: &'a T,
+/// Workers for so many threads, with their memory, and the links to them.
+fn side_by_side<T: Wait>(
+    rt: &T,
     jobs: usize,
     alloc: Global,
-) -> Result<SideBySide<'a, T>, Refusal>
+) -> Result<(Vec<Link>, Vec<Worker>), Refusal>
     ensures cause { IfErr result (λ r. r ≡ Refusal.OutOfMemory) }
 {
-    SideBySide::new(rt, jobs, alloc).map_err(out_of_memory)
+    linked_workers(rt, jobs, alloc).map_err(out_of_memory)
 }
 
 /// Reads once, and offers the lines of what came.
@@ -80,7 +84,6 @@ fn advance<P: Pieces<W, S>, R: Read, W, S: Sink<W>>(
     sink: &mut S,
     output: &mut Output<W>,
 ) -> Result<Progress<S::End>, Refusal>
-    requires may { P.may_push pieces.old }
     requires some { 0 < length buffer.old }
     requires lines { reader.old.lines + length buffer.old < 2 ^ 64 }
     requires room { S.may_take sink.old (length buffer.old) }
@@ -91,7 +94,6 @@ fn advance<P: Pieces<W, S>, R: Read, W, S: Sink<W>>(
     ensures breaks { (r : RefusalOf) → result ≡ Err r → Breaks S.takes input.old.calls input.new.calls reader.old sink.old output.old.calls r sink.new output.new.calls }
     ensures size { length buffer.new ≡ length buffer.old }
     ensures counted { length input.new.calls ≡ 1 + length input.old.calls }
-    ensures may { P.may_push pieces.new }
 {
     let Some(count) = input.read(buffer)? else {
         return Ok(Progress::Underway);
@@ -135,20 +137,11 @@ pub fn read<R: Read, W, S: Sink<W>>(
     requires room { S.may_take sink.old (2 ^ 48) }
     ensures { Reads S.takes input.old.calls input.new.calls sink.old output.old.calls result sink.new output.new.calls }
 {
-    let reader = reader_at_start(alloc)?;
-    let mut buffer = piece_buffer(alloc, PIECE)?;
-    read_pieces(
-        &mut Alone,
-        reader,
-        buffer.as_mut_slice(),
-        input,
-        sink,
-        output,
-    )
+    read_by(&mut Alone, PIECE, alloc, input, sink, output)
 }
 
 /// As `read`, with the lines parsed by up to so many threads, the one that calls among them. What the sink takes does not depend on them.
-pub fn read_side_by_side<T: Threads + Sync, R: Read, W, S: Sink<W>>(
+pub fn read_side_by_side<T: Threads + Wait + Sync, R: Read, W, S: Sink<W>>(
     rt: &T,
     jobs: usize,
     alloc: Global,
@@ -162,17 +155,80 @@ pub fn read_side_by_side<T: Threads + Sync, R: Read, W, S: Sink<W>>(
     if jobs < 2 {
         return read(alloc, input, sink, output);
     }
-    let reader = reader_at_start(alloc)?;
-    let mut buffer = piece_buffer(alloc, LARGE_PIECE)?;
-    let mut pieces = side_by_side(rt, jobs, alloc)?;
-    read_pieces(
-        &mut pieces,
-        reader,
-        buffer.as_mut_slice(),
+    let (mut links, mut workers) = side_by_side(rt, jobs, alloc)?;
+    read_beside(
+        rt,
+        workers.as_mut_slice(),
+        &mut links,
+        alloc,
         input,
         sink,
         output,
     )
+}
+
+/// Reads a trace text while the workers run.
+fn read_beside<T: Threads + Wait + Sync, R: Read, W, S: Sink<W>>(
+    rt: &T,
+    workers: &mut [Worker],
+    links: &mut Vec<Link>,
+    alloc: Global,
+    input: &mut Input<R>,
+    sink: &mut S,
+    output: &mut Output<W>,
+) -> Result<Option<S::End>, Refusal>
+    requires room { S.may_take sink.old (2 ^ 54) }
+    ensures { Reads S.takes input.old.calls input.new.calls sink.old output.old.calls result sink.new output.new.calls }
+{
+    let (_, answer) = join_mut(
+        rt,
+        &mut ||
+            requires { IsSync T.row }
+        { run_all(rt, workers) },
+        &mut || -> Result<Option<S::End>, Refusal>
+            requires { S.may_take sink.now (2 ^ 54) }
+            ensures { Reads S.takes input.entry.now.calls input.exit.now.calls sink.entry.now output.entry.now.calls result sink.exit.now output.exit.now.calls }
+        { read_and_unlink(rt, links, alloc, input, sink, output) },
+    );
+    answer
+}
+
+/// Reads a trace text, and lets the links go, so that the workers end.
+fn read_and_unlink<T: Wait, R: Read, W, S: Sink<W>>(
+    rt: &T,
+    links: &mut Vec<Link>,
+    alloc: Global,
+    input: &mut Input<R>,
+    sink: &mut S,
+    output: &mut Output<W>,
+) -> Result<Option<S::End>, Refusal>
+    requires room { S.may_take sink.old (2 ^ 54) }
+    ensures { Reads S.takes input.old.calls input.new.calls sink.old output.old.calls result sink.new output.new.calls }
+{
+    let mut pieces = SideBySide {
+        rt,
+        links: mem::replace(links, Vec::new(alloc)),
+    };
+    read_by(&mut pieces, LARGE_PIECE, alloc, input, sink, output)
+}
+
+/// Reads a trace text in pieces of at most so many bytes.
+#[inline(always)]
+fn read_by<P: Pieces<W, S>, R: Read, W, S: Sink<W>>(
+    pieces: &mut P,
+    size: usize,
+    alloc: Global,
+    input: &mut Input<R>,
+    sink: &mut S,
+    output: &mut Output<W>,
+) -> Result<Option<S::End>, Refusal>
+    requires size { (0 < size) × (size ≤ 2 ^ 22) }
+    requires room { S.may_take sink.old (size * 2 ^ 32) }
+    ensures { Reads S.takes input.old.calls input.new.calls sink.old output.old.calls result sink.new output.new.calls }
+{
+    let reader = reader_at_start(alloc)?;
+    let mut buffer = piece_buffer(alloc, size)?;
+    read_pieces(pieces, reader, buffer.as_mut_slice(), input, sink, output)
 }
 
 /// Reads a trace text in pieces of at most the size of the buffer.
@@ -185,7 +241,6 @@ fn read_pieces<P: Pieces<W, S>, R: Read, W, S: Sink<W>>(
     sink: &mut S,
     output: &mut Output<W>,
 ) -> Result<Option<S::End>, Refusal>
-    requires may { P.may_push pieces.old }
     requires start { reader ≡ at_start }
     requires size { (0 < length buffer.old) × (length buffer.old ≤ 2 ^ 22) }
     requires room { S.may_take sink.old (length buffer.old * 2 ^ 32) }

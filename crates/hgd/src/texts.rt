@@ -9,10 +9,11 @@ use hg_streams::input::Input;
 use hg_streams::output::Output;
 use hg_verbose::lines::Lines;
 use hg_verbose::noted::{NotedReader, NotedWriter};
+use std::sync::Wait;
 use std::thread::Threads;
 
 /// Checks the trace on standard input, whose lines are read by up to `jobs` threads.
-fn check_plainly<T: Threads + Sync>(threads: &T, jobs: usize, rt: &HostRuntime) -> u8 {
+fn check_plainly<T: Threads + Wait + Sync>(threads: &T, jobs: usize, rt: &HostRuntime) -> u8 {
     let mut input = Input::new(rt.stdin());
     let mut output = Output::new(rt.stdout());
     let mut faults = Output::new(rt.stderr());
@@ -27,7 +28,7 @@ fn check_plainly<T: Threads + Sync>(threads: &T, jobs: usize, rt: &HostRuntime) 
 }
 
 /// The same, and tells what the last line means. Where there is no memory for that it is left out.
-pub fn check_input<T: Threads + Sync>(
+pub fn check_input<T: Threads + Wait + Sync>(
     threads: &T,
     jobs: Jobs,
     rt: &HostRuntime,
@@ -56,7 +57,7 @@ pub fn check_input<T: Threads + Sync>(
 }
 
 /// Prints the segments of the trace on standard input, whose lines are read by up to `jobs` threads.
-fn graph_plainly<T: Threads + Sync>(threads: &T, jobs: usize, rt: &HostRuntime) -> u8 {
+fn graph_plainly<T: Threads + Wait + Sync>(threads: &T, jobs: usize, rt: &HostRuntime) -> u8 {
     let mut input = Input::new(rt.stdin());
     let mut output = Output::new(rt.stdout());
     let mut faults = Output::new(rt.stderr());
@@ -71,7 +72,7 @@ fn graph_plainly<T: Threads + Sync>(threads: &T, jobs: usize, rt: &HostRuntime) 
 }
 
 /// The same, and tells what the last line means. Where there is no memory for that it is left out.
-pub fn graph_input<T: Threads + Sync>(
+pub fn graph_input<T: Threads + Wait + Sync>(
     threads: &T,
     jobs: Jobs,
     rt: &HostRuntime,

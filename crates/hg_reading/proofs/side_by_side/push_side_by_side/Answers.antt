@@ -16,8 +16,8 @@ returns-in-Some-clause-pushes g c =
     stops_front g.S.Sink.takes c.args.reader.now c.args.sink.now c.push-2.new.sink c.args.output.now.calls c.push-2.new.output.calls c.args.piece.now c.split_at.result.0.now c.split_at.result.1.now
     (Ok (Some c.in-Some.end)) c.split_at.ensures.by_index.0 (c.in_ok-end.ensures.ends c.in-Some.end (ap Ok c.in-Some.is))
 
-pub push_lines-requires-clause-room : goal.push_lines-requires-clause-room
-push_lines-requires-clause-room g c κs within =
+pub push_rest-requires-clause-room : goal.push_rest-requires-clause-room
+push_rest-requires-clause-room g c =
     let none : c.in_ok-end.field-0 ≡ None = grind arith in
     room_second g.S.Sink.takes g.S.Sink.may_take g.met.S.Sink.room g.met.S.Sink.fewer c.args.reader.now c.push-2.new.reader c.args.sink.now c.push-2.new.sink
     c.args.output.now.calls c.push-2.new.output.calls c.args.piece.now c.split_at.result.0.now c.split_at.result.1.now c.split_at.ensures.by_index.0 (c.in_ok-end.ensures.passes (ap Ok none)) c.requires.room
@@ -25,6 +25,6 @@ push_lines-requires-clause-room g c κs within =
 pub returns-clause-pushes : goal.returns-clause-pushes
 returns-clause-pushes g c =
     let none : c.in_ok-end.field-0 ≡ None = grind arith in
-    pushes_front g.S.Sink.takes g.met.S.Sink.on c.args.reader.now c.push-2.new.reader c.push_lines.new.reader c.args.sink.now c.push-2.new.sink c.push_lines.new.sink
-    c.args.output.now.calls c.push-2.new.output.calls c.push_lines.new.output.calls c.args.piece.now c.split_at.result.0.now c.split_at.result.1.now c.push_lines.result c.split_at.ensures.by_index.0
-    (c.in_ok-end.ensures.passes (ap Ok none)) c.push_lines.ensures.pushes
+    pushes_front g.S.Sink.takes g.met.S.Sink.on c.args.reader.now c.push-2.new.reader c.push_rest.new.reader c.args.sink.now c.push-2.new.sink c.push_rest.new.sink
+    c.args.output.now.calls c.push-2.new.output.calls c.push_rest.new.output.calls c.args.piece.now c.split_at.result.0.now c.split_at.result.1.now c.push_rest.result c.split_at.ensures.by_index.0
+    (c.in_ok-end.ensures.passes (ap Ok none)) c.push_rest.ensures.pushes

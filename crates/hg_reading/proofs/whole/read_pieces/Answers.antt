@@ -25,7 +25,6 @@ loop-reads-init g c =
       lines = omega (arith, ap (λ (p : Pending). p.lines) c.requires.start);
       room = c.requires.room;
       size = omega arith;
-      may = c.requires.may;
       counted = omega arith;
     }
 
@@ -47,7 +46,6 @@ loop-reads-preserved g c =
       lines = lines_more size c.loop-reads.reads c.loop-reads.reader.lines c.advance.new.reader.lines c.loop-reads.invariant.lines (omega (arith, on.counted, same));
       room = on.room left (subst (λ (n : ℕ). g.S.Sink.may_take c.loop-reads.sink n) (a_piece_left size c.loop-reads.reads c.loop-reads-test.true ∙ ap (λ (n : ℕ). n + left) (sym same)) c.loop-reads.invariant.room);
       size = c.advance.ensures.size ∙ same;
-      may = c.in_ok-advance.ensures.may;
       counted = omega (arith, c.advance.ensures.counted, c.loop-reads.invariant.counted);
     }
 

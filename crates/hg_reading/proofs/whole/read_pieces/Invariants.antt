@@ -9,7 +9,6 @@ invariant-loop-reads g l =
       lines : l.reader.lines ≤ length l.fn.buffer * l.reads;
       room : g.S.Sink.may_take l.sink (length l.fn.buffer * (2 ^ 32 - l.reads));
       size : length l.buffer ≡ length l.fn.buffer;
-      may : g.P.Pieces.may_push l.pieces;
       counted : length l.input.calls ≡ l.reads + length l.fn.input.calls;
     }
 

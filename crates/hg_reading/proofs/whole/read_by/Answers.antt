@@ -1,7 +1,7 @@
 use Rattle.std.proofs.Common.{◌≡◌, Err, sym, subst, inr, arith}
 use Rattle.hg_reading.specs.Taking.{Reads}
 use Rattle.hg_reading.proofs.Runs.{read_nothing}
-use Rattle.hg_reading.proofs.whole.read.Goals as goal
+use Rattle.hg_reading.proofs.whole.read_by.Goals as goal
 
 pub returns-in_err-reader : goal.returns-in_err-reader
 returns-in_err-reader g c =
