@@ -1,5 +1,5 @@
 -- Pieces in parts: what came of the first bytes, and then of the others.
-use Rattle.std.proofs.Common.{◌≡◌, ℕ, ◌+◌, ◌-◌, List, [], ◌++◌, length, drop, Option, None, Some, Result, Ok, Err, refl, sym, ap, ◌∙◌, subst, arith}
+use Rattle.std.proofs.Common.{◌≡◌, ℕ, ◌+◌, ◌-◌, List, [], ◌++◌, length, drop, Option, None, Some, Result, Ok, Err, sym, ap, ◌∙◌, subst, arith}
 use Rattle.std.proofs.lemmas.List.{append-nil, append_assoc, length-append, length-drop}
 use Rattle.hg_model.specs.declared.verdict.Refusal.{Refusal}
 use Rattle.hg_streams.specs.declared.call.WriteCall.{WriteCall}
@@ -10,26 +10,6 @@ use Rattle.hg_reading.specs.Keeping.{IsKept, IsOffered, readings_kept}
 use Rattle.hg_reading.specs.Taking.{Passes, Pushes, StopsIn, Taking}
 
 module _ {S E : Type 0} (takes : Taking S E) where
-  pub pushes_by : (p : Pending) (a : S) (at_a : List WriteCall) (piece : List ℕ) (r : Result (Option E) Refusal) (q : Pending) (b : S) (at_b : List WriteCall)
-      → (r ≡ Ok None → Passes takes p a at_a piece q b at_b []) → ((end : E) → r ≡ Ok (Some end) → StopsIn takes p a at_a piece (Ok (Some end)) b at_b)
-      → ((x : Refusal) → r ≡ Err x → StopsIn takes p a at_a piece (Err x) b at_b) → Pushes takes p a at_a piece r q b at_b
-  pushes_by p a at_a piece (Ok None) q b at_b passes ends breaks = passes refl
-  pushes_by p a at_a piece (Ok (Some end)) q b at_b passes ends breaks = ends end refl
-  pushes_by p a at_a piece (Err x) q b at_b passes ends breaks = breaks x refl
-
-  -- where it stopped
-  pub pushes_stop : (p : Pending) (a : S) (at_a : List WriteCall) (piece : List ℕ) (r : Result (Option E) Refusal) (q : Pending) (b : S) (at_b : List WriteCall)
-      → (r ≡ Ok None → ⊥) → Pushes takes p a at_a piece r q b at_b → StopsIn takes p a at_a piece r b at_b
-  pushes_stop p a at_a piece (Ok None) q b at_b never h = absurd (never refl)
-  pushes_stop p a at_a piece (Ok (Some end)) q b at_b never h = h
-  pushes_stop p a at_a piece (Err x) q b at_b never h = h
-
-  pub stop_pushes : (p : Pending) (a : S) (at_a : List WriteCall) (piece : List ℕ) (r : Result (Option E) Refusal) (q : Pending) (b : S) (at_b : List WriteCall)
-      → (r ≡ Ok None → ⊥) → StopsIn takes p a at_a piece r b at_b → Pushes takes p a at_a piece r q b at_b
-  stop_pushes p a at_a piece (Ok None) q b at_b never h = absurd (never refl)
-  stop_pushes p a at_a piece (Ok (Some end)) q b at_b never h = h
-  stop_pushes p a at_a piece (Err x) q b at_b never h = h
-
   pub pushes_pass : (p : Pending) (a : S) (at_a : List WriteCall) (piece : List ℕ) (r : Result (Option E) Refusal) (q : Pending) (b : S) (at_b : List WriteCall)
       → r ≡ Ok None → Pushes takes p a at_a piece r q b at_b → Passes takes p a at_a piece q b at_b []
   pushes_pass p a at_a piece r q b at_b is h = subst (λ x. Pushes takes p a at_a piece x q b at_b) is h
@@ -133,11 +113,7 @@ module _ {S E : Type 0} (takes : Taking S E) where
         );
       }
 
-  -- there is room for the first part of a piece, and then for the other
-  pub room_first : (may_take : S → ℕ → Type 0) → ((s : S) (n more : ℕ) → may_take s (n + more) → may_take s n)
-      → (a : S) (piece first later : List ℕ) → piece ≡ first ++ later → may_take a (length piece) → may_take a (length first)
-  room_first may_take fewer a piece first later is may = fewer a (length first) (length later) (subst (λ (k : ℕ). may_take a k) (ap length is ∙ length-append first later) may)
-
+  -- there is room for what is left behind the first part of a piece
   pub room_second : (may_take : S → ℕ → Type 0)
       → ((a b : S) (at_a at_b : List WriteCall) (first : List Reading) (n : ℕ) → may_take a (length first + n) → takes a at_a first (Ok None) b at_b → may_take b n)
       → ((s : S) (n more : ℕ) → may_take s (n + more) → may_take s n)

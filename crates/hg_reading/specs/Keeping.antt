@@ -23,6 +23,10 @@ one n event = record { line = n + 1; event = Ok event } ∷ []
 abbrev pub access_of : Bool → Access → Event
 access_of is_write access = if is_write then events.Write access else events.Read access
 
+-- what is read of the line of a read or a write behind n lines
+abbrev pub one_access : ℕ → Bool → Access → List Reading
+one_access n is_write access = one n (access_of is_write access)
+
 -- how many lines something kept stands for
 abbrev pub lines_by : Kept → ℕ
 lines_by (Passed count) = count
@@ -50,6 +54,10 @@ lines_kept (it ∷ kept) = lines_by it + lines_kept kept
 abbrev pub readings_kept : ℕ → List Kept → List Reading
 readings_kept n [] = []
 readings_kept n (it ∷ kept) = reading_kept n it ++ readings_kept (n + lines_by it) kept
+
+-- What is kept goes on with an event, behind so many lines that have none.
+abbrev pub KeepsOn : List Kept → ℕ → Event → List Kept → Type 0
+KeepsOn old passed event new = (n : ℕ) → readings_kept n new ≡ readings_kept n old ++ one (n + lines_kept old + passed) event
 
 -- Of lines that were offered, these were taken, from the first on: all, where each was passed.
 pub record IsOffered {S E : Type 0} (takes : Taking S E) (before : S) (at_first : List WriteCall) (due : List Reading) (r : Result (Option E) Refusal) (now : S) (at_last : List WriteCall) : Type 0 where

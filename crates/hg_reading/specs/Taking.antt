@@ -5,7 +5,10 @@ use Rattle.hg_model.specs.declared.verdict.Refusal.TheVariants.{DeviceFault, Out
 use Rattle.hg_streams.specs.declared.call.ReadCall.{ReadCall}
 use Rattle.hg_streams.specs.declared.call.ReadCall.TheVariants.{Gave}
 use Rattle.hg_streams.specs.declared.call.WriteCall.{WriteCall}
+use Rattle.hg_streams.specs.Shown.{Outgoing}
 use Rattle.hg_streams.specs.Calls.{ends_met, failed_reads, given}
+use Rattle.hg_wire.specs.Accesses.{event_of}
+use Rattle.hg_wire.specs.declared.line.AccessLine.{AccessLine}
 use Rattle.hg_wire.specs.declared.reader.Reading.{Reading}
 use Rattle.hg_wire.specs.Streams.{Pending, ended_from, ended_readings, readings, readings_from}
 
@@ -17,6 +20,10 @@ as_stop (Err r) = Err r
 -- What comes of lines that are offered to a sink S, which ends a run by an E: from a state and the calls of the output, by these lines, to an answer, a state and calls.
 abbrev pub Taking : Type 0 → Type 0 → Type 1
 Taking S E = S → List WriteCall → List Reading → Result (Option E) Refusal → S → List WriteCall → Type 0
+
+-- what is read of a line that is a read or a write
+abbrev pub access_at : ℕ → AccessLine → List Reading
+access_at line found = record { line = line; event = Ok (event_of found) } ∷ []
 
 -- Whatever follows these bytes, what is read of all of them begins with these lines.
 abbrev pub Begins : List ℕ → List Reading → Type 0
@@ -47,6 +54,10 @@ module _ {S E : Type 0} (takes : Taking S E) where
   Pushes old before at_first piece (Ok None) new now at_last = Passes old before at_first piece new now at_last []
   Pushes old before at_first piece (Ok (Some end)) new now at_last = StopsIn old before at_first piece (Ok (Some end)) now at_last
   Pushes old before at_first piece (Err r) new now at_last = StopsIn old before at_first piece (Err r) now at_last
+
+  -- The same of a piece that was offered, with the output.
+  abbrev pub Offers : {W : Type 0} → Pending → S → Outgoing W → List ℕ → Result (Option E) Refusal → Pending → S → Outgoing W → Type 0
+  Offers old before output piece r new now printed = Pushes old before output.calls piece r new now printed.calls
 
   -- From the first reads to those of now none failed and none met the end, and each line that a line feed ended was passed.
   pub record HasRead (first now : List ReadCall) (before : S) (at_first : List WriteCall) (p : Pending) (here : S) (at_last : List WriteCall) : Type 0 where

@@ -2,7 +2,7 @@
 
 ghost use Rattle.std.specs.Prelude.{◌≡◌, ℕ, ◌+◌, ◌++◌, ◌∷◌, [], ◌<◌, ◌≤◌, ◌^◌, length, vec_capacity, vec_len};
 ghost use Rattle.std.specs.Bool.{OnFalse, OnTrue};
-ghost use Rattle.hg_reading.specs.Keeping.{IsOffered, access_of, lines_by, lines_kept, one, reading_kept, readings_kept};
+ghost use Rattle.hg_reading.specs.Keeping.{IsOffered, KeepsOn, lines_by, lines_kept, one, one_access, reading_kept, readings_kept};
 
 use crate::sink::Sink;
 use hg_model::event::{Access, Block, Event};
@@ -62,7 +62,7 @@ impl Kept {
 /// Keeps a line's event, behind lines that have none. `false` says that there is no room, and then nothing is kept.
 #[inline(always)]
 pub fn keep(kept: &mut Vec<Kept>, passed: u64, event: Event) -> bool
-    ensures readings { OnTrue result ((n : ℕ) → readings_kept n kept.new.items ≡ readings_kept n kept.old.items ++ one (n + lines_kept kept.old.items + passed) event) }
+    ensures readings { OnTrue result (KeepsOn kept.old.items passed event kept.new.items) }
     ensures lines { OnTrue result (lines_kept kept.new.items ≡ lines_kept kept.old.items + passed + 1) }
     ensures full { OnFalse result (kept.new.items ≡ kept.old.items) }
 {
@@ -98,7 +98,8 @@ pub fn offer_all<W, S: Sink<W>>(
 ) -> Result<Option<S::End>, Refusal>
     requires lines { lines + lines_kept kept.now < 2 ^ 64 }
     requires room { S.may_take sink.old (length (readings_kept lines kept.now)) }
-    ensures { IsOffered S.takes sink.old output.old.calls (readings_kept lines kept.now) result sink.new output.new.calls }
+    ensures { IsOffered S.takes sink.old output.old.calls (readings_kept lines kept.now)
+        result sink.new output.new.calls }
 {
     let mut lines = lines;
     for it in kept {
@@ -188,7 +189,7 @@ fn offer_access<W, S: Sink<W>>(
 ) -> Result<Option<S::End>, Refusal>
     requires lines { lines + 1 < 2 ^ 64 }
     requires room { S.may_take sink.old 1 }
-    ensures { S.takes sink.old output.old.calls (one lines (access_of is_write access)) result sink.new output.new.calls }
+    ensures { S.takes sink.old output.old.calls (one_access lines is_write access) result sink.new output.new.calls }
 {
     let found = AccessLine {
         is_write,

@@ -1,8 +1,7 @@
 //! The lines of a piece.
 
 ghost use Rattle.std.specs.Prelude.{◌≡◌, ℕ, ◌+◌, ◌<◌, ◌^◌, [], Ok, Err, Some, None, length};
-ghost use Rattle.hg_model.specs.declared.verdict.Refusal.{Refusal as RefusalOf};
-ghost use Rattle.hg_reading.specs.Taking.{HasNoneLeft, Passes, StopsIn};
+ghost use Rattle.hg_reading.specs.Taking.{HasNoneLeft, Offers};
 
 use crate::sink::Sink;
 use hg_model::verdict::Refusal;
@@ -20,10 +19,8 @@ pub fn push<W, S: Sink<W>>(
 ) -> Result<Option<S::End>, Refusal>
     requires lines { reader.old.lines + length piece.now < 2 ^ 64 }
     requires room { S.may_take sink.old (length piece.now) }
-    ensures passes { result ≡ Ok None → Passes S.takes reader.old sink.old output.old.calls piece.now reader.new sink.new output.new.calls [] }
+    ensures pushes { Offers S.takes reader.old sink.old output.old piece.now result reader.new sink.new output.new }
     ensures none_left { result ≡ Ok None → HasNoneLeft reader.new }
-    ensures ends { (end : S.End) → result ≡ Ok (Some end) → StopsIn S.takes reader.old sink.old output.old.calls piece.now (Ok (Some end)) sink.new output.new.calls }
-    ensures breaks { (r : RefusalOf) → result ≡ Err r → StopsIn S.takes reader.old sink.old output.old.calls piece.now (Err r) sink.new output.new.calls }
 {
     let mut rest = piece;
     loop {
@@ -56,10 +53,8 @@ pub(crate) trait Pieces<W, S: Sink<W>> {
     ) -> Result<Option<S::End>, Refusal>
         requires lines { reader.old.lines + length piece.now < 2 ^ 64 }
         requires room { S.may_take sink.old (length piece.now) }
-        ensures passes { result ≡ Ok None → Passes S.takes reader.old sink.old output.old.calls piece.now reader.new sink.new output.new.calls [] }
-        ensures none_left { result ≡ Ok None → HasNoneLeft reader.new }
-        ensures ends { (end : S.End) → result ≡ Ok (Some end) → StopsIn S.takes reader.old sink.old output.old.calls piece.now (Ok (Some end)) sink.new output.new.calls }
-        ensures breaks { (r : RefusalOf) → result ≡ Err r → StopsIn S.takes reader.old sink.old output.old.calls piece.now (Err r) sink.new output.new.calls };
+        ensures pushes { Offers S.takes reader.old sink.old output.old piece.now result reader.new sink.new output.new }
+        ensures none_left { result ≡ Ok None → HasNoneLeft reader.new };
 }
 
 /// Each piece is parsed where it is offered.

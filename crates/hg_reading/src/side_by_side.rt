@@ -2,7 +2,7 @@
 
 ghost use Rattle.std.specs.Prelude.{◌≡◌, ◌+◌, ◌<◌, ◌≤◌, ◌^◌, Ok, None, length};
 ghost use Rattle.hg_reading.specs.Keeping.{Holds};
-ghost use Rattle.hg_reading.specs.Taking.{HasNoneLeft, Pushes};
+ghost use Rattle.hg_reading.specs.Taking.{HasNoneLeft, Offers};
 
 use crate::kept::offer_all;
 use crate::part::Part;
@@ -58,7 +58,7 @@ fn push_side_by_side<T: Wait, W, S: Sink<W>>(
 ) -> Result<Option<S::End>, Refusal>
     requires lines { reader.old.lines + length piece.now < 2 ^ 64 }
     requires room { S.may_take sink.old (length piece.now) }
-    ensures pushes { Pushes S.takes reader.old sink.old output.old.calls piece.now result reader.new sink.new output.new.calls }
+    ensures pushes { Offers S.takes reader.old sink.old output.old piece.now result reader.new sink.new output.new }
     ensures none_left { result ≡ Ok None → HasNoneLeft reader.new }
 {
     if piece.len() < FEW || links.is_empty() {
@@ -85,7 +85,7 @@ fn push_rest<T: Wait, W, S: Sink<W>>(
     requires some { 0 < length links.old }
     requires lines { reader.old.lines + length piece.now < 2 ^ 64 }
     requires room { S.may_take sink.old (length piece.now) }
-    ensures pushes { Pushes S.takes reader.old sink.old output.old.calls piece.now result reader.new sink.new output.new.calls }
+    ensures pushes { Offers S.takes reader.old sink.old output.old piece.now result reader.new sink.new output.new }
     ensures none_left { result ≡ Ok None → HasNoneLeft reader.new }
 {
     let (lines, last) = piece.split_at(last_line_end(piece));
@@ -113,7 +113,7 @@ fn offer_lines<T: Wait, W, S: Sink<W>>(
     requires some { 0 < length links.old }
     requires lines { reader.old.lines + length text.now < 2 ^ 64 }
     requires room { S.may_take sink.old (length text.now) }
-    ensures { Pushes S.takes reader.old sink.old output.old.calls text.now result reader.new sink.new output.new.calls }
+    ensures { Offers S.takes reader.old sink.old output.old text.now result reader.new sink.new output.new }
 {
     let mut unsent = unsent;
     let mut rest = text;
@@ -175,7 +175,7 @@ fn offer_next<T: Wait, W, S: Sink<W>>(
 ) -> Result<Option<S::End>, Refusal>
     requires lines { reader.old.lines + length text.now < 2 ^ 64 }
     requires room { S.may_take sink.old (length text.now) }
-    ensures { Pushes S.takes reader.old sink.old output.old.calls text.now result reader.new sink.new output.new.calls }
+    ensures { Offers S.takes reader.old sink.old output.old text.now result reader.new sink.new output.new }
 {
     let Some(parsed) = link.take_back(rt) else {
         return push(reader, sink, text, output);
@@ -195,7 +195,7 @@ fn offer_parsed<W, S: Sink<W>>(
 ) -> Result<Option<S::End>, Refusal>
     requires lines { reader.old.lines + length text.now < 2 ^ 64 }
     requires room { S.may_take sink.old (length text.now) }
-    ensures { Pushes S.takes reader.old sink.old output.old.calls text.now result reader.new sink.new output.new.calls }
+    ensures { Offers S.takes reader.old sink.old output.old text.now result reader.new sink.new output.new }
 {
     if parsed.text.as_slice() != text {
         return push(reader, sink, text, output);
@@ -214,7 +214,7 @@ fn offer_part<W, S: Sink<W>>(
     requires held { Holds part.now text.now }
     requires lines { reader.old.lines + length text.now < 2 ^ 64 }
     requires room { S.may_take sink.old (length text.now) }
-    ensures { Pushes S.takes reader.old sink.old output.old.calls text.now result reader.new sink.new output.new.calls }
+    ensures { Offers S.takes reader.old sink.old output.old text.now result reader.new sink.new output.new }
 {
     if !reader.is_between_lines() {
         return push(reader, sink, text, output);

@@ -5,7 +5,7 @@ ghost use Rattle.hg_model.specs.declared.verdict.Refusal.{Refusal as RefusalOf};
 ghost use Rattle.hg_streams.specs.declared.call.WriteCall.{WriteCall};
 ghost use Rattle.hg_wire.specs.Accesses.{event_of};
 ghost use Rattle.hg_wire.specs.declared.reader.Reading.{Reading as ReadingOf};
-ghost use Rattle.hg_reading.specs.Taking.{as_stop};
+ghost use Rattle.hg_reading.specs.Taking.{access_at, as_stop};
 
 use hg_model::event::Event;
 use hg_model::verdict::Refusal;
@@ -54,7 +54,7 @@ pub trait Sink<W> {
         output: &mut Output<W>,
     ) -> Result<Option<Self::End>, Refusal>
         requires room { may_take self.old 1 }
-        ensures takes { takes self.old output.old.calls (record { line = line; event = Ok (event_of found.now) } ∷ []) result self.new output.new.calls };
+        ensures takes { takes self.old output.old.calls (access_at line found.now) result self.new output.new.calls };
 
     /// Prints what is to be printed before more is read.
     fn print(&mut self, output: &mut Output<W>) -> Result<(), Refusal>

@@ -87,11 +87,14 @@ fn advance<P: Pieces<W, S>, R: Read, W, S: Sink<W>>(
     requires some { 0 < length buffer.old }
     requires lines { reader.old.lines + length buffer.old < 2 ^ 64 }
     requires room { S.may_take sink.old (length buffer.old) }
-    ensures underway { result ≡ Ok Progress.Underway
-        → Advances S.takes S.may_take input.old.calls input.new.calls reader.old sink.old output.old.calls reader.new sink.new output.new.calls (length buffer.old) }
-    ensures at_end { result ≡ Ok Progress.AtEnd → MeetsEnd S.takes input.old.calls input.new.calls reader.old sink.old output.old.calls reader.new sink.new output.new.calls }
-    ensures stops { (end : S.End) → result ≡ Ok (Progress.Stopped end) → Stops S.takes input.old.calls input.new.calls reader.old sink.old output.old.calls end sink.new output.new.calls }
-    ensures breaks { (r : RefusalOf) → result ≡ Err r → Breaks S.takes input.old.calls input.new.calls reader.old sink.old output.old.calls r sink.new output.new.calls }
+    ensures underway { result ≡ Ok Progress.Underway → Advances S.takes S.may_take input.old.calls input.new.calls
+        reader.old sink.old output.old.calls reader.new sink.new output.new.calls (length buffer.old) }
+    ensures at_end { result ≡ Ok Progress.AtEnd → MeetsEnd S.takes input.old.calls input.new.calls
+        reader.old sink.old output.old.calls reader.new sink.new output.new.calls }
+    ensures stops { (end : S.End) → result ≡ Ok (Progress.Stopped end) → Stops S.takes
+        input.old.calls input.new.calls reader.old sink.old output.old.calls end sink.new output.new.calls }
+    ensures breaks { (r : RefusalOf) → result ≡ Err r → Breaks S.takes
+        input.old.calls input.new.calls reader.old sink.old output.old.calls r sink.new output.new.calls }
     ensures size { length buffer.new ≡ length buffer.old }
     ensures counted { length input.new.calls ≡ 1 + length input.old.calls }
 {
@@ -187,7 +190,8 @@ fn read_beside<T: Threads + Wait + Sync, R: Read, W, S: Sink<W>>(
         { run_all(rt, workers) },
         &mut || -> Result<Option<S::End>, Refusal>
             requires { S.may_take sink.now (2 ^ 54) }
-            ensures { Reads S.takes input.entry.now.calls input.exit.now.calls sink.entry.now output.entry.now.calls result sink.exit.now output.exit.now.calls }
+            ensures { Reads S.takes input.entry.now.calls input.exit.now.calls sink.entry.now output.entry.now.calls
+                result sink.exit.now output.exit.now.calls }
         { read_and_unlink(rt, links, alloc, input, sink, output) },
     );
     answer

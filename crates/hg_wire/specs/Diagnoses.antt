@@ -1,12 +1,13 @@
 -- Definition: what a diagnosis of a bad line says. Words are counted from 0 on, the verb first.
-use Rattle.std.specs.Prelude.{◌≡◌, ◌≢◌, ℕ, ◌+◌, ◌<◌, ◌≤◌, ◌^◌, List, [], ◌∷◌, length, slice_get, Some, None}
+use Rattle.std.specs.Prelude.{◌≡◌, ◌≢◌, ℕ, ◌+◌, ◌<◌, ◌≤◌, ◌^◌, List, [], ◌∷◌, length, slice_get, Some, None, Ok}
+use Rattle.hg_model.specs.declared.event.Event.{Event}
 use Rattle.hg_wire.specs.declared.diagnosis.Diagnosis.{Diagnosis}
 use Rattle.hg_wire.specs.declared.diagnosis.Diagnosis.TheVariants as says
 use Rattle.hg_wire.specs.declared.line.LineFault.{LineFault}
 use Rattle.hg_wire.specs.declared.line.LineFault.TheVariants.{TooLong, Verb, Count, Number}
 use Rattle.hg_wire.specs.declared.verb.Verb as source
 use Rattle.hg_wire.specs.Numbers.{number_of}
-use Rattle.hg_wire.specs.Lines.{operand_of, words_of}
+use Rattle.hg_wire.specs.Lines.{line_of, operand_of, words_of}
 use Rattle.hg_wire.specs.Verbs.{row_of}
 
 -- the fault that it is about
@@ -51,3 +52,7 @@ IsTrueOf line (says.EmptyWord place) = IsFirstEmpty (words_of line) place
 IsTrueOf line (says.Count verb given) = (words : List (List ℕ)) × (HasVerb line verb words × ((given ≡ length words) × (given ≢ length (row_of verb).widths)))
 IsTrueOf line (says.Misspelt place word) = (bits : ℕ) × HasMisfit line place word.now bits × (number_of word.now ≡ None)
 IsTrueOf line (says.TooGreat place word bits) = HasMisfit line place word.now bits × ((n : ℕ) × (number_of word.now ≡ Some n) × (2 ^ bits ≤ n))
+
+-- The line spells an event.
+abbrev pub SpellsEvent : List ℕ → Type 0
+SpellsEvent line = (event : Event) × (line_of line ≡ Ok event)

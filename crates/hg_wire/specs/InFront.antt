@@ -6,6 +6,8 @@ use Rattle.std.specs.Str.Parse.{AllDigits, digits_value}
 use Rattle.hg_model.specs.declared.event.Event.{Event}
 use Rattle.hg_wire.specs.Numbers.{IsNumber, IsNumeral, value_of}
 use Rattle.hg_wire.specs.Lines.{AreOperands, IsLine}
+use Rattle.hg_wire.specs.declared.verb.Verb.{Verb}
+use Rattle.hg_wire.specs.Verbs.{row_of}
 
 -- Digits stand before the rest, and the value is theirs unless they are too many.
 pub record HasRun (base most : ℕ) (bytes rest : List ℕ) (value : ℕ) : Type 0 where
@@ -67,3 +69,16 @@ pub record HasEventLine (bytes : List ℕ) (event : Event) (used : ℕ) : Type 0
   pub joined : bytes ≡ text ++ middle
   pub ends : EndsLineBefore middle rest
   pub count : used + length rest ≡ length bytes
+
+-- A number that ends at one place goes on to another: whichever digits it has before, it has those between the two places as well.
+abbrev pub GoesOn : ℕ → ℕ → List ℕ → ℕ → ℕ → ℕ → ℕ → Type 0
+GoesOn base most bytes at number end more =
+    (start : List ℕ) → HasRun base most start (drop at bytes) number → HasRun base most start (drop end bytes) more
+
+-- From one place to another there is an operand of so many bits.
+abbrev pub IsOperand : ℕ → List ℕ → ℕ → ℕ → ℕ → Type 0
+IsOperand width bytes from value end = HasOperands (width ∷ []) (drop from bytes) (value ∷ []) (drop end bytes)
+
+-- The bytes begin with the verb, which ends at this place.
+abbrev pub BeginsWith : List ℕ → Verb → ℕ → Type 0
+BeginsWith bytes verb end = bytes ≡ (row_of verb).text ++ drop end bytes

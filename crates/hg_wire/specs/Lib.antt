@@ -3,9 +3,10 @@ pub mod Numbers
 pub mod Verbs
 pub mod Lines
 pub mod Diagnoses
+pub mod Taken
 pub mod InFront
-pub mod Accesses
 pub mod Readings
 pub mod Streams
+pub mod Accesses
 pub mod Reports
 pub mod Laws

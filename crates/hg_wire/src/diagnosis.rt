@@ -3,8 +3,9 @@
 ghost use Rattle.std.specs.Prelude.{◌≡◌, ◌⊎◌, ◌+◌, ◌<◌, ◌≤◌, [], ◌∷◌, ℕ, List, Ok, Err, Some, true, is_some, length, nat_lt, IfSome, MatchOption};
 ghost use Rattle.std.specs.List.{AllByRecursion, list_all};
 ghost use Rattle.hg_model.specs.declared.event.Event.{Event as EventOf};
-ghost use Rattle.hg_wire.specs.Diagnoses.{HasVerb, IsFirstEmpty, IsFirstMisfit, IsTrueOf, fault_of};
+ghost use Rattle.hg_wire.specs.Diagnoses.{HasVerb, IsFirstEmpty, IsFirstMisfit, IsTrueOf, SpellsEvent, fault_of};
 ghost use Rattle.hg_wire.specs.Lines.{are_counted, line_of, operand_of, values_of, words_after, words_of};
+ghost use Rattle.hg_wire.specs.Taken.{HaveValues, NoneIsEmpty};
 ghost use Rattle.hg_wire.specs.Verbs.{row_of};
 
 use crate::line::MOST_LINE_BYTES;
@@ -53,7 +54,7 @@ struct Misfit<'a> {
 
 /// The place of the first empty word.
 fn first_empty(line: &[u8]) -> Option<usize>
-    ensures first { MatchOption result (list_all (λ word. nat_lt 0 (length word)) (words_of line.now) ≡ true) (IsFirstEmpty (words_of line.now)) }
+    ensures first { MatchOption result (NoneIsEmpty (words_of line.now)) (IsFirstEmpty (words_of line.now)) }
     ensures within { IfSome result (λ place. place ≤ length line.now) }
 {
     let (word, rest) = split_word(line);
@@ -89,7 +90,8 @@ fn is_operand(word: &[u8], bits: u8) -> bool
 /// The first word that is no operand of its width.
 fn first_misfit<'a>(widths: &[u8], words: Option<&'a [u8]>) -> Option<Misfit<'a>>
     requires { AllByRecursion (λ bits. (bits ≡ 8) ⊎ ((bits ≡ 16) ⊎ (bits ≡ 64))) widths.now }
-    ensures first { MatchOption result ((values : List ℕ) × (values_of widths.now (words_after words.entry) ≡ Some values)) (λ found. IsFirstMisfit widths.now (words_after words.entry) found.place found.word.now found.bits) }
+    ensures first { MatchOption result (HaveValues widths.now (words_after words.entry))
+        (λ found. IsFirstMisfit widths.now (words_after words.entry) found.place found.word.now found.bits) }
     ensures within { IfSome result (λ found. found.place < length widths.now) }
 {
     let (bits, others) = widths.split_first()?;
@@ -111,7 +113,7 @@ fn first_misfit<'a>(widths: &[u8], words: Option<&'a [u8]>) -> Option<Misfit<'a>
 
 /// Why a line is bad. `None` says that it spells an event.
 pub fn diagnose(line: &[u8]) -> Option<Diagnosis<'_>>
-    ensures fault { MatchOption result ((event : EventOf) × (line_of line.now ≡ Ok event)) (λ found. line_of line.now ≡ Err (fault_of found)) }
+    ensures fault { MatchOption result (SpellsEvent line.now) (λ found. line_of line.now ≡ Err (fault_of found)) }
     ensures place { IfSome result (IsTrueOf line.now) }
 {
     if line.len() > MOST_LINE_BYTES {

@@ -1,7 +1,7 @@
 //! The operands that follow a verb.
 
 ghost use Rattle.std.specs.Prelude.{◌+◌, ◌≤◌, [], ◌∷◌, length, drop, IfSome};
-ghost use Rattle.hg_wire.specs.InFront.{HasOperands};
+ghost use Rattle.hg_wire.specs.InFront.{HasOperands, IsOperand};
 
 use crate::number::{number_at, short_number_at};
 
@@ -9,7 +9,7 @@ use crate::number::{number_at, short_number_at};
 #[inline(always)]
 pub(crate) fn long_at(bytes: &[u8], from: usize) -> Option<(u64, usize)>
     requires { from + 20 ≤ length bytes.now }
-    ensures operand { IfSome result (λ found. HasOperands (64 ∷ []) (drop from bytes.now) (found.0 ∷ []) (drop found.1 bytes.now)) }
+    ensures operand { IfSome result (λ found. IsOperand 64 bytes.now from found.0 found.1) }
     ensures near { IfSome result (λ found. found.1 ≤ from + 20) }
 {
     if bytes[from] != b' ' {
@@ -22,7 +22,7 @@ pub(crate) fn long_at(bytes: &[u8], from: usize) -> Option<(u64, usize)>
 #[inline(always)]
 pub(crate) fn short_at(bytes: &[u8], from: usize) -> Option<(u16, usize)>
     requires { from + 7 ≤ length bytes.now }
-    ensures operand { IfSome result (λ found. HasOperands (16 ∷ []) (drop from bytes.now) (found.0 ∷ []) (drop found.1 bytes.now)) }
+    ensures operand { IfSome result (λ found. IsOperand 16 bytes.now from found.0 found.1) }
     ensures near { IfSome result (λ found. found.1 ≤ from + 7) }
 {
     if bytes[from] != b' ' {

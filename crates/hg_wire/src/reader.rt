@@ -42,7 +42,7 @@ impl Model for EventReader {
 }
 
 impl EventReader {
-    ghost use Rattle.hg_wire.specs.Accesses.{event_of};
+    ghost use Rattle.hg_wire.specs.Accesses.{GivesAccess};
     ghost use Rattle.hg_wire.specs.Streams.{at_start, readings_from, GivesReading, Takes};
 
     /// A reader at the start of a stream.
@@ -80,7 +80,7 @@ impl EventReader {
     #[inline(always)]
     pub fn take_access(&mut self, piece: &[u8]) -> Option<AccessLine>
         requires { self.old.lines + length piece.now < 2 ^ 64 }
-        ensures access { IfSome result (λ found. GivesReading self.old self.new piece.now (record { line = self.new.lines; event = Ok (event_of found) }) found.used) }
+        ensures access { IfSome result (λ found. GivesAccess self.old self.new piece.now found) }
         ensures none { IfNone result (self.new ≡ self.old) }
     {
         if !self.splitter.is_between_lines() {

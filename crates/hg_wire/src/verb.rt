@@ -2,6 +2,7 @@
 
 ghost use Rattle.std.specs.Prelude.{◌≡◌, ◌≤◌, ◌++◌, [], ◌∷◌, length, take, drop, IfSome};
 ghost use Rattle.std.specs.Int.{to_le_bytes, w32};
+ghost use Rattle.hg_wire.specs.InFront.{BeginsWith};
 ghost use Rattle.hg_wire.specs.Verbs.{row_of, verb_of, Makes};
 
 use hg_model::event::{Access, Block, Event};
@@ -118,7 +119,7 @@ fn first_letters(bytes: &[u8]) -> u32
 #[inline(always)]
 pub(crate) fn verb_in_front(bytes: &[u8]) -> Option<(VerbKind, usize)>
     requires { 6 ≤ length bytes.now }
-    ensures verb { IfSome result (λ found. bytes.now ≡ (row_of (verb_of found.0)).text ++ drop found.1 bytes.now) }
+    ensures verb { IfSome result (λ found. BeginsWith bytes.now (verb_of found.0) found.1) }
     ensures near { IfSome result (λ found. found.1 ≤ 6) }
 {
     if let Some((is_write, end)) = access_verb_in_front(bytes) {
@@ -135,7 +136,7 @@ pub(crate) fn verb_in_front(bytes: &[u8]) -> Option<(VerbKind, usize)>
 #[inline(always)]
 pub(crate) fn access_verb_in_front(bytes: &[u8]) -> Option<(bool, usize)>
     requires { 6 ≤ length bytes.now }
-    ensures verb { IfSome result (λ found. bytes.now ≡ (row_of (verb_of (VerbKind.Access found.0))).text ++ drop found.1 bytes.now) }
+    ensures verb { IfSome result (λ found. BeginsWith bytes.now (verb_of (VerbKind.Access found.0)) found.1) }
     ensures near { IfSome result (λ found. found.1 ≤ 6) }
 {
     let first = first_letters(bytes);
@@ -152,7 +153,7 @@ pub(crate) fn access_verb_in_front(bytes: &[u8]) -> Option<(bool, usize)>
 #[inline(always)]
 fn block_verb_in_front(bytes: &[u8]) -> Option<(bool, usize)>
     requires { 6 ≤ length bytes.now }
-    ensures verb { IfSome result (λ found. bytes.now ≡ (row_of (verb_of (VerbKind.Block found.0))).text ++ drop found.1 bytes.now) }
+    ensures verb { IfSome result (λ found. BeginsWith bytes.now (verb_of (VerbKind.Block found.0)) found.1) }
     ensures near { IfSome result (λ found. found.1 ≤ 6) }
 {
     let first = first_letters(bytes);
@@ -169,7 +170,7 @@ fn block_verb_in_front(bytes: &[u8]) -> Option<(bool, usize)>
 #[inline(always)]
 fn pair_verb_in_front(bytes: &[u8]) -> Option<(Verb, usize)>
     requires { 6 ≤ length bytes.now }
-    ensures verb { IfSome result (λ found. bytes.now ≡ (row_of found.0).text ++ drop found.1 bytes.now) }
+    ensures verb { IfSome result (λ found. BeginsWith bytes.now found.0 found.1) }
     ensures near { IfSome result (λ found. found.1 ≤ 6) }
 {
     let first = first_letters(bytes);

@@ -2,6 +2,7 @@
 
 ghost use Rattle.std.specs.Prelude.{◌≡◌, [], ◌∷◌, ℕ, List, ◌<◌, length, false, MatchOption, IfSome, position, ◌==◌};
 ghost use Rattle.hg_wire.specs.Lines.{words_of, words_after, are_counted, operand_of, operands_of, result_map, of_verb, line_of};
+ghost use Rattle.hg_wire.specs.Taken.{AreThree, AreTwo, HasWord, LacksThree, LacksTwo, LacksWord};
 ghost use Rattle.hg_wire.specs.Verbs.{pair_widths, access_widths, block_widths};
 
 use crate::line::{LineFault, MOST_LINE_BYTES};
@@ -28,8 +29,8 @@ pub(crate) fn split_word(line: &[u8]) -> (&[u8], Option<&[u8]>)
 
 /// The first of some words, which is not empty, and the words after it.
 fn take_word(words: Option<&[u8]>) -> Option<(&[u8], Option<&[u8]>)>
-    ensures { MatchOption result ((w : ℕ) (ws : List ℕ) → are_counted (w ∷ ws) (words_after words.entry) ≡ false) (λ found.
-        (words_after words.entry ≡ found.0.now ∷ words_after found.1) × (0 < length found.0.now)) }
+    ensures { MatchOption result (LacksWord (words_after words.entry))
+        (λ found. HasWord (words_after words.entry) found.0.now (words_after found.1)) }
 {
     let (word, rest) = split_word(words?);
     if word.is_empty() {
@@ -40,8 +41,8 @@ fn take_word(words: Option<&[u8]>) -> Option<(&[u8], Option<&[u8]>)>
 
 /// Two words, none of them empty, and no more.
 fn two_words(words: Option<&[u8]>) -> Option<(&[u8], &[u8])>
-    ensures { MatchOption result ((a b : ℕ) → are_counted (a ∷ b ∷ []) (words_after words.entry) ≡ false) (λ found.
-        (words_after words.entry ≡ found.0.now ∷ found.1.now ∷ []) × (0 < length found.0.now) × (0 < length found.1.now)) }
+    ensures { MatchOption result (LacksTwo (words_after words.entry))
+        (λ found. AreTwo (words_after words.entry) found.0.now found.1.now) }
 {
     let (first, rest) = take_word(words)?;
     let (second, rest) = take_word(rest)?;
@@ -53,9 +54,8 @@ fn two_words(words: Option<&[u8]>) -> Option<(&[u8], &[u8])>
 
 /// Three words, none of them empty, and no more.
 fn three_words(words: Option<&[u8]>) -> Option<(&[u8], &[u8], &[u8])>
-    ensures { MatchOption result ((a b d : ℕ) → are_counted (a ∷ b ∷ d ∷ []) (words_after words.entry) ≡ false) (λ found.
-        (words_after words.entry ≡ found.0.now ∷ found.1.now ∷ found.2.now ∷ [])
-        × (0 < length found.0.now) × (0 < length found.1.now) × (0 < length found.2.now)) }
+    ensures { MatchOption result (LacksThree (words_after words.entry))
+        (λ found. AreThree (words_after words.entry) found.0.now found.1.now found.2.now) }
 {
     let (first, rest) = take_word(words)?;
     let (second, third) = two_words(rest)?;

@@ -2,7 +2,7 @@ use Rattle.std.proofs.Common.{◌≡◌, ℕ, ◌-◌, List, [], ◌∷◌, Ok, 
 use Rattle.std.proofs.lemmas.List.{length-drop, take_all}
 use Rattle.hg_wire.specs.Accesses.{event_of}
 use Rattle.hg_wire.specs.Streams.{GivesReading}
-use Rattle.hg_reading.specs.Taking.{Passes}
+use Rattle.hg_reading.specs.Taking.{Passes, Pushes}
 use Rattle.hg_reading.proofs.Passing.{passes_on, room_for_one, stops_in}
 use Rattle.hg_reading.proofs.pieces.push.Goals as goal
 
@@ -22,18 +22,21 @@ offer-requires g c =
           c.args.output.now.calls c.loop-found.output.calls c.args.piece.now c.loop-found.rest.now c.in-Line.reading c.in-Line.used c.loop-found.invariant gives c.requires.room;
     }
 
-pub returns-in_err-end-clause-breaks : goal.returns-in_err-end-clause-breaks
-returns-in_err-end-clause-breaks g c r is =
-    let same : c.in_err-end.field-0.0 ≡ r = grind arith in
+pub returns-in_err-end-clause-pushes : goal.returns-in_err-end-clause-pushes
+returns-in_err-end-clause-pushes g c =
+    let r = c.in_err-end.field-0.0 in
+    let same : c.from_residual.result ≡ Err r = grind arith in
     let step = subst (λ (n : ℕ). g.S.Sink.takes c.loop-found.sink c.loop-found.output.calls (record { line = n; event = Ok (event_of c.in-Some.found) } ∷ []) (Err r) c.offer_access.new.self c.offer_access.new.output.calls) c.lines.ensures
-    (subst (λ x. g.S.Sink.takes c.loop-found.sink c.loop-found.output.calls (record { line = c.lines.result; event = Ok (event_of c.in-Some.found) } ∷ []) (Err x) c.offer_access.new.self c.offer_access.new.output.calls) same c.in_err-end.ensures.takes) in
-    stops_in g.S.Sink.takes c.args.reader.now c.loop-found.reader c.take_access.new.self c.args.sink.now c.loop-found.sink c.offer_access.new.self
+    c.in_err-end.ensures.takes in
+    subst (λ x. Pushes g.S.Sink.takes c.args.reader.now c.args.sink.now c.args.output.now.calls c.args.piece.now x c.take_access.new.self c.offer_access.new.self c.offer_access.new.output.calls) (sym same)
+    (stops_in g.S.Sink.takes c.args.reader.now c.loop-found.reader c.take_access.new.self c.args.sink.now c.loop-found.sink c.offer_access.new.self
     c.args.output.now.calls c.loop-found.output.calls c.offer_access.new.output.calls c.args.piece.now c.loop-found.rest.now _ c.in-Some.found.used (Err r) c.loop-found.invariant c.in-Some.ensures.access
-    (g.met.S.Sink.on c.args.sink.now c.loop-found.sink c.offer_access.new.self c.args.output.now.calls c.loop-found.output.calls c.offer_access.new.output.calls c.loop-found.invariant.lines _ (Err r) c.loop-found.invariant.steps step)
+    (g.met.S.Sink.on c.args.sink.now c.loop-found.sink c.offer_access.new.self c.args.output.now.calls c.loop-found.output.calls c.offer_access.new.output.calls c.loop-found.invariant.lines _ (Err r) c.loop-found.invariant.steps step))
 
-pub returns-in-Some-2-clause-ends : goal.returns-in-Some-2-clause-ends
-returns-in-Some-2-clause-ends g c end is =
-    let same : c.in_ok-end.field-0 ≡ Some end = grind arith in
+pub returns-in-Some-2-clause-pushes : goal.returns-in-Some-2-clause-pushes
+returns-in-Some-2-clause-pushes g c =
+    let end = c.in-Some-2.end in
+    let same = c.in-Some-2.is in
     let step = subst (λ (n : ℕ). g.S.Sink.takes c.loop-found.sink c.loop-found.output.calls (record { line = n; event = Ok (event_of c.in-Some.found) } ∷ []) (Ok (Some end)) c.offer_access.new.self c.offer_access.new.output.calls) c.lines.ensures
     (subst (λ x. g.S.Sink.takes c.loop-found.sink c.loop-found.output.calls (record { line = c.lines.result; event = Ok (event_of c.in-Some.found) } ∷ []) (Ok x) c.offer_access.new.self c.offer_access.new.output.calls) same c.in_ok-end.ensures.takes) in
     stops_in g.S.Sink.takes c.args.reader.now c.loop-found.reader c.take_access.new.self c.args.sink.now c.loop-found.sink c.offer_access.new.self
@@ -62,18 +65,21 @@ loop-found-preserved g c =
     c.args.output.now.calls c.loop-found.output.calls c.offer.new.output.calls c.args.piece.now c.loop-found.rest.now c.in-Line.reading c.in-Line.used c.loop-found.invariant gives
     (g.met.S.Sink.on c.args.sink.now c.loop-found.sink c.offer.new.self c.args.output.now.calls c.loop-found.output.calls c.offer.new.output.calls c.loop-found.invariant.lines (c.in-Line.reading ∷ []) (Ok None) c.loop-found.invariant.steps step))
 
-pub returns-in_err-end-2-clause-breaks : goal.returns-in_err-end-2-clause-breaks
-returns-in_err-end-2-clause-breaks g c r is =
-    let same : c.in_err-end-2.field-0.0 ≡ r = grind arith in
+pub returns-in_err-end-2-clause-pushes : goal.returns-in_err-end-2-clause-pushes
+returns-in_err-end-2-clause-pushes g c =
+    let r = c.in_err-end-2.field-0.0 in
+    let same : c.from_residual-in_err-end-2.result ≡ Err r = grind arith in
     let gives = subst (λ q. GivesReading q c.take.new.self c.loop-found.rest.now c.in-Line.reading c.in-Line.used) c.in_default.ensures.none c.in-Line.ensures in
-    let step = subst (λ x. g.S.Sink.takes c.loop-found.sink c.loop-found.output.calls (c.in-Line.reading ∷ []) (Err x) c.offer.new.self c.offer.new.output.calls) same c.in_err-end-2.ensures.takes in
-    stops_in g.S.Sink.takes c.args.reader.now c.loop-found.reader c.take.new.self c.args.sink.now c.loop-found.sink c.offer.new.self
+    let step = c.in_err-end-2.ensures.takes in
+    subst (λ x. Pushes g.S.Sink.takes c.args.reader.now c.args.sink.now c.args.output.now.calls c.args.piece.now x c.take.new.self c.offer.new.self c.offer.new.output.calls) (sym same)
+    (stops_in g.S.Sink.takes c.args.reader.now c.loop-found.reader c.take.new.self c.args.sink.now c.loop-found.sink c.offer.new.self
     c.args.output.now.calls c.loop-found.output.calls c.offer.new.output.calls c.args.piece.now c.loop-found.rest.now c.in-Line.reading c.in-Line.used (Err r) c.loop-found.invariant gives
-    (g.met.S.Sink.on c.args.sink.now c.loop-found.sink c.offer.new.self c.args.output.now.calls c.loop-found.output.calls c.offer.new.output.calls c.loop-found.invariant.lines (c.in-Line.reading ∷ []) (Err r) c.loop-found.invariant.steps step)
+    (g.met.S.Sink.on c.args.sink.now c.loop-found.sink c.offer.new.self c.args.output.now.calls c.loop-found.output.calls c.offer.new.output.calls c.loop-found.invariant.lines (c.in-Line.reading ∷ []) (Err r) c.loop-found.invariant.steps step))
 
-pub returns-in-Some-3-clause-ends : goal.returns-in-Some-3-clause-ends
-returns-in-Some-3-clause-ends g c end is =
-    let same : c.in_ok-end-2.field-0 ≡ Some end = grind arith in
+pub returns-in-Some-3-clause-pushes : goal.returns-in-Some-3-clause-pushes
+returns-in-Some-3-clause-pushes g c =
+    let end = c.in-Some-3.end in
+    let same = c.in-Some-3.is in
     let gives = subst (λ q. GivesReading q c.take.new.self c.loop-found.rest.now c.in-Line.reading c.in-Line.used) c.in_default.ensures.none c.in-Line.ensures in
     let step = subst (λ x. g.S.Sink.takes c.loop-found.sink c.loop-found.output.calls (c.in-Line.reading ∷ []) (Ok x) c.offer.new.self c.offer.new.output.calls) same c.in_ok-end-2.ensures.takes in
     stops_in g.S.Sink.takes c.args.reader.now c.loop-found.reader c.take.new.self c.args.sink.now c.loop-found.sink c.offer.new.self

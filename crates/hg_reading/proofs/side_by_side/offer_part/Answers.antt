@@ -3,7 +3,7 @@ use Rattle.hg_wire.specs.Streams.{Pending}
 use Rattle.hg_reading.specs.Keeping.{IsKept, IsOffered, readings_kept}
 use Rattle.hg_reading.specs.Taking.{Passes, Pushes}
 use Rattle.hg_reading.proofs.Parsing.{rest_is}
-use Rattle.hg_reading.proofs.Pushing.{part_passes, part_stops, pushes_by, pushes_then, room_left}
+use Rattle.hg_reading.proofs.Pushing.{part_passes, part_stops, pushes_then, room_left}
 use Rattle.hg_reading.proofs.side_by_side.offer_part.Goals as goal
 
 pub offer_all-requires-clause-room : goal.offer_all-requires-clause-room
@@ -52,5 +52,4 @@ returns g c =
     (sym (rest_is c.args.part.now.extent.bytes c.args.text.now)) counted in
     pushes_then g.S.Sink.takes g.met.S.Sink.on c.args.reader.now c.count_lines.new.self c.push-2.new.reader c.args.sink.now c.offer_all.new.sink c.push-2.new.sink
     c.args.output.now.calls c.offer_all.new.output.calls c.push-2.new.output.calls c.args.text.now _ c.push-2.result placed
-    (pushes_by g.S.Sink.takes c.count_lines.new.self c.offer_all.new.sink c.offer_all.new.output.calls _ c.push-2.result c.push-2.new.reader c.push-2.new.sink c.push-2.new.output.calls
-    c.push-2.ensures.passes c.push-2.ensures.ends c.push-2.ensures.breaks)
+    c.push-2.ensures.pushes

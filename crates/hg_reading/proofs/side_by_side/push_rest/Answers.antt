@@ -1,6 +1,6 @@
 use Rattle.std.proofs.Common.{◌≡◌, None, Some, Ok, Err, sym, ap, subst, arith}
 use Rattle.hg_reading.specs.Taking.{Pushes}
-use Rattle.hg_reading.proofs.Pushing.{pushes_by, pushes_front, pushes_pass, room_second, stops_front}
+use Rattle.hg_reading.proofs.Pushing.{pushes_front, pushes_pass, room_second, stops_front}
 use Rattle.hg_reading.proofs.side_by_side.push_rest.Goals as goal
 
 pub returns-in_err-end-clause-pushes : goal.returns-in_err-end-clause-pushes
@@ -32,5 +32,4 @@ returns-clause-pushes g c =
     c.offer_lines.new.output.calls (ap Ok none) c.in_ok-end.ensures in
     pushes_front g.S.Sink.takes g.met.S.Sink.on c.args.reader.now c.offer_lines.new.reader c.push.new.reader c.args.sink.now c.offer_lines.new.sink c.push.new.sink
     c.args.output.now.calls c.offer_lines.new.output.calls c.push.new.output.calls c.args.piece.now c.split_at.result.0.now c.split_at.result.1.now c.push.result c.split_at.ensures.by_index.0 passed
-    (pushes_by g.S.Sink.takes c.offer_lines.new.reader c.offer_lines.new.sink c.offer_lines.new.output.calls c.split_at.result.1.now c.push.result c.push.new.reader c.push.new.sink c.push.new.output.calls
-    c.push.ensures.passes c.push.ensures.ends c.push.ensures.breaks)
+    c.push.ensures.pushes

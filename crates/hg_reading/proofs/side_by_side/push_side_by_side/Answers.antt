@@ -1,6 +1,6 @@
 use Rattle.std.proofs.Common.{◌≡◌, None, Some, Ok, Err, sym, ap, subst, arith}
 use Rattle.hg_reading.specs.Taking.{Pushes}
-use Rattle.hg_reading.proofs.Pushing.{pushes_front, room_second, stops_front}
+use Rattle.hg_reading.proofs.Pushing.{pushes_front, pushes_pass, room_second, stops_front}
 use Rattle.hg_reading.proofs.side_by_side.push_side_by_side.Goals as goal
 
 pub returns-in_err-end-clause-pushes : goal.returns-in_err-end-clause-pushes
@@ -9,22 +9,24 @@ returns-in_err-end-clause-pushes g c =
     let r = c.in_err-end.field-0.0 in
     subst (λ x. Pushes g.S.Sink.takes c.args.reader.now c.args.sink.now c.args.output.now.calls c.args.piece.now x c.push-2.new.reader c.push-2.new.sink c.push-2.new.output.calls) (sym same)
     (stops_front g.S.Sink.takes c.args.reader.now c.args.sink.now c.push-2.new.sink c.args.output.now.calls c.push-2.new.output.calls c.args.piece.now c.split_at.result.0.now c.split_at.result.1.now
-    (Err r) c.split_at.ensures.by_index.0 (c.in_err-end.ensures.breaks r (cc)))
+    (Err r) c.split_at.ensures.by_index.0 c.in_err-end.ensures.pushes)
 
 pub returns-in-Some-clause-pushes : goal.returns-in-Some-clause-pushes
 returns-in-Some-clause-pushes g c =
     stops_front g.S.Sink.takes c.args.reader.now c.args.sink.now c.push-2.new.sink c.args.output.now.calls c.push-2.new.output.calls c.args.piece.now c.split_at.result.0.now c.split_at.result.1.now
-    (Ok (Some c.in-Some.end)) c.split_at.ensures.by_index.0 (c.in_ok-end.ensures.ends c.in-Some.end (ap Ok c.in-Some.is))
+    (Ok (Some c.in-Some.end)) c.split_at.ensures.by_index.0 (subst (λ x. Pushes g.S.Sink.takes c.args.reader.now c.args.sink.now c.args.output.now.calls c.split_at.result.0.now (Ok x) c.push-2.new.reader c.push-2.new.sink c.push-2.new.output.calls) c.in-Some.is c.in_ok-end.ensures.pushes)
 
 pub push_rest-requires-clause-room : goal.push_rest-requires-clause-room
 push_rest-requires-clause-room g c =
     let none : c.in_ok-end.field-0 ≡ None = grind arith in
+    let passed = pushes_pass g.S.Sink.takes c.args.reader.now c.args.sink.now c.args.output.now.calls c.split_at.result.0.now (Ok c.in_ok-end.field-0) c.push-2.new.reader c.push-2.new.sink c.push-2.new.output.calls (ap Ok none) c.in_ok-end.ensures.pushes in
     room_second g.S.Sink.takes g.S.Sink.may_take g.met.S.Sink.room g.met.S.Sink.fewer c.args.reader.now c.push-2.new.reader c.args.sink.now c.push-2.new.sink
-    c.args.output.now.calls c.push-2.new.output.calls c.args.piece.now c.split_at.result.0.now c.split_at.result.1.now c.split_at.ensures.by_index.0 (c.in_ok-end.ensures.passes (ap Ok none)) c.requires.room
+    c.args.output.now.calls c.push-2.new.output.calls c.args.piece.now c.split_at.result.0.now c.split_at.result.1.now c.split_at.ensures.by_index.0 passed c.requires.room
 
 pub returns-clause-pushes : goal.returns-clause-pushes
 returns-clause-pushes g c =
     let none : c.in_ok-end.field-0 ≡ None = grind arith in
+    let passed = pushes_pass g.S.Sink.takes c.args.reader.now c.args.sink.now c.args.output.now.calls c.split_at.result.0.now (Ok c.in_ok-end.field-0) c.push-2.new.reader c.push-2.new.sink c.push-2.new.output.calls (ap Ok none) c.in_ok-end.ensures.pushes in
     pushes_front g.S.Sink.takes g.met.S.Sink.on c.args.reader.now c.push-2.new.reader c.push_rest.new.reader c.args.sink.now c.push-2.new.sink c.push_rest.new.sink
     c.args.output.now.calls c.push-2.new.output.calls c.push_rest.new.output.calls c.args.piece.now c.split_at.result.0.now c.split_at.result.1.now c.push_rest.result c.split_at.ensures.by_index.0
-    (c.in_ok-end.ensures.passes (ap Ok none)) c.push_rest.ensures.pushes
+    passed c.push_rest.ensures.pushes

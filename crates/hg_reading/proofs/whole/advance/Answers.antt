@@ -2,6 +2,8 @@ use Rattle.std.proofs.Common.{◌≡◌, ℕ, ◌+◌, ◌-◌, ◌<◌, ◌≤�
 use Rattle.std.proofs.lemmas.List.{length-take}
 use Rattle.hg_streams.specs.Calls.{failed_reads, got_call}
 use Rattle.hg_streams.specs.Told.{told_refusal}
+use Rattle.hg_reading.specs.Taking.{Pushes}
+use Rattle.hg_reading.proofs.Pushing.{pushes_pass}
 use Rattle.hg_reading.proofs.Runs.{advances_by_none, advances_by_piece, passes_printed, read_failed, read_stop, stops_printing}
 use Rattle.hg_reading.proofs.whole.advance.Goals as goal
 
@@ -37,7 +39,7 @@ returns-in_err-push-clause-breaks g c r is first start at_start h =
     let same : c.in_err-push.field-0.0 ≡ r = grind arith in
     inl (read_stop g.S.Sink.takes g.met.S.Sink.on first c.args.input.now.calls c.read.new.self.calls start at_start c.args.reader.now c.args.sink.now c.push.new.sink c.args.output.now.calls c.push.new.output.calls
     (take c.in-Some.count c.read.new.buffer) (Err r) (c.in_ok-count.ensures.calls ∙ ap (λ x. got_call x c.read.new.buffer ∷ c.args.input.now.calls) c.in-Some.is) (λ e. absurd (cc))
-    (c.in_err-push.ensures.breaks r (ap Err same)) h)
+    (subst (λ x. Pushes g.S.Sink.takes c.args.reader.now c.args.sink.now c.args.output.now.calls (take c.in-Some.count c.read.new.buffer) (Err x) c.push.new.reader c.push.new.sink c.push.new.output.calls) same c.in_err-push.ensures.pushes) h)
 
 pub returns-in_err-print-in-None-clause-breaks : goal.returns-in_err-print-in-None-clause-breaks
 returns-in_err-print-in-None-clause-breaks g c r is first start at_start h =
@@ -45,7 +47,7 @@ returns-in_err-print-in-None-clause-breaks g c r is first start at_start h =
     inl (read_stop g.S.Sink.takes g.met.S.Sink.on first c.args.input.now.calls c.read.new.self.calls start at_start c.args.reader.now c.args.sink.now c.print.new.self c.args.output.now.calls c.print.new.output.calls
     (take c.in-Some.count c.read.new.buffer) (Err r) (c.in_ok-count.ensures.calls ∙ ap (λ x. got_call x c.read.new.buffer ∷ c.args.input.now.calls) c.in-Some.is) (λ e. absurd (cc))
     (stops_printing g.S.Sink.takes g.met.S.Sink.on c.args.reader.now c.push.new.reader c.args.sink.now c.push.new.sink c.print.new.self c.args.output.now.calls c.push.new.output.calls c.print.new.output.calls
-    (take c.in-Some.count c.read.new.buffer) (Err r) (c.in_ok-push.ensures.passes (ap Ok c.in-None.is))
+    (take c.in-Some.count c.read.new.buffer) (Err r) (pushes_pass g.S.Sink.takes c.args.reader.now c.args.sink.now c.args.output.now.calls (take c.in-Some.count c.read.new.buffer) (Ok c.in_ok-push.field-0) c.push.new.reader c.push.new.sink c.push.new.output.calls (ap Ok c.in-None.is) c.in_ok-push.ensures.pushes)
     (subst (λ x. g.S.Sink.takes c.push.new.sink c.push.new.output.calls [] (Err x) c.print.new.self c.print.new.output.calls) same c.in_err-print-in-None.ensures.takes))
     h)
 
@@ -58,7 +60,7 @@ returns-in_ok-print-in-None-clause-underway g c is =
     (taken_some c.in-Some.count c.read.new.buffer within c.if-count-eq0.false)
     (taken_within c.in-Some.count c.read.new.buffer (length c.args.buffer.now) within (grind arith))
     (passes_printed g.S.Sink.takes g.met.S.Sink.on c.args.reader.now c.push.new.reader c.args.sink.now c.push.new.sink c.print.new.self c.args.output.now.calls c.push.new.output.calls c.print.new.output.calls
-    (take c.in-Some.count c.read.new.buffer) [] (c.in_ok-push.ensures.passes (ap Ok c.in-None.is)) c.in_ok-print-in-None.ensures.takes)
+    (take c.in-Some.count c.read.new.buffer) [] (pushes_pass g.S.Sink.takes c.args.reader.now c.args.sink.now c.args.output.now.calls (take c.in-Some.count c.read.new.buffer) (Ok c.in_ok-push.field-0) c.push.new.reader c.push.new.sink c.push.new.output.calls (ap Ok c.in-None.is) c.in_ok-push.ensures.pushes) c.in_ok-print-in-None.ensures.takes)
     (c.in_ok-push.ensures.none_left (ap Ok c.in-None.is))
 
 pub returns-in-Some-2-clause-stops : goal.returns-in-Some-2-clause-stops
@@ -66,4 +68,4 @@ returns-in-Some-2-clause-stops g c end is first start at_start h =
     let same : c.in_ok-push.field-0 ≡ Some end = grind arith in
     read_stop g.S.Sink.takes g.met.S.Sink.on first c.args.input.now.calls c.read.new.self.calls start at_start c.args.reader.now c.args.sink.now c.push.new.sink c.args.output.now.calls c.push.new.output.calls
     (take c.in-Some.count c.read.new.buffer) (Ok (Some end)) (c.in_ok-count.ensures.calls ∙ ap (λ x. got_call x c.read.new.buffer ∷ c.args.input.now.calls) c.in-Some.is) (λ e. absurd (cc))
-    (c.in_ok-push.ensures.ends end (ap Ok same)) h
+    (subst (λ x. Pushes g.S.Sink.takes c.args.reader.now c.args.sink.now c.args.output.now.calls (take c.in-Some.count c.read.new.buffer) (Ok x) c.push.new.reader c.push.new.sink c.push.new.output.calls) same c.in_ok-push.ensures.pushes) h
