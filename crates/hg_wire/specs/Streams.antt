@@ -1,7 +1,7 @@
 -- For proofs alone: how far a reader has come in a stream, and what each call of it takes.
 use Rattle.std.specs.Prelude.{◌≡◌, ◌⊎◌, ℕ, ◌+◌, ◌<◌, ◌≤◌, Bool, true, false, nat_lt, List, [], ◌∷◌, ◌++◌, length, take, drop, map, Some, None, if◌then◌else◌}
 use Rattle.std.specs.List.{enumerate_from}
-use Rattle.memchr.specs.Find.{IsFirstByte, IsLastByte, is_byte}
+use Rattle.memchr.specs.Find.{IsLastByte, is_byte}
 use Rattle.hg_wire.specs.declared.reader.Reading.{Reading}
 use Rattle.hg_wire.specs.declared.reader.Taken.{Taken}
 use Rattle.hg_wire.specs.declared.reader.Taken.TheVariants.{Line, More}
@@ -87,10 +87,6 @@ pub record GivesNoReading (old new : Pending) (piece : List ℕ) : Type 0 where
 abbrev pub Takes : Pending → Pending → List ℕ → Taken → Type 0
 Takes old new piece (Line reading used) = GivesReading old new piece reading used
 Takes old new piece More = GivesNoReading old new piece
-
--- So many bytes end with the first line feed of a text, or are all of it where it has none.
-abbrev pub EndFirstLine : List ℕ → ℕ → Type 0
-EndFirstLine text end = (IsFirstByte (is_byte 10) text None × (end ≡ length text)) ⊎ ((at : ℕ) × IsFirstByte (is_byte 10) text (Some at) × (end ≡ at + 1))
 
 -- So many bytes end with the last line feed of a text, or are none where it has none.
 abbrev pub EndLastLine : List ℕ → ℕ → Type 0

@@ -1,20 +1,9 @@
 //! Where lines of a text end.
 
 ghost use Rattle.std.specs.Prelude.{◌≤◌, length};
-ghost use Rattle.hg_wire.specs.Streams.{EndFirstLine, EndLastLine};
+ghost use Rattle.hg_wire.specs.Streams.{EndLastLine};
 
-use memchr::{memchr, memrchr};
-
-/// How many bytes there are up to and with the first line feed: all where there is none.
-pub fn first_line_end(text: &[u8]) -> usize
-    ensures line { EndFirstLine text.now result }
-    ensures within { result ≤ length text.now }
-{
-    match memchr(b'\n', text) {
-        Some(at) => at + 1,
-        None => text.len(),
-    }
-}
+use memchr::memrchr;
 
 /// How many bytes there are up to and with the last line feed: none where there is none.
 pub fn last_line_end(text: &[u8]) -> usize
