@@ -39,7 +39,7 @@ pub record Backs (s : View) (d : Content) : Type 0 where
   pub stands : (image : Image) → IsLeft s.devices image → Stands d s.live s.in_doubt image
 
 -- One fact on each kind of device: they have this basis, for the durable content d.
-pub record Keeps (basis : Basis) (s : View) (d : Content) : Type 0 where
+pub record KeepsContent (basis : Basis) (s : View) (d : Content) : Type 0 where
   pub gives : GivesDurable basis d
   pub live : followed d s.pending ≡ Some s.live
   pub count : s.durable ≡ d.events
@@ -49,4 +49,4 @@ pub record Keeps (basis : Basis) (s : View) (d : Content) : Type 0 where
 
 -- The facts say what each joint image has.
 abbrev pub FactsBack : Type 0
-FactsBack = (basis : Basis) (s : View) (d : Content) → Keeps basis s d → Backs s d
+FactsBack = (basis : Basis) (s : View) (d : Content) → KeepsContent basis s d → Backs s d

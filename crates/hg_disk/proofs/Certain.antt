@@ -5,7 +5,7 @@ use Rattle.std.proofs.lemmas.List.{get_or-take, length-take-le, take_all}
 use Rattle.hg_disk.specs.State.{Change, DiskState, IsImage, after_write, is_written, least, overwritten}
 use Rattle.hg_disk.specs.State.Change.{CutTo, Written}
 use Rattle.hg_disk.specs.Kept.{length-overwritten, overwritten_before, overwritten_behind}
-use Rattle.hg_disk.specs.Laws.{Holds, Keeps}
+use Rattle.hg_disk.specs.Laws.{Holds, KeepsBytes}
 use Rattle.hg_disk.specs.Moments.{Leaves}
 use Rattle.hg_disk.proofs.Keeping.{held_byte, held_end, holds_written, keeps_image, keeps_write_before, keeps_write_behind}
 
@@ -60,7 +60,7 @@ module _ (s : DiskState) (at : ℕ) (bytes : List ℕ) (each : Leaves (λ image.
       let there : get_or image (at + i) 0 ≡ other = ap (λ (n : ℕ). get_or image n 0) same ∙ held_byte image (at + i) (other ∷ []) 0 (holds_written s.synced (at + i) (other ∷ [])) (omega arith) in
       absurd (omega (arith, here, there))
 
-  pub kept_by_images : IsImage s s.contents → Keeps s at bytes
+  pub kept_by_images : IsImage s s.contents → KeepsBytes s at bytes
   kept_by_images now =
       let n = least s.since (length s.synced) in
       record {

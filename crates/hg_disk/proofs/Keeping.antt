@@ -3,7 +3,7 @@ use Rattle.std.proofs.Common.{◌≡◌, ◌<◌, ◌≤◌, ◌+◌, ◌-◌, �
 use Rattle.std.proofs.lemmas.Bool.Decides.{nat_tests}
 use Rattle.std.proofs.lemmas.List.{places, get_or-drop, get_or-take, get_or-append-add, get_or_append_left, length-take-le, length-take, drop_at, take_at, append_assoc}
 use Rattle.hg_disk.specs.State.{DiskState, IsImage, overwritten, is_written, settled, after_write, after_cut}
-use Rattle.hg_disk.specs.Laws.{Holds, Keeps}
+use Rattle.hg_disk.specs.Laws.{Holds, KeepsBytes}
 use Rattle.hg_disk.specs.Kept.{length-overwritten, overwritten_before, overwritten_behind}
 use Rattle.hg_disk.proofs.Images.{begins_as}
 
@@ -16,7 +16,7 @@ held_at before bytes after at i place lt =
     ap (λ (n : ℕ). get_or (before ++ (bytes ++ after)) (n + i) 0) (sym place) ∙ get_or-append-add before (bytes ++ after) i 0 ∙ get_or_append_left bytes after 0 i lt
 
 -- a sync keeps what a read gives
-pub keeps_settled : (file : List ℕ) (at : ℕ) (bytes : List ℕ) → Holds file at bytes → Keeps (settled file) at bytes
+pub keeps_settled : (file : List ℕ) (at : ℕ) (bytes : List ℕ) → Holds file at bytes → KeepsBytes (settled file) at bytes
 keeps_settled file at bytes has = record {
   long = omega (arith, size);
   held = omega (arith, size);
@@ -37,7 +37,7 @@ still_held : (at : ℕ) (bytes : List ℕ) (s : DiskState) (n : ℕ) → n ≤ l
 still_held at bytes s n le = omega (arith, le, length-overwritten s.contents at bytes)
 
 -- a write behind them
-pub keeps_write_behind : (at : ℕ) (written : List ℕ) (s : DiskState) (place : ℕ) (bytes : List ℕ) → place + length bytes ≤ at → Keeps s place bytes → Keeps (after_write at written s) place bytes
+pub keeps_write_behind : (at : ℕ) (written : List ℕ) (s : DiskState) (place : ℕ) (bytes : List ℕ) → place + length bytes ≤ at → KeepsBytes s place bytes → KeepsBytes (after_write at written s) place bytes
 keeps_write_behind at written s place bytes le was = record {
   long = was.long;
   held = still_held at written s (place + length bytes) was.held;
@@ -46,7 +46,7 @@ keeps_write_behind at written s place bytes le was = record {
 }
 
 -- a write before them
-pub keeps_write_before : (at : ℕ) (written : List ℕ) (s : DiskState) (place : ℕ) (bytes : List ℕ) → at + length written ≤ place → Keeps s place bytes → Keeps (after_write at written s) place bytes
+pub keeps_write_before : (at : ℕ) (written : List ℕ) (s : DiskState) (place : ℕ) (bytes : List ℕ) → at + length written ≤ place → KeepsBytes s place bytes → KeepsBytes (after_write at written s) place bytes
 keeps_write_before at written s place bytes le was = record {
   long = was.long;
   held = still_held at written s (place + length bytes) was.held;
@@ -58,7 +58,7 @@ cut_held : (to : ℕ) (s : DiskState) (n : ℕ) → n ≤ to → n ≤ length s.
 cut_held to s n le held = omega (arith, le, held, length-take to s.contents)
 
 -- a cut behind them
-pub keeps_cut : (to : ℕ) (s : DiskState) (place : ℕ) (bytes : List ℕ) → place + length bytes ≤ to → Keeps s place bytes → Keeps (after_cut to s) place bytes
+pub keeps_cut : (to : ℕ) (s : DiskState) (place : ℕ) (bytes : List ℕ) → place + length bytes ≤ to → KeepsBytes s place bytes → KeepsBytes (after_cut to s) place bytes
 keeps_cut to s place bytes le was = record {
   long = omega (arith, le, was.long);
   held = cut_held to s (place + length bytes) le was.held;
@@ -78,7 +78,7 @@ holds_as file at bytes long same =
     }
 
 -- so each image has them there
-pub keeps_image : (s : DiskState) (at : ℕ) (bytes image : List ℕ) → Keeps s at bytes → IsImage s image → Holds image at bytes
+pub keeps_image : (s : DiskState) (at : ℕ) (bytes image : List ℕ) → KeepsBytes s at bytes → IsImage s image → Holds image at bytes
 keeps_image s at bytes image was is =
     holds_as image at bytes (omega (arith, was.long, is.long)) (λ i lt. is.kept (at + i) (omega (arith, lt, was.long)) (was.untouched i lt) ∙ was.same i lt)
 

@@ -22,7 +22,7 @@ pub record Holds (file : List ℕ) (at : ℕ) (bytes : List ℕ) : Type 0 where
   pub whole : file ≡ before ++ (bytes ++ after)
 
 -- These bytes are on the disk at this place, and nothing was written there since.
-pub record Keeps (s : DiskState) (at : ℕ) (bytes : List ℕ) : Type 0 where
+pub record KeepsBytes (s : DiskState) (at : ℕ) (bytes : List ℕ) : Type 0 where
   pub long : at + length bytes ≤ least s.since (length s.synced)
   pub held : at + length bytes ≤ length s.contents
   pub untouched : (i : ℕ) → i < length bytes → is_written s.since (at + i) ≡ false
@@ -41,15 +41,15 @@ WritesOverLeave front old behind P =
 
 -- What a call leaves alone, that makes such a state of each: what is on the disk before the place,
 abbrev pub KeepsBefore : (end : ℕ) → (DiskState → DiskState) → Type 0
-KeepsBefore end after = (s : DiskState) (place : ℕ) (bytes : List ℕ) → place + length bytes ≤ end → Keeps s place bytes → Keeps (after s) place bytes
+KeepsBefore end after = (s : DiskState) (place : ℕ) (bytes : List ℕ) → place + length bytes ≤ end → KeepsBytes s place bytes → KeepsBytes (after s) place bytes
 
 -- and what is on the disk from the place on.
 abbrev pub KeepsFrom : (from : ℕ) → (DiskState → DiskState) → Type 0
-KeepsFrom from after = (s : DiskState) (place : ℕ) (bytes : List ℕ) → from ≤ place → Keeps s place bytes → Keeps (after s) place bytes
+KeepsFrom from after = (s : DiskState) (place : ℕ) (bytes : List ℕ) → from ≤ place → KeepsBytes s place bytes → KeepsBytes (after s) place bytes
 
 -- The image has the bytes, if they are on the disk there.
 abbrev pub ShowsKept : DiskState → (at : ℕ) → (bytes image : List ℕ) → Type 0
-ShowsKept s at bytes image = Keeps s at bytes → IsImage s image → Holds image at bytes
+ShowsKept s at bytes image = KeepsBytes s at bytes → IsImage s image → Holds image at bytes
 
 -- What a read gives is one of the images.
 abbrev pub HasItsBytes : DiskState → Type 0

@@ -1,7 +1,7 @@
 //! Laws of what a crash may leave, over the definitions alone.
 ghost use Rattle.std.specs.Prelude.{◌≡◌, ◌+◌, Bool, List, ℕ, length, take};
 ghost use Rattle.hg_disk.specs.State.{DiskState, IsImage, SameImages, settled, overwritten, after_write, after_cut, after_sync};
-ghost use Rattle.hg_disk.specs.Laws.{Begins, EachPasses, HasItsBytes, Holds, HoldsBefore, ImagesKeepBefore, ImagesKeepFrom, ImagesStayLong, PassesAsEachDoes, IsReadAt, Keeps, KeepsBefore, KeepsFrom, LastIsAmong, LastPasses, LeavesThere, LosesNoImage, Passes, RunsJoin, ShowsKept, StaysBeforeWrite, StaysBehindWrite, Torn, WritesBehindLeave, WritesOverLeave};
+ghost use Rattle.hg_disk.specs.Laws.{Begins, EachPasses, HasItsBytes, Holds, HoldsBefore, ImagesKeepBefore, ImagesKeepFrom, ImagesStayLong, PassesAsEachDoes, IsReadAt, KeepsBytes, KeepsBefore, KeepsFrom, LastIsAmong, LastPasses, LeavesThere, LosesNoImage, Passes, RunsJoin, ShowsKept, StaysBeforeWrite, StaysBehindWrite, Torn, WritesBehindLeave, WritesOverLeave};
 ghost use Rattle.hg_disk.specs.Moments.{Leaves, MayLeave};
 
 use crate::Disk;
@@ -24,7 +24,7 @@ pub fn middle_is_torn()
 
 /// What is on the disk stays through writes and cuts elsewhere, so each image has it.
 pub fn places_stay()
-    ensures synced { (file : List ℕ) (at : ℕ) (bytes : List ℕ) → Holds file at bytes → Keeps (settled file) at bytes }
+    ensures synced { (file : List ℕ) (at : ℕ) (bytes : List ℕ) → Holds file at bytes → KeepsBytes (settled file) at bytes }
     ensures write_behind { (at : ℕ) (written : List ℕ) → KeepsBefore at (after_write at written) }
     ensures write_before { (at : ℕ) (written : List ℕ) → KeepsFrom (at + length written) (after_write at written) }
     ensures cut { (to : ℕ) → KeepsBefore to (after_cut to) }
@@ -33,7 +33,7 @@ pub fn places_stay()
 
 /// What each image has is on the disk.
 pub fn kept_by_images()
-    ensures { (s : DiskState) (at : ℕ) (bytes : List ℕ) → HasItsBytes s → LeavesThere at bytes s → Keeps s at bytes }
+    ensures { (s : DiskState) (at : ℕ) (bytes : List ℕ) → HasItsBytes s → LeavesThere at bytes s → KeepsBytes s at bytes }
 {}
 
 /// What each image has at a place, each image of a write elsewhere has there, also of one that leaves a gap; and none gets

@@ -6,15 +6,15 @@ use Rattle.hg_frames.specs.declared.message.FrameFault.{FrameFault}
 use Rattle.hg_frames.specs.Framing.{HasFault, IsUnfinished, frame_text}
 
 -- How far a stream has come: the bytes of a frame that is not whole yet, and whether a fault was seen.
-pub record Pending : Type 0 where
+pub record FramesRead : Type 0 where
   pub left : List ℕ
   pub has_failed : Bool
 
-abbrev pub at_start : Pending
+abbrev pub at_start : FramesRead
 at_start = record { left = []; has_failed = false }
 
 -- how far it has come behind some frames and the rest
-abbrev pub IsBehind : Option FrameFault → List ℕ → Pending → Type 0
+abbrev pub IsBehind : Option FrameFault → List ℕ → FramesRead → Type 0
 IsBehind None rest new = new ≡ record { left = rest; has_failed = false }
 IsBehind (Some fault) rest new = new.has_failed ≡ true
 
@@ -35,7 +35,7 @@ module _ {M : Type 0} (g : message.Ghosts M) where
   ReadsFrames bytes old new used fault = (used ≤ length bytes) × ((more : List M) × (new ≡ old ++ more) × IsRead bytes more fault (drop used bytes))
 
   -- A piece of a stream gives these messages and this fault.
-  pub record Gives (old new : Pending) (piece : List ℕ) (messages : List M) (fault : Option FrameFault) : Type 0 where
+  pub record Gives (old new : FramesRead) (piece : List ℕ) (messages : List M) (fault : Option FrameFault) : Type 0 where
     pub works : old.has_failed ≡ false
     pub rest : List ℕ
     pub read : IsRead (old.left ++ piece) messages fault rest

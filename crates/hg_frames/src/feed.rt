@@ -1,7 +1,7 @@
 //! The messages of a stream that comes in pieces.
 
 ghost use Rattle.std.specs.Prelude.{◌≡◌, ◌≤◌, ◌++◌, ◌↔◌, List, length, drop, IfOk, IfErr, OnErr, IsTrue};
-ghost use Rattle.hg_frames.specs.Streams.{Gives, Pending, ReadsFrames, at_start};
+ghost use Rattle.hg_frames.specs.Streams.{FramesRead, Gives, ReadsFrames, at_start};
 
 use crate::front::{Front, read_front};
 use crate::message::{FrameFault, Message};
@@ -33,9 +33,9 @@ pub struct Feed<M> {
 }
 
 impl<M> Model for Feed<M> {
-    ghost use Rattle.hg_frames.specs.Streams.{Pending};
+    ghost use Rattle.hg_frames.specs.Streams.{FramesRead};
 
-    ghost Value = { Pending };
+    ghost Value = { FramesRead };
 
     ghost view = { λ f. record { left = f.left.items; has_failed = f.has_failed } };
 }

@@ -5,7 +5,7 @@ use Rattle.std.proofs.lemmas.List.{nil_from_length, take_at}
 use Rattle.std.specs.Int.{w64, to_be_bytes}
 use Rattle.hg_disk.specs.declared.disk.Disk as disk
 use Rattle.hg_disk.specs.State.{DiskState, IsImage, SameImages, settled, overwritten, after_write, after_cut, after_sync}
-use Rattle.hg_disk.specs.Laws.{Keeps}
+use Rattle.hg_disk.specs.Laws.{KeepsBytes}
 use Rattle.hg_disk.specs.Moments.{LeavesOnly}
 use Rattle.hg_disk.proofs.Moments.{weaker, write_leaves, cut_leaves, sync_leaves}
 use Rattle.hg_disk.proofs.Images.{torn_middle, overwritten_at}
@@ -34,36 +34,36 @@ pub shut_or_open : (s : DiskState) (gate byte : ℕ) (body rest image : List ℕ
 shut_or_open s gate byte body rest image was is = closed_or_open body rest image (behind_gate s gate byte (framed body ++ rest) image was is)
 
 -- the gate is on the disk
-pub gate_kept : (s : DiskState) (gate : ℕ) (rest : List ℕ) → s ≡ settled (gate ∷ rest) → Keeps s 0 (gate ∷ [])
-gate_kept s gate rest was = subst (λ (t : DiskState). Keeps t 0 (gate ∷ [])) (sym was) (keeps_settled (gate ∷ rest) 0 (gate ∷ []) (record { before = []; after = rest; place = refl; whole = refl }))
+pub gate_kept : (s : DiskState) (gate : ℕ) (rest : List ℕ) → s ≡ settled (gate ∷ rest) → KeepsBytes s 0 (gate ∷ [])
+gate_kept s gate rest was = subst (λ (t : DiskState). KeepsBytes t 0 (gate ∷ [])) (sym was) (keeps_settled (gate ∷ rest) 0 (gate ∷ []) (record { before = []; after = rest; place = refl; whole = refl }))
 
 -- and stays there
-pub written_kept : (s new : DiskState) (gate at : ℕ) (bytes : List ℕ) → 1 ≤ at → Keeps s 0 (gate ∷ []) → new ≡ after_write at bytes s → Keeps new 0 (gate ∷ [])
-written_kept s new gate at bytes behind was is = subst (λ (t : DiskState). Keeps t 0 (gate ∷ [])) (sym is) (keeps_write_behind at bytes s 0 (gate ∷ []) (omega (arith, behind)) was)
+pub written_kept : (s new : DiskState) (gate at : ℕ) (bytes : List ℕ) → 1 ≤ at → KeepsBytes s 0 (gate ∷ []) → new ≡ after_write at bytes s → KeepsBytes new 0 (gate ∷ [])
+written_kept s new gate at bytes behind was is = subst (λ (t : DiskState). KeepsBytes t 0 (gate ∷ [])) (sym is) (keeps_write_behind at bytes s 0 (gate ∷ []) (omega (arith, behind)) was)
 
-pub cut_kept : (s new : DiskState) (gate to : ℕ) → 1 ≤ to → Keeps s 0 (gate ∷ []) → new ≡ after_cut to s → Keeps new 0 (gate ∷ [])
-cut_kept s new gate to le was is = subst (λ (t : DiskState). Keeps t 0 (gate ∷ [])) (sym is) (keeps_cut to s 0 (gate ∷ []) (omega (arith, le)) was)
+pub cut_kept : (s new : DiskState) (gate to : ℕ) → 1 ≤ to → KeepsBytes s 0 (gate ∷ []) → new ≡ after_cut to s → KeepsBytes new 0 (gate ∷ [])
+cut_kept s new gate to le was is = subst (λ (t : DiskState). KeepsBytes t 0 (gate ∷ [])) (sym is) (keeps_cut to s 0 (gate ∷ []) (omega (arith, le)) was)
 
-shut : (s : DiskState) (gate : ℕ) (image : List ℕ) → gate ≢ open_gate → Keeps s 0 (gate ∷ []) → IsImage s image → IsClosed image
+shut : (s : DiskState) (gate : ℕ) (image : List ℕ) → gate ≢ open_gate → KeepsBytes s 0 (gate ∷ []) → IsImage s image → IsClosed image
 shut s gate image closed kept is =
     let found = keeps_image s 0 (gate ∷ []) image kept is in
     record { gate = gate; rest = found.after; spelling = found.whole ∙ ap (λ (l : List ℕ). l ++ (gate ∷ found.after)) (nil_from_length found.before found.place); closed = closed }
 
 module _ {D : Type 0} (g : disk.Ghosts D) (gate : ℕ) (closed : gate ≢ open_gate) where
   -- each image of a call that leaves the closed gate is closed
-  pub write_shut : {T E : Type 0} (old new : D) (at : ℕ) (bytes : List ℕ) (result : Result T E) → 1 ≤ at → Keeps (g.state old) 0 (gate ∷ []) → OnOk result (g.state new ≡ after_write at bytes (g.state old))
+  pub write_shut : {T E : Type 0} (old new : D) (at : ℕ) (bytes : List ℕ) (result : Result T E) → 1 ≤ at → KeepsBytes (g.state old) 0 (gate ∷ []) → OnOk result (g.state new ≡ after_write at bytes (g.state old))
       → OnErr result (SameImages (after_write at bytes (g.state old)) (g.state new)) → g.past new ≡ (g.state old ∷ g.past old) → LeavesOnly g old new IsClosed
   write_shut old new at bytes result behind kept ok err clock =
       weaker g old new (IsImage (after_write at bytes (g.state old))) IsClosed (write_leaves g old new at bytes result ok err clock) (λ image is.
       shut (after_write at bytes (g.state old)) gate image closed (written_kept (g.state old) (after_write at bytes (g.state old)) gate at bytes behind kept refl) is)
 
-  pub cut_shut : {T E : Type 0} (old new : D) (to : ℕ) (result : Result T E) → 1 ≤ to → Keeps (g.state old) 0 (gate ∷ []) → OnOk result (g.state new ≡ after_cut to (g.state old))
+  pub cut_shut : {T E : Type 0} (old new : D) (to : ℕ) (result : Result T E) → 1 ≤ to → KeepsBytes (g.state old) 0 (gate ∷ []) → OnOk result (g.state new ≡ after_cut to (g.state old))
       → OnErr result (SameImages (after_cut to (g.state old)) (g.state new)) → g.past new ≡ (g.state old ∷ g.past old) → LeavesOnly g old new IsClosed
   cut_shut old new to result behind kept ok err clock =
       weaker g old new (IsImage (after_cut to (g.state old))) IsClosed (cut_leaves g old new to result ok err clock) (λ image is.
       shut (after_cut to (g.state old)) gate image closed (cut_kept (g.state old) (after_cut to (g.state old)) gate to behind kept refl) is)
 
-  pub sync_shut : {T E : Type 0} (old new : D) (result : Result T E) → ((d : D) → IsImage (g.state d) (g.state d).contents) → Keeps (g.state old) 0 (gate ∷ []) → OnOk result (g.state new ≡ after_sync (g.state old))
+  pub sync_shut : {T E : Type 0} (old new : D) (result : Result T E) → ((d : D) → IsImage (g.state d) (g.state d).contents) → KeepsBytes (g.state old) 0 (gate ∷ []) → OnOk result (g.state new ≡ after_sync (g.state old))
       → OnErr result (SameImages (g.state old) (g.state new)) → g.past new ≡ (g.state old ∷ g.past old) → LeavesOnly g old new IsClosed
   sync_shut old new result has_its_bytes kept ok err clock =
       weaker g old new (IsImage (g.state old)) IsClosed (sync_leaves g old new result has_its_bytes ok err clock) (λ image is. shut (g.state old) gate image closed kept is)

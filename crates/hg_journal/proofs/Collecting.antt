@@ -8,7 +8,7 @@ use Rattle.hg_model.specs.declared.event.Named.{Named}
 use Rattle.hg_disk.specs.declared.disk.Disk as disk
 use Rattle.hg_journal.specs.declared.journal.Journal.{Journal}
 use Rattle.hg_journal.specs.declared.journal.JournalReader.{JournalReader}
-use Rattle.hg_journal.specs.Reading.{IsAt, Keeps, disk_of}
+use Rattle.hg_journal.specs.Reading.{IsAt, KeepsEvents, disk_of}
 use Rattle.hg_journal.proofs.Journals.{one_reading}
 use Rattle.hg_journal.proofs.Journaling.{bytes_now, more}
 
@@ -67,9 +67,9 @@ found_enough events seen left found from max whole has size = by_place (cases_lt
       sym (take_front found left max (sym size)) ∙ ap (λ (l : List Named). take max (l ++ left)) has
       ∙ ap (λ (l : List Named). take max l) (sym (drop_early (from - 1) seen left late) ∙ ap (λ (l : List Named). drop (from - 1) l) (sym whole))
 
-module _ {D : Type 0} (g : disk.Ghosts D) (j : Journal D g) (events : List Named) (keeps : Keeps j events) (count from max : ℕ) (size : length events ≡ count) where
+module _ {D : Type 0} (g : disk.Ghosts D) (j : Journal D g) (events : List Named) (keeps : KeepsEvents j events) (count from max : ℕ) (size : length events ≡ count) where
   -- at the journal's end
-  pub at_last : (new : Journal D g) (seen found : List Named) → Keeps new seen → Keeps new events → found ≡ drop (from - 1) seen → length found ≤ max → found ≡ take max (drop (from - 1) events)
+  pub at_last : (new : Journal D g) (seen found : List Named) → KeepsEvents new seen → KeepsEvents new events → found ≡ drop (from - 1) seen → length found ≤ max → found ≡ take max (drop (from - 1) events)
   at_last new seen found has same is few =
       found_all events seen found from max (one_reading (g.state (disk_of new)).contents seen events (bytes_now g new seen has) (bytes_now g new events same)) is few
 

@@ -17,7 +17,7 @@ use Rattle.hg_gate.proofs.Appending.{each_image}
 use Rattle.hg_journal.specs.declared.journal.Journal.{Journal}
 use Rattle.hg_journal.specs.declared.journal.JournalReader.{JournalReader}
 use Rattle.hg_journal.specs.Journal.{IsJournal, batch_text, told_as}
-use Rattle.hg_journal.specs.Reading.{IsAt, Keeps, Passes, disk_of, is_broken, rest_of}
+use Rattle.hg_journal.specs.Reading.{IsAt, KeepsEvents, Passes, disk_of, is_broken, rest_of}
 use Rattle.hg_journal.proofs.Journals.{Turned, bytes_of, events_of, events_push, fits_back, fits_join, front_of, no_journal, pushed, text_push, turned}
 
 body_within : (bodies : List (List ℕ)) (body : List ℕ) (later : List (List ℕ)) → AllByRecursion IsBody (bodies ++ body ∷ later) → IsBody body
@@ -42,11 +42,11 @@ module _ {D : Type 0} (g : disk.Ghosts D) where
   -- ---- what a journal keeps
 
   -- its bytes now
-  pub bytes_now : (j : Journal D g) (events : List Named) → Keeps j events → IsJournal (g.state (disk_of j)).contents events
+  pub bytes_now : (j : Journal D g) (events : List Named) → KeepsEvents j events → IsJournal (g.state (disk_of j)).contents events
   bytes_now j events k = record { batches = k.batches; log = k.has.reads.has; fits = k.fits; whole = k.whole }
 
   -- and after a crash
-  pub each_image_has : (j : Journal D g) (events : List Named) → Keeps j events → Leaves (λ (image : List ℕ). IsJournal image events) (g.state (disk_of j))
+  pub each_image_has : (j : Journal D g) (events : List Named) → KeepsEvents j events → Leaves (λ (image : List ℕ). IsJournal image events) (g.state (disk_of j))
   each_image_has j events k image is = record {
     batches = k.batches;
     log = each_image g j.log (map batch_text k.batches) k.has [] image is;
@@ -54,13 +54,13 @@ module _ {D : Type 0} (g : disk.Ghosts D) where
     whole = k.whole;
   }
 
-  pub works : (j : Journal D g) (events : List Named) → Keeps j events → is_broken j ≡ false
+  pub works : (j : Journal D g) (events : List Named) → KeepsEvents j events → is_broken j ≡ false
   works j events k = k.has.reads.works
 
   -- ---- appending
 
   module _ (past new : List Named) (batches : List (List Named)) (whole : past ≡ events_of batches) (fits : AllByRecursion RecordFits past) (again : AllByRecursion RecordFits new) where
-    pub keeps_pushed : (j : Journal D g) → Has j.log (map batch_text batches ++ batch_text new ∷ []) → Keeps j (past ++ new)
+    pub keeps_pushed : (j : Journal D g) → Has j.log (map batch_text batches ++ batch_text new ∷ []) → KeepsEvents j (past ++ new)
     keeps_pushed j has = record {
       batches = batches ++ new ∷ [];
       has = subst (λ (l : List (List ℕ)). Has j.log l) (sym (text_push batches new)) has;
@@ -138,7 +138,7 @@ module _ {D : Type 0} (g : disk.Ghosts D) where
         )
 
     -- there is none
-    pub at_last : (new : Journal D g) → rest_of r ≡ [] → h.later ≡ [] → Has new.log ((map batch_text h.past ++ h.present) ++ h.later) → Keeps new seen
+    pub at_last : (new : Journal D g) → rest_of r ≡ [] → h.later ≡ [] → Has new.log ((map batch_text h.past ++ h.present) ++ h.later) → KeepsEvents new seen
     at_last new none last has =
         let t = behind none in
         let bodies = map batch_text h.past ++ h.present in

@@ -38,7 +38,7 @@ module _ {D : Type 0} {g : disk.Ghosts D} where
   Opens j bodies = Has j.log bodies
 
   -- The journal can be used, and has these events, and they are durable.
-  pub record Keeps (j : Journal D g) (events : List Named) : Type 0 where
+  pub record KeepsEvents (j : Journal D g) (events : List Named) : Type 0 where
     pub batches : List (List Named)
     pub has : Has j.log (map batch_text batches)
     pub fits : AllByRecursion RecordFits events
@@ -71,7 +71,7 @@ module _ {D : Type 0} {g : disk.Ghosts D} where
   -- It has no events, and its disk the header and a closed gate; no call has failed since the disk was this one.
   abbrev pub IsEmptyOn : D → Journal D g → Type 0
   IsEmptyOn before j =
-      Keeps j [] × (g.state (disk_of j) ≡ settled (header ++ closed_gate ∷ [])) × (g.failures (disk_of j) ≡ g.failures before)
+      KeepsEvents j [] × (g.state (disk_of j) ≡ settled (header ++ closed_gate ∷ [])) × (g.failures (disk_of j) ≡ g.failures before)
 
   -- It has some batches, if only none.
   abbrev pub OpensSome : Journal D g → Type 0
@@ -83,16 +83,16 @@ module _ {D : Type 0} {g : disk.Ghosts D} where
 
   -- Events are added, and are durable,
   abbrev pub AddsEvents : {T E : Type 0} → (events : List Named) → (old new : Journal D g) → Result T E → Type 0
-  AddsEvents events old new result = (past : List Named) → Keeps old past → OnOk result (Keeps new (past ++ events))
+  AddsEvents events old new result = (past : List Named) → KeepsEvents old past → OnOk result (KeepsEvents new (past ++ events))
 
   -- in each image.
   abbrev pub AddsDurably : {T E : Type 0} → (events : List Named) → (old new : Journal D g) → Result T E → Type 0
-  AddsDurably events old new result = (past : List Named) → Keeps old past → OnOk result (LeavesJournal (past ++ events) (g.state (disk_of new)))
+  AddsDurably events old new result = (past : List Named) → KeepsEvents old past → OnOk result (LeavesJournal (past ++ events) (g.state (disk_of new)))
 
   -- A crash at any moment leaves the events from before, with all the new ones or none.
   abbrev pub LeavesAllOrNone : (events : List Named) → (old new : Journal D g) → Type 0
   LeavesAllOrNone events old new =
-      (past : List Named) → Keeps old past → LeavesOnly g (disk_of old) (disk_of new) (IsAllOrNone past events)
+      (past : List Named) → KeepsEvents old past → LeavesOnly g (disk_of old) (disk_of new) (IsAllOrNone past events)
 
   -- The reader of a journal that can be used has read nothing.
   abbrev pub BeginsAtFirst : {E : Type 0} → Journal D g → Result JournalReader E → Type 0
@@ -102,7 +102,7 @@ module _ {D : Type 0} {g : disk.Ghosts D} where
   abbrev pub FindsMore : {E : Type 0} → Journal D g → JournalReader → Journal D g → JournalReader → Result Bool E → Type 0
   FindsMore old before new after result =
       (seen : List Named) → IsTrue g.is_honest → IsAt old before seen
-      → IfOk result (λ more. MatchBool more (IsAt new after seen × (1 ≤ length (rest_of after))) (Keeps new seen))
+      → IfOk result (λ more. MatchBool more (IsAt new after seen × (1 ≤ length (rest_of after))) (KeepsEvents new seen))
 
   -- and no damage.
   abbrev pub FindsUndamaged : {T : Type 0} → Journal D g → JournalReader → Result T Refusal → Type 0
@@ -121,7 +121,7 @@ module _ {D : Type 0} {g : disk.Ghosts D} where
   abbrev pub ReadsNext : {E : Type 0} → Journal D g → JournalReader → Journal D g → JournalReader → Result (Option Named) E → Type 0
   ReadsNext old before new after result =
       (seen : List Named) → IsTrue g.is_honest → IsAt old before seen
-      → IfOk result (λ found. MatchOption found (Keeps new seen) (λ named. IsAt new after (seen ++ named ∷ [])))
+      → IfOk result (λ found. MatchOption found (KeepsEvents new seen) (λ named. IsAt new after (seen ++ named ∷ [])))
 
   -- It has read so many events more, where that is not 0;
   abbrev pub ReadsMore : {E : Type 0} → Journal D g → JournalReader → Journal D g → JournalReader → Result ℕ E → Type 0
@@ -132,7 +132,7 @@ module _ {D : Type 0} {g : disk.Ghosts D} where
   -- and where it is 0, it has read all.
   abbrev pub HasReadAll : {E : Type 0} → Journal D g → JournalReader → Journal D g → Result ℕ E → Type 0
   HasReadAll old before new result =
-      (seen : List Named) → IsTrue g.is_honest → IsAt old before seen → IfOk result (λ count. count ≡ 0 → Keeps new seen)
+      (seen : List Named) → IsTrue g.is_honest → IsAt old before seen → IfOk result (λ count. count ≡ 0 → KeepsEvents new seen)
 
   -- Damage is told where the bytes are none of a journal.
   abbrev pub TellsTrueDamage : {T : Type 0} → Journal D g → JournalReader → Result T Refusal → Type 0
@@ -141,11 +141,11 @@ module _ {D : Type 0} {g : disk.Ghosts D} where
 
   -- What a read gives is a journal of the events that it keeps,
   abbrev pub ReadsKept : Journal D g → List Named → Type 0
-  ReadsKept j events = Keeps j events → IsJournal (g.state (disk_of j)).contents events
+  ReadsKept j events = KeepsEvents j events → IsJournal (g.state (disk_of j)).contents events
 
   -- and so is what a crash leaves.
   abbrev pub LeavesKept : Journal D g → List Named → Type 0
-  LeavesKept j events = Keeps j events → LeavesJournal events (g.state (disk_of j))
+  LeavesKept j events = KeepsEvents j events → LeavesJournal events (g.state (disk_of j))
 
   -- What a reader has read is the front of the journal's events.
   abbrev pub HasReadFront : Journal D g → JournalReader → (seen events : List Named) → Type 0
@@ -155,9 +155,9 @@ module _ {D : Type 0} {g : disk.Ghosts D} where
   -- Of the first `count` events those from number `from` on are found, at most so many,
   abbrev pub Collects : {E : Type 0} → Journal D g → (count from most : ℕ) → Result (Vec Named) E → Type 0
   Collects old count from most result =
-      (events : List Named) → IsTrue g.is_honest → Keeps old events → length events ≡ count
+      (events : List Named) → IsTrue g.is_honest → KeepsEvents old events → length events ≡ count
       → IfOk result (λ found. found.items ≡ take most (drop (from - 1) events))
 
   -- and no damage.
   abbrev pub CollectsUndamaged : {T : Type 0} → Journal D g → Result T Refusal → Type 0
-  CollectsUndamaged old result = (events : List Named) → IsTrue g.is_honest → Keeps old events → IfErr result (λ e. e ≢ Damaged)
+  CollectsUndamaged old result = (events : List Named) → IsTrue g.is_honest → KeepsEvents old events → IfErr result (λ e. e ≢ Damaged)

@@ -5,7 +5,7 @@ ghost use Rattle.hg_model.specs.declared.event.Named.{Named as NamedOf};
 ghost use Rattle.hg_disk.specs.Calls.{CallsAtMost};
 ghost use Rattle.hg_disk.specs.Moments.{AddsNoImage};
 ghost use Rattle.hg_journal.specs.Journal.{IsOfReading, failed_after};
-ghost use Rattle.hg_journal.specs.Reading.{Collects, CollectsUndamaged, Keeps, disk_of, is_broken};
+ghost use Rattle.hg_journal.specs.Reading.{Collects, CollectsUndamaged, KeepsEvents, disk_of, is_broken};
 
 use crate::journal::Journal;
 use hg_disk::Disk;
@@ -25,7 +25,7 @@ pub fn collect<D: Disk>(
     requires works { is_broken journal.old ≡ false }
     ensures events { Collects journal.old count from max result }
     ensures whole { CollectsUndamaged journal.old result }
-    ensures keeps { (events : List NamedOf) → Keeps journal.old events → Keeps journal.new events }
+    ensures keeps { (events : List NamedOf) → KeepsEvents journal.old events → KeepsEvents journal.new events }
     ensures works { is_broken journal.new ≡ false }
     ensures refusal { IfErr result IsOfReading }
     ensures calls { CallsAtMost ⟦<D as Disk>⟧ (2 * count) (disk_of journal.old) (disk_of journal.new) }

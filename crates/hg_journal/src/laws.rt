@@ -3,7 +3,7 @@ ghost use Rattle.std.specs.Prelude.{◌≡◌, ℕ, List, false};
 ghost use Rattle.hg_model.specs.declared.event.Named.{Named as NamedOf};
 ghost use Rattle.hg_disk.specs.Laws.{AtMostOne};
 ghost use Rattle.hg_journal.specs.Journal.{IsJournal};
-ghost use Rattle.hg_journal.specs.Reading.{HasReadFront, Keeps, LeavesKept, ReadsKept, disk_of, is_broken};
+ghost use Rattle.hg_journal.specs.Reading.{HasReadFront, KeepsEvents, LeavesKept, ReadsKept, disk_of, is_broken};
 
 use crate::journal::{Journal, JournalReader};
 use hg_disk::Disk;
@@ -17,7 +17,7 @@ pub fn one_reading()
 pub fn each_image_has_them<D: Disk>(journal: &Journal<D>)
     ensures now { (events : List NamedOf) → ReadsKept journal.now events }
     ensures images { (events : List NamedOf) → LeavesKept journal.now events }
-    ensures works { (events : List NamedOf) → Keeps journal.now events → is_broken journal.now ≡ false }
+    ensures works { (events : List NamedOf) → KeepsEvents journal.now events → is_broken journal.now ≡ false }
 {}
 
 /// What a reader has read is the front of the journal's events.

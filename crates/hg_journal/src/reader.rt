@@ -6,7 +6,7 @@ ghost use Rattle.hg_disk.specs.Moments.{AddsNoImage};
 ghost use Rattle.hg_records.specs.Records.{BeginsWith};
 ghost use Rattle.hg_records.specs.Lengths.{HasNoRecord};
 ghost use Rattle.hg_journal.specs.Journal.{IsOfReading, failed_after};
-ghost use Rattle.hg_journal.specs.Reading.{BeginsAtFirst, CanBeTriedAgain, FindsMore, FindsUndamaged, HasReadAll, Keeps, Opens, Passes, ReadsMore, ReadsNext, StaysOnErr, TellsTrueDamage, disk_of, is_broken, rest_of};
+ghost use Rattle.hg_journal.specs.Reading.{BeginsAtFirst, CanBeTriedAgain, FindsMore, FindsUndamaged, HasReadAll, KeepsEvents, Opens, Passes, ReadsMore, ReadsNext, StaysOnErr, TellsTrueDamage, disk_of, is_broken, rest_of};
 
 use crate::journal::{Journal, JournalReader, refusal_of};
 use hg_disk::Disk;
@@ -68,7 +68,7 @@ impl<D: Disk> Journal<D> {
         ensures found { FindsMore self.old reader.old self.new reader.new result }
         ensures whole { FindsUndamaged self.old reader.old result }
         ensures again { StaysOnErr self.old reader.old self.new reader.new result }
-        ensures keeps { (events : List NamedOf) → Keeps self.old events → Keeps self.new events }
+        ensures keeps { (events : List NamedOf) → KeepsEvents self.old events → KeepsEvents self.new events }
         ensures opens { (bodies : List (List ℕ)) → Opens self.old bodies → Opens self.new bodies }
         ensures state { D.state (disk_of self.new) ≡ D.state (disk_of self.old) }
         ensures any_moment { AddsNoImage ⟦<D as Disk>⟧ (disk_of self.old) (disk_of self.new) }
@@ -106,7 +106,7 @@ impl<D: Disk> Journal<D> {
 
         // The journal stays as it is.
         ensures broken_or_not { is_broken self.new ≡ is_broken self.old }
-        ensures keeps { (events : List NamedOf) → Keeps self.old events → Keeps self.new events }
+        ensures keeps { (events : List NamedOf) → KeepsEvents self.old events → KeepsEvents self.new events }
         ensures opens { (bodies : List (List ℕ)) → Opens self.old bodies → Opens self.new bodies }
         ensures state { D.state (disk_of self.new) ≡ D.state (disk_of self.old) }
         ensures any_moment { AddsNoImage ⟦<D as Disk>⟧ (disk_of self.old) (disk_of self.new) }

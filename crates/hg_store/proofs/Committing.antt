@@ -103,7 +103,7 @@ module _ {D : Type 0} (g : disk.Ghosts D) (s : Parts D g) (basis : Basis) (is : 
     has_grown : (image : List ℕ) → IsJournal image (basis.events ++ s.pending) → HasEvents grown.events [] false image
     has_grown image has = inl has
 
-    pub succeeded : s.is_broken ≡ false → durable ≡ (live g (shown_of g s)).events → journals.Keeps journal (basis.events ++ s.pending) → Leaves (λ image. IsJournal image (basis.events ++ s.pending)) (g.state (journals.disk_of journal))
+    pub succeeded : s.is_broken ≡ false → durable ≡ (live g (shown_of g s)).events → journals.KeepsEvents journal (basis.events ++ s.pending) → Leaves (λ image. IsJournal image (basis.events ++ s.pending)) (g.state (journals.disk_of journal))
         → Standing g committed grown
     succeeded works count keeps leaves = record {
       keeps = record {

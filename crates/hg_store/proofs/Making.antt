@@ -139,7 +139,7 @@ module _ {D : Type 0} (g : disk.Ghosts D) where
       next = subst (λ (choice : Choice). Gives choice.checkpoint basis.events (live g (shown_of g s))) (sym based.one) based.gives;
     }
 
-    keeps : stores.Keeps basis (view_of g (shown_of g s)) (saved g (shown_of g s))
+    keeps : stores.KeepsContent basis (view_of g (shown_of g s)) (saved g (shown_of g s))
     keeps = record {
       gives = subst (λ (c : Content). GivesDurable basis c) (sym saved_is) gives;
       live = ap (λ (p : List Named). followed (saved g (shown_of g s)) p) made.pending ∙ ap (λ (c : Content). Some c) saved_is;
@@ -197,7 +197,7 @@ module _ {D : Type 0} (g : disk.Ghosts D) where
   basis_of events now = record { events = events; now = now; next = now }
 
   -- the parts of a store of no events on two closed roots
-  pub new_based : (journal : Journal D g) (d : detect.Shown (pool.Shown D)) (c : Checkpointer D g) → journals.Keeps journal [] → detect.content (pools.live g) d ≡ empty_content
+  pub new_based : (journal : Journal D g) (d : detect.Shown (pool.Shown D)) (c : Checkpointer D g) → journals.KeepsEvents journal [] → detect.content (pools.live g) d ≡ empty_content
       → RootsStand g c.phase c.roots None None c.body.value.items → c.number ≡ 0 → IsBased g journal d c new_basis
   new_based journal d c keeps content stand number = record {
     one = refl;
@@ -218,7 +218,7 @@ module _ {D : Type 0} (g : disk.Ghosts D) where
       ∙ ap (λ (l : List ℕ). image_of journal slots one l) is_other))
 
   module _ (bytes : (d : D) → IsImage (g.state d) (g.state d).contents) (old : detect.Shown (pool.Shown D)) (roots : RootPair D) (number : ℕ) (now : Choice) (started : IsStarted g old roots number now) (d : detect.Shown (pool.Shown D)) (went : Went g old.words d.words) where
-    pub based : (journal : Journal D g) (events : List Named) (c : Checkpointer D g) → journals.Keeps journal events → LeadFrom (detect.content (pools.live g) old) events (detect.content (pools.live g) d)
+    pub based : (journal : Journal D g) (events : List Named) (c : Checkpointer D g) → journals.KeepsEvents journal events → LeadFrom (detect.content (pools.live g) old) events (detect.content (pools.live g) d)
         → RootsStand g c.phase c.roots (root_of now.checkpoint) now.former c.body.value.items → c.number ≡ number → IsBased g journal d c (basis_of events now)
     based journal events c keeps lead stand is = record {
       one = refl;

@@ -36,7 +36,7 @@ module _ {D : Type 0} (g : disk.Ghosts D) where
       });
     }
 
-    pub keeps_after : (durable : ℕ) → durable ≡ d.events → stores.Keeps basis (record { devices = states_of g new; live = live; pending = pending; durable = durable; in_doubt = in_doubt }) d
+    pub keeps_after : (durable : ℕ) → durable ≡ d.events → stores.KeepsContent basis (record { devices = states_of g new; live = live; pending = pending; durable = durable; in_doubt = in_doubt }) d
     keeps_after durable count = record {
       gives = gives;
       live = leads;
@@ -47,7 +47,7 @@ module _ {D : Type 0} (g : disk.Ghosts D) where
     }
 
   -- devices that were not called
-  pub none_moved : (basis : Basis) (s : stores.View) (d : Content) (devices : Devices D) → s.devices ≡ states_of g devices → stores.Keeps basis s d → EachOf g devices.root0 devices.root0 devices.root1 devices.root1 (HasEitherRoots basis)
+  pub none_moved : (basis : Basis) (s : stores.View) (d : Content) (devices : Devices D) → s.devices ≡ states_of g devices → stores.KeepsContent basis s d → EachOf g devices.root0 devices.root0 devices.root1 devices.root1 (HasEitherRoots basis)
   none_moved basis s d devices same keeps = record {
     first_goes = stays g devices.root0;
     second_goes = stays g devices.root1;

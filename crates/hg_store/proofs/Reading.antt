@@ -80,7 +80,7 @@ module _ {D : Type 0} (g : disk.Ghosts D) (s : Parts D g) (basis : Basis) (is : 
     in_progress phase.Prepared p = rooting p
     in_progress phase.Written p = rooting p
 
-    pub read_on : g.state (journals.disk_of journal) ≡ g.state (journals.disk_of s.journal) → (journals.Keeps s.journal basis.events → journals.Keeps journal basis.events) → Standing g with_journal basis
+    pub read_on : g.state (journals.disk_of journal) ≡ g.state (journals.disk_of s.journal) → (journals.KeepsEvents s.journal basis.events → journals.KeepsEvents journal basis.events) → Standing g with_journal basis
     read_on same reads = record {
       keeps = record {
         gives = is.keeps.gives;

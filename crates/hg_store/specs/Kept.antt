@@ -19,7 +19,7 @@ use Rattle.hg_root.specs.Pairs.{first_of, second_of}
 use Rattle.hg_contents.specs.Choices.{Basis}
 use Rattle.hg_contents.specs.Images.{Gives, content_of}
 use Rattle.hg_contents.specs.States.{IsLawfulState}
-use Rattle.hg_contents.specs.Stores.{Keeps}
+use Rattle.hg_contents.specs.Stores.{KeepsContent}
 use Rattle.hg_recovery.specs.Capturing.{parts_with}
 use Rattle.hg_checkpointer.specs.declared.checkpointer.Checkpointer.{Checkpointer}
 use Rattle.hg_checkpointer.specs.declared.phase.Phase.{Phase}
@@ -105,14 +105,14 @@ module _ {D : Type 0} (g : disk.Ghosts D) where
   pub record IsWorking (s : Parts D g) (basis : Basis) : Type 0 where
     pub certain : s.in_doubt ≡ false
     pub one : basis.next ≡ basis.now
-    pub journal : journals.Keeps s.journal basis.events
+    pub journal : journals.KeepsEvents s.journal basis.events
     pub stands : Stands g s.checkpointer s.detector.words basis.now.checkpoint basis.now.former
     pub number : s.checkpointer.number ≡ number_in (root_of basis.now.checkpoint)
     pub progress : IsInProgress s.checkpointer.phase s basis
 
   -- One fact on each kind of device, for the durable content.
   pub record Standing (s : Parts D g) (basis : Basis) : Type 0 where
-    pub keeps : Keeps basis (view_of g (shown_of s)) (saved g (shown_of s))
+    pub keeps : KeepsContent basis (view_of g (shown_of s)) (saved g (shown_of s))
     pub faithful : AtPresent (IsFaithful g) s.detector
     pub state : IsLawfulState (live g (shown_of s))
     pub spelled : All SetFits s.detector.sets.sets

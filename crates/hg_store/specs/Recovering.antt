@@ -164,7 +164,7 @@ CountsFailures (Err refusal) old new = CountedBy refusal old new
 -- the content that they give.
 pub record IsBased {D : Type 0} (g : disk.Ghosts D) (journal : Journal D g) (d : detect.Shown (pool.Shown D)) (c : Checkpointer D g) (basis : Basis) : Type 0 where
   pub one : basis.next ≡ basis.now
-  pub keeps : journals.Keeps journal basis.events
+  pub keeps : journals.KeepsEvents journal basis.events
   pub stands : Stands g c d.words basis.now.checkpoint basis.now.former
   pub number : c.number ≡ number_in (root_of basis.now.checkpoint)
   pub gives : Gives basis.now.checkpoint basis.events (detect.content (pools.live g) d)
@@ -470,14 +470,14 @@ module _ {D : Type 0} {g : disk.Ghosts D} where
   abbrev pub Follows : Journal D g → (old new : detect.Shown (pool.Shown D)) → Result (Unit {0}) Refusal → List Named → Type 0
   Follows journal old new result seen =
       OnOk result
-      ((more : List Named) × journals.Keeps journal (seen ++ more)
+      ((more : List Named) × journals.KeepsEvents journal (seen ++ more)
       × (followed (detect.content (pools.live g) old) more ≡ Some (detect.content (pools.live g) new))
       × Fills more (detect.content (pools.live g) old) old.sets (detect.content (pools.live g) new) new.sets)
 
   -- The journal keeps events that lead from the content of the first detector to that of the second.
   abbrev pub LeadsTo : Journal D g → (old new : detect.Shown (pool.Shown D)) → Type 0
   LeadsTo journal old new =
-      (events : List Named) × journals.Keeps journal events
+      (events : List Named) × journals.KeepsEvents journal events
       × LeadFrom (detect.content (pools.live g) old) events (detect.content (pools.live g) new)
 
   -- No events of the journal lead on from the content of the detector.

@@ -71,8 +71,8 @@ pub record HasEventLine (bytes : List ℕ) (event : Event) (used : ℕ) : Type 0
   pub count : used + length rest ≡ length bytes
 
 -- A number that ends at one place goes on to another: whichever digits it has before, it has those between the two places as well.
-abbrev pub GoesOn : ℕ → ℕ → List ℕ → ℕ → ℕ → ℕ → ℕ → Type 0
-GoesOn base most bytes at number end more =
+abbrev pub NumberGoesOn : ℕ → ℕ → List ℕ → ℕ → ℕ → ℕ → ℕ → Type 0
+NumberGoesOn base most bytes at number end more =
     (start : List ℕ) → HasRun base most start (drop at bytes) number → HasRun base most start (drop end bytes) more
 
 -- From one place to another there is an operand of so many bits.

@@ -5,7 +5,7 @@ ghost use Rattle.std.specs.Bool.{OnTrue};
 ghost use Rattle.std.specs.Char.{digit_value, is_digit};
 ghost use Rattle.std.specs.List.{list_all};
 ghost use Rattle.hg_wire.specs.Numbers.{number_of, numeral};
-ghost use Rattle.hg_wire.specs.InFront.{GoesOn, HasDigits, HasNumber, IsFourDigits};
+ghost use Rattle.hg_wire.specs.InFront.{HasDigits, HasNumber, IsFourDigits, NumberGoesOn};
 ghost use Rattle.hg_wire.specs.Lines.{fitting, operand_of};
 
 /// The value of each byte as a digit of base 36, in either case, and 36 for the bytes that are none.
@@ -101,7 +101,7 @@ fn decimal_at(bytes: &[u8], from: usize) -> Option<(u64, usize)>
 #[inline(always)]
 fn with_decimal_digit_at(bytes: &[u8], at: usize, number: u64) -> Option<u64>
     requires { at < length bytes.now }
-    ensures { IfSome result (λ more. GoesOn 10 19 bytes.now at number (at + 1) more) }
+    ensures { IfSome result (λ more. NumberGoesOn 10 19 bytes.now at number (at + 1) more) }
 {
     let digit = value_of_decimal_digit(bytes[at]);
     if digit > 9 {
@@ -115,7 +115,7 @@ fn with_decimal_digit_at(bytes: &[u8], at: usize, number: u64) -> Option<u64>
 fn with_decimal_digits_at(bytes: &[u8], at: usize, number: u64) -> (u64, usize)
     requires { at + 4 ≤ length bytes.now }
     ensures within { (at ≤ result.1) × (result.1 ≤ at + 4) }
-    ensures digits { GoesOn 10 19 bytes.now at number result.1 result.0 }
+    ensures digits { NumberGoesOn 10 19 bytes.now at number result.1 result.0 }
 {
     let Some(one) = with_decimal_digit_at(bytes, at, number) else {
         return (number, at);
@@ -164,7 +164,7 @@ fn number_of_four(a: u8, b: u8, c: u8, d: u8) -> Option<u64>
 #[inline(always)]
 fn with_four_digits_at(bytes: &[u8], at: usize, number: u64) -> Option<u64>
     requires { at + 4 ≤ length bytes.now }
-    ensures { IfSome result (λ more. GoesOn 16 16 bytes.now at number (at + 4) more) }
+    ensures { IfSome result (λ more. NumberGoesOn 16 16 bytes.now at number (at + 4) more) }
 {
     // Where a number ends there is no need to look at four bytes.
     if bytes[at] == b' ' {
@@ -178,7 +178,7 @@ fn with_four_digits_at(bytes: &[u8], at: usize, number: u64) -> Option<u64>
 #[inline(always)]
 fn with_digit_at(bytes: &[u8], at: usize, number: u64) -> Option<u64>
     requires { at < length bytes.now }
-    ensures { IfSome result (λ more. GoesOn 16 16 bytes.now at number (at + 1) more) }
+    ensures { IfSome result (λ more. NumberGoesOn 16 16 bytes.now at number (at + 1) more) }
 {
     let digit = value_of_hexadecimal_digit(bytes[at]);
     if digit > 15 {
@@ -192,7 +192,7 @@ fn with_digit_at(bytes: &[u8], at: usize, number: u64) -> Option<u64>
 fn with_digits_at(bytes: &[u8], at: usize, number: u64) -> (u64, usize)
     requires { at + 3 ≤ length bytes.now }
     ensures within { (at ≤ result.1) × (result.1 ≤ at + 3) }
-    ensures digits { GoesOn 16 16 bytes.now at number result.1 result.0 }
+    ensures digits { NumberGoesOn 16 16 bytes.now at number result.1 result.0 }
 {
     let Some(one) = with_digit_at(bytes, at, number) else {
         return (number, at);
@@ -223,7 +223,7 @@ fn few_digits_at(bytes: &[u8], from: usize) -> Option<(u64, usize)>
 fn with_fours_at(bytes: &[u8], at: usize, number: u64) -> (u64, usize)
     requires { at + 12 ≤ length bytes.now }
     ensures within { (at ≤ result.1) × (result.1 ≤ at + 12) }
-    ensures digits { GoesOn 16 16 bytes.now at number result.1 result.0 }
+    ensures digits { NumberGoesOn 16 16 bytes.now at number result.1 result.0 }
 {
     let Some(four) = with_four_digits_at(bytes, at, number) else {
         return with_digits_at(bytes, at, number);

@@ -11,7 +11,7 @@ use Rattle.hg_detect.specs.Shown.{found}
 use Rattle.hg_detect.proofs.Accesses.{asked_from}
 use Rattle.hg_detect.proofs.Alike.{alike_planned, alike_given, alike_found, alike_asked, alike_refused, alike_within, quiet}
 use Rattle.hg_detect.proofs.Passing.{access_passes}
-use Rattle.hg_detect.proofs.Answering.{Keeps, access_answers, refused_answers, sets_changed}
+use Rattle.hg_detect.proofs.Answering.{KeepsEngine, access_answers, refused_answers, sets_changed}
 use Rattle.hg_detect.proofs.Reports.{found_few}
 use Rattle.hg_detect.proofs.engine.Engine.access_alike.Goals as goal
 
@@ -138,7 +138,7 @@ returns-in_err-reserve_reports-clause-answers g c =
     let all_planned = alike_planned old.graph old.sets.sets mid.sets.sets actor (words.cell_of mid.words) c.args.cell p first n planned alike_mid in
     let k = sets_changed words.cell_of words.may_bring words.is_faithful old c.plan_for.new.self c.plan_for.ensures.others c.plan_for.ensures.sets c.plan_for.ensures.numbers c.requires.sound in
     let roomy = record mid { plan = c.plan_alike.new.plan; kept = c.reserve_reports.new.kept } in
-    let roomier : Keeps words.cell_of words.may_bring words.is_faithful old roomy =
+    let roomier : KeepsEngine words.cell_of words.may_bring words.is_faithful old roomy =
     record {
       state = k.state;
       graph = k.graph;
@@ -199,7 +199,7 @@ returns-clause-answers g c =
     let all_planned = alike_planned old.graph old.sets.sets mid.sets.sets actor (words.cell_of mid.words) c.args.cell p first n planned alike_mid in
     let k = sets_changed words.cell_of words.may_bring words.is_faithful old c.plan_for.new.self c.plan_for.ensures.others c.plan_for.ensures.sets c.plan_for.ensures.numbers c.requires.sound in
     let roomy = record mid { plan = c.plan_alike.new.plan; kept = c.reserve_reports.new.kept } in
-    let roomier : Keeps words.cell_of words.may_bring words.is_faithful old roomy =
+    let roomier : KeepsEngine words.cell_of words.may_bring words.is_faithful old roomy =
     record {
       state = k.state;
       graph = k.graph;

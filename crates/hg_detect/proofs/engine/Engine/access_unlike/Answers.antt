@@ -6,7 +6,7 @@ use Rattle.hg_detect.specs.Shown.{found, given}
 use Rattle.hg_cells.specs.Cells.{IsWithin}
 use Rattle.hg_detect.proofs.Accesses.{asked_from, last_word}
 use Rattle.hg_detect.proofs.Passing.{access_passes}
-use Rattle.hg_detect.proofs.Answering.{Keeps, access_answers, refused_answers}
+use Rattle.hg_detect.proofs.Answering.{KeepsEngine, access_answers, refused_answers}
 use Rattle.hg_detect.proofs.Reports.{found_few}
 use Rattle.hg_detect.proofs.engine.Engine.access_unlike.Goals as goal
 
@@ -15,7 +15,7 @@ returns-in_err-prepare-clause-answers g c =
     let words = g.W.Words in
     let old = c.args.self.now in
     let p = c.prepare.ensures in
-    let k : Keeps words.cell_of words.may_bring words.is_faithful old c.prepare.new.self =
+    let k : KeepsEngine words.cell_of words.may_bring words.is_faithful old c.prepare.new.self =
     record {
       state = p.state;
       graph = p.graph;
@@ -56,7 +56,7 @@ returns-clause-answers g c =
     let a = c.args.access in
     let p = c.prepare.ensures in
     let done = c.in_ok-prepare.ensures in
-    let k : Keeps words.cell_of words.may_bring words.is_faithful old mid =
+    let k : KeepsEngine words.cell_of words.may_bring words.is_faithful old mid =
     record {
       state = p.state;
       graph = p.graph;

@@ -2,7 +2,7 @@ use Rattle.std.proofs.Common.{◌≡◌, ◌≤◌, Bool, MatchBool, arith, leng
 use Rattle.hg_model.specs.declared.verdict.Refusal.TheVariants.{Damaged}
 use Rattle.hg_disk.specs.State.{DiskState}
 use Rattle.hg_journal.specs.Journal.{IsJournal}
-use Rattle.hg_journal.specs.Reading.{IsAt, Keeps, rest_of}
+use Rattle.hg_journal.specs.Reading.{IsAt, KeepsEvents, rest_of}
 use Rattle.hg_journal.proofs.Journaling.{none_of, step}
 use Rattle.hg_journal.proofs.journal.Journal.next.Goals as goal
 
@@ -13,10 +13,10 @@ returns-in_err-find-clause-damaged g c seen honest h same =
 
 pub returns-in-Some-clause-next : goal.returns-in-Some-clause-next
 returns-in-Some-clause-next g c seen honest h =
-    let found = subst (λ (more : Bool). MatchBool more (IsAt c.find.new.self c.find.new.reader seen × (1 ≤ length (rest_of c.find.new.reader))) (Keeps c.find.new.self seen)) c.if-not-branch.false (c.in_ok-find.ensures.found seen honest h) in
+    let found = subst (λ (more : Bool). MatchBool more (IsAt c.find.new.self c.find.new.reader seen × (1 ≤ length (rest_of c.find.new.reader))) (KeepsEvents c.find.new.self seen)) c.if-not-branch.false (c.in_ok-find.ensures.found seen honest h) in
     step g.D.Disk c.find.new.self c.find.new.reader seen found.0 c.take.new.self c.in-Some.named c.in-Some.ensures.some c.take.ensures.place
 
 pub returns-in-None-clause-damaged : goal.returns-in-None-clause-damaged
 returns-in-None-clause-damaged g c seen honest h same events is =
-    let found = subst (λ (more : Bool). MatchBool more (IsAt c.find.new.self c.find.new.reader seen × (1 ≤ length (rest_of c.find.new.reader))) (Keeps c.find.new.self seen)) c.if-not-branch.false (c.in_ok-find.ensures.found seen honest h) in
+    let found = subst (λ (more : Bool). MatchBool more (IsAt c.find.new.self c.find.new.reader seen × (1 ≤ length (rest_of c.find.new.reader))) (KeepsEvents c.find.new.self seen)) c.if-not-branch.false (c.in_ok-find.ensures.found seen honest h) in
     none_of g.D.Disk c.find.new.self c.find.new.reader seen found.0 found.1 c.in-None.ensures.none events (subst (λ (s : DiskState). IsJournal s.contents events) (sym c.find.ensures.state) is)

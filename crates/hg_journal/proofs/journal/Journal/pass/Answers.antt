@@ -2,7 +2,7 @@ use Rattle.std.proofs.Common.{◌≡◌, ◌≤◌, ℕ, List, Bool, MatchBool, 
 use Rattle.hg_model.specs.declared.verdict.Refusal.TheVariants.{Damaged}
 use Rattle.hg_disk.specs.State.{DiskState}
 use Rattle.hg_journal.specs.Journal.{IsJournal}
-use Rattle.hg_journal.specs.Reading.{IsAt, Keeps, Passes, rest_of}
+use Rattle.hg_journal.specs.Reading.{IsAt, KeepsEvents, Passes, rest_of}
 use Rattle.hg_records.specs.Records.{BeginsWith}
 use Rattle.hg_journal.proofs.Journaling.{none_of, steps}
 use Rattle.hg_journal.proofs.journal.Journal.pass.Goals as goal
@@ -14,7 +14,7 @@ returns-in_err-find-clause-damaged g c seen honest h same =
 
 pub returns-then-count-eq0-clause-damaged : goal.returns-then-count-eq0-clause-damaged
 returns-then-count-eq0-clause-damaged g c seen honest h same events is =
-    let found = subst (λ (more : Bool). MatchBool more (IsAt c.find.new.self c.find.new.reader seen × (1 ≤ length (rest_of c.find.new.reader))) (Keeps c.find.new.self seen)) c.if-not-branch.false (c.in_ok-find.ensures.found seen honest h) in
+    let found = subst (λ (more : Bool). MatchBool more (IsAt c.find.new.self c.find.new.reader seen × (1 ≤ length (rest_of c.find.new.reader))) (KeepsEvents c.find.new.self seen)) c.if-not-branch.false (c.in_ok-find.ensures.found seen honest h) in
     let still : rest_of c.pass-count.new.self ≡ rest_of c.find.new.reader = subst (λ (n : ℕ). Passes n (rest_of c.find.new.reader) (rest_of c.pass-count.new.self)) c.if-count-eq0.true c.pass-count.ensures.passed in
     none_of g.D.Disk c.find.new.self c.find.new.reader seen found.0 found.1
     (λ named rest begins. c.pass-count.ensures.none (omega (arith, c.if-count-eq0.true, c.requires.some)) named rest (subst (λ (bytes : List ℕ). BeginsWith bytes named rest) (sym still) begins))
@@ -22,5 +22,5 @@ returns-then-count-eq0-clause-damaged g c seen honest h same events is =
 
 pub returns-clause-passed : goal.returns-clause-passed
 returns-clause-passed g c seen honest h some =
-    let found = subst (λ (more : Bool). MatchBool more (IsAt c.find.new.self c.find.new.reader seen × (1 ≤ length (rest_of c.find.new.reader))) (Keeps c.find.new.self seen)) c.if-not-branch.false (c.in_ok-find.ensures.found seen honest h) in
+    let found = subst (λ (more : Bool). MatchBool more (IsAt c.find.new.self c.find.new.reader seen × (1 ≤ length (rest_of c.find.new.reader))) (KeepsEvents c.find.new.self seen)) c.if-not-branch.false (c.in_ok-find.ensures.found seen honest h) in
     steps g.D.Disk c.find.new.self c.find.new.reader seen found.0 c.pass-count.new.self c.pass-count.result c.pass-count.ensures.passed c.pass-count.ensures.place
