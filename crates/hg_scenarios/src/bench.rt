@@ -25,6 +25,7 @@ use std::alloc::{AllocError, Global};
 
 /// A store, if one is open, and its run so far.
 pub struct Bench {
+    alloc: Global,
     opened: Option<OpenStore>,
     run: Run,
     /// All that the store told as it was last remembered.
@@ -38,6 +39,7 @@ pub struct Bench {
 impl Drop for Bench {
     fn drop(self) {
         let Bench {
+            alloc: _,
             opened: _,
             run: _,
             remembered: _,
@@ -124,7 +126,7 @@ fn steps_of(
     let mut steps = Vec::new(alloc);
     for action in actions {
         match desk.step(alloc, *action)? {
-            Some(step) => put_step(step, &mut steps)?,
+            Some(step) => steps.push(step)?,
             None => {
                 put_told(Told::NoPage, out);
                 return Err(Halt::Said);
@@ -132,13 +134,6 @@ fn steps_of(
         }
     }
     Ok(steps)
-}
-
-fn put_step(step: Step, steps: &mut Vec<Step>) -> Result<(), Halt> {
-    match steps.push(step) {
-        Ok(()) => Ok(()),
-        Err(_) => Err(Halt::Memory),
-    }
 }
 
 /// Has the store make all steps at once.
@@ -154,13 +149,6 @@ fn drive(
     let answers = opened.store.drive(alloc, done, last)?;
     put_answers(&answers, out);
     Ok(())
-}
-
-fn put_action(action: Action, actions: &mut Vec<Action>) -> Result<(), Halt> {
-    match actions.push(action) {
-        Ok(()) => Ok(()),
-        Err(_) => Err(Halt::Memory),
-    }
 }
 
 /// The action of a word that names no event.
@@ -213,15 +201,21 @@ fn put_refused(shelf: &mut Shelf, fault: CreateFault, disks: Disks) -> Result<()
     Err(halt_of(fault))
 }
 
-/// Makes a run again that stops, and leaves the image on the shelf.
-fn stop_at(
-    alloc: Global,
-    run: &Run,
-    shelf: &mut Shelf,
+/// Where a run stops: after how many calls of a device, and what becomes of what it has not synced.
+#[derive(Clone, Copy)]
+struct Stop {
     device: Device,
     calls: u64,
     tear: Tear,
-) -> Result<Progress, AllocError> {
+}
+
+/// Makes a run again that stops, and leaves the image on the shelf.
+fn stop_at(alloc: Global, run: &Run, stop: Stop, shelf: &mut Shelf) -> Result<Progress, AllocError> {
+    let Stop {
+        device,
+        calls,
+        tear,
+    } = stop;
     let mut progress = NO_PROGRESS;
     let stopped = stop_run(alloc, run, device, calls, &mut progress)?;
     put_images(&stopped.devices, device, tear, Tear::Kept, &mut shelf.image)?;
@@ -268,6 +262,7 @@ fn put_profile(out: &mut Text) -> Result<(), Halt> {
 impl Bench {
     pub fn new(alloc: Global) -> Bench {
         Bench {
+            alloc,
             opened: None,
             run: Run {
                 start: Image::new(alloc),
@@ -313,7 +308,6 @@ impl Bench {
     /// Opens a store over the disks as they are, and begins a run.
     fn open(
         &mut self,
-        alloc: Global,
         shelf: &mut Shelf,
         opening: Opening,
         out: &mut Text,
@@ -323,27 +317,27 @@ impl Bench {
         self.run.opening = opening;
         self.run.actions.clear();
         self.desk.clear();
-        let disks = take_disks(alloc, shelf)?;
-        match open(alloc, disks, opening) {
+        let disks = take_disks(self.alloc, shelf)?;
+        match open(self.alloc, disks, opening) {
             Ok(opened) => self.keep(opened, out),
             Err((fault, disks)) => put_refused(shelf, fault, disks),
         }
     }
 
     /// What the store tells of itself, where `line` says what of it.
-    fn tell(&self, alloc: Global, line: &str, out: &mut Text) -> Result<(), Halt> {
+    fn tell(&self, line: &str, out: &mut Text) -> Result<(), Halt> {
         let Some(opened) = &self.opened else {
             return Err(Halt::Closed);
         };
         if line == "unchanged" {
-            return self.compare(alloc, opened, out);
+            return self.compare(opened, out);
         }
-        put_answer(alloc, &opened.store, line, out)
+        put_answer(self.alloc, &opened.store, line, out)
     }
 
-    fn compare(&self, alloc: Global, opened: &OpenStore, out: &mut Text) -> Result<(), Halt> {
-        let mut picture = Text::new(alloc);
-        put_picture(alloc, &opened.store, &mut picture)?;
+    fn compare(&self, opened: &OpenStore, out: &mut Text) -> Result<(), Halt> {
+        let mut picture = Text::new(self.alloc);
+        put_picture(self.alloc, &opened.store, &mut picture)?;
         if picture.bytes() == self.remembered.bytes() {
             out.put(b"unchanged");
         } else {
@@ -352,70 +346,70 @@ impl Bench {
         Ok(())
     }
 
-    fn remember(&mut self, alloc: Global, out: &mut Text) -> Result<(), Halt> {
+    fn remember(&mut self, out: &mut Text) -> Result<(), Halt> {
         self.remembered.clear();
         let Some(opened) = &self.opened else {
             return Err(Halt::Closed);
         };
-        put_picture(alloc, &opened.store, &mut self.remembered)?;
+        put_picture(self.alloc, &opened.store, &mut self.remembered)?;
         out.put(b"ok");
         Ok(())
     }
 
-    fn read(&mut self, alloc: Global, rest: &str, out: &mut Text) -> Result<(), Halt> {
+    fn read(&mut self, rest: &str, out: &mut Text) -> Result<(), Halt> {
         let Some(opened) = &mut self.opened else {
             return Err(Halt::Closed);
         };
-        put_durable(alloc, &mut opened.store, rest, out)
+        put_durable(self.alloc, &mut opened.store, rest, out)
     }
 
     /// Does all that was noted at once. Jobs that are taken meanwhile change nothing, and a run that is made again leaves them out.
-    fn drive_noted(&mut self, alloc: Global, out: &mut Text) -> Result<(), Halt> {
+    fn drive_noted(&mut self, out: &mut Text) -> Result<(), Halt> {
         let Some(opened) = &mut self.opened else {
             return Err(Halt::Closed);
         };
-        let steps = steps_of(alloc, &self.actions, &self.desk, out)?;
+        let steps = steps_of(self.alloc, &self.actions, &self.desk, out)?;
         for action in self.actions.iter() {
             if !matches!(action, Action::Take) {
-                put_action(*action, &mut self.run.actions)?;
+                self.run.actions.push(*action)?;
             }
         }
-        drive(alloc, opened, &steps, out)
+        drive(self.alloc, opened, &steps, out)
     }
 
     /// The same, and nothing is noted any more.
-    fn drive(&mut self, alloc: Global, out: &mut Text) -> Result<(), Halt> {
-        let driven = self.drive_noted(alloc, out);
+    fn drive(&mut self, out: &mut Text) -> Result<(), Halt> {
+        let driven = self.drive_noted(out);
         self.actions.clear();
         driven
     }
 
     /// Does what an action says, and notes it.
-    fn make(&mut self, alloc: Global, action: Action) -> Result<Told, Halt> {
+    fn make(&mut self, action: Action) -> Result<Told, Halt> {
         let made = &mut self.run.actions;
         match &mut self.opened {
             Some(opened) => {
                 let store = &mut opened.store;
-                Ok(note_and_make(alloc, store, action, &mut self.desk, made))
+                Ok(note_and_make(self.alloc, store, action, &mut self.desk, made))
             }
             None => Err(Halt::Closed),
         }
     }
 
     /// A step that names no event.
-    fn step(&mut self, alloc: Global, word: &str, out: &mut Text) -> Result<(), Halt> {
-        let told = self.make(alloc, action_of(word)?)?;
+    fn step(&mut self, word: &str, out: &mut Text) -> Result<(), Halt> {
+        let told = self.make(action_of(word)?)?;
         put_told(told, out);
         Ok(())
     }
 
     /// All steps of a checkpoint.
-    fn checkpoint(&mut self, alloc: Global, out: &mut Text) -> Result<(), Halt> {
+    fn checkpoint(&mut self, out: &mut Text) -> Result<(), Halt> {
         let Some(opened) = &mut self.opened else {
             return Err(Halt::Closed);
         };
         let made = &mut self.run.actions;
-        match checkpoint(alloc, &mut opened.store, &mut self.desk, made) {
+        match checkpoint(self.alloc, &mut opened.store, &mut self.desk, made) {
             Ok(done) => put_checkpoint(done, out),
             Err(told) => put_told(told, out),
         }
@@ -423,12 +417,12 @@ impl Bench {
     }
 
     /// Hands in all pages that wait.
-    fn pages(&mut self, alloc: Global, out: &mut Text) -> Result<(), Halt> {
+    fn pages(&mut self, out: &mut Text) -> Result<(), Halt> {
         let Some(opened) = &mut self.opened else {
             return Err(Halt::Closed);
         };
         let made = &mut self.run.actions;
-        match put_all(alloc, &mut opened.store, &mut self.desk, made) {
+        match put_all(self.alloc, &mut opened.store, &mut self.desk, made) {
             Ok(count) => put_number(count, out),
             Err(told) => put_told(told, out),
         }
@@ -436,9 +430,9 @@ impl Bench {
     }
 
     /// Offers events. The answer is `accepted`, or the first other one.
-    fn offer_all(&mut self, alloc: Global, events: &[Named], out: &mut Text) -> Result<(), Halt> {
+    fn offer_all(&mut self, events: &[Named], out: &mut Text) -> Result<(), Halt> {
         for event in events {
-            let told = self.make(alloc, Action::Offer(*event))?;
+            let told = self.make(Action::Offer(*event))?;
             if told != Told::Offered(Answer::Accepted) {
                 put_told(told, out);
                 return Ok(());
@@ -448,26 +442,26 @@ impl Bench {
         Ok(())
     }
 
-    fn offer(&mut self, alloc: Global, text: &str, out: &mut Text) -> Result<(), Halt> {
-        let mut events = Vec::new(alloc);
+    fn offer(&mut self, text: &str, out: &mut Text) -> Result<(), Halt> {
+        let mut events = Vec::new(self.alloc);
         put_events(text, &mut events)?;
-        self.offer_all(alloc, &events, out)
+        self.offer_all(&events, out)
     }
 
     /// Notes what a line says, to be done at once.
-    fn note(&mut self, alloc: Global, text: &str) -> Result<(), Halt> {
+    fn note(&mut self, text: &str) -> Result<(), Halt> {
         let (word, rest) = front(text);
         match word {
-            "offer" => self.note_offers(alloc, rest),
-            _ => put_action(action_of(word)?, &mut self.actions),
+            "offer" => self.note_offers(rest),
+            _ => Ok(self.actions.push(action_of(word)?)?),
         }
     }
 
-    fn note_offers(&mut self, alloc: Global, text: &str) -> Result<(), Halt> {
-        let mut events = Vec::new(alloc);
+    fn note_offers(&mut self, text: &str) -> Result<(), Halt> {
+        let mut events = Vec::new(self.alloc);
         put_events(text, &mut events)?;
         for event in events.iter() {
-            put_action(Action::Offer(*event), &mut self.actions)?;
+            self.actions.push(Action::Offer(*event))?;
         }
         Ok(())
     }
@@ -475,7 +469,6 @@ impl Bench {
     /// `K TEAR`: stops the run of the store after so many calls of a device, and leaves the image.
     fn stop_one(
         &mut self,
-        alloc: Global,
         shelf: &mut Shelf,
         device: Device,
         text: &str,
@@ -485,39 +478,42 @@ impl Bench {
         let (Tears::One(tear), _) = tear(rest)? else {
             return Err(Halt::Words);
         };
+        let stop = Stop {
+            device,
+            calls,
+            tear,
+        };
         self.put_opened(None);
-        let progress = stop_at(alloc, &self.run, shelf, device, calls, tear)?;
+        let progress = stop_at(self.alloc, &self.run, stop, shelf)?;
         put_progress(progress, out)
     }
 
     /// Does what a line asks for that makes a store, or changes it.
     fn change(
         &mut self,
-        alloc: Global,
         shelf: &mut Shelf,
         word: &str,
         rest: &str,
         out: &mut Text,
     ) -> Result<(), Halt> {
         match word {
-            "store" => self.open(alloc, shelf, Opening::Create(room_of(rest)?), out),
-            "recover" => self.open(alloc, shelf, Opening::Recover(room_of(rest)?), out),
-            "offer" => self.offer(alloc, rest, out),
-            "pages" => self.pages(alloc, out),
-            "checkpoint" => self.checkpoint(alloc, out),
+            "store" => self.open(shelf, Opening::Create(room_of(rest)?), out),
+            "recover" => self.open(shelf, Opening::Recover(room_of(rest)?), out),
+            "offer" => self.offer(rest, out),
+            "pages" => self.pages(out),
+            "checkpoint" => self.checkpoint(out),
             "then" => {
-                self.note(alloc, rest)?;
+                self.note(rest)?;
                 put_ok(out)
             }
-            "run" => self.drive(alloc, out),
-            _ => self.step(alloc, word, out),
+            "run" => self.drive(out),
+            _ => self.step(word, out),
         }
     }
 
     /// `each call TEARS`, or `K TEAR`, of a device, or of each one
     fn stop_at(
         &mut self,
-        alloc: Global,
         shelf: &mut Shelf,
         only: Option<Device>,
         text: &str,
@@ -525,10 +521,10 @@ impl Bench {
     ) -> Result<(), Halt> {
         let text = after("at ", text)?;
         if let Some(tears) = text.strip_prefix("each call ") {
-            return put_stops(alloc, &self.run, only, tears, out);
+            return put_stops(self.alloc, &self.run, only, tears, out);
         }
         match only {
-            Some(device) => self.stop_one(alloc, shelf, device, text, out),
+            Some(device) => self.stop_one(shelf, device, text, out),
             None => Err(Halt::Words),
         }
     }
@@ -536,33 +532,31 @@ impl Bench {
     /// `every device at ..`, or `DEVICE at ..`
     fn stop(
         &mut self,
-        alloc: Global,
         shelf: &mut Shelf,
         text: &str,
         out: &mut Text,
     ) -> Result<(), Halt> {
         if let Some(rest) = text.strip_prefix("every device ") {
-            return self.stop_at(alloc, shelf, None, rest, out);
+            return self.stop_at(shelf, None, rest, out);
         }
         let (device, rest) = read_device(text)?;
-        self.stop_at(alloc, shelf, Some(device), rest, out)
+        self.stop_at(shelf, Some(device), rest, out)
     }
 
     /// Does what a line asks for that looks at a store, or at what a stop leaves of it.
     fn look(
         &mut self,
-        alloc: Global,
         shelf: &mut Shelf,
         word: &str,
         rest: &str,
         out: &mut Text,
     ) -> Result<(), Halt> {
         match word {
-            "expect" => self.tell(alloc, rest, out),
-            "read" => self.read(alloc, rest, out),
-            "remember" => self.remember(alloc, out),
-            "found" => find(alloc, shelf, self.run.opening.room(), out),
-            "stop" => self.stop(alloc, shelf, rest, out),
+            "expect" => self.tell(rest, out),
+            "read" => self.read(rest, out),
+            "remember" => self.remember(out),
+            "found" => find(self.alloc, shelf, self.run.opening.room(), out),
+            "stop" => self.stop(shelf, rest, out),
             "profile" => put_profile(out),
             _ => Err(Halt::Words),
         }
@@ -571,7 +565,6 @@ impl Bench {
     /// Does what a line asks for that concerns a store.
     pub fn perform(
         &mut self,
-        alloc: Global,
         shelf: &mut Shelf,
         word: &str,
         rest: &str,
@@ -579,9 +572,9 @@ impl Bench {
     ) -> Result<(), Halt> {
         match word {
             "expect" | "read" | "remember" | "found" | "stop" | "profile" => {
-                self.look(alloc, shelf, word, rest, out)
+                self.look(shelf, word, rest, out)
             }
-            _ => self.change(alloc, shelf, word, rest, out),
+            _ => self.change(shelf, word, rest, out),
         }
     }
 }

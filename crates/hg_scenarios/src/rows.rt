@@ -78,22 +78,14 @@ fn next_of(named: Named, step: u64) -> Named {
     }
 }
 
-/// Appends an event.
-pub fn put_event(named: Named, events: &mut Vec<Named>) -> Result<(), Halt> {
-    match events.push(named) {
-        Ok(()) => Ok(()),
-        Err(_) => Err(Halt::Memory),
-    }
-}
-
 /// Appends the events that a line names.
 pub fn put_events(text: &str, events: &mut Vec<Named>) -> Result<(), Halt> {
     let row = read_row(text)?;
     let mut named = row.first;
-    put_event(named, events)?;
+    events.push(named)?;
     for _ in row.first.number..row.last {
         named = next_of(named, row.step);
-        put_event(named, events)?;
+        events.push(named)?;
     }
     Ok(())
 }

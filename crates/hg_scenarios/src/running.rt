@@ -4,7 +4,6 @@ use crate::actions::{Action, Desk, Told, make};
 use crate::answers::{Text, put_count, put_told};
 use crate::checkpoints::checkpoint;
 use crate::device::Device;
-use crate::rows::put_event;
 use crate::shelf::{Fuse, Held, Image, NO_FUSES};
 use crate::stores::{Disks, Memories, OpenStore, Opening, open};
 use crate::telling::put_contents;
@@ -47,6 +46,10 @@ pub struct Progress {
 
 /// What a run that was never stopped has: the events that were accepted, and all that is told of them in the end.
 pub struct Reference {
+    /// How a store is recovered that the run left.
+    opening: Opening,
+    /// How many events the store had as it was opened.
+    base: u64,
     accepted: Vec<Named>,
     contents: Text,
 }
@@ -54,6 +57,8 @@ pub struct Reference {
 impl Drop for Reference {
     fn drop(self) {
         let Reference {
+            opening: _,
+            base: _,
             accepted: _,
             contents: _,
         } = self;
@@ -125,7 +130,7 @@ pub fn stop_run(
 /// Keeps the event of an action that accepted it.
 fn keep_accepted(action: Action, told: Told, accepted: &mut Vec<Named>) -> Result<(), Halt> {
     match (action, told) {
-        (Action::Offer(named), Told::Offered(Answer::Accepted)) => put_event(named, accepted),
+        (Action::Offer(named), Told::Offered(Answer::Accepted)) => Ok(accepted.push(named)?),
         _ => Ok(()),
     }
 }
@@ -160,6 +165,8 @@ fn describe(
 /// What the run has where it isn't stopped.
 pub fn reference_of(alloc: Global, run: &Run) -> Result<Reference, Halt> {
     let mut reference = Reference {
+        opening: Opening::Recover(run.opening.room()),
+        base: run.base,
         accepted: Vec::new(alloc),
         contents: Text::new(alloc),
     };
@@ -182,13 +189,12 @@ fn wrong_at(words: &[u8], number: u64, out: &mut Text) -> Halt {
 /// Offers all events of the run again. Those that were found are duplicates.
 fn offer_all(
     store: &mut Store<Held>,
-    events: &[Named],
+    reference: &Reference,
     found: u64,
-    base: u64,
     out: &mut Text,
 ) -> Result<u64, Halt> {
-    let mut place = base;
-    for event in events {
+    let mut place = reference.base;
+    for event in reference.accepted.iter() {
         let is_right = match store.offer(event) {
             Ok(Answer::Accepted) => place >= found,
             Ok(Answer::Duplicate(_)) => place < found,
@@ -223,12 +229,11 @@ fn compare(
 fn go_on(
     alloc: Global,
     store: &mut Store<Held>,
-    base: u64,
     found: u64,
     reference: &Reference,
     out: &mut Text,
 ) -> Result<(), Halt> {
-    let count = offer_all(store, &reference.accepted, found, base, out)?;
+    let count = offer_all(store, reference, found, out)?;
     let committed = store.commit()?;
     if committed != count {
         return Err(wrong_at(b"commits ", committed, out));
@@ -265,13 +270,12 @@ fn find(store: &Store<Held>, progress: Progress, out: &mut Text) -> Result<u64, 
 fn find_and_go_on(
     alloc: Global,
     store: &mut Store<Held>,
-    base: u64,
     progress: Progress,
     reference: &Reference,
     out: &mut Text,
 ) -> Result<u64, Halt> {
     let found = find(store, progress, out)?;
-    go_on(alloc, store, base, found, reference, out)?;
+    go_on(alloc, store, found, reference, out)?;
     Ok(found)
 }
 
@@ -279,14 +283,13 @@ fn find_and_go_on(
 fn recover_again(
     alloc: Global,
     opened: OpenStore,
-    opening: Opening,
     reference: &Reference,
     out: &mut Text,
 ) -> Result<(), Halt> {
     let mut image = Image::new(alloc);
     image.take_synced(&opened.into_disks().into_memories())?;
     let disks = Disks::whole(alloc, &image)?;
-    match open(alloc, disks, opening) {
+    match open(alloc, disks, reference.opening) {
         Ok(opened) => {
             let wrong = b"differs after a checkpoint";
             compare(alloc, &opened.store, reference, wrong, out)
@@ -303,19 +306,17 @@ fn recover_again(
 pub fn resume(
     alloc: Global,
     image: &Image,
-    run: &Run,
     progress: Progress,
     reference: &Reference,
     out: &mut Text,
 ) -> Result<u64, Halt> {
-    let opening = Opening::Recover(run.opening.room());
     let disks = Disks::whole(alloc, image)?;
-    match open(alloc, disks, opening) {
+    match open(alloc, disks, reference.opening) {
         Ok(mut opened) => {
             let store = &mut opened.store;
-            let found = find_and_go_on(alloc, store, run.base, progress, reference, out)?;
+            let found = find_and_go_on(alloc, store, progress, reference, out)?;
             save(alloc, store, out)?;
-            recover_again(alloc, opened, opening, reference, out)?;
+            recover_again(alloc, opened, reference, out)?;
             Ok(found)
         }
         Err(_) => {

@@ -78,11 +78,19 @@ pub fn put_images(
     put_image(torn.of(devices), tear, torn.of_mut(&mut image.parts))
 }
 
+/// A run, what it comes to where nothing stops it, and what becomes of what is not synced where something does.
+#[derive(Clone, Copy)]
+struct Trial<'a> {
+    alloc: Global,
+    run: &'a Run,
+    reference: &'a Reference,
+    tears: &'a [Tears],
+}
+
 /// A stop, and where it is.
 #[derive(Clone, Copy)]
 struct Stop<'a> {
-    run: &'a Run,
-    reference: &'a Reference,
+    trial: Trial<'a>,
     devices: &'a Devices<MemDisk>,
     progress: Progress,
     device: Device,
@@ -101,7 +109,6 @@ fn put_place(stop: &Stop, tear: Tear, out: &mut Text) {
 
 /// Goes on from one image.
 fn try_image(
-    alloc: Global,
     stop: &Stop,
     tear: Tear,
     others: Tear,
@@ -109,9 +116,10 @@ fn try_image(
     out: &mut Text,
 ) -> Result<(), Halt> {
     put_place(stop, tear, out);
-    let mut image = Image::new(alloc);
+    let trial = stop.trial;
+    let mut image = Image::new(trial.alloc);
     put_images(stop.devices, stop.device, tear, others, &mut image)?;
-    let found = resume(alloc, &image, stop.run, stop.progress, stop.reference, out)?;
+    let found = resume(trial.alloc, &image, stop.progress, trial.reference, out)?;
     count.stops = count.stops.wrapping_add(1);
     if found > stop.progress.acknowledged {
         count.ahead = count.ahead.wrapping_add(1);
@@ -120,49 +128,31 @@ fn try_image(
 }
 
 /// Goes on from one tear, with the other devices as they read, and as they were synced where that differs.
-fn try_tear(
-    alloc: Global,
-    stop: &Stop,
-    tear: Tear,
-    count: &mut Count,
-    out: &mut Text,
-) -> Result<(), Halt> {
-    try_image(alloc, stop, tear, Tear::Kept, count, out)?;
+fn try_tear(stop: &Stop, tear: Tear, count: &mut Count, out: &mut Text) -> Result<(), Halt> {
+    try_image(stop, tear, Tear::Kept, count, out)?;
     if others_are_synced(stop.devices, stop.device) {
         return Ok(());
     }
-    try_image(alloc, stop, tear, Tear::Lost, count, out)
+    try_image(stop, tear, Tear::Lost, count, out)
 }
 
 /// Goes on from each front of what is not synced whose length is a multiple of `step`.
-fn try_fronts(
-    alloc: Global,
-    stop: &Stop,
-    step: usize,
-    count: &mut Count,
-    out: &mut Text,
-) -> Result<(), Halt> {
+fn try_fronts(stop: &Stop, step: usize, count: &mut Count, out: &mut Text) -> Result<(), Halt> {
     let (_, bytes) = since_sync(stop.device.of(stop.devices));
     for front in 0..bytes {
         if front.checked_rem(step) == Some(0) {
-            try_tear(alloc, stop, Tear::Front(front), count, out)?;
+            try_tear(stop, Tear::Front(front), count, out)?;
         }
     }
     Ok(())
 }
 
 /// Goes on from each tear of one stop.
-fn try_stop(
-    alloc: Global,
-    stop: &Stop,
-    tears: &[Tears],
-    count: &mut Count,
-    out: &mut Text,
-) -> Result<(), Halt> {
-    for tear in tears {
+fn try_stop(stop: &Stop, count: &mut Count, out: &mut Text) -> Result<(), Halt> {
+    for tear in stop.trial.tears {
         match *tear {
-            Tears::One(tear) => try_tear(alloc, stop, tear, count, out)?,
-            Tears::Fronts(step) => try_fronts(alloc, stop, step, count, out)?,
+            Tears::One(tear) => try_tear(stop, tear, count, out)?,
+            Tears::Fronts(step) => try_fronts(stop, step, count, out)?,
         }
     }
     Ok(())
@@ -170,48 +160,41 @@ fn try_stop(
 
 /// Goes on from the stop of a device after so many calls. It is none where the run has no more.
 fn try_call(
-    alloc: Global,
-    run: &Run,
-    reference: &Reference,
+    trial: Trial,
     device: Device,
     after: u64,
-    tears: &[Tears],
     count: &mut Count,
     out: &mut Text,
 ) -> Result<bool, Halt> {
     let mut progress = NO_PROGRESS;
-    let stopped = stop_run(alloc, run, device, after, &mut progress)?;
+    let stopped = stop_run(trial.alloc, trial.run, device, after, &mut progress)?;
     let devices = &stopped.devices;
     if (device.of(devices).calls().len() as u64) < after {
         return Ok(false);
     }
     let stop = Stop {
-        run,
-        reference,
+        trial,
         devices,
         progress,
         device,
         after,
     };
     // Of a stop inside a making nothing is promised.
-    if progress.is_open || matches!(run.opening, Opening::Recover(_)) {
-        try_stop(alloc, &stop, tears, count, out)?;
+    if progress.is_open || matches!(trial.run.opening, Opening::Recover(_)) {
+        try_stop(&stop, count, out)?;
     }
     Ok(true)
 }
 
 /// Goes on from each stop of one device.
 fn try_device(
-    alloc: Global,
-    run: &Run,
-    reference: &Reference,
+    trial: Trial,
     device: Device,
-    tears: &[Tears],
     count: &mut Count,
     out: &mut Text,
 ) -> Result<(), Halt> {
     for after in 0..MOST_CALLS {
-        if !try_call(alloc, run, reference, device, after, tears, count, out)? {
+        if !try_call(trial, device, after, count, out)? {
             return Ok(());
         }
     }
@@ -224,17 +207,23 @@ fn count_stops(
     run: &Run,
     only: Option<Device>,
     words: &str,
-    count: &mut Count,
     out: &mut Text,
-) -> Result<(), Halt> {
+) -> Result<Count, Halt> {
+    let mut count = Count { stops: 0, ahead: 0 };
     let tears = tears_of(alloc, words)?;
     let reference = reference_of(alloc, run)?;
+    let trial = Trial {
+        alloc,
+        run,
+        reference: &reference,
+        tears: &tears,
+    };
     for device in DEVICES {
         if is_meant(device, only) {
-            try_device(alloc, run, &reference, device, &tears, count, out)?;
+            try_device(trial, device, &mut count, out)?;
         }
     }
-    Ok(())
+    Ok(count)
 }
 
 fn is_meant(device: Device, only: Option<Device>) -> bool {
@@ -252,8 +241,7 @@ pub fn put_stops(
     words: &str,
     out: &mut Text,
 ) -> Result<(), Halt> {
-    let mut count = Count { stops: 0, ahead: 0 };
-    count_stops(alloc, run, only, words, &mut count, out)?;
+    let count = count_stops(alloc, run, only, words, out)?;
     out.clear();
     put_count(b"", count.stops, out);
     put_count(b" ended alike, ", count.ahead, out);

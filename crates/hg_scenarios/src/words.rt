@@ -4,7 +4,7 @@ ghost use Rattle.std.specs.Prelude.{◌<◌, IfOk};
 
 use hg_gate::GateFault;
 use hg_model::verdict::Refusal;
-use std::alloc::AllocError;
+use std::alloc::{AllocError, AllocFailed};
 
 /// Why a line has no other answer.
 #[derive(Clone, Copy)]
@@ -27,6 +27,12 @@ pub enum Halt {
 
 impl From<AllocError> for Halt {
     fn from(_: AllocError) -> Halt {
+        Halt::Memory
+    }
+}
+
+impl<T: Drop> From<AllocFailed<T>> for Halt {
+    fn from(_: AllocFailed<T>) -> Halt {
         Halt::Memory
     }
 }

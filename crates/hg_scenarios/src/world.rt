@@ -80,7 +80,7 @@ impl World {
             "log" => self.log.perform(alloc, shelf, rest, out),
             "journal" => self.journal.perform(alloc, shelf, rest, out),
             "gated" => self.gated.perform(alloc, shelf, rest, out),
-            _ => self.bench.perform(alloc, shelf, word, rest, out),
+            _ => self.bench.perform(shelf, word, rest, out),
         }
     }
 
