@@ -5,7 +5,7 @@ use Rattle.hg_disk.specs.Moments.{LeavesOnly}
 use Rattle.hg_cells.specs.declared.cell.Cell.{Cell}
 use Rattle.hg_pool.specs.Kept.{IsWhole}
 use Rattle.hg_pool.specs.Maps.{disk_of, is_broken, live}
-use Rattle.hg_pool.specs.Picking.{IsFreezeRefusal}
+use Rattle.hg_pool.specs.Picking.{LacksSlots}
 use Rattle.hg_pool.specs.Shown.{Shown}
 use Rattle.hg_root.specs.Checkpoints.{Checkpoint, HasSlotsOf, root_of}
 use Rattle.hg_root.specs.Grammar.{pages_text}
@@ -15,9 +15,8 @@ use Rattle.hg_root.specs.declared.pair.RootPair.{RootPair}
 use Rattle.hg_contents.specs.Maps.{IsKnownTo, IsNewElsewhere, checkpoint_of}
 use Rattle.hg_checkpointer.specs.Standing.{EachEither, EachNow, IsDraft, IsHead, IsNext, RootsStand, Stands, root_with}
 use Rattle.hg_checkpointer.specs.Tables.{pages_of}
-use Rattle.hg_checkpointer.specs.Told.{refusal_of}
 use Rattle.hg_checkpointer.specs.declared.cause.Cause.{Cause}
-use Rattle.hg_checkpointer.specs.declared.cause.Cause.TheVariants.{Broken, DeviceFault, OutOfMemory}
+use Rattle.hg_checkpointer.specs.declared.cause.Cause.TheVariants.{Broken, DeviceFault, FullSlots, OutOfMemory}
 use Rattle.hg_checkpointer.specs.declared.checkpointer.Checkpointer.{Checkpointer}
 use Rattle.hg_checkpointer.specs.declared.phase.Phase.TheVariants.{Flushing}
 
@@ -25,9 +24,9 @@ use Rattle.hg_checkpointer.specs.declared.phase.Phase.TheVariants.{Flushing}
 abbrev pub IsOfDevice : Cause → Type 0
 IsOfDevice cause = (cause ≡ Broken) ⊎ (cause ≡ DeviceFault)
 
--- A freeze is refused so: a device failed earlier, or the pool refuses it.
+-- A freeze is refused so: a device failed earlier, memory was refused, or fewer slots are free than pages were changed.
 abbrev pub IsOfFreezing : {D : Type 0} → Shown D → Cause → Type 0
-IsOfFreezing pool cause = (cause ≡ Broken) ⊎ IsFreezeRefusal pool (refusal_of cause)
+IsOfFreezing pool cause = (cause ≡ Broken) ⊎ ((cause ≡ OutOfMemory) ⊎ ((cause ≡ FullSlots) × LacksSlots pool))
 
 -- The writing of a root is refused so: memory was refused, or a device failed.
 abbrev pub IsOfWriting : Cause → Type 0

@@ -1,7 +1,10 @@
 -- How the causes of a checkpoint's refusals go together with those of other layers.
-use Rattle.std.specs.Prelude.{◌≡◌, ◌⊎◌}
 use Rattle.hg_model.specs.declared.verdict.Refusal.{Refusal}
 use Rattle.hg_model.specs.declared.verdict.Refusal.TheVariants as refusal
+use Rattle.hg_pages.specs.declared.fault.WriteFault.{WriteFault}
+use Rattle.hg_pages.specs.declared.fault.WriteFault.TheVariants as write
+use Rattle.hg_pool.specs.declared.fault.FreezeFault.{FreezeFault}
+use Rattle.hg_pool.specs.declared.fault.FreezeFault.TheVariants as freeze
 use Rattle.hg_root.specs.declared.fault.RootFault.{RootFault}
 use Rattle.hg_root.specs.declared.fault.RootFault.TheVariants as fault
 use Rattle.hg_checkpointer.specs.declared.cause.Cause.{Cause}
@@ -14,6 +17,16 @@ told_as fault.Damaged = cause.Damaged
 told_as fault.DeviceFault = cause.DeviceFault
 told_as fault.OutOfMemory = cause.OutOfMemory
 
+-- the cause of a freeze that the pool refused
+abbrev pub of_freeze : FreezeFault → Cause
+of_freeze freeze.FullSlots = cause.FullSlots
+of_freeze freeze.OutOfMemory = cause.OutOfMemory
+
+-- what a fault of a write or a sync of the slots is told as
+abbrev pub of_write : WriteFault → Cause
+of_write write.Broken = cause.Broken
+of_write write.DeviceFault = cause.DeviceFault
+
 -- the refusal of the same name
 abbrev pub refusal_of : Cause → Refusal
 refusal_of cause.Broken = refusal.Broken
@@ -22,7 +35,3 @@ refusal_of cause.DeviceFault = refusal.DeviceFault
 refusal_of cause.FullEvents = refusal.FullEvents
 refusal_of cause.FullSlots = refusal.FullSlots
 refusal_of cause.OutOfMemory = refusal.OutOfMemory
-
--- A pool or a device refuses a step of a checkpoint so, or a part of its root has no spelling.
-abbrev pub IsOfCheckpoint : Refusal → Type 0
-IsOfCheckpoint r = (r ≡ refusal.Broken) ⊎ ((r ≡ refusal.DeviceFault) ⊎ ((r ≡ refusal.OutOfMemory) ⊎ ((r ≡ refusal.FullSlots) ⊎ (r ≡ refusal.Damaged))))

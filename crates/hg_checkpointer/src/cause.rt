@@ -1,8 +1,9 @@
 //! Why a step of a checkpoint was refused, and how causes of other layers become one and one becomes theirs.
 ghost use Rattle.std.specs.Prelude.{◌≡◌};
-ghost use Rattle.hg_checkpointer.specs.Told.{IsOfCheckpoint, refusal_of};
 
 use hg_model::verdict::Refusal;
+use hg_pages::WriteFault;
+use hg_pool::FreezeFault;
 use hg_root::RootFault;
 
 /// Why a step of a checkpoint was refused that is one of its phase.
@@ -22,20 +23,30 @@ pub enum Cause {
     OutOfMemory,
 }
 
-impl Cause {
-    /// The cause of this name.
-    pub fn of(refusal: Refusal) -> Cause
-        requires { IsOfCheckpoint refusal }
-        ensures { refusal ≡ refusal_of result }
-    {
-        match refusal {
-            Refusal::Broken => Cause::Broken,
-            Refusal::Damaged => Cause::Damaged,
-            Refusal::DeviceFault => Cause::DeviceFault,
-            Refusal::FullEvents => Cause::FullEvents,
-            Refusal::FullSlots => Cause::FullSlots,
-            Refusal::OutOfMemory => Cause::OutOfMemory,
-            _ => unreachable!(),
+/// The cause of a freeze that the pool refused.
+impl From<FreezeFault> for Cause {
+    ghost use Rattle.hg_checkpointer.specs.Told.{of_freeze};
+
+    ghost from_gives = { λ fault cause. cause ≡ of_freeze fault };
+
+    fn from(fault: FreezeFault) -> Cause {
+        match fault {
+            FreezeFault::FullSlots => Cause::FullSlots,
+            FreezeFault::OutOfMemory => Cause::OutOfMemory,
+        }
+    }
+}
+
+/// What a fault of a write or a sync of the slots is told as.
+impl From<WriteFault> for Cause {
+    ghost use Rattle.hg_checkpointer.specs.Told.{of_write};
+
+    ghost from_gives = { λ fault cause. cause ≡ of_write fault };
+
+    fn from(fault: WriteFault) -> Cause {
+        match fault {
+            WriteFault::Broken => Cause::Broken,
+            WriteFault::DeviceFault => Cause::DeviceFault,
         }
     }
 }

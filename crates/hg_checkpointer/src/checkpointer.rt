@@ -155,7 +155,7 @@ impl<D: Disk> Checkpointer<D> {
                 self.phase = Phase::Flushing;
                 Ok(())
             }
-            Err(refusal) => Err(CheckpointFault::Refused(Cause::of(refusal))),
+            Err(fault) => Err(CheckpointFault::Refused(Cause::from(fault))),
         }
     }
 
@@ -200,9 +200,9 @@ impl<D: Disk> Checkpointer<D> {
                 self.phase = Phase::Sealed;
                 Ok(())
             }
-            Err(refusal) => {
+            Err(fault) => {
                 self.is_broken = true;
-                Err(CheckpointFault::Refused(Cause::of(refusal)))
+                Err(CheckpointFault::Refused(Cause::from(fault)))
             }
         }
     }

@@ -5,7 +5,7 @@ ghost use Rattle.std.specs.Prelude.{◌<◌};
 use crate::disks::disks_of;
 use crate::text::{Text, bytes_of, front};
 use hg_disk::{FuseDisk, MemDisk, Tear};
-use hg_pages::{EncodedPage, SLOT_LEN, SlotFault, SlotFile};
+use hg_pages::{EncodedPage, SLOT_LEN, SlotFile, WriteFault};
 use hg_root::{RootFault, RootPair};
 use std::alloc::Global;
 
@@ -44,11 +44,11 @@ fn put_image(disk: &MemDisk, calls: usize, tear: Tear, out: &mut Text) {
 
 // ---- slots
 
-fn put_slot_answer(answer: Result<(), SlotFault>, out: &mut Text) {
+fn put_slot_answer(answer: Result<(), WriteFault>, out: &mut Text) {
     match answer {
         Ok(()) => out.put(b" ok"),
-        Err(SlotFault::DeviceFault) => out.put(b" fault"),
-        Err(_) => out.put(b" refused"),
+        Err(WriteFault::DeviceFault) => out.put(b" fault"),
+        Err(WriteFault::Broken) => out.put(b" refused"),
     }
 }
 

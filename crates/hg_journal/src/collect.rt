@@ -58,8 +58,5 @@ fn note(found: &mut Vec<Named>, named: Named) -> Result<(), Refusal>
     ensures items { OnOk result (found.new.items ≡ found.old.items ++ named ∷ []) }
     ensures refusal { IfErr result (λ refusal. refusal ≡ Refusal.OutOfMemory) }
 {
-    match found.push(named) {
-        Ok(()) => Ok(()),
-        Err(_) => Err(Refusal::OutOfMemory),
-    }
+    Ok(found.push(named)?)
 }

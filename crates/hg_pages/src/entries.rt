@@ -59,10 +59,10 @@ pub(crate) fn put(
             entries[place] = (page, slot);
             Ok(Some(former))
         }
-        Err(place) => match entries.insert(place, (page, slot)) {
-            Ok(()) => Ok(None),
-            Err(_) => Err(AllocError),
-        },
+        Err(place) => {
+            entries.insert(place, (page, slot))?;
+            Ok(None)
+        }
     }
 }
 

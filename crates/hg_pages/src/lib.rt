@@ -12,6 +12,6 @@ mod table;
 
 pub use decoded::{MOST_PAGES, decode};
 pub use encoded::{EncodedPage, SLOT_LEN, encode};
-pub use fault::SlotFault;
+pub use fault::{SlotFault, WriteFault};
 pub use slot_file::{MOST_SLOTS, SlotFile};
 pub use table::Table;

@@ -1,17 +1,17 @@
 //! A file of slots, each of which has one page.
-ghost use Rattle.std.specs.Prelude.{◌≡◌, ◌+◌, ◌*◌, ◌<◌, ◌≤◌, ◌↔◌, ℕ, ◌∷◌, length, take, false, IsTrue, OnOk, OnErr, IsErrOf, Err, IfOk, IfErr, map};
+ghost use Rattle.std.specs.Prelude.{◌≡◌, ◌+◌, ◌*◌, ◌<◌, ◌≤◌, ◌↔◌, ℕ, ◌∷◌, length, take, false, IsTrue, OnOk, OnErr, IsErrOf, Err, IfOk, map};
 ghost use Rattle.std.specs.Int.{w64, to_be_bytes};
 ghost use Rattle.hg_disk.specs.State.{after_sync, counted};
 ghost use Rattle.hg_disk.specs.Moments.{AddsNoImage, IsNeverShorter};
 ghost use Rattle.hg_disk.specs.Calls.{CallsAtMost};
 ghost use Rattle.hg_pages.specs.Slots.{AreKnown, HasBytes, IsOutside};
 ghost use Rattle.hg_pages.specs.Tables.{IsLeastFree, IsLeastFreeFrom, SomeNames};
-ghost use Rattle.hg_pages.specs.Fault.{failures_after, IsBrokenOrDevice};
+ghost use Rattle.hg_pages.specs.Fault.{failures_after, failures_after_write};
 ghost use Rattle.hg_pages.specs.declared.fault.SlotFault.TheVariants.{Damaged};
 
 use crate::decoded::{decode, page_in};
 use crate::encoded::{EncodedPage, SLOT_LEN};
-use crate::fault::SlotFault;
+use crate::fault::{SlotFault, WriteFault};
 use crate::table::Table;
 use hg_cells::Page;
 use hg_disk::{Disk, DiskFault};
@@ -130,7 +130,7 @@ impl<D: Disk> SlotFile<D> {
     /// call. After an `Err` each later call but `into_disks` answers `Broken`.
     ///
     /// Whatever a crash at any moment leaves in another slot, it leaves there still.
-    pub fn write(&mut self, slot: u32, page: &EncodedPage) -> Result<(), SlotFault>
+    pub fn write(&mut self, slot: u32, page: &EncodedPage) -> Result<(), WriteFault>
         ensures written { OnOk result (HasBytes slot page.now.bytes (known ⟦<D as Disk>⟧ self.new)) }
         ensures others { KeepsOthers ⟦<D as Disk>⟧ slot self.old self.new result }
 
@@ -146,17 +146,16 @@ impl<D: Disk> SlotFile<D> {
         // No image gets shorter than each was.
         ensures long { (n : ℕ) → IsNeverShorter ⟦<D as Disk>⟧ n (disk_of self.old) (disk_of self.new) }
 
-        ensures fault { IfErr result IsBrokenOrDevice }
         ensures calls { CallsAtMost ⟦<D as Disk>⟧ 1 (disk_of self.old) (disk_of self.new) }
-        ensures device { D.failures (disk_of self.new) ≡ failures_after result (D.failures (disk_of self.old)) }
-        ensures broken { IsErrOf result SlotFault.Broken → IsTrue (is_broken self.old) }
+        ensures device { D.failures (disk_of self.new) ≡ failures_after_write result (D.failures (disk_of self.old)) }
+        ensures broken { IsErrOf result WriteFault.Broken → IsTrue (is_broken self.old) }
         ensures works { OnOk result (is_broken self.new ≡ false) }
         ensures breaks { OnErr result (IsTrue (is_broken self.new)) }
-        ensures refuses { IsTrue (is_broken self.old) → result ≡ Err SlotFault.Broken }
+        ensures refuses { IsTrue (is_broken self.old) → result ≡ Err WriteFault.Broken }
         ensures same { IsTrue (is_broken self.old) → self.new ≡ self.old }
     {
         if self.is_broken {
-            return Err(SlotFault::Broken);
+            return Err(WriteFault::Broken);
         }
         self.before = Snapshot::of(&self.disk);
         let written = self
@@ -168,21 +167,20 @@ impl<D: Disk> SlotFile<D> {
 
     /// Makes what stands in the slots durable. It makes one device call. After an `Err` each later call but `into_disks`
     /// answers `Broken`.
-    pub fn seal(&mut self) -> Result<(), SlotFault>
+    pub fn seal(&mut self) -> Result<(), WriteFault>
         ensures known { known ⟦<D as Disk>⟧ self.new ≡ known ⟦<D as Disk>⟧ self.old }
         ensures durable { OnOk result (LeavesKnown ⟦<D as Disk>⟧ self.old self.new) }
         ensures any_moment { AddsNoImage ⟦<D as Disk>⟧ (disk_of self.old) (disk_of self.new) }
-        ensures fault { IfErr result IsBrokenOrDevice }
         ensures calls { CallsAtMost ⟦<D as Disk>⟧ 1 (disk_of self.old) (disk_of self.new) }
-        ensures device { D.failures (disk_of self.new) ≡ failures_after result (D.failures (disk_of self.old)) }
-        ensures broken { IsErrOf result SlotFault.Broken → IsTrue (is_broken self.old) }
+        ensures device { D.failures (disk_of self.new) ≡ failures_after_write result (D.failures (disk_of self.old)) }
+        ensures broken { IsErrOf result WriteFault.Broken → IsTrue (is_broken self.old) }
         ensures works { OnOk result (is_broken self.new ≡ false) }
         ensures breaks { OnErr result (IsTrue (is_broken self.new)) }
-        ensures refuses { IsTrue (is_broken self.old) → result ≡ Err SlotFault.Broken }
+        ensures refuses { IsTrue (is_broken self.old) → result ≡ Err WriteFault.Broken }
         ensures same { IsTrue (is_broken self.old) → self.new ≡ self.old }
     {
         if self.is_broken {
-            return Err(SlotFault::Broken);
+            return Err(WriteFault::Broken);
         }
         self.before = Snapshot::of(&self.disk);
         let synced = sync(&mut self.disk);

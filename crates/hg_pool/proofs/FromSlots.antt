@@ -10,12 +10,12 @@ use Rattle.hg_cells.specs.Cells.{IsWithin}
 use Rattle.hg_pages.specs.declared.fault.SlotFault.{SlotFault}
 use Rattle.hg_pages.specs.declared.fault.SlotFault.TheVariants as fault
 use Rattle.hg_pages.specs.declared.slot_file.SlotFile.{SlotFile}
+use Rattle.hg_pages.specs.Fault.{told_as}
 use Rattle.hg_pages.specs.Files as files
 use Rattle.hg_pages.specs.Slots.{AreKnown, HasBytes, HasPage, IsKnown}
 use Rattle.hg_pages.specs.Tables.{slot_in}
 use Rattle.hg_pages.proofs.Decoding.{stored}
 use Rattle.hg_pool.specs.declared.frame.Frame.{Frame}
-use Rattle.hg_pool.specs.Answers.{told_as}
 use Rattle.hg_pool.specs.Kept.{AreWithin, CellsFrom, HasSome, IsWhole, Stays}
 use Rattle.hg_pool.specs.Maps.{bytes_of, disk_of, frame_in, in_frame_or, in_slot, is_broken, live}
 use Rattle.hg_pool.specs.Shown.{Shown}

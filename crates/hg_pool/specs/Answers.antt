@@ -4,18 +4,17 @@ use Rattle.std.specs.Set.{remove_key}
 use Rattle.hg_model.specs.declared.verdict.Refusal.{Refusal}
 use Rattle.hg_model.specs.declared.verdict.Refusal.TheVariants as refusal
 use Rattle.hg_cells.specs.declared.cell.Cell.{Cell}
-use Rattle.hg_pages.specs.declared.fault.SlotFault.{SlotFault}
-use Rattle.hg_pages.specs.declared.fault.SlotFault.TheVariants as fault
 use Rattle.hg_pages.specs.Tables.{IsNamed}
+use Rattle.hg_pool.specs.declared.fault.FreezeFault.{FreezeFault}
+use Rattle.hg_pool.specs.declared.fault.FreezeFault.TheVariants as fault
 use Rattle.hg_pool.specs.declared.frame.Frame.{Frame}
 use Rattle.hg_pool.specs.Maps.{copy_in, frame_in, is_broken}
 use Rattle.hg_pool.specs.Shown.{Shown}
 
-abbrev pub told_as : SlotFault → Refusal
-told_as fault.Broken = refusal.Broken
-told_as fault.Damaged = refusal.Damaged
-told_as fault.DeviceFault = refusal.DeviceFault
-told_as fault.OutOfMemory = refusal.OutOfMemory
+-- what a refused freeze is told as
+abbrev pub refusal_of : FreezeFault → Refusal
+refusal_of fault.FullSlots = refusal.FullSlots
+refusal_of fault.OutOfMemory = refusal.OutOfMemory
 
 -- The slot is named: by a table of the pool, or as picked.
 abbrev pub IsTaken : {D : Type 0} → Shown D → ℕ → Type 0
@@ -33,10 +32,6 @@ IsTrueCause old new refusal.DeviceFault = Unit {0}
 IsTrueCause old new refusal.OutOfMemory = Unit {0}
 IsTrueCause old new refusal.Damaged = Unit {0}
 IsTrueCause old new _ = ⊥
-
--- the causes of a call that reads nothing, takes no memory and picks no slot
-abbrev pub IsDeviceCause : Refusal → Type 0
-IsDeviceCause r = (r ≡ refusal.Broken) ⊎ (r ≡ refusal.DeviceFault)
 
 -- the first page of a table
 abbrev pub least_of : List (ℕ × ℕ) → Option ℕ

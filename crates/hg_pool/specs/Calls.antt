@@ -11,9 +11,11 @@ use Rattle.hg_detect.specs.Words.{failed_after}
 use Rattle.hg_disk.specs.declared.disk.Disk as disk
 use Rattle.hg_disk.specs.Moments.{Leaves, LeavesOnly}
 use Rattle.hg_pages.specs.Encoded.{Encoded}
+use Rattle.hg_pages.specs.Fault.{failures_after_write}
 use Rattle.hg_pages.specs.Slots.{HasBytes, HasSlot, IsKnown, IsSlot, slot_text}
 use Rattle.hg_pages.specs.Tables as tables
 use Rattle.hg_pages.specs.Tables.{IsNamed, slot_in}
+use Rattle.hg_pages.specs.declared.fault.WriteFault.{WriteFault}
 use Rattle.hg_pages.specs.declared.slot_file.SlotFile.{SlotFile}
 use Rattle.hg_pool.specs.declared.frame.Frame.{Frame}
 use Rattle.hg_pool.specs.declared.job.Job.{Job}
@@ -218,6 +220,10 @@ module _ {D : Type 0} (g : disk.Ghosts D) where
   -- The count of failed calls is that of before, and the one of an answer DeviceFault.
   abbrev pub CountsFailures : {T : Type 0} → (old new : Shown D) → Result T Refusal → Type 0
   CountsFailures old new result = g.failures (disk_of new) ≡ failed_after result (g.failures (disk_of old))
+
+  -- The same of a write or a sync.
+  abbrev pub CountsWrites : {T : Type 0} → (old new : Shown D) → Result T WriteFault → Type 0
+  CountsWrites old new result = g.failures (disk_of new) ≡ failures_after_write result (g.failures (disk_of old))
 
   -- Over a whole pool the frozen map is the live one of before.
   abbrev pub FreezesLive : (old new : Shown D) → Type 0

@@ -1,7 +1,5 @@
 -- How pages are picked at a freeze.
 use Rattle.std.specs.Prelude.{◌≡◌, ◌⊎◌, ◌↔◌, ◌<◌, ◌≤◌, ℕ, true, List, length, Some, is_some}
-use Rattle.hg_model.specs.declared.verdict.Refusal.{Refusal}
-use Rattle.hg_model.specs.declared.verdict.Refusal.TheVariants as refusal
 use Rattle.hg_pages.specs.Tables.{AreEntries, IsNamed, slot_in}
 use Rattle.hg_pool.specs.declared.frame.Frame.{Frame}
 use Rattle.hg_pool.specs.Answers.{IsTaken}
@@ -37,10 +35,6 @@ pub record ArePicks {D : Type 0} (p : Shown D) (pages picks : List (ℕ × ℕ))
 abbrev pub AreTooFew : {D : Type 0} → Shown D → ℕ → Type 0
 AreTooFew p n = (picks : List (ℕ × ℕ)) × (length picks < n) × ((slot : ℕ) → slot < p.slots → IsTaken p slot ⊎ IsNamed picks slot)
 
--- why picks for n pages were refused
-abbrev pub IsFreezeCause : {D : Type 0} → Shown D → ℕ → Refusal → Type 0
-IsFreezeCause p n r = (r ≡ refusal.OutOfMemory) ⊎ ((r ≡ refusal.FullSlots) × AreTooFew p n)
-
--- Why a freeze was refused: a growth of memory was, or the free slots are fewer than the pages that were changed.
-abbrev pub IsFreezeRefusal : {D : Type 0} → Shown D → Refusal → Type 0
-IsFreezeRefusal p r = (r ≡ refusal.OutOfMemory) ⊎ ((r ≡ refusal.FullSlots) × (pages : List (ℕ × ℕ)) × AreEntries pages × ((q : ℕ) → (is_some (slot_in pages q) ≡ true) ↔ HasDirty p.frames q) × AreTooFew p (length pages))
+-- Fewer slots are free than pages were changed.
+abbrev pub LacksSlots : {D : Type 0} → Shown D → Type 0
+LacksSlots p = (pages : List (ℕ × ℕ)) × AreEntries pages × ((q : ℕ) → (is_some (slot_in pages q) ≡ true) ↔ HasDirty p.frames q) × AreTooFew p (length pages)

@@ -1,17 +1,16 @@
 //! The pages that wait are written, and a root that names them is opened.
-ghost use Rattle.std.specs.Prelude.{◌≡◌, ◌⊎◌, ◌↔◌, ◌+◌, ◌<◌, ◌≤◌, ◌^◌, ◌==◌, [], true, Some, None, Ok, Err, is_some, IsTrue, OnOk, OnErr, IfOk, IfErr, MatchOption, if◌then◌else◌};
+ghost use Rattle.std.specs.Prelude.{◌≡◌, ◌⊎◌, ◌↔◌, ◌+◌, ◌<◌, ◌≤◌, ◌^◌, ◌==◌, [], true, Some, None, Ok, Err, is_some, IsTrue, OnOk, OnErr, IfOk, IsErrOf, MatchOption, if◌then◌else◌};
 ghost use Rattle.hg_pages.specs.Tables.{slot_in};
 ghost use Rattle.hg_pool.specs.Maps.{is_broken};
 ghost use Rattle.hg_pool.specs.Kept.{CellsFrom, Stays};
-ghost use Rattle.hg_pool.specs.Answers.{IsDeviceCause, IsFrozen, order_of};
-ghost use Rattle.hg_pool.specs.Calls.{CountsFailures, HasWaited, IsNextJob, IsStale, LosesWritten, SealsWhole, WaitsFor};
+ghost use Rattle.hg_pool.specs.Answers.{IsFrozen, order_of};
+ghost use Rattle.hg_pool.specs.Calls.{CountsWrites, HasWaited, IsNextJob, IsStale, LosesWritten, SealsWhole, WaitsFor};
 
 use crate::job::{Job, Put};
-use crate::parts::{Parts, told};
+use crate::parts::Parts;
 use hg_cells::Page;
 use hg_disk::Disk;
-use hg_model::verdict::Refusal;
-use hg_pages::EncodedPage;
+use hg_pages::{EncodedPage, WriteFault};
 
 impl<D: Disk> Parts<D> {
     ghost use Rattle.hg_pool.specs.Reached.{IsReached};
@@ -67,7 +66,7 @@ impl<D: Disk> Parts<D> {
     }
 
     /// Writes a page to the slot that was picked for it, where it waits and the bytes are those of its frozen cells.
-    pub(crate) fn put(&mut self, page: &EncodedPage) -> Result<Put, Refusal>
+    pub(crate) fn put(&mut self, page: &EncodedPage) -> Result<Put, WriteFault>
         requires sound { IsSound self.old }
         ensures sound { IsSound self.new }
         ensures reached { IsReached self.old → IsReached self.new }
@@ -76,28 +75,25 @@ impl<D: Disk> Parts<D> {
         ensures stale { IfOk result (λ put. put ≡ Put.Stale → IsStale (shown_of self.old) page.now) }
         ensures nothing { IfOk result (λ put. put ≡ Put.Stale → self.new ≡ self.old) }
         ensures waiting { LosesWritten page.now.page self.old.waiting.entries self.new.waiting.entries result }
-        ensures refusal { IfErr result IsDeviceCause }
-        ensures broken { (result ≡ Err Refusal.Broken) → IsTrue (is_broken (shown_of self.old)) }
+        ensures broken { IsErrOf result WriteFault.Broken → IsTrue (is_broken (shown_of self.old)) }
         ensures breaks { OnErr result (IsTrue (is_broken (shown_of self.new))) }
         ensures cells { CellsFrom self.old.frames.entries self.new.frames.entries }
         ensures order { order_of (shown_of self.new) ≡ order_of (shown_of self.old) }
         ensures refused { OnErr result (self.new ≡ record self.old { file = self.new.file }) }
-        ensures device { CountsFailures ⟦<D as Disk>⟧ (shown_of self.old) (shown_of self.new) result }
+        ensures device { CountsWrites ⟦<D as Disk>⟧ (shown_of self.old) (shown_of self.new) result }
     {
         match self.awaits(page) {
             None => Ok(Put::Stale),
-            Some(slot) => match self.write_waiting(slot, page) {
-                Ok(()) => {
-                    self.search_from = 0;
-                    Ok(Put::Written)
-                }
-                Err(refusal) => Err(refusal),
-            },
+            Some(slot) => {
+                self.write_waiting(slot, page)?;
+                self.search_from = 0;
+                Ok(Put::Written)
+            }
         }
     }
 
     /// Makes what was written durable.
-    pub(crate) fn seal(&mut self) -> Result<(), Refusal>
+    pub(crate) fn seal(&mut self) -> Result<(), WriteFault>
         requires sound { IsSound self.old }
         ensures sound { IsSound self.new }
         ensures reached { IsReached self.old → IsReached self.new }
@@ -105,20 +101,15 @@ impl<D: Disk> Parts<D> {
         ensures sealed { SealsWhole ⟦<D as Disk>⟧ (shown_of self.old) (shown_of self.new) result }
         ensures marked { self.old.waiting.entries ≡ [] → OnOk result (IsTrue self.new.is_sealed) }
         ensures rest { self.new ≡ record self.old { file = self.new.file; is_sealed = self.new.is_sealed } }
-        ensures refusal { IfErr result IsDeviceCause }
-        ensures broken { (result ≡ Err Refusal.Broken) → IsTrue (is_broken (shown_of self.old)) }
+        ensures broken { IsErrOf result WriteFault.Broken → IsTrue (is_broken (shown_of self.old)) }
         ensures breaks { OnErr result (IsTrue (is_broken (shown_of self.new))) }
-        ensures device { CountsFailures ⟦<D as Disk>⟧ (shown_of self.old) (shown_of self.new) result }
+        ensures device { CountsWrites ⟦<D as Disk>⟧ (shown_of self.old) (shown_of self.new) result }
     {
-        match self.file.seal() {
-            Err(fault) => Err(told(fault)),
-            Ok(()) => {
-                if self.waiting.len() == 0 {
-                    self.is_sealed = true;
-                }
-                Ok(())
-            }
+        self.file.seal()?;
+        if self.waiting.len() == 0 {
+            self.is_sealed = true;
         }
+        Ok(())
     }
 
     /// From now on the root's table is the frozen one.

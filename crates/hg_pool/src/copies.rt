@@ -21,8 +21,6 @@ pub(crate) fn add_copy(
     ensures refused { OnErr result (copies.new ≡ copies.old) }
     ensures refusal { IfErr result (λ r. r ≡ Refusal.OutOfMemory) }
 {
-    match copies.put(page, cells.copy()) {
-        Ok(_) => Ok(()),
-        Err(_) => Err(Refusal::OutOfMemory),
-    }
+    copies.put(page, cells.copy())?;
+    Ok(())
 }

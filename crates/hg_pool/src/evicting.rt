@@ -1,17 +1,17 @@
 //! Pages leave their frames, and those that were changed are written first.
-ghost use Rattle.std.specs.Prelude.{◌≡◌, ◌≢◌, ◌⊎◌, ◌↔◌, ◌+◌, ◌-◌, ◌<◌, ◌≤◌, ◌^◌, [], ◌∷◌, ◌++◌, length, map, true, false, Some, None, Ok, Err, is_some, IsTrue, OnOk, OnErr, IfOk, IfErr, ◌==◌, if◌then◌else◌};
+ghost use Rattle.std.specs.Prelude.{◌≡◌, ◌≢◌, ◌⊎◌, ◌↔◌, ◌+◌, ◌-◌, ◌<◌, ◌≤◌, ◌^◌, [], ◌∷◌, ◌++◌, length, map, true, false, Some, None, Ok, Err, is_some, IsTrue, OnOk, OnErr, IfOk, IfErr, IsErrOf, ◌==◌, if◌then◌else◌};
 ghost use Rattle.hg_pages.specs.Tables.{IsNamed, slot_in};
 ghost use Rattle.hg_pool.specs.declared.frame.Frame.{Frame as FrameOf};
 ghost use Rattle.hg_pool.specs.Maps.{copy_in, frame_in, is_broken};
 ghost use Rattle.hg_pool.specs.Kept.{CellsFrom, Stays};
-ghost use Rattle.hg_pool.specs.Answers.{IsDeviceCause, IsTaken, IsTrueCause, order_of};
+ghost use Rattle.hg_pool.specs.Answers.{IsTaken, IsTrueCause, order_of};
 ghost use Rattle.hg_pool.specs.Picking.{IsLeastFree, TakesLeastFree};
-ghost use Rattle.hg_pool.specs.Calls.{AreOfEither, ArePagesOf, CountsFailures, EncodesFrame, HasFreed, IsBroken, IsClean, IsCleanIfUncopied, IsOfFrame, IsOfFrozen, IsWith, IsWithout, MayBegin, MayChange, order_with_room};
+ghost use Rattle.hg_pool.specs.Calls.{AreOfEither, ArePagesOf, CountsFailures, CountsWrites, EncodesFrame, HasFreed, IsBroken, IsClean, IsCleanIfUncopied, IsOfFrame, IsOfFrozen, IsWith, IsWithout, MayBegin, MayChange, order_with_room};
 
 use crate::parts::Parts;
 use hg_disk::Disk;
 use hg_model::verdict::Refusal;
-use hg_pages::{EncodedPage, encode};
+use hg_pages::{EncodedPage, WriteFault, encode};
 use std::alloc::AllocError;
 
 impl<D: Disk> Parts<D> {
@@ -31,19 +31,22 @@ impl<D: Disk> Parts<D> {
     }
 
     // Writes a page that waits to the slot that was picked for it, from where it is frozen, and live if it was not changed since.
-    pub(crate) fn write_waiting(&mut self, slot: u32, encoded: &EncodedPage) -> Result<(), Refusal>
+    pub(crate) fn write_waiting(
+        &mut self,
+        slot: u32,
+        encoded: &EncodedPage,
+    ) -> Result<(), WriteFault>
         requires sound { IsSound self.old }
         requires waits { slot_in self.old.waiting.entries encoded.now.page ≡ Some slot }
         requires stands { IsOfFrozen ⟦<D as Disk>⟧ (shown_of self.old) encoded.now }
         requires as_frozen { IsOfFrame (shown_of self.old) encoded.now }
         ensures sound { IsSound self.new }
         ensures stays { Stays ⟦<D as Disk>⟧ (shown_of self.old) (shown_of self.new) }
-        ensures refusal { IfErr result IsDeviceCause }
-        ensures device { CountsFailures ⟦<D as Disk>⟧ (shown_of self.old) (shown_of self.new) result }
+        ensures device { CountsWrites ⟦<D as Disk>⟧ (shown_of self.old) (shown_of self.new) result }
         ensures cells { CellsFrom self.old.frames.entries self.new.frames.entries }
         ensures breaks { OnErr result (IsTrue (is_broken (shown_of self.new))) }
-        ensures refuses { IsBroken (shown_of self.old) → (result ≡ Err Refusal.Broken) × (self.new ≡ self.old) }
-        ensures broken { (result ≡ Err Refusal.Broken) → IsTrue (is_broken (shown_of self.old)) }
+        ensures refuses { IsBroken (shown_of self.old) → (result ≡ Err WriteFault.Broken) × (self.new ≡ self.old) }
+        ensures broken { IsErrOf result WriteFault.Broken → IsTrue (is_broken (shown_of self.old)) }
         ensures order { map (λ e. e.0) self.new.frames.entries ≡ map (λ e. e.0) self.old.frames.entries }
         ensures slots { AreOfEither self.old.live.entries self.old.waiting.entries self.new.live.entries }
         ensures search { self.new.search_from ≡ self.old.search_from }
@@ -77,9 +80,7 @@ impl<D: Disk> Parts<D> {
         ensures slots { OnOk result (IsWith page slot self.old.live.entries self.new.live.entries) }
         ensures refused { OnErr result (self.new.live.entries ≡ self.old.live.entries) }
     {
-        let Ok(encoded) = self.encoded(page) else {
-            return Err(Refusal::OutOfMemory);
-        };
+        let encoded = self.encoded(page)?;
         self.reserve_live(slot)?;
         self.write_unnamed(slot, &encoded)?;
         self.move_live(page, slot);
@@ -162,10 +163,8 @@ impl<D: Disk> Parts<D> {
         ensures clean { OnOk result (IsClean self.new.frames.entries page) }
     {
         self.search_from = 0;
-        let Ok(encoded) = self.encoded(page) else {
-            return Err(Refusal::OutOfMemory);
-        };
-        self.write_waiting(slot, &encoded)
+        let encoded = self.encoded(page)?;
+        Ok(self.write_waiting(slot, &encoded)?)
     }
 
     // Writes a page that was changed since its slot was written.
@@ -246,9 +245,7 @@ impl<D: Disk> Parts<D> {
         if self.frames.len() < self.frames.most() {
             return Ok(());
         }
-        match self.evict() {
-            Ok(_) => Ok(()),
-            Err(refusal) => Err(refusal),
-        }
+        self.evict()?;
+        Ok(())
     }
 }

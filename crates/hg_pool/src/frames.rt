@@ -93,10 +93,8 @@ fn take_place(
         return Err(AllocError);
     }
     let place = held.len() as u32;
-    match held.push(taken) {
-        Ok(()) => Ok(place),
-        Err(_) => Err(AllocError),
-    }
+    held.push(taken)?;
+    Ok(place)
 }
 
 // The frame in a place.

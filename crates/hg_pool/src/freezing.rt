@@ -1,58 +1,27 @@
 //! The live map is fixed as the frozen one.
-ghost use Rattle.std.specs.Prelude.{◌≡◌, ◌⊎◌, ◌↔◌, ◌+◌, ◌<◌, ◌≤◌, ◌^◌, ◌==◌, ℕ, [], ◌∷◌, length, true, false, Some, None, Ok, Err, is_some, OnOk, OnErr, IfOk, IfErr, MatchOption, if◌then◌else◌};
+ghost use Rattle.std.specs.Prelude.{◌≡◌, ◌⊎◌, ◌↔◌, ◌+◌, ◌<◌, ◌≤◌, ◌^◌, ◌==◌, ℕ, [], ◌∷◌, length, true, false, Some, None, Ok, Err, is_some, OnOk, OnErr, IfOk, IsErrOf, MatchOption, if◌then◌else◌};
 ghost use Rattle.hg_pages.specs.Tables.{slot_in};
 ghost use Rattle.hg_pool.specs.Maps.{frozen, live};
 ghost use Rattle.hg_pool.specs.Kept.{IsWhole, SameMap};
-ghost use Rattle.hg_pool.specs.Picking.{AreLeastFree, ArePicks, HasDirty, IsFreezeCause, IsFreezeRefusal};
+ghost use Rattle.hg_pool.specs.Picking.{AreLeastFree, ArePicks, AreTooFew, HasDirty, LacksSlots};
 ghost use Rattle.hg_pool.specs.Calls.{AreFree, AreLeft, AreTakenFrom, FreezesLive, FreezesOnOk, HasRoomFor, IsFirstFree, NamesDirty};
 
-use crate::frames::Frames;
+use crate::fault::FreezeFault;
 use crate::parts::Parts;
 use hg_disk::Disk;
-use hg_model::verdict::Refusal;
 use hg_pages::Table;
-use std::alloc::Global;
-
-// The pages that were changed, each with its place in the order of use.
-fn changed_pages(alloc: Global, frames: &Frames) -> Result<Table, Refusal>
-    requires { length frames.now.entries ≤ 4096 }
-    ensures pages { IfOk result (λ table. NamesDirty frames.now.entries table.entries) }
-    ensures few { IfOk result (λ table. length table.entries ≤ length frames.now.entries) }
-    ensures refusal { IfErr result (λ r. r ≡ Refusal.OutOfMemory) }
-{
-    match frames.changed(alloc) {
-        Ok(table) => Ok(table),
-        Err(_) => Err(Refusal::OutOfMemory),
-    }
-}
+use std::alloc::{AllocError, Global};
 
 // A table without these pages.
-fn without(alloc: Global, table: &Table, pages: &Table) -> Result<Table, Refusal>
+fn without(alloc: Global, table: &Table, pages: &Table) -> Result<Table, AllocError>
     ensures looks { IfOk result (λ left. AreLeft pages.now.entries table.now.entries left.entries) }
     ensures fewer { IfOk result (λ left. length left.entries ≤ length table.now.entries) }
-    ensures refusal { IfErr result (λ r. r ≡ Refusal.OutOfMemory) }
 {
-    let mut left = match table.copy(alloc) {
-        Ok(left) => left,
-        Err(_) => return Err(Refusal::OutOfMemory),
-    };
+    let mut left = table.copy(alloc)?;
     for entry in pages.entries() {
         left.remove(entry.0);
     }
     Ok(left)
-}
-
-// Makes room for so many entries, in any of so many slots.
-fn make_roomy(table: &mut Table, count: usize, slots: u32) -> Result<(), Refusal>
-    ensures entries { table.new.entries ≡ table.old.entries }
-    ensures room { OnOk result ((length table.new.entries + count ≤ table.new.capacity) × (slots ≤ table.new.slots)) }
-    ensures no_less { (table.old.capacity ≤ table.new.capacity) × (table.old.slots ≤ table.new.slots) }
-    ensures refusal { IfErr result (λ r. r ≡ Refusal.OutOfMemory) }
-{
-    match table.reserve(count, slots) {
-        Ok(()) => Ok(()),
-        Err(_) => Err(Refusal::OutOfMemory),
-    }
 }
 
 impl<D: Disk> Parts<D> {
@@ -72,20 +41,20 @@ impl<D: Disk> Parts<D> {
     }
 
     // A slot for each of these pages, in their order: each the least that nothing names.
-    fn pick(&self, pages: &Table) -> Result<Table, Refusal>
+    fn pick(&self, pages: &Table) -> Result<Table, FreezeFault>
         requires sound { IsSound self.now }
         ensures picks { IfOk result (λ picks. ArePicks (shown_of self.now) pages.now.entries picks.entries) }
-        ensures refusal { IfErr result (IsFreezeCause (shown_of self.now) (length pages.now.entries)) }
+        ensures full { IsErrOf result FreezeFault.FullSlots → AreTooFew (shown_of self.now) (length pages.now.entries) }
     {
         let mut picks = Table::new(self.alloc);
         let mut from = 0u32;
         for entry in pages.entries() {
             match self.free_slot_from(from) {
-                None => return Err(Refusal::FullSlots),
-                Some(slot) => match picks.set(entry.0, slot) {
-                    Ok(()) => from = slot + 1,
-                    Err(_) => return Err(Refusal::OutOfMemory),
-                },
+                None => return Err(FreezeFault::FullSlots),
+                Some(slot) => {
+                    picks.set(entry.0, slot)?;
+                    from = slot + 1;
+                }
             }
         }
         Ok(picks)
@@ -113,7 +82,7 @@ impl<D: Disk> Parts<D> {
     }
 
     /// Fixes the live map as the frozen one. The pages that were changed wait from then on.
-    pub(crate) fn freeze(&mut self) -> Result<(), Refusal>
+    pub(crate) fn freeze(&mut self) -> Result<(), FreezeFault>
         requires sound { IsSound self.old }
         ensures sound { IsSound self.new }
         ensures reached { IsReached self.new }
@@ -126,16 +95,16 @@ impl<D: Disk> Parts<D> {
         ensures table { self.new.live.entries ≡ self.old.live.entries }
         ensures sealed { OnOk result (self.new.is_sealed ≡ false) }
         ensures refused { OnErr result (shown_of self.new ≡ shown_of self.old) }
-        ensures refusal { IfErr result (IsFreezeRefusal (shown_of self.old)) }
+        ensures full { IsErrOf result FreezeFault.FullSlots → LacksSlots (shown_of self.old) }
     {
         self.search_from = 0;
         let _count = self.frames.len();
-        let changed = changed_pages(self.alloc, &self.frames)?;
+        let changed = self.frames.changed(self.alloc)?;
         let _entries = changed.entries();
         let waiting = self.pick(&changed)?;
         let mut frozen = without(self.alloc, &self.live, &changed)?;
-        make_roomy(&mut frozen, waiting.len(), self.slots)?;
-        make_roomy(&mut self.live, waiting.len(), self.slots)?;
+        frozen.reserve(waiting.len(), self.slots)?;
+        self.live.reserve(waiting.len(), self.slots)?;
         self.begin(waiting, frozen);
         Ok(())
     }

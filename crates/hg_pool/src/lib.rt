@@ -4,6 +4,7 @@
 mod checkpoint;
 mod copies;
 mod evicting;
+mod fault;
 mod frame;
 mod frames;
 mod freezing;
@@ -15,6 +16,7 @@ mod pool;
 mod steps;
 mod words;
 
+pub use fault::FreezeFault;
 pub use frame::Frame;
 pub use job::{Job, Put};
 pub use pool::Pool;

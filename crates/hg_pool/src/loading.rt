@@ -9,7 +9,7 @@ ghost use Rattle.hg_pool.specs.Answers.{IsTrueCause, order_of, order_with};
 ghost use Rattle.hg_pool.specs.Picking.{TakesLeastFree};
 ghost use Rattle.hg_pool.specs.Calls.{CountsFailures, FillsPage, KeepsFirst, LoadsUndamaged, MayChange, ReadsStored, ReadsUndamaged, StayWithin, UsesPage};
 
-use crate::parts::{Parts, told};
+use crate::parts::Parts;
 use hg_cells::{Cell, Page};
 use hg_disk::Disk;
 use hg_model::verdict::Refusal;
@@ -33,10 +33,7 @@ impl<D: Disk> Parts<D> {
     {
         match self.live.get(page) {
             None => Ok(Page::new()),
-            Some(slot) => match self.file.read_page(slot, page, segments, sets) {
-                Ok(cells) => Ok(cells),
-                Err(fault) => Err(told(fault)),
-            },
+            Some(slot) => Ok(self.file.read_page(slot, page, segments, sets)?),
         }
     }
 

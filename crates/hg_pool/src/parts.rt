@@ -4,15 +4,13 @@ ghost use Rattle.hg_pages.specs.Slots.{HasBytes};
 ghost use Rattle.hg_pages.specs.Tables.{IsNamed};
 ghost use Rattle.hg_pool.specs.Maps.{bytes_of, is_broken};
 ghost use Rattle.hg_pool.specs.Kept.{BreaksByFailure, Stays};
-ghost use Rattle.hg_pool.specs.Answers.{IsDeviceCause, IsFull, told_as};
-ghost use Rattle.hg_pool.specs.Calls.{CountsFailures, IsLeastSlot, KeepsSlotsBut, LeavesSlotsBut, SameBytes, StaysLong};
+ghost use Rattle.hg_pool.specs.Answers.{IsFull};
+ghost use Rattle.hg_pool.specs.Calls.{CountsWrites, IsLeastSlot, KeepsSlotsBut, LeavesSlotsBut, SameBytes, StaysLong};
 
 use crate::frames::Frames;
 use hg_cells::Page;
 use hg_disk::Disk;
-use hg_model::verdict::Refusal;
-use hg_pages::{EncodedPage, SlotFault, SlotFile, Table, encode};
-use hg_sets::SetTable;
+use hg_pages::{EncodedPage, SlotFile, Table, WriteFault};
 use lru::LruCache;
 use std::alloc::Global;
 
@@ -55,18 +53,6 @@ impl<D: Disk + Drop> Drop for Parts<D> {
         drop(waiting);
         drop(copies);
         drop(frames);
-    }
-}
-
-// What a fault of the file is told as.
-pub(crate) fn told(fault: SlotFault) -> Refusal
-    ensures { result ≡ told_as fault }
-{
-    match fault {
-        SlotFault::Broken => Refusal::Broken,
-        SlotFault::Damaged => Refusal::Damaged,
-        SlotFault::DeviceFault => Refusal::DeviceFault,
-        SlotFault::OutOfMemory => Refusal::OutOfMemory,
     }
 }
 
@@ -120,7 +106,7 @@ impl<D: Disk> Parts<D> {
     }
 
     // Writes a page to a slot: the one place where the file is written.
-    fn write_slot(&mut self, slot: u32, page: &EncodedPage) -> Result<(), Refusal>
+    fn write_slot(&mut self, slot: u32, page: &EncodedPage) -> Result<(), WriteFault>
         ensures rest { self.new ≡ record self.old { file = self.new.file } }
         ensures written { OnOk result (HasBytes slot page.now.bytes (bytes_of ⟦<D as Disk>⟧ (shown_of self.new))) }
         ensures others { KeepsSlotsBut ⟦<D as Disk>⟧ slot (shown_of self.old) (shown_of self.new) }
@@ -130,20 +116,16 @@ impl<D: Disk> Parts<D> {
         ensures works { is_broken (shown_of self.new) ≡ false → is_broken (shown_of self.old) ≡ false }
         ensures cause { BreaksByFailure ⟦<D as Disk>⟧ (shown_of self.old) (shown_of self.new) }
         ensures breaks { OnErr result (IsTrue (is_broken (shown_of self.new))) }
-        ensures refusal { IfErr result IsDeviceCause }
-        ensures broken { IsErrOf result Refusal.Broken → IsTrue (is_broken (shown_of self.old)) }
-        ensures refuses { IsTrue (is_broken (shown_of self.old)) → result ≡ Err Refusal.Broken }
+        ensures broken { IsErrOf result WriteFault.Broken → IsTrue (is_broken (shown_of self.old)) }
+        ensures refuses { IsTrue (is_broken (shown_of self.old)) → result ≡ Err WriteFault.Broken }
         ensures same { IsTrue (is_broken (shown_of self.old)) → self.new ≡ self.old }
-        ensures device { CountsFailures ⟦<D as Disk>⟧ (shown_of self.old) (shown_of self.new) result }
+        ensures device { CountsWrites ⟦<D as Disk>⟧ (shown_of self.old) (shown_of self.new) result }
     {
-        match self.file.write(slot, page) {
-            Ok(()) => Ok(()),
-            Err(fault) => Err(told(fault)),
-        }
+        self.file.write(slot, page)
     }
 
     /// Writes a page to a slot that no table names.
-    pub(crate) fn write_unnamed(&mut self, slot: u32, page: &EncodedPage) -> Result<(), Refusal>
+    pub(crate) fn write_unnamed(&mut self, slot: u32, page: &EncodedPage) -> Result<(), WriteFault>
         requires not_root { ¬ IsNamed self.old.root.entries slot }
         requires not_frozen { ¬ IsNamed (frozen_of self.old).entries slot }
         requires not_live { ¬ IsNamed self.old.live.entries slot }
@@ -151,11 +133,10 @@ impl<D: Disk> Parts<D> {
         ensures written { OnOk result (HasBytes slot page.now.bytes (bytes_of ⟦<D as Disk>⟧ (shown_of self.new))) }
         ensures stays { Stays ⟦<D as Disk>⟧ (shown_of self.old) (shown_of self.new) }
         ensures breaks { OnErr result (IsTrue (is_broken (shown_of self.new))) }
-        ensures refusal { IfErr result IsDeviceCause }
-        ensures broken { IsErrOf result Refusal.Broken → IsTrue (is_broken (shown_of self.old)) }
-        ensures refuses { IsTrue (is_broken (shown_of self.old)) → result ≡ Err Refusal.Broken }
+        ensures broken { IsErrOf result WriteFault.Broken → IsTrue (is_broken (shown_of self.old)) }
+        ensures refuses { IsTrue (is_broken (shown_of self.old)) → result ≡ Err WriteFault.Broken }
         ensures same { IsTrue (is_broken (shown_of self.old)) → self.new ≡ self.old }
-        ensures device { CountsFailures ⟦<D as Disk>⟧ (shown_of self.old) (shown_of self.new) result }
+        ensures device { CountsWrites ⟦<D as Disk>⟧ (shown_of self.old) (shown_of self.new) result }
     {
         self.write_slot(slot, page)
     }

@@ -1,22 +1,23 @@
 //! The pool.
-ghost use Rattle.std.specs.Prelude.{◌≡◌, ◌≢◌, ◌⊎◌, ◌↔◌, ◌+◌, ◌*◌, ◌/◌, ◌<◌, ◌≤◌, ◌^◌, ◌==◌, [], ◌∷◌, ◌++◌, length, get_or, true, false, Some, None, Ok, Err, is_some, IsTrue, OnOk, OnErr, IfOk, IfErr, if◌then◌else◌};
+ghost use Rattle.std.specs.Prelude.{◌≡◌, ◌≢◌, ◌⊎◌, ◌↔◌, ◌+◌, ◌*◌, ◌/◌, ◌<◌, ◌≤◌, ◌^◌, ◌==◌, [], ◌∷◌, ◌++◌, length, get_or, true, false, Some, None, Ok, Err, is_some, IsTrue, OnOk, OnErr, IfOk, IfErr, IsErrOf, if◌then◌else◌};
 ghost use Rattle.hg_pages.specs.Tables.{slot_in};
 ghost use Rattle.hg_pool.specs.Maps.{copy_in, frame_in, frozen, is_broken, live};
 ghost use Rattle.hg_pool.specs.Kept.{CellsFrom, IsWhole, SameMap, Stays, Went};
 ghost use Rattle.hg_pool.specs.declared.frame.Frame.{Frame as FrameOf};
 ghost use Rattle.hg_cells.specs.declared.cell.Cell.TheVariants.{New};
-ghost use Rattle.hg_pool.specs.Answers.{IsDeviceCause, IsTrueCause, order_of, order_with};
-ghost use Rattle.hg_pool.specs.Picking.{AreLeastFree, IsFreezeRefusal, TakesLeastFree};
+ghost use Rattle.hg_pool.specs.Answers.{IsTrueCause, order_of, order_with};
+ghost use Rattle.hg_pool.specs.Picking.{AreLeastFree, LacksSlots, TakesLeastFree};
 ghost use Rattle.hg_pool.specs.Tables.{AreBelow, IsNameable};
-ghost use Rattle.hg_pool.specs.Calls.{CountsFailures, FillsPage, FreezesOnOk, HasFreed, HasWaited, IsNextJob, IsStale, KeepsCopies, KeepsFirst, LoadsUndamaged, LosesWritten, MayChange, NamesDirty, SealsWhole, StayWithin, first_pool};
+ghost use Rattle.hg_pool.specs.Calls.{CountsFailures, CountsWrites, FillsPage, FreezesOnOk, HasFreed, HasWaited, IsNextJob, IsStale, KeepsCopies, KeepsFirst, LoadsUndamaged, LosesWritten, MayChange, NamesDirty, SealsWhole, StayWithin, first_pool};
 
+use crate::fault::FreezeFault;
 use crate::frames::Frames;
 use crate::job::{Job, Put};
 use crate::parts::Parts;
 use hg_cells::{Cell, Page};
 use hg_disk::Disk;
 use hg_model::verdict::Refusal;
-use hg_pages::{EncodedPage, SlotFile, Table};
+use hg_pages::{EncodedPage, SlotFile, Table, WriteFault};
 use hg_sets::SetTable;
 use lru::LruCache;
 use std::alloc::{AllocError, Global};
@@ -202,7 +203,7 @@ impl<D: Disk> Pool<D> {
 
     /// Fixes the live map as the frozen one. The pages that were changed since they were new, read or written wait from then on,
     /// each with a slot that nothing names: the least ones, rising with the pages. A refusal changes nothing.
-    pub fn freeze(&mut self) -> Result<(), Refusal>
+    pub fn freeze(&mut self) -> Result<(), FreezeFault>
         ensures frozen { FreezesOnOk ⟦<D as Disk>⟧ self.old self.new result }
         ensures live { SameMap (live ⟦<D as Disk>⟧ self.old) (live ⟦<D as Disk>⟧ self.new) }
         ensures whole { IsWhole ⟦<D as Disk>⟧ self.old → IsWhole ⟦<D as Disk>⟧ self.new }
@@ -213,7 +214,7 @@ impl<D: Disk> Pool<D> {
         ensures frames { self.new.frames ≡ self.old.frames }
         ensures sealed { OnOk result (self.new.is_sealed ≡ false) }
         ensures refused { OnErr result (self.new ≡ self.old) }
-        ensures refusal { IfErr result (IsFreezeRefusal self.old) }
+        ensures full { IsErrOf result FreezeFault.FullSlots → LacksSlots self.old }
     {
         self.parts.freeze()
     }
@@ -227,7 +228,7 @@ impl<D: Disk> Pool<D> {
 
     /// Writes a page to the slot that was picked for it: `Written` exactly where it waits and the bytes are those of its frozen
     /// cells. The pages in memory stay, with their cells. It makes one device call at most and takes no memory.
-    pub fn put(&mut self, page: &EncodedPage) -> Result<Put, Refusal>
+    pub fn put(&mut self, page: &EncodedPage) -> Result<Put, WriteFault>
         ensures stays { Stays ⟦<D as Disk>⟧ self.old self.new }
         ensures written { IfOk result (λ put. put ≡ Put.Written → HasWaited self.old page.now) }
         ensures stale { IfOk result (λ put. put ≡ Put.Stale → IsStale self.old page.now) }
@@ -235,10 +236,9 @@ impl<D: Disk> Pool<D> {
         ensures waiting { LosesWritten page.now.page self.old.waiting self.new.waiting result }
         ensures cells { CellsFrom self.old.frames self.new.frames }
         ensures order { order_of self.new ≡ order_of self.old }
-        ensures refusal { IfErr result IsDeviceCause }
-        ensures broken { (result ≡ Err Refusal.Broken) → IsTrue (is_broken self.old) }
+        ensures broken { IsErrOf result WriteFault.Broken → IsTrue (is_broken self.old) }
         ensures breaks { OnErr result (IsTrue (is_broken self.new)) }
-        ensures device { CountsFailures ⟦<D as Disk>⟧ self.old self.new result }
+        ensures device { CountsWrites ⟦<D as Disk>⟧ self.old self.new result }
     {
         self.parts.put(page)
     }
@@ -285,15 +285,14 @@ impl<D: Disk> Pool<D> {
 
     /// Makes what was written durable. After an `Ok` with all written, each image of the slots, read by the frozen table, gives
     /// the frozen map. It makes one device call and takes no memory.
-    pub fn seal(&mut self) -> Result<(), Refusal>
+    pub fn seal(&mut self) -> Result<(), WriteFault>
         ensures stays { Stays ⟦<D as Disk>⟧ self.old self.new }
         ensures sealed { SealsWhole ⟦<D as Disk>⟧ self.old self.new result }
         ensures marked { self.old.waiting ≡ [] → OnOk result (IsTrue self.new.is_sealed) }
         ensures rest { self.new ≡ record self.old { file = self.new.file; is_sealed = self.new.is_sealed } }
-        ensures refusal { IfErr result IsDeviceCause }
-        ensures broken { (result ≡ Err Refusal.Broken) → IsTrue (is_broken self.old) }
+        ensures broken { IsErrOf result WriteFault.Broken → IsTrue (is_broken self.old) }
         ensures breaks { OnErr result (IsTrue (is_broken self.new)) }
-        ensures device { CountsFailures ⟦<D as Disk>⟧ self.old self.new result }
+        ensures device { CountsWrites ⟦<D as Disk>⟧ self.old self.new result }
     {
         self.parts.seal()
     }

@@ -46,10 +46,7 @@ impl<D: Disk> Parts<D> {
         ensures slots { OnOk result (slot < self.new.live.slots) }
         ensures refusal { IfErr result (λ r. r ≡ Refusal.OutOfMemory) }
     {
-        match self.live.reserve(self.waiting.len() + 1, slot + 1) {
-            Ok(()) => Ok(()),
-            Err(_) => Err(Refusal::OutOfMemory),
-        }
+        Ok(self.live.reserve(self.waiting.len() + 1, slot + 1)?)
     }
 
     /// Gives a page that was written its slot in the live table.
@@ -149,10 +146,7 @@ impl<D: Disk> Parts<D> {
             cells,
             is_dirty: false,
         };
-        match self.frames.put(page, frame) {
-            Ok(_) => Ok(()),
-            Err(_) => Err(Refusal::OutOfMemory),
-        }
+        Ok(self.frames.put(page, frame)?)
     }
 
     /// Keeps the frozen cells of a page that waits and has none kept, before it is changed.

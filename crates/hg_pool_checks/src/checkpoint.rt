@@ -12,10 +12,8 @@ use hg_pool::Pool;
 fn put<D: Disk>(pool: &mut Pool<D>, page: &EncodedPage) -> Result<(), Refusal>
     ensures { (n m : ℕ) → AreWithin pool.old.frames n m → AreWithin pool.new.frames n m }
 {
-    match pool.put(page) {
-        Ok(_) => Ok(()),
-        Err(refusal) => Err(refusal),
-    }
+    pool.put(page)?;
+    Ok(())
 }
 
 /// Writes the page with the least number of those that wait, and answers whether there is one.

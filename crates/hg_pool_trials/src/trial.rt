@@ -9,7 +9,7 @@ use crate::text::{Text, front};
 use hg_cells::{Cell, PAGE_WORDS};
 use hg_disk::MemDisk;
 use hg_model::verdict::Refusal;
-use hg_pages::{EncodedPage, SLOT_LEN};
+use hg_pages::{EncodedPage, SLOT_LEN, WriteFault};
 use hg_pool::{Pool, Put};
 use hg_sets::SetTable;
 use std::alloc::Global;
@@ -68,11 +68,11 @@ fn put_answer(answer: Result<(), Refusal>, out: &mut Text) {
     }
 }
 
-fn put_taken(taken: Result<Put, Refusal>, out: &mut Text) {
+fn put_taken(taken: Result<Put, WriteFault>, out: &mut Text) {
     match taken {
         Ok(Put::Written) => out.put(b"written"),
         Ok(Put::Stale) => out.put(b"stale"),
-        Err(refusal) => put_refusal(refusal, out),
+        Err(fault) => put_refusal(Refusal::from(fault), out),
     }
 }
 

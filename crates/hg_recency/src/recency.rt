@@ -195,10 +195,7 @@ impl Recency {
         ensures entries { OnOk result (self.new ≡ lru_cache ((key, place) ∷ self.old.entries) self.old.cap) }
         ensures refused { OnErr result (self.new ≡ self.old) }
     {
-        match self.places.insert(key, place) {
-            Ok(_) => {}
-            Err(_) => return Err(AllocError),
-        }
+        self.places.insert(key, place)?;
         set_key(&mut self.nodes, place, key);
         link(&mut self.nodes, self.end, place);
         self.count += 1;

@@ -1,10 +1,8 @@
 -- Parts that have a spelling, and heads that do.
-use Rattle.std.proofs.Common.{◌<◌, ◌^◌, ◌≤◌, ◌≡◌, ◌⊎◌, inl, inr, ℕ, List, All, Result, Ok, Err, sym, subst}
-use Rattle.std.specs.Prelude.{IfErr, slice_index}
+use Rattle.std.proofs.Common.{◌<◌, ◌^◌, ◌≤◌, ◌≡◌, ℕ, List, All, sym, subst}
+use Rattle.std.specs.Prelude.{slice_index}
 use Rattle.std.proofs.lemmas.List.Elements.{All-from_recursion, recursion_from_All}
 use Rattle.hg_model.specs.declared.thread.ThreadState.{ThreadState}
-use Rattle.hg_model.specs.declared.verdict.Refusal.{Refusal}
-use Rattle.hg_model.specs.declared.verdict.Refusal.TheVariants as refusal
 use Rattle.hg_cells.specs.declared.cell.Cell.{Cell}
 use Rattle.hg_detect.specs.Shown.{Shown, content}
 use Rattle.hg_root.specs.declared.parts.SourceCount.{SourceCount}
@@ -53,9 +51,3 @@ pub spells : {W : Type 0} (cell_of : W → ℕ → Cell) (d : Shown W) (number :
 spells cell_of d number sources heads numbers same least most fits =
     subst (λ (s : List SourceCount). AreSpelled d.segments d.parts.threads d.sets.sets d.kept s) (sym same)
     (are_spelled (parts_with number d) (heads d number fits least most).fits (numbers (content cell_of d) fits.lawful))
-
--- a refusal that denies P denies what P follows of
-pub denies : {T P Q : Type 0} (result : Result T Refusal) → (Q → P) → IfErr result (λ r. (r ≡ refusal.OutOfMemory) ⊎ ((r ≡ refusal.Damaged) × ¬ P)) → IfErr result (λ r. (r ≡ refusal.OutOfMemory) ⊎ ((r ≡ refusal.Damaged) × ¬ Q))
-denies (Ok value) from told = tt
-denies (Err r) from (inl same) = inl same
-denies (Err r) from (inr told) = inr (told.0, λ q. told.1 (from q))

@@ -1,8 +1,6 @@
 -- What a detector puts into the head of a root.
-use Rattle.std.specs.Prelude.{◌≡◌, ◌⊎◌, ◌<◌, ◌^◌, All, length, ℕ, List, [], ◌∷◌, nat_lt, slice_index, if◌then◌else◌}
+use Rattle.std.specs.Prelude.{◌<◌, ◌^◌, All, length, ℕ, List, [], ◌∷◌, nat_lt, slice_index, if◌then◌else◌}
 use Rattle.hg_model.specs.declared.thread.ThreadState.{ThreadState}
-use Rattle.hg_model.specs.declared.verdict.Refusal.{Refusal}
-use Rattle.hg_model.specs.declared.verdict.Refusal.TheVariants.{Damaged, OutOfMemory}
 use Rattle.hg_model.specs.declared.segment.Segment.{Segment}
 use Rattle.hg_cells.specs.declared.report.KeptReport.{KeptReport}
 use Rattle.hg_detect.specs.Shown.{Shown}
@@ -44,7 +42,3 @@ pub record AreSpelled (segments : List Segment) (threads : List ThreadState) (se
 -- The parts of a head that the detector shows, with these threads and sources, have a spelling.
 abbrev pub IsSpelled : {W : Type 0} → Shown W → List ThreadState → List SourceCount → Type 0
 IsSpelled d threads sources = AreSpelled d.segments threads d.sets.sets d.kept sources
-
--- Damaged is told only without this, and else that memory ran out.
-abbrev pub OnlyWithout : Type 0 → Refusal → Type 0
-OnlyWithout P r = (r ≡ OutOfMemory) ⊎ ((r ≡ Damaged) × ¬ P)

@@ -1,10 +1,11 @@
 //! The head of a root, from a detector.
-ghost use Rattle.std.specs.Prelude.{◌≡◌, ◌⊎◌, ◌≤◌, ◌^◌, ◌++◌, ◌↔◌, IfErr, IfOk, IsTrue, OnOk, slice_index};
+ghost use Rattle.std.specs.Prelude.{◌≡◌, ◌⊎◌, ◌≤◌, ◌^◌, ◌++◌, ◌↔◌, IfOk, IsErrOf, IsTrue, OnOk, slice_index};
 ghost use Rattle.hg_contents.specs.Heads.{FitsARoot, source_counts};
 ghost use Rattle.hg_root.specs.Grammar.{head_text};
 ghost use Rattle.hg_root.specs.Lawful.{IsLawfulHead};
-ghost use Rattle.hg_recovery.specs.Capturing.{IsSpelled, OnlyWithout, head_with, if_sent, parts_with};
+ghost use Rattle.hg_recovery.specs.Capturing.{IsSpelled, head_with, if_sent, parts_with};
 
+use crate::fault::HeadFault;
 use crate::fitting::{have_spellings, sets_have_spellings};
 use hg_contents::laws::{a_detector_has_a_lawful_head, threads_have_small_numbers};
 use hg_detect::detector::Detector;
@@ -12,7 +13,6 @@ use hg_detect::words::Words;
 use hg_model::limits::SOURCE_NUMBERS;
 use hg_model::state::TraceState;
 use hg_model::thread::ThreadState;
-use hg_model::verdict::Refusal;
 use hg_root::{RootHead, SourceCount};
 use std::alloc::{AllocError, Global};
 
@@ -84,15 +84,15 @@ fn spelled<W>(
     detector: &Detector<W>,
     threads: &[ThreadState],
     sources: &[SourceCount],
-) -> Result<RootHead, Refusal>
+) -> Result<RootHead, HeadFault>
     requires threads { threads.now ≡ detector.now.parts.threads }
     ensures text { IfOk result (λ head. head ≡ head_text (head_with number detector.now sources.now)) }
-    ensures refusal { IfErr result (OnlyWithout (IsSpelled detector.now detector.now.parts.threads sources.now)) }
+    ensures damaged { IsErrOf result HeadFault.Damaged → ¬ IsSpelled detector.now detector.now.parts.threads sources.now }
 {
     if !has_spelling(detector, threads, sources) {
-        return Err(Refusal::Damaged);
+        return Err(HeadFault::Damaged);
     }
-    match RootHead::encode(
+    Ok(RootHead::encode(
         alloc,
         number,
         detector.state().events(),
@@ -102,10 +102,7 @@ fn spelled<W>(
         detector.total(),
         detector.kept_reports(),
         sources,
-    ) {
-        Ok(head) => Ok(head),
-        Err(_) => Err(Refusal::OutOfMemory),
-    }
+    )?)
 }
 
 /// The head of a root with this number, 1 to 2^58: everything that a detector has but its words. Where the detector fits a root
@@ -115,17 +112,15 @@ pub fn head_of<W: Words>(
     alloc: Global,
     number: u64,
     detector: &Detector<W>,
-) -> Result<RootHead, Refusal>
+) -> Result<RootHead, HeadFault>
     requires least { 1 ≤ number }
     requires most { number ≤ 2 ^ 58 }
     ensures text { IfOk result (λ head. head ≡ head_text (parts_with number detector.now)) }
     ensures lawful { FitsARoot W.cell_of detector.now → IsLawfulHead (parts_with number detector.now) }
-    ensures refusal { IfErr result (OnlyWithout (FitsARoot W.cell_of detector.now)) }
+    ensures damaged { IsErrOf result HeadFault.Damaged → ¬ FitsARoot W.cell_of detector.now }
 {
     a_detector_has_a_lawful_head::<W>();
     threads_have_small_numbers();
-    match lists_of(alloc, detector) {
-        Ok((threads, sources)) => spelled(alloc, number, detector, &threads, &sources),
-        Err(_) => Err(Refusal::OutOfMemory),
-    }
+    let (threads, sources) = lists_of(alloc, detector)?;
+    spelled(alloc, number, detector, &threads, &sources)
 }

@@ -4,7 +4,6 @@ ghost use Rattle.hg_detect.specs.Engine.{AtPresent};
 ghost use Rattle.hg_detect.specs.Shown.{content};
 ghost use Rattle.hg_detect.specs.Words.{failed_after};
 ghost use Rattle.hg_pages.specs.Files.{disk_of, known};
-ghost use Rattle.hg_pool.specs.Answers.{told_as};
 ghost use Rattle.hg_root.specs.Lawful.{IsLawful};
 ghost use Rattle.hg_root.specs.Roots.{IsWhole, parts_of};
 ghost use Rattle.hg_recovery.specs.Reading.{WasRead};
@@ -20,22 +19,10 @@ use hg_detect::detector::Detector;
 use hg_detect::words::Words;
 use hg_disk::Disk;
 use hg_model::verdict::Refusal;
-use hg_pages::{SlotFault, SlotFile, Table};
+use hg_pages::{SlotFile, Table};
 use hg_pool::Pool;
 use hg_root::Root;
 use std::alloc::Global;
-
-// What a fault of the file is told as.
-fn told(fault: SlotFault) -> Refusal
-    ensures { result ≡ told_as fault }
-{
-    match fault {
-        SlotFault::Broken => Refusal::Broken,
-        SlotFault::Damaged => Refusal::Damaged,
-        SlotFault::DeviceFault => Refusal::DeviceFault,
-        SlotFault::OutOfMemory => Refusal::OutOfMemory,
-    }
-}
 
 // Reads each page that a root names.
 fn read_pages<D: Disk>(root: &Root, file: &mut SlotFile<D>) -> Result<(), Refusal>
@@ -45,10 +32,7 @@ fn read_pages<D: Disk>(root: &Root, file: &mut SlotFile<D>) -> Result<(), Refusa
     ensures read { WasRead ⟦<D as Disk>⟧ (length root.now.pages.items) file.old file.new }
     ensures device { D.failures (disk_of file.new) ≡ failed_after result (D.failures (disk_of file.old)) }
 {
-    match check_slots(root, file) {
-        Ok(()) => Ok(()),
-        Err(fault) => Err(told(fault)),
-    }
+    Ok(check_slots(root, file)?)
 }
 
 // The table of the pages that a root names, where the root fits the caps and the slots have its pages.
@@ -76,10 +60,7 @@ fn checked_table<D: Disk>(
         return Err(Refusal::FullSlots);
     }
     read_pages(root, file)?;
-    match table_of(alloc, &root.pages) {
-        Ok(table) => Ok(table),
-        Err(_) => Err(Refusal::OutOfMemory),
-    }
+    Ok(table_of(alloc, &root.pages)?)
 }
 
 /// The detector of a root, over the pool of its pages, with no page in memory. Over an honest disk its content is that of each

@@ -5,9 +5,16 @@ use Rattle.hg_model.specs.declared.verdict.Refusal.TheVariants as refusal
 use Rattle.hg_checkpointer.specs.Phases as checkpoints
 use Rattle.hg_checkpointer.specs.declared.cause.Cause.{Cause}
 use Rattle.hg_checkpointer.specs.declared.cause.Cause.TheVariants as cause
+use Rattle.hg_recovery.specs.declared.fault.HeadFault.{HeadFault}
+use Rattle.hg_recovery.specs.declared.fault.HeadFault.TheVariants as head
 use Rattle.hg_store.specs.Shown.{Shown, phase_of}
 use Rattle.hg_store.specs.declared.steps.StepFault.{StepFault}
 use Rattle.hg_store.specs.declared.steps.StepFault.TheVariants.{Refused, WrongPhase}
+
+-- what is told where the head of a root was not made
+abbrev pub of_head : HeadFault → StepFault
+of_head head.Damaged = Refused cause.Damaged
+of_head head.OutOfMemory = Refused cause.OutOfMemory
 
 -- A step that is lawful only so: a broken store answers Broken, and else WrongPhase with the phase exactly where it is not lawful.
 abbrev pub IsAllowed : {D T : Type 0} → Shown D → Type 0 → Result T StepFault → Type 0

@@ -68,10 +68,7 @@ impl<D: Disk> Store<D> {
             return Err(StepFault::Refused(Cause::FullEvents));
         }
         let _kept = self.detector.kept_reports();
-        let head = match head_of(alloc, number + 1, &self.detector) {
-            Ok(head) => head,
-            Err(refusal) => return Err(StepFault::Refused(Cause::of(refusal))),
-        };
+        let head = head_of(alloc, number + 1, &self.detector)?;
         let frozen = Snapshot::of(&self.detector);
         match self
             .checkpointer
@@ -120,9 +117,9 @@ impl<D: Disk> Store<D> {
         }
         match self.detector.words_mut().put(page) {
             Ok(put) => Ok(put),
-            Err(refusal) => {
+            Err(fault) => {
                 self.is_broken = true;
-                Err(StepFault::Refused(Cause::of(refusal)))
+                Err(StepFault::Refused(Cause::from(fault)))
             }
         }
     }

@@ -86,10 +86,7 @@ impl<D: Disk> Store<D> {
         if self.is_broken {
             return Err(Refusal::Broken);
         }
-        match self.detector.reports(alloc) {
-            Ok(reports) => Ok(reports),
-            Err(_) => Err(Refusal::OutOfMemory),
-        }
+        Ok(self.detector.reports(alloc)?)
     }
 
     /// The thread segments in the order of opening.

@@ -1,4 +1,5 @@
 //! The steps of a store, and what they answer.
+ghost use Rattle.std.specs.Prelude.{◌≡◌};
 
 use hg_checkpointer::Cause;
 use hg_detect::detector::Answer;
@@ -6,6 +7,7 @@ use hg_model::event::Named;
 use hg_model::verdict::Refusal;
 use hg_pages::EncodedPage;
 use hg_pool::{Job, Put};
+use hg_recovery::HeadFault;
 
 /// How far a store is with its events and with its next checkpoint.
 #[derive(Clone, Copy, Debug, PartialEq, Eq, Drop)]
@@ -31,6 +33,20 @@ pub enum StepFault {
     WrongPhase(StorePhase),
     /// It is one of this phase, and was refused for this cause.
     Refused(Cause),
+}
+
+/// What is told where the head of a root was not made.
+impl From<HeadFault> for StepFault {
+    ghost use Rattle.hg_store.specs.Answers.{of_head};
+
+    ghost from_gives = { λ fault told. told ≡ of_head fault };
+
+    fn from(fault: HeadFault) -> StepFault {
+        match fault {
+            HeadFault::Damaged => StepFault::Refused(Cause::Damaged),
+            HeadFault::OutOfMemory => StepFault::Refused(Cause::OutOfMemory),
+        }
+    }
 }
 
 /// A step.

@@ -2,7 +2,7 @@ ghost use Rattle.std.specs.Prelude.{◌≡◌, IfOk, length};
 
 use hg_cells::{Cell, Page};
 use hg_disk::{FuseDisk, MemDisk, Tear};
-use hg_pages::{EncodedPage, SLOT_LEN, SlotFault, SlotFile, Table, decode, encode};
+use hg_pages::{EncodedPage, SLOT_LEN, SlotFault, SlotFile, Table, WriteFault, decode, encode};
 use hg_sets::{SetFault, SetTable};
 use std::alloc::{AllocError, Global};
 use std::process::Abort;
@@ -117,7 +117,7 @@ fn refuses_what_is_outside_the_format(rt: HostRuntime) -> Result<(), Fail> {
 }
 
 /// A call that is answered so.
-fn answers(rt: &impl Abort, found: Result<(), SlotFault>, expected: Result<(), SlotFault>) {
+fn answers(rt: &impl Abort, found: Result<(), WriteFault>, expected: Result<(), WriteFault>) {
     assert!(rt; found == expected);
 }
 
@@ -184,8 +184,8 @@ fn a_write_that_fails_leaves_the_other_slots(rt: HostRuntime) -> Result<(), Fail
         let mut disk = file.into_disks();
         disk.fail_next();
         file = SlotFile::attach(disk);
-        answers(&rt, file.write(slot, &other), Err(SlotFault::DeviceFault));
-        answers(&rt, file.seal(), Err(SlotFault::Broken));
+        answers(&rt, file.write(slot, &other), Err(WriteFault::DeviceFault));
+        answers(&rt, file.seal(), Err(WriteFault::Broken));
     }
     let disk = file.into_disks();
     for calls in 2..5 {
@@ -223,9 +223,9 @@ fn reads_what_was_written_until_a_call_fails(rt: HostRuntime) -> Result<(), Fail
     assert!(rt; refusal(file.read_page(2, 4, 3, &sets)) == Some(SlotFault::Damaged));
     assert!(rt; refusal(file.read_page(1, 5, 3, &sets)) == Some(SlotFault::Damaged));
     assert!(rt; refusal(file.read_page(1, 4, 3, &sets)) == Some(SlotFault::DeviceFault));
-    answers(&rt, file.seal(), Err(SlotFault::DeviceFault));
-    answers(&rt, file.write(0, &encoded), Err(SlotFault::Broken));
-    answers(&rt, file.seal(), Err(SlotFault::Broken));
+    answers(&rt, file.seal(), Err(WriteFault::DeviceFault));
+    answers(&rt, file.write(0, &encoded), Err(WriteFault::Broken));
+    answers(&rt, file.seal(), Err(WriteFault::Broken));
     assert!(rt; refusal(file.read_page(1, 4, 3, &sets)) == Some(SlotFault::Broken));
     assert!(rt; file.into_disks().into_inner().bytes().len() == 2 * SLOT_LEN);
     Ok(())

@@ -9,14 +9,14 @@ returns-in-Ok-clause-ok c =
     let at : StandsAt c.args.page entries c.in-Ok.place = subst (λ (l : List (ℕ × ℕ)). StandsAt c.args.page l c.in-Ok.place) c.deref.ensures.value c.in-Ok.ensures in
     put_standing c.args.page c.index.result.now.1 c.args.slot c.in-Ok.place entries c.index.result.now at (ap (λ (e : ℕ × ℕ). e.1) (sym c.index.ensures))
 
-pub returns-in-Ok-insert-clause-ok : goal.returns-in-Ok-insert-clause-ok
-returns-in-Ok-insert-clause-ok c =
+pub returns-in_ok-insert-in-Err-clause-ok : goal.returns-in_ok-insert-in-Err-clause-ok
+returns-in_ok-insert-in-Err-clause-ok c =
     let entries = c.args.entries.now.items in
     let at : BelongsAt c.args.page entries c.in-Err.place = subst (λ (l : List (ℕ × ℕ)). BelongsAt c.args.page l c.in-Err.place) c.deref.ensures.value c.in-Err.ensures in
-    subst (λ (l : List (ℕ × ℕ)). Puts c.args.page None (Some c.args.slot) entries l) (sym c.in-Ok-insert.ensures.items) (put_missing c.args.page c.args.slot c.in-Err.place entries at)
+    subst (λ (l : List (ℕ × ℕ)). Puts c.args.page None (Some c.args.slot) entries l) (sym c.in_ok-insert-in-Err.ensures.items) (put_missing c.args.page c.args.slot c.in-Err.place entries at)
 
-pub returns-in-Err-insert-clause-replaces : goal.returns-in-Err-insert-clause-replaces
-returns-in-Err-insert-clause-replaces c there =
+pub returns-in_err-insert-in-Err-clause-replaces : goal.returns-in_err-insert-in-Err-clause-replaces
+returns-in_err-insert-in-Err-clause-replaces c there =
     let entries = c.args.entries.now.items in
     let at : BelongsAt c.args.page entries c.in-Err.place = subst (λ (l : List (ℕ × ℕ)). BelongsAt c.args.page l c.in-Err.place) c.deref.ensures.value c.in-Err.ensures in
-    sym (ap is_some (looked c.args.page None entries (parts_missing c.args.page c.in-Err.place entries at))) ∙ there
+    absurd (cc (sym (ap is_some (looked c.args.page None entries (parts_missing c.args.page c.in-Err.place entries at))) ∙ there))

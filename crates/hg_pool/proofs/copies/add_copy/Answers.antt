@@ -5,10 +5,10 @@ use Rattle.hg_pool.specs.Maps.{copy_in}
 use Rattle.hg_pool.proofs.Lookups.{looked_new, put_new}
 use Rattle.hg_pool.proofs.copies.add_copy.Goals as goal
 
-pub returns-in-Ok-clause-looks : goal.returns-in-Ok-clause-looks
-returns-in-Ok-clause-looks c q =
+pub returns-clause-looks : goal.returns-clause-looks
+returns-clause-looks c q =
     let es = c.args.copies.now.entries in
-    ap (λ (x : LruCache ℕ (List Cell)). copy_in x.entries q) c.in-Ok.ensures.entries
+    ap (λ (x : LruCache ℕ (List Cell)). copy_in x.entries q) c.in_ok-put.ensures.entries
     ∙ ap (λ (x : List (ℕ × List Cell)). copy_in x q) (put_new c.args.copies.now c.args.page c.copy.result c.requires.absent c.requires.room)
     ∙ looked_new c.args.page q c.copy.result es
     ∙ ap (λ (x : List Cell). if c.args.page == q then Some x else copy_in es q) c.copy.ensures.cells

@@ -10,12 +10,12 @@ returns-in-Some-clause-held c = free_held c.args.held.now.items c.in-Some.place 
 pub returns-in-Some-clause-others : goal.returns-in-Some-clause-others
 returns-in-Some-clause-others c = free_framed c.args.held.now.items c.in-Some.place c.args.taken c.args.order.now.entries c.in-Some.ensures.2
 
-pub returns-in-Ok-clause-held : goal.returns-in-Ok-clause-held
-returns-in-Ok-clause-held c =
+pub returns-clause-held : goal.returns-clause-held
+returns-clause-held c =
     let more : c.push.new.self.items ≡ c.args.held.now.items ++ c.args.taken ∷ [] = search rules in
     subst (λ (xs : List Held). AreHeld xs c.args.order.now.entries) (sym more) (more_held c.args.held.now.items c.args.taken c.args.order.now.entries c.requires)
 
-pub returns-in-Ok-clause-others : goal.returns-in-Ok-clause-others
-returns-in-Ok-clause-others c =
+pub returns-clause-others : goal.returns-clause-others
+returns-clause-others c =
     let more : c.push.new.self.items ≡ c.args.held.now.items ++ c.args.taken ∷ [] = search rules in
     ap (λ (xs : List Held). framed xs c.args.order.now.entries) more ∙ more_framed c.args.held.now.items c.args.taken c.args.order.now.entries c.requires

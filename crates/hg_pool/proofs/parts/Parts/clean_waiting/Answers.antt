@@ -12,9 +12,9 @@ write_waiting-requires-clause-stands g c =
     let p = c.args.self.now in
     let was = c.requires.sound.picked c.args.page c.args.slot c.requires.waits in
     let f = was.present c.requires.as_frozen in
-    subst (λ (n : ℕ). (x : List Cell) × IsSlot n x c.in-Ok.encoded.bytes × ((i : ℕ) → i < 256 → get_or x i New ≡ frozen_at (bytes_of g.D.Disk (shown_of p)) (shown_of p) n i)) (sym c.in-Ok.ensures.page)
-    (f.0.cells, c.in-Ok.ensures.slot f.0 f.1, λ i lt. frozen_plain (shown_of p) (bytes_of g.D.Disk (shown_of p)) c.args.page c.args.slot i f.0 c.requires.waits c.requires.as_frozen f.1)
+    subst (λ (n : ℕ). (x : List Cell) × IsSlot n x c.in_ok-encoded.encoded.bytes × ((i : ℕ) → i < 256 → get_or x i New ≡ frozen_at (bytes_of g.D.Disk (shown_of p)) (shown_of p) n i)) (sym c.in_ok-encoded.ensures.page)
+    (f.0.cells, c.in_ok-encoded.ensures.slot f.0 f.1, λ i lt. frozen_plain (shown_of p) (bytes_of g.D.Disk (shown_of p)) c.args.page c.args.slot i f.0 c.requires.waits c.requires.as_frozen f.1)
 
 pub write_waiting-requires-clause-as_frozen : goal.write_waiting-requires-clause-as_frozen
 write_waiting-requires-clause-as_frozen g c none f is =
-    subst (λ (n : ℕ). IsSlot n f.cells c.in-Ok.encoded.bytes) (sym c.in-Ok.ensures.page) (c.in-Ok.ensures.slot f (ap (λ (n : ℕ). frame_in c.args.self.now.frames.entries n) (sym c.in-Ok.ensures.page) ∙ is))
+    subst (λ (n : ℕ). IsSlot n f.cells c.in_ok-encoded.encoded.bytes) (sym c.in_ok-encoded.ensures.page) (c.in_ok-encoded.ensures.slot f (ap (λ (n : ℕ). frame_in c.args.self.now.frames.entries n) (sym c.in_ok-encoded.ensures.page) ∙ is))

@@ -1,4 +1,5 @@
 use Rattle.std.proofs.Common.{rules, ◌≡◌, ◌∙◌, ℕ, List, Option, None, Some, Err, length, get_or, sym, ap, subst}
+use Rattle.std.proofs.lemmas.Result.{err_from_is_err_and}
 use Rattle.hg_cells.specs.declared.cell.Cell.{Cell}
 use Rattle.hg_cells.specs.declared.cell.Cell.TheVariants.{New}
 use Rattle.hg_cells.specs.Cells.{IsWithin}
@@ -20,23 +21,23 @@ pub returns-in-None-clause-named : goal.returns-in-None-clause-named
 returns-in-None-clause-named g c i =
     subst (λ (l : List Cell). IsWithin c.args.segments (length c.args.sets.now.sets) (get_or l i New)) (sym c.new.ensures) (new_within 256 c.args.segments (length c.args.sets.now.sets) i)
 
-pub returns-in-Ok-clause-stays : goal.returns-in-Ok-clause-stays
-returns-in-Ok-clause-stays g c = stays_read g.D.Disk (shown_of c.args.self.now) c.read_page.new.self c.read_page.ensures.any_moment c.read_page.ensures.works (more_after c.read_page.result (g.D.Disk.failures (disk_of (shown_of c.args.self.now))) (g.D.Disk.failures (files.disk_of c.read_page.new.self)) c.read_page.ensures.device) c.read_page.ensures.known
+pub returns-in_ok-read_page-in-Some-clause-stays : goal.returns-in_ok-read_page-in-Some-clause-stays
+returns-in_ok-read_page-in-Some-clause-stays g c = stays_read g.D.Disk (shown_of c.args.self.now) c.read_page.new.self c.read_page.ensures.any_moment c.read_page.ensures.works (more_after c.read_page.result (g.D.Disk.failures (disk_of (shown_of c.args.self.now))) (g.D.Disk.failures (files.disk_of c.read_page.new.self)) c.read_page.ensures.device) c.read_page.ensures.known
 
-pub returns-in-Err-clause-stays : goal.returns-in-Err-clause-stays
-returns-in-Err-clause-stays g c = stays_read g.D.Disk (shown_of c.args.self.now) c.read_page.new.self c.read_page.ensures.any_moment c.read_page.ensures.works (more_after c.read_page.result (g.D.Disk.failures (disk_of (shown_of c.args.self.now))) (g.D.Disk.failures (files.disk_of c.read_page.new.self)) c.read_page.ensures.device) c.read_page.ensures.known
+pub returns-in_err-read_page-in-Some-clause-stays : goal.returns-in_err-read_page-in-Some-clause-stays
+returns-in_err-read_page-in-Some-clause-stays g c = stays_read g.D.Disk (shown_of c.args.self.now) c.read_page.new.self c.read_page.ensures.any_moment c.read_page.ensures.works (more_after c.read_page.result (g.D.Disk.failures (disk_of (shown_of c.args.self.now))) (g.D.Disk.failures (files.disk_of c.read_page.new.self)) c.read_page.ensures.device) c.read_page.ensures.known
 
-pub returns-in-Ok-clause-cells : goal.returns-in-Ok-clause-cells
-returns-in-Ok-clause-cells g c h i lt =
+pub returns-in_ok-read_page-in-Some-clause-cells : goal.returns-in_ok-read_page-in-Some-clause-cells
+returns-in_ok-read_page-in-Some-clause-cells g c h i lt =
     let p = c.args.self.now in
     let some : slot_in p.live.entries c.args.page ≡ Some c.in-Some.slot = search rules in
     let was = whole_before g.D.Disk (shown_of p) c.read_page.new.self c.read_page.ensures.known h in
-    read_there g.D.Disk (shown_of p) c.args.page c.in-Some.slot i c.in-Ok.cells c.args.segments c.args.sets.now.sets (bytes_of g.D.Disk (record (shown_of p) { file = c.read_page.new.self })) lt some c.read_page.ensures.known (c.in-Ok.ensures.read was.honest)
+    read_there g.D.Disk (shown_of p) c.args.page c.in-Some.slot i c.in_ok-read_page-in-Some.field-0 c.args.segments c.args.sets.now.sets (bytes_of g.D.Disk (record (shown_of p) { file = c.read_page.new.self })) lt some c.read_page.ensures.known (c.in_ok-read_page-in-Some.ensures.read was.honest)
 
-pub returns-in-Err-clause-whole : goal.returns-in-Err-clause-whole
-returns-in-Err-clause-whole g c h known told =
+pub returns-in_err-read_page-in-Some-clause-whole : goal.returns-in_err-read_page-in-Some-clause-whole
+returns-in_err-read_page-in-Some-clause-whole g c h known =
     let p = c.args.self.now in
+    let refused = err_from_is_err_and c.from_residual.result c.from_residual.ensures.1 in
     let some : slot_in p.live.entries c.args.page ≡ Some c.in-Some.slot = search rules in
-    no_damage c.in-Err.fault
-    (λ damaged. stands_there g.D.Disk (shown_of p) c.args.page c.in-Some.slot c.args.segments c.args.sets.now.sets h some known (c.read_page.ensures.damaged h.honest (c.in-Err.is ∙ ap Err damaged)))
-    (sym c.told.ensures ∙ told)
+    rw (refused.1, refused.2)
+    (no_damage _ (λ damaged. stands_there g.D.Disk (shown_of p) c.args.page c.in-Some.slot c.args.segments c.args.sets.now.sets h some known (c.read_page.ensures.damaged h.honest (c.in_err-read_page-in-Some.was ∙ ap Err damaged))))

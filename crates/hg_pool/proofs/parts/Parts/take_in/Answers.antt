@@ -12,9 +12,9 @@ use Rattle.hg_pool.proofs.Lookups.{if_false, if_true, itself, looked_new, same_n
 use Rattle.hg_pool.proofs.Stepping.{frozen_from_live, sound_frames, stays_at}
 use Rattle.hg_pool.proofs.parts.Parts.take_in.Goals as goal
 
-pub returns-in-Ok-clause-frames : goal.returns-in-Ok-clause-frames
-returns-in-Ok-clause-frames g c =
-    ap (λ (x : LruCache ℕ Frame). x.entries) c.in-Ok.ensures.entries
+pub returns-clause-frames : goal.returns-clause-frames
+returns-clause-frames g c =
+    ap (λ (x : LruCache ℕ Frame). x.entries) c.in_ok-put.ensures.entries
 
 number : (b : Bool) (page q : ℕ) (new f : Frame) (o : Option Frame) → (page == q) ≡ b → (if b then Some new else o) ≡ Some f → page < 2 ^ 54 → (o ≡ Some f → q < 2 ^ 54) → q < 2 ^ 54
 number true page q new f o test is lt rest = subst (λ (n : ℕ). n < 2 ^ 54) (same_number page q test) lt
@@ -24,33 +24,33 @@ apart : (b : Bool) (page q : ℕ) (f : Frame) (frames : List (ℕ × Frame)) →
 apart true page q f frames test none is = absurd (cc (sym none ∙ ap (λ (n : ℕ). frame_in frames n) (same_number page q test) ∙ is))
 apart false page q f frames test none is = refl
 
-pub returns-in-Ok-clause-sound : goal.returns-in-Ok-clause-sound
-returns-in-Ok-clause-sound g c =
+pub returns-clause-sound : goal.returns-clause-sound
+returns-clause-sound g c =
     let p = c.args.self.now in
     let s = c.requires.sound in
     let page = c.args.page in
     let fresh : Frame = record { cells = c.args.cells; is_dirty = false } in
     let look : (q : ℕ) → frame_in c.put.new.self.entries q ≡ (if page == q then Some fresh else frame_in p.frames.entries q) =
-    λ q. ap (λ (x : List (ℕ × Frame)). frame_in x q) (returns-in-Ok-clause-frames g c) ∙ looked_new page q fresh p.frames.entries in
-    sound_frames p.root p.frozen p.live p.waiting p.copies p.frames c.put.new.self p.slots p.is_sealed s (ap (λ (x : LruCache ℕ Frame). x.cap) c.in-Ok.ensures.entries)
+    λ q. ap (λ (x : List (ℕ × Frame)). frame_in x q) (returns-clause-frames g c) ∙ looked_new page q fresh p.frames.entries in
+    sound_frames p.root p.frozen p.live p.waiting p.copies p.frames c.put.new.self p.slots p.is_sealed s (ap (λ (x : LruCache ℕ Frame). x.cap) c.in_ok-put.ensures.entries)
     (λ q f is. number (page == q) page q fresh f (frame_in p.frames.entries q) refl (sym (look q) ∙ is) c.requires.number (s.numbers q f))
     (λ q slot f waits none is dirty. (f, look q ∙ if_false (page == q) (Some fresh) (frame_in p.frames.entries q) (apart (page == q) page q f p.frames.entries refl c.requires.absent is) ∙ is, dirty))
 
-pub returns-in-Ok-clause-stays : goal.returns-in-Ok-clause-stays
-returns-in-Ok-clause-stays g c =
+pub returns-clause-stays : goal.returns-clause-stays
+returns-clause-stays g c =
     let p = c.args.self.now in
     let old : Shown g.row.D.Denot = shown_of p in
     let new : Shown g.row.D.Denot = record old { frames = c.put.new.self.entries; most_frames = c.put.new.self.cap } in
     let page = c.args.page in
     let fresh : Frame = record { cells = c.args.cells; is_dirty = false } in
     let look : (q : ℕ) → frame_in new.frames q ≡ (if page == q then Some fresh else frame_in p.frames.entries q) =
-    λ q. ap (λ (x : List (ℕ × Frame)). frame_in x q) (returns-in-Ok-clause-frames g c) ∙ looked_new page q fresh p.frames.entries in
+    λ q. ap (λ (x : List (ℕ × Frame)). frame_in x q) (returns-clause-frames g c) ∙ looked_new page q fresh p.frames.entries in
     let here : frame_in new.frames page ≡ Some fresh = look page ∙ if_true (page == page) (Some fresh) (frame_in p.frames.entries page) (itself page) in
     let live : IsWhole g.D.Disk old → LiveHere g.D.Disk page old new = λ h i lt.
     ap (λ (o : Option Frame). in_frame_or o (in_slot (bytes_of g.D.Disk old) (slot_in old.live page) i) i) here
     ∙ c.requires.stands h i lt
     ∙ sym (ap (λ (o : Option Frame). in_frame_or o (in_slot (bytes_of g.D.Disk old) (slot_in old.live page) i) i) c.requires.absent) in
-    stays_at g.D.Disk old new page (still_file g.D.Disk old new refl refl (λ q s there. there) (λ sealed. sealed) (λ sealed. refl) (ap (λ (x : LruCache ℕ Frame). x.cap) c.in-Ok.ensures.entries, refl)) (λ s b named has. has)
+    stays_at g.D.Disk old new page (still_file g.D.Disk old new refl refl (λ q s there. there) (λ sealed. sealed) (λ sealed. refl) (ap (λ (x : LruCache ℕ Frame). x.cap) c.in_ok-put.ensures.entries, refl)) (λ s b named has. has)
     (λ q test. record { frames = look q ∙ if_false (page == q) (Some fresh) (frame_in p.frames.entries q) test; live = refl; frozen = refl; waiting = refl; copies = refl })
     live
     (λ h. record {

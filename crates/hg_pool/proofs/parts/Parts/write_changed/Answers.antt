@@ -14,7 +14,7 @@ returns-in_err-write_unnamed-clause-stays g c =
 pub move_live-requires-clause-stands : goal.move_live-requires-clause-stands
 move_live-requires-clause-stands g c f is =
     let here = sym (ap (λ (x : Parts g.row.D.Denot). frame_in x.frames.entries c.args.page) (c.write_unnamed.ensures.rest ∙ (λ i. record (c.reserve_live.ensures.rest i) { file = c.write_unnamed.new.self.file }))) ∙ is in
-    stands c.args.slot c.args.page f.cells c.in-Ok.encoded.bytes (bytes_of g.D.Disk (shown_of c.write_unnamed.new.self)) (c.in-Ok.ensures.slot f here) c.in_ok-write_unnamed.ensures.written
+    stands c.args.slot c.args.page f.cells c.in_ok-encoded.encoded.bytes (bytes_of g.D.Disk (shown_of c.write_unnamed.new.self)) (c.in_ok-encoded.ensures.slot f here) c.in_ok-write_unnamed.ensures.written
 
 pub move_live-requires-clause-unpicked : goal.move_live-requires-clause-unpicked
 move_live-requires-clause-unpicked g c named =

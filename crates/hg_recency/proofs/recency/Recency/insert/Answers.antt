@@ -21,7 +21,7 @@ invariant_of-self-2 c =
     let is = c.link.ensures ∙ ap (λ (l : List Node). linked l r.end c.args.place) c.set_key.ensures in
     (subst (λ (new : List Node). Became r.end new (r.count + 1) c.insert.new.self.entries ((c.args.key, c.args.place) ∷ c.args.self.now.entries) c.args.self.now.cap) (sym is)
     (subst (λ (n : ℕ). Became r.end (linked (with_key r.nodes.items c.args.place c.args.key) r.end c.args.place) n c.insert.new.self.entries ((c.args.key, c.args.place) ∷ c.args.self.now.entries) c.args.self.now.cap) (omega arith)
-    (became_inserted r.nodes.items r.end r.count r.places.entries c.self.invariant c.args.self.now c.self.view_is c.args.key c.args.place c.insert.new.self.entries c.requires.absent c.requires.room c.requires.within c.requires.free c.in-Ok.ensures.updates.0))).is_sound
+    (became_inserted r.nodes.items r.end r.count r.places.entries c.self.invariant c.args.self.now c.self.view_is c.args.key c.args.place c.insert.new.self.entries c.requires.absent c.requires.room c.requires.within c.requires.free c.in_ok-insert.ensures.updates.0))).is_sound
 
 pub returns-clause-entries : goal.returns-clause-entries
 returns-clause-entries c =
@@ -29,4 +29,4 @@ returns-clause-entries c =
     let is = c.link.ensures ∙ ap (λ (l : List Node). linked l r.end c.args.place) c.set_key.ensures in
     (subst (λ (new : List Node). Became r.end new (r.count + 1) c.insert.new.self.entries ((c.args.key, c.args.place) ∷ c.args.self.now.entries) c.args.self.now.cap) (sym is)
     (subst (λ (n : ℕ). Became r.end (linked (with_key r.nodes.items c.args.place c.args.key) r.end c.args.place) n c.insert.new.self.entries ((c.args.key, c.args.place) ∷ c.args.self.now.entries) c.args.self.now.cap) (omega arith)
-    (became_inserted r.nodes.items r.end r.count r.places.entries c.self.invariant c.args.self.now c.self.view_is c.args.key c.args.place c.insert.new.self.entries c.requires.absent c.requires.room c.requires.within c.requires.free c.in-Ok.ensures.updates.0))).is_shown
+    (became_inserted r.nodes.items r.end r.count r.places.entries c.self.invariant c.args.self.now c.self.view_is c.args.key c.args.place c.insert.new.self.entries c.requires.absent c.requires.room c.requires.within c.requires.free c.in_ok-insert.ensures.updates.0))).is_shown

@@ -14,8 +14,8 @@ use Rattle.hg_store.proofs.Freezing.{draft_of, frozen_as, head, idle_phase, know
 use Rattle.hg_store.proofs.Staying.{same_content}
 use Rattle.hg_store.proofs.store.Store.freeze.Goals as goal
 
-pub returns-in-Ok-freeze-clause-live : goal.returns-in-Ok-freeze-clause-live
-returns-in-Ok-freeze-clause-live g c honest =
+pub returns-in-Ok-clause-live : goal.returns-in-Ok-clause-live
+returns-in-Ok-clause-live g c honest =
     rw (← c.self.view_is) (same_content g.D.Disk c.self.inside.detector c.freeze.new.pool (rw c.words_mut.ensures.value at c.freeze.ensures.live))
 
 pub invariant_of-self : goal.invariant_of-self
@@ -31,21 +31,21 @@ invariant_of-self g c =
       journal = c.self.invariant.journal;
       words = λ works. ap (λ (f : SlotFile g.row.D.Denot). files.is_broken f) pool.1 ∙ c.self.invariant.words works;
       checkpointer = λ works. c.freeze.ensures.rest.3 ∙ c.self.invariant.checkpointer works;
-      sealed = λ rooting. absurd (cc (sym (ap (λ (p : Phase). is_rooting p) c.in-Ok-freeze.ensures.frozen) ∙ rooting));
+      sealed = λ rooting. absurd (cc (sym (ap (λ (p : Phase). is_rooting p) c.in-Ok.ensures.frozen) ∙ rooting));
       stands = λ honest.
           let k = c.self.invariant.stands honest in
           let works : c.self.inside.is_broken ≡ false = search rules in
           let w = k.1.works works in
           let whole = rw c.words_mut.ensures.value at c.freeze.ensures.whole in
           let on = rw c.words_mut.ensures.value at c.freeze.ensures.stands in
-          let draft = rw c.words_mut.ensures.value at c.in-Ok-freeze.ensures.draft in
+          let draft = rw c.words_mut.ensures.value at c.in-Ok.ensures.draft in
           let same = rw c.words_mut.ensures.value at c.freeze.ensures.live in
           let fits = fits_a_root (live g.D.Disk) c.self.inside.detector k.1.state c.kept_reports-kept.ensures.sets k.1.spelled c.kept_reports-kept.ensures.named in
           let number = c.number-number.result + 1 in
           let drafted = draft k.0.now.checkpoint (parts_with number (now g.D.Disk _ k.0 k.1 works)) k.1.faithful.whole
-          (head g.D.Disk _ k.0 k.1 works c.in-Ok.head number c.in-Ok.ensures.text (c.in-Ok.ensures.lawful fits) is_next) (known g.D.Disk _ k.0 k.1 works number) in (
+          (head g.D.Disk _ k.0 k.1 works c.in_ok-head.head number c.in_ok-head.ensures.text (c.in_ok-head.ensures.lawful fits) is_next) (known g.D.Disk _ k.0 k.1 works number) in (
             k.0,
-            frozen_as g.D.Disk _ k.0 k.1 works c.freeze.new.self c.freeze.new.pool same (whole k.1.faithful.whole) pool.1 c.freeze.ensures.rest.0 c.of-frozen.result.value c.self.inside.is_broken (search rules) none c.in-Ok-freeze.ensures.frozen c.freeze.ensures.rest.2
-                (on k.0.now.checkpoint k.0.now.former w.stands) (draft_of g.D.Disk c.freeze.new.self c.freeze.new.pool k.0.now.checkpoint (now g.D.Disk _ k.0 k.1 works) number c.in-Ok-freeze.ensures.head.1 drafted),
+            frozen_as g.D.Disk _ k.0 k.1 works c.freeze.new.self c.freeze.new.pool same (whole k.1.faithful.whole) pool.1 c.freeze.ensures.rest.0 c.of-frozen.result.value c.self.inside.is_broken (search rules) none c.in-Ok.ensures.frozen c.freeze.ensures.rest.2
+                (on k.0.now.checkpoint k.0.now.former w.stands) (draft_of g.D.Disk c.freeze.new.self c.freeze.new.pool k.0.now.checkpoint (now g.D.Disk _ k.0 k.1 works) number c.in-Ok.ensures.head.1 drafted),
           );
     }
