@@ -116,10 +116,11 @@ impl<'a, T: Wait> SideBySide<'a, T> {
             let (given, behind) = rest.split_at(lines_within(rest, TEXT));
             let (next, later) = unsent.split_at(lines_within(unsent, TEXT));
             let parsed = self.links[turn].take_back(self.rt);
-            if let Some(end) = offer_parsed(&parsed, given, reader, sink, output)? {
+            let answer = offer_parsed(&parsed, given, reader, sink, output);
+            send_again(self.rt, &mut self.links[turn], parsed, next);
+            if let Some(end) = answer? {
                 return Ok(Some(end));
             }
-            send_again(self.rt, &mut self.links[turn], parsed, next);
             rest = behind;
             unsent = later;
             turn = (turn + 1) % self.links.len();

@@ -19,8 +19,8 @@ loop-unsent-init g c = record {
   turn = c.requires.some;
 }
 
-pub offer_parsed-requires-clause-room : goal.offer_parsed-requires-clause-room
-offer_parsed-requires-clause-room g c =
+pub offer_parsed-answer-requires-clause-room : goal.offer_parsed-answer-requires-clause-room
+offer_parsed-answer-requires-clause-room g c =
     let first = c.split_at.result.0.now in
     let rest = c.loop-unsent.rest.now in
     let may = room_left g.S.Sink.takes g.S.Sink.may_take g.met.S.Sink.room g.met.S.Sink.fewer c.args.reader.now c.loop-unsent.reader c.args.sink.now c.loop-unsent.sink c.args.output.now.calls c.loop-unsent.output.calls
@@ -31,19 +31,19 @@ offer_parsed-requires-clause-room g c =
 pub returns-in_err-end : goal.returns-in_err-end
 returns-in_err-end g c =
     let same : c.from_residual.result ≡ Err c.in_err-end.field-0.0 = grind arith in
-    subst (λ x. Pushes g.S.Sink.takes c.args.reader.now c.args.sink.now c.args.output.now.calls c.args.text.now x c.offer_parsed.new.reader c.offer_parsed.new.sink c.offer_parsed.new.output.calls) (sym same)
-    (stops_then g.S.Sink.takes g.met.S.Sink.on c.args.reader.now c.loop-unsent.reader c.args.sink.now c.loop-unsent.sink c.offer_parsed.new.sink c.args.output.now.calls c.loop-unsent.output.calls c.offer_parsed.new.output.calls
+    subst (λ x. Pushes g.S.Sink.takes c.args.reader.now c.args.sink.now c.args.output.now.calls c.args.text.now x c.offer_parsed-answer.new.reader c.offer_parsed-answer.new.sink c.offer_parsed-answer.new.output.calls) (sym same)
+    (stops_then g.S.Sink.takes g.met.S.Sink.on c.args.reader.now c.loop-unsent.reader c.args.sink.now c.loop-unsent.sink c.offer_parsed-answer.new.sink c.args.output.now.calls c.loop-unsent.output.calls c.offer_parsed-answer.new.output.calls
     c.args.text.now c.loop-unsent.rest.now (Err c.in_err-end.field-0.0) c.loop-unsent.invariant.passes
-    (stops_front g.S.Sink.takes c.loop-unsent.reader c.loop-unsent.sink c.offer_parsed.new.sink c.loop-unsent.output.calls c.offer_parsed.new.output.calls c.loop-unsent.rest.now c.split_at.result.0.now c.split_at.result.1.now
+    (stops_front g.S.Sink.takes c.loop-unsent.reader c.loop-unsent.sink c.offer_parsed-answer.new.sink c.loop-unsent.output.calls c.offer_parsed-answer.new.output.calls c.loop-unsent.rest.now c.split_at.result.0.now c.split_at.result.1.now
     (Err c.in_err-end.field-0.0) c.split_at.ensures.by_index.0 c.in_err-end.ensures))
 
 pub returns-in-Some : goal.returns-in-Some
 returns-in-Some g c =
-    let pushed = subst (λ x. Pushes g.S.Sink.takes c.loop-unsent.reader c.loop-unsent.sink c.loop-unsent.output.calls c.split_at.result.0.now (Ok x) c.offer_parsed.new.reader c.offer_parsed.new.sink c.offer_parsed.new.output.calls)
+    let pushed = subst (λ x. Pushes g.S.Sink.takes c.loop-unsent.reader c.loop-unsent.sink c.loop-unsent.output.calls c.split_at.result.0.now (Ok x) c.offer_parsed-answer.new.reader c.offer_parsed-answer.new.sink c.offer_parsed-answer.new.output.calls)
     c.in-Some.is c.in_ok-end.ensures in
-    stops_then g.S.Sink.takes g.met.S.Sink.on c.args.reader.now c.loop-unsent.reader c.args.sink.now c.loop-unsent.sink c.offer_parsed.new.sink c.args.output.now.calls c.loop-unsent.output.calls c.offer_parsed.new.output.calls
+    stops_then g.S.Sink.takes g.met.S.Sink.on c.args.reader.now c.loop-unsent.reader c.args.sink.now c.loop-unsent.sink c.offer_parsed-answer.new.sink c.args.output.now.calls c.loop-unsent.output.calls c.offer_parsed-answer.new.output.calls
     c.args.text.now c.loop-unsent.rest.now (Ok (Some c.in-Some.end)) c.loop-unsent.invariant.passes
-    (stops_front g.S.Sink.takes c.loop-unsent.reader c.loop-unsent.sink c.offer_parsed.new.sink c.loop-unsent.output.calls c.offer_parsed.new.output.calls c.loop-unsent.rest.now c.split_at.result.0.now c.split_at.result.1.now
+    (stops_front g.S.Sink.takes c.loop-unsent.reader c.loop-unsent.sink c.offer_parsed-answer.new.sink c.loop-unsent.output.calls c.offer_parsed-answer.new.output.calls c.loop-unsent.rest.now c.split_at.result.0.now c.split_at.result.1.now
     (Ok (Some c.in-Some.end)) c.split_at.ensures.by_index.0 pushed)
 
 pub loop-unsent-preserved : goal.loop-unsent-preserved
@@ -52,17 +52,17 @@ loop-unsent-preserved g c =
     let first = c.split_at.result.0.now in
     let later = c.split_at.result.1.now in
     let rest = c.loop-unsent.rest.now in
-    let passed = pushes_pass g.S.Sink.takes c.loop-unsent.reader c.loop-unsent.sink c.loop-unsent.output.calls first (Ok c.in_ok-end.field-0) c.offer_parsed.new.reader c.offer_parsed.new.sink c.offer_parsed.new.output.calls (ap Ok none)
+    let passed = pushes_pass g.S.Sink.takes c.loop-unsent.reader c.loop-unsent.sink c.loop-unsent.output.calls first (Ok c.in_ok-end.field-0) c.offer_parsed-answer.new.reader c.offer_parsed-answer.new.sink c.offer_parsed-answer.new.output.calls (ap Ok none)
     c.in_ok-end.ensures in
-    let longer = passes_longer g.S.Sink.takes c.loop-unsent.reader c.offer_parsed.new.reader c.loop-unsent.sink c.offer_parsed.new.sink c.loop-unsent.output.calls c.offer_parsed.new.output.calls first [] later passed in
+    let longer = passes_longer g.S.Sink.takes c.loop-unsent.reader c.offer_parsed-answer.new.reader c.loop-unsent.sink c.offer_parsed-answer.new.sink c.loop-unsent.output.calls c.offer_parsed-answer.new.output.calls first [] later passed in
     let taken = set c.loop-unsent.self.links.items c.loop-unsent.turn c.take_back-parsed.new.self in
     let size : length (set taken c.loop-unsent.turn c.send_again.new.link) ≡ length c.loop-unsent.self.links.items =
     length-set taken c.loop-unsent.turn c.send_again.new.link ∙ length-set c.loop-unsent.self.links.items c.loop-unsent.turn c.take_back-parsed.new.self in
     let same : c.len-in-loop-unsent.result ≡ length (set taken c.loop-unsent.turn c.send_again.new.link) = grind arith in
     record {
-      passes = passes_then g.S.Sink.takes g.met.S.Sink.on c.args.reader.now c.loop-unsent.reader c.offer_parsed.new.reader c.args.sink.now c.loop-unsent.sink c.offer_parsed.new.sink
-          c.args.output.now.calls c.loop-unsent.output.calls c.offer_parsed.new.output.calls c.args.text.now rest later c.loop-unsent.invariant.passes
-          (subst (λ x. Passes g.S.Sink.takes c.loop-unsent.reader c.loop-unsent.sink c.loop-unsent.output.calls x c.offer_parsed.new.reader c.offer_parsed.new.sink c.offer_parsed.new.output.calls later)
+      passes = passes_then g.S.Sink.takes g.met.S.Sink.on c.args.reader.now c.loop-unsent.reader c.offer_parsed-answer.new.reader c.args.sink.now c.loop-unsent.sink c.offer_parsed-answer.new.sink
+          c.args.output.now.calls c.loop-unsent.output.calls c.offer_parsed-answer.new.output.calls c.args.text.now rest later c.loop-unsent.invariant.passes
+          (subst (λ x. Passes g.S.Sink.takes c.loop-unsent.reader c.loop-unsent.sink c.loop-unsent.output.calls x c.offer_parsed-answer.new.reader c.offer_parsed-answer.new.sink c.offer_parsed-answer.new.output.calls later)
           (sym c.split_at.ensures.by_index.0) longer);
       size = size ∙ c.loop-unsent.invariant.size;
       turn = subst (λ (n : ℕ). (c.loop-unsent.turn + 1) % c.len-in-loop-unsent.result < n) same (mod-lt (c.loop-unsent.turn + 1) (omega (arith, same, size, c.loop-unsent.invariant.turn)));
