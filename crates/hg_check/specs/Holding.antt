@@ -1,5 +1,6 @@
 -- For proofs alone: what is held of the text that is to be printed.
-use Rattle.std.specs.Prelude.{◌≡◌, ℕ, List, ◌++◌, Result, OnErr, OnOk}
+use Rattle.std.specs.Prelude.{◌≡◌, ℕ, List, ◌++◌, Vec, Result, OnErr, OnOk}
+use Rattle.hg_streams.specs.Shown.{Outgoing}
 use Rattle.hg_streams.specs.declared.call.WriteCall.{WriteCall}
 use Rattle.hg_check.specs.Written.{Took, TookFront}
 
@@ -22,3 +23,10 @@ HoldsOrWrites text old held r new left =
 abbrev pub WritesFront : {T E : Type 0} → List ℕ → List WriteCall → List ℕ → Result T E → List WriteCall → Type 0
 WritesFront text old held r new =
     (first : List WriteCall) (rest goal : List ℕ) → IsDue first old held (text ++ rest) goal → OnErr r (TookFront first new goal)
+
+-- The same, by the output and what it holds.
+abbrev pub HoldsOrPrints : {T E W Z : Type 0} → List ℕ → Outgoing W → Vec ℕ Z → Result T E → Outgoing W → Vec ℕ Z → Type 0
+HoldsOrPrints text old held r new left = HoldsOrWrites text old.calls held.items r new.calls left.items
+
+abbrev pub PrintsFront : {T E W Z : Type 0} → List ℕ → Outgoing W → Vec ℕ Z → Result T E → Outgoing W → Type 0
+PrintsFront text old held r new = WritesFront text old.calls held.items r new.calls

@@ -5,10 +5,9 @@ use Rattle.hg_model.specs.Codes.{code_of}
 use Rattle.hg_streams.specs.declared.call.ReadCall.{ReadCall}
 use Rattle.hg_streams.specs.declared.call.WriteCall.{WriteCall}
 use Rattle.hg_streams.specs.Calls.{failed_reads, failed_writes}
-use Rattle.hg_model.specs.Contents.{Content}
-use Rattle.hg_check.specs.declared.checker.Ending.{Ending}
+use Rattle.hg_streams.specs.Shown.{Incoming, Outgoing}
 use Rattle.hg_check.specs.Written.{Took}
-use Rattle.hg_check.specs.Printing.{WroteFront, fault_text}
+use Rattle.hg_check.specs.Printing.{fault_text}
 use Rattle.hg_model.specs.declared.verdict.Refusal.TheVariants.{DeviceFault, OutOfMemory}
 
 -- A write or a flush failed.
@@ -35,7 +34,7 @@ HasWriteCause old new r = (r ≡ OutOfMemory) ⊎ ((r ≡ DeviceFault) × WriteF
 abbrev pub IsTold : List WriteCall → List WriteCall → Refusal → Type 0
 IsTold old new r = WriteFailed old new ⊎ Took old new (fault_text (code_of r))
 
--- A run that ended by a fault: it had a cause, it was told, and what was written before is a front of what was due.
-abbrev pub EndsByFault : (Content → Ending → List ℕ) → List ReadCall → List ReadCall → List WriteCall → List WriteCall → List WriteCall → List WriteCall → Type 0
-EndsByFault text reads_old reads_new old new faults_old faults_new =
-    (r : Refusal) × (HasCause reads_old reads_new old new r × (IsTold faults_old faults_new r × WroteFront text reads_old reads_new old new))
+-- The status 3 says that the run ended by a fault, which had a cause, and was told.
+abbrev pub EndsByFault : {R W V : Type 0} → ℕ → Incoming R → Incoming R → Outgoing W → Outgoing W → Outgoing V → Outgoing V → Type 0
+EndsByFault status reads later writes now faults told =
+    status ≡ 3 → (r : Refusal) × (HasCause reads.calls later.calls writes.calls now.calls r × IsTold faults.calls told.calls r)

@@ -19,7 +19,7 @@ use std::io::Write;
 /// A detector, and what is to be printed of it.
 #[derive(Drop)]
 pub struct Checking {
-    alloc: Global,
+    pub(crate) alloc: Global,
     pub detector: MemoryDetector,
     /// Whether reports are printed as they come.
     pub live: bool,

@@ -1,10 +1,9 @@
 //! Printing reports and segments: their lines are held, and written as soon as they are much.
 
 ghost use Rattle.std.specs.Prelude.{◌≡◌, ◌+◌, [], IfErr};
-ghost use Rattle.hg_check.specs.Holding.{HoldsOrWrites, WritesFront};
+ghost use Rattle.hg_check.specs.Holding.{HoldsOrPrints, HoldsOrWrites, PrintsFront, WritesFront};
 ghost use Rattle.hg_check.specs.Printing.{segments_text};
-ghost use Rattle.hg_check.specs.Running.{later_reports};
-ghost use Rattle.hg_detect.specs.Memory.{content_of};
+ghost use Rattle.hg_check.specs.Running.{lines_from};
 ghost use Rattle.hg_streams.specs.Calls.{failed_writes};
 ghost use Rattle.hg_check.specs.Streaming.{HasWriteCause};
 ghost use Rattle.hg_streams.specs.Told.{told};
@@ -43,10 +42,8 @@ pub fn print_reports<W: Write>(
     held: &mut Vec<u8>,
     output: &mut Output<W>,
 ) -> Result<(), Refusal>
-    ensures printed { HoldsOrWrites (later_reports from (content_of detector.now))
-        output.old.calls held.old.items result output.new.calls held.new.items }
-    ensures front { WritesFront (later_reports from (content_of detector.now))
-        output.old.calls held.old.items result output.new.calls }
+    ensures printed { HoldsOrPrints (lines_from from detector.now) output.old held.old result output.new held.new }
+    ensures front { PrintsFront (lines_from from detector.now) output.old held.old result output.new }
     ensures cause { IfErr result (λ r. HasWriteCause output.old.calls output.new.calls r) }
     ensures fault { failed_writes output.new.calls ≡ told result + failed_writes output.old.calls }
 {
@@ -63,9 +60,8 @@ pub fn print_segments<W: Write>(
     held: &mut Vec<u8>,
     output: &mut Output<W>,
 ) -> Result<(), Refusal>
-    ensures printed { HoldsOrWrites (segments_text 0 segments.now)
-        output.old.calls held.old.items result output.new.calls held.new.items }
-    ensures front { WritesFront (segments_text 0 segments.now) output.old.calls held.old.items result output.new.calls }
+    ensures printed { HoldsOrPrints (segments_text 0 segments.now) output.old held.old result output.new held.new }
+    ensures front { PrintsFront (segments_text 0 segments.now) output.old held.old result output.new }
     ensures cause { IfErr result (λ r. HasWriteCause output.old.calls output.new.calls r) }
     ensures fault { failed_writes output.new.calls ≡ told result + failed_writes output.old.calls }
 {

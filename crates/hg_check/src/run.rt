@@ -2,7 +2,7 @@
 
 ghost use Rattle.std.specs.Prelude.{◌≡◌, IfErr, IfOk, OnOk};
 ghost use Rattle.hg_check.specs.Printing.{LeavesFront, ReadsTo};
-ghost use Rattle.hg_check.specs.Running.{live_text};
+ghost use Rattle.hg_check.specs.Running.{live_part};
 ghost use Rattle.hg_check.specs.Streaming.{HasCause};
 ghost use Rattle.hg_check.specs.Taking.{HasPrinted, IsFresh, ending_of};
 ghost use Rattle.hg_detect.specs.Memory.{content_of};
@@ -14,7 +14,6 @@ use hg_reading::sink::Sink;
 use hg_reading::whole::read_side_by_side;
 use hg_streams::input::Input;
 use hg_streams::output::Output;
-use std::alloc::Global;
 use std::io::{Read, Write};
 use std::sync::Wait;
 use std::thread::Threads;
@@ -35,7 +34,6 @@ pub fn ended(stop: Option<Ending>) -> Ending
 pub fn run<T: Threads + Wait + Sync, R: Read, W: Write>(
     rt: &T,
     jobs: usize,
-    alloc: Global,
     checking: &mut Checking,
     input: &mut Input<R>,
     output: &mut Output<W>,
@@ -43,10 +41,10 @@ pub fn run<T: Threads + Wait + Sync, R: Read, W: Write>(
     requires fresh { IsFresh checking.old.live checking.old }
     ensures ends { IfOk result (ReadsTo input.old.calls input.new.calls (content_of checking.new.detector)) }
     ensures printed { OnOk result (HasPrinted output.old.calls output.new.calls checking.old.live checking.new) }
-    ensures front { LeavesFront result (λ c end. live_text checking.old.live c)
-        input.old.calls input.new.calls output.old.calls output.new.calls }
+    ensures front { LeavesFront result (live_part checking.old.live) input.old input.new output.old output.new }
     ensures cause { IfErr result (HasCause input.old.calls input.new.calls output.old.calls output.new.calls) }
 {
+    let alloc = checking.alloc;
     let stop = read_side_by_side(rt, jobs, alloc, input, checking, output)?;
     checking.print(output)?;
     Ok(ended(stop))

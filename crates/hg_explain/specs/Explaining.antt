@@ -1,18 +1,18 @@
 -- Definition: part of what `explain` promises. What is printed of a trace text, and what stands where that broke off.
-use Rattle.std.specs.Prelude.{◌≡◌, ℕ, ◌*◌, List, ◌∷◌, ◌++◌, codes}
-use Rattle.hg_model.specs.declared.verdict.Refusal.{Refusal}
+use Rattle.std.specs.Prelude.{◌≡◌, ℕ, ◌*◌, ◌/◌, List, ◌∷◌, ◌++◌, Result, OnErr, codes}
 use Rattle.hg_model.specs.Contents.{Content}
 use Rattle.hg_model.specs.Change.{empty_content}
 use Rattle.hg_streams.specs.declared.call.ReadCall.{ReadCall}
 use Rattle.hg_streams.specs.declared.call.WriteCall.{WriteCall}
 use Rattle.hg_streams.specs.declared.call.WriteCall.TheVariants.{Flushed}
+use Rattle.hg_streams.specs.Shown.{Incoming, Outgoing}
 use Rattle.hg_wire.specs.Readings.{readings}
 use Rattle.hg_wire.specs.Reports.{sixteen_digits}
 use Rattle.hg_check.specs.declared.checker.Ending.{Ending}
 use Rattle.hg_check.specs.Checking.{ChecksTo}
 use Rattle.hg_check.specs.Printing.{MayBe, ReadsTo, last_line, line_text, status_of}
 use Rattle.hg_check.specs.Written.{Took, TookFront}
-use Rattle.hg_check.specs.Streaming.{HasCause, IsTold}
+use Rattle.hg_explain.specs.declared.form.Asked.{Asked}
 use Rattle.hg_explain.specs.declared.form.Form.{Form}
 use Rattle.hg_explain.specs.Life.{life, more_text}
 
@@ -38,14 +38,25 @@ pub record WroteFrontOf (w : ℕ) (form : Form) (reads_old reads_new : List Read
   pub since : reads_new ≡ later ++ reads_old
   pub front : (input : List ℕ) (c : Content) (end : Ending) → MayBe later input → ChecksTo input c end → TookFront old new (explain_text w form input c end)
 
--- A run that ended by a fault: it had a cause, it was told, and what was written before is a front of what was due.
-abbrev pub BreaksOff : ℕ → Form → List ReadCall → List ReadCall → List WriteCall → List WriteCall → List WriteCall → List WriteCall → Type 0
-BreaksOff w form reads_old reads_new old new faults_old faults_new =
-    (r : Refusal) × (HasCause reads_old reads_new old new r × (IsTold faults_old faults_new r × WroteFrontOf w form reads_old reads_new old new))
+-- The same of what is asked, by the streams.
+abbrev pub PrintsLife : {R W : Type 0} → Asked → Incoming R → Incoming R → Outgoing W → Outgoing W → Ending → Type 0
+PrintsLife asked reads later writes now end = Explains asked.word asked.form reads.calls later.calls writes.calls now.calls end
+
+-- Where a run failed, what was written is a front of the text for what is asked.
+abbrev pub LeavesFront : {T E R W : Type 0} → Result T E → Asked → Incoming R → Incoming R → Outgoing W → Outgoing W → Type 0
+LeavesFront r asked reads later writes now = OnErr r (WroteFrontOf asked.word asked.form reads.calls later.calls writes.calls now.calls)
+
+-- the word that has an address, and how its life is to be told
+abbrev pub asked_at : ℕ → Form → Asked
+asked_at address form = record { word = address / 4; form = form }
 
 -- A status other than 3 says how the run ended, and the text of the word was printed.
-abbrev pub EndsWell : ℕ → ℕ → Form → List ReadCall → List ReadCall → List WriteCall → List WriteCall → Type 0
-EndsWell status w form reads later writes now = (status ≡ 3 → ⊥) → (end : Ending) × (status ≡ status_of end) × Explains w form reads later writes now end
+abbrev pub EndsWell : {R W : Type 0} → ℕ → Asked → Incoming R → Incoming R → Outgoing W → Outgoing W → Type 0
+EndsWell status asked reads later writes now = (status ≡ 3 → ⊥) → (end : Ending) × (status ≡ status_of end) × PrintsLife asked reads later writes now end
+
+-- The status 3 says that what was written is a front of what was due.
+abbrev pub EndsEarly : {R W : Type 0} → ℕ → Asked → Incoming R → Incoming R → Outgoing W → Outgoing W → Type 0
+EndsEarly status asked reads later writes now = status ≡ 3 → WroteFrontOf asked.word asked.form reads.calls later.calls writes.calls now.calls
 
 -- what stands behind the last line of an event: how many accesses were not shown, and how the run ended
 abbrev pub end_text : ℕ → Content → Ending → List ℕ

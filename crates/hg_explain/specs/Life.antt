@@ -98,6 +98,10 @@ abbrev pub race_text : ℕ → ℕ → List Report → List ℕ
 race_text k w [] = []
 race_text k w (r ∷ reports) = if r.word == 4 * w then codes " ; race " ++ decimal k else race_text (k + 1) w reports
 
+-- the number of the word's report among those that a content keeps behind so many
+abbrev pub new_race_text : ℕ → ℕ → Content → List ℕ
+new_race_text kept w d = race_text (kept + 1) w (drop kept d.reports)
+
 -- the thread that acts
 abbrev pub actor_of : Event → ℕ
 actor_of (Read a) = a.t
@@ -118,10 +122,14 @@ front_text form c line = codes "event " ++ decimal c.events ++ place_in form lin
 abbrev pub changes_text : Look → WordState → ℕ → List ℕ
 changes_text before after g = change_text before (look_of after) g ++ bare_text before (look_of after)
 
+-- the same of the word w, where thread t acts, by the content after that
+abbrev pub changes_of : Look → ℕ → Content → ℕ → List ℕ
+changes_of before w d t = changes_text before (d.words w) (present d.segments t)
+
 -- The line of an event, by the content after it, how the word looked before it, and how many reports were kept before it.
 abbrev pub event_line : ℕ → Form → Look → ℕ → Content → ℕ → Event → List ℕ
 event_line w form before kept c line e =
-    front_text form c line ++ (acts_text c e ++ (state_text (c.words w) ++ (changes_text before (c.words w) (present c.segments (actor_of e)) ++ race_text (kept + 1) w (drop kept c.reports))))
+    front_text form c line ++ (acts_text c e ++ (state_text (c.words w) ++ (changes_of before w c (actor_of e) ++ new_race_text kept w c)))
 
 -- so many accesses were not shown
 abbrev pub more_text : ℕ → List ℕ

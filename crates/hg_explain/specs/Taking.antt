@@ -1,5 +1,5 @@
 -- What explaining a word takes of a trace text, and tells of it.
-use Rattle.std.specs.Prelude.{◌≡◌, ◌+◌, ◌<◌, ◌≤◌, ◌^◌, ℕ, List, [], ◌++◌, ◌∷◌, Option, None, Some, Result, Ok, Err, IfErr}
+use Rattle.std.specs.Prelude.{◌≡◌, ◌+◌, ◌<◌, ◌≤◌, ◌^◌, ℕ, List, [], ◌++◌, ◌∷◌, Option, None, Some, Result, Ok, Err, IfErr, OnErr}
 use Rattle.hg_model.specs.declared.event.Event.{Event}
 use Rattle.hg_model.specs.declared.verdict.Refusal.{Refusal}
 use Rattle.hg_model.specs.declared.verdict.Refusal.TheVariants.{OutOfMemory}
@@ -14,13 +14,14 @@ use Rattle.hg_check.specs.Holding.{IsDue}
 use Rattle.hg_check.specs.Running.{IsStart, LeadsFrom, Steps}
 use Rattle.hg_check.specs.Streaming.{HasWriteCause}
 use Rattle.hg_check.specs.Written.{TookFront}
-use Rattle.hg_streams.specs.declared.call.ReadCall.{ReadCall}
-use Rattle.hg_explain.specs.Explaining.{word_line}
+use Rattle.hg_streams.specs.Shown.{Incoming, Outgoing}
+use Rattle.hg_explain.specs.Explaining.{WroteFrontOf, word_line}
 use Rattle.hg_explain.specs.declared.explaining.Explaining.{Explaining}
 use Rattle.hg_explain.specs.declared.form.Form.{Form}
 use Rattle.hg_check.specs.Printing.{line_text}
-use Rattle.hg_explain.specs.declared.look.Look.{Look}
-use Rattle.hg_explain.specs.Life.{event_line, life, look_of, more_text, told_by}
+use Rattle.hg_explain.specs.declared.telling.Accepted.{Accepted}
+use Rattle.hg_explain.specs.Holding.{event_text}
+use Rattle.hg_explain.specs.Life.{life, look_of, more_text, told_by}
 use Rattle.hg_explain.specs.Telling.{HasRun, Stays, Tells}
 
 -- It is known how the word looks, and no more accesses are not shown than events came.
@@ -88,8 +89,8 @@ pub record PassesLine (old : Explaining) (line : Reading) (r : Result (Option En
   pub fault : IfErr r (λ x. x ≡ OutOfMemory)
 
 -- What an event that concerns the word adds where it is shown: how many accesses were not shown before it, and its line.
-abbrev pub shown_text : Explaining → Look → ℕ → ℕ → Event → List ℕ
-shown_text s before from line e = more_text s.more ++ line_text (event_line s.asked.word s.asked.form before from (content_of s.detector) line e)
+abbrev pub shown_text : Explaining → Accepted → List ℕ
+shown_text s x = more_text s.more ++ event_text s.asked x (content_of s.detector)
 
 -- An event that concerns the word, and was accepted just now, was told or counted, by how the word looked before it and by how many reports there were.
 abbrev pub TellsEvent : Explaining → ℕ → ℕ → Event → Explaining → Type 0
@@ -102,5 +103,11 @@ abbrev pub HoldsWord : Explaining → List WriteCall → List WriteCall → Type
 HoldsWord s first now = IsDue first now s.held.items [] (line_text (word_line s.asked.word))
 
 -- A run came to an ending, and the life of the word was written or is held.
-abbrev pub HasExplained : Explaining → Explaining → List ReadCall → List ReadCall → List WriteCall → List WriteCall → Ending → Type 0
-HasExplained old new reads later writes now end = HasRun old.asked.word old.asked.form reads later writes now old.held.items new.held.items (content_of new.detector) new.more end
+abbrev pub HasTold : {R W : Type 0} → Explaining → Explaining → Incoming R → Incoming R → Outgoing W → Outgoing W → Ending → Type 0
+HasTold old new reads later writes now end =
+    HasRun old.asked.word old.asked.form reads.calls later.calls writes.calls now.calls old.held.items new.held.items (content_of new.detector) new.more end
+
+-- Where a run failed, what was written since the line of the word was held is a front of what was due.
+abbrev pub LeavesFrontOfHeld : {T E R W : Type 0} → Result T E → Explaining → Incoming R → Incoming R → Outgoing W → Outgoing W → Type 0
+LeavesFrontOfHeld r s reads later writes now =
+    (first : List WriteCall) → HoldsWord s first writes.calls → OnErr r (WroteFrontOf s.asked.word s.asked.form reads.calls later.calls first now.calls)

@@ -1,9 +1,10 @@
 //! The line of a word's address.
 
-ghost use Rattle.std.specs.Prelude.{◌≡◌, ◌++◌, ◌<◌, ◌^◌, OnOk, IfErr};
+ghost use Rattle.std.specs.Prelude.{◌≡◌, ◌++◌, ◌<◌, ◌^◌, IfErr};
 ghost use Rattle.std.specs.Char.{digit_char};
 ghost use Rattle.hg_check.specs.Printing.{line_text};
 ghost use Rattle.hg_explain.specs.Explaining.{word_line};
+ghost use Rattle.hg_explain.specs.Holding.{HoldsMore};
 ghost use Rattle.hg_wire.specs.Reports.{sixteen_digits};
 
 use crate::pieces::hold_all;
@@ -35,7 +36,7 @@ fn digits_of(address: u64) -> [u8; 16]
 /// Holds the line of a word.
 pub fn hold_word(word: u64, held: &mut Vec<u8>) -> Result<(), Refusal>
     requires { word < 2 ^ 62 }
-    ensures ok { OnOk result (held.new.items ≡ held.old.items ++ line_text (word_line word)) }
+    ensures ok { HoldsMore result held.old held.new (line_text (word_line word)) }
     ensures cause { IfErr result (λ r. r ≡ Refusal.OutOfMemory) }
 {
     let digits = digits_of(4 * word);

@@ -1,11 +1,11 @@
 //! The command that explains a word of a trace text.
 
 ghost use Rattle.std.specs.Prelude.{◌≡◌, ◌/◌, ◌++◌, ◌<◌, ◌^◌, [], IfOk, IfErr, OnErr, OnOk};
-ghost use Rattle.hg_check.specs.Printing.{line_text};
-ghost use Rattle.hg_check.specs.Streaming.{HasCause};
+ghost use Rattle.hg_check.specs.Streaming.{EndsByFault, HasCause};
 ghost use Rattle.hg_check.specs.Written.{Took};
 ghost use Rattle.hg_detect.specs.Memory.{content_of};
-ghost use Rattle.hg_explain.specs.Explaining.{BreaksOff, EndsWell, Explains, WroteFrontOf, end_text, word_line};
+ghost use Rattle.hg_explain.specs.Explaining.{EndsEarly, EndsWell, LeavesFront, PrintsLife, asked_at, end_text};
+ghost use Rattle.hg_explain.specs.Holding.{HoldsMore};
 ghost use Rattle.hg_explain.specs.Taking.{IsFresh};
 
 use crate::address::hold_word;
@@ -34,10 +34,8 @@ fn run_explain<R: Read, W: Write>(
 ) -> Result<Ending, Refusal>
     requires fresh { IsFresh explaining.old }
     requires none { explaining.old.held.items ≡ [] }
-    ensures prints { IfOk result (Explains explaining.old.asked.word explaining.old.asked.form
-        input.old.calls input.new.calls output.old.calls output.new.calls) }
-    ensures front { OnErr result (WroteFrontOf explaining.old.asked.word explaining.old.asked.form
-        input.old.calls input.new.calls output.old.calls output.new.calls) }
+    ensures prints { IfOk result (PrintsLife explaining.old.asked input.old input.new output.old output.new) }
+    ensures front { LeavesFront result explaining.old.asked input.old input.new output.old output.new }
     ensures cause { IfErr result (λ r. HasCause input.old.calls input.new.calls output.old.calls output.new.calls r) }
 {
     hold_word(explaining.asked.word, &mut explaining.held)?;
@@ -60,7 +58,7 @@ fn hold_end(
     end: Ending,
     held: &mut Vec<u8>,
 ) -> Result<(), Refusal>
-    ensures ok { OnOk result (held.new.items ≡ held.old.items ++ end_text more (content_of detector.now) end) }
+    ensures ok { HoldsMore result held.old held.new (end_text more (content_of detector.now) end) }
     ensures cause { IfErr result (λ r. r ≡ Refusal.OutOfMemory) }
 {
     hold_more(more, held)?;
@@ -75,10 +73,8 @@ fn print_explain<R: Read, W: Write>(
     output: &mut Output<W>,
 ) -> Result<Ending, Refusal>
     requires word { asked.word < 2 ^ 62 }
-    ensures prints { IfOk result (Explains asked.word asked.form
-        input.old.calls input.new.calls output.old.calls output.new.calls) }
-    ensures front { OnErr result (WroteFrontOf asked.word asked.form
-        input.old.calls input.new.calls output.old.calls output.new.calls) }
+    ensures prints { IfOk result (PrintsLife asked input.old input.new output.old output.new) }
+    ensures front { LeavesFront result asked input.old input.new output.old output.new }
     ensures cause { IfErr result (λ r. HasCause input.old.calls input.new.calls output.old.calls output.new.calls r) }
 {
     let mut explaining = Explaining::new(alloc, asked)?;
@@ -98,11 +94,10 @@ pub fn explain<R: Read, W: Write, V: Write>(
     output: &mut Output<W>,
     faults: &mut Output<V>,
 ) -> u8
-    ensures prints { EndsWell result (address / 4) form
-        input.old.calls input.new.calls output.old.calls output.new.calls }
+    ensures prints { EndsWell result (asked_at address form) input.old input.new output.old output.new }
     ensures quiet { (result ≡ 3 → ⊥) → Took faults.old.calls faults.new.calls [] }
-    ensures fault { result ≡ 3 → BreaksOff (address / 4) form
-        input.old.calls input.new.calls output.old.calls output.new.calls faults.old.calls faults.new.calls }
+    ensures fault { EndsByFault result input.old input.new output.old output.new faults.old faults.new }
+    ensures front { EndsEarly result (asked_at address form) input.old input.new output.old output.new }
 {
     let word = address / 4;
     match print_explain(alloc, Asked { word, form }, input, output) {

@@ -3,13 +3,14 @@
 ghost use Rattle.std.specs.Prelude.{◌≡◌, ◌+◌, ◌<◌, ◌^◌, ◌++◌, true, IfErr, OnOk};
 ghost use Rattle.hg_check.specs.Running.{access_reading};
 ghost use Rattle.hg_detect.specs.Memory.{IsWhole, content_of};
+ghost use Rattle.hg_explain.specs.Holding.{HoldsMore};
 ghost use Rattle.hg_explain.specs.Taking.{IsReady, Looks, PassesLine, TellsEvent, shown_text};
 ghost use Rattle.hg_wire.specs.Accesses.{event_of as event_in};
 ghost use Rattle.hg_explain.specs.Life as life;
 
 use crate::explaining::Explaining;
 use crate::look::{Look, concerns, differs, look_at, overlaps};
-use crate::telling::{hold_event, hold_more};
+use crate::telling::{Accepted, hold_event, hold_more};
 use hg_check::checker::{Ending, apply, apply_access};
 use hg_model::event::Event;
 use hg_model::verdict::Refusal;
@@ -31,52 +32,42 @@ fn accesses(event: &Event) -> u64
 impl Explaining {
     /// Shows an event that was accepted just now: behind how many accesses were not shown since the last line.
     #[inline(never)]
-    fn show_event(
-        &mut self,
-        before: Look,
-        from: usize,
-        line: u64,
-        event: &Event,
-    ) -> Result<(), Refusal>
+    fn show_event(&mut self, accepted: &Accepted) -> Result<(), Refusal>
         requires whole { IsWhole self.old.detector }
         requires word { self.old.asked.word < 2 ^ 62 }
-        requires actor { life.actor_of event.now < 1024 }
+        requires actor { life.actor_of accepted.now.event < 1024 }
         ensures others { self.new ≡ record self.old { more = self.new.more; held = self.new.held } }
-        ensures held { OnOk result
-            (self.new.held.items ≡ self.old.held.items ++ shown_text self.old before from line event.now) }
+        ensures held { HoldsMore result self.old.held self.new.held (shown_text self.old accepted.now) }
         ensures none { OnOk result (self.new.more ≡ 0) }
         ensures cause { IfErr result (λ r. r ≡ Refusal.OutOfMemory) }
     {
         hold_more(self.more, &mut self.held)?;
         self.more = 0;
-        hold_event(
-            self.asked,
-            &self.detector,
-            before,
-            from,
-            line,
-            event,
-            &mut self.held,
-        )
+        hold_event(self.asked, &self.detector, accepted, &mut self.held)
     }
 
     /// Tells an event that was accepted just now, and that concerns the word.
     #[inline(always)]
-    fn tell_event(&mut self, from: usize, line: u64, event: &Event) -> Result<(), Refusal>
+    fn tell_event(&mut self, kept: usize, line: u64, event: &Event) -> Result<(), Refusal>
         requires whole { IsWhole self.old.detector }
         requires word { self.old.asked.word < 2 ^ 62 }
         requires actor { life.actor_of event.now < 1024 }
         requires few { self.old.more + 1 < 2 ^ 64 }
         ensures asked { self.new.asked ≡ self.old.asked }
         ensures detector { self.new.detector ≡ self.old.detector }
-        ensures tells { OnOk result (TellsEvent self.old from line event.now self.new) }
+        ensures tells { OnOk result (TellsEvent self.old kept line event.now self.new) }
         ensures looks { Looks self.new }
         ensures cause { IfErr result (λ r. r ≡ Refusal.OutOfMemory) }
     {
         let before = self.look;
         self.look = look_at(&self.detector, self.asked.word);
         if self.asked.form.all || differs(before, self.look) {
-            return self.show_event(before, from, line, event);
+            return self.show_event(&Accepted {
+                before,
+                kept,
+                line,
+                event: *event,
+            });
         }
         self.more += accesses(event);
         Ok(())
@@ -96,12 +87,12 @@ impl Explaining {
         if !concerns(self.asked.word, &event) {
             return apply(&mut self.detector, reading);
         }
-        let from = self.detector.kept();
+        let kept = self.detector.kept();
         let stopped = apply(&mut self.detector, reading)?;
         if stopped.is_some() {
             return Ok(stopped);
         }
-        self.tell_event(from, line, &event)?;
+        self.tell_event(kept, line, &event)?;
         Ok(None)
     }
 
@@ -134,13 +125,13 @@ impl Explaining {
         requires met { life.concerns self.old.asked.word (event_in found.now) ≡ true }
         ensures { PassesLine self.old (access_reading line found.now) result self.new }
     {
-        let from = self.detector.kept();
+        let kept = self.detector.kept();
         let stopped = apply_access(&mut self.detector, line, found)?;
         if stopped.is_some() {
             return Ok(stopped);
         }
         let event = access_event(found);
-        self.tell_event(from, line, &event)?;
+        self.tell_event(kept, line, &event)?;
         Ok(None)
     }
 }

@@ -1,8 +1,9 @@
 //! Pieces of a line.
 
-ghost use Rattle.std.specs.Prelude.{◌≡◌, ◌++◌, OnOk, IfErr};
+ghost use Rattle.std.specs.Prelude.{◌≡◌, ◌++◌, IfErr};
 ghost use Rattle.std.specs.Fmt.{decimal};
 ghost use Rattle.std.specs.List.{flat_map};
+ghost use Rattle.hg_explain.specs.Holding.{HoldsMore};
 ghost use Rattle.hg_wire.specs.Reports.{predecessors_text, sixteen_digits};
 
 use hg_model::verdict::Refusal;
@@ -10,7 +11,7 @@ use itoa::Buffer;
 
 /// Holds the pieces.
 pub fn hold_all(pieces: &[&[u8]], held: &mut Vec<u8>) -> Result<(), Refusal>
-    ensures ok { OnOk result (held.new.items ≡ held.old.items ++ flat_map (λ piece. piece.now) pieces.now) }
+    ensures ok { HoldsMore result held.old held.new (flat_map (λ piece. piece.now) pieces.now) }
     ensures cause { IfErr result (λ r. r ≡ Refusal.OutOfMemory) }
 {
     for piece in pieces {
@@ -21,7 +22,7 @@ pub fn hold_all(pieces: &[&[u8]], held: &mut Vec<u8>) -> Result<(), Refusal>
 
 /// Holds the bytes.
 pub fn hold(bytes: &[u8], held: &mut Vec<u8>) -> Result<(), Refusal>
-    ensures ok { OnOk result (held.new.items ≡ held.old.items ++ bytes.now) }
+    ensures ok { HoldsMore result held.old held.new bytes.now }
     ensures cause { IfErr result (λ r. r ≡ Refusal.OutOfMemory) }
 {
     Ok(held.extend_from_slice(bytes)?)
@@ -29,7 +30,7 @@ pub fn hold(bytes: &[u8], held: &mut Vec<u8>) -> Result<(), Refusal>
 
 /// Holds the bytes, and a number in decimal after them.
 pub fn hold_number(bytes: &[u8], number: u64, held: &mut Vec<u8>) -> Result<(), Refusal>
-    ensures ok { OnOk result (held.new.items ≡ held.old.items ++ (bytes.now ++ decimal number)) }
+    ensures ok { HoldsMore result held.old held.new (bytes.now ++ decimal number) }
     ensures cause { IfErr result (λ r. r ≡ Refusal.OutOfMemory) }
 {
     let mut buffer = Buffer::new();
@@ -39,7 +40,7 @@ pub fn hold_number(bytes: &[u8], number: u64, held: &mut Vec<u8>) -> Result<(), 
 
 /// Holds the numbers in decimal, with a comma between each two, or a hyphen for none.
 pub fn hold_members(members: &[u16], held: &mut Vec<u8>) -> Result<(), Refusal>
-    ensures ok { OnOk result (held.new.items ≡ held.old.items ++ predecessors_text members.now) }
+    ensures ok { HoldsMore result held.old held.new (predecessors_text members.now) }
     ensures cause { IfErr result (λ r. r ≡ Refusal.OutOfMemory) }
 {
     let [first, others @ ..] = members else {

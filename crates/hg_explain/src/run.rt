@@ -1,10 +1,8 @@
 //! A run over a whole trace text.
 
-ghost use Rattle.std.specs.Prelude.{List, IfOk, IfErr, OnErr};
+ghost use Rattle.std.specs.Prelude.{IfOk, IfErr};
 ghost use Rattle.hg_check.specs.Streaming.{HasCause};
-ghost use Rattle.hg_explain.specs.Explaining.{WroteFrontOf};
-ghost use Rattle.hg_explain.specs.Taking.{HasExplained, HoldsWord, IsFresh};
-ghost use Rattle.hg_streams.specs.declared.call.WriteCall.{WriteCall};
+ghost use Rattle.hg_explain.specs.Taking.{HasTold, IsFresh, LeavesFrontOfHeld};
 
 use crate::explaining::Explaining;
 use hg_check::checker::Ending;
@@ -25,11 +23,8 @@ pub fn run<R: Read, W: Write>(
     output: &mut Output<W>,
 ) -> Result<Ending, Refusal>
     requires fresh { IsFresh explaining.old }
-    ensures ends { IfOk result (HasExplained explaining.old explaining.new
-        input.old.calls input.new.calls output.old.calls output.new.calls) }
-    ensures front { (first : List WriteCall) → HoldsWord explaining.old first output.old.calls
-        → OnErr result (WroteFrontOf explaining.old.asked.word explaining.old.asked.form
-        input.old.calls input.new.calls first output.new.calls) }
+    ensures ends { IfOk result (HasTold explaining.old explaining.new input.old input.new output.old output.new) }
+    ensures front { LeavesFrontOfHeld result explaining.old input.old input.new output.old output.new }
     ensures cause { IfErr result (HasCause input.old.calls input.new.calls output.old.calls output.new.calls) }
 {
     let stop = read(alloc, input, explaining, output)?;

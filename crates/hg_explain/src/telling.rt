@@ -1,12 +1,10 @@
 //! The line of an event.
 
-ghost use Rattle.std.specs.Prelude.{◌≡◌, ◌++◌, ◌+◌, ◌*◌, ◌<◌, ◌≤◌, ◌^◌, OnOk, IfErr, drop, length};
+ghost use Rattle.std.specs.Prelude.{◌≡◌, ◌++◌, ◌+◌, ◌*◌, ◌<◌, ◌≤◌, ◌^◌, IfErr, length};
 ghost use Rattle.std.specs.Fmt.{decimal};
 ghost use Rattle.hg_detect.specs.Memory.{IsWhole, content_of};
-ghost use Rattle.hg_model.specs.Segments as segments;
+ghost use Rattle.hg_explain.specs.Holding.{HoldsMore, event_text, interned_text};
 ghost use Rattle.hg_explain.specs.Life as life;
-ghost use Rattle.hg_check.specs.Printing.{line_text};
-ghost use Rattle.hg_sets.specs.Interning.{set_at};
 
 use crate::form::{Asked, Form};
 use crate::look::{Look, is_bare, look_at};
@@ -18,6 +16,18 @@ use hg_model::event::Event;
 use hg_model::verdict::Refusal;
 use itoa::Buffer;
 
+/// An event that was accepted just now, with what stood before it.
+#[derive(Clone, Copy, Debug, PartialEq, Eq, Drop)]
+pub struct Accepted {
+    /// How the word looked before it.
+    pub before: Look,
+    /// How many reports were kept before it.
+    pub kept: usize,
+    /// The number of its line.
+    pub line: u64,
+    pub event: Event,
+}
+
 /// Holds a thread and its segment behind what it did.
 fn hold_place(
     detector: &MemoryDetector,
@@ -26,8 +36,7 @@ fn hold_place(
     held: &mut Vec<u8>,
 ) -> Result<(), Refusal>
     requires { t < 1024 }
-    ensures ok { OnOk result (held.new.items ≡ held.old.items
-        ++ (verb.now ++ life.place_text (content_of detector.now) t)) }
+    ensures ok { HoldsMore result held.old held.new (verb.now ++ life.place_text (content_of detector.now) t) }
     ensures cause { IfErr result (λ r. r ≡ Refusal.OutOfMemory) }
 {
     let mut thread = Buffer::new();
@@ -50,7 +59,7 @@ fn hold_access(
     held: &mut Vec<u8>,
 ) -> Result<(), Refusal>
     requires { t < 1024 }
-    ensures ok { OnOk result (held.new.items ≡ held.old.items ++ life.access_text (content_of detector.now) write t) }
+    ensures ok { HoldsMore result held.old held.new (life.access_text (content_of detector.now) write t) }
     ensures cause { IfErr result (λ r. r ≡ Refusal.OutOfMemory) }
 {
     let verb = if write {
@@ -66,7 +75,7 @@ fn hold_access(
 /// Holds who acts.
 fn hold_acts(detector: &MemoryDetector, event: &Event, held: &mut Vec<u8>) -> Result<(), Refusal>
     requires { life.actor_of event.now < 1024 }
-    ensures ok { OnOk result (held.new.items ≡ held.old.items ++ life.acts_text (content_of detector.now) event.now) }
+    ensures ok { HoldsMore result held.old held.new (life.acts_text (content_of detector.now) event.now) }
     ensures cause { IfErr result (λ r. r ≡ Refusal.OutOfMemory) }
 {
     match event {
@@ -88,8 +97,7 @@ fn hold_sets(
 ) -> Result<(), Refusal>
     requires threads { threads < length detector.now.sets.sets }
     requires locks { locks < length detector.now.sets.sets }
-    ensures ok { OnOk result (held.new.items ≡ held.old.items
-        ++ life.sets_text kind.now (set_at detector.now.sets.sets threads) (set_at detector.now.sets.sets locks)) }
+    ensures ok { HoldsMore result held.old held.new (interned_text kind.now detector.now.sets.sets threads locks) }
     ensures cause { IfErr result (λ r. r ≡ Refusal.OutOfMemory) }
 {
     let sets = detector.sets();
@@ -102,8 +110,7 @@ fn hold_sets(
 /// Holds the state of a word.
 fn hold_state(detector: &MemoryDetector, word: u64, held: &mut Vec<u8>) -> Result<(), Refusal>
     requires whole { IsWhole detector.now }
-    ensures ok { OnOk result (held.new.items ≡ held.old.items
-        ++ life.state_text ((content_of detector.now).words word)) }
+    ensures ok { HoldsMore result held.old held.new (life.state_text ((content_of detector.now).words word)) }
     ensures cause { IfErr result (λ r. r ≡ Refusal.OutOfMemory) }
 {
     match detector.words().get(word) {
@@ -140,8 +147,7 @@ fn hold_two(
     second: u32,
     held: &mut Vec<u8>,
 ) -> Result<(), Refusal>
-    ensures ok { OnOk result (held.new.items ≡ held.old.items
-        ++ (front.now ++ decimal first ++ between.now ++ decimal second)) }
+    ensures ok { HoldsMore result held.old held.new (front.now ++ decimal first ++ between.now ++ decimal second) }
     ensures cause { IfErr result (λ r. r ≡ Refusal.OutOfMemory) }
 {
     let mut one = Buffer::new();
@@ -157,7 +163,7 @@ fn hold_two(
 
 /// Holds what became of the state, where the present segment of the acting thread is `segment`.
 fn hold_change(before: Look, after: Look, segment: u32, held: &mut Vec<u8>) -> Result<(), Refusal>
-    ensures ok { OnOk result (held.new.items ≡ held.old.items ++ life.change_text before after segment) }
+    ensures ok { HoldsMore result held.old held.new (life.change_text before after segment) }
     ensures cause { IfErr result (λ r. r ≡ Refusal.OutOfMemory) }
 {
     match (before, after) {
@@ -183,7 +189,7 @@ fn hold_change(before: Look, after: Look, segment: u32, held: &mut Vec<u8>) -> R
 
 /// Holds that the last candidate lock is gone, where it is.
 fn hold_bare(before: Look, after: Look, held: &mut Vec<u8>) -> Result<(), Refusal>
-    ensures ok { OnOk result (held.new.items ≡ held.old.items ++ life.bare_text before after) }
+    ensures ok { HoldsMore result held.old held.new (life.bare_text before after) }
     ensures cause { IfErr result (λ r. r ≡ Refusal.OutOfMemory) }
 {
     if is_bare(after) && !is_bare(before) {
@@ -200,8 +206,7 @@ fn hold_race(
     held: &mut Vec<u8>,
 ) -> Result<(), Refusal>
     requires { word < 2 ^ 62 }
-    ensures ok { OnOk result (held.new.items ≡ held.old.items
-        ++ life.race_text (from + 1) word (drop from (content_of detector.now).reports)) }
+    ensures ok { HoldsMore result held.old held.new (life.new_race_text from word (content_of detector.now)) }
     ensures cause { IfErr result (λ r. r ≡ Refusal.OutOfMemory) }
 {
     let address = 4 * word;
@@ -218,24 +223,21 @@ fn hold_race(
 pub fn hold_event(
     asked: Asked,
     detector: &MemoryDetector,
-    before: Look,
-    from: usize,
-    line: u64,
-    event: &Event,
+    accepted: &Accepted,
     held: &mut Vec<u8>,
 ) -> Result<(), Refusal>
     requires whole { IsWhole detector.now }
     requires word { asked.word < 2 ^ 62 }
-    requires actor { life.actor_of event.now < 1024 }
-    ensures ok { OnOk result (held.new.items ≡ held.old.items
-        ++ line_text (life.event_line asked.word asked.form before from (content_of detector.now) line event.now)) }
+    requires actor { life.actor_of accepted.now.event < 1024 }
+    ensures ok { HoldsMore result held.old held.new (event_text asked accepted.now (content_of detector.now)) }
     ensures cause { IfErr result (λ r. r ≡ Refusal.OutOfMemory) }
 {
-    hold_front(detector, asked.form, line, held)?;
+    let event = &accepted.event;
+    hold_front(detector, asked.form, accepted.line, held)?;
     hold_acts(detector, event, held)?;
     hold_state(detector, asked.word, held)?;
-    hold_changes(detector, asked.word, before, actor_of(event), held)?;
-    hold_race(detector, from, asked.word, held)?;
+    hold_changes(detector, asked.word, accepted.before, actor_of(event), held)?;
+    hold_race(detector, accepted.kept, asked.word, held)?;
     hold(b"\n", held)
 }
 
@@ -246,7 +248,7 @@ fn hold_front(
     line: u64,
     held: &mut Vec<u8>,
 ) -> Result<(), Refusal>
-    ensures ok { OnOk result (held.new.items ≡ held.old.items ++ life.front_text form (content_of detector.now) line) }
+    ensures ok { HoldsMore result held.old held.new (life.front_text form (content_of detector.now) line) }
     ensures cause { IfErr result (λ r. r ≡ Refusal.OutOfMemory) }
 {
     hold_number(b"event ", detector.state().events(), held)?;
@@ -266,9 +268,7 @@ fn hold_changes(
 ) -> Result<(), Refusal>
     requires whole { IsWhole detector.now }
     requires actor { t < 1024 }
-    ensures ok { OnOk result (held.new.items ≡ held.old.items
-        ++ life.changes_text before
-        ((content_of detector.now).words word) (segments.present (content_of detector.now).segments t)) }
+    ensures ok { HoldsMore result held.old held.new (life.changes_of before word (content_of detector.now) t) }
     ensures cause { IfErr result (λ r. r ≡ Refusal.OutOfMemory) }
 {
     let after = look_at(detector, word);
@@ -289,7 +289,7 @@ fn actor_of(event: &Event) -> u16
 
 /// Holds how many accesses were not shown.
 pub fn hold_more(more: u64, held: &mut Vec<u8>) -> Result<(), Refusal>
-    ensures ok { OnOk result (held.new.items ≡ held.old.items ++ life.more_text more) }
+    ensures ok { HoldsMore result held.old held.new (life.more_text more) }
     ensures cause { IfErr result (λ r. r ≡ Refusal.OutOfMemory) }
 {
     if more == 0 {

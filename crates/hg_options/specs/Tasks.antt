@@ -1,7 +1,8 @@
 -- What a command line asks for, by the command that it names and the texts of that command's arguments.
 use Rattle.std.specs.Prelude.{◌≡◌, ◌⊎◌, ◌↔◌, ◌≤◌, ℕ, ⊤, Bool, true, List, [], Option, Some, None, IsSomeAnd, Result, MatchResult, codes}
 use Rattle.std.specs.Str.Parse.{IsNumeral, digits_value, without_leading_plus}
-use Rattle.clap.specs.Words.{Kinds, IsAmong, Row, Text, first_of, one_of}
+use Rattle.clap.specs.Words.{App, HasKind, IsAmong, Kinds, Row, Text, fault_of, first_of, one_of, subcommand_of}
+use Rattle.clap.specs.declared.error.Error.{Error}
 use Rattle.clap.specs.declared.error.kind.ErrorKind.{ErrorKind}
 use Rattle.clap.specs.declared.error.kind.ErrorKind.TheVariants as kind
 use Rattle.hg_wire.specs.Lines.{operand_of}
@@ -99,6 +100,26 @@ IsReading kinds command r = MatchResult r
     (λ task. (kinds ≡ []) × IsSomeAnd command (λ given. IsTask given task))
     (IsMisread kinds command)
 
+-- what is made of these words by the rules of an app
+abbrev pub IsReadBy : App → List Text → Result Task Misread → Type 0
+IsReadBy app words r = IsReading (fault_of app words) (subcommand_of app words) r
+
+-- what is told of an error, by whatever kinds of fault it may be one of, and whatever the command was
+abbrev pub IsToldOf : Error → Misread → Type 0
+IsToldOf error r = (kinds : Kinds) (command : Option (Text × List Row)) → HasKind kinds error → IsMisread kinds command r
+
 -- why the arguments of a command ask for nothing
 abbrev pub IsUnasked : Text × List Row → Misread → Type 0
 IsUnasked (name, rows) r = (r ≡ misread.Incomplete) ⊎ ((r ≡ misread.BadAddress) × ((name ≡ codes "explain") × HasNoAddress rows))
+
+-- The command `explain` with these arguments asks for the life of a word, or for nothing.
+abbrev pub AsksToExplain : List Row → Result Explaining Misread → Type 0
+AsksToExplain rows r = MatchResult r (IsExplaining rows) (IsUnasked (codes "explain", rows))
+
+-- The command `name` with these arguments asks for something of a store, or for nothing.
+abbrev pub AsksOfStore : Text → List Row → Result StoreTask Misread → Type 0
+AsksOfStore name rows r = MatchResult r (IsStoreTask name rows) (IsUnasked (name, rows))
+
+-- The command `name` with these arguments asks for a task, or for nothing.
+abbrev pub AsksFor : Text → List Row → Result Task Misread → Type 0
+AsksFor name rows r = MatchResult r (IsTask (name, rows)) (IsUnasked (name, rows))

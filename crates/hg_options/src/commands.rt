@@ -1,9 +1,9 @@
 //! The commands of `hgd`, their arguments and options.
 
 ghost use Rattle.std.specs.Prelude.{◌≡◌, IfOk, false};
-ghost use Rattle.clap.specs.Words.{Shape, app_of, rule_of, shape_of, with_subcommand};
+ghost use Rattle.clap.specs.Words.{app_of, rule_of, shape_of};
 ghost use Rattle.hg_options.specs.CommandLine as spec;
-ghost use Rattle.hg_options.specs.Tools.{HasNoGlobals};
+ghost use Rattle.hg_options.specs.Tools.{GainsSubcommand, HasNoGlobals};
 
 use crate::help::LANGUAGE;
 use clap::builder::ValueParser;
@@ -331,8 +331,7 @@ fn with_command<'a>(
 ) -> Result<Command<'a>, AllocError>
     requires local { HasNoGlobals command }
     requires added { IfOk added HasNoGlobals }
-    ensures app { (shape : Shape) → IfOk added.entry (λ c. shape_of c ≡ shape)
-        → IfOk result (λ c. app_of c ≡ with_subcommand (app_of command.entry) shape) }
+    ensures app { GainsSubcommand command.entry added.entry result }
     ensures local { IfOk result HasNoGlobals }
 {
     command.subcommand(added?)

@@ -1,8 +1,8 @@
 //! From the matches of a command line to what it asks for.
 
-ghost use Rattle.std.specs.Prelude.{◌≡◌, ◌≤◌, ℕ, Some, None, MatchResult, codes};
+ghost use Rattle.std.specs.Prelude.{◌≡◌, ◌≤◌, ℕ, Some, None, codes};
 ghost use Rattle.clap.specs.Words.{first_of, found_of, rows_of};
-ghost use Rattle.hg_options.specs.Tasks.{AreFrames, AreJobs, AreServing, IsExplaining, IsFlag, IsNumber, IsSource, IsStoreTask, IsTask, IsUnasked};
+ghost use Rattle.hg_options.specs.Tasks.{AreFrames, AreJobs, AreServing, AsksFor, AsksOfStore, AsksToExplain, IsFlag, IsNumber, IsSource};
 
 use crate::commands::{
     ADDRESS, ALL, CHECKPOINT, CONNECTIONS, DIRECTORY, EVERY, FRAMES, JOBS, PORT, SILENCE, SOURCE,
@@ -98,8 +98,7 @@ fn is_set(given: &ArgMatches<'_>, id: &str) -> bool
 
 /// The word whose life is printed.
 fn explaining(given: &ArgMatches<'_>) -> Result<Explaining, Misread>
-    ensures { MatchResult result (IsExplaining (rows_of (found_of given.now)))
-        (IsUnasked (codes "explain", rows_of (found_of given.now))) }
+    ensures { AsksToExplain (rows_of (found_of given.now)) result }
 {
     let Some(text) = given.get_str(ADDRESS) else {
         return Err(Misread::Incomplete);
@@ -115,8 +114,7 @@ fn explaining(given: &ArgMatches<'_>) -> Result<Explaining, Misread>
 
 /// What a command asks for of a store, if it is one of those that may.
 fn store_task(name: &str, given: &ArgMatches<'_>) -> Result<StoreTask, Misread>
-    ensures { MatchResult result (IsStoreTask name.now (rows_of (found_of given.now)))
-        (IsUnasked (name.now, rows_of (found_of given.now))) }
+    ensures { AsksOfStore name.now (rows_of (found_of given.now)) result }
 {
     match name {
         "create" => Ok(StoreTask::Create),
@@ -146,8 +144,7 @@ fn store_task(name: &str, given: &ArgMatches<'_>) -> Result<StoreTask, Misread>
 /// What a command asks for without a store, if it is one of those that may.
 fn stream_task<'a>(name: &str, given: &ArgMatches<'_>) -> Result<Task<'a>, Misread>
     requires { first_of (codes "DIR") (rows_of (found_of given.now)) ≡ None }
-    ensures { MatchResult result (IsTask (name.now, rows_of (found_of given.now)))
-        (IsUnasked (name.now, rows_of (found_of given.now))) }
+    ensures { AsksFor name.now (rows_of (found_of given.now)) result }
 {
     match name {
         "check" => Ok(Task::Check {
@@ -167,8 +164,7 @@ fn stream_task<'a>(name: &str, given: &ArgMatches<'_>) -> Result<Task<'a>, Misre
 
 /// What a command asks for.
 pub fn task<'a>(name: &str, given: &ArgMatches<'a>) -> Result<Task<'a>, Misread>
-    ensures { MatchResult result (IsTask (name.now, rows_of (found_of given.now)))
-        (IsUnasked (name.now, rows_of (found_of given.now))) }
+    ensures { AsksFor name.now (rows_of (found_of given.now)) result }
 {
     match given.get_str(DIRECTORY) {
         Some(directory) => {

@@ -1,9 +1,9 @@
 //! From the words of a command line to what they ask for.
 
-ghost use Rattle.std.specs.Prelude.{◌≡◌, [], List, Option, IfOk};
-ghost use Rattle.clap.specs.Words.{FailsBy, HasKind, HasMatchesOf, Kinds, Row, Text, fault_of, subcommand_of, subcommand_rows_of};
+ghost use Rattle.std.specs.Prelude.{◌≡◌, [], IfOk};
+ghost use Rattle.clap.specs.Words.{FailsBy, HasMatchesOf, fault_of, subcommand_rows_of};
 ghost use Rattle.hg_options.specs.CommandLine as spec;
-ghost use Rattle.hg_options.specs.Tasks.{IsMisread, IsReading};
+ghost use Rattle.hg_options.specs.Tasks.{IsReadBy, IsReading, IsToldOf};
 ghost use Rattle.hg_options.specs.Tools.{texts};
 
 use crate::commands::hgd;
@@ -18,8 +18,7 @@ use std::string::String;
 ///
 /// The commands are those of `specs/CommandLine.antt`.
 pub fn read<'a>(alloc: Global, words: &'a [String]) -> Result<Task<'a>, Misread>
-    ensures { IsReading (fault_of spec.hgd (texts words.entry.now))
-        (subcommand_of spec.hgd (texts words.entry.now)) result }
+    ensures { IsReadBy spec.hgd (texts words.entry.now) result }
 {
     match matches(alloc, words) {
         Ok(matches) => asked_for(&matches),
@@ -47,8 +46,7 @@ fn matches<'a>(alloc: Global, words: &'a [String]) -> Result<ArgMatches<'a>, Err
 
 /// What is told of an error.
 fn misread(alloc: Global, error: &Error) -> Misread
-    ensures { (kinds : Kinds) (command : Option (Text × List Row)) → HasKind kinds error.now
-        → IsMisread kinds command result }
+    ensures { IsToldOf error.now result }
 {
     let kind = error.kind();
     if kind == ErrorKind::OutOfMemory {

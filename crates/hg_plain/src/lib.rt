@@ -10,6 +10,8 @@ ghost use Rattle.hg_model.specs.Paths as paths;
 ghost use Rattle.hg_model.specs.History as history;
 ghost use Rattle.hg_model.specs.Sharing as sharing;
 ghost use Rattle.hg_model.specs.Reporting as reporting;
+ghost use Rattle.hg_model.specs.Reporting.{words_of};
+ghost use Rattle.hg_plain.specs.Words.{reports_among, shared_state, state_after};
 ghost use Rattle.hg_plain.specs.Split.{sharing_in, InSpace};
 
 use hg_model::event::{Access, Event};
@@ -454,8 +456,7 @@ fn shared_state(
     first: &HistoryItem,
     later: &[HistoryItem],
 ) -> Result<WordState, AllocError>
-    ensures { IfOk result (λ s. s ≡ sharing.shared (list_any (λ i. i.write) (first.now ∷ later.now))
-        (sets.set_of (map (λ i. i.thread) previous_on.now)) (sharing.lockset (first.now ∷ later.now))) }
+    ensures { IfOk result (λ s. s ≡ shared_state previous_on.now (first.now ∷ later.now)) }
 {
     let threads = NumberSet::from_vec(with_threads(alloc, Vec::new(alloc), previous_on)?);
     let locks = NumberSet::from_vec(lockset(alloc, first, later)?);
@@ -540,8 +541,7 @@ fn reports_from(
 ) -> Result<Vec<Report>, AllocError>
     requires few { length trace.now < 2 ^ 20 }
     requires space { start + count ≤ 2 ^ 62 }
-    ensures { IfOk result (λ v. v.items ≡ map (reporting.report trace.now thread write)
-        (filter (reporting.is_reported trace.now) (range_with_len start count))) }
+    ensures { IfOk result (λ v. v.items ≡ reports_among trace.now thread write (range_with_len start count)) }
 {
     if count == 0 {
         return Ok(Vec::new(alloc));
@@ -562,8 +562,7 @@ fn reports_of_access(
 ) -> Result<Vec<Report>, AllocError>
     requires few { length trace.now < 2 ^ 20 }
     requires space { access.at + access.len ≤ 2 ^ 64 }
-    ensures { IfOk result (λ v. v.items ≡ map (reporting.report trace.now access.t write)
-        (filter (reporting.is_reported trace.now) (reporting.words_of access.at access.len))) }
+    ensures { IfOk result (λ v. v.items ≡ reports_among trace.now access.t write (words_of access.at access.len)) }
 {
     let first = access.at / 4;
     let end = ((u128::from(access.at) + u128::from(access.len) + 3) / 4) as u64;
@@ -613,8 +612,7 @@ pub fn reports_of(alloc: Global, events: &[Event]) -> Result<Vec<Report>, AllocE
 /// The state of a word after a trace that is given in its order. Word w is the four bytes from the address 4 * w on.
 pub fn state_of(alloc: Global, events: &[Event], word: u64) -> Result<WordState, AllocError>
     requires { length events.now < 2 ^ 20 }
-    ensures { IfOk result (λ s. s ≡ sharing.state (segs.segments_of (reverse events.now))
-        (history.history word (reverse events.now))) }
+    ensures { IfOk result (λ s. s ≡ state_after (reverse events.now) word) }
 {
     let trace = newest_first(alloc, events)?;
     let segments = segments_of(alloc, &trace)?;

@@ -11,7 +11,7 @@ use Rattle.hg_streams.specs.declared.call.WriteCall.{WriteCall}
 use Rattle.hg_streams.specs.Calls.{ends_met, failed_reads, given}
 use Rattle.hg_wire.specs.declared.reader.Reading.{Reading}
 use Rattle.hg_wire.specs.Streams.{Pending, at_start, ended_from, ended_readings, readings, readings_from}
-use Rattle.hg_reading.specs.Taking.{Advances, EachIsNeeded, HasNoneLeft, HasRead, MeetsEnd, Passes, ReadBroke, Reads, StopsIn, Taking, WasRead}
+use Rattle.hg_reading.specs.Taking.{EachIsNeeded, HasNoneLeft, HasRead, Passes, ReadBroke, Reads, StopsIn, Taking, WasRead}
 
 some_met : (piece : List ℕ) (later : List ReadCall) → 0 < length piece → ends_met (Gave piece ∷ later) ≡ ends_met later
 some_met [] later some = absurd (omega (arith, some))
@@ -36,22 +36,18 @@ module _ {S E : Type 0} (takes : Taking S E)
     }
 
     -- a read that was interrupted
-    pub advances_by_none : (may_take : S → ℕ → Type 0) → ((s : S) (n more : ℕ) → may_take s (n + more) → may_take s n)
-        → (reads now : List ReadCall) (p : Pending) (s : S) (calls : List WriteCall) (size : ℕ) → now ≡ Erred Interrupted ∷ reads → Advances takes may_take reads now p s calls p s calls size
-    advances_by_none may_take fewer reads now p s calls size is = record {
-      leads = λ first start at_start h. record {
-        later = Erred Interrupted ∷ h.later;
-        since = is ∙ ap (λ t. Erred Interrupted ∷ t) h.since;
-        intact = omega (arith, h.intact);
-        underway = h.underway;
-        lines = h.lines;
-        steps = h.steps;
-        readings = h.readings;
-        ended = h.ended;
-        none_left = h.none_left;
-      };
-      counted = omega arith;
-      room = λ n may. let swap : size + n ≡ n + size = omega arith in fewer s n size (subst (λ (k : ℕ). may_take s k) swap may);
+    pub has_read_again : (first reads now : List ReadCall) (start : S) (at_start : List WriteCall) (p : Pending) (s : S) (calls : List WriteCall)
+        → now ≡ Erred Interrupted ∷ reads → HasRead takes first reads start at_start p s calls → HasRead takes first now start at_start p s calls
+    has_read_again first reads now start at_start p s calls is h = record {
+      later = Erred Interrupted ∷ h.later;
+      since = is ∙ ap (λ t. Erred Interrupted ∷ t) h.since;
+      intact = omega (arith, h.intact);
+      underway = h.underway;
+      lines = h.lines;
+      steps = h.steps;
+      readings = h.readings;
+      ended = h.ended;
+      none_left = h.none_left;
     }
 
     -- a piece of which each line was passed
@@ -92,18 +88,15 @@ module _ {S E : Type 0} (takes : Taking S E)
       front = λ more. (readings_from q more, passes.readings more);
     }
 
-    pub advances_by_piece : (may_take : S → ℕ → Type 0)
+    -- a piece of at most so many bytes leaves the other room
+    pub room_behind : (may_take : S → ℕ → Type 0)
         → ((a b : S) (at_a at_b : List WriteCall) (first : List Reading) (n : ℕ) → may_take a (length first + n) → takes a at_a first (Ok None) b at_b → may_take b n)
         → ((s : S) (n more : ℕ) → may_take s (n + more) → may_take s n)
-        → (reads now : List ReadCall) (p q : Pending) (s t : S) (at_s at_t : List WriteCall) (piece : List ℕ) (size : ℕ)
-        → now ≡ Gave piece ∷ reads → 0 < length piece → length piece ≤ size → Passes takes p s at_s piece q t at_t [] → HasNoneLeft q → Advances takes may_take reads now p s at_s q t at_t size
-    advances_by_piece may_take room fewer reads now p q s t at_s at_t piece size is some within passes none_left = record {
-      leads = λ first start at_start h. has_read_on first reads now start at_start p q s t at_s at_t piece is some passes none_left h;
-      counted = omega (arith, passes.counted, within);
-      room = λ n may.
-          let left : size + n ≡ length passes.lines + (n + (size - length passes.lines)) = omega (arith, passes.few, within) in
-          fewer t n (size - length passes.lines) (room s t at_s at_t passes.lines (n + (size - length passes.lines)) (subst (λ (k : ℕ). may_take s k) left may) passes.steps);
-    }
+        → (p q : Pending) (s t : S) (at_s at_t : List WriteCall) (piece : List ℕ) (size n : ℕ)
+        → length piece ≤ size → Passes takes p s at_s piece q t at_t [] → may_take s (size + n) → may_take t n
+    room_behind may_take room fewer p q s t at_s at_t piece size n within passes may =
+        let left : size + n ≡ length passes.lines + (n + (size - length passes.lines)) = omega (arith, passes.few, within) in
+        fewer t n (size - length passes.lines) (room s t at_s at_t passes.lines (n + (size - length passes.lines)) (subst (λ (k : ℕ). may_take s k) left may) passes.steps)
 
     -- the lines that had come whole were passed
     passed : (first reads : List ReadCall) (start : S) (at_start : List WriteCall) (p : Pending) (s : S) (at_s : List WriteCall) (h : HasRead takes first reads start at_start p s at_s)
@@ -145,20 +138,17 @@ module _ {S E : Type 0} (takes : Taking S E)
     }
 
     -- at the end of the input, its last line was offered
-    pub read_end : (first reads now : List ReadCall) (start : S) (at_start : List WriteCall) (p q : Pending) (s u t : S) (at_s at_u at_t : List WriteCall) (r : Result (Option E) Refusal)
-        → MeetsEnd takes reads now p s at_s q u at_u → takes u at_u (readings_from q []) r t at_t → HasRead takes first reads start at_start p s at_s → WasRead takes first now start at_start r t at_t
-    read_end first reads now start at_start p q s u t at_s at_u at_t r met last h =
-        let step = subst (λ (x : Pending). takes s at_s (readings_from x []) r t at_t) met.pending
-        (subst (λ (x : S). takes x at_s (readings_from q []) r t at_t) met.sink (subst (λ xs. takes u xs (readings_from q []) r t at_t) met.calls last)) in
-        record {
-          later = Gave [] ∷ h.later;
-          since = met.met ∙ ap (λ xs. Gave [] ∷ xs) h.since;
-          intact = h.intact;
-          needed = needed first reads start at_start p s at_s (Gave []) h;
-          lines = h.lines ++ readings_from p [];
-          due = inl (h.later, refl, sym (h.readings []) ∙ ap readings (append-nil (given h.later)));
-          steps = on start s t at_start at_s at_t h.lines (readings_from p []) r h.steps step;
-        }
+    pub read_end : (first reads now : List ReadCall) (start : S) (at_start : List WriteCall) (p : Pending) (s t : S) (at_s at_t : List WriteCall) (r : Result (Option E) Refusal)
+        → now ≡ Gave [] ∷ reads → takes s at_s (readings_from p []) r t at_t → HasRead takes first reads start at_start p s at_s → WasRead takes first now start at_start r t at_t
+    read_end first reads now start at_start p s t at_s at_t r met last h = record {
+      later = Gave [] ∷ h.later;
+      since = met ∙ ap (λ xs. Gave [] ∷ xs) h.since;
+      intact = h.intact;
+      needed = needed first reads start at_start p s at_s (Gave []) h;
+      lines = h.lines ++ readings_from p [];
+      due = inl (h.later, refl, sym (h.readings []) ∙ ap readings (append-nil (given h.later)));
+      steps = on start s t at_start at_s at_t h.lines (readings_from p []) r h.steps last;
+    }
 
     -- so a whole input was read
     pub reads_all : (first now : List ReadCall) (start : S) (at_start : List WriteCall) (r : Result (Option E) Refusal) (t : S) (at_t : List WriteCall)

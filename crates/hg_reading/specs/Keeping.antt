@@ -5,6 +5,7 @@ use Rattle.hg_model.specs.declared.event.Event.{Event}
 use Rattle.hg_model.specs.declared.event.Event.TheVariants as events
 use Rattle.hg_model.specs.declared.verdict.Refusal.{Refusal}
 use Rattle.hg_streams.specs.declared.call.WriteCall.{WriteCall}
+use Rattle.hg_streams.specs.Shown.{Outgoing}
 use Rattle.hg_wire.specs.declared.reader.Reading.{Reading}
 use Rattle.hg_wire.specs.Streams.{GivesNoReading, GivesReading, Pending, between_lines, ended_from, readings_from}
 use Rattle.hg_reading.specs.declared.kept.Kept.{Kept}
@@ -66,6 +67,10 @@ pub record IsOffered {S E : Type 0} (takes : Taking S E) (before : S) (at_first 
   pub joined : due ≡ lines ++ left
   pub steps : takes before at_first lines r now at_last
   pub all : r ≡ Ok None → left ≡ []
+
+-- The same of what is kept, behind n lines, with the output.
+abbrev pub OffersKept : {S E W : Type 0} → Taking S E → ℕ → List Kept → S → Outgoing W → Result (Option E) Refusal → S → Outgoing W → Type 0
+OffersKept takes n kept before output r now printed = IsOffered takes before output.calls (readings_kept n kept) r now printed.calls
 
 -- What is kept of a text is all that is read of its first lines, behind however many lines they come.
 pub record IsKept (text : List ℕ) (kept : List Kept) (lines bytes : ℕ) : Type 0 where

@@ -115,26 +115,3 @@ module _ {S E : Type 0} (takes : Taking S E) where
   abbrev pub Reads : List ReadCall → List ReadCall → S → List WriteCall → Result (Option E) Refusal → S → List WriteCall → Type 0
   Reads first now before at_first (Ok stop) here at_last = WasRead first now before at_first (Ok stop) here at_last
   Reads first now before at_first (Err r) here at_last = WasRead first now before at_first (Err r) here at_last ⊎ ReadBroke first now before at_first r here at_last
-
-  -- A read of at most so many bytes brought a run from here to there.
-  pub record Advances (may_take : S → ℕ → Type 0) (reads later : List ReadCall) (old : Pending) (before : S) (at_first : List WriteCall) (new : Pending) (now : S) (at_last : List WriteCall) (size : ℕ) : Type 0 where
-    pub leads : (first : List ReadCall) (start : S) (at_start : List WriteCall) → HasRead first reads start at_start old before at_first → HasRead first later start at_start new now at_last
-    pub counted : new.lines ≤ old.lines + size
-    pub room : (n : ℕ) → may_take before (size + n) → may_take now n
-
-  -- A read met the end of the input, and left a run as it was.
-  pub record MeetsEnd (reads later : List ReadCall) (old : Pending) (before : S) (at_first : List WriteCall) (new : Pending) (now : S) (at_last : List WriteCall) : Type 0 where
-    pub met : later ≡ Gave [] ∷ reads
-    pub pending : new ≡ old
-    pub sink : now ≡ before
-    pub calls : at_last ≡ at_first
-
-  -- A read came upon the line that ends the run.
-  abbrev pub Stops : List ReadCall → List ReadCall → Pending → S → List WriteCall → E → S → List WriteCall → Type 0
-  Stops reads later old before at_first end now at_last =
-      (first : List ReadCall) (start : S) (at_start : List WriteCall) → HasRead first reads start at_start old before at_first → WasRead first later start at_start (Ok (Some end)) now at_last
-
-  -- A read failed, or a line or what was printed was broken off.
-  abbrev pub Breaks : List ReadCall → List ReadCall → Pending → S → List WriteCall → Refusal → S → List WriteCall → Type 0
-  Breaks reads later old before at_first r now at_last =
-      (first : List ReadCall) (start : S) (at_start : List WriteCall) → HasRead first reads start at_start old before at_first → Reads first later start at_start (Err r) now at_last

@@ -2,7 +2,7 @@
 
 ghost use Rattle.std.specs.Prelude.{◌≡◌, ℕ, ◌+◌, ◌++◌, ◌∷◌, [], ◌<◌, ◌≤◌, ◌^◌, length, vec_capacity, vec_len};
 ghost use Rattle.std.specs.Bool.{OnFalse, OnTrue};
-ghost use Rattle.hg_reading.specs.Keeping.{IsOffered, KeepsOn, lines_by, lines_kept, one, one_access, reading_kept, readings_kept};
+ghost use Rattle.hg_reading.specs.Keeping.{KeepsOn, OffersKept, lines_by, lines_kept, one, one_access, reading_kept, readings_kept};
 
 use crate::sink::Sink;
 use hg_model::event::{Access, Block, Event};
@@ -98,8 +98,7 @@ pub fn offer_all<W, S: Sink<W>>(
 ) -> Result<Option<S::End>, Refusal>
     requires lines { lines + lines_kept kept.now < 2 ^ 64 }
     requires room { S.may_take sink.old (length (readings_kept lines kept.now)) }
-    ensures { IsOffered S.takes sink.old output.old.calls (readings_kept lines kept.now)
-        result sink.new output.new.calls }
+    ensures { OffersKept S.takes lines kept.now sink.old output.old result sink.new output.new }
 {
     let mut lines = lines;
     for it in kept {

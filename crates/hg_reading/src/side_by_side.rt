@@ -13,6 +13,8 @@ use hg_model::verdict::Refusal;
 use hg_streams::output::Output;
 use hg_wire::cuts::last_line_end;
 use hg_wire::reader::EventReader;
+use std::alloc::Global;
+use std::mem;
 use std::sync::Wait;
 
 /// A piece of fewer bytes is parsed where it is offered: threads would cost more than they save.
@@ -24,8 +26,8 @@ const FIRST: usize = 32_768;
 /// Pieces are parsed by the workers that these links lead to.
 #[derive(Drop)]
 pub(crate) struct SideBySide<'a, T> {
-    pub(crate) rt: &'a T,
-    pub(crate) links: Vec<Link>,
+    rt: &'a T,
+    links: Vec<Link>,
 }
 
 impl<'a, T: Wait, W, S: Sink<W>> Pieces<W, S> for SideBySide<'a, T> {
@@ -36,99 +38,100 @@ impl<'a, T: Wait, W, S: Sink<W>> Pieces<W, S> for SideBySide<'a, T> {
         piece: &[u8],
         output: &mut Output<W>,
     ) -> Result<Option<S::End>, Refusal> {
-        push_side_by_side(
-            self.rt,
-            reader,
-            sink,
-            piece,
-            output,
-            self.links.as_mut_slice(),
-        )
+        self.push_in_parts(reader, sink, piece, output)
     }
 }
 
-/// Takes a piece of a trace text, as `push` does. Its first part is parsed here, while the workers begin.
-fn push_side_by_side<T: Wait, W, S: Sink<W>>(
-    rt: &T,
-    reader: &mut EventReader,
-    sink: &mut S,
-    piece: &[u8],
-    output: &mut Output<W>,
-    links: &mut [Link],
-) -> Result<Option<S::End>, Refusal>
-    requires lines { reader.old.lines + length piece.now < 2 ^ 64 }
-    requires room { S.may_take sink.old (length piece.now) }
-    ensures pushes { Offers S.takes reader.old sink.old output.old piece.now result reader.new sink.new output.new }
-    ensures none_left { result ≡ Ok None → HasNoneLeft reader.new }
-{
-    if piece.len() < FEW || links.is_empty() {
-        return push(reader, sink, piece, output);
+impl<'a, T: Wait> SideBySide<'a, T> {
+    /// By these links, none of which is left to the caller.
+    pub(crate) fn taking(rt: &'a T, links: &mut Vec<Link>, alloc: Global) -> Self {
+        SideBySide {
+            rt,
+            links: mem::replace(links, Vec::new(alloc)),
+        }
     }
-    let (first, rest) = piece.split_at(lines_within(piece, FIRST));
-    let unsent = send_first(rt, whole_lines(rest), links);
-    if let Some(end) = push(reader, sink, first, output)? {
-        return Ok(Some(end));
-    }
-    push_rest(rt, reader, sink, rest, unsent, output, links)
-}
 
-/// Takes the rest of a piece, of which the workers have the first parts.
-fn push_rest<T: Wait, W, S: Sink<W>>(
-    rt: &T,
-    reader: &mut EventReader,
-    sink: &mut S,
-    piece: &[u8],
-    unsent: &[u8],
-    output: &mut Output<W>,
-    links: &mut [Link],
-) -> Result<Option<S::End>, Refusal>
-    requires some { 0 < length links.old }
-    requires lines { reader.old.lines + length piece.now < 2 ^ 64 }
-    requires room { S.may_take sink.old (length piece.now) }
-    ensures pushes { Offers S.takes reader.old sink.old output.old piece.now result reader.new sink.new output.new }
-    ensures none_left { result ≡ Ok None → HasNoneLeft reader.new }
-{
-    let (lines, last) = piece.split_at(last_line_end(piece));
-    if let Some(end) = offer_lines(rt, lines, unsent, reader, sink, output, links)? {
-        return Ok(Some(end));
+    /// Takes a piece of a trace text, as `push` does. Its first part is parsed here, while the workers begin.
+    fn push_in_parts<W, S: Sink<W>>(
+        &mut self,
+        reader: &mut EventReader,
+        sink: &mut S,
+        piece: &[u8],
+        output: &mut Output<W>,
+    ) -> Result<Option<S::End>, Refusal>
+        requires lines { reader.old.lines + length piece.now < 2 ^ 64 }
+        requires room { S.may_take sink.old (length piece.now) }
+        ensures pushes { Offers S.takes reader.old sink.old output.old piece.now result reader.new sink.new output.new }
+        ensures none_left { result ≡ Ok None → HasNoneLeft reader.new }
+    {
+        if piece.len() < FEW || self.links.is_empty() {
+            return push(reader, sink, piece, output);
+        }
+        let (first, rest) = piece.split_at(lines_within(piece, FIRST));
+        send_first(self.rt, whole_lines(rest), self.links.as_mut_slice());
+        if let Some(end) = push(reader, sink, first, output)? {
+            return Ok(Some(end));
+        }
+        self.push_rest(reader, sink, rest, output)
     }
-    push(reader, sink, last, output)
+
+    /// Takes the rest of a piece, of which the workers have the first parts.
+    fn push_rest<W, S: Sink<W>>(
+        &mut self,
+        reader: &mut EventReader,
+        sink: &mut S,
+        piece: &[u8],
+        output: &mut Output<W>,
+    ) -> Result<Option<S::End>, Refusal>
+        requires some { 0 < length self.old.links.items }
+        requires lines { reader.old.lines + length piece.now < 2 ^ 64 }
+        requires room { S.may_take sink.old (length piece.now) }
+        ensures pushes { Offers S.takes reader.old sink.old output.old piece.now result reader.new sink.new output.new }
+        ensures none_left { result ≡ Ok None → HasNoneLeft reader.new }
+    {
+        let (lines, last) = piece.split_at(last_line_end(piece));
+        if let Some(end) = self.offer_lines(reader, sink, lines, output)? {
+            return Ok(Some(end));
+        }
+        push(reader, sink, last, output)
+    }
+
+    /// Offers the lines of a text, part by part. Behind the part that is offered the next ones are with the workers.
+    fn offer_lines<W, S: Sink<W>>(
+        &mut self,
+        reader: &mut EventReader,
+        sink: &mut S,
+        text: &[u8],
+        output: &mut Output<W>,
+    ) -> Result<Option<S::End>, Refusal>
+        requires some { 0 < length self.old.links.items }
+        requires lines { reader.old.lines + length text.now < 2 ^ 64 }
+        requires room { S.may_take sink.old (length text.now) }
+        ensures { Offers S.takes reader.old sink.old output.old text.now result reader.new sink.new output.new }
+    {
+        let mut unsent = behind_first(text, self.links.len());
+        let mut rest = text;
+        let mut turn = 0;
+        while !rest.is_empty() {
+            let (given, behind) = rest.split_at(lines_within(rest, TEXT));
+            let (next, later) = unsent.split_at(lines_within(unsent, TEXT));
+            let parsed = self.links[turn].take_back(self.rt);
+            let answer = offer_parsed(&parsed, given, reader, sink, output);
+            send_again(self.rt, &mut self.links[turn], parsed, next);
+            if let Some(end) = answer? {
+                return Ok(Some(end));
+            }
+            rest = behind;
+            unsent = later;
+            turn = (turn + 1) % self.links.len();
+        }
+        Ok(None)
+    }
 }
 
 /// What of a text is lines that have come whole.
 fn whole_lines(text: &[u8]) -> &[u8] {
     &text[..last_line_end(text)]
-}
-
-/// Offers the lines of a text, part by part. Behind the part that is offered the next ones are with the workers.
-fn offer_lines<T: Wait, W, S: Sink<W>>(
-    rt: &T,
-    text: &[u8],
-    unsent: &[u8],
-    reader: &mut EventReader,
-    sink: &mut S,
-    output: &mut Output<W>,
-    links: &mut [Link],
-) -> Result<Option<S::End>, Refusal>
-    requires some { 0 < length links.old }
-    requires lines { reader.old.lines + length text.now < 2 ^ 64 }
-    requires room { S.may_take sink.old (length text.now) }
-    ensures { Offers S.takes reader.old sink.old output.old text.now result reader.new sink.new output.new }
-{
-    let mut unsent = unsent;
-    let mut rest = text;
-    let mut turn = 0;
-    while !rest.is_empty() {
-        let (given, behind) = rest.split_at(lines_within(rest, TEXT));
-        let (next, later) = unsent.split_at(lines_within(unsent, TEXT));
-        if let Some(end) = offer_next(rt, given, next, reader, sink, output, &mut links[turn])? {
-            return Ok(Some(end));
-        }
-        rest = behind;
-        unsent = later;
-        turn = (turn + 1) % links.len();
-    }
-    Ok(None)
 }
 
 /// How many bytes of a text come first, up to a line feed as far as there is one.
@@ -146,48 +149,42 @@ fn lines_within(text: &[u8], most: usize) -> usize
     }
 }
 
-/// Sends each worker its first parts of a text, and gives what is left of it.
-fn send_first<'a, T: Wait>(rt: &T, text: &'a [u8], links: &mut [Link]) -> &'a [u8]
+/// Sends each worker its first parts of a text.
+fn send_first<T: Wait>(rt: &T, text: &[u8], links: &mut [Link])
     ensures { length links.new ≡ length links.old }
 {
     let mut unsent = text;
     for _ in 0..TEXTS_EACH {
         for link in &mut *links {
             let (next, later) = unsent.split_at(lines_within(unsent, TEXT));
-            if let Some(memory) = link.take_back(rt) {
-                link.send(rt, memory, next);
-            }
+            let parsed = link.take_back(rt);
+            send_again(rt, link, parsed, next);
             unsent = later;
+        }
+    }
+}
+
+/// What of a text comes behind the first parts of so many workers.
+fn behind_first(text: &[u8], workers: usize) -> &[u8] {
+    let mut unsent = text;
+    for _ in 0..TEXTS_EACH {
+        for _ in 0..workers {
+            unsent = &unsent[lines_within(unsent, TEXT)..];
         }
     }
     unsent
 }
 
-/// Offers the next part of a text, which a worker may have parsed, and sends it one that comes later.
-fn offer_next<T: Wait, W, S: Sink<W>>(
-    rt: &T,
-    text: &[u8],
-    later: &[u8],
-    reader: &mut EventReader,
-    sink: &mut S,
-    output: &mut Output<W>,
-    link: &mut Link,
-) -> Result<Option<S::End>, Refusal>
-    requires lines { reader.old.lines + length text.now < 2 ^ 64 }
-    requires room { S.may_take sink.old (length text.now) }
-    ensures { Offers S.takes reader.old sink.old output.old text.now result reader.new sink.new output.new }
-{
-    let Some(parsed) = link.take_back(rt) else {
-        return push(reader, sink, text, output);
-    };
-    let answer = offer_parsed(&parsed, text, reader, sink, output);
-    link.send(rt, parsed, later);
-    answer
+/// Sends a worker a text in memory that was taken back from it, where some was.
+fn send_again<T: Wait>(rt: &T, link: &mut Link, memory: Option<Parsed>, text: &[u8]) {
+    if let Some(memory) = memory {
+        link.send(rt, memory, text);
+    }
 }
 
-/// Offers what was parsed where it is this text, and else parses the text here.
+/// Offers a text by what was parsed where that is this text, and else parses it here.
 fn offer_parsed<W, S: Sink<W>>(
-    parsed: &Parsed,
+    parsed: &Option<Parsed>,
     text: &[u8],
     reader: &mut EventReader,
     sink: &mut S,
@@ -197,6 +194,9 @@ fn offer_parsed<W, S: Sink<W>>(
     requires room { S.may_take sink.old (length text.now) }
     ensures { Offers S.takes reader.old sink.old output.old text.now result reader.new sink.new output.new }
 {
+    let Some(parsed) = parsed else {
+        return push(reader, sink, text, output);
+    };
     if parsed.text.as_slice() != text {
         return push(reader, sink, text, output);
     }

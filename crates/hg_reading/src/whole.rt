@@ -1,23 +1,21 @@
 //! A whole trace text.
 
-ghost use Rattle.std.specs.Prelude.{◌≡◌, ◌+◌, ◌*◌, ◌<◌, ◌≤◌, ◌^◌, [], Ok, Err, None, IfErr, IfOk, length};
+ghost use Rattle.std.specs.Prelude.{◌≡◌, ◌+◌, ◌*◌, ◌<◌, ◌≤◌, ◌^◌, [], Ok, None, IfErr, IfOk, length};
 ghost use denote.Param.Send.{IsSync};
-ghost use Rattle.hg_model.specs.declared.verdict.Refusal.{Refusal as RefusalOf};
 ghost use Rattle.hg_wire.specs.Streams.{at_start, readings_from};
-ghost use Rattle.hg_reading.specs.Taking.{Advances, Breaks, MeetsEnd, Reads, Stops};
+ghost use Rattle.hg_reading.specs.Taking.{HasNoneLeft, Offers, Reads};
 
 use crate::pieces::{Alone, Pieces};
 use crate::side_by_side::SideBySide;
 use crate::sink::Sink;
-use crate::worker::{Link, Worker, linked_workers, run_all};
+use crate::worker::{Crew, run_all};
 use hg_model::verdict::Refusal;
 use hg_streams::input::Input;
 use hg_streams::output::Output;
 use hg_wire::reader::EventReader;
-use std::alloc::{AllocError, Global};
+use std::alloc::Global;
 use std::io::Read;
 use std::marker::Sync;
-use std::mem;
 use std::sync::Wait;
 use std::thread::{Threads, join_mut};
 
@@ -30,87 +28,46 @@ const LARGE_PIECE: usize = 1_048_576;
 /// After how many reads an input counts as failed.
 const MOST_READS: u64 = 1 << 32;
 
-/// What a read came to.
-enum Progress<E> {
-    /// More may follow.
-    Underway,
-    /// The input is at its end.
-    AtEnd,
-    /// A line ended the run.
-    Stopped(E),
+/// What a reading has of its own: a reader, and room for a piece.
+#[derive(Drop)]
+struct Intake {
+    reader: EventReader,
+    buffer: Vec<u8>,
 }
 
-/// The refusal that a refused growth is answered with.
-fn out_of_memory(_: AllocError) -> Refusal
-    ensures { result ≡ Refusal.OutOfMemory }
-{
-    Refusal::OutOfMemory
+impl Intake {
+    /// At the start of a trace text, with room for so many bytes.
+    fn new(alloc: Global, size: usize) -> Result<Intake, Refusal>
+        ensures start { IfOk result (λ intake. intake.reader ≡ at_start) }
+        ensures size { IfOk result (λ intake. length intake.buffer.items ≡ size) }
+        ensures cause { IfErr result (λ r. r ≡ Refusal.OutOfMemory) }
+    {
+        Ok(Intake {
+            reader: EventReader::new(alloc)?,
+            buffer: vec![in alloc; 0; size]?,
+        })
+    }
 }
 
-/// A reader at the start of a trace text.
-fn reader_at_start(alloc: Global) -> Result<EventReader, Refusal>
-    ensures start { IfOk result (λ reader. reader ≡ at_start) }
-    ensures cause { IfErr result (λ r. r ≡ Refusal.OutOfMemory) }
-{
-    EventReader::new(alloc).map_err(out_of_memory)
-}
-
-/// Room for a piece.
-fn piece_buffer(alloc: Global, size: usize) -> Result<Vec<u8>, Refusal>
-    ensures size { IfOk result (λ buffer. length buffer.items ≡ size) }
-    ensures cause { IfErr result (λ r. r ≡ Refusal.OutOfMemory) }
-{
-    vec![in alloc; 0; size].map_err(out_of_memory)
-}
-
-/// Workers for so many threads, with their memory, and the links to them.
-fn side_by_side<T: Wait>(
-    rt: &T,
-    jobs: usize,
-    alloc: Global,
-) -> Result<(Vec<Link>, Vec<Worker>), Refusal>
-    ensures cause { IfErr result (λ r. r ≡ Refusal.OutOfMemory) }
-{
-    linked_workers(rt, jobs, alloc).map_err(out_of_memory)
-}
-
-/// Reads once, and offers the lines of what came.
+/// Offers the lines of a piece, and prints what comes of them where each was passed.
 #[inline(always)]
-fn advance<P: Pieces<W, S>, R: Read, W, S: Sink<W>>(
+fn take_piece<P: Pieces<W, S>, W, S: Sink<W>>(
     pieces: &mut P,
-    input: &mut Input<R>,
-    buffer: &mut [u8],
     reader: &mut EventReader,
     sink: &mut S,
+    piece: &[u8],
     output: &mut Output<W>,
-) -> Result<Progress<S::End>, Refusal>
-    requires some { 0 < length buffer.old }
-    requires lines { reader.old.lines + length buffer.old < 2 ^ 64 }
-    requires room { S.may_take sink.old (length buffer.old) }
-    ensures underway { result ≡ Ok Progress.Underway → Advances S.takes S.may_take input.old.calls input.new.calls
-        reader.old sink.old output.old.calls reader.new sink.new output.new.calls (length buffer.old) }
-    ensures at_end { result ≡ Ok Progress.AtEnd → MeetsEnd S.takes input.old.calls input.new.calls
-        reader.old sink.old output.old.calls reader.new sink.new output.new.calls }
-    ensures stops { (end : S.End) → result ≡ Ok (Progress.Stopped end) → Stops S.takes
-        input.old.calls input.new.calls reader.old sink.old output.old.calls end sink.new output.new.calls }
-    ensures breaks { (r : RefusalOf) → result ≡ Err r → Breaks S.takes
-        input.old.calls input.new.calls reader.old sink.old output.old.calls r sink.new output.new.calls }
-    ensures size { length buffer.new ≡ length buffer.old }
-    ensures counted { length input.new.calls ≡ 1 + length input.old.calls }
+) -> Result<Option<S::End>, Refusal>
+    requires lines { reader.old.lines + length piece.now < 2 ^ 64 }
+    requires room { S.may_take sink.old (length piece.now) }
+    ensures pushes { Offers S.takes reader.old sink.old output.old piece.now result reader.new sink.new output.new }
+    ensures none_left { result ≡ Ok None → HasNoneLeft reader.new }
 {
-    let Some(count) = input.read(buffer)? else {
-        return Ok(Progress::Underway);
-    };
-    if count == 0 {
-        return Ok(Progress::AtEnd);
+    if let Some(end) = pieces.push(reader, sink, piece, output)? {
+        return Ok(Some(end));
     }
-    match pieces.push(reader, sink, &buffer[..count], output)? {
-        None => {
-            sink.print(output)?;
-            Ok(Progress::Underway)
-        }
-        Some(end) => Ok(Progress::Stopped(end)),
-    }
+    sink.print(output)?;
+    Ok(None)
 }
 
 /// Offers the last line, which may lack its line feed.
@@ -140,7 +97,8 @@ pub fn read<R: Read, W, S: Sink<W>>(
     requires room { S.may_take sink.old (2 ^ 48) }
     ensures { Reads S.takes input.old.calls input.new.calls sink.old output.old.calls result sink.new output.new.calls }
 {
-    read_by(&mut Alone, PIECE, alloc, input, sink, output)
+    let intake = Intake::new(alloc, PIECE)?;
+    read_pieces(&mut Alone, intake, input, sink, output)
 }
 
 /// As `read`, with the lines parsed by up to so many threads, the one that calls among them. What the sink takes does not depend on them.
@@ -158,23 +116,14 @@ pub fn read_side_by_side<T: Threads + Wait + Sync, R: Read, W, S: Sink<W>>(
     if jobs < 2 {
         return read(alloc, input, sink, output);
     }
-    let (mut links, mut workers) = side_by_side(rt, jobs, alloc)?;
-    read_beside(
-        rt,
-        workers.as_mut_slice(),
-        &mut links,
-        alloc,
-        input,
-        sink,
-        output,
-    )
+    let crew = Crew::new(rt, jobs, alloc)?;
+    read_beside(rt, crew, alloc, input, sink, output)
 }
 
 /// Reads a trace text while the workers run.
 fn read_beside<T: Threads + Wait + Sync, R: Read, W, S: Sink<W>>(
     rt: &T,
-    workers: &mut [Worker],
-    links: &mut Vec<Link>,
+    crew: Crew,
     alloc: Global,
     input: &mut Input<R>,
     sink: &mut S,
@@ -183,6 +132,12 @@ fn read_beside<T: Threads + Wait + Sync, R: Read, W, S: Sink<W>>(
     requires room { S.may_take sink.old (2 ^ 54) }
     ensures { Reads S.takes input.old.calls input.new.calls sink.old output.old.calls result sink.new output.new.calls }
 {
+    let Crew {
+        mut links,
+        mut workers,
+    } = crew;
+    let workers = workers.as_mut_slice();
+    let links = &mut links;
     let (_, answer) = join_mut(
         rt,
         &mut ||
@@ -192,15 +147,22 @@ fn read_beside<T: Threads + Wait + Sync, R: Read, W, S: Sink<W>>(
             requires { S.may_take sink.now (2 ^ 54) }
             ensures { Reads S.takes input.entry.now.calls input.exit.now.calls sink.entry.now output.entry.now.calls
                 result sink.exit.now output.exit.now.calls }
-        { read_and_unlink(rt, links, alloc, input, sink, output) },
+        {
+            read_and_unlink(
+                SideBySide::taking(rt, links, alloc),
+                alloc,
+                input,
+                sink,
+                output,
+            )
+        },
     );
     answer
 }
 
 /// Reads a trace text, and lets the links go, so that the workers end.
 fn read_and_unlink<T: Wait, R: Read, W, S: Sink<W>>(
-    rt: &T,
-    links: &mut Vec<Link>,
+    mut pieces: SideBySide<'_, T>,
     alloc: Global,
     input: &mut Input<R>,
     sink: &mut S,
@@ -209,54 +171,40 @@ fn read_and_unlink<T: Wait, R: Read, W, S: Sink<W>>(
     requires room { S.may_take sink.old (2 ^ 54) }
     ensures { Reads S.takes input.old.calls input.new.calls sink.old output.old.calls result sink.new output.new.calls }
 {
-    let mut pieces = SideBySide {
-        rt,
-        links: mem::replace(links, Vec::new(alloc)),
-    };
-    read_by(&mut pieces, LARGE_PIECE, alloc, input, sink, output)
-}
-
-/// Reads a trace text in pieces of at most so many bytes.
-#[inline(always)]
-fn read_by<P: Pieces<W, S>, R: Read, W, S: Sink<W>>(
-    pieces: &mut P,
-    size: usize,
-    alloc: Global,
-    input: &mut Input<R>,
-    sink: &mut S,
-    output: &mut Output<W>,
-) -> Result<Option<S::End>, Refusal>
-    requires size { (0 < size) × (size ≤ 2 ^ 22) }
-    requires room { S.may_take sink.old (size * 2 ^ 32) }
-    ensures { Reads S.takes input.old.calls input.new.calls sink.old output.old.calls result sink.new output.new.calls }
-{
-    let reader = reader_at_start(alloc)?;
-    let mut buffer = piece_buffer(alloc, size)?;
-    read_pieces(pieces, reader, buffer.as_mut_slice(), input, sink, output)
+    let intake = Intake::new(alloc, LARGE_PIECE)?;
+    read_pieces(&mut pieces, intake, input, sink, output)
 }
 
 /// Reads a trace text in pieces of at most the size of the buffer.
 #[inline(always)]
 fn read_pieces<P: Pieces<W, S>, R: Read, W, S: Sink<W>>(
     pieces: &mut P,
-    mut reader: EventReader,
-    buffer: &mut [u8],
+    intake: Intake,
     input: &mut Input<R>,
     sink: &mut S,
     output: &mut Output<W>,
 ) -> Result<Option<S::End>, Refusal>
-    requires start { reader ≡ at_start }
-    requires size { (0 < length buffer.old) × (length buffer.old ≤ 2 ^ 22) }
-    requires room { S.may_take sink.old (length buffer.old * 2 ^ 32) }
+    requires start { intake.reader ≡ at_start }
+    requires size { (0 < length intake.buffer.items) × (length intake.buffer.items ≤ 2 ^ 22) }
+    requires room { S.may_take sink.old (length intake.buffer.items * 2 ^ 32) }
     ensures { Reads S.takes input.old.calls input.new.calls sink.old output.old.calls result sink.new output.new.calls }
 {
+    let Intake {
+        mut reader,
+        mut buffer,
+    } = intake;
+    let bytes = buffer.as_mut_slice();
     let mut reads = 0;
     while reads < MOST_READS {
         reads += 1;
-        match advance(pieces, input, buffer, &mut reader, sink, output)? {
-            Progress::Underway => {}
-            Progress::Stopped(end) => return Ok(Some(end)),
-            Progress::AtEnd => return finish(reader, sink, output),
+        let Some(count) = input.read(bytes)? else {
+            continue;
+        };
+        if count == 0 {
+            return finish(reader, sink, output);
+        }
+        if let Some(end) = take_piece(pieces, &mut reader, sink, &bytes[..count], output)? {
+            return Ok(Some(end));
         }
     }
     Err(Refusal::DeviceFault)

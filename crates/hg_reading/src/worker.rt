@@ -131,20 +131,25 @@ fn linked<R: Wait>(rt: &R, alloc: Global) -> Result<(Link, Worker), AllocError> 
     Ok((link, worker))
 }
 
-/// Links to workers for so many threads, that of the sink among them, and the workers, which are still to be run.
-pub fn linked_workers<R: Wait>(
-    rt: &R,
-    jobs: usize,
-    alloc: Global,
-) -> Result<(Vec<Link>, Vec<Worker>), AllocError> {
-    let mut links = Vec::new(alloc);
-    let mut workers = Vec::new(alloc);
-    for _ in 1..jobs.min(MOST_JOBS) {
-        let (link, worker) = linked(rt, alloc)?;
-        links.push(link)?;
-        workers.push(worker)?;
+/// Workers that are still to be run, and the links to them.
+#[derive(Drop)]
+pub struct Crew {
+    pub links: Vec<Link>,
+    pub workers: Vec<Worker>,
+}
+
+impl Crew {
+    /// For so many threads, that of the sink among them.
+    pub fn new<R: Wait>(rt: &R, jobs: usize, alloc: Global) -> Result<Self, AllocError> {
+        let mut links = Vec::new(alloc);
+        let mut workers = Vec::new(alloc);
+        for _ in 1..jobs.min(MOST_JOBS) {
+            let (link, worker) = linked(rt, alloc)?;
+            links.push(link)?;
+            workers.push(worker)?;
+        }
+        Ok(Crew { links, workers })
     }
-    Ok((links, workers))
 }
 
 /// Runs workers in threads of their own until their links are gone. Where no thread can be made for one, it runs when another has ended.

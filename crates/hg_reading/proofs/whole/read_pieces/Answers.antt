@@ -1,7 +1,13 @@
-use Rattle.std.proofs.Common.{◌≡◌, ℕ, suc, ◌+◌, ◌-◌, ◌*◌, ◌^◌, ◌<◌, ◌≤◌, Ok, length, sym, ap, ◌∙◌, subst, inr, arith}
+use Rattle.std.proofs.Common.{◌≡◌, ℕ, suc, ◌+◌, ◌-◌, ◌*◌, ◌^◌, ◌<◌, ◌≤◌, List, ◌∷◌, IfSome, None, Some, Ok, Err, length, take, sym, ap, ◌∙◌, subst, inl, inr, arith}
 use Rattle.std.proofs.Math.Nat.{mul-suc}
+use Rattle.std.proofs.lemmas.List.{length-take}
+use Rattle.hg_streams.specs.Calls.{failed_reads, got_call}
+use Rattle.hg_streams.specs.Told.{told_refusal}
+use Rattle.hg_streams.specs.declared.call.ReadCall.TheVariants.{Gave}
 use Rattle.hg_wire.specs.Streams.{Pending}
-use Rattle.hg_reading.proofs.Runs.{has_read_first, read_end, read_too_often, reads_all}
+use Rattle.hg_reading.specs.Taking.{Pushes, Reads}
+use Rattle.hg_reading.proofs.Pushing.{pushes_pass}
+use Rattle.hg_reading.proofs.Runs.{has_read_again, has_read_first, has_read_on, read_end, read_failed, read_stop, read_too_often, reads_all, room_behind}
 use Rattle.hg_reading.proofs.whole.read_pieces.Goals as goal
 
 -- one read more takes the room of a piece
@@ -18,53 +24,113 @@ lines_more size reads old new before more =
     let all : size * (reads + 1) ≡ size * reads + size = ap (λ (k : ℕ). size * k) next ∙ mul-suc size reads in
     omega (arith, before, more, all)
 
+-- so many bytes of a buffer
+taken_within : (count : ℕ) (buffer : List ℕ) (size : ℕ) → count ≤ length buffer → length buffer ≡ size → length (take count buffer) ≤ size
+taken_within count buffer size within is = omega (arith, length-take count buffer, within, is)
+
+taken_some : (count : ℕ) (buffer : List ℕ) → count ≤ length buffer → (count ≡ 0 → ⊥) → 0 < length (take count buffer)
+taken_some count buffer within some = omega (arith, length-take count buffer, within, some)
+
 pub loop-reads-init : goal.loop-reads-init
 loop-reads-init g c =
     record {
-      run = has_read_first g.S.Sink.takes g.met.S.Sink.on c.args.input.now.calls c.args.sink.now c.args.output.now.calls c.args.reader c.requires.start (g.met.S.Sink.none c.args.sink.now c.args.output.now.calls);
+      run = has_read_first g.S.Sink.takes g.met.S.Sink.on c.args.input.now.calls c.args.sink.now c.args.output.now.calls c.args.intake.reader c.requires.start (g.met.S.Sink.none c.args.sink.now c.args.output.now.calls);
       lines = omega (arith, ap (λ (p : Pending). p.lines) c.requires.start);
       room = c.requires.room;
-      size = omega arith;
+      size = ap length c.as_mut_slice-bytes.ensures.value;
       counted = omega arith;
     }
 
-pub advance-requires-clause-room : goal.advance-requires-clause-room
-advance-requires-clause-room g c =
-    let size = length c.args.buffer.now in
-    let left = size * (2 ^ 32 - (c.loop-reads.reads + 1)) in
-    subst (λ (n : ℕ). g.S.Sink.may_take c.loop-reads.sink n) (sym c.loop-reads.invariant.size)
-    (g.met.S.Sink.fewer c.loop-reads.sink size left (subst (λ (n : ℕ). g.S.Sink.may_take c.loop-reads.sink n) (a_piece_left size c.loop-reads.reads c.loop-reads-test.true) c.loop-reads.invariant.room))
+pub returns-in_err-count : goal.returns-in_err-count
+returns-in_err-count g c =
+    let same : c.from_residual.result ≡ Err c.in_err-count.field-0.0 = grind arith in
+    let failed = c.in_err-count.ensures.failed in
+    let counted = c.in_err-count.ensures.fault ∙ ap (λ x. told_refusal x + failed_reads c.loop-reads.input.calls) c.in_err-count.ensures.cause in
+    subst (λ x. Reads g.S.Sink.takes c.args.input.now.calls c.read.new.self.calls c.args.sink.now c.args.output.now.calls x c.loop-reads.sink c.loop-reads.output.calls) (sym same)
+    (inr (read_failed g.S.Sink.takes g.met.S.Sink.on c.args.input.now.calls c.loop-reads.input.calls c.read.new.self.calls c.args.sink.now c.args.output.now.calls c.loop-reads.reader c.loop-reads.sink
+    c.loop-reads.output.calls failed.0 c.in_err-count.field-0.0 failed.1 counted c.in_err-count.ensures.cause c.loop-reads.invariant.run))
 
-pub loop-reads-preserved : goal.loop-reads-preserved
-loop-reads-preserved g c =
-    let on = c.in_ok-advance.ensures.underway (ap Ok c.in-Underway.is) in
-    let size = length c.args.buffer.now in
+pub loop-reads-preserved-in_default : goal.loop-reads-preserved-in_default
+loop-reads-preserved-in_default g c =
+    let size = length c.args.intake.buffer.items in
     let left = size * (2 ^ 32 - (c.loop-reads.reads + 1)) in
-    let same = c.loop-reads.invariant.size in
+    let swap : size + left ≡ left + size = omega arith in
+    let same : length c.read.new.buffer ≡ length c.loop-reads.bytes = grind arith in
     record {
-      run = on.leads c.args.input.now.calls c.args.sink.now c.args.output.now.calls c.loop-reads.invariant.run;
-      lines = lines_more size c.loop-reads.reads c.loop-reads.reader.lines c.advance.new.reader.lines c.loop-reads.invariant.lines (omega (arith, on.counted, same));
-      room = on.room left (subst (λ (n : ℕ). g.S.Sink.may_take c.loop-reads.sink n) (a_piece_left size c.loop-reads.reads c.loop-reads-test.true ∙ ap (λ (n : ℕ). n + left) (sym same)) c.loop-reads.invariant.room);
-      size = c.advance.ensures.size ∙ same;
-      counted = omega (arith, c.advance.ensures.counted, c.loop-reads.invariant.counted);
+      run = has_read_again g.S.Sink.takes g.met.S.Sink.on c.args.input.now.calls c.loop-reads.input.calls c.read.new.self.calls c.args.sink.now c.args.output.now.calls c.loop-reads.reader c.loop-reads.sink
+          c.loop-reads.output.calls (c.in_ok-count.ensures.calls ∙ ap (λ x. got_call x c.read.new.buffer ∷ c.loop-reads.input.calls) c.in_default.is) c.loop-reads.invariant.run;
+      lines = lines_more size c.loop-reads.reads c.loop-reads.reader.lines c.loop-reads.reader.lines c.loop-reads.invariant.lines (omega arith);
+      room = g.met.S.Sink.fewer c.loop-reads.sink left size
+          (subst (λ (n : ℕ). g.S.Sink.may_take c.loop-reads.sink n) (a_piece_left size c.loop-reads.reads c.loop-reads-test.true ∙ swap) c.loop-reads.invariant.room);
+      size = same ∙ c.loop-reads.invariant.size;
+      counted = omega (arith, c.in_ok-count.ensures.counted, c.loop-reads.invariant.counted);
     }
 
 pub finish-requires-clause-room : goal.finish-requires-clause-room
 finish-requires-clause-room g c =
-    let met = c.in_ok-advance.ensures.at_end (ap Ok c.in-AtEnd.is) in
-    let size = length c.args.buffer.now in
+    let size = length c.args.intake.buffer.items in
     let left = size * (2 ^ 32 - (c.loop-reads.reads + 1)) in
     let one : size * (2 ^ 32 - c.loop-reads.reads) ≡ 1 + (size - 1 + left) = omega (arith, a_piece_left size c.loop-reads.reads c.loop-reads-test.true, c.requires.size.0) in
-    g.met.S.Sink.fewer c.advance.new.sink 1 (size - 1 + left)
-    (subst (λ s. g.S.Sink.may_take s (1 + (size - 1 + left))) (sym met.sink)
-    (subst (λ (n : ℕ). g.S.Sink.may_take c.loop-reads.sink n) one c.loop-reads.invariant.room))
+    g.met.S.Sink.fewer c.loop-reads.sink 1 (size - 1 + left) (subst (λ (n : ℕ). g.S.Sink.may_take c.loop-reads.sink n) one c.loop-reads.invariant.room)
 
-pub returns-in-AtEnd : goal.returns-in-AtEnd
-returns-in-AtEnd g c =
-    reads_all g.S.Sink.takes g.met.S.Sink.on c.args.input.now.calls c.advance.new.input.calls c.args.sink.now c.args.output.now.calls c.finish.result c.finish.new.sink c.finish.new.output.calls
-    (read_end g.S.Sink.takes g.met.S.Sink.on c.args.input.now.calls c.loop-reads.input.calls c.advance.new.input.calls c.args.sink.now c.args.output.now.calls c.loop-reads.reader c.advance.new.reader
-    c.loop-reads.sink c.advance.new.sink c.finish.new.sink c.loop-reads.output.calls c.advance.new.output.calls c.finish.new.output.calls c.finish.result
-    (c.in_ok-advance.ensures.at_end (ap Ok c.in-AtEnd.is)) c.finish.ensures c.loop-reads.invariant.run)
+pub returns-then-count-eq0 : goal.returns-then-count-eq0
+returns-then-count-eq0 g c =
+    let zero : c.in-Some.count ≡ 0 = omega (arith, c.if-count-eq0.true) in
+    reads_all g.S.Sink.takes g.met.S.Sink.on c.args.input.now.calls c.read.new.self.calls c.args.sink.now c.args.output.now.calls c.finish.result c.finish.new.sink c.finish.new.output.calls
+    (read_end g.S.Sink.takes g.met.S.Sink.on c.args.input.now.calls c.loop-reads.input.calls c.read.new.self.calls c.args.sink.now c.args.output.now.calls c.loop-reads.reader c.loop-reads.sink c.finish.new.sink
+    c.loop-reads.output.calls c.finish.new.output.calls c.finish.result
+    (c.in_ok-count.ensures.calls ∙ (ap (λ x. got_call x c.read.new.buffer ∷ c.loop-reads.input.calls) c.in-Some.is ∙ ap (λ (n : ℕ). Gave (take n c.read.new.buffer) ∷ c.loop-reads.input.calls) zero))
+    c.finish.ensures c.loop-reads.invariant.run)
+
+pub take_piece-requires-clause-room : goal.take_piece-requires-clause-room
+take_piece-requires-clause-room g c =
+    let size = length c.args.intake.buffer.items in
+    let left = size * (2 ^ 32 - (c.loop-reads.reads + 1)) in
+    let same : length c.read.new.buffer ≡ length c.loop-reads.bytes = grind arith in
+    let n = length (take c.in-Some.count c.read.new.buffer) in
+    let within : n ≤ size = taken_within c.in-Some.count c.read.new.buffer size (subst (λ x. IfSome x (λ n. n ≤ length c.read.new.buffer)) c.in-Some.is c.in_ok-count.ensures.within) (same ∙ c.loop-reads.invariant.size) in
+    let split : size * (2 ^ 32 - c.loop-reads.reads) ≡ n + (size - n + left) = omega (arith, a_piece_left size c.loop-reads.reads c.loop-reads-test.true, within) in
+    g.met.S.Sink.fewer c.loop-reads.sink n (size - n + left) (subst (λ (k : ℕ). g.S.Sink.may_take c.loop-reads.sink k) split c.loop-reads.invariant.room)
+
+pub returns-in_err-end : goal.returns-in_err-end
+returns-in_err-end g c =
+    let same : c.from_residual-in_err-end.result ≡ Err c.in_err-end.field-0.0 = grind arith in
+    subst (λ x. Reads g.S.Sink.takes c.args.input.now.calls c.read.new.self.calls c.args.sink.now c.args.output.now.calls x c.take_piece.new.sink c.take_piece.new.output.calls) (sym same)
+    (inl (read_stop g.S.Sink.takes g.met.S.Sink.on c.args.input.now.calls c.loop-reads.input.calls c.read.new.self.calls c.args.sink.now c.args.output.now.calls c.loop-reads.reader c.loop-reads.sink c.take_piece.new.sink
+    c.loop-reads.output.calls c.take_piece.new.output.calls (take c.in-Some.count c.read.new.buffer) (Err c.in_err-end.field-0.0)
+    (c.in_ok-count.ensures.calls ∙ ap (λ x. got_call x c.read.new.buffer ∷ c.loop-reads.input.calls) c.in-Some.is) (λ e. absurd (cc)) c.in_err-end.ensures.pushes c.loop-reads.invariant.run))
+
+pub returns-in-Some-2 : goal.returns-in-Some-2
+returns-in-Some-2 g c =
+    let stopped = subst (λ x. Pushes g.S.Sink.takes c.loop-reads.reader c.loop-reads.sink c.loop-reads.output.calls (take c.in-Some.count c.read.new.buffer) (Ok x) c.take_piece.new.reader c.take_piece.new.sink
+    c.take_piece.new.output.calls) c.in-Some-2.is c.in_ok-end.ensures.pushes in
+    read_stop g.S.Sink.takes g.met.S.Sink.on c.args.input.now.calls c.loop-reads.input.calls c.read.new.self.calls c.args.sink.now c.args.output.now.calls c.loop-reads.reader c.loop-reads.sink c.take_piece.new.sink
+    c.loop-reads.output.calls c.take_piece.new.output.calls (take c.in-Some.count c.read.new.buffer) (Ok (Some c.in-Some-2.end))
+    (c.in_ok-count.ensures.calls ∙ ap (λ x. got_call x c.read.new.buffer ∷ c.loop-reads.input.calls) c.in-Some.is) (λ e. absurd (cc)) stopped c.loop-reads.invariant.run
+
+pub loop-reads-preserved : goal.loop-reads-preserved
+loop-reads-preserved g c =
+    let none : c.in_ok-end.field-0 ≡ None = grind arith in
+    let size = length c.args.intake.buffer.items in
+    let left = size * (2 ^ 32 - (c.loop-reads.reads + 1)) in
+    let same : length c.read.new.buffer ≡ length c.loop-reads.bytes = grind arith in
+    let piece = take c.in-Some.count c.read.new.buffer in
+    let fits = subst (λ x. IfSome x (λ n. n ≤ length c.read.new.buffer)) c.in-Some.is c.in_ok-count.ensures.within in
+    let within = taken_within c.in-Some.count c.read.new.buffer size fits (same ∙ c.loop-reads.invariant.size) in
+    let passes = pushes_pass g.S.Sink.takes c.loop-reads.reader c.loop-reads.sink c.loop-reads.output.calls piece (Ok c.in_ok-end.field-0) c.take_piece.new.reader c.take_piece.new.sink c.take_piece.new.output.calls
+    (ap Ok none) c.in_ok-end.ensures.pushes in
+    record {
+      run = has_read_on g.S.Sink.takes g.met.S.Sink.on c.args.input.now.calls c.loop-reads.input.calls c.read.new.self.calls c.args.sink.now c.args.output.now.calls c.loop-reads.reader c.take_piece.new.reader
+          c.loop-reads.sink c.take_piece.new.sink c.loop-reads.output.calls c.take_piece.new.output.calls piece
+          (c.in_ok-count.ensures.calls ∙ ap (λ x. got_call x c.read.new.buffer ∷ c.loop-reads.input.calls) c.in-Some.is)
+          (taken_some c.in-Some.count c.read.new.buffer fits c.if-count-eq0.false) passes (c.in_ok-end.ensures.none_left (ap Ok none)) c.loop-reads.invariant.run;
+      lines = lines_more size c.loop-reads.reads c.loop-reads.reader.lines c.take_piece.new.reader.lines c.loop-reads.invariant.lines (omega (arith, passes.counted, within));
+      room = room_behind g.S.Sink.takes g.met.S.Sink.on g.S.Sink.may_take g.met.S.Sink.room g.met.S.Sink.fewer c.loop-reads.reader c.take_piece.new.reader c.loop-reads.sink c.take_piece.new.sink
+          c.loop-reads.output.calls c.take_piece.new.output.calls piece size left within passes
+          (subst (λ (n : ℕ). g.S.Sink.may_take c.loop-reads.sink n) (a_piece_left size c.loop-reads.reads c.loop-reads-test.true) c.loop-reads.invariant.room);
+      size = same ∙ c.loop-reads.invariant.size;
+      counted = omega (arith, c.in_ok-count.ensures.counted, c.loop-reads.invariant.counted);
+    }
 
 pub returns : goal.returns
 returns g c =

@@ -1,13 +1,14 @@
-use Rattle.std.proofs.Common.{◌≡◌, ℕ, ◌+◌, ◌-◌, ◌^◌, Err, sym, subst, inr, arith}
+use Rattle.std.proofs.Common.{◌≡◌, ℕ, ◌+◌, ◌-◌, ◌^◌, sym, subst, inr, arith}
+use Rattle.std.proofs.lemmas.Result.{err_from_is_err_and}
 use Rattle.hg_reading.specs.Taking.{Reads}
 use Rattle.hg_reading.proofs.Runs.{read_nothing}
 use Rattle.hg_reading.proofs.whole.read_side_by_side.Goals as goal
 
-pub returns-in_err-links : goal.returns-in_err-links
-returns-in_err-links g c =
-    let same : c.from_residual.result ≡ Err c.in_err-links.field-0.0 = grind arith in
-    subst (λ x. Reads g.S.Sink.takes c.args.input.now.calls c.args.input.now.calls c.args.sink.now c.args.output.now.calls x c.args.sink.now c.args.output.now.calls) (sym same)
-    (inr (read_nothing g.S.Sink.takes g.met.S.Sink.on c.args.input.now.calls c.args.sink.now c.args.output.now.calls c.in_err-links.field-0.0 (g.met.S.Sink.none c.args.sink.now c.args.output.now.calls) c.in_err-links.ensures.cause))
+pub returns-in_err-crew : goal.returns-in_err-crew
+returns-in_err-crew g c =
+    let q = err_from_is_err_and c.from_residual.result c.from_residual.ensures.1 in
+    subst (λ x. Reads g.S.Sink.takes c.args.input.now.calls c.args.input.now.calls c.args.sink.now c.args.output.now.calls x c.args.sink.now c.args.output.now.calls) (sym q.1)
+    (inr (read_nothing g.S.Sink.takes g.met.S.Sink.on c.args.input.now.calls c.args.sink.now c.args.output.now.calls q.0 (g.met.S.Sink.none c.args.sink.now c.args.output.now.calls) q.2))
 
 pub read-requires : goal.read-requires
 read-requires g c =

@@ -49,8 +49,8 @@ returns-in_err-tell_event c =
 pub returns : goal.returns
 returns c =
     let accepted = c.in_ok-stopped.was ∙ ap (λ (x : Option Ending). Ok x) (none_stopped c.in_ok-stopped.stopped (sym c.is_some.ensures ∙ c.if-is_some.false)) in
-    passes_told c.args.self.now (record c.args.self.now { detector = c.apply-2.new.detector }) c.tell_event.new.self c.args.reading.now c.in-Ok.event c.kept-from.result refl refl refl refl c.tell_event.ensures.asked c.tell_event.ensures.detector c.requires.ready
-    c.in-Ok.is (sym c.concerns.ensures ∙ c.if-not-concerns.false) (c.kept-from.ensures.count ∙ sym (length-map c.args.self.now.detector.kept (report_of c.args.self.now.detector.sets.sets)))
+    passes_told c.args.self.now (record c.args.self.now { detector = c.apply-2.new.detector }) c.tell_event.new.self c.args.reading.now c.in-Ok.event c.kept-kept.result refl refl refl refl c.tell_event.ensures.asked c.tell_event.ensures.detector c.requires.ready
+    c.in-Ok.is (sym c.concerns.ensures ∙ c.if-not-concerns.false) (c.kept-kept.ensures.count ∙ sym (length-map c.args.self.now.detector.kept (report_of c.args.self.now.detector.sets.sets)))
     (subst (λ r. Steps c.args.self.now.detector (c.args.reading.now ∷ []) r c.apply-2.new.detector) accepted c.apply-2.ensures.steps)
     (c.apply-2.ensures.accepted c.in-Ok.event c.in-Ok.is accepted)
     c.in_ok-tell_event.ensures.tells c.tell_event.ensures.looks

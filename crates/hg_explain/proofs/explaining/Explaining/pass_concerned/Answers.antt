@@ -39,8 +39,8 @@ pub returns : goal.returns
 returns c =
     let accepted = c.in_ok-stopped.was ∙ ap (λ (x : Option Ending). Ok x) (none_stopped c.in_ok-stopped.stopped (sym c.is_some.ensures ∙ c.if-is_some.false)) in
     let line = access_reading c.args.line c.args.found.now in
-    passes_told c.args.self.now (record c.args.self.now { detector = c.apply_access.new.detector }) c.tell_event.new.self line (event_of c.args.found.now) c.kept-from.result refl refl refl refl c.tell_event.ensures.asked c.tell_event.ensures.detector c.requires.ready
-    refl c.requires.met (c.kept-from.ensures.count ∙ sym (length-map c.args.self.now.detector.kept (report_of c.args.self.now.detector.sets.sets)))
+    passes_told c.args.self.now (record c.args.self.now { detector = c.apply_access.new.detector }) c.tell_event.new.self line (event_of c.args.found.now) c.kept-kept.result refl refl refl refl c.tell_event.ensures.asked c.tell_event.ensures.detector c.requires.ready
+    refl c.requires.met (c.kept-kept.ensures.count ∙ sym (length-map c.args.self.now.detector.kept (report_of c.args.self.now.detector.sets.sets)))
     (subst (λ r. Steps c.args.self.now.detector (line ∷ []) r c.apply_access.new.detector) accepted c.apply_access.ensures.steps)
     (c.apply_access.ensures.accepted accepted)
-    (subst (λ (e : Event). TellsEvent (record c.args.self.now { detector = c.apply_access.new.detector }) c.kept-from.result c.args.line e c.tell_event.new.self) c.access_event-event.ensures c.in_ok-tell_event.ensures.tells) c.tell_event.ensures.looks
+    (subst (λ (e : Event). TellsEvent (record c.args.self.now { detector = c.apply_access.new.detector }) c.kept-kept.result c.args.line e c.tell_event.new.self) c.access_event-event.ensures c.in_ok-tell_event.ensures.tells) c.tell_event.ensures.looks

@@ -1,7 +1,7 @@
 use Rattle.std.proofs.Common.{◌≡◌, None, Some, Ok, Err, sym, ap, subst, arith}
 use Rattle.hg_reading.specs.Taking.{Pushes}
 use Rattle.hg_reading.proofs.Pushing.{pushes_front, pushes_pass, room_second, stops_front}
-use Rattle.hg_reading.proofs.side_by_side.push_rest.Goals as goal
+use Rattle.hg_reading.proofs.side_by_side.SideBySide.push_rest.Goals as goal
 
 pub returns-in_err-end-clause-pushes : goal.returns-in_err-end-clause-pushes
 returns-in_err-end-clause-pushes g c =

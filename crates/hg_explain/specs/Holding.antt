@@ -1,0 +1,20 @@
+-- For proofs alone: what the calls that hold a line add to the text that is held.
+use Rattle.std.specs.Prelude.{◌≡◌, ℕ, List, ◌++◌, Vec, Result, OnOk}
+use Rattle.hg_model.specs.Contents.{Content}
+use Rattle.hg_sets.specs.Interning.{set_at}
+use Rattle.hg_check.specs.Printing.{line_text}
+use Rattle.hg_explain.specs.declared.form.Asked.{Asked}
+use Rattle.hg_explain.specs.declared.telling.Accepted.{Accepted}
+use Rattle.hg_explain.specs.Life.{event_line, sets_text}
+
+-- Where the call succeeded, this text is held behind what was held.
+abbrev pub HoldsMore : {T E Z : Type 0} → Result T E → Vec ℕ Z → Vec ℕ Z → List ℕ → Type 0
+HoldsMore r old new text = OnOk r (new.items ≡ old.items ++ text)
+
+-- threads and candidate locks behind a kind, by the numbers of their sets
+abbrev pub interned_text : List ℕ → List (List ℕ) → ℕ → ℕ → List ℕ
+interned_text kind sets threads locks = sets_text kind (set_at sets threads) (set_at sets locks)
+
+-- the line of an accepted event, by what is asked and by the content after it
+abbrev pub event_text : Asked → Accepted → Content → List ℕ
+event_text asked x d = line_text (event_line asked.word asked.form x.before x.kept d x.line x.event)
