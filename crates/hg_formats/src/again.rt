@@ -14,7 +14,7 @@ use hg_model::limits::{GREATEST_NUMBER, MOST_HELD};
 use hg_model::segment::Segment;
 use hg_model::state::TraceState;
 use hg_model::thread::ThreadState;
-use hg_root::{Root, RootFault, RootHead};
+use hg_root::{HeadParts, Root, RootFault, RootHead};
 use std::alloc::{AllocError, Global};
 
 /// Adds a lock, where the thread does not hold it and holds less than 64.
@@ -88,18 +88,17 @@ fn write_again(alloc: Global, root: Root) -> Result<Vec<u8>, AllocError>
         pages,
     } = root;
     let graph = Graph::restore(alloc, segments)?;
-    let head = RootHead::encode(
-        alloc,
+    let parts = HeadParts {
         number,
-        state.events(),
-        &graph,
-        &threads,
-        &sets,
+        events: state.events(),
+        graph: &graph,
+        threads: &threads,
+        sets: &sets,
         total,
-        &reports,
-        &sources,
-    )?;
-    head.with_pages(alloc, &pages)
+        reports: &reports,
+        sources: &sources,
+    };
+    RootHead::encode(alloc, &parts)?.with_pages(alloc, &pages)
 }
 
 fn put_again(alloc: Global, root: Root, out: &mut Text)

@@ -13,7 +13,7 @@ use hg_detect::words::Words;
 use hg_model::limits::SOURCE_NUMBERS;
 use hg_model::state::TraceState;
 use hg_model::thread::ThreadState;
-use hg_root::{RootHead, SourceCount};
+use hg_root::{HeadParts, RootHead, SourceCount};
 use std::alloc::{AllocError, Global};
 
 // Puts a source at the end, where it sent something.
@@ -92,17 +92,17 @@ fn spelled<W>(
     if !has_spelling(detector, threads, sources) {
         return Err(HeadFault::Damaged);
     }
-    Ok(RootHead::encode(
-        alloc,
+    let parts = HeadParts {
         number,
-        detector.state().events(),
-        detector.graph(),
+        events: detector.state().events(),
+        graph: detector.graph(),
         threads,
-        detector.sets(),
-        detector.total(),
-        detector.kept_reports(),
+        sets: detector.sets(),
+        total: detector.total(),
+        reports: detector.kept_reports(),
         sources,
-    )?)
+    };
+    Ok(RootHead::encode(alloc, &parts)?)
 }
 
 /// The head of a root with this number, 1 to 2^58: everything that a detector has but its words. Where the detector fits a root

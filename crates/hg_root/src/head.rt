@@ -1,13 +1,13 @@
 //! The head of a root: everything of a content but the words, encoded.
 ghost use Rattle.std.specs.Prelude.{◌≡◌, ◌++◌, ◌<◌, ◌^◌, All, OnOk, IfOk, length};
 ghost use Rattle.std.specs.Int.{to_be_bytes};
-ghost use Rattle.hg_root.specs.Grammar.{PagesFit, SetFits, ThreadFits, many_text, pages_text, set_text, some_text, thread_text};
-ghost use Rattle.hg_root.specs.Heads.{FitHead, IsHeadOf};
+ghost use Rattle.hg_root.specs.Grammar.{HeadFits, PagesFit, SetFits, ThreadFits, head_text, many_text, pages_text, set_text, some_text, thread_text};
+ghost use Rattle.hg_root.specs.Heads.{parts_in};
 
 use crate::body::HEADER;
-use crate::parts::{PageSlot, SourceCount};
+use crate::head_parts::HeadParts;
+use crate::parts::PageSlot;
 use crate::piece::{Piece, put_each};
-use hg_cells::KeptReport;
 use hg_graph::Graph;
 use hg_model::limits::THREAD_NUMBERS;
 use hg_model::thread::ThreadState;
@@ -30,32 +30,22 @@ impl Model for RootHead {
 }
 
 impl RootHead {
-    /// The head of checkpoint `number`, of a content with these parts. `Err` says that memory was refused.
-    pub fn encode(
-        alloc: Global,
-        number: u64,
-        events: u64,
-        graph: &Graph,
-        threads: &[ThreadState],
-        sets: &SetTable,
-        total: u64,
-        reports: &[KeptReport],
-        sources: &[SourceCount],
-    ) -> Result<RootHead, AllocError>
-        requires fits { FitHead number events graph.now threads.now sets.now total reports.now sources.now }
-        requires threads { All (λ t. t.number < THREAD_NUMBERS) threads.now }
-        ensures { IfOk result (IsHeadOf number events graph.now threads.now sets.now total reports.now sources.now) }
+    /// The head with these parts. `Err` says that memory was refused.
+    pub fn encode(alloc: Global, parts: &HeadParts) -> Result<RootHead, AllocError>
+        requires fits { HeadFits (parts_in parts.now) }
+        requires threads { All (λ t. t.number < THREAD_NUMBERS) parts.now.threads.now }
+        ensures { IfOk result (λ head. head ≡ head_text (parts_in parts.now)) }
     {
         let mut bytes = Vec::new(alloc);
         bytes.extend_from_slice(&HEADER.to_be_bytes())?;
-        bytes.extend_from_slice(&number.to_be_bytes())?;
-        bytes.extend_from_slice(&events.to_be_bytes())?;
-        put_many(graph.segments(), &mut bytes)?;
-        put_threads(graph, threads, &mut bytes)?;
-        put_sets(sets, &mut bytes)?;
-        bytes.extend_from_slice(&total.to_be_bytes())?;
-        put_many(reports, &mut bytes)?;
-        put_some(sources, &mut bytes)?;
+        bytes.extend_from_slice(&parts.number.to_be_bytes())?;
+        bytes.extend_from_slice(&parts.events.to_be_bytes())?;
+        put_many(parts.graph.segments(), &mut bytes)?;
+        put_threads(parts.graph, parts.threads, &mut bytes)?;
+        put_sets(parts.sets, &mut bytes)?;
+        bytes.extend_from_slice(&parts.total.to_be_bytes())?;
+        put_many(parts.reports, &mut bytes)?;
+        put_some(parts.sources, &mut bytes)?;
         Ok(RootHead { bytes })
     }
 

@@ -5,6 +5,7 @@ mod body;
 mod fault;
 mod found;
 mod head;
+mod head_parts;
 mod lasts;
 pub mod laws;
 mod pair;
@@ -16,6 +17,7 @@ mod threads;
 
 pub use fault::RootFault;
 pub use head::RootHead;
+pub use head_parts::HeadParts;
 pub use pair::{Newest, RootPair};
 pub use parts::{PageSlot, SourceCount};
 pub use root::Root;
