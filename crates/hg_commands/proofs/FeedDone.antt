@@ -21,7 +21,7 @@ use Rattle.hg_store.specs.Store.{Backs, IsFresh}
 use Rattle.hg_check.specs.declared.checker.Ending.{Ending}
 use Rattle.hg_commands.specs.declared.lines.Fed.{Fed}
 use Rattle.hg_commands.specs.Feeding.{ack_text, acks_text, checkpoint_text, feed_end_text, feed_text}
-use Rattle.hg_commands.specs.FeedRunning.{FeedDone, Feeds, GoesOn, IsPrinted, WasCheckpointed, WasCommitted, WasFed, WasMade, is_due, place}
+use Rattle.hg_commands.specs.FeedRunning.{FeedDone, Feeds, IsPrinted, WasCheckpointed, WasCommitted, WasFed, WasMade, WentWell, is_due, place}
 use Rattle.hg_commands.specs.Storing.{number_text}
 use Rattle.hg_streams.specs.Calls.{failed_writes}
 use Rattle.hg_commands.specs.Storing.{failed_calls}
@@ -64,7 +64,7 @@ module _ {D : Type 0} (g : disk.Ghosts D) where
       (appends_on o q r (resume ++ acks_text first.events accepted) (ack_text last.events) a b) d) e)
 
   pub was_fed : (reads later : List ReadCall) (source : ℕ) (asked is_made : Bool) (s t u w : Shown D) (f i : Fed) (o p q r v x : List WriteCall) (end : Ending) → is_made ≡ is_due asked end → f.accepted ≡ 0
-      → Took o p (number_text (codes "resume ") ((live g s).last source)) → GoesOn g (place s f p) (place t i q) → Feeds g reads later source s.detector.sets (live g s) (live g t) end
+      → Took o p (number_text (codes "resume ") ((live g s).last source)) → WentWell g (place s f p) (place t i q) → Feeds g reads later source s.detector.sets (live g s) (live g t) end
       → WasCommitted g t u → Took q r (ack_text (live g t).events) → WasCheckpointed g is_made u w r v → Took v x (feed_end_text (live g w) end) → (IsTrue g.is_honest → Backs g w) → WasFed g reads later source asked s w o x end
   was_fed reads later source asked is_made s t u w f i o p q r v x end due none resumed goes feeds committed acked made ended backs =
       let kept : live g u ≡ live g t = ap (λ (d : detect.Shown (pool.Shown D)). detect.content (pools.live g) d) committed.detector in

@@ -15,7 +15,7 @@ use Rattle.hg_commands.specs.declared.lines.Fed.{Fed}
 use Rattle.hg_commands.specs.Feeding.{ack_text, acks_text, checkpoint_text, feed_end_text, feed_text}
 use Rattle.hg_commands.specs.Printed.{IsPrintedNow}
 use Rattle.hg_commands.specs.Storing.{number_text}
-use Rattle.hg_commands.specs.FeedRunning.{Feeds, GoesOn, HasFront, IsPrinted, WroteFrontFrom, place}
+use Rattle.hg_commands.specs.FeedRunning.{Feeds, HasFront, IsPrinted, WentWell, WroteFrontFrom, place}
 use Rattle.hg_commands.proofs.Fronts.{printed_front_on}
 
 -- ---- all that is printed
@@ -86,7 +86,7 @@ module _ {D : Type 0} (g : disk.Ghosts D) where
   })
 
   -- the lines of commits so far
-  acks_printed : IsTrue g.is_honest → (source : ℕ) (s t : Shown D) (f i : Fed) (o p q : List WriteCall) → f.accepted ≡ 0 → Took o p (number_text (codes "resume ") ((live g s).last source)) → GoesOn g (place s f p) (place t i q)
+  acks_printed : IsTrue g.is_honest → (source : ℕ) (s t : Shown D) (f i : Fed) (o p q : List WriteCall) → f.accepted ≡ 0 → Took o p (number_text (codes "resume ") ((live g s).last source)) → WentWell g (place s f p) (place t i q)
       → Took o q (fed_text source (live g s) (live g t))
   acks_printed honest source s t f i o p q none resume goes =
       let come = goes.printed honest o (resume_text source (live g s)) (live g s).events (resumed s f o p source none resume) in
@@ -95,7 +95,7 @@ module _ {D : Type 0} (g : disk.Ghosts D) where
 
   -- feeding was broken off at the last commit
   pub wrote_acks : IsTrue g.is_honest → (reads later : List ReadCall) (source : ℕ) (s t : Shown D) (f i : Fed) (o p q r : List WriteCall) (checkpoint : Option ℕ) (end : Ending) → f.accepted ≡ 0
-      → Took o p (number_text (codes "resume ") ((live g s).last source)) → GoesOn g (place s f p) (place t i q) → Feeds g reads later source s.detector.sets (live g s) (live g t) end
+      → Took o p (number_text (codes "resume ") ((live g s).last source)) → WentWell g (place s f p) (place t i q) → Feeds g reads later source s.detector.sets (live g s) (live g t) end
       → IsPrintedNow q r (ack_text (live g t).events) → WroteFrontFrom source s.detector.sets (live g s) reads later o r
   wrote_acks honest reads later source s t f i o p q r checkpoint end none resume goes feeds now =
       let first = live g s in
@@ -106,7 +106,7 @@ module _ {D : Type 0} (g : disk.Ghosts D) where
 
   -- feeding was broken off at the checkpoint
   pub wrote_made : IsTrue g.is_honest → (reads later : List ReadCall) (source : ℕ) (s t : Shown D) (f i : Fed) (o p q r v : List WriteCall) (checkpoint : Option ℕ) (end : Ending) → f.accepted ≡ 0
-      → Took o p (number_text (codes "resume ") ((live g s).last source)) → GoesOn g (place s f p) (place t i q) → Feeds g reads later source s.detector.sets (live g s) (live g t) end
+      → Took o p (number_text (codes "resume ") ((live g s).last source)) → WentWell g (place s f p) (place t i q) → Feeds g reads later source s.detector.sets (live g s) (live g t) end
       → Took q r (ack_text (live g t).events) → IsPrintedNow r v (checkpoint_text checkpoint) → WroteFrontFrom source s.detector.sets (live g s) reads later o v
   wrote_made honest reads later source s t f i o p q r v checkpoint end none resume goes feeds acked now =
       let first = live g s in
@@ -118,7 +118,7 @@ module _ {D : Type 0} (g : disk.Ghosts D) where
 
   -- feeding was broken off at the last line
   pub wrote_end : IsTrue g.is_honest → (reads later : List ReadCall) (source : ℕ) (s t : Shown D) (f i : Fed) (o p q r v w : List WriteCall) (c : Content) (checkpoint : Option ℕ) (end : Ending) → f.accepted ≡ 0
-      → Took o p (number_text (codes "resume ") ((live g s).last source)) → GoesOn g (place s f p) (place t i q) → Feeds g reads later source s.detector.sets (live g s) (live g t) end
+      → Took o p (number_text (codes "resume ") ((live g s).last source)) → WentWell g (place s f p) (place t i q) → Feeds g reads later source s.detector.sets (live g s) (live g t) end
       → Took q r (ack_text (live g t).events) → Took r v (checkpoint_text checkpoint) → c ≡ live g t → IsPrintedNow v w (feed_end_text c end) → WroteFrontFrom source s.detector.sets (live g s) reads later o w
   wrote_end honest reads later source s t f i o p q r v w c checkpoint end none resume goes feeds acked made same now =
       let first = live g s in

@@ -33,7 +33,7 @@ use Rattle.hg_check.specs.declared.checker.Ending.TheVariants.{Refused, Bad}
 use Rattle.hg_commands.specs.declared.lines.Fed.{Fed}
 use Rattle.hg_commands.specs.Feeding.{Answers, FeedsTo, HasRoom, IsOffered, ack_text, acks_text, sent}
 use Rattle.hg_commands.specs.Storing.{IsFeedFault, failed_calls}
-use Rattle.hg_commands.specs.FeedRunning.{BreaksAt, EndsAt, EndsLine, GoesOn, IsEventFault, IsPrinted, IsReady, Passes, Place, WasCounted, WasSent, content_at, place, table_at}
+use Rattle.hg_commands.specs.FeedRunning.{BreaksAt, EndsAt, EndsLine, IsEventFault, IsPrinted, IsReady, Passes, Place, WasCounted, WasSent, WentWell, content_at, place, table_at}
 use Rattle.hg_streams.specs.Told.{told, told_refusal}
 use Rattle.hg_check.proofs.Printed.{appends_on, front_more}
 use Rattle.hg_check.specs.Written.{TookFront}
@@ -219,7 +219,7 @@ module _ {D : Type 0} (g : disk.Ghosts D) where
       same_some (live g s) (live g m) (subst (λ (xs : List Named). followed (live g s) xs ≡ Some (live g m)) nothing (was.content honest).leads)
 
   unchanged_goes : (s m : Shown D) (f i : Fed) (e : Event) (r : Result Answer Refusal) (o : List WriteCall) → if_accepted (sent f.source f.number e) r ≡ [] → told r ≡ 0 → m.is_broken ≡ s.is_broken → IsReady s f → WasSent g s m f i e r
-      → GoesOn g (place s f o) (place m i o)
+      → WentWell g (place s f o) (place m i o)
   unchanged_goes s m f i e r o nothing none works ready was =
       let is = is_unchanged s m f i e r was in
       record {
@@ -361,7 +361,7 @@ module _ {D : Type 0} (g : disk.Ghosts D) where
       stops
 
   -- a place is as good as itself
-  pub stays_there : (p : Place D) → IsReady p.store p.fed → GoesOn g p p
+  pub stays_there : (p : Place D) → IsReady p.store p.fed → WentWell g p p
   stays_there p ready = record {
     source = refl;
     failures = refl;
@@ -369,7 +369,7 @@ module _ {D : Type 0} (g : disk.Ghosts D) where
     ready = ready;
   }
 
-  pub goes_on : (p q r : Place D) → GoesOn g p q → GoesOn g q r → GoesOn g p r
+  pub goes_on : (p q r : Place D) → WentWell g p q → WentWell g q r → WentWell g p r
   goes_on p q r first second = record {
     source = second.source ∙ first.source;
     failures = second.failures ∙ first.failures;

@@ -18,7 +18,7 @@ use Rattle.hg_check.specs.Taking.{ending_of}
 use Rattle.hg_check.proofs.Ends.{begins_with}
 use Rattle.hg_check.proofs.Whole.{failed_reads_on}
 use Rattle.hg_commands.specs.Feeding.{FeedsTo}
-use Rattle.hg_commands.specs.FeedRunning.{FeedEndsBy, Feeds, GoesOn, HasFront, LeadsOn, Place, content_at, table_at}
+use Rattle.hg_commands.specs.FeedRunning.{FeedEndsBy, Feeds, HasFront, LeadsOn, Place, WentWell, content_at, table_at}
 use Rattle.hg_commands.specs.Instants.{Instant}
 use Rattle.hg_commands.specs.Keeping.{KeepsOn}
 use Rattle.hg_commands.specs.Storing.{FeedFails}
@@ -88,7 +88,7 @@ module _ {D S : Type 0} (g : disk.Ghosts D) (takes : Taking S Ending) (at : S �
           leads = ends_by g takes (at s o) (at t p) (moments s) (moments t) w.later w.lines stop none taken w.due;
         }
 
-    pub goes : (first now : List ReadCall) (s t : S) (o p : List WriteCall) (stop : Option Ending) → IsReadyAt (at s o) → WasRead takes first now s o (Ok stop) t p → GoesOn g (at s o) (at t p)
+    pub goes : (first now : List ReadCall) (s t : S) (o p : List WriteCall) (stop : Option Ending) → IsReadyAt (at s o) → WasRead takes first now s o (Ok stop) t p → WentWell g (at s o) (at t p)
     goes first now s t o p stop ready w = (seen s t o p w.lines (Ok stop) w.steps).goes (no_error stop) ready
 
     -- it was broken off

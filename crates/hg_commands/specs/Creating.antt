@@ -8,14 +8,16 @@ use Rattle.hg_model.specs.Change.{empty_content}
 use Rattle.hg_contents.specs.Images.{HasContent, Image}
 use Rattle.hg_contents.specs.Stores.{IsLeft}
 use Rattle.hg_store.specs.declared.devices.Devices.{Devices}
-use Rattle.hg_store.specs.Images.{EachImage, states_of}
-use Rattle.hg_store.specs.Recovering.{IsEmpty}
-use Rattle.hg_streams.specs.declared.call.WriteCall.{WriteCall}
+use Rattle.hg_store.specs.Images.{EachImage, read_of, states_of}
+use Rattle.hg_store.specs.Recovering.{IsEmpty, empty_image}
+use Rattle.hg_streams.specs.Shown.{Outgoing}
 use Rattle.hg_streams.specs.Calls.{failed_writes}
 use Rattle.hg_streams.specs.Told.{told_refusal}
 use Rattle.hg_check.specs.Streaming.{IsTold}
-use Rattle.hg_check.specs.Written.{TookFront}
-use Rattle.hg_commands.specs.Instants.{Instant}
+use Rattle.hg_check.specs.Written.{Took, TookFront}
+use Rattle.hg_commands.specs.declared.moment.Outcome.{Outcome}
+use Rattle.hg_commands.specs.declared.printing.Outputs.{Outputs}
+use Rattle.hg_commands.specs.Instants.{Instant, instant}
 use Rattle.hg_commands.specs.Printed.{WereGiven}
 use Rattle.hg_commands.specs.Storing.{failed_calls}
 
@@ -43,23 +45,26 @@ module _ {D : Type 0} (g : disk.Ghosts D) where
   abbrev pub IsLeftBy : Devices D → Devices D → Devices D → Type 0
   IsLeftBy old failed new = ((¬ IsEmpty g old) × (new ≡ old)) ⊎ (IsEmpty g old × IsCleared failed new)
 
+  -- Devices without a byte have an empty store now, and that was told.
+  abbrev pub TellsCreated : {V : Type 0} → Devices D → Devices D → Outgoing V → Outgoing V → Type 0
+  TellsCreated old new before after = IsEmpty g old × (read_of g new ≡ empty_image) × Took before.calls after.calls (codes "created\n")
+
+  -- The devices have bytes and were not changed, and that was told.
+  abbrev pub TellsNotEmpty : {V : Type 0} → Devices D → Devices D → Outgoing V → Outgoing V → Type 0
+  TellsNotEmpty old new before after = (¬ IsEmpty g old) × (new ≡ old) × Took before.calls after.calls (codes "not empty\n")
+
   -- Why making a store ended by a fault: one call of a device or of the output failed, or memory was refused and none failed;
   -- `mid` are the devices as they were then.
-  pub record HasCreateCause (old new : Devices D) (calls_old calls_new : List WriteCall) (r : Refusal) : Type 0 where
+  pub record HasCreateCause {V : Type 0} (old new : Devices D) (before after : Outgoing V) (r : Refusal) : Type 0 where
     pub is : (r ≡ DeviceFault) ⊎ (r ≡ OutOfMemory)
     pub mid : Devices D
-    pub failed : failed_calls g mid calls_new ≡ told_refusal r + failed_calls g old calls_old
+    pub failed : failed_calls g mid after.calls ≡ told_refusal r + failed_calls g old before.calls
     pub left : IsLeftBy old mid new
 
   -- What was written is a front of the line that is due, which tells whether the devices had a byte.
-  abbrev pub WroteAnswer : Devices D → List WriteCall → List WriteCall → Type 0
-  WroteAnswer old calls_old calls_new =
-      (IsEmpty g old × TookFront calls_old calls_new (codes "created\n")) ⊎ ((¬ IsEmpty g old) × TookFront calls_old calls_new (codes "not empty\n"))
-
-  -- It was told, or that failed too, and what was written before is a front of what was due.
-  abbrev pub EndsByCreateFault : Devices D → Devices D → List WriteCall → List WriteCall → List WriteCall → List WriteCall → Type 0
-  EndsByCreateFault old new calls_old calls_new faults_old faults_new =
-      (r : Refusal) × (HasCreateCause old new calls_old calls_new r × (IsTold faults_old faults_new r × WroteAnswer old calls_old calls_new))
+  abbrev pub WroteAnswer : {V : Type 0} → Devices D → Outgoing V → Outgoing V → Type 0
+  WroteAnswer old before after =
+      (IsEmpty g old × TookFront before.calls after.calls (codes "created\n")) ⊎ ((¬ IsEmpty g old) × TookFront before.calls after.calls (codes "not empty\n"))
 
   -- Of a making that began at `start`, from one moment to a later one: `created` has not been written by the later one; or its writing had
   -- failed by the earlier one, and nothing is written since; or each image of the devices meanwhile has the content of a store of no events.
@@ -73,3 +78,27 @@ module _ {D : Type 0} (g : disk.Ghosts D) where
   abbrev pub CreatedIsKept : Instant D → List (Instant D) → Instant D → Type 0
   CreatedIsKept start [] now = IsMadeBetween start start now
   CreatedIsKept start (mid ∷ earlier) now = IsMadeBetween start mid now × CreatedIsKept start earlier mid
+
+  -- The same of the devices and the output at the start of the making, its moments, and the devices and the output at its end.
+  abbrev pub CreatedIsTrue : {V : Type 0} → Devices D → Outgoing V → List (Instant D) → Devices D → Outgoing V → Type 0
+  CreatedIsTrue old before moments new after = CreatedIsKept (instant old before.calls) moments (instant new after.calls)
+
+-- The same of a command, which has an output for what is asked of it and another one for its faults.
+module _ {D W V : Type 0} (g : disk.Ghosts D) where
+  -- Devices without a byte have an empty store now, and that was told.
+  abbrev pub WasCreated : Devices D → Devices D → Outputs W V → Outputs W V → Type 0
+  WasCreated old new before after = TellsCreated g old new before.output after.output
+
+  -- The devices have bytes and were not changed, and that was told.
+  abbrev pub HadBytes : Devices D → Devices D → Outputs W V → Outputs W V → Type 0
+  HadBytes old new before after = TellsNotEmpty g old new before.output after.output
+
+  -- A making that ended by a fault: it had a cause, it was told, or that failed too, and what was written before is a front of what was due.
+  abbrev pub CantCreate : Devices D → Devices D → Outputs W V → Outputs W V → Type 0
+  CantCreate old new before after =
+      (r : Refusal) × (HasCreateCause g old new before.output after.output r
+      × (IsTold before.faults.calls after.faults.calls r × WroteAnswer g old before.output after.output))
+
+  -- At each moment of a making that came to this outcome `created` is true.
+  abbrev pub KeepsCreated : Devices D → Outputs W V → Outcome D W → Outputs W V → Type 0
+  KeepsCreated old before outcome after = CreatedIsTrue g old before.output outcome.moments outcome.devices after.output

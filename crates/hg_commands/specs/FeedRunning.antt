@@ -117,7 +117,7 @@ module _ {D : Type 0} (g : disk.Ghosts D) where
     pub printed : Took first p.output (front ++ acks_text events p.fed.accepted)
 
   -- From one place to another no call of a device or of the output failed, and what held of the output still holds.
-  pub record GoesOn (old new : Place D) : Type 0 where
+  pub record WentWell (old new : Place D) : Type 0 where
     pub source : new.fed.source ≡ old.fed.source
     pub failures : failed_calls g new.store.devices new.output ≡ failed_calls g old.store.devices old.output
     pub printed : IsTrue g.is_honest → (first : List WriteCall) (front : List ℕ) (events : ℕ) → IsPrinted first front events old → IsPrinted first front events new
@@ -125,14 +125,14 @@ module _ {D : Type 0} (g : disk.Ghosts D) where
 
   -- One reading was passed.
   pub record Passes (old new : Place D) (reading : Reading) : Type 0 where
-    pub goes : GoesOn old new
+    pub goes : WentWell old new
     pub number : new.fed.number ≡ old.fed.number + 1
     pub leads : IsTrue g.is_honest → (later : List Reading) (last : Content) (end : Ending) → LeadsOn new later last end → LeadsOn old (reading ∷ later) last end
     pub back : IsTrue g.is_honest → (later : List Reading) (last : Content) (end : Ending) → HasRoom end → LeadsOn old (reading ∷ later) last end → LeadsOn new later last end
 
   -- A reading ended the feeding, whatever follows it.
   pub record EndsAt (old new : Place D) (reading : Reading) (end : Ending) : Type 0 where
-    pub goes : GoesOn old new
+    pub goes : WentWell old new
     pub leads : IsTrue g.is_honest → (later : List Reading) → LeadsOn old (reading ∷ later) (content_at g new) end
 
   -- Each of these reads was needed: before the last of them none had met the end of the input, and each line that had come whole was passed: its event was accepted, or was sent before.

@@ -2,6 +2,8 @@ pub mod Creating
 pub mod FeedRunning
 pub mod Feeding
 pub mod Storing
+pub mod Opening
+pub mod Listings
 pub mod Laws
 pub mod Keeping
 pub mod Printed

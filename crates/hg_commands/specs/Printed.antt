@@ -3,9 +3,13 @@ use Rattle.std.specs.Prelude.{◌≡◌, ◌⊎◌, ℕ, List, [], ◌∷◌, �
 use Rattle.hg_streams.specs.declared.call.WriteCall.{WriteCall}
 use Rattle.hg_streams.specs.declared.call.WriteCall.TheVariants.{Took, Torn, Flushed, NotFlushed}
 
+-- A text was written by one call, and flushed.
+abbrev pub WasFlushed : List WriteCall → List WriteCall → List ℕ → Type 0
+WasFlushed old new text = new ≡ Flushed ∷ Took text ∷ old
+
 -- A text that is printed at once was not written; or its write failed; or it was written, and then flushed, or that failed.
 abbrev pub IsPrintedNow : List WriteCall → List WriteCall → List ℕ → Type 0
-IsPrintedNow old new text = (new ≡ old) ⊎ ((new ≡ Torn text ∷ old) ⊎ ((new ≡ NotFlushed ∷ Took text ∷ old) ⊎ (new ≡ Flushed ∷ Took text ∷ old)))
+IsPrintedNow old new text = (new ≡ old) ⊎ ((new ≡ Torn text ∷ old) ⊎ ((new ≡ NotFlushed ∷ Took text ∷ old) ⊎ WasFlushed old new text))
 
 -- the bytes that a call was given, be it that it failed
 abbrev pub given_to : WriteCall → List ℕ

@@ -11,8 +11,10 @@ use Rattle.hg_check.specs.declared.checker.Ending.{Ending}
 use Rattle.hg_check.specs.Printing.{status_of}
 use Rattle.hg_commands.specs.declared.lines.Feeding.{Feeding}
 use Rattle.hg_commands.specs.declared.moment.Outcome.{Outcome}
+use Rattle.hg_commands.specs.declared.plan.FeedPlan.{FeedPlan}
+use Rattle.hg_commands.specs.declared.printing.Outputs.{Outputs}
 use Rattle.hg_commands.specs.Feeding.{ack_text, checkpoint_text, feed_end_text}
-use Rattle.hg_commands.specs.FeedRunning.{BreaksAt, EndsAt, FeedDone, Feeds, GoesOn, HasFront, Passes, Place, WasCheckpointed, WasCounted, WasFed, WroteFeedFront, WroteFrontFrom, place}
+use Rattle.hg_commands.specs.FeedRunning.{BreaksAt, EndsAt, EndsByFeedFault, FeedDone, Feeds, HasFront, Passes, Place, WasCheckpointed, WasCounted, WasFed, WentWell, WroteFeedFront, WroteFrontFrom, place}
 use Rattle.hg_commands.specs.Instants.{Instant, instant}
 use Rattle.hg_commands.specs.Keeping.{EachAckIsKept, KeepsOn}
 use Rattle.hg_commands.specs.Printed.{IsPrintedNow}
@@ -68,8 +70,8 @@ module _ {D W V : Type 0} (g : disk.Ghosts D) where
   Checkpointed is_made old before new after = WasCheckpointed g is_made old.store new.store before.calls after.calls
 
   -- No call failed since, what was printed is what was due so far, and the store is ready for more.
-  abbrev pub Went : Feeding D W → Outgoing V → Feeding D W → Outgoing V → Type 0
-  Went old before new after = GoesOn g (at old before) (at new after)
+  abbrev pub FeedsWell : Feeding D W → Outgoing V → Feeding D W → Outgoing V → Type 0
+  FeedsWell old before new after = WentWell g (at old before) (at new after)
 
 module _ {D W : Type 0} (g : disk.Ghosts D) where
   -- Each image of the devices has the content that was frozen as its newest checkpoint, of this number.
@@ -115,26 +117,42 @@ module _ {D W R V : Type 0} (g : disk.Ghosts D) where
       IsTrue g.is_honest → OnErr result (WroteFrontFrom old.fed.source old.store.detector.sets (live g old.store) first.calls now.calls before.calls after.calls)
 
 module _ {D R V : Type 0} (g : disk.Ghosts D) where
-  -- A front of what is due from the devices was written, or nothing.
-  abbrev pub WroteFront : ℕ → Devices D → Incoming R → Incoming R → Outgoing V → Outgoing V → Type 0
-  WroteFront source devices first now before after = WroteFeedFront g source devices first.calls now.calls before.calls after.calls
-
   -- Where the devices' store was fed, what that did.
-  abbrev pub FedWhere : ℕ → Bool → Devices D → Incoming R → Incoming R → Outgoing V → Outgoing V → Recovered D → Type 0
-  FedWhere source checkpoint devices first now before after result =
-      IfOk result.0 (λ end. FeedDone g first.calls now.calls source checkpoint devices result.1 before.calls after.calls end)
+  abbrev pub FedWhere : FeedPlan → Devices D → Incoming R → Incoming R → Outgoing V → Outgoing V → Recovered D → Type 0
+  FedWhere plan devices first now before after result =
+      IfOk result.0 (λ end. FeedDone g first.calls now.calls plan.source plan.checkpoint devices result.1 before.calls after.calls end)
 
-  -- Where it was not, what was the cause.
+  -- Where it was not, a front of what is due from the devices was written, or nothing.
+  abbrev pub LeavesFront : FeedPlan → Devices D → Incoming R → Incoming R → Outgoing V → Outgoing V → Recovered D → Type 0
+  LeavesFront plan devices first now before after result =
+      OnErr result.0 (WroteFeedFront g plan.source devices first.calls now.calls before.calls after.calls)
+
+  -- Then, what was the cause.
   abbrev pub FailedFor : Devices D → Incoming R → Incoming R → Outgoing V → Outgoing V → Recovered D → Type 0
   FailedFor devices first now before after result =
       IfErr result.0 (λ r. HasFeedCause g devices result.1 first.calls now.calls before.calls after.calls r)
-
-  -- The status is 3; or it tells how the feeding ended, and that did what it is to do.
-  abbrev pub FedOrFault : ℕ → Bool → Devices D → Incoming R → Incoming R → Outgoing V → Outgoing V → Outcome D V → Type 0
-  FedOrFault source checkpoint devices first now before after outcome =
-      (outcome.status ≡ 3 → ⊥) → (end : Ending) × (outcome.status ≡ status_of end) × FeedDone g first.calls now.calls source checkpoint devices outcome.devices before.calls after.calls end
 
 module _ {D V : Type 0} (g : disk.Ghosts D) where
   -- At each moment of it a crash leaves each event that an `ack` counts that was written by then.
   abbrev pub AcksAreKept : Devices D → Outgoing V → List (Instant D) → Devices D → Outgoing V → Type 0
   AcksAreKept old before moments new after = IsTrue g.is_honest → EachAckIsKept g (instant old before.calls) moments (instant new after.calls)
+
+-- Of the command, which has an output for what is asked of it and another one for its faults.
+module _ {D R W V : Type 0} (g : disk.Ghosts D) where
+  -- The status is 3; or it tells how the feeding ended, and that did what it is to do.
+  abbrev pub FedOrFault : FeedPlan → Devices D → Incoming R → Incoming R → Outputs W V → Outputs W V → Outcome D W → Type 0
+  FedOrFault plan devices first now before after outcome =
+      (outcome.status ≡ 3 → ⊥)
+      → (end : Ending) × (outcome.status ≡ status_of end)
+      × FeedDone g first.calls now.calls plan.source plan.checkpoint devices outcome.devices before.output.calls after.output.calls end
+
+  -- The status is not 3; or a fault ended the feeding, which was told.
+  abbrev pub FaultIsTold : FeedPlan → Devices D → Incoming R → Incoming R → Outputs W V → Outputs W V → Outcome D W → Type 0
+  FaultIsTold plan devices first now before after outcome =
+      outcome.status ≡ 3
+      → EndsByFeedFault g plan.source devices outcome.devices first.calls now.calls before.output.calls after.output.calls before.faults.calls after.faults.calls
+
+module _ {D W V : Type 0} (g : disk.Ghosts D) where
+  -- At each moment of a feeding that came to this outcome each `ack` is true.
+  abbrev pub KeepsAcks : Devices D → Outputs W V → Outcome D W → Outputs W V → Type 0
+  KeepsAcks old before outcome after = AcksAreKept g old before.output outcome.moments outcome.devices after.output

@@ -9,16 +9,14 @@ use Rattle.hg_contents.specs.Images.{HasContent}
 use Rattle.hg_store.specs.declared.devices.Devices.{Devices}
 use Rattle.hg_store.specs.Images.{failures_of, read_of}
 use Rattle.hg_store.specs.Recovering.{HasFewSets}
+use Rattle.hg_store.specs.Shown.{Shown, live}
 use Rattle.hg_streams.specs.declared.call.ReadCall.{ReadCall}
 use Rattle.hg_streams.specs.declared.call.WriteCall.{WriteCall}
 use Rattle.hg_streams.specs.Calls.{failed_reads, failed_writes}
 use Rattle.hg_streams.specs.Told.{told_refusal}
 use Rattle.hg_wire.specs.Reports.{end_line}
-use Rattle.hg_commands.specs.declared.listing.Listing.{Listing}
-use Rattle.hg_commands.specs.declared.listing.Listing.TheVariants.{Reports, Segments}
-use Rattle.hg_check.specs.Printing.{line_text, reports_text, segments_text}
-use Rattle.hg_check.specs.Streaming.{IsStreamFault, IsTold}
-use Rattle.hg_check.specs.Written.{TookFront}
+use Rattle.hg_check.specs.Printing.{line_text}
+use Rattle.hg_check.specs.Streaming.{IsStreamFault}
 
 -- a line of a word and a number
 abbrev pub number_text : List ℕ → ℕ → List ℕ
@@ -27,11 +25,6 @@ number_text word number = word ++ decimal number ++ 10 ∷ []
 -- the end line of a store: the counts of its accepted events, its reports and its segments
 abbrev pub store_end_line : Content → List ℕ
 store_end_line c = end_line c.events c.total (length c.segments)
-
--- What is printed of a store's content.
-abbrev pub listing_text : Listing → Content → List ℕ
-listing_text Reports c = reports_text 1 c.reports ++ line_text (store_end_line c)
-listing_text Segments c = segments_text 0 c.segments
 
 -- How many calls have failed, of so many before, where this is told: one more for a device fault, and else no more. A device fault is told without
 -- a failed call too, where a page that was read before reads otherwise now.
@@ -44,6 +37,10 @@ abbrev pub IsFeedFault : Refusal → Type 0
 IsFeedFault r = IsStreamFault r ⊎ ((r ≡ Damaged) ⊎ ((r ≡ Broken) ⊎ ((r ≡ FullSlots) ⊎ (r ≡ FullEvents))))
 
 module _ {D : Type 0} (g : disk.Ghosts D) where
+  -- the same of a store, with its line feed
+  abbrev pub end_text : Shown D → List ℕ
+  end_text s = line_text (store_end_line (live g s))
+
   -- A refusal of a store's devices that is true: the bytes of honest devices have no content, or the table of sets is too
   -- small for it. The others say what failed, or that pages were changed for which there is no slot.
   abbrev pub IsTrueOf : Devices D → Refusal → Type 0
@@ -52,14 +49,13 @@ module _ {D : Type 0} (g : disk.Ghosts D) where
       ⊎ (((r ≡ FullSets) × (IsTrue g.is_honest → HasFewSets 262144 (read_of g old)))
       ⊎ ((r ≡ FullSlots) ⊎ ((r ≡ DeviceFault) ⊎ (r ≡ OutOfMemory))))
 
+  -- No call of the devices failed.
+  abbrev pub NoCallFailed : Devices D → Devices D → Type 0
+  NoCallFailed old new = failures_of g new ≡ failures_of g old
+
   -- how many calls of the devices and of the output have failed
   abbrev pub failed_calls : Devices D → List WriteCall → ℕ
   failed_calls devices calls = failures_of g devices + failed_writes calls
-
-  -- Why a command over a store ended by a fault: it is true of the devices, and the calls that failed are told.
-  pub record HasStoreCause (old new : Devices D) (calls_old calls_new : List WriteCall) (r : Refusal) : Type 0 where
-    pub is_true : IsTrueOf old r
-    pub failed : IsCounted r (failed_calls old calls_old) (failed_calls new calls_new)
 
   -- Why a store was not opened. Nothing was read or written.
   pub record FailsToOpen (old new : Devices D) (reads_old reads_new : List ReadCall) (calls_old calls_new : List WriteCall) (r : Refusal) : Type 0 where
@@ -79,13 +75,3 @@ module _ {D : Type 0} (g : disk.Ghosts D) where
   HasFeedCause old new reads_old reads_new calls_old calls_new r =
       FailsToOpen old new reads_old reads_new calls_old calls_new r
       ⊎ ((opened : Devices D) × ((failures_of g opened ≡ failures_of g old) × FeedFails opened new reads_old reads_new calls_old calls_new r))
-
-  -- What was written is a front of the listing of a content, which honest devices have; or nothing was written.
-  abbrev pub WroteListing : Listing → Devices D → List WriteCall → List WriteCall → Type 0
-  WroteListing listing old calls_old calls_new =
-      (calls_new ≡ calls_old) ⊎ ((c : Content) × ((IsTrue g.is_honest → HasContent (read_of g old) c) × TookFront calls_old calls_new (listing_text listing c)))
-
-  -- A listing that ended by a fault: it had a cause, it was told, or that failed too, and what was written before is a front of what was due.
-  abbrev pub EndsByStoreFault : Listing → Devices D → Devices D → List WriteCall → List WriteCall → List WriteCall → List WriteCall → Type 0
-  EndsByStoreFault listing old new calls_old calls_new faults_old faults_new =
-      (r : Refusal) × (HasStoreCause old new calls_old calls_new r × (IsTold faults_old faults_new r × WroteListing listing old calls_old calls_new))

@@ -7,7 +7,7 @@ use Rattle.hg_disk.specs.declared.disk.Disk as disk
 use Rattle.hg_wire.specs.declared.reader.Reading.{Reading}
 use Rattle.hg_check.specs.declared.checker.Ending.{Ending}
 use Rattle.hg_commands.specs.Feeding.{HasRoom}
-use Rattle.hg_commands.specs.FeedRunning.{FrontFor, GoesOn, IsReady, LeadsOn, Place, content_at}
+use Rattle.hg_commands.specs.FeedRunning.{FrontFor, IsReady, LeadsOn, Place, WentWell, content_at}
 use Rattle.hg_commands.specs.Instants.{Instant}
 use Rattle.hg_commands.specs.Keeping.{KeepsOn}
 use Rattle.hg_commands.specs.Storing.{IsFeedFault, failed_calls}
@@ -27,7 +27,7 @@ IsFine r = (x : Refusal) → r ≡ Err x → ⊥
 module _ {D : Type 0} (g : disk.Ghosts D) where
   -- Lines were offered: each was passed (`Ok None`), or the last of them ended the feeding or was broken off. What is said of content is said of honest devices.
   pub record Takes (old : Place D) (earlier : List (Instant D)) (lines : List Reading) (r : Result (Option Ending) Refusal) (new : Place D) (later : List (Instant D)) : Type 0 where
-    pub goes : IsFine r → IsReadyAt old → GoesOn g old new
+    pub goes : IsFine r → IsReadyAt old → WentWell g old new
     pub number : r ≡ Ok None → new.fed.number ≡ old.fed.number + length lines
     pub leads : r ≡ Ok None → IsTrue g.is_honest → (more : List Reading) (last : Content) (end : Ending) → LeadsOn g new more last end → LeadsOn g old (lines ++ more) last end
     pub back : r ≡ Ok None → IsTrue g.is_honest → (more : List Reading) (last : Content) (end : Ending) → HasRoom end → LeadsOn g old (lines ++ more) last end → LeadsOn g new more last end

@@ -6,7 +6,7 @@ use Rattle.hg_model.specs.declared.verdict.Refusal.{Refusal}
 use Rattle.hg_disk.specs.declared.disk.Disk as disk
 use Rattle.hg_wire.specs.declared.reader.Reading.{Reading}
 use Rattle.hg_check.specs.declared.checker.Ending.{Ending}
-use Rattle.hg_commands.specs.FeedRunning.{GoesOn, LeadsOn, Place, content_at}
+use Rattle.hg_commands.specs.FeedRunning.{LeadsOn, Place, WentWell, content_at}
 use Rattle.hg_commands.specs.Instants.{Instant}
 use Rattle.hg_commands.specs.Taking.{IsFine, IsReadyAt, MayTake, Takes}
 
@@ -14,10 +14,10 @@ passed : IsFine (Ok None)
 passed x h = absurd (cc)
 
 module _ {D : Type 0} (g : disk.Ghosts D) where
-  stays : (p : Place D) → IsReadyAt p → GoesOn g p p
+  stays : (p : Place D) → IsReadyAt p → WentWell g p p
   stays p ready = record { source = refl; failures = refl; printed = λ honest first front events h. h; ready = ready }
 
-  goes_then : (p q r : Place D) → GoesOn g p q → GoesOn g q r → GoesOn g p r
+  goes_then : (p q r : Place D) → WentWell g p q → WentWell g q r → WentWell g p r
   goes_then p q r first second = record {
     source = second.source ∙ first.source;
     failures = second.failures ∙ first.failures;

@@ -1,15 +1,13 @@
 //! The command that makes a store.
 
-ghost use Rattle.std.specs.Prelude.{◌≡◌, ◌⊎◌, [], Ok, Err, OnErr, OnOk, IfOk, IfErr, codes};
+ghost use Rattle.std.specs.Prelude.{◌≡◌, ◌⊎◌, [], Ok, Err, OnErr, OnOk, IfOk, IfErr};
 ghost use Rattle.hg_check.specs.Printing.{Took};
 ghost use Rattle.hg_disk.specs.State.{counted, settled};
-ghost use Rattle.hg_store.specs.Images.{failures_of, read_of};
-ghost use Rattle.hg_store.specs.Recovering.{IsEmpty, empty_image};
-ghost use Rattle.hg_commands.specs.Creating.{CreatedIsKept, EndsByCreateFault, HasCreateCause, IsCleared, LeavesAnEmptyStore, WroteAnswer};
-ghost use Rattle.hg_commands.specs.Instants.{instant};
+ghost use Rattle.hg_commands.specs.Creating.{CantCreate, CreatedIsTrue, HasCreateCause, IsCleared, KeepsCreated, LeavesAnEmptyStore, TellsCreated, TellsNotEmpty, WasCreated, HadBytes, WroteAnswer};
+ghost use Rattle.hg_commands.specs.Storing.{NoCallFailed};
 
 use crate::moment::{Moment, Outcome};
-use crate::printing::print_now;
+use crate::printing::{Outputs, print_now};
 use hg_check::telling::tell;
 use hg_disk::{Disk, DiskFault};
 use hg_model::verdict::Refusal;
@@ -52,15 +50,12 @@ fn make_and_print<D: Disk, W: Write>(
     requires none { moments.old ≡ [] }
     ensures status { IfOk result.0 (λ s. (s ≡ 0) ⊎ (s ≡ 2)) }
     ensures durable { result.0 ≡ Ok 0 → LeavesAnEmptyStore ⟦<D as Disk>⟧ result.1 }
-    ensures created { result.0 ≡ Ok 0 → IsEmpty ⟦<D as Disk>⟧ devices × (read_of ⟦<D as Disk>⟧ result.1 ≡ empty_image)
-        × Took output.old.calls output.new.calls (codes "created\n") }
-    ensures not_empty { result.0 ≡ Ok 2 → ¬ IsEmpty ⟦<D as Disk>⟧ devices × (result.1 ≡ devices)
-        × Took output.old.calls output.new.calls (codes "not empty\n") }
-    ensures front { OnErr result.0 (WroteAnswer ⟦<D as Disk>⟧ devices output.old.calls output.new.calls) }
-    ensures device { OnOk result.0 (failures_of ⟦<D as Disk>⟧ result.1 ≡ failures_of ⟦<D as Disk>⟧ devices) }
-    ensures cause { IfErr result.0 (HasCreateCause ⟦<D as Disk>⟧ devices result.1 output.old.calls output.new.calls) }
-    ensures kept { CreatedIsKept ⟦<D as Disk>⟧ (instant devices output.old.calls)
-        moments.new (instant result.1 output.new.calls) }
+    ensures created { result.0 ≡ Ok 0 → TellsCreated ⟦<D as Disk>⟧ devices result.1 output.old output.new }
+    ensures not_empty { result.0 ≡ Ok 2 → TellsNotEmpty ⟦<D as Disk>⟧ devices result.1 output.old output.new }
+    ensures front { OnErr result.0 (WroteAnswer ⟦<D as Disk>⟧ devices output.old output.new) }
+    ensures device { OnOk result.0 (NoCallFailed ⟦<D as Disk>⟧ devices result.1) }
+    ensures cause { IfErr result.0 (HasCreateCause ⟦<D as Disk>⟧ devices result.1 output.old output.new) }
+    ensures kept { CreatedIsTrue ⟦<D as Disk>⟧ devices output.old moments.new result.1 output.new }
 {
     match Store::create(alloc, devices, 64, Caps::profile()) {
         Ok(store) => {
@@ -81,7 +76,7 @@ fn make_and_print<D: Disk, W: Write>(
 }
 
 /// Makes a store of no events on the devices. The status is 0, and any crash from then on leaves such a store; 2 where a device
-/// has bytes, and nothing is changed; or 3 where a device or the output failed, or memory was refused, which is told on `faults`.
+/// has bytes, and nothing is changed; or 3 where a device or the output failed, or memory was refused, which is told among the faults.
 /// With status 3, devices that had no byte have none again, as far as they answer, so that the store can be made once the cause
 /// is mended, and other devices are as they were.
 ///
@@ -90,26 +85,19 @@ fn make_and_print<D: Disk, W: Write>(
 pub fn create_store<D: Disk, W: Write, V: Write>(
     alloc: Global,
     devices: Devices<D>,
-    output: &mut Output<W>,
-    faults: &mut Output<V>,
+    outputs: &mut Outputs<W, V>,
 ) -> Outcome<D, W>
     ensures status { (result.status ≡ 0) ⊎ ((result.status ≡ 2) ⊎ (result.status ≡ 3)) }
     ensures durable { result.status ≡ 0 → LeavesAnEmptyStore ⟦<D as Disk>⟧ result.devices }
-    ensures created { result.status ≡ 0 → IsEmpty ⟦<D as Disk>⟧ devices
-        × (read_of ⟦<D as Disk>⟧ result.devices ≡ empty_image)
-        × Took output.old.calls output.new.calls (codes "created\n") }
-    ensures not_empty { result.status ≡ 2 → ¬ IsEmpty ⟦<D as Disk>⟧ devices × (result.devices ≡ devices)
-        × Took output.old.calls output.new.calls (codes "not empty\n") }
-    ensures device { (result.status ≡ 3 → ⊥)
-        → failures_of ⟦<D as Disk>⟧ result.devices ≡ failures_of ⟦<D as Disk>⟧ devices }
-    ensures quiet { (result.status ≡ 3 → ⊥) → Took faults.old.calls faults.new.calls [] }
-    ensures fault { result.status ≡ 3 → EndsByCreateFault ⟦<D as Disk>⟧ devices result.devices
-        output.old.calls output.new.calls faults.old.calls faults.new.calls }
-    ensures kept { CreatedIsKept ⟦<D as Disk>⟧ (instant devices output.old.calls)
-        result.moments (instant result.devices output.new.calls) }
+    ensures created { result.status ≡ 0 → WasCreated ⟦<D as Disk>⟧ devices result.devices outputs.old outputs.new }
+    ensures not_empty { result.status ≡ 2 → HadBytes ⟦<D as Disk>⟧ devices result.devices outputs.old outputs.new }
+    ensures device { (result.status ≡ 3 → ⊥) → NoCallFailed ⟦<D as Disk>⟧ devices result.devices }
+    ensures quiet { (result.status ≡ 3 → ⊥) → Took outputs.old.faults.calls outputs.new.faults.calls [] }
+    ensures fault { result.status ≡ 3 → CantCreate ⟦<D as Disk>⟧ devices result.devices outputs.old outputs.new }
+    ensures kept { KeepsCreated ⟦<D as Disk>⟧ devices outputs.old result outputs.new }
 {
     let mut moments = Trail::new();
-    let (made, devices) = make_and_print(alloc, devices, output, &mut moments);
+    let (made, devices) = make_and_print(alloc, devices, &mut outputs.output, &mut moments);
     match made {
         Ok(status) => Outcome {
             status,
@@ -117,7 +105,7 @@ pub fn create_store<D: Disk, W: Write, V: Write>(
             moments,
         },
         Err(refusal) => {
-            tell(refusal, faults);
+            tell(refusal, &mut outputs.faults);
             Outcome {
                 status: 3,
                 devices,

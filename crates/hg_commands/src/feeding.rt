@@ -1,21 +1,22 @@
 //! Feeding the events of a trace text to a store.
 
-ghost use Rattle.std.specs.Prelude.{◌≡◌, ◌+◌, ◌<◌, ◌≤◌, ◌++◌, false, Option, [], Ok, IfOk, IfErr, OnErr, OnOk};
+ghost use Rattle.std.specs.Prelude.{◌≡◌, ◌+◌, ◌<◌, ◌++◌, false, Option, [], Ok, IfOk, IfErr, OnErr, OnOk};
 ghost use Rattle.hg_streams.specs.Calls.{failed_writes};
 ghost use Rattle.hg_streams.specs.Told.{told};
 ghost use Rattle.hg_check.specs.Printing.{Took};
 ghost use Rattle.hg_store.specs.Store.{IsIdle};
-ghost use Rattle.hg_commands.specs.FeedRunning.{EndsByFeedFault, IsReady, is_due, place};
+ghost use Rattle.hg_commands.specs.FeedRunning.{IsReady, is_due, place};
 ghost use Rattle.hg_check.specs.Streaming.{IsStreamFault};
 ghost use Rattle.hg_commands.specs.Printed.{IsPrintedNow};
-ghost use Rattle.hg_commands.specs.Stepping.{AcksAreKept, Checkpointed, Done, Failed, FailedFor, Fails, FedOrFault, FedWhere, FeedsFrom, FrontWhere, LeftFront, MayHaveTold, StaysKept, Went, WroteFront, end_of};
+ghost use Rattle.hg_commands.specs.Stepping.{AcksAreKept, Checkpointed, Done, Failed, FailedFor, Fails, FaultIsTold, FedOrFault, FedWhere, FeedsFrom, FrontWhere, KeepsAcks, LeavesFront, LeftFront, MayHaveTold, StaysKept, FeedsWell, end_of};
 ghost use Rattle.hg_commands.specs.Storing.{IsFeedFault};
 
 use crate::lines::{Fed, Feeding};
 use crate::listing::hold_end_line;
 use crate::moment::{Moment, Outcome};
 use crate::opening::open_store;
-use crate::printing::{print_now, print_number};
+use crate::plan::FeedPlan;
+use crate::printing::{Outputs, print_now, print_number};
 use hg_check::checker::Ending;
 use hg_check::commands::status_of_end;
 use hg_check::holding::hold_stop;
@@ -133,7 +134,7 @@ impl<D: Disk, W: Write> Feeding<D, W> {
     ) -> Result<Ending, Refusal>
         requires ready { IsReady self.old.store self.old.fed }
         requires start { self.old.fed.number ≡ 0 }
-        ensures goes { OnOk result (Went ⟦<D as Disk>⟧ self.old output.old self.new output.new) }
+        ensures goes { OnOk result (FeedsWell ⟦<D as Disk>⟧ self.old output.old self.new output.new) }
         ensures feeds { IfOk result (FeedsFrom ⟦<D as Disk>⟧ input.old input.new self.old self.new) }
         ensures front { OnErr result (LeftFront ⟦<D as Disk>⟧ input.old input.new self.old output.old output.new) }
         ensures cause { Fails ⟦<D as Disk>⟧ input.old input.new self.old output.old self.new output.new result }
@@ -196,24 +197,21 @@ impl<D: Disk, W: Write> Feeding<D, W> {
 fn recover_and_feed<D: Disk, R: Read, W: Write>(
     alloc: Global,
     devices: Devices<D>,
-    source: u16,
-    frames: u16,
-    checkpoint: bool,
+    plan: FeedPlan,
     input: &mut Input<R>,
     output: &mut Output<W>,
 ) -> (Result<Ending, Refusal>, Devices<D>, Trail<Moment<D, W>>)
-    requires frames { (4 ≤ frames) × (frames ≤ 4096) }
-    ensures fed { FedWhere ⟦<D as Disk>⟧ source checkpoint devices input.old input.new output.old output.new result }
-    ensures front { OnErr result.0 (WroteFront ⟦<D as Disk>⟧ source devices input.old input.new output.old output.new) }
+    ensures fed { FedWhere ⟦<D as Disk>⟧ plan devices input.old input.new output.old output.new result }
+    ensures front { LeavesFront ⟦<D as Disk>⟧ plan devices input.old input.new output.old output.new result }
     ensures cause { FailedFor ⟦<D as Disk>⟧ devices input.old input.new output.old output.new result }
     ensures kept { AcksAreKept ⟦<D as Disk>⟧ devices output.old result.2 result.1 output.new }
 {
-    match open_store(alloc, devices, frames) {
+    match open_store(alloc, devices, plan.frames) {
         Ok(store) => {
             let mut moments = Trail::new();
             moments.push(Moment::of(&store, &*output));
             let fed = Fed {
-                source,
+                source: plan.source,
                 number: 0,
                 accepted: 0,
             };
@@ -222,7 +220,7 @@ fn recover_and_feed<D: Disk, R: Read, W: Write>(
                 fed,
                 moments,
             };
-            let end = feeding.feed_store(alloc, checkpoint, input, output);
+            let end = feeding.feed_store(alloc, plan.checkpoint, input, output);
             let Feeding {
                 store,
                 fed: _,
@@ -241,7 +239,7 @@ fn recover_and_feed<D: Disk, R: Read, W: Write>(
 /// sent before are passed over.
 ///
 /// The status is 0, 2 where a line was refused or bad, or 3 where the devices hold no store, a device or a stream failed, or
-/// memory or room was refused, which is told on `faults`. What was printed before that is a front of what was due.
+/// memory or room was refused, which is told among the faults. What was printed before that is a front of what was due.
 ///
 /// Whatever the status, at each moment of the call a crash leaves devices with each event that is counted by an `ack` that was
 /// written by then. The moments in the outcome show it: the first is that at which the store is open, and one comes after each step of
@@ -249,22 +247,21 @@ fn recover_and_feed<D: Disk, R: Read, W: Write>(
 pub fn feed<D: Disk, R: Read, W: Write, V: Write>(
     alloc: Global,
     devices: Devices<D>,
-    source: u16,
-    frames: u16,
-    checkpoint: bool,
+    plan: FeedPlan,
     input: &mut Input<R>,
-    output: &mut Output<W>,
-    faults: &mut Output<V>,
+    outputs: &mut Outputs<W, V>,
 ) -> Outcome<D, W>
-    requires { (4 ≤ frames) × (frames ≤ 4096) }
-    ensures fed { FedOrFault ⟦<D as Disk>⟧ source checkpoint devices input.old input.new output.old output.new result }
-    ensures quiet { (result.status ≡ 3 → ⊥) → Took faults.old.calls faults.new.calls [] }
-    ensures fault { result.status ≡ 3 → EndsByFeedFault ⟦<D as Disk>⟧ source devices result.devices
-        input.old.calls input.new.calls output.old.calls output.new.calls faults.old.calls faults.new.calls }
-    ensures kept { AcksAreKept ⟦<D as Disk>⟧ devices output.old result.moments result.devices output.new }
+    ensures fed { FedOrFault ⟦<D as Disk>⟧ plan devices input.old input.new outputs.old outputs.new result }
+    ensures quiet { (result.status ≡ 3 → ⊥) → Took outputs.old.faults.calls outputs.new.faults.calls [] }
+    ensures fault { FaultIsTold ⟦<D as Disk>⟧ plan devices input.old input.new outputs.old outputs.new result }
+    ensures kept { KeepsAcks ⟦<D as Disk>⟧ devices outputs.old result outputs.new }
 {
     let (done, devices, moments) = recover_and_feed(
-        alloc, devices, source, frames, checkpoint, input, output,
+        alloc,
+        devices,
+        plan,
+        input,
+        &mut outputs.output,
     );
     match done {
         Ok(end) => Outcome {
@@ -273,7 +270,7 @@ pub fn feed<D: Disk, R: Read, W: Write, V: Write>(
             moments,
         },
         Err(refusal) => {
-            tell(refusal, faults);
+            tell(refusal, &mut outputs.faults);
             Outcome {
                 status: 3,
                 devices,

@@ -9,4 +9,5 @@ pub mod lines;
 pub mod listing;
 pub mod moment;
 pub mod opening;
+pub mod plan;
 pub mod printing;

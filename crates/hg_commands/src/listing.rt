@@ -1,19 +1,17 @@
 //! The commands that print what a store holds.
 
-ghost use Rattle.std.specs.Prelude.{◌≡◌, ◌⊎◌, ◌++◌, ◌+◌, ◌≤◌, [], Ok, Err, OnErr, OnOk, IfErr, IsTrue, true, false};
+ghost use Rattle.std.specs.Prelude.{◌≡◌, ◌⊎◌, ◌++◌, ◌+◌, [], Ok, Err, OnErr, OnOk, IfErr, IsTrue, true, false};
 ghost use Rattle.hg_streams.specs.Calls.{failed_writes};
 ghost use Rattle.hg_streams.specs.Told.{told};
-ghost use Rattle.hg_model.specs.Contents.{Content};
-ghost use Rattle.hg_contents.specs.Images.{HasContent};
-ghost use Rattle.hg_store.specs.Images.{Recovers, failures_of, read_of};
-ghost use Rattle.hg_store.specs.Shown.{live};
-ghost use Rattle.hg_check.specs.Holding.{HoldsOrWrites, WritesFront};
-ghost use Rattle.hg_check.specs.Printing.{IsDue, Took, line_text, reports_text, segments_text};
-ghost use Rattle.hg_commands.specs.Storing.{EndsByStoreFault, HasStoreCause, WroteListing, listing_text, store_end_line};
-ghost use Rattle.hg_check.specs.Written.{TookFront};
+ghost use Rattle.hg_store.specs.Images.{Recovers};
+ghost use Rattle.hg_check.specs.Printing.{Took};
 ghost use Rattle.hg_check.specs.Streaming.{IsStreamFault};
+ghost use Rattle.hg_commands.specs.Listings.{BreaksReports, CantList, HasListingCause, HoldsReports, IsListed, ListsButHeld, ListsContent, ListsFront, ListsStore, WroteListing};
+ghost use Rattle.hg_commands.specs.Opening.{IsFrameCount};
+ghost use Rattle.hg_commands.specs.Storing.{NoCallFailed, end_text};
 
 use crate::opening::open_store;
+use crate::printing::Outputs;
 use hg_check::holding::{end_line, hold_report};
 use hg_check::printing::{print_segments, write_if_large};
 use hg_check::streams::write_out;
@@ -40,8 +38,7 @@ pub enum Listing {
 /// Holds the end line of a store that works: the counts of its accepted events, its reports and its segments.
 pub fn hold_end_line<D: Disk>(store: &Store<D>, held: &mut Vec<u8>) -> Result<(), Refusal>
     requires works { store.now.is_broken ≡ false }
-    ensures ok { OnOk result (held.new.items ≡ held.old.items
-        ++ line_text (store_end_line (live ⟦<D as Disk>⟧ store.now))) }
+    ensures ok { OnOk result (held.new.items ≡ held.old.items ++ end_text ⟦<D as Disk>⟧ store.now) }
     ensures cause { IfErr result (λ r. r ≡ Refusal.OutOfMemory) }
 {
     let events = store.events()?;
@@ -57,9 +54,8 @@ fn print_kept<W: Write>(
     held: &mut Vec<u8>,
     output: &mut Output<W>,
 ) -> Result<(), Refusal>
-    ensures printed { HoldsOrWrites (reports_text 1 reports.now)
-        output.old.calls held.old.items result output.new.calls held.new.items }
-    ensures front { WritesFront (reports_text 1 reports.now) output.old.calls held.old.items result output.new.calls }
+    ensures printed { HoldsReports reports.now output.old held.old result output.new held.new }
+    ensures front { BreaksReports reports.now output.old held.old result output.new }
     ensures cause { IfErr result IsStreamFault }
     ensures fault { failed_writes output.new.calls ≡ told result + failed_writes output.old.calls }
 {
@@ -82,10 +78,8 @@ fn print_listing<D: Disk, W: Write>(
 ) -> Result<(), Refusal>
     requires works { store.now.is_broken ≡ false }
     requires none { held.old.items ≡ [] }
-    ensures printed { OnOk result (IsDue output.old.calls output.new.calls held.new.items []
-        (listing_text listing (live ⟦<D as Disk>⟧ store.now))) }
-    ensures front { OnErr result (TookFront output.old.calls output.new.calls
-        (listing_text listing (live ⟦<D as Disk>⟧ store.now))) }
+    ensures printed { OnOk result (ListsButHeld ⟦<D as Disk>⟧ listing store.now output.old output.new held.new) }
+    ensures front { OnErr result (ListsFront ⟦<D as Disk>⟧ listing store.now output.old output.new) }
     ensures cause { IfErr result IsStreamFault }
     ensures fault { failed_writes output.new.calls ≡ told result + failed_writes output.old.calls }
 {
@@ -107,10 +101,8 @@ fn print_store<D: Disk, W: Write>(
     output: &mut Output<W>,
 ) -> Result<(), Refusal>
     requires works { store.now.is_broken ≡ false }
-    ensures printed { OnOk result (Took output.old.calls output.new.calls
-        (listing_text listing (live ⟦<D as Disk>⟧ store.now))) }
-    ensures front { OnErr result (TookFront output.old.calls output.new.calls
-        (listing_text listing (live ⟦<D as Disk>⟧ store.now))) }
+    ensures printed { OnOk result (ListsStore ⟦<D as Disk>⟧ listing store.now output.old output.new) }
+    ensures front { OnErr result (ListsFront ⟦<D as Disk>⟧ listing store.now output.old output.new) }
     ensures cause { IfErr result IsStreamFault }
     ensures fault { failed_writes output.new.calls ≡ told result + failed_writes output.old.calls }
 {
@@ -129,12 +121,11 @@ fn recover_and_print<D: Disk, W: Write>(
     listing: Listing,
     output: &mut Output<W>,
 ) -> (Result<(), Refusal>, Devices<D>)
-    requires { (4 ≤ frames) × (frames ≤ 4096) }
-    ensures prints { IsTrue D.is_honest → OnOk result.0 ((c : Content) × HasContent (read_of ⟦<D as Disk>⟧ devices) c
-        × Took output.old.calls output.new.calls (listing_text listing c)) }
-    ensures front { OnErr result.0 (WroteListing ⟦<D as Disk>⟧ listing devices output.old.calls output.new.calls) }
-    ensures device { OnOk result.0 (failures_of ⟦<D as Disk>⟧ result.1 ≡ failures_of ⟦<D as Disk>⟧ devices) }
-    ensures cause { IfErr result.0 (HasStoreCause ⟦<D as Disk>⟧ devices result.1 output.old.calls output.new.calls) }
+    requires { IsFrameCount frames }
+    ensures prints { OnOk result.0 (ListsContent ⟦<D as Disk>⟧ listing devices output.old output.new) }
+    ensures front { OnErr result.0 (WroteListing ⟦<D as Disk>⟧ listing devices output.old output.new) }
+    ensures device { OnOk result.0 (NoCallFailed ⟦<D as Disk>⟧ devices result.1) }
+    ensures cause { IfErr result.0 (HasListingCause ⟦<D as Disk>⟧ devices result.1 output.old output.new) }
     ensures images { IsTrue D.is_honest → Recovers ⟦<D as Disk>⟧ devices result.1 }
 {
     match open_store(alloc, devices, frames) {
@@ -152,24 +143,27 @@ fn list_store<D: Disk, W: Write, V: Write>(
     devices: Devices<D>,
     frames: u16,
     listing: Listing,
-    output: &mut Output<W>,
-    faults: &mut Output<V>,
+    outputs: &mut Outputs<W, V>,
 ) -> (u8, Devices<D>)
-    requires { (4 ≤ frames) × (frames ≤ 4096) }
+    requires { IsFrameCount frames }
     ensures status { (result.0 ≡ 0) ⊎ (result.0 ≡ 3) }
-    ensures prints { IsTrue D.is_honest → result.0 ≡ 0 → (c : Content) × HasContent (read_of ⟦<D as Disk>⟧ devices) c
-        × Took output.old.calls output.new.calls (listing_text listing c) }
-    ensures device { result.0 ≡ 0 → failures_of ⟦<D as Disk>⟧ result.1 ≡ failures_of ⟦<D as Disk>⟧ devices }
-    ensures quiet { result.0 ≡ 0 → Took faults.old.calls faults.new.calls [] }
-    ensures fault { result.0 ≡ 3 → EndsByStoreFault ⟦<D as Disk>⟧ listing devices result.1
-        output.old.calls output.new.calls faults.old.calls faults.new.calls }
+    ensures prints { result.0 ≡ 0 → IsListed ⟦<D as Disk>⟧ listing devices outputs.old outputs.new }
+    ensures device { result.0 ≡ 0 → NoCallFailed ⟦<D as Disk>⟧ devices result.1 }
+    ensures quiet { result.0 ≡ 0 → Took outputs.old.faults.calls outputs.new.faults.calls [] }
+    ensures fault { result.0 ≡ 3 → CantList ⟦<D as Disk>⟧ listing devices result.1 outputs.old outputs.new }
     ensures images { IsTrue D.is_honest → Recovers ⟦<D as Disk>⟧ devices result.1 }
 {
-    let (printed, devices) = recover_and_print(alloc, devices, frames, listing, output);
+    let (printed, devices) = recover_and_print(
+        alloc,
+        devices,
+        frames,
+        listing,
+        &mut outputs.output,
+    );
     match printed {
         Ok(()) => (0, devices),
         Err(refusal) => {
-            tell(refusal, faults);
+            tell(refusal, &mut outputs.faults);
             (3, devices)
         }
     }
@@ -177,26 +171,23 @@ fn list_store<D: Disk, W: Write, V: Write>(
 
 /// Recovers the store that the devices hold, and prints its kept reports and the end line. Answers the status and the
 /// devices: 0, or 3 where they hold no store, a device or the output failed, or memory or room was refused, which is
-/// told on `faults`. What was printed before that is a front of what was due. A recovery may write pages: a crash at any moment leaves an
+/// told among the faults. What was printed before that is a front of what was due. A recovery may write pages: a crash at any moment leaves an
 /// image with the content of one that there was before.
 pub fn store_reports<D: Disk, W: Write, V: Write>(
     alloc: Global,
     devices: Devices<D>,
     frames: u16,
-    output: &mut Output<W>,
-    faults: &mut Output<V>,
+    outputs: &mut Outputs<W, V>,
 ) -> (u8, Devices<D>)
-    requires { (4 ≤ frames) × (frames ≤ 4096) }
+    requires { IsFrameCount frames }
     ensures status { (result.0 ≡ 0) ⊎ (result.0 ≡ 3) }
-    ensures prints { IsTrue D.is_honest → result.0 ≡ 0 → (c : Content) × HasContent (read_of ⟦<D as Disk>⟧ devices) c
-        × Took output.old.calls output.new.calls (reports_text 1 c.reports ++ line_text (store_end_line c)) }
-    ensures device { result.0 ≡ 0 → failures_of ⟦<D as Disk>⟧ result.1 ≡ failures_of ⟦<D as Disk>⟧ devices }
-    ensures quiet { result.0 ≡ 0 → Took faults.old.calls faults.new.calls [] }
-    ensures fault { result.0 ≡ 3 → EndsByStoreFault ⟦<D as Disk>⟧ Listing.Reports devices result.1
-        output.old.calls output.new.calls faults.old.calls faults.new.calls }
+    ensures prints { result.0 ≡ 0 → IsListed ⟦<D as Disk>⟧ Listing.Reports devices outputs.old outputs.new }
+    ensures device { result.0 ≡ 0 → NoCallFailed ⟦<D as Disk>⟧ devices result.1 }
+    ensures quiet { result.0 ≡ 0 → Took outputs.old.faults.calls outputs.new.faults.calls [] }
+    ensures fault { result.0 ≡ 3 → CantList ⟦<D as Disk>⟧ Listing.Reports devices result.1 outputs.old outputs.new }
     ensures images { IsTrue D.is_honest → Recovers ⟦<D as Disk>⟧ devices result.1 }
 {
-    list_store(alloc, devices, frames, Listing::Reports, output, faults)
+    list_store(alloc, devices, frames, Listing::Reports, outputs)
 }
 
 /// Recovers the store that the devices hold, and prints its thread segments. Answers as `store_reports` does.
@@ -204,18 +195,15 @@ pub fn store_graph<D: Disk, W: Write, V: Write>(
     alloc: Global,
     devices: Devices<D>,
     frames: u16,
-    output: &mut Output<W>,
-    faults: &mut Output<V>,
+    outputs: &mut Outputs<W, V>,
 ) -> (u8, Devices<D>)
-    requires { (4 ≤ frames) × (frames ≤ 4096) }
+    requires { IsFrameCount frames }
     ensures status { (result.0 ≡ 0) ⊎ (result.0 ≡ 3) }
-    ensures prints { IsTrue D.is_honest → result.0 ≡ 0 → (c : Content) × HasContent (read_of ⟦<D as Disk>⟧ devices) c
-        × Took output.old.calls output.new.calls (segments_text 0 c.segments) }
-    ensures device { result.0 ≡ 0 → failures_of ⟦<D as Disk>⟧ result.1 ≡ failures_of ⟦<D as Disk>⟧ devices }
-    ensures quiet { result.0 ≡ 0 → Took faults.old.calls faults.new.calls [] }
-    ensures fault { result.0 ≡ 3 → EndsByStoreFault ⟦<D as Disk>⟧ Listing.Segments devices result.1
-        output.old.calls output.new.calls faults.old.calls faults.new.calls }
+    ensures prints { result.0 ≡ 0 → IsListed ⟦<D as Disk>⟧ Listing.Segments devices outputs.old outputs.new }
+    ensures device { result.0 ≡ 0 → NoCallFailed ⟦<D as Disk>⟧ devices result.1 }
+    ensures quiet { result.0 ≡ 0 → Took outputs.old.faults.calls outputs.new.faults.calls [] }
+    ensures fault { result.0 ≡ 3 → CantList ⟦<D as Disk>⟧ Listing.Segments devices result.1 outputs.old outputs.new }
     ensures images { IsTrue D.is_honest → Recovers ⟦<D as Disk>⟧ devices result.1 }
 {
-    list_store(alloc, devices, frames, Listing::Segments, output, faults)
+    list_store(alloc, devices, frames, Listing::Segments, outputs)
 }

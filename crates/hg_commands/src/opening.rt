@@ -1,10 +1,11 @@
 //! Opening a store.
 
-ghost use Rattle.std.specs.Prelude.{◌≡◌, ◌≤◌, IfOk, IfErr, IsTrue};
-ghost use Rattle.hg_store.specs.Images.{Recovers, failures_of};
+ghost use Rattle.std.specs.Prelude.{IfOk, IfErr, IsTrue};
+ghost use Rattle.hg_store.specs.Images.{Recovers};
 ghost use Rattle.hg_store.specs.Recovering.{HasItsTable, IsRecovered, made_of};
 ghost use Rattle.hg_store.specs.Store.{IsIdle};
-ghost use Rattle.hg_commands.specs.Storing.{IsCounted, IsTrueOf};
+ghost use Rattle.hg_commands.specs.Opening.{IsFrameCount, TellsFailures};
+ghost use Rattle.hg_commands.specs.Storing.{IsTrueOf, NoCallFailed};
 
 use hg_disk::Disk;
 use hg_model::verdict::Refusal;
@@ -19,15 +20,13 @@ pub fn open_store<D: Disk>(
     devices: Devices<D>,
     frames: u16,
 ) -> Result<Store<D>, (Refusal, Devices<D>)>
-    requires { (4 ≤ frames) × (frames ≤ 4096) }
+    requires { IsFrameCount frames }
     ensures idle { IfOk result IsIdle }
     ensures content { IsTrue D.is_honest → IfOk result (IsRecovered ⟦<D as Disk>⟧ devices) }
     ensures sets { IsTrue D.is_honest → IfOk result (HasItsTable ⟦<D as Disk>⟧ 262144 devices) }
-    ensures device { IfOk result (λ store.
-        failures_of ⟦<D as Disk>⟧ store.devices ≡ failures_of ⟦<D as Disk>⟧ devices) }
+    ensures device { IfOk result (λ store. NoCallFailed ⟦<D as Disk>⟧ devices store.devices) }
     ensures cause { IfErr result (λ e. IsTrueOf ⟦<D as Disk>⟧ devices e.0) }
-    ensures fault { IfErr result (λ e.
-        IsCounted e.0 (failures_of ⟦<D as Disk>⟧ devices) (failures_of ⟦<D as Disk>⟧ e.1)) }
+    ensures fault { IfErr result (TellsFailures ⟦<D as Disk>⟧ devices) }
     ensures images { IsTrue D.is_honest → Recovers ⟦<D as Disk>⟧ devices (made_of result) }
 {
     match Store::recover(alloc, devices, frames, Caps::profile()) {

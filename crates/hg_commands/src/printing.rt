@@ -1,11 +1,10 @@
-//! Texts that reach a pipe at once, and lines of a word and a number.
+//! Where commands print, texts that reach a pipe at once, and lines of a word and a number.
 
-ghost use Rattle.std.specs.Prelude.{◌≡◌, ◌+◌, ◌≤◌, ◌∷◌, length, OnOk, IfErr};
+ghost use Rattle.std.specs.Prelude.{◌≡◌, ◌+◌, ◌≤◌, length, OnOk, IfErr};
 ghost use Rattle.hg_streams.specs.Calls.{failed_writes};
 ghost use Rattle.hg_streams.specs.Told.{told};
-ghost use Rattle.hg_streams.specs.declared.call.WriteCall.TheVariants as WriteCall;
 ghost use Rattle.hg_check.specs.Printing.{Took};
-ghost use Rattle.hg_commands.specs.Printed.{IsPrintedNow};
+ghost use Rattle.hg_commands.specs.Printed.{IsPrintedNow, WasFlushed};
 ghost use Rattle.hg_commands.specs.Storing.{number_text};
 
 use arrayvec::ArrayVec;
@@ -14,6 +13,15 @@ use hg_streams::output::Output;
 use itoa::Buffer;
 use std::io::Write;
 
+/// Where a command prints.
+#[derive(Drop)]
+pub struct Outputs<W, V> {
+    /// What it was asked for.
+    pub output: Output<W>,
+    /// The fault that it ended by.
+    pub faults: Output<V>,
+}
+
 /// The most bytes of such a line: a word of 11, a number of 20 digits and a line feed.
 const MOST_LINE: usize = 32;
 
@@ -21,7 +29,7 @@ const MOST_LINE: usize = 32;
 pub fn print_now<W: Write>(text: &[u8], output: &mut Output<W>) -> Result<(), Refusal>
     ensures printed { OnOk result (Took output.old.calls output.new.calls text.now) }
     ensures calls { IsPrintedNow output.old.calls output.new.calls text.now }
-    ensures flushed { OnOk result (output.new.calls ≡ WriteCall.Flushed ∷ WriteCall.Took text.now ∷ output.old.calls) }
+    ensures flushed { OnOk result (WasFlushed output.old.calls output.new.calls text.now) }
     ensures cause { IfErr result (λ r. r ≡ Refusal.DeviceFault) }
     ensures fault { failed_writes output.new.calls ≡ told result + failed_writes output.old.calls }
 {

@@ -2,6 +2,7 @@
 
 ghost use Rattle.std.specs.Prelude.{◌≡◌, IfSome};
 ghost use Rattle.hg_model.specs.Change.{empty_content};
+ghost use Rattle.hg_desk.specs.Blanks.{IsBlankOf};
 ghost use Rattle.hg_desk.specs.Going.{began};
 ghost use Rattle.hg_store.specs.Shown.{live};
 ghost use Rattle.hg_store.specs.Store.{IsFresh};
@@ -187,8 +188,8 @@ fn run_over<A: Opening, B: Column>(
     part: &[u8],
     out: &mut Text,
 )
-    requires accepted { (accepted.name ≡ A.name) × (accepted.parts ≡ A.parts) × (accepted.parts ≡ 1) }
-    requires durable { (durable.name ≡ B.name) × (durable.parts ≡ B.parts) × (durable.parts ≡ 1) }
+    requires accepted { IsBlankOf A.name A.parts 1 accepted }
+    requires durable { IsBlankOf B.name B.parts 1 durable }
     requires opening { ((live ⟦<MemDisk as Disk>⟧ store).events ≡ A.opening) × (store.durable ≡ B.opening) }
     requires start { IfSome A.start (λ start. start ≡ began ⟦<MemDisk as Disk>⟧ store) }
 {

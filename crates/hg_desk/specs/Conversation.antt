@@ -1,5 +1,5 @@
 -- What a frame is answered, and what it does to the store.
-use Rattle.std.specs.Prelude.{◌≡◌, ◌⊎◌, ◌+◌, ◌≤◌, ℕ, nat_lt, Bool, List, [], ◌∷◌, length, cond, Result, Ok, Err, IsTrue}
+use Rattle.std.specs.Prelude.{◌≡◌, ◌⊎◌, ◌+◌, ◌≤◌, ℕ, nat_lt, Bool, List, [], ◌∷◌, length, Vec, cond, Result, Ok, Err, IfOk, IsTrue}
 use Rattle.hg_model.specs.Contents.{Content}
 use Rattle.hg_model.specs.Codes.{code_of}
 use Rattle.hg_model.specs.declared.event.Named.{Named}
@@ -122,3 +122,7 @@ Converses {D} g stage old new told told_after (frame ∷ frames) to (reply ∷ r
     (mid : Shown D) × (between : Told) × (next : Stage) × Answers g stage old mid told between frame next reply × Converses g next mid new between told_after frames to replies
 Converses g stage old new told told_after [] to (reply ∷ replies) = ⊥
 Converses g stage old new told told_after (frame ∷ frames) to [] = ⊥
+
+-- Where there was room for the replies, the frames are answered so.
+abbrev pub ConversesOnOk : {D Z E : Type 0} → disk.Ghosts D → Stage → (old new : Shown D) → (told told_after : Told) → List Frame → Stage → Result (Vec Reply Z) E → Type 0
+ConversesOnOk g stage old new told told_after frames to result = IfOk result (λ replies. Converses g stage old new told told_after frames to replies.items)

@@ -7,6 +7,7 @@ use Rattle.hg_contents.specs.Stores.{IsLeft}
 use Rattle.hg_store.specs.Images.{states_of}
 use Rattle.hg_store.specs.Shown.{Shown, live}
 use Rattle.hg_desk.specs.declared.locked.Counts.{Counts}
+use Rattle.hg_desk.specs.declared.shared.TakenIn.{TakenIn}
 use Rattle.hg_desk.specs.declared.shared.Tally.{Tally}
 use Rattle.hg_desk.specs.Told.{Told}
 
@@ -41,6 +42,18 @@ module _ {D : Type 0} (g : disk.Ghosts D) where
   abbrev pub AreSince : (opening_events opening_durable : ℕ) → Shown D → Counts → Type 0
   AreSince opening_events opening_durable s counts = (events_of s ≡ opening_events + counts.accepted) × (s.durable ≡ opening_durable + counts.durable)
 
+  -- The store that was taken in has accepted as many events more than so many as the shares were told.
+  abbrev pub HasTheirEvents : ℕ → List Told → TakenIn D → Type 0
+  HasTheirEvents opening shares taken_in = events_of taken_in.store ≡ opening + accepted_in shares
+
+  -- As many more are durable as the shares were told.
+  abbrev pub HasTheirDurable : ℕ → List Told → TakenIn D → Type 0
+  HasTheirDurable opening shares taken_in = taken_in.store.durable ≡ opening + durable_in shares
+
   -- Each image of the store's devices has a content of so many events at least.
   abbrev pub EachImageHas : Shown D → ℕ → Type 0
   EachImageHas s n = (image : Image) → IsLeft (states_of g s.devices) image → (k : Content) × HasContent image k × (n ≤ k.events)
+
+  -- Each image of the devices of the store that was taken in has these at least.
+  abbrev pub ImagesHaveThem : ℕ → List Told → TakenIn D → Type 0
+  ImagesHaveThem opening shares taken_in = EachImageHas taken_in.store (opening + durable_in shares)

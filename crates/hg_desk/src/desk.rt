@@ -3,7 +3,7 @@
 ghost use Rattle.std.specs.Prelude.{◌≡◌, IfOk, OnErr};
 ghost use Rattle.hg_frames.specs.Spelling.{FitsFrames};
 ghost use Rattle.hg_store.specs.Shown.{live};
-ghost use Rattle.hg_desk.specs.Conversation.{Answers, Commits, Converses, Greets, Offers, Talks, expected_of, hello_reply, refused as refused_reply, stage_after_hello};
+ghost use Rattle.hg_desk.specs.Conversation.{Answers, Commits, ConversesOnOk, Greets, Offers, Talks, expected_of, hello_reply, refused as refused_reply, stage_after_hello};
 ghost use Rattle.hg_desk.specs.Told.{Told};
 
 use crate::locked::Core;
@@ -109,8 +109,7 @@ impl Desk {
         share: &mut Share<A, B>,
         frames: &[Frame],
     ) -> Result<Vec<Reply>, AllocError>
-        ensures ok { IfOk result (λ replies.
-            Converses ⟦<D as Disk>⟧ self.old core.old core.new share.old share.new frames.now self.new replies.items) }
+        ensures ok { ConversesOnOk ⟦<D as Disk>⟧ self.old core.old core.new share.old share.new frames.now self.new result }
         ensures err { OnErr result ((self.new ≡ self.old) × ((core.new ≡ core.old) × (share.new ≡ share.old))) }
     {
         let Ok(mut replies) = Vec::with_capacity(alloc, frames.len()) else {

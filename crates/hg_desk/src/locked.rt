@@ -5,6 +5,7 @@ ghost use Rattle.hg_model.specs.declared.verdict.Refusal.TheVariants.{Broken};
 ghost use Rattle.hg_frames.specs.Spelling.{FitsFrames};
 ghost use Rattle.hg_store.specs.Doing.{fails_by};
 ghost use Rattle.hg_store.specs.Shown.{live};
+ghost use Rattle.hg_desk.specs.Blanks.{IsBlankOf};
 ghost use Rattle.hg_desk.specs.Conversation.{ReportsAnswer};
 ghost use Rattle.hg_desk.specs.Going.{began};
 ghost use Rattle.hg_desk.specs.Told.{StepKept, fitting, made_durable, nothing_told, taken};
@@ -148,8 +149,8 @@ impl<D: Disk, A: Opening, B: Column> Core<D, A, B> {
         durable: Blank,
         shares: usize,
     ) -> Result<(Self, Vec<Share<A, B>>), (Store<D>, Blank, Blank)>
-        requires accepted { (accepted.name ≡ A.name) × (accepted.parts ≡ A.parts) × (accepted.parts ≡ shares) }
-        requires durable { (durable.name ≡ B.name) × (durable.parts ≡ B.parts) × (durable.parts ≡ shares) }
+        requires accepted { IsBlankOf A.name A.parts shares accepted }
+        requires durable { IsBlankOf B.name B.parts shares durable }
         requires opening { ((live ⟦<D as Disk>⟧ store).events ≡ A.opening) × (store.durable ≡ B.opening) }
         requires start { IfSome A.start (λ start. start ≡ began ⟦<D as Disk>⟧ store) }
         ensures core { IfOk result (λ r. r.0 ≡ store) }

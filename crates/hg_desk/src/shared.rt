@@ -2,8 +2,9 @@
 
 ghost use Rattle.std.specs.Prelude.{◌≡◌, ◌+◌, ◌≤◌, ◌⊎◌, ◌≢◌, length, map, sum, vec_len, All, IfOk, IfSome, IfErr, IsTrue};
 ghost use Rattle.hg_store.specs.Shown.{live};
+ghost use Rattle.hg_desk.specs.Blanks.{IsBlankOf};
 ghost use Rattle.hg_desk.specs.Going.{FailedSince, WentOnSince, began};
-ghost use Rattle.hg_desk.specs.Counting.{AreDisputed, EachImageHas, WhereAll, accepted_in, durable_in, events_of};
+ghost use Rattle.hg_desk.specs.Counting.{AreDisputed, HasTheirDurable, HasTheirEvents, ImagesHaveThem, WhereAll, accepted_in, durable_in, events_of};
 ghost use Rattle.hg_desk.specs.Told.{nothing_told};
 
 use crate::locked::Core;
@@ -59,8 +60,8 @@ impl<D: Disk, A: Opening, B: Column> Shared<D, A, B> {
         durable: Blank,
         shares: usize,
     ) -> Result<(Self, Vec<Share<A, B>>), (Store<D>, Blank, Blank)>
-        requires accepted { (accepted.name ≡ A.name) × (accepted.parts ≡ A.parts) × (accepted.parts ≡ shares) }
-        requires durable { (durable.name ≡ B.name) × (durable.parts ≡ B.parts) × (durable.parts ≡ shares) }
+        requires accepted { IsBlankOf A.name A.parts shares accepted }
+        requires durable { IsBlankOf B.name B.parts shares durable }
         requires opening { ((live ⟦<D as Disk>⟧ store).events ≡ A.opening) × (store.durable ≡ B.opening) }
         requires start { IfSome A.start (λ start. start ≡ began ⟦<D as Disk>⟧ store) }
         ensures shares { IfOk result (λ r. (vec_len r.1 ≡ shares) × All (λ s. s ≡ nothing_told) r.1.items) }
@@ -215,13 +216,11 @@ pub fn gather<D: Disk, A: Opening, B: Column>(
     shares: Vec<Share<A, B>>,
     shared: Shared<D, A, B>,
 ) -> Result<TakenIn<D>, (Vec<Share<A, B>>, Shared<D, A, B>, Tally)>
-    ensures events { IsTrue D.is_honest → IfOk result (λ r.
-        events_of ⟦<D as Disk>⟧ r.store ≡ A.opening + accepted_in shares.items) }
-    ensures durable { IsTrue D.is_honest → IfOk result (λ r. r.store.durable ≡ B.opening + durable_in shares.items) }
+    ensures events { IsTrue D.is_honest → IfOk result (HasTheirEvents ⟦<D as Disk>⟧ A.opening shares.items) }
+    ensures durable { IsTrue D.is_honest → IfOk result (HasTheirDurable ⟦<D as Disk>⟧ B.opening shares.items) }
     ensures since { IfOk result (λ r. WentOnSince ⟦<D as Disk>⟧ A.start r.moments r.store) }
     ensures failed { IfOk result (λ r. IsTrue r.has_failed → FailedSince ⟦<D as Disk>⟧ A.start r.store) }
-    ensures images { IsTrue D.is_honest → IfOk result (λ r.
-        EachImageHas ⟦<D as Disk>⟧ r.store (B.opening + durable_in shares.items)) }
+    ensures images { IsTrue D.is_honest → IfOk result (ImagesHaveThem ⟦<D as Disk>⟧ B.opening shares.items) }
     // Where all shares come back, they agree with the books.
     ensures whole { 1 ≤ vec_len shares → vec_len shares ≡ A.parts → vec_len shares ≡ B.parts → IfErr result (λ e. ⊥) }
     ensures err { IfErr result (λ e. AreDisputed shares.items e.0.items e.2) }

@@ -1,5 +1,5 @@
 -- What a server prints, what it leaves of its devices, and how it may fail.
-use Rattle.std.specs.Prelude.{◌≡◌, ◌⊎◌, ◌<◌, ◌++◌, ℕ, List, Result, Ok, Err, IfErr, IfOk, IsTrue, OnErr, codes, false}
+use Rattle.std.specs.Prelude.{◌≡◌, ◌⊎◌, ◌<◌, ◌++◌, ℕ, List, Result, Ok, Err, IfErr, IfOk, IsTrue, OnErr, OnOk, codes, false}
 use Rattle.hg_model.specs.Contents.{Content}
 use Rattle.hg_model.specs.declared.verdict.Refusal.{Refusal}
 use Rattle.hg_model.specs.declared.verdict.Refusal.TheVariants.{Broken, DeviceFault, OutOfMemory}
@@ -15,9 +15,11 @@ use Rattle.hg_desk.specs.Going.{Began, LeadsTo, WentOn, oldest}
 use Rattle.hg_check.specs.Printing.{Took, line_text}
 use Rattle.hg_check.specs.Streaming.{IsTold}
 use Rattle.hg_check.specs.Written.{TookFront}
+use Rattle.hg_commands.specs.declared.printing.Outputs.{Outputs}
 use Rattle.hg_commands.specs.Storing.{IsCounted, IsTrueOf, number_text, store_end_line}
 use Rattle.hg_server.specs.declared.fault.ServingFault.{ServingFault}
 use Rattle.hg_server.specs.declared.fault.ServingFault.TheVariants as fault
+use Rattle.hg_server.specs.declared.serving.Outcome.{Outcome}
 use Rattle.hg_server.specs.declared.serving.Plan.{Plan}
 
 -- how many connections were served, and the end line of a store with this content
@@ -33,6 +35,10 @@ abbrev pub refusal_of : ServingFault → Refusal
 refusal_of fault.Broken = Broken
 refusal_of fault.DeviceFault = DeviceFault
 refusal_of fault.OutOfMemory = OutOfMemory
+
+-- On success the text was written.
+abbrev pub AddsOnOk : {W T E : Type 0} → (old new : Outgoing W) → List ℕ → Result T E → Type 0
+AddsOnOk old new text result = OnOk result (Took old.calls new.calls text)
 
 -- On an error a front of the text was written, behind what was written before.
 abbrev pub AddsFrontOnErr : {W T E : Type 0} → (old new : Outgoing W) → List ℕ → Result T E → Type 0
@@ -52,6 +58,13 @@ module _ {D : Type 0} (g : disk.Ghosts D) where
   -- all that a server prints whose store is this at the end
   abbrev pub serving_by : Plan → Shown D → List ℕ
   serving_by plan s = serving_text plan (live g s)
+
+  -- On success all that is due of a server whose store is this at the end was written, and on an error a front of it.
+  abbrev pub PrintsAllOnOk : {W T E : Type 0} → Plan → Shown D → (old new : Outgoing W) → Result T E → Type 0
+  PrintsAllOnOk plan s old new ended = OnOk ended (Took old.calls new.calls (serving_by plan s))
+
+  abbrev pub PrintsFrontOnErr : {W T E : Type 0} → Plan → Shown D → (old new : Outgoing W) → Result T E → Type 0
+  PrintsFrontOnErr plan s old new ended = OnErr ended (TookFront old.calls new.calls (serving_by plan s))
 
   -- A store that went on from its opening has still gone on from it.
   abbrev pub StillWentOn : List (Devices D) → Shown D → List (Devices D) → Shown D → Type 0
@@ -109,6 +122,17 @@ module _ {D : Type 0} (g : disk.Ghosts D) where
   abbrev pub EndsWellOnOk : {W E : Type 0} → Plan → Devices D → List (Devices D) → (old new : Outgoing W) → Result (Shown D) E → Type 0
   EndsWellOnOk plan devices moments old new ended = IfOk ended (λ s. EndsWell plan devices moments s old.calls new.calls)
 
+  -- Without one, what was written.
+  abbrev pub WroteServingOnErr : {W S : Type 0} → Plan → Devices D → List (Devices D) → (old new : Outgoing W) → Result S (Refusal × Devices D) → Type 0
+  WroteServingOnErr plan devices moments old new ended = IfErr ended (λ e. WroteServing plan devices moments e.1 old.calls new.calls)
+
+-- Of the command, which has an output for what is asked of it and another one for its faults.
+module _ {D W V : Type 0} (g : disk.Ghosts D) where
+  -- With a store the server came to its end.
+  abbrev pub ServesWell : Plan → Devices D → (before after : Outputs W V) → Outcome D → Type 0
+  ServesWell plan devices before after outcome = EndsWellOnOk g plan devices outcome.moments before.output after.output outcome.ended
+
   -- Without one it ended early.
-  abbrev pub EndsEarlyOnErr : {W V S : Type 0} → Plan → Devices D → List (Devices D) → (old new : Outgoing W) → (before told : Outgoing V) → Result S (Devices D) → Type 0
-  EndsEarlyOnErr plan devices moments old new before told ended = IfErr ended (λ left. EndsEarly plan devices moments left old.calls new.calls before.calls told.calls)
+  abbrev pub StopsEarly : Plan → Devices D → (before after : Outputs W V) → Outcome D → Type 0
+  StopsEarly plan devices before after outcome =
+      IfErr outcome.ended (λ left. EndsEarly g plan devices outcome.moments left before.output.calls after.output.calls before.faults.calls after.faults.calls)

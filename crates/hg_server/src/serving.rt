@@ -1,22 +1,21 @@
 //! The server: a listener, and workers in threads of their own.
 
-ghost use Rattle.std.specs.Prelude.{◌≡◌, ◌⊎◌, ◌≤◌, ◌++◌, ℕ, List, [], Some, IfErr, IfOk, IsTrue, OnErr, OnOk, false};
+ghost use Rattle.std.specs.Prelude.{◌≡◌, ◌⊎◌, ◌≤◌, ◌++◌, ℕ, List, [], Some, IfErr, IfOk, IsTrue, OnOk, false};
 ghost use Rattle.hg_store.specs.Images.{failures_of};
 ghost use Rattle.hg_store.specs.Shown.{live};
-ghost use Rattle.hg_streams.specs.declared.call.WriteCall.{WriteCall};
-ghost use Rattle.hg_check.specs.Printing.{Took};
 ghost use Rattle.hg_check.specs.Streaming.{IsStreamFault};
-ghost use Rattle.hg_check.specs.Written.{TookFront};
+ghost use Rattle.hg_commands.specs.Opening.{IsFrameCount};
+ghost use Rattle.hg_desk.specs.Blanks.{IsBlankOf};
 ghost use Rattle.hg_desk.specs.Going.{FailedSince, WentOn, WentOnSince, began};
-ghost use Rattle.hg_server.specs.Serving.{AddsFrontOnErr, EndsEarlyOnErr, EndsWellOnOk, HasServeCause, IsServingFault, IsSettled, IsStatusOf, IsToldTruly, StillWentOn, WroteServing, served_by, serving_by};
+ghost use Rattle.hg_server.specs.Serving.{AddsFrontOnErr, AddsOnOk, EndsWellOnOk, HasServeCause, IsServingFault, IsSettled, IsStatusOf, IsToldTruly, PrintsAllOnOk, PrintsFrontOnErr, ServesWell, StillWentOn, StopsEarly, WroteServingOnErr, served_by};
 
 use crate::fault::ServingFault;
-use crate::worker::{Gate, worker};
+use crate::worker::{Gate, Seat, worker};
 use crossbeam_channel::Sender;
 use hg_check::telling::tell;
 use hg_commands::listing::hold_end_line;
 use hg_commands::opening::open_store;
-use hg_commands::printing::{print_now, print_number};
+use hg_commands::printing::{Outputs, print_now, print_number};
 use hg_desk::moment::Moment;
 use hg_desk::share::{Column, Opening, Share};
 use hg_desk::shared::{Shared, TakenIn, gather};
@@ -49,6 +48,14 @@ pub struct Plan {
     pub workers: u16,
     /// How long a client may say nothing before its connection ends, or for ever.
     pub silence: Option<Duration>,
+}
+
+/// Where a server takes its connections, how it runs, and what its workers ask between two holds of the lock.
+#[derive(Drop)]
+pub struct Door<'a, G> {
+    pub listener: &'a TcpListener,
+    pub plan: Plan,
+    pub gate: &'a G,
 }
 
 /// How long one write of replies may wait with no byte taken, in seconds.
@@ -115,21 +122,33 @@ fn run_workers<
     alloc: Global,
     shared: &Shared<D, A, B>,
     shares: Vec<Share<A, B>>,
-    listener: &TcpListener,
-    plan: Plan,
-    gate: &G,
+    door: &Door<G>,
 ) -> (Result<Vec<Share<A, B>>, AllocError>, bool) {
     let Ok((to, from)) = crossbeam_channel::unbounded(alloc) else {
         return (Err(AllocError), false);
     };
     let queue = &from;
+    let listener = door.listener;
+    let plan = door.plan;
+    let gate = door.gate;
     thread::join(
         rt,
         move || {
             thread::map_vec(
                 rt,
                 shares,
-                &|share| { worker(rt, alloc, shared, share, queue, gate) },
+                &|share| {
+                    worker(
+                        Seat {
+                            rt,
+                            alloc,
+                            shared,
+                            share,
+                            gate,
+                        },
+                        queue,
+                    )
+                },
             )
         },
         move || accept_all(rt, listener, plan, to),
@@ -233,12 +252,10 @@ fn serve_by<
     store: Store<D>,
     accepted: Blank,
     durable: Blank,
-    listener: &TcpListener,
-    plan: Plan,
-    gate: &G,
+    door: &Door<G>,
 ) -> Service<D, ServingFault>
-    requires accepted { (accepted.name ≡ A.name) × (accepted.parts ≡ A.parts) × (accepted.parts ≡ plan.workers) }
-    requires durable { (durable.name ≡ B.name) × (durable.parts ≡ B.parts) × (durable.parts ≡ plan.workers) }
+    requires accepted { IsBlankOf A.name A.parts door.now.plan.workers accepted }
+    requires durable { IsBlankOf B.name B.parts door.now.plan.workers durable }
     requires opening { ((live ⟦<D as Disk>⟧ store).events ≡ A.opening) × (store.durable ≡ B.opening) }
     requires start { A.start ≡ Some (began ⟦<D as Disk>⟧ store) }
     ensures went { WentOn ⟦<D as Disk>⟧ (began ⟦<D as Disk>⟧ store) result.moments result.store }
@@ -246,7 +263,7 @@ fn serve_by<
     ensures settled { OnOk result.ended (IsTrue D.is_honest → IsSettled ⟦<D as Disk>⟧ result.store) }
     ensures cause { IfErr result.ended (IsToldTruly ⟦<D as Disk>⟧ store.devices result.store.devices) }
 {
-    let count = usize::from(plan.workers);
+    let count = usize::from(door.plan.workers);
     store.stands();
     let (shared, shares) = match Shared::<D, A, B>::new(alloc, store, accepted, durable, count) {
         Ok(opened) => opened,
@@ -258,7 +275,7 @@ fn serve_by<
             };
         }
     };
-    let (back, are_all_taken) = run_workers(rt, alloc, &shared, shares, listener, plan, gate);
+    let (back, are_all_taken) = run_workers(rt, alloc, &shared, shares, door);
     let (back, taken_in) = take_in(back, shared);
     let TakenIn {
         mut store,
@@ -284,26 +301,15 @@ fn serve_over<D: Disk + Send + Drop, G: Gate + Sync, R: Threads + Wait + Clock +
     rt: &R,
     alloc: Global,
     store: Store<D>,
-    listener: &TcpListener,
-    plan: Plan,
-    gate: &G,
+    door: &Door<G>,
 ) -> Service<D, ServingFault>
     ensures went { WentOn ⟦<D as Disk>⟧ (began ⟦<D as Disk>⟧ store) result.moments result.store }
     ensures works { OnOk result.ended (result.store.is_broken ≡ false) }
     ensures settled { OnOk result.ended (IsTrue D.is_honest → IsSettled ⟦<D as Disk>⟧ result.store) }
     ensures cause { IfErr result.ended (IsToldTruly ⟦<D as Disk>⟧ store.devices result.store.devices) }
 {
-    let parts = u64::from(plan.workers);
-    serve_by::<D, Brand, Brand, G, R>(
-        rt,
-        alloc,
-        store,
-        Blank::new(parts),
-        Blank::new(parts),
-        listener,
-        plan,
-        gate,
-    )
+    let parts = u64::from(door.plan.workers);
+    serve_by::<D, Brand, Brand, G, R>(rt, alloc, store, Blank::new(parts), Blank::new(parts), door)
 }
 
 /// Prints what a server prints at its end.
@@ -314,7 +320,7 @@ fn print_end<D: Disk, W: Write>(
     output: &mut Output<W>,
 ) -> Result<(), Refusal>
     requires works { store.now.is_broken ≡ false }
-    ensures printed { OnOk result (Took output.old.calls output.new.calls (served_by ⟦<D as Disk>⟧ plan store.now)) }
+    ensures printed { AddsOnOk output.old output.new (served_by ⟦<D as Disk>⟧ plan store.now) result }
     ensures front { AddsFrontOnErr output.old output.new (served_by ⟦<D as Disk>⟧ plan store.now) result }
     ensures cause { IfErr result IsStreamFault }
 {
@@ -335,22 +341,18 @@ fn serve_and_print<
     rt: &R,
     alloc: Global,
     store: Store<D>,
-    listener: &TcpListener,
-    plan: Plan,
-    gate: &G,
+    door: &Door<G>,
     output: &mut Output<W>,
 ) -> Service<D, Refusal>
     ensures went { WentOn ⟦<D as Disk>⟧ (began ⟦<D as Disk>⟧ store) result.moments result.store }
     ensures works { OnOk result.ended (result.store.is_broken ≡ false) }
     ensures settled { OnOk result.ended (IsTrue D.is_honest → IsSettled ⟦<D as Disk>⟧ result.store) }
-    ensures printed { OnOk result.ended (Took output.old.calls output.new.calls
-        (serving_by ⟦<D as Disk>⟧ plan result.store)) }
-    ensures front { OnErr result.ended (TookFront output.old.calls output.new.calls
-        (serving_by ⟦<D as Disk>⟧ plan result.store)) }
+    ensures printed { PrintsAllOnOk ⟦<D as Disk>⟧ door.now.plan result.store output.old output.new result.ended }
+    ensures front { PrintsFrontOnErr ⟦<D as Disk>⟧ door.now.plan result.store output.old output.new result.ended }
     ensures cause { IfErr result.ended (IsServingFault ⟦<D as Disk>⟧ store.devices result.store.devices) }
 {
     store.stands();
-    if let Err(refusal) = print_number(b"ready ", u64::from(plan.port), output) {
+    if let Err(refusal) = print_number(b"ready ", u64::from(door.plan.port), output) {
         return Service {
             store,
             moments: Trail::new(),
@@ -361,7 +363,7 @@ fn serve_and_print<
         store,
         moments,
         ended,
-    } = serve_over(rt, alloc, store, listener, plan, gate);
+    } = serve_over(rt, alloc, store, door);
     if let Err(fault) = ended {
         return Service {
             store,
@@ -369,7 +371,7 @@ fn serve_and_print<
             ended: Err(Refusal::from(fault)),
         };
     }
-    let ended = print_end(alloc, &store, plan, output);
+    let ended = print_end(alloc, &store, door.plan, output);
     Service {
         store,
         moments,
@@ -387,18 +389,15 @@ fn recover_and_serve<
     rt: &R,
     alloc: Global,
     devices: Devices<D>,
-    listener: &TcpListener,
-    plan: Plan,
-    gate: &G,
+    door: &Door<G>,
     output: &mut Output<W>,
 ) -> (Result<Store<D>, (Refusal, Devices<D>)>, Trail<Moment<D>>)
-    requires frames { (4 ≤ plan.frames) × (plan.frames ≤ 4096) }
-    ensures well { EndsWellOnOk ⟦<D as Disk>⟧ plan devices result.1 output.old output.new result.0 }
+    requires frames { IsFrameCount door.now.plan.frames }
+    ensures well { EndsWellOnOk ⟦<D as Disk>⟧ door.now.plan devices result.1 output.old output.new result.0 }
     ensures cause { IfErr result.0 (λ e. HasServeCause ⟦<D as Disk>⟧ devices e.1 e.0) }
-    ensures wrote { IfErr result.0 (λ e.
-        WroteServing ⟦<D as Disk>⟧ plan devices result.1 e.1 output.old.calls output.new.calls) }
+    ensures wrote { WroteServingOnErr ⟦<D as Disk>⟧ door.now.plan devices result.1 output.old output.new result.0 }
 {
-    let store = match open_store(alloc, devices, plan.frames) {
+    let store = match open_store(alloc, devices, door.plan.frames) {
         Ok(store) => store,
         Err(refused) => return (Err(refused), Trail::new()),
     };
@@ -406,7 +405,7 @@ fn recover_and_serve<
         store,
         moments,
         ended,
-    } = serve_and_print(rt, alloc, store, listener, plan, gate, output);
+    } = serve_and_print(rt, alloc, store, door, output);
     match ended {
         Ok(()) => (Ok(store), moments),
         Err(refusal) => (Err((refusal, store.into_devices())), moments),
@@ -427,7 +426,7 @@ pub struct Outcome<D: Disk> {
 /// Recovers the store that the devices hold, prints `ready` and the port, takes the connections, holds their conversations, and prints
 /// `served`, how many were taken, and the end line. All accepted events are durable then. Answers the status, 0 with the store, or 3
 /// with the devices where they hold no store, the listener, a device or the output failed, or memory or room was refused,
-/// which is told on `faults`. A connection that fails ends alone. Whatever ends it, no event that was durable is lost, and each image between
+/// which is told among the faults. A connection that fails ends alone. Whatever ends it, no event that was durable is lost, and each image between
 /// each two moments has a front of the accepted events.
 ///
 /// It waits until so many connections were served.
@@ -441,20 +440,16 @@ pub fn serve<
     rt: &R,
     alloc: Global,
     devices: Devices<D>,
-    listener: &TcpListener,
-    plan: Plan,
-    gate: &G,
-    output: &mut Output<W>,
-    faults: &mut Output<V>,
+    door: &Door<G>,
+    outputs: &mut Outputs<W, V>,
 ) -> Outcome<D>
-    requires frames { (4 ≤ plan.frames) × (plan.frames ≤ 4096) }
+    requires frames { IsFrameCount door.now.plan.frames }
     ensures status { IsStatusOf result.ended result.status }
-    ensures well { EndsWellOnOk ⟦<D as Disk>⟧ plan devices result.moments output.old output.new result.ended }
-    ensures quiet { OnOk result.ended (faults.new.calls ≡ faults.old.calls) }
-    ensures early { EndsEarlyOnErr ⟦<D as Disk>⟧ plan devices result.moments output.old output.new
-        faults.old faults.new result.ended }
+    ensures well { ServesWell ⟦<D as Disk>⟧ door.now.plan devices outputs.old outputs.new result }
+    ensures quiet { OnOk result.ended (outputs.new.faults.calls ≡ outputs.old.faults.calls) }
+    ensures early { StopsEarly ⟦<D as Disk>⟧ door.now.plan devices outputs.old outputs.new result }
 {
-    let (ended, moments) = recover_and_serve(rt, alloc, devices, listener, plan, gate, output);
+    let (ended, moments) = recover_and_serve(rt, alloc, devices, door, &mut outputs.output);
     match ended {
         Ok(store) => Outcome {
             status: 0,
@@ -462,7 +457,7 @@ pub fn serve<
             moments,
         },
         Err((refusal, devices)) => {
-            tell(refusal, faults);
+            tell(refusal, &mut outputs.faults);
             Outcome {
                 status: 3,
                 ended: Err(devices),

@@ -60,18 +60,33 @@ enum Course {
     Stop,
 }
 
-/// One conversation under way: how far it is, the bytes of a frame that is not whole yet, and the replies that are not written yet.
+/// Where a worker sits.
 #[derive(Drop)]
-struct Talk {
+pub struct Seat<'a, D: Disk, A: Opening, B: Column, G, R> {
+    pub rt: &'a R,
+    pub alloc: Global,
+    /// The store that all workers share.
+    pub shared: &'a Shared<D, A, B>,
+    /// What this worker was told of it.
+    pub share: Share<A, B>,
+    pub gate: &'a G,
+}
+
+/// One conversation under way: its connection, how far it is, the bytes of a frame that is not whole yet, and the replies that are not
+/// written yet.
+#[derive(Drop)]
+struct Talk<S> {
+    stream: S,
     desk: Desk,
     feed: Feed<Frame>,
     replies: Vec<u8>,
 }
 
-impl Talk {
+impl<S> Talk<S> {
     /// A conversation that has not begun.
-    fn new(alloc: Global) -> Talk {
+    fn new(alloc: Global, stream: S) -> Talk<S> {
         Talk {
+            stream,
             desk: Desk::new(),
             feed: Feed::new(alloc),
             replies: Vec::new(alloc),
@@ -80,61 +95,59 @@ impl Talk {
 
     /// Answers a frame under one hold of the lock, and holds the reply back. Tells whether the conversation goes on: it ends at a
     /// Bye, and where no memory is left for the reply.
-    fn answer<D: Disk, A: Opening, B: Column, R: Wait>(
+    fn answer<D: Disk, A: Opening, B: Column, G, R: Wait>(
         &mut self,
-        rt: &R,
-        alloc: Global,
-        shared: &Shared<D, A, B>,
-        share: &mut Share<A, B>,
+        seat: &mut Seat<D, A, B, G, R>,
         frame: Frame,
     ) -> bool
-        ensures accepted { share.old.accepted ≤ share.new.accepted }
-        ensures durable { share.old.durable ≤ share.new.durable }
+        ensures accepted { seat.old.share.accepted ≤ seat.new.share.accepted }
+        ensures durable { seat.old.share.durable ≤ seat.new.share.durable }
     {
-        let desk = replace(&mut self.desk, Desk::new());
-        let (desk, reply) = shared.hold(rt, share, AskTask { alloc, desk, frame });
+        let task = AskTask {
+            alloc: seat.alloc,
+            desk: replace(&mut self.desk, Desk::new()),
+            frame,
+        };
+        let (desk, reply) = seat.shared.hold(seat.rt, &mut seat.share, task);
         self.desk = desk;
         match reply {
             Reply::Nothing => false,
             _ => put_reply(&reply, &mut self.replies).is_ok(),
         }
     }
+}
 
+impl<S: Write> Talk<S> {
     /// Writes the replies out, all in one write where the connection takes them.
-    fn write_out<S: Write>(&mut self, stream: &mut S) -> bool {
-        let is_written = stream.write_all(self.replies.as_slice()).is_ok();
+    fn write_out(&mut self) -> bool {
+        let is_written = self.stream.write_all(self.replies.as_slice()).is_ok();
         self.replies.clear();
         is_written
     }
 
     /// Writes the replies out where they are many.
-    fn write_many<S: Write>(&mut self, stream: &mut S) -> bool {
+    fn write_many(&mut self) -> bool {
         if self.replies.len() < PIECE_BYTES {
             return true;
         }
-        self.write_out(stream)
+        self.write_out()
     }
 
     /// Answers frames, each under a hold of its own.
-    fn answer_all<D: Disk, A: Opening, B: Column, S: Write, G: Gate, R: Wait>(
+    fn answer_all<D: Disk, A: Opening, B: Column, G: Gate, R: Wait>(
         &mut self,
-        rt: &R,
-        alloc: Global,
-        shared: &Shared<D, A, B>,
-        share: &mut Share<A, B>,
+        seat: &mut Seat<D, A, B, G, R>,
         frames: &[Frame],
-        stream: &mut S,
-        gate: &G,
     ) -> Course
-        ensures accepted { share.old.accepted ≤ share.new.accepted }
-        ensures durable { share.old.durable ≤ share.new.durable }
+        ensures accepted { seat.old.share.accepted ≤ seat.new.share.accepted }
+        ensures durable { seat.old.share.durable ≤ seat.new.share.durable }
     {
         for frame in frames {
-            let goes_on = self.answer(rt, alloc, shared, share, *frame);
-            if gate.at(Point::Answered) == Pass::Stop {
+            let goes_on = self.answer(seat, *frame);
+            if seat.gate.at(Point::Answered) == Pass::Stop {
                 return Course::Stop;
             }
-            if !goes_on || !self.write_many(stream) {
+            if !goes_on || !self.write_many() {
                 return Course::End;
             }
         }
@@ -142,30 +155,24 @@ impl Talk {
     }
 
     /// Takes a piece of what a client sent: answers its frames, and a fault behind them.
-    fn take<D: Disk, A: Opening, B: Column, S: Write, G: Gate, R: Wait>(
+    fn take<D: Disk, A: Opening, B: Column, G: Gate, R: Wait>(
         &mut self,
-        rt: &R,
-        alloc: Global,
-        shared: &Shared<D, A, B>,
-        share: &mut Share<A, B>,
+        seat: &mut Seat<D, A, B, G, R>,
         piece: &[u8],
-        stream: &mut S,
-        gate: &G,
     ) -> Course
-        ensures accepted { share.old.accepted ≤ share.new.accepted }
-        ensures durable { share.old.durable ≤ share.new.durable }
+        ensures accepted { seat.old.share.accepted ≤ seat.new.share.accepted }
+        ensures durable { seat.old.share.durable ≤ seat.new.share.durable }
     {
         let Ok(fed) = self.feed.push(piece) else {
             return Course::End;
         };
-        let frames = fed.messages.as_slice();
-        let course = self.answer_all(rt, alloc, shared, share, frames, stream, gate);
+        let course = self.answer_all(seat, fed.messages.as_slice());
         if course == Course::ReadOn && fed.fault.is_some() {
             let _ = put_reply(&Reply::Fault { code: 1 }, &mut self.replies);
-            let _ = self.write_out(stream);
+            let _ = self.write_out();
             return Course::End;
         }
-        if !self.write_out(stream) && course == Course::ReadOn {
+        if !self.write_out() && course == Course::ReadOn {
             return Course::End;
         }
         course
@@ -174,27 +181,22 @@ impl Talk {
 
 /// Holds one conversation to its end: until the client ends it, or breaks its rules, or the connection fails, or the gate says stop.
 fn converse<D: Disk, A: Opening, B: Column, S: Read + Write + Drop, G: Gate, R: Wait>(
-    rt: &R,
-    alloc: Global,
-    shared: &Shared<D, A, B>,
-    share: &mut Share<A, B>,
+    seat: &mut Seat<D, A, B, G, R>,
     stream: S,
     piece: &mut [u8],
-    gate: &G,
 ) -> Course
-    ensures accepted { share.old.accepted ≤ share.new.accepted }
-    ensures durable { share.old.durable ≤ share.new.durable }
+    ensures accepted { seat.old.share.accepted ≤ seat.new.share.accepted }
+    ensures durable { seat.old.share.durable ≤ seat.new.share.durable }
 {
-    let mut stream = stream;
-    let mut talk = Talk::new(alloc);
-    for _ in rt.forever() {
-        let len = match stream.read(piece) {
+    let mut talk = Talk::new(seat.alloc, stream);
+    for _ in seat.rt.forever() {
+        let len = match talk.stream.read(piece) {
             Ok(0) => break,
             Ok(len) => len,
             Err(error) if error.kind() == ErrorKind::Interrupted => continue,
             Err(_) => break,
         };
-        let course = talk.take(rt, alloc, shared, share, &piece[..len], &mut stream, gate);
+        let course = talk.take(seat, &piece[..len]);
         if course != Course::ReadOn {
             return course;
         }
@@ -208,37 +210,24 @@ fn converse<D: Disk, A: Opening, B: Column, S: Read + Write + Drop, G: Gate, R: 
 ///
 /// It waits for the lock, for connections, and in reads and writes.
 pub fn worker<D: Disk, A: Opening, B: Column, S: Read + Write + Drop, G: Gate, R: Wait>(
-    rt: &R,
-    alloc: Global,
-    shared: &Shared<D, A, B>,
-    share: Share<A, B>,
+    seat: Seat<D, A, B, G, R>,
     connections: &Receiver<S>,
-    gate: &G,
 ) -> Share<A, B>
-    ensures accepted { share.accepted ≤ result.accepted }
-    ensures durable { share.durable ≤ result.durable }
+    ensures accepted { seat.entry.share.accepted ≤ result.accepted }
+    ensures durable { seat.entry.share.durable ≤ result.durable }
 {
-    let mut share = share;
-    let mut piece = Vec::new(alloc);
+    let mut seat = seat;
+    let mut piece = Vec::new(seat.alloc);
     if piece.resize(PIECE_BYTES, 0).is_err() {
-        return share;
+        return seat.share;
     }
-    for _ in rt.forever() {
-        let Ok(stream) = connections.recv(rt) else {
+    for _ in seat.rt.forever() {
+        let Ok(stream) = connections.recv(seat.rt) else {
             break;
         };
-        let course = converse(
-            rt,
-            alloc,
-            shared,
-            &mut share,
-            stream,
-            piece.as_mut_slice(),
-            gate,
-        );
-        if course == Course::Stop {
+        if converse(&mut seat, stream, piece.as_mut_slice()) == Course::Stop {
             break;
         }
     }
-    share
+    seat.share
 }

@@ -2,6 +2,7 @@
 
 ghost use Rattle.std.specs.Prelude.{◌≡◌, IfSome};
 ghost use Rattle.hg_model.specs.Change.{empty_content};
+ghost use Rattle.hg_desk.specs.Blanks.{IsBlankOf};
 ghost use Rattle.hg_desk.specs.Going.{began};
 ghost use Rattle.hg_store.specs.Shown.{live};
 ghost use Rattle.hg_store.specs.Store.{IsFresh};
@@ -13,7 +14,7 @@ use hg_disk::{Disk, MemDisk};
 use hg_frames::frame::Frame;
 use hg_frames::put::put_frame;
 use hg_model::event::{Access, Block, Event};
-use hg_server::worker::{Gate, Pass, Point, worker};
+use hg_server::worker::{Gate, Pass, Point, Seat, worker};
 use hg_store::devices::{Caps, Devices};
 use hg_store::store::Store;
 use std::alloc::{AllocError, Global};
@@ -134,8 +135,30 @@ fn work_both<
 ) -> (Share<A, B>, Share<A, B>) {
     thread::join(
         rt,
-        move || worker(rt, alloc, shared, one, connections, gate),
-        move || worker(rt, alloc, shared, other, connections, gate),
+        move || {
+            worker(
+                Seat {
+                    rt,
+                    alloc,
+                    shared,
+                    share: one,
+                    gate,
+                },
+                connections,
+            )
+        },
+        move || {
+            worker(
+                Seat {
+                    rt,
+                    alloc,
+                    shared,
+                    share: other,
+                    gate,
+                },
+                connections,
+            )
+        },
     )
 }
 
@@ -149,8 +172,8 @@ fn run_both<A: Opening + Send + Sync, B: Column + Send + Sync, R: Threads + Wait
     first: Vec<u8>,
     second: Vec<u8>,
 ) -> Option<Outcome>
-    requires accepted { (accepted.name ≡ A.name) × (accepted.parts ≡ A.parts) × (accepted.parts ≡ 2) }
-    requires durable { (durable.name ≡ B.name) × (durable.parts ≡ B.parts) × (durable.parts ≡ 2) }
+    requires accepted { IsBlankOf A.name A.parts 2 accepted }
+    requires durable { IsBlankOf B.name B.parts 2 durable }
     requires opening { ((live ⟦<MemDisk as Disk>⟧ store).events ≡ A.opening) × (store.durable ≡ B.opening) }
     requires start { IfSome A.start (λ start. start ≡ began ⟦<MemDisk as Disk>⟧ store) }
 {

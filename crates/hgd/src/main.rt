@@ -12,11 +12,13 @@ use crate::stores::{create_in, explain_in, feed_in, graph_in, reports_in};
 use crate::texts::{check_input, explain_input, graph_input};
 use crate::told::{FAULT, fail, fail_to_open};
 use hg_check::telling::tell;
+use hg_commands::plan::FeedPlan;
+use hg_commands::printing::Outputs;
 use hg_disk::FileDisk;
 use hg_model::verdict::Refusal;
 use hg_options::reading::read;
 use hg_options::task::{Jobs, Misread, Serving, StoreTask, Task};
-use hg_server::serving::{Plan, serve};
+use hg_server::serving::{Door, Plan, serve};
 use hg_server::worker::OpenGate;
 use hg_store::devices::Devices;
 use hg_streams::output::Output;
@@ -88,7 +90,14 @@ fn perform_on_store<'a>(rt: &HostRuntime, directory: &'a str, task: StoreTask) -
             frames,
             checkpoint,
             verbose,
-        } => feed_in(rt, directory, source, frames, checkpoint, verbose),
+        } => {
+            let plan = FeedPlan {
+                source: source.number,
+                frames: frames.pages,
+                checkpoint,
+            };
+            feed_in(rt, directory, plan, verbose)
+        }
         StoreTask::Reports { frames, verbose } => reports_in(rt, directory, frames, verbose),
         StoreTask::Graph { verbose } => graph_in(rt, directory, verbose),
         StoreTask::Explain { explaining } => explain_in(rt, directory, explaining),
@@ -135,12 +144,11 @@ fn serve_on<
     alloc: Global,
     devices: Devices<FileDisk>,
     serving: Serving,
-    output: &mut Output<W>,
-    faults: &mut Output<V>,
+    outputs: &mut Outputs<W, V>,
 ) -> u8 {
     let address = SocketAddr::from((Ipv4Addr::LOCALHOST, serving.port));
     let Ok(listener) = TcpListener::bind(rt, address) else {
-        tell(Refusal::DeviceFault, faults);
+        tell(Refusal::DeviceFault, &mut outputs.faults);
         return FAULT;
     };
     let plan = Plan {
@@ -150,10 +158,12 @@ fn serve_on<
         workers: serving.workers,
         silence: silence_of(serving),
     };
-    serve(
-        rt, alloc, devices, &listener, plan, &OpenGate, output, faults,
-    )
-    .status
+    let door = Door {
+        listener: &listener,
+        plan,
+        gate: &OpenGate,
+    };
+    serve(rt, alloc, devices, &door, outputs).status
 }
 
 fn main(rt: HostRuntime) -> ExitCode {
@@ -168,16 +178,11 @@ fn main(rt: HostRuntime) -> ExitCode {
                     Outcome::Serve { directory, serving } => {
                         match open_directory(&rt, directory, Access::Change) {
                             Ok(devices) => {
-                                let mut output = Output::new(rt.stdout());
-                                let mut faults = Output::new(rt.stderr());
-                                serve_on(
-                                    &rt,
-                                    rt.alloc(),
-                                    devices,
-                                    serving,
-                                    &mut output,
-                                    &mut faults,
-                                )
+                                let mut outputs = Outputs {
+                                    output: Output::new(rt.stdout()),
+                                    faults: Output::new(rt.stderr()),
+                                };
+                                serve_on(&rt, rt.alloc(), devices, serving, &mut outputs)
                             }
                             Err(fault) => fail_to_open(&rt, &fault, false),
                         }

@@ -8,10 +8,12 @@ use hg_commands::creating::create_store;
 use hg_commands::feeding::feed;
 use hg_commands::listing::{store_graph, store_reports};
 use hg_commands::opening::open_store;
+use hg_commands::plan::FeedPlan;
+use hg_commands::printing::Outputs;
 use hg_disk::FileDisk;
 use hg_explain::commands::explain;
 use hg_explain::form::Form;
-use hg_options::task::{Explaining, Frames, Source};
+use hg_options::task::{Explaining, Frames};
 use hg_store::devices::Devices;
 use hg_streams::input::Input;
 use hg_streams::output::Output;
@@ -24,82 +26,49 @@ pub fn create_in(rt: &HostRuntime, directory: &str) -> u8 {
         Ok(devices) => devices,
         Err(fault) => return fail_to_open(rt, &fault, false),
     };
-    let mut output = Output::new(rt.stdout());
-    let mut faults = Output::new(rt.stderr());
-    create_store(rt.alloc(), devices, &mut output, &mut faults).status
+    let mut outputs = Outputs {
+        output: Output::new(rt.stdout()),
+        faults: Output::new(rt.stderr()),
+    };
+    create_store(rt.alloc(), devices, &mut outputs).status
 }
 
 /// Feeds the trace on standard input to the store on these devices.
-fn feed_plainly(
-    rt: &HostRuntime,
-    devices: Devices<FileDisk>,
-    source: Source,
-    frames: Frames,
-    checkpoint: bool,
-) -> u8 {
+fn feed_plainly(rt: &HostRuntime, devices: Devices<FileDisk>, plan: FeedPlan) -> u8 {
     let mut input = Input::new(rt.stdin());
-    let mut output = Output::new(rt.stdout());
-    let mut faults = Output::new(rt.stderr());
-    feed(
-        rt.alloc(),
-        devices,
-        source.number,
-        frames.pages,
-        checkpoint,
-        &mut input,
-        &mut output,
-        &mut faults,
-    )
-    .status
+    let mut outputs = Outputs {
+        output: Output::new(rt.stdout()),
+        faults: Output::new(rt.stderr()),
+    };
+    feed(rt.alloc(), devices, plan, &mut input, &mut outputs).status
 }
 
 /// The same, and tells what the last line means.
-fn feed_told(
-    rt: &HostRuntime,
-    devices: Devices<FileDisk>,
-    source: Source,
-    frames: Frames,
-    checkpoint: bool,
-    lines: Lines,
-) -> u8 {
+fn feed_told(rt: &HostRuntime, devices: Devices<FileDisk>, plan: FeedPlan, lines: Lines) -> u8 {
     let mut input = Input::new(NotedReader::new(rt.stdin(), lines));
-    let mut output = Output::new(NotedWriter::new(rt.alloc(), rt.stdout()));
-    let mut faults = Output::new(NotedWriter::new(rt.alloc(), rt.stderr()));
-    let outcome = feed(
-        rt.alloc(),
-        devices,
-        source.number,
-        frames.pages,
-        checkpoint,
-        &mut input,
-        &mut output,
-        &mut faults,
-    );
+    let mut outputs = Outputs {
+        output: Output::new(NotedWriter::new(rt.alloc(), rt.stdout())),
+        faults: Output::new(NotedWriter::new(rt.alloc(), rt.stderr())),
+    };
+    let outcome = feed(rt.alloc(), devices, plan, &mut input, &mut outputs);
     let status = outcome.status;
-    tell_of_feeding(rt, input.into_stream(), &output, &faults, outcome.devices);
+    tell_of_feeding(rt, input.into_stream(), &outputs, outcome.devices);
     status
 }
 
 /// Feeds the trace on standard input to the store, with a checkpoint at its end where one is asked for. Where there is no memory for a meaning
 /// it is left out.
-pub fn feed_in(
-    rt: &HostRuntime,
-    directory: &str,
-    source: Source,
-    frames: Frames,
-    checkpoint: bool,
-    verbose: bool,
-) -> u8 {
+pub fn feed_in(rt: &HostRuntime, directory: &str, plan: FeedPlan, verbose: bool) -> u8 {
     let devices = match open_directory(rt, directory, Access::Change) {
         Ok(devices) => devices,
         Err(fault) => return fail_to_open(rt, &fault, verbose),
     };
     if !verbose {
-        return feed_plainly(rt, devices, source, frames, checkpoint);
+        return feed_plainly(rt, devices, plan);
     }
     match Lines::new(rt.alloc()) {
-        Ok(lines) => feed_told(rt, devices, source, frames, checkpoint, lines),
-        Err(_) => feed_plainly(rt, devices, source, frames, checkpoint),
+        Ok(lines) => feed_told(rt, devices, plan, lines),
+        Err(_) => feed_plainly(rt, devices, plan),
     }
 }
 
@@ -109,17 +78,13 @@ pub fn reports_in(rt: &HostRuntime, directory: &str, frames: Frames, verbose: bo
         Ok(devices) => devices,
         Err(fault) => return fail_to_open(rt, &fault, verbose),
     };
-    let mut output = Output::new(NotedWriter::new(rt.alloc(), rt.stdout()));
-    let mut faults = Output::new(NotedWriter::new(rt.alloc(), rt.stderr()));
-    let (status, devices) = store_reports(
-        rt.alloc(),
-        devices,
-        frames.pages,
-        &mut output,
-        &mut faults,
-    );
+    let mut outputs = Outputs {
+        output: Output::new(NotedWriter::new(rt.alloc(), rt.stdout())),
+        faults: Output::new(NotedWriter::new(rt.alloc(), rt.stderr())),
+    };
+    let (status, devices) = store_reports(rt.alloc(), devices, frames.pages, &mut outputs);
     if verbose {
-        tell_of_listing(rt, &output, &faults, devices);
+        tell_of_listing(rt, &outputs, devices);
     }
     status
 }
@@ -130,11 +95,13 @@ pub fn graph_in(rt: &HostRuntime, directory: &str, verbose: bool) -> u8 {
         Ok(devices) => devices,
         Err(fault) => return fail_to_open(rt, &fault, verbose),
     };
-    let mut output = Output::new(NotedWriter::new(rt.alloc(), rt.stdout()));
-    let mut faults = Output::new(NotedWriter::new(rt.alloc(), rt.stderr()));
-    let (status, devices) = store_graph(rt.alloc(), devices, 64, &mut output, &mut faults);
+    let mut outputs = Outputs {
+        output: Output::new(NotedWriter::new(rt.alloc(), rt.stdout())),
+        faults: Output::new(NotedWriter::new(rt.alloc(), rt.stderr())),
+    };
+    let (status, devices) = store_graph(rt.alloc(), devices, 64, &mut outputs);
     if verbose {
-        tell_of_listing(rt, &output, &faults, devices);
+        tell_of_listing(rt, &outputs, devices);
     }
     status
 }

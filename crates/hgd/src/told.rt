@@ -4,6 +4,7 @@ ghost use Rattle.std.specs.Prelude.{◌≡◌, ◌⊎◌};
 
 use crate::directory::OpenFault;
 use hg_check::telling::tell;
+use hg_commands::printing::Outputs;
 use hg_disk::FileDisk;
 use hg_model::verdict::Refusal;
 use hg_store::devices::Devices;
@@ -125,12 +126,11 @@ fn tell_fault_of_store(
 /// Tells the last line of a command that lists a store.
 pub fn tell_of_listing<W, V>(
     rt: &HostRuntime,
-    output: &Output<NotedWriter<W>>,
-    faults: &Output<NotedWriter<V>>,
+    outputs: &Outputs<NotedWriter<W>, NotedWriter<V>>,
     devices: Devices<FileDisk>,
 ) {
-    if let Some(Last::Fault { code }) = last_line(output, faults) {
-        let output = output.stream().error();
+    if let Some(Last::Fault { code }) = last_line(&outputs.output, &outputs.faults) {
+        let output = outputs.output.stream().error();
         tell_fault_of_store(rt, code, None, output, "pages, or its copy", devices);
     }
 }
@@ -154,16 +154,15 @@ fn past_of(rt: &HostRuntime, devices: Devices<FileDisk>) -> Option<Past> {
 pub fn tell_of_feeding<R, W, V>(
     rt: &HostRuntime,
     mut input: NotedReader<R>,
-    output: &Output<NotedWriter<W>>,
-    faults: &Output<NotedWriter<V>>,
+    outputs: &Outputs<NotedWriter<W>, NotedWriter<V>>,
     devices: Devices<FileDisk>,
 )
 where
     R: Drop,
 {
-    match last_line(output, faults) {
+    match last_line(&outputs.output, &outputs.faults) {
         Some(Last::Fault { code }) => {
-            let (input, output) = (input.error(), output.stream().error());
+            let (input, output) = (input.error(), outputs.output.stream().error());
             tell_fault_of_store(rt, code, input, output, "pages", devices);
         }
         Some(last) => {

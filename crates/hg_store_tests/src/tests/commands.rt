@@ -5,6 +5,8 @@ use hg_commands::creating::create_store;
 use hg_commands::feeding::feed;
 use hg_commands::listing::{store_graph, store_reports};
 use hg_commands::moment::Outcome;
+use hg_commands::plan::FeedPlan;
+use hg_commands::printing::Outputs;
 use hg_disk::{FuseDisk, MemDisk};
 use hg_store::devices::{Caps, Devices};
 use hg_store::store::Store;
@@ -33,6 +35,23 @@ fn printed(rt: &impl Abort, output: &Output<Vec<u8>>, text: &[u8]) {
     assert_eq!(rt; output.stream().as_slice(), text);
 }
 
+/// Outputs that keep what is printed.
+fn kept(alloc: Global) -> Outputs<Vec<u8>, Vec<u8>> {
+    Outputs {
+        output: Output::new(Vec::new(alloc)),
+        faults: Output::new(Vec::new(alloc)),
+    }
+}
+
+/// What is asked of a feeding here.
+fn plan(checkpoint: bool) -> FeedPlan {
+    FeedPlan {
+        source: 3,
+        frames: 64,
+        checkpoint,
+    }
+}
+
 /// Whether a disk reads so.
 fn has(rt: &impl Abort, disk: &MemDisk, bytes: &[u8]) {
     assert_eq!(rt; disk.bytes(), bytes);
@@ -54,16 +73,15 @@ fn create(
     wanted: u8,
     text: &[u8],
 ) -> Disks {
-    let mut output = Output::new(Vec::new(alloc));
-    let mut faults = Output::new(Vec::new(alloc));
+    let mut outputs = kept(alloc);
     let Outcome {
         status,
         devices,
         moments: _,
-    } = create_store(alloc, devices, &mut output, &mut faults);
+    } = create_store(alloc, devices, &mut outputs);
     ended(rt, status, wanted);
-    printed(rt, &output, text);
-    printed(rt, &faults, b"");
+    printed(rt, &outputs.output, text);
+    printed(rt, &outputs.faults, b"");
     Disks { devices }
 }
 
@@ -130,8 +148,7 @@ fn feed_and_list(
     rt: &impl Abort,
     alloc: Global,
     checkpoint: bool,
-    output: &mut Output<Vec<u8>>,
-    faults: &mut Output<Vec<u8>>,
+    outputs: &mut Outputs<Vec<u8>, Vec<u8>>,
 ) {
     let mut input = Input::new(RACE);
     let devices = made(rt, alloc);
@@ -139,32 +156,28 @@ fn feed_and_list(
         status,
         devices,
         moments: _,
-    } = feed(
-        alloc, devices, 3, 64, checkpoint, &mut input, output, faults,
-    );
+    } = feed(alloc, devices, plan(checkpoint), &mut input, outputs);
     ended(rt, status, 0);
-    let (status, devices) = store_reports(alloc, devices, 64, output, faults);
+    let (status, devices) = store_reports(alloc, devices, 64, outputs);
     ended(rt, status, 0);
-    let (status, _) = store_graph(alloc, devices, 64, output, faults);
+    let (status, _) = store_graph(alloc, devices, 64, outputs);
     ended(rt, status, 0);
 }
 
 #[test]
 fn what_was_fed_is_listed(rt: HostRuntime) {
-    let mut output = Output::new(Vec::new(rt.alloc()));
-    let mut faults = Output::new(Vec::new(rt.alloc()));
-    feed_and_list(&rt, rt.alloc(), false, &mut output, &mut faults);
-    printed(&rt, &output, LISTED);
-    printed(&rt, &faults, b"");
+    let mut outputs = kept(rt.alloc());
+    feed_and_list(&rt, rt.alloc(), false, &mut outputs);
+    printed(&rt, &outputs.output, LISTED);
+    printed(&rt, &outputs.faults, b"");
 }
 
 #[test]
 fn what_was_fed_is_listed_from_a_root(rt: HostRuntime) {
-    let mut output = Output::new(Vec::new(rt.alloc()));
-    let mut faults = Output::new(Vec::new(rt.alloc()));
-    feed_and_list(&rt, rt.alloc(), true, &mut output, &mut faults);
-    printed(&rt, &output, LISTED_FROM_A_ROOT);
-    printed(&rt, &faults, b"");
+    let mut outputs = kept(rt.alloc());
+    feed_and_list(&rt, rt.alloc(), true, &mut outputs);
+    printed(&rt, &outputs.output, LISTED_FROM_A_ROOT);
+    printed(&rt, &outputs.faults, b"");
 }
 
 /// The same devices, whose journal fails at its call `k`.
@@ -217,29 +230,19 @@ fn feed_to(
     alloc: Global,
     devices: Devices<FuseDisk<MemDisk>>,
     text: &[u8],
-    output: &mut Output<Vec<u8>>,
+    outputs: &mut Outputs<Vec<u8>, Vec<u8>>,
 ) -> (u8, Disks) {
     let mut input = Input::new(text);
-    let mut faults = Output::new(Vec::new(alloc));
     let Outcome {
         status,
         devices,
         moments: _,
-    } = feed(
-        alloc,
-        devices,
-        3,
-        64,
-        false,
-        &mut input,
-        output,
-        &mut faults,
-    );
+    } = feed(alloc, devices, plan(false), &mut input, outputs);
     if status == 0 {
-        printed(rt, &faults, b"");
+        printed(rt, &outputs.faults, b"");
     } else {
         ended(rt, status, 3);
-        printed(rt, &faults, b"fault 21\n");
+        printed(rt, &outputs.faults, b"fault 21\n");
     }
     (status, whole(devices))
 }
@@ -248,13 +251,13 @@ fn feed_to(
 fn feed_failing(rt: &impl Abort, alloc: Global, text: &[u8], k: u64) -> Result<bool, Fail>
     requires { 1 ≤ k }
 {
-    let mut output = Output::new(Vec::new(alloc));
+    let mut outputs = kept(alloc);
     let devices = failing(made(rt, alloc), k);
-    let (status, disks) = feed_to(rt, alloc, devices, text, &mut output);
-    let told = acknowledged(rt, output.stream().as_slice());
+    let (status, disks) = feed_to(rt, alloc, devices, text, &mut outputs);
+    let told = acknowledged(rt, outputs.output.stream().as_slice());
     let events = recovered(alloc, disks)?;
     if status == 0 {
-        printed(rt, &output, FED);
+        printed(rt, &outputs.output, FED);
         assert!(rt; told == 600 && events == 600);
         return Ok(false);
     }
@@ -286,26 +289,19 @@ fn feed_to_full_output(rt: &impl Abort, alloc: Global, text: &[u8], room: usize)
     let mut page = Cursor::new([0; PAGE]);
     page.set_position((PAGE - room) as u64);
     let mut input = Input::new(text);
-    let mut output = Output::new(page);
-    let mut faults = Output::new(Vec::new(alloc));
+    let mut outputs = Outputs {
+        output: Output::new(page),
+        faults: Output::new(Vec::new(alloc)),
+    };
     let devices = made(rt, alloc);
     let Outcome {
         status,
         devices,
         moments: _,
-    } = feed(
-        alloc,
-        devices,
-        3,
-        64,
-        false,
-        &mut input,
-        &mut output,
-        &mut faults,
-    );
+    } = feed(alloc, devices, plan(false), &mut input, &mut outputs);
     ended(rt, status, 3);
-    printed(rt, &faults, b"fault 21\n");
-    let told = acknowledged(rt, &output.stream().get_ref()[PAGE - room..]);
+    printed(rt, &outputs.faults, b"fault 21\n");
+    let told = acknowledged(rt, &outputs.output.stream().get_ref()[PAGE - room..]);
     let events = recovered(alloc, Disks { devices })?;
     assert!(rt; events >= told, "{room} {events}");
     Ok(())

@@ -19,9 +19,9 @@ returns-in-Ok-clause-fed g c =
     let before = c.args.output.now.calls in
     let after = c.feed_store-end.new.output.calls in
     IfOk-weaker c.feed_store-end.result
-    (λ (end : Ending). WasFed g.D.Disk reads later c.args.source c.args.checkpoint c.in-Ok.store c.feed_store-end.new.self.store before after end)
-    (λ (end : Ending). FeedDone g.D.Disk reads later c.args.source c.args.checkpoint c.args.devices c.into_devices.result before after end)
-    (λ end was. feed_done g.D.Disk reads later c.args.source c.args.checkpoint c.args.devices c.into_devices.result c.in-Ok.store c.feed_store-end.new.self.store
+    (λ (end : Ending). WasFed g.D.Disk reads later c.args.plan.source c.args.plan.checkpoint c.in-Ok.store c.feed_store-end.new.self.store before after end)
+    (λ (end : Ending). FeedDone g.D.Disk reads later c.args.plan.source c.args.plan.checkpoint c.args.devices c.into_devices.result before after end)
+    (λ end was. feed_done g.D.Disk reads later c.args.plan.source c.args.plan.checkpoint c.args.devices c.into_devices.result c.in-Ok.store c.feed_store-end.new.self.store
     before after end c.in-Ok.ensures.content c.in-Ok.ensures.sets c.in-Ok.ensures.device was c.into_devices.ensures)
     c.feed_store-end.ensures.fed
 

@@ -4,7 +4,8 @@ use Rattle.std.proofs.lemmas.Result.{on_ok_weaker}
 use Rattle.hg_store.specs.Shown.{live}
 use Rattle.hg_check.specs.Printing.{IsDue, line_text, reports_text, segments_text}
 use Rattle.hg_commands.specs.declared.listing.Listing.TheVariants.{Reports}
-use Rattle.hg_commands.specs.Storing.{listing_text, store_end_line}
+use Rattle.hg_commands.specs.Listings.{listing_text}
+use Rattle.hg_commands.specs.Storing.{store_end_line}
 use Rattle.hg_check.specs.Written.{TookFront}
 use Rattle.hg_check.proofs.Printed.{always_err, due_at_first, due_line, due_more, front_due, front_more, front_none}
 use Rattle.hg_commands.proofs.Fronts.{on_err_weaker}

@@ -1,6 +1,6 @@
 use Rattle.std.proofs.Common.{[]}
 use Rattle.hg_store.specs.Shown.{live}
-use Rattle.hg_commands.specs.Storing.{listing_text}
+use Rattle.hg_commands.specs.Listings.{listing_text}
 use Rattle.hg_check.proofs.Printed.{always_err, due_flushed, front_by_flush, took_by_flush}
 use Rattle.hg_commands.proofs.listing.print_store.Goals as goal
 

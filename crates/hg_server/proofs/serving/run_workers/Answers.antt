@@ -22,6 +22,6 @@ join-requires-send-F g c κs within =
       shr_send _ κs.1.1.1.1.1.1.0 (param 4 g.row.R) (param_sync 4 g.row.R clock),
       (
         shares,
-        (heap.the_send, (shr_send _ κs.1.1.1.1.1.1.1.0 _ shared, (shr_send _ κs.1.1.1.1.1.1.1.1.0 _ queue, (shr_send _ κs.1.1.1.1.1.1.1.1.1.0 (param 3 g.row.G) (param_sync 3 g.row.G gate), tt)))),
+        (heap.the_send, (shr_send _ κs.1.1.1.1.1.1.1.0 _ shared, (shr_send _ κs.1.1.1.1.1.1.1.1.0 (param 3 g.row.G) (param_sync 3 g.row.G gate), (shr_send _ κs.1.1.1.1.1.1.1.1.1.0 _ queue, tt)))),
       ),
     )))

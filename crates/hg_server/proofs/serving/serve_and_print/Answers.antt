@@ -21,7 +21,7 @@ returns-in-Err-clause-went g c =
 
 pub returns-in-Err-clause-front : goal.returns-in-Err-clause-front
 returns-in-Err-clause-front g c =
-    let plan = c.args.plan in
+    let plan = c.args.door.now.plan in
     let line : List ℕ = number_text (codes "ready ") plan.port in
     let old = c.args.output.now.calls in
     let new = c.print_number.new.output.calls in
@@ -30,7 +30,7 @@ returns-in-Err-clause-front g c =
 
 pub returns-in-Err-ended-clause-front : goal.returns-in-Err-ended-clause-front
 returns-in-Err-ended-clause-front g c =
-    let plan = c.args.plan in
+    let plan = c.args.door.now.plan in
     let line : List ℕ = number_text (codes "ready ") plan.port in
     let old = c.args.output.now.calls in
     let mid = c.print_number.new.output.calls in
@@ -40,7 +40,7 @@ returns-in-Err-ended-clause-front g c =
 
 pub returns-clause-printed : goal.returns-clause-printed
 returns-clause-printed g c =
-    let plan = c.args.plan in
+    let plan = c.args.door.now.plan in
     let old = c.args.output.now.calls in
     let mid = c.print_number.new.output.calls in
     let last = live g.D.Disk c.serve_over-store.result.store in
@@ -51,7 +51,7 @@ returns-clause-printed g c =
 
 pub returns-clause-front : goal.returns-clause-front
 returns-clause-front g c =
-    let plan = c.args.plan in
+    let plan = c.args.door.now.plan in
     let old = c.args.output.now.calls in
     let mid = c.print_number.new.output.calls in
     c.print_end-ended.ensures.front old (number_text (codes "ready ") plan.port)

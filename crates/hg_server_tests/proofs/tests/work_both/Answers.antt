@@ -20,7 +20,7 @@ join-requires-send-F g c κs within =
         heap.the_send,
         (
           shr_send _ κs.1.1.1.1.1.1.1.0 _ shared,
-          (one, (shr_send _ κs.1.1.1.1.1.1.1.1.0 _ connections, (shr_send _ κs.1.1.1.1.1.1.1.1.1.0 (param 4 g.row.G) c.type_bounds.sync-G, tt))),
+          (one, (shr_send _ κs.1.1.1.1.1.1.1.1.0 (param 4 g.row.G) c.type_bounds.sync-G, (shr_send _ κs.1.1.1.1.1.1.1.1.1.0 _ connections, tt))),
         ),
       ),
     )))

@@ -22,7 +22,7 @@ map_vec-requires-sync-F g c κs within =
         shr_sync _ κs.1.1.1.1.1.1.1.1.0 _ heap.the_sync,
         (
           shr_sync _ κs.1.1.1.1.1.1.1.1.1.0 _ shared,
-          (shr_sync _ κs.1.1.1.1.1.1.1.1.1.1.0 _ queue, (shr_sync _ κs.1.1.1.1.1.1.1.1.1.1.1.0 (param 3 g.row.G) (param_sync 3 g.row.G gate), tt)),
+          (shr_sync _ κs.1.1.1.1.1.1.1.1.1.1.0 (param 3 g.row.G) (param_sync 3 g.row.G gate), (shr_sync _ κs.1.1.1.1.1.1.1.1.1.1.1.0 _ queue, tt)),
         ),
       ),
     )))

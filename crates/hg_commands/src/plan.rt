@@ -1,0 +1,15 @@
+//! What is asked of a feeding.
+
+ghost use Rattle.hg_commands.specs.Opening.{IsFrameCount};
+
+/// How a store is fed.
+#[derive(Clone, Copy, Drop)]
+pub struct FeedPlan {
+    /// The source that sends the events.
+    pub source: u16,
+    /// How many pages may be in memory: 4 to 4,096.
+    pub frames: u16,
+    /// Whether a checkpoint is made where the input came to its end.
+    pub checkpoint: bool,
+    ghost fits: { IsFrameCount frames },
+}
