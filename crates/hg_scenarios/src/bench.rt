@@ -210,7 +210,12 @@ struct Stop {
 }
 
 /// Makes a run again that stops, and leaves the image on the shelf.
-fn stop_at(alloc: Global, run: &Run, stop: Stop, shelf: &mut Shelf) -> Result<Progress, AllocError> {
+fn stop_at(
+    alloc: Global,
+    run: &Run,
+    stop: Stop,
+    shelf: &mut Shelf,
+) -> Result<Progress, AllocError> {
     let Stop {
         device,
         calls,
@@ -306,12 +311,7 @@ impl Bench {
     }
 
     /// Opens a store over the disks as they are, and begins a run.
-    fn open(
-        &mut self,
-        shelf: &mut Shelf,
-        opening: Opening,
-        out: &mut Text,
-    ) -> Result<(), Halt> {
+    fn open(&mut self, shelf: &mut Shelf, opening: Opening, out: &mut Text) -> Result<(), Halt> {
         self.close(shelf)?;
         self.run.start.copy(&shelf.image)?;
         self.run.opening = opening;
@@ -530,12 +530,7 @@ impl Bench {
     }
 
     /// `every device at ..`, or `DEVICE at ..`
-    fn stop(
-        &mut self,
-        shelf: &mut Shelf,
-        text: &str,
-        out: &mut Text,
-    ) -> Result<(), Halt> {
+    fn stop(&mut self, shelf: &mut Shelf, text: &str, out: &mut Text) -> Result<(), Halt> {
         if let Some(rest) = text.strip_prefix("every device ") {
             return self.stop_at(shelf, None, rest, out);
         }

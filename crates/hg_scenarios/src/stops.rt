@@ -187,12 +187,7 @@ fn try_call(
 }
 
 /// Goes on from each stop of one device.
-fn try_device(
-    trial: Trial,
-    device: Device,
-    count: &mut Count,
-    out: &mut Text,
-) -> Result<(), Halt> {
+fn try_device(trial: Trial, device: Device, count: &mut Count, out: &mut Text) -> Result<(), Halt> {
     for after in 0..MOST_CALLS {
         if !try_call(trial, device, after, count, out)? {
             return Ok(());
