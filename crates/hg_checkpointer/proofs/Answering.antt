@@ -10,14 +10,14 @@ use Rattle.hg_checkpointer.specs.declared.cause.Cause.{Cause}
 use Rattle.hg_checkpointer.specs.declared.phase.CheckpointFault.{CheckpointFault}
 use Rattle.hg_checkpointer.specs.declared.phase.CheckpointFault.TheVariants.{Refused, WrongPhase}
 use Rattle.hg_checkpointer.specs.Phases.{BreaksBy, failed_in}
-use Rattle.hg_checkpointer.specs.Told.{told_as}
+use Rattle.hg_checkpointer.specs.Told.{of_root}
 
 -- a fault says the same of each kind of answer
 pub same_fault : (S T : Type 0) (broken : Bool) (fault : CheckpointFault) → BreaksBy {T = S} broken (Err fault) → BreaksBy {T = T} broken (Err fault)
 same_fault S T broken (WrongPhase p) is = tt
 same_fault S T broken (Refused r) is = is
 
-told_after : (f : RootFault) (n : ℕ) → after_fault f n ≡ failed_in (told_as f) + n
+told_after : (f : RootFault) (n : ℕ) → after_fault f n ≡ failed_in (of_root f) + n
 told_after fault.Broken n = omega arith
 told_after fault.Damaged n = omega arith
 told_after fault.DeviceFault n = omega arith
@@ -37,7 +37,7 @@ module _ {D : Type 0} (g : disk.Ghosts D) where
   pub counted_none : (old new : RootPair D) → new.is_turned ≡ old.is_turned → newer new ≡ newer old → g.failures (older new) ≡ g.failures (older old) → failures g new ≡ 0 + failures g old
   counted_none old new turn same count = counted old new 0 turn same (omega (arith, count))
 
-  pub counted_fault : (old new : RootPair D) (f : RootFault) (r : Cause) → r ≡ told_as f → new.is_turned ≡ old.is_turned → newer new ≡ newer old → g.failures (older new) ≡ after_fault f (g.failures (older old))
+  pub counted_fault : (old new : RootPair D) (f : RootFault) (r : Cause) → r ≡ of_root f → new.is_turned ≡ old.is_turned → newer new ≡ newer old → g.failures (older new) ≡ after_fault f (g.failures (older old))
       → failures g new ≡ failed_in r + failures g old
   counted_fault old new f r told turn same count =
       counted old new (failed_in r) turn same (count ∙ told_after f (g.failures (older old)) ∙ ap (λ (s : Cause). failed_in s + g.failures (older old)) (sym told))

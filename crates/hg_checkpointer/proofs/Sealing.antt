@@ -9,7 +9,7 @@ use Rattle.hg_pages.specs.Slots.{slot_text}
 use Rattle.hg_pages.specs.Tables.{AreEntries}
 use Rattle.hg_pool.specs.Kept.{SameMap}
 use Rattle.hg_pool.specs.Maps.{IsSealed, disk_of, frozen}
-use Rattle.hg_pool.specs.Shown.{Shown}
+use Rattle.hg_pool.specs.Shown.{ShownPool}
 use Rattle.hg_pool.specs.Tables.{IsNameable}
 use Rattle.hg_root.specs.Checkpoints.{Checkpoint, HasPages, HasSlotsOf, LieWithin, root_of}
 use Rattle.hg_root.specs.Grammar.{HeadFits, pages_text}
@@ -87,7 +87,7 @@ former_lies None file has = tt
 former_lies (Some c) file has = pages_lie c file has
 
 module _ {D : Type 0} (g : disk.Ghosts D) where
-  pub next_slots : (p : Shown D) (now : Option Checkpoint) (former : Option Parts) (parts : Parts) (cells : ℕ → Cell) → IsSealed g p → AreEntries p.frozen → SameMap cells (frozen g p) → IsKnownTo parts cells
+  pub next_slots : (p : ShownPool D) (now : Option Checkpoint) (former : Option Parts) (parts : Parts) (cells : ℕ → Cell) → IsSealed g p → AreEntries p.frozen → SameMap cells (frozen g p) → IsKnownTo parts cells
       → Leaves (HasSlotsOf now former) (g.state (disk_of p)) → Leaves (HasSlotsOf (Some (checkpoint_of (root_with parts p.frozen) cells)) (root_of now)) (g.state (disk_of p))
   next_slots p now former parts cells sealed entries words known leaves = λ image is.
       let root = root_with parts p.frozen in
@@ -99,10 +99,10 @@ module _ {D : Type 0} (g : disk.Ghosts D) where
 
   -- ---- its root is opened
 
-  pub opened_slots : (old new : Shown D) (P : List ℕ → Type 0) → new ≡ record old { root = old.frozen } → Leaves P (g.state (disk_of old)) → Leaves P (g.state (disk_of new))
-  opened_slots old new P is leaves = subst (λ (p : Shown D). Leaves P (g.state (disk_of p))) (sym is) leaves
+  pub opened_slots : (old new : ShownPool D) (P : List ℕ → Type 0) → new ≡ record old { root = old.frozen } → Leaves P (g.state (disk_of old)) → Leaves P (g.state (disk_of new))
+  opened_slots old new P is leaves = subst (λ (p : ShownPool D). Leaves P (g.state (disk_of p))) (sym is) leaves
 
-pub opened_names : {D : Type 0} (old new : Shown D) (root : Parts) → new ≡ record old { root = old.frozen } → Names old.frozen root → Names new.root root
+pub opened_names : {D : Type 0} (old new : ShownPool D) (root : Parts) → new ≡ record old { root = old.frozen } → Names old.frozen root → Names new.root root
 opened_names old new root is names = subst (λ (table : List (ℕ × ℕ)). Names table root) (sym (ap (λ p. p.root) is)) names
 
 pub named_rows : (parts : Parts) (table : List (ℕ × ℕ)) → AreEntries table → Names table (root_with parts table)

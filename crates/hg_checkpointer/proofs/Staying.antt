@@ -9,7 +9,7 @@ use Rattle.hg_cells.specs.declared.cell.Cell.{Cell}
 use Rattle.hg_pages.specs.Slots.{HasBytes, slot_text}
 use Rattle.hg_pool.specs.Kept.{KeepsNamed, Went}
 use Rattle.hg_pool.specs.Maps.{GivesCells, disk_of, frozen}
-use Rattle.hg_pool.specs.Shown.{Shown}
+use Rattle.hg_pool.specs.Shown.{ShownPool}
 use Rattle.hg_root.specs.Checkpoints.{Checkpoint, HasPages, HasSlotsOf, LieWithin}
 use Rattle.hg_root.specs.Parts.{Parts}
 use Rattle.hg_contents.specs.Maps.{HasPageOf, IsKnownTo, checkpoint_of}
@@ -31,7 +31,7 @@ module _ {D : Type 0} (g : disk.Ghosts D) where
   pub sealed_slots : SealedSlotsHaveTheCheckpoint g
   sealed_slots p root sealed has known = λ image is. given_pages root p.frozen (frozen g p) image has known (sealed image is)
 
-  module _ (bytes : (d : D) → IsImage (g.state d) (g.state d).contents) (old new : Shown D) (went : Went g old new) where
+  module _ (bytes : (d : D) → IsImage (g.state d) (g.state d).contents) (old new : ShownPool D) (went : Went g old new) where
     pages_stay : (table : List (ℕ × ℕ)) (c : Checkpoint) → KeepsNamed g table old new → Names table c.root → Leaves (λ slots. HasPages slots c) (g.state (disk_of old))
         → LeavesOnly g (disk_of old) (disk_of new) (λ slots. HasPages slots c)
     pages_stay table c keeps names leaves =

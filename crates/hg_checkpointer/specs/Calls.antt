@@ -6,7 +6,7 @@ use Rattle.hg_cells.specs.declared.cell.Cell.{Cell}
 use Rattle.hg_pool.specs.Kept.{IsWhole}
 use Rattle.hg_pool.specs.Maps.{disk_of, is_broken, live}
 use Rattle.hg_pool.specs.Picking.{LacksSlots}
-use Rattle.hg_pool.specs.Shown.{Shown}
+use Rattle.hg_pool.specs.Shown.{ShownPool}
 use Rattle.hg_root.specs.Checkpoints.{Checkpoint, HasSlotsOf, root_of}
 use Rattle.hg_root.specs.Grammar.{pages_text}
 use Rattle.hg_root.specs.Pairs as pairs
@@ -25,7 +25,7 @@ abbrev pub IsOfDevice : Cause → Type 0
 IsOfDevice cause = (cause ≡ Broken) ⊎ (cause ≡ DeviceFault)
 
 -- A freeze is refused so: a device failed earlier, memory was refused, or fewer slots are free than pages were changed.
-abbrev pub IsOfFreezing : {D : Type 0} → Shown D → Cause → Type 0
+abbrev pub IsOfFreezing : {D : Type 0} → ShownPool D → Cause → Type 0
 IsOfFreezing pool cause = (cause ≡ Broken) ⊎ ((cause ≡ OutOfMemory) ⊎ ((cause ≡ FullSlots) × LacksSlots pool))
 
 -- The writing of a root is refused so: memory was refused, or a device failed.
@@ -33,7 +33,7 @@ abbrev pub IsOfWriting : Cause → Type 0
 IsOfWriting cause = (cause ≡ OutOfMemory) ⊎ IsOfDevice cause
 
 -- Neither the file of slots, nor what is in memory of it, nor the root's table.
-abbrev pub KeepsFile : {D : Type 0} → (old new : Shown D) → Type 0
+abbrev pub KeepsFile : {D : Type 0} → (old new : ShownPool D) → Type 0
 KeepsFile old new = (new.root ≡ old.root) × (new.file ≡ old.file) × (new.frames ≡ old.frames)
 
 module _ {D : Type 0} {g : disk.Ghosts D} where
@@ -55,11 +55,11 @@ module _ {D : Type 0} {g : disk.Ghosts D} where
   StandsBy roots c = (root former : Option Parts) → pairs.Stands g roots root former → RootsStand g c.phase c.roots root former c.body.value.items
 
   -- The pages are written, and none waits.
-  abbrev pub IsFlushed : Checkpointer D g → Shown D → Type 0
+  abbrev pub IsFlushed : Checkpointer D g → ShownPool D → Type 0
   IsFlushed c pool = (c.phase ≡ Flushing) × (pool.waiting ≡ [])
 
   -- A call of the checkpointer or of the pool failed before.
-  abbrev pub IsOneBroken : Checkpointer D g → Shown D → Type 0
+  abbrev pub IsOneBroken : Checkpointer D g → ShownPool D → Type 0
   IsOneBroken c pool = IsTrue c.is_broken ⊎ IsTrue (is_broken pool)
 
   -- A call of the checkpointer or of its roots failed before.
@@ -67,7 +67,7 @@ module _ {D : Type 0} {g : disk.Ghosts D} where
   AreRootsBroken c = IsTrue c.is_broken ⊎ IsTrue (pairs.is_broken c.roots)
 
   -- Nothing has changed, or both are broken.
-  abbrev pub StaysOrBreaks : Checkpointer D g → Shown D → (new : Checkpointer D g) → (new_pool : Shown D) → Type 0
+  abbrev pub StaysOrBreaks : Checkpointer D g → ShownPool D → (new : Checkpointer D g) → (new_pool : ShownPool D) → Type 0
   StaysOrBreaks c pool new new_pool = ((new ≡ c) × (new_pool ≡ pool)) ⊎ (IsTrue new.is_broken × IsTrue (is_broken new_pool))
 
   -- So many calls of the root files failed.
@@ -75,41 +75,41 @@ module _ {D : Type 0} {g : disk.Ghosts D} where
   CountsRoots old new n = pairs.failures g new.roots ≡ n + pairs.failures g old.roots
 
   -- The checkpoint that counts goes on to stand.
-  abbrev pub StaysStanding : Checkpointer D g → Shown D → (new : Checkpointer D g) → (new_pool : Shown D) → Type 0
+  abbrev pub StaysStanding : Checkpointer D g → ShownPool D → (new : Checkpointer D g) → (new_pool : ShownPool D) → Type 0
   StaysStanding c pool new new_pool =
       (now : Option Checkpoint) (former : Option Parts) → Stands g c pool now former → Stands g new new_pool now former
 
   -- Over a whole pool the next checkpoint is a draft: the head that was given, and the live map of before.
-  abbrev pub IsDrafted : {T E : Type 0} → Checkpointer D g → (pool new_pool : Shown D) → List ℕ → ℕ → Result T E → Type 0
+  abbrev pub IsDrafted : {T E : Type 0} → Checkpointer D g → (pool new_pool : ShownPool D) → List ℕ → ℕ → Result T E → Type 0
   IsDrafted c pool new_pool head number result =
       (now : Option Checkpoint) (parts : Parts) → IsWhole g pool → IsHead now parts head number → IsKnownTo parts (live g pool)
       → OnOk result (IsDraft g c new_pool now parts (live g pool))
 
   -- The body is the head with the frozen table.
-  abbrev pub SpellsBody : {Z E : Type 0} → Checkpointer D g → Shown D → Result (Vec ℕ Z) E → Type 0
+  abbrev pub SpellsBody : {Z E : Type 0} → Checkpointer D g → ShownPool D → Result (Vec ℕ Z) E → Type 0
   SpellsBody c pool result =
       (head : List ℕ) → c.head ≡ Some head → IfOk result (λ body. body.items ≡ head ++ pages_text (pages_of pool.frozen))
 
   -- The pages are sealed where they are written, nothing was broken, and no call fails.
-  abbrev pub SealsSurely : {T E : Type 0} → Checkpointer D g → (pool new_pool : Shown D) → Result T E → Type 0
+  abbrev pub SealsSurely : {T E : Type 0} → Checkpointer D g → (pool new_pool : ShownPool D) → Result T E → Type 0
   SealsSurely c pool new_pool result =
       c.phase ≡ Flushing → pool.waiting ≡ [] → c.is_broken ≡ false → is_broken pool ≡ false
       → g.failures (disk_of new_pool) ≡ g.failures (disk_of pool) → IsOk result
 
   -- Each image of the slots meanwhile has those of the checkpoint that counts.
-  abbrev pub LeavesSlots : Checkpointer D g → (pool new_pool : Shown D) → Type 0
+  abbrev pub LeavesSlots : Checkpointer D g → (pool new_pool : ShownPool D) → Type 0
   LeavesSlots c pool new_pool =
       (now : Option Checkpoint) (former : Option Parts) → Stands g c pool now former
       → LeavesOnly g (disk_of pool) (disk_of new_pool) (HasSlotsOf now former)
 
   -- The draft is the next checkpoint.
-  abbrev pub DraftIsNext : {T E : Type 0} → Checkpointer D g → Shown D → Checkpointer D g → Shown D → Result T E → Type 0
+  abbrev pub DraftIsNext : {T E : Type 0} → Checkpointer D g → ShownPool D → Checkpointer D g → ShownPool D → Result T E → Type 0
   DraftIsNext c pool new new_pool result =
       (now : Option Checkpoint) (former : Option Parts) (parts : Parts) (cells : ℕ → Cell) → Stands g c pool now former
       → IsDraft g c pool now parts cells → OnOk result (IsNext g new new_pool now (checkpoint_of (root_with parts new_pool.frozen) cells))
 
   -- The words of the draft are new where its table names no page.
-  abbrev pub DraftIsNewElsewhere : {T E : Type 0} → Checkpointer D g → (pool new_pool : Shown D) → Result T E → Type 0
+  abbrev pub DraftIsNewElsewhere : {T E : Type 0} → Checkpointer D g → (pool new_pool : ShownPool D) → Result T E → Type 0
   DraftIsNewElsewhere c pool new_pool result =
       (now : Option Checkpoint) (parts : Parts) (cells : ℕ → Cell) → IsDraft g c pool now parts cells
       → OnOk result (IsNewElsewhere (root_with parts new_pool.frozen) cells)
@@ -128,25 +128,25 @@ module _ {D : Type 0} {g : disk.Ghosts D} where
 
   -- The next checkpoint goes on to be that, over any pool.
   abbrev pub StaysNext : (old new : Checkpointer D g) → Type 0
-  StaysNext old new = (pool : Shown D) (now : Option Checkpoint) (next : Checkpoint) → IsNext g old pool now next → IsNext g new pool now next
+  StaysNext old new = (pool : ShownPool D) (now : Option Checkpoint) (next : Checkpoint) → IsNext g old pool now next → IsNext g new pool now next
 
   -- It does over this pool.
-  abbrev pub StaysNextOver : Shown D → (old new : Checkpointer D g) → Type 0
+  abbrev pub StaysNextOver : ShownPool D → (old new : Checkpointer D g) → Type 0
   StaysNextOver pool old new = (now : Option Checkpoint) (next : Checkpoint) → IsNext g old pool now next → IsNext g new pool now next
 
   -- The answer is the number of the next checkpoint.
-  abbrev pub AnswersNumber : {E : Type 0} → Checkpointer D g → Shown D → Result ℕ E → Type 0
+  abbrev pub AnswersNumber : {E : Type 0} → Checkpointer D g → ShownPool D → Result ℕ E → Type 0
   AnswersNumber c pool result =
       (now : Option Checkpoint) (next : Checkpoint) → IsNext g c pool now next → IfOk result (λ n. n ≡ next.root.number)
 
   -- The next checkpoint is the one that counts.
-  abbrev pub OpensNext : {T E : Type 0} → Checkpointer D g → Shown D → Checkpointer D g → Shown D → Result T E → Type 0
+  abbrev pub OpensNext : {T E : Type 0} → Checkpointer D g → ShownPool D → Checkpointer D g → ShownPool D → Result T E → Type 0
   OpensNext c pool new new_pool result =
       (now : Option Checkpoint) (former : Option Parts) (next : Checkpoint) → Stands g c pool now former → IsNext g c pool now next
       → OnOk result (Stands g new new_pool (Some next) (root_of now))
 
   -- Each image of the root files meanwhile has the root that counts, or the next one.
-  abbrev pub LeavesEither : Checkpointer D g → Shown D → Checkpointer D g → Type 0
+  abbrev pub LeavesEither : Checkpointer D g → ShownPool D → Checkpointer D g → Type 0
   LeavesEither c pool new =
       (now : Option Checkpoint) (former : Option Parts) (next : Checkpoint) → Stands g c pool now former → IsNext g c pool now next
       → EachEither g c.roots new.roots now former next

@@ -6,7 +6,7 @@ use Rattle.hg_cells.specs.declared.cell.Cell.{Cell}
 use Rattle.hg_gate.specs.Gated.{framed}
 use Rattle.hg_pool.specs.Kept.{IsWhole, SameMap, Went}
 use Rattle.hg_pool.specs.Maps.{disk_of, frozen}
-use Rattle.hg_pool.specs.Shown.{Shown}
+use Rattle.hg_pool.specs.Shown.{ShownPool}
 use Rattle.hg_root.specs.Checkpoints.{Checkpoint, HasSlotsOf, root_of}
 use Rattle.hg_root.specs.Grammar.{head_text, pages_text}
 use Rattle.hg_root.specs.Lawful.{IsLawfulHead, IsRoot}
@@ -42,24 +42,24 @@ module _ {D : Type 0} (g : disk.Ghosts D) where
   RootsStand Written roots root former body = IsPrepared g roots root (framed body)
 
   -- The checkpoint that counts, or none: the root files have its root, each image of the slots its pages, and the pool keeps these.
-  pub record Stands (c : Checkpointer D g) (pool : Shown D) (now : Option Checkpoint) (former : Option Parts) : Type 0 where
+  pub record Stands (c : Checkpointer D g) (pool : ShownPool D) (now : Option Checkpoint) (former : Option Parts) : Type 0 where
     pub roots : RootsStand c.phase c.roots (root_of now) former c.body.value.items
     pub slots : Leaves (HasSlotsOf now former) (g.state (disk_of pool))
     pub names : NamesOf pool.root now
 
   -- The next checkpoint while its pages are written: the head of its root, and the frozen map.
-  pub record IsDraftOf (head_in : Option (List ℕ)) (next_number : ℕ) (pool : Shown D) (now : Option Checkpoint) (parts : Parts) (cells : ℕ → Cell) : Type 0 where
+  pub record IsDraftOf (head_in : Option (List ℕ)) (next_number : ℕ) (pool : ShownPool D) (now : Option Checkpoint) (parts : Parts) (cells : ℕ → Cell) : Type 0 where
     pub head : (head : List ℕ) × (head_in ≡ Some head) × IsHead now parts head next_number
     pub whole : IsWhole g pool
     pub words : SameMap cells (frozen g pool)
     pub known : IsKnownTo parts cells
 
-  abbrev pub IsDraft : Checkpointer D g → Shown D → Option Checkpoint → Parts → (ℕ → Cell) → Type 0
+  abbrev pub IsDraft : Checkpointer D g → ShownPool D → Option Checkpoint → Parts → (ℕ → Cell) → Type 0
   IsDraft c pool now parts cells = IsDraftOf c.head c.next pool now parts cells
 
   -- The next checkpoint once its pages are durable: each image of the slots has them, and the head with the frozen table, which is
   -- sealed, spells its root. In Written the body spells it.
-  pub record IsNextOf (phase : Phase) (head_in : Option (List ℕ)) (root_body : List ℕ) (next_number : ℕ) (pool : Shown D) (now : Option Checkpoint) (next : Checkpoint) : Type 0 where
+  pub record IsNextOf (phase : Phase) (head_in : Option (List ℕ)) (root_body : List ℕ) (next_number : ℕ) (pool : ShownPool D) (now : Option Checkpoint) (next : Checkpoint) : Type 0 where
     pub head : (head : List ℕ) × (head_in ≡ Some head) × IsRoot (head ++ pages_text (pages_of pool.frozen)) next.root
     pub sealed : IsTrue pool.is_sealed
     pub body : phase ≡ Written → IsRoot root_body next.root
@@ -68,7 +68,7 @@ module _ {D : Type 0} (g : disk.Ghosts D) where
     pub slots : Leaves (HasSlotsOf (Some next) (root_of now)) (g.state (disk_of pool))
     pub names : Names pool.frozen next.root
 
-  abbrev pub IsNext : Checkpointer D g → Shown D → Option Checkpoint → Checkpoint → Type 0
+  abbrev pub IsNext : Checkpointer D g → ShownPool D → Option Checkpoint → Checkpoint → Type 0
   IsNext c pool now next = IsNextOf c.phase c.head c.body.value.items c.next pool now next
 
   -- Each image of two disks from one moment to another, each disk by itself, has P.
@@ -90,10 +90,10 @@ module _ {D : Type 0} (g : disk.Ghosts D) where
   EachEither old new now former next = EachRoots old new (λ one other. IsNewest (root_of now) former one other ⊎ IsNewest (Some next.root) (root_of now) one other)
 
   -- What stands goes on to stand, whatever calls of the pool come between.
-  pub record KeepsStanding (c : Checkpointer D g) (old new : Shown D) : Type 0 where
+  pub record KeepsStanding (c : Checkpointer D g) (old new : ShownPool D) : Type 0 where
     pub stands : (now : Option Checkpoint) (former : Option Parts) → Stands c old now former → Stands c new now former
     pub draft : (now : Option Checkpoint) (parts : Parts) (cells : ℕ → Cell) → IsDraft c old now parts cells → IsDraft c new now parts cells
     pub next : (now : Option Checkpoint) (next : Checkpoint) → IsNext c old now next → IsNext c new now next
 
   abbrev pub CallsBetweenKeep : Type 0
-  CallsBetweenKeep = (c : Checkpointer D g) (old new : Shown D) → Went g old new → KeepsStanding c old new
+  CallsBetweenKeep = (c : Checkpointer D g) (old new : ShownPool D) → Went g old new → KeepsStanding c old new

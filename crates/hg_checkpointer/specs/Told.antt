@@ -11,11 +11,11 @@ use Rattle.hg_checkpointer.specs.declared.cause.Cause.{Cause}
 use Rattle.hg_checkpointer.specs.declared.cause.Cause.TheVariants as cause
 
 -- what a fault of a root file is told as
-abbrev pub told_as : RootFault → Cause
-told_as fault.Broken = cause.Broken
-told_as fault.Damaged = cause.Damaged
-told_as fault.DeviceFault = cause.DeviceFault
-told_as fault.OutOfMemory = cause.OutOfMemory
+abbrev pub of_root : RootFault → Cause
+of_root fault.Broken = cause.Broken
+of_root fault.Damaged = cause.Damaged
+of_root fault.DeviceFault = cause.DeviceFault
+of_root fault.OutOfMemory = cause.OutOfMemory
 
 -- the cause of a freeze that the pool refused
 abbrev pub of_freeze : FreezeFault → Cause

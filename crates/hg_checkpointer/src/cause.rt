@@ -53,9 +53,9 @@ impl From<WriteFault> for Cause {
 
 /// What a fault of a root file is told as.
 impl From<RootFault> for Cause {
-    ghost use Rattle.hg_checkpointer.specs.Told.{told_as};
+    ghost use Rattle.hg_checkpointer.specs.Told.{of_root};
 
-    ghost from_gives = { λ fault cause. cause ≡ told_as fault };
+    ghost from_gives = { λ fault cause. cause ≡ of_root fault };
 
     fn from(fault: RootFault) -> Cause {
         match fault {

@@ -16,7 +16,7 @@ use Rattle.hg_contents.specs.Stores.{IsLeft}
 use Rattle.hg_store.specs.declared.devices.Devices.{Devices}
 use Rattle.hg_store.specs.Images.{HasOpened, failures_of, read_of, states_of}
 use Rattle.hg_store.specs.Recovering.{HasTable}
-use Rattle.hg_store.specs.Shown.{Shown, live, saved}
+use Rattle.hg_store.specs.Shown.{ShownStore, live, saved}
 use Rattle.hg_store.specs.Store.{Backs, IsFresh}
 use Rattle.hg_check.specs.declared.checker.Ending.{Ending}
 use Rattle.hg_commands.specs.declared.lines.Fed.{Fed}
@@ -63,11 +63,11 @@ module _ {D : Type 0} (g : disk.Ghosts D) where
       (appends_on o r v ((resume ++ acks_text first.events accepted) ++ ack_text last.events) (checkpoint_text checkpoint)
       (appends_on o q r (resume ++ acks_text first.events accepted) (ack_text last.events) a b) d) e)
 
-  pub was_fed : (reads later : List ReadCall) (source : ℕ) (asked is_made : Bool) (s t u w : Shown D) (f i : Fed) (o p q r v x : List WriteCall) (end : Ending) → is_made ≡ is_due asked end → f.accepted ≡ 0
+  pub was_fed : (reads later : List ReadCall) (source : ℕ) (asked is_made : Bool) (s t u w : ShownStore D) (f i : Fed) (o p q r v x : List WriteCall) (end : Ending) → is_made ≡ is_due asked end → f.accepted ≡ 0
       → Took o p (number_text (codes "resume ") ((live g s).last source)) → WentWell g (place s f p) (place t i q) → Feeds g reads later source s.detector.sets (live g s) (live g t) end
       → WasCommitted g t u → Took q r (ack_text (live g t).events) → WasCheckpointed g is_made u w r v → Took v x (feed_end_text (live g w) end) → (IsTrue g.is_honest → Backs g w) → WasFed g reads later source asked s w o x end
   was_fed reads later source asked is_made s t u w f i o p q r v x end due none resumed goes feeds committed acked made ended backs =
-      let kept : live g u ≡ live g t = ap (λ (d : detect.Shown (pool.Shown D)). detect.content (pools.live g) d) committed.detector in
+      let kept : live g u ≡ live g t = ap (λ (d : detect.ShownDetector (pool.ShownPool D)). detect.content (pools.live g) d) committed.detector in
       let same = λ (honest : IsTrue g.is_honest). made.live honest ∙ kept in
       let resume = number_text (codes "resume ") ((live g s).last source) in
       let start : IsPrinted g o resume (live g s).events (place s f p) = record {
@@ -85,16 +85,16 @@ module _ {D : Type 0} (g : disk.Ghosts D) where
         failures = omega (arith, made.failures, committed.failures, goes.failures, took_intact o p resumed, took_intact q r acked, took_intact r v made.printed, took_intact v x ended);
         works = made.works;
         durable = λ honest.
-            ap (λ (d : detect.Shown (pool.Shown D)). detect.content (pools.live g) d) (made.committed ∙ committed.committed) ∙ sym (same honest);
+            ap (λ (d : detect.ShownDetector (pool.ShownPool D)). detect.content (pools.live g) d) (made.committed ∙ committed.committed) ∙ sym (same honest);
         backs = backs;
       }
 
-  pub fresh_is_left : (s : Shown D) (c : Content) (new : Devices D) (image : Image) → IsFresh g s c → new ≡ s.devices → IsLeft (states_of g new) image → HasContent image c
+  pub fresh_is_left : (s : ShownStore D) (c : Content) (new : Devices D) (image : Image) → IsFresh g s c → new ≡ s.devices → IsLeft (states_of g new) image → HasContent image c
   fresh_is_left s c new image fresh is left =
       subst (λ (x : Content). HasContent image x) fresh.has
       (stands_for_one (saved g s) (live g s) s.in_doubt image (fresh.durable ∙ sym fresh.has) (fresh.backs.stands image (subst (λ (d : Devices D). IsLeft (states_of g d) image) is left)))
 
-  pub feed_done : (reads later : List ReadCall) (source : ℕ) (asked : Bool) (old new : Devices D) (s u : Shown D) (o v : List WriteCall) (end : Ending)
+  pub feed_done : (reads later : List ReadCall) (source : ℕ) (asked : Bool) (old new : Devices D) (s u : ShownStore D) (o v : List WriteCall) (end : Ending)
       → (IsTrue g.is_honest → (c : Content) × HasContent (read_of g old) c × IsFresh g s c) → (IsTrue g.is_honest → HasTable 262144 (read_of g old) (live g s) s.detector.sets) → failures_of g s.devices ≡ failures_of g old
       → WasFed g reads later source asked s u o v end → new ≡ u.devices → FeedDone g reads later source asked old new o v end
   feed_done reads later source asked old new s u o v end began sets failures was is = record {

@@ -6,7 +6,7 @@ use Rattle.hg_streams.specs.declared.call.WriteCall.{WriteCall}
 use Rattle.hg_model.specs.Contents.{Content}
 use Rattle.hg_sets.specs.Interning.{Table}
 use Rattle.hg_disk.specs.declared.disk.Disk as disk
-use Rattle.hg_store.specs.Shown.{Shown, live}
+use Rattle.hg_store.specs.Shown.{ShownStore, live}
 use Rattle.hg_check.specs.declared.checker.Ending.{Ending}
 use Rattle.hg_check.specs.Printing.{Took}
 use Rattle.hg_check.specs.Written.{TookFront}
@@ -54,7 +54,7 @@ wrote_resume source table c reads o p f = inl (record {
 })
 
 module _ {D : Type 0} (g : disk.Ghosts D) where
-  pub resumed : (s : Shown D) (f : Fed) (o p : List WriteCall) (source : ℕ) → f.accepted ≡ 0 → Took o p (number_text (codes "resume ") ((live g s).last source))
+  pub resumed : (s : ShownStore D) (f : Fed) (o p : List WriteCall) (source : ℕ) → f.accepted ≡ 0 → Took o p (number_text (codes "resume ") ((live g s).last source))
       → IsPrinted g o (number_text (codes "resume ") ((live g s).last source)) (live g s).events (place s f p)
   resumed s f o p source none t = record {
     count = omega (arith, none);
@@ -62,7 +62,7 @@ module _ {D : Type 0} (g : disk.Ghosts D) where
         (subst (λ (t : List ℕ). Took o p t) (sym (append-nil (resume_text source (live g s)))) t);
   }
 
-  pub wrote_fed : IsTrue g.is_honest → (s : Shown D) (f : Fed) (source : ℕ) (reads later : List ReadCall) (o p now : List WriteCall)
+  pub wrote_fed : IsTrue g.is_honest → (s : ShownStore D) (f : Fed) (source : ℕ) (reads later : List ReadCall) (o p now : List WriteCall)
       → IsPrinted g o (number_text (codes "resume ") ((live g s).last source)) (live g s).events (place s f p)
       → HasFront g reads later source s.detector.sets (live g s) (place s f p) now → WroteFrontFrom source s.detector.sets (live g s) reads later o now
   wrote_fed honest s f source reads later o p now is h = inl (record {
@@ -86,7 +86,7 @@ module _ {D : Type 0} (g : disk.Ghosts D) where
   })
 
   -- the lines of commits so far
-  acks_printed : IsTrue g.is_honest → (source : ℕ) (s t : Shown D) (f i : Fed) (o p q : List WriteCall) → f.accepted ≡ 0 → Took o p (number_text (codes "resume ") ((live g s).last source)) → WentWell g (place s f p) (place t i q)
+  acks_printed : IsTrue g.is_honest → (source : ℕ) (s t : ShownStore D) (f i : Fed) (o p q : List WriteCall) → f.accepted ≡ 0 → Took o p (number_text (codes "resume ") ((live g s).last source)) → WentWell g (place s f p) (place t i q)
       → Took o q (fed_text source (live g s) (live g t))
   acks_printed honest source s t f i o p q none resume goes =
       let come = goes.printed honest o (resume_text source (live g s)) (live g s).events (resumed s f o p source none resume) in
@@ -94,7 +94,7 @@ module _ {D : Type 0} (g : disk.Ghosts D) where
       subst (λ (k : ℕ). Took o q (resume_text source (live g s) ++ acks_text (live g s).events k)) n come.printed
 
   -- feeding was broken off at the last commit
-  pub wrote_acks : IsTrue g.is_honest → (reads later : List ReadCall) (source : ℕ) (s t : Shown D) (f i : Fed) (o p q r : List WriteCall) (checkpoint : Option ℕ) (end : Ending) → f.accepted ≡ 0
+  pub wrote_acks : IsTrue g.is_honest → (reads later : List ReadCall) (source : ℕ) (s t : ShownStore D) (f i : Fed) (o p q r : List WriteCall) (checkpoint : Option ℕ) (end : Ending) → f.accepted ≡ 0
       → Took o p (number_text (codes "resume ") ((live g s).last source)) → WentWell g (place s f p) (place t i q) → Feeds g reads later source s.detector.sets (live g s) (live g t) end
       → IsPrintedNow q r (ack_text (live g t).events) → WroteFrontFrom source s.detector.sets (live g s) reads later o r
   wrote_acks honest reads later source s t f i o p q r checkpoint end none resume goes feeds now =
@@ -105,7 +105,7 @@ module _ {D : Type 0} (g : disk.Ghosts D) where
       (printed_front_on o q r (fed_text source first last) (ack_text last.events) (acks_printed honest source s t f i o p q none resume goes) now))
 
   -- feeding was broken off at the checkpoint
-  pub wrote_made : IsTrue g.is_honest → (reads later : List ReadCall) (source : ℕ) (s t : Shown D) (f i : Fed) (o p q r v : List WriteCall) (checkpoint : Option ℕ) (end : Ending) → f.accepted ≡ 0
+  pub wrote_made : IsTrue g.is_honest → (reads later : List ReadCall) (source : ℕ) (s t : ShownStore D) (f i : Fed) (o p q r v : List WriteCall) (checkpoint : Option ℕ) (end : Ending) → f.accepted ≡ 0
       → Took o p (number_text (codes "resume ") ((live g s).last source)) → WentWell g (place s f p) (place t i q) → Feeds g reads later source s.detector.sets (live g s) (live g t) end
       → Took q r (ack_text (live g t).events) → IsPrintedNow r v (checkpoint_text checkpoint) → WroteFrontFrom source s.detector.sets (live g s) reads later o v
   wrote_made honest reads later source s t f i o p q r v checkpoint end none resume goes feeds acked now =
@@ -117,7 +117,7 @@ module _ {D : Type 0} (g : disk.Ghosts D) where
       (appends_on o q r (fed_text source first last) (ack_text last.events) (acks_printed honest source s t f i o p q none resume goes) acked) now))
 
   -- feeding was broken off at the last line
-  pub wrote_end : IsTrue g.is_honest → (reads later : List ReadCall) (source : ℕ) (s t : Shown D) (f i : Fed) (o p q r v w : List WriteCall) (c : Content) (checkpoint : Option ℕ) (end : Ending) → f.accepted ≡ 0
+  pub wrote_end : IsTrue g.is_honest → (reads later : List ReadCall) (source : ℕ) (s t : ShownStore D) (f i : Fed) (o p q r v w : List WriteCall) (c : Content) (checkpoint : Option ℕ) (end : Ending) → f.accepted ≡ 0
       → Took o p (number_text (codes "resume ") ((live g s).last source)) → WentWell g (place s f p) (place t i q) → Feeds g reads later source s.detector.sets (live g s) (live g t) end
       → Took q r (ack_text (live g t).events) → Took r v (checkpoint_text checkpoint) → c ≡ live g t → IsPrintedNow v w (feed_end_text c end) → WroteFrontFrom source s.detector.sets (live g s) reads later o w
   wrote_end honest reads later source s t f i o p q r v w c checkpoint end none resume goes feeds acked made same now =

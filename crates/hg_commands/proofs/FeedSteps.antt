@@ -24,7 +24,7 @@ use Rattle.hg_disk.specs.declared.disk.Disk as disk
 use Rattle.hg_pool.specs.Maps as pools
 use Rattle.hg_pool.specs.OfWords.{MayRefuse}
 use Rattle.hg_pool.specs.Shown as pool
-use Rattle.hg_store.specs.Shown.{Shown, live}
+use Rattle.hg_store.specs.Shown.{ShownStore, live}
 use Rattle.hg_store.specs.Steps.{ByVerdict, IsOfRoom, IsTaken, if_accepted}
 use Rattle.hg_wire.specs.declared.line.LineFault.{LineFault}
 use Rattle.hg_wire.specs.declared.reader.Reading.{Reading}
@@ -127,14 +127,14 @@ module _ {D : Type 0} (g : disk.Ghosts D) where
     number : j.number ≡ f.number + 1
     accepted : j.accepted ≡ f.accepted + 1
 
-  counted_on : (s m t : Shown D) (f i j : Fed) (e : Event) (o p : List WriteCall) (r : Result Answer Refusal) → WasSent g s m f i e r → WasCounted g (place m i o) (place t j p) → IsCountedOn f j
+  counted_on : (s m t : ShownStore D) (f i j : Fed) (e : Event) (o p : List WriteCall) (r : Result Answer Refusal) → WasSent g s m f i e r → WasCounted g (place m i o) (place t j p) → IsCountedOn f j
   counted_on s m t f i j e o p r was counted = record {
     source = ap (λ (x : Fed). x.source) counted.fed ∙ ap (λ (x : Fed). x.source) was.fed;
     number = ap (λ (x : Fed). x.number) counted.fed ∙ ap (λ (x : Fed). x.number) was.fed;
     accepted = ap (λ (x : Fed). x.accepted) counted.fed ∙ ap (λ (x : Fed). x.accepted + 1) was.fed;
   }
 
-  is_after : IsTrue g.is_honest → (s m t : Shown D) (f i j : Fed) (e : Event) (o p : List WriteCall) → IsReady s f → length s.pending < 1024 → WasSent g s m f i e (Ok answer.Accepted) → WasCounted g (place m i o) (place t j p)
+  is_after : IsTrue g.is_honest → (s m t : ShownStore D) (f i j : Fed) (e : Event) (o p : List WriteCall) → IsReady s f → length s.pending < 1024 → WasSent g s m f i e (Ok answer.Accepted) → WasCounted g (place m i o) (place t j p)
       → IsAfter g (place s f o) (place t j p) (sent f.source f.number e)
   is_after honest s m t f i j e o p ready few was counted =
       let c = live g s in
@@ -143,11 +143,11 @@ module _ {D : Type 0} (g : disk.Ghosts D) where
       let taken : IsTaken g s n = record { works = ready.works; accepted = accept; room = few } in
       record {
         accept = accept;
-        content = ap (λ (d : detect.Shown (pool.Shown D)). detect.content (pools.live g) d) counted.detector ∙ one_after (verdict (standing_of c) n) c (live g m) (after c n) accept (was.content honest).leads;
-        sets = subst (λ (d : detect.Shown (pool.Shown D)). Asks s.detector.sets (sets_asked c e) None d.sets) (sym counted.detector) ((was.content honest).sets taken);
+        content = ap (λ (d : detect.ShownDetector (pool.ShownPool D)). detect.content (pools.live g) d) counted.detector ∙ one_after (verdict (standing_of c) n) c (live g m) (after c n) accept (was.content honest).leads;
+        sets = subst (λ (d : detect.ShownDetector (pool.ShownPool D)). Asks s.detector.sets (sets_asked c e) None d.sets) (sym counted.detector) ((was.content honest).sets taken);
       }
 
-  prints_on : (s m t : Shown D) (f i j : Fed) (e : Event) (o p : List WriteCall) → WasSent g s m f i e (Ok answer.Accepted) → WasCounted g (place m i o) (place t j p) → IsAfter g (place s f o) (place t j p) (sent f.source f.number e)
+  prints_on : (s m t : ShownStore D) (f i j : Fed) (e : Event) (o p : List WriteCall) → WasSent g s m f i e (Ok answer.Accepted) → WasCounted g (place m i o) (place t j p) → IsAfter g (place s f o) (place t j p) (sent f.source f.number e)
       → (first : List WriteCall) (front : List ℕ) (events : ℕ) → IsPrinted g first front events (place s f o) → IsPrinted g first front events (place t j p)
   prints_on s m t f i j e o p was counted is first front events h =
       let on = counted_on s m t f i j e o p (Ok answer.Accepted) was counted in
@@ -161,13 +161,13 @@ module _ {D : Type 0} (g : disk.Ghosts D) where
             ∙ ap (λ (t : List ℕ). front ++ t) (sym (acks_on events f.accepted j.accepted (live g t).events on.accepted sum)))
             (appends_on first o p (front ++ acks_text events f.accepted) (if nat_eq (j.accepted % 256) 0 then ack_text (live g t).events else []) h.printed
             (subst (λ (k : ℕ). Took o p (if nat_eq (k % 256) 0 then ack_text (live g t).events else [])) same
-            (subst (λ (k : ℕ). Took o p (if nat_eq ((i.accepted + 1) % 256) 0 then ack_text k else [])) (sym (ap (λ (d : detect.Shown (pool.Shown D)). (detect.content (pools.live g) d).events) counted.detector)) counted.printed)));
+            (subst (λ (k : ℕ). Took o p (if nat_eq ((i.accepted + 1) % 256) 0 then ack_text k else [])) (sym (ap (λ (d : detect.ShownDetector (pool.ShownPool D)). (detect.content (pools.live g) d).events) counted.detector)) counted.printed)));
       }
 
-  few_pending : (s : Shown D) (f : Fed) → IsReady s f → length s.pending < 1024
+  few_pending : (s : ShownStore D) (f : Fed) → IsReady s f → length s.pending < 1024
   few_pending s f ready = omega (arith, ready.pending)
 
-  pub passes_accepted : (s m t : Shown D) (f i j : Fed) (e : Event) (o p : List WriteCall) (reading : Reading) → reading.event ≡ Ok e → IsReady s f → WasSent g s m f i e (Ok answer.Accepted) → WasCounted g (place m i o) (place t j p)
+  pub passes_accepted : (s m t : ShownStore D) (f i j : Fed) (e : Event) (o p : List WriteCall) (reading : Reading) → reading.event ≡ Ok e → IsReady s f → WasSent g s m f i e (Ok answer.Accepted) → WasCounted g (place m i o) (place t j p)
       → Passes g (place s f o) (place t j p) reading
   passes_accepted s m t f i j e o p reading event ready was counted =
       let on = counted_on s m t f i j e o p (Ok answer.Accepted) was counted in
@@ -207,18 +207,18 @@ module _ {D : Type 0} (g : disk.Ghosts D) where
     number : i.number ≡ f.number + 1
     accepted : i.accepted ≡ f.accepted
 
-  is_unchanged : (s m : Shown D) (f i : Fed) (e : Event) (r : Result Answer Refusal) → WasSent g s m f i e r → IsUnchanged f i
+  is_unchanged : (s m : ShownStore D) (f i : Fed) (e : Event) (r : Result Answer Refusal) → WasSent g s m f i e r → IsUnchanged f i
   is_unchanged s m f i e r was = record {
     source = ap (λ (x : Fed). x.source) was.fed;
     number = ap (λ (x : Fed). x.number) was.fed;
     accepted = ap (λ (x : Fed). x.accepted) was.fed;
   }
 
-  same_content : IsTrue g.is_honest → (s m : Shown D) (f i : Fed) (e : Event) (r : Result Answer Refusal) → if_accepted (sent f.source f.number e) r ≡ [] → WasSent g s m f i e r → live g m ≡ live g s
+  same_content : IsTrue g.is_honest → (s m : ShownStore D) (f i : Fed) (e : Event) (r : Result Answer Refusal) → if_accepted (sent f.source f.number e) r ≡ [] → WasSent g s m f i e r → live g m ≡ live g s
   same_content honest s m f i e r nothing was =
       same_some (live g s) (live g m) (subst (λ (xs : List Named). followed (live g s) xs ≡ Some (live g m)) nothing (was.content honest).leads)
 
-  unchanged_goes : (s m : Shown D) (f i : Fed) (e : Event) (r : Result Answer Refusal) (o : List WriteCall) → if_accepted (sent f.source f.number e) r ≡ [] → told r ≡ 0 → m.is_broken ≡ s.is_broken → IsReady s f → WasSent g s m f i e r
+  unchanged_goes : (s m : ShownStore D) (f i : Fed) (e : Event) (r : Result Answer Refusal) (o : List WriteCall) → if_accepted (sent f.source f.number e) r ≡ [] → told r ≡ 0 → m.is_broken ≡ s.is_broken → IsReady s f → WasSent g s m f i e r
       → WentWell g (place s f o) (place m i o)
   unchanged_goes s m f i e r o nothing none works ready was =
       let is = is_unchanged s m f i e r was in
@@ -254,12 +254,12 @@ module _ {D : Type 0} (g : disk.Ghosts D) where
   passed_back (Refuse r) pending k line table c n later last end few h on = absurd (cc)
 
   -- an event that was sent before is not taken up
-  not_taken : (s : Shown D) (n : Named) (k : ℕ) → ByVerdict (verdict (standing_of (live g s)) n) (length s.pending) (Ok (answer.Duplicate k)) → length s.pending < 1024 → ¬ IsTaken g s n
+  not_taken : (s : ShownStore D) (n : Named) (k : ℕ) → ByVerdict (verdict (standing_of (live g s)) n) (length s.pending) (Ok (answer.Duplicate k)) → length s.pending < 1024 → ¬ IsTaken g s n
   not_taken s n k h few taken =
       let accepted : ByVerdict Accept (length s.pending) (Ok (answer.Duplicate k)) = subst (λ v. ByVerdict v (length s.pending) (Ok (answer.Duplicate k))) taken.accepted h in
       ⊎_elim (λ a. absurd (cc)) (λ b. absurd (not_err k b.0 b.1)) (never_full (length s.pending) (Ok (answer.Duplicate k)) few accepted)
 
-  pub passes_duplicate : (s m : Shown D) (f i : Fed) (e : Event) (k : ℕ) (o : List WriteCall) (reading : Reading) → reading.event ≡ Ok e → IsReady s f → WasSent g s m f i e (Ok (answer.Duplicate k))
+  pub passes_duplicate : (s m : ShownStore D) (f i : Fed) (e : Event) (k : ℕ) (o : List WriteCall) (reading : Reading) → reading.event ≡ Ok e → IsReady s f → WasSent g s m f i e (Ok (answer.Duplicate k))
       → Passes g (place s f o) (place m i o) reading
   passes_duplicate s m f i e k o reading event ready was =
       let is = is_unchanged s m f i e (Ok (answer.Duplicate k)) was in
@@ -268,10 +268,10 @@ module _ {D : Type 0} (g : disk.Ghosts D) where
       let few = few_pending s f ready in
       let told_so = by_verdict s.is_broken (verdict (standing_of c) n) (length s.pending) (Ok (answer.Duplicate k)) ready.works was.done.answer in
       let same : m ≡ s = was.done.untouched (not_taken s n k told_so few) in
-      let sets : m.detector.sets ≡ s.detector.sets = ap (λ (x : Shown D). x.detector.sets) same in
-      let content : live g m ≡ c = ap (λ (x : Shown D). live g x) same in
+      let sets : m.detector.sets ≡ s.detector.sets = ap (λ (x : ShownStore D). x.detector.sets) same in
+      let content : live g m ≡ c = ap (λ (x : ShownStore D). live g x) same in
       record {
-        goes = unchanged_goes s m f i e (Ok (answer.Duplicate k)) o refl refl (ap (λ (x : Shown D). x.is_broken) same) ready was;
+        goes = unchanged_goes s m f i e (Ok (answer.Duplicate k)) o refl refl (ap (λ (x : ShownStore D). x.is_broken) same) ready was;
         number = is.number;
         leads = λ honest later last end h.
             subst (λ x. IsOffered x f.source s.detector.sets c f.number reading.line (λ t d. FeedsTo f.source later t d (f.number + 1) last end) last end) (sym event)
@@ -326,7 +326,7 @@ module _ {D : Type 0} (g : disk.Ghosts D) where
   none_told refusal.DeviceFault not = absurd (not (inr (inl refl)))
   none_told _ not = refl
 
-  pub ends_refused : (s m : Shown D) (f i : Fed) (e : Event) (r : Refusal) (o : List WriteCall) (reading : Reading) (given : Result (Option Ending) Refusal) (end : Ending)
+  pub ends_refused : (s m : ShownStore D) (f i : Fed) (e : Event) (r : Refusal) (o : List WriteCall) (reading : Reading) (given : Result (Option Ending) Refusal) (end : Ending)
       → reading.event ≡ Ok e → IsReady s f → WasSent g s m f i e (Err r) → EndsLine reading.line r given → given ≡ Ok (Some end) → EndsAt g (place s f o) (place m i o) reading end
   ends_refused s m f i e r o reading given end event ready was stops given_end =
       ⊎_elim
@@ -334,7 +334,7 @@ module _ {D : Type 0} (g : disk.Ghosts D) where
       (λ other. ends_so s m f i e r o reading end event ready was other.0 (ended_is (sym other.1 ∙ given_end)))
       stops
     where
-      ends_so : (s m : Shown D) (f i : Fed) (e : Event) (r : Refusal) (o : List WriteCall) (reading : Reading) (end : Ending)
+      ends_so : (s m : ShownStore D) (f i : Fed) (e : Event) (r : Refusal) (o : List WriteCall) (reading : Reading) (end : Ending)
           → reading.event ≡ Ok e → IsReady s f → WasSent g s m f i e (Err r) → (IsEventFault r → ⊥) → Refused reading.line r ≡ end → EndsAt g (place s f o) (place m i o) reading end
       ends_so s m f i e r o reading end event ready was not is =
           let c = live g s in
@@ -352,7 +352,7 @@ module _ {D : Type 0} (g : disk.Ghosts D) where
           }
 
   -- what is told of a refusal that ends feeding by a fault
-  pub fault_counted : (s m : Shown D) (f i : Fed) (e : Event) (o : List WriteCall) (line : ℕ) (r : Refusal) (given : Result (Option Ending) Refusal) → WasSent g s m f i e (Err r) → EndsLine line r given
+  pub fault_counted : (s m : ShownStore D) (f i : Fed) (e : Event) (o : List WriteCall) (line : ℕ) (r : Refusal) (given : Result (Option Ending) Refusal) → WasSent g s m f i e (Err r) → EndsLine line r given
       → failed_calls g m.devices o ≡ told given + failed_calls g s.devices o
   fault_counted s m f i e o line r given was stops =
       ⊎_elim
@@ -377,7 +377,7 @@ module _ {D : Type 0} (g : disk.Ghosts D) where
     ready = second.ready;
   }
 
-  pub ends_bad : (s : Shown D) (f : Fed) (o : List WriteCall) (reading : Reading) (fault : LineFault) → reading.event ≡ Err fault → IsReady s f → EndsAt g (place s f o) (place s f o) reading (Bad reading.line)
+  pub ends_bad : (s : ShownStore D) (f : Fed) (o : List WriteCall) (reading : Reading) (fault : LineFault) → reading.event ≡ Err fault → IsReady s f → EndsAt g (place s f o) (place s f o) reading (Bad reading.line)
   ends_bad s f o reading fault event ready = record {
     goes = stays_there (place s f o) ready;
     leads = λ honest later.
@@ -386,7 +386,7 @@ module _ {D : Type 0} (g : disk.Ghosts D) where
   }
 
   -- an event was accepted, and its commit or the line of it was broken off
-  pub breaks_accepted : (s m : Shown D) (f i : Fed) (e : Event) (o p : List WriteCall) (reading : Reading) → reading.event ≡ Ok e → IsReady s f → WasSent g s m f i e (Ok answer.Accepted)
+  pub breaks_accepted : (s m : ShownStore D) (f i : Fed) (e : Event) (o p : List WriteCall) (reading : Reading) → reading.event ≡ Ok e → IsReady s f → WasSent g s m f i e (Ok answer.Accepted)
       → IsPrintedNow o p (if nat_eq ((i.accepted + 1) % 256) 0 then ack_text (live g m).events else []) → BreaksAt g (place s f o) reading p
   breaks_accepted s m f i e o p reading event ready was now honest later last end room l first front events h =
       let c = live g s in
@@ -412,5 +412,5 @@ module _ {D : Type 0} (g : disk.Ghosts D) where
       (printed_front_on first o p (front ++ acks_text events f.accepted) line h.printed now))
 
   -- nothing was written since
-  pub breaks_still : (s : Shown D) (f : Fed) (o : List WriteCall) (reading : Reading) → BreaksAt g (place s f o) reading o
+  pub breaks_still : (s : ShownStore D) (f : Fed) (o : List WriteCall) (reading : Reading) → BreaksAt g (place s f o) reading o
   breaks_still s f o reading honest later last end room l = printed_grown g (place s f o) last (feeds_grow f.source (reading ∷ later) s.detector.sets (live g s) f.number last end l)

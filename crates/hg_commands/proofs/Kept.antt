@@ -16,7 +16,7 @@ use Rattle.hg_contents.proofs.Following.{followed_append, followed_events}
 use Rattle.hg_store.specs.declared.devices.Devices.{Devices}
 use Rattle.hg_store.specs.declared.steps.StepFault.{StepFault}
 use Rattle.hg_store.specs.Images.{EachImage, Recovers, read_of}
-use Rattle.hg_store.specs.Shown.{Shown, live, saved}
+use Rattle.hg_store.specs.Shown.{ShownStore, live, saved}
 use Rattle.hg_store.specs.Steps.{CommitDone, ContentOffered, OfferDone, if_accepted}
 use Rattle.hg_store.specs.Store.{Backs, IsFresh}
 use Rattle.hg_store.proofs.Moments.{all_still}
@@ -74,11 +74,11 @@ module _ {D : Type 0} (g : disk.Ghosts D) where
     along_more first last more events start mids mid leads h.1,
   )
 
-  pub keeps_then : (a b c : Shown D) (x y z : List WriteCall) (k l m : List (Instant D)) → KeepsOn g a x k b y l → KeepsOn g b y l c z m → KeepsOn g a x k c z m
+  pub keeps_then : (a b c : ShownStore D) (x y z : List WriteCall) (k l m : List (Instant D)) → KeepsOn g a x k b y l → KeepsOn g b y l c z m → KeepsOn g a x k c z m
   keeps_then a b c x y z k l m first second = λ start content honest h. second start content honest (first start content honest h)
 
   -- what is kept while the devices are not called, and nothing is written but what acknowledges durable events
-  standing : (s : Shown D) (calls : List WriteCall) (start newest : Instant D) (first : Content) (front : List Named) → Backs g s → followed first front ≡ Some (saved g s) → WereGiven (AcksAtMost (saved g s).events) start.calls calls
+  standing : (s : ShownStore D) (calls : List WriteCall) (start newest : Instant D) (first : Content) (front : List Named) → Backs g s → followed first front ≡ Some (saved g s) → WereGiven (AcksAtMost (saved g s).events) start.calls calls
       → s.devices ≡ newest.devices → (later : List WriteCall) × (calls ≡ later ++ newest.calls) → IsKeptBetween g first (live g s) start.calls newest (instant s.devices calls)
   standing s calls start newest first front backs before acked still goes =
       let c = live g s in
@@ -95,7 +95,7 @@ module _ {D : Type 0} (g : disk.Ghosts D) where
 
   -- One step was made, and its moment was kept: the live content and the durable one were led on by events, and each image during the step stands for
   -- those that the store had before it.
-  pub keeps_step : (s m : Shown D) (calls : List WriteCall) (moments later : List (Instant D)) (moment : Instant D) (doubt : Bool) (events more : List Named)
+  pub keeps_step : (s m : ShownStore D) (calls : List WriteCall) (moments later : List (Instant D)) (moment : Instant D) (doubt : Bool) (events more : List Named)
       → (IsTrue g.is_honest → followed (live g s) events ≡ Some (live g m)) → (IsTrue g.is_honest → Backs g s → followed (saved g s) more ≡ Some (saved g m))
       → (IsTrue g.is_honest → Backs g s → EachImage g s.devices m.devices (Stands (saved g s) (live g s) doubt)) → (IsTrue g.is_honest → Backs g m)
       → later ≡ moment ∷ moments → moment ≡ instant m.devices calls → KeepsOn g s calls moments m calls later
@@ -132,33 +132,33 @@ module _ {D : Type 0} (g : disk.Ghosts D) where
       }
 
   -- an event was offered
-  pub keeps_offer : (s m : Shown D) (calls : List WriteCall) (moments later : List (Instant D)) (moment : Instant D) (n : Named) (r : Result Answer Refusal) → OfferDone g s m n r → (IsTrue g.is_honest → ContentOffered g s m n r)
+  pub keeps_offer : (s m : ShownStore D) (calls : List WriteCall) (moments later : List (Instant D)) (moment : Instant D) (n : Named) (r : Result Answer Refusal) → OfferDone g s m n r → (IsTrue g.is_honest → ContentOffered g s m n r)
       → (IsTrue g.is_honest → EachImage g s.devices m.devices (Stands (saved g s) (live g s) s.in_doubt)) → (IsTrue g.is_honest → Backs g m) → later ≡ moment ∷ moments → moment ≡ instant m.devices calls
       → KeepsOn g s calls moments m calls later
   keeps_offer s m calls moments later moment n r done content images backs pushed is =
       keeps_step s m calls moments later moment s.in_doubt (if_accepted n r) [] (λ honest. (content honest).leads)
-      (λ honest b. ap (λ (d : detect.Shown (pool.Shown D)). Some (detect.content (pools.live g) d)) (sym done.same.committed)) (λ honest b. images honest) backs pushed is
+      (λ honest b. ap (λ (d : detect.ShownDetector (pool.ShownPool D)). Some (detect.content (pools.live g) d)) (sym done.same.committed)) (λ honest b. images honest) backs pushed is
 
   -- a commit was made, or failed
-  pub keeps_commit : (s m : Shown D) (calls : List WriteCall) (moments later : List (Instant D)) (moment : Instant D) (r : Result ℕ Refusal) → CommitDone g s m r
+  pub keeps_commit : (s m : ShownStore D) (calls : List WriteCall) (moments later : List (Instant D)) (moment : Instant D) (r : Result ℕ Refusal) → CommitDone g s m r
       → (IsTrue g.is_honest → EachImage g s.devices m.devices (Stands (saved g s) (live g s) true)) → (IsTrue g.is_honest → Backs g m) → later ≡ moment ∷ moments → moment ≡ instant m.devices calls
       → KeepsOn g s calls moments m calls later
   keeps_commit s m calls moments later moment (Ok count) done images backs pushed is =
-      keeps_step s m calls moments later moment true [] s.pending (λ honest. ap (λ (d : detect.Shown (pool.Shown D)). Some (detect.content (pools.live g) d)) (sym done.detector))
-      (λ honest b. b.live ∙ ap (λ (d : detect.Shown (pool.Shown D)). Some (detect.content (pools.live g) d)) (sym done.answer.committed)) (λ honest b. images honest) backs pushed is
+      keeps_step s m calls moments later moment true [] s.pending (λ honest. ap (λ (d : detect.ShownDetector (pool.ShownPool D)). Some (detect.content (pools.live g) d)) (sym done.detector))
+      (λ honest b. b.live ∙ ap (λ (d : detect.ShownDetector (pool.ShownPool D)). Some (detect.content (pools.live g) d)) (sym done.answer.committed)) (λ honest b. images honest) backs pushed is
   keeps_commit s m calls moments later moment (Err refusal) done images backs pushed is =
-      keeps_step s m calls moments later moment true [] [] (λ honest. ap (λ (d : detect.Shown (pool.Shown D)). Some (detect.content (pools.live g) d)) (sym done.detector))
-      (λ honest b. ap (λ (d : detect.Shown (pool.Shown D)). Some (detect.content (pools.live g) d)) (sym done.answer.committed)) (λ honest b. images honest) backs pushed is
+      keeps_step s m calls moments later moment true [] [] (λ honest. ap (λ (d : detect.ShownDetector (pool.ShownPool D)). Some (detect.content (pools.live g) d)) (sym done.detector))
+      (λ honest b. ap (λ (d : detect.ShownDetector (pool.ShownPool D)). Some (detect.content (pools.live g) d)) (sym done.answer.committed)) (λ honest b. images honest) backs pushed is
 
   -- a step of a checkpoint was made, or refused
-  pub keeps_stepped : {T : Type 0} (s m : Shown D) (calls : List WriteCall) (moments later : List (Instant D)) (moment : Instant D) (result : Result T StepFault) → WasStepped g s m result
+  pub keeps_stepped : {T : Type 0} (s m : ShownStore D) (calls : List WriteCall) (moments later : List (Instant D)) (moment : Instant D) (result : Result T StepFault) → WasStepped g s m result
       → (IsTrue g.is_honest → Backs g m) → later ≡ moment ∷ moments → moment ≡ instant m.devices calls → KeepsOn g s calls moments m calls later
   keeps_stepped s m calls moments later moment result stepped backs pushed is =
       keeps_step s m calls moments later moment s.in_doubt [] [] (λ honest. ap (λ (c : Content). Some c) (sym (stepped.live honest)))
-      (λ honest b. ap (λ (d : detect.Shown (pool.Shown D)). Some (detect.content (pools.live g) d)) (sym stepped.committed)) (λ honest b. stepped.images honest b) backs pushed is
+      (λ honest b. ap (λ (d : detect.ShownDetector (pool.ShownPool D)). Some (detect.content (pools.live g) d)) (sym stepped.committed)) (λ honest b. stepped.images honest b) backs pushed is
 
   -- a text was printed that acknowledges no more than what is durable
-  pub keeps_printed : (s : Shown D) (calls new : List WriteCall) (moments : List (Instant D)) (text : List ℕ) → IsPrintedNow calls new text
+  pub keeps_printed : (s : ShownStore D) (calls new : List WriteCall) (moments : List (Instant D)) (text : List ℕ) → IsPrintedNow calls new text
       → (IsTrue g.is_honest → Backs g s → AcksAtMost (saved g s).events text) → KeepsOn g s calls moments s new moments
   keeps_printed s calls new moments text printed says = λ start first honest h.
       let acked = given_printed (AcksAtMost (saved g s).events) start.calls calls new text printed (says honest h.backs) (inr (inl refl)) h.acked in
@@ -178,15 +178,15 @@ module _ {D : Type 0} (g : disk.Ghosts D) where
       }
 
   -- what a commit counts is durable
-  pub ack_enough : (s m : Shown D) (count : ℕ) → CommitDone g s m (Ok count) → AcksAtMost (saved g m).events (ack_text count)
+  pub ack_enough : (s m : ShownStore D) (count : ℕ) → CommitDone g s m (Ok count) → AcksAtMost (saved g m).events (ack_text count)
   ack_enough s m count done = inl (
     count,
-    omega (arith, done.answer.answer, ap (λ (d : detect.Shown (pool.Shown D)). (detect.content (pools.live g) d).events) done.answer.committed),
+    omega (arith, done.answer.answer, ap (λ (d : detect.ShownDetector (pool.ShownPool D)). (detect.content (pools.live g) d).events) done.answer.committed),
     refl,
   )
 
   -- a store that was just opened
-  fresh_kept : (old : Devices D) (s : Shown D) (first : Content) (calls : List WriteCall) → Recovers g old s.devices → IsFresh g s first
+  fresh_kept : (old : Devices D) (s : ShownStore D) (first : Content) (calls : List WriteCall) → Recovers g old s.devices → IsFresh g s first
       → IsKept g (instant old calls) first (instant s.devices calls ∷ []) s calls
   fresh_kept old s first calls recovery fresh =
       let none = given_none (AcksAtMost (saved g s).events) calls in
@@ -204,7 +204,7 @@ module _ {D : Type 0} (g : disk.Ghosts D) where
       }
 
   -- a store was opened and fed
-  pub fed_is_kept : (old new : Devices D) (s u : Shown D) (before after : List WriteCall) (none opening moments : List (Instant D)) (moment : Instant D) → Recovers g old s.devices
+  pub fed_is_kept : (old new : Devices D) (s u : ShownStore D) (before after : List WriteCall) (none opening moments : List (Instant D)) (moment : Instant D) → Recovers g old s.devices
       → ((c : Content) × HasContent (read_of g old) c × IsFresh g s c) → IsTrue g.is_honest → KeepsOn g s before opening u after moments → opening ≡ moment ∷ none → moment ≡ instant s.devices before → none ≡ [] → new ≡ u.devices
       → EachAckIsKept g (instant old before) moments (instant new after)
   fed_is_kept old new s u before after none opening moments moment recovery began honest keeps pushed first empty is =

@@ -11,7 +11,7 @@ use Rattle.hg_contents.specs.Images.{HasContent, Image}
 use Rattle.hg_contents.specs.Stores.{IsLeft}
 use Rattle.hg_store.specs.declared.devices.Devices.{Devices}
 use Rattle.hg_store.specs.Images.{EachImage, states_of}
-use Rattle.hg_store.specs.Shown.{Shown, live, saved}
+use Rattle.hg_store.specs.Shown.{ShownStore, live, saved}
 use Rattle.hg_store.specs.Store.{IsFresh}
 use Rattle.hg_store.proofs.Moments.{all_still}
 use Rattle.hg_commands.specs.Creating.{CreatedIsKept, IsMadeBetween, IsOfNone}
@@ -35,19 +35,19 @@ module _ {D : Type 0} (g : disk.Ghosts D) where
   certain d live in_doubt image sure (inr b) = absurd (false≢true (sym sure ∙ b.0))
 
   -- each image of a fresh store has its content
-  pub fresh_is_left : (s : Shown D) (c : Content) (new : Devices D) (image : Image) → IsFresh g s c → new ≡ s.devices → IsLeft (states_of g new) image → HasContent image c
+  pub fresh_is_left : (s : ShownStore D) (c : Content) (new : Devices D) (image : Image) → IsFresh g s c → new ≡ s.devices → IsLeft (states_of g new) image → HasContent image c
   fresh_is_left s c new image fresh is left =
       subst (λ (d : Content). HasContent image d) fresh.durable
       (certain (saved g s) (live g s) s.in_doubt image fresh.idle.certain (fresh.backs.stands image (subst (λ (d : Devices D). IsLeft (states_of g d) image) is left)))
 
   -- the devices of a store that was just made were not called
-  fresh_still : (s : Shown D) (new : Devices D) → IsFresh g s empty_content → new ≡ s.devices → EachImage g s.devices new (λ image. HasContent image empty_content)
+  fresh_still : (s : ShownStore D) (new : Devices D) → IsFresh g s empty_content → new ≡ s.devices → EachImage g s.devices new (λ image. HasContent image empty_content)
   fresh_still s new fresh is =
       subst (λ d. EachImage g s.devices d (λ image. HasContent image empty_content)) (sym is)
       (all_still g s.devices (λ image. HasContent image empty_content) (λ image left. fresh_is_left s empty_content s.devices image fresh refl left))
 
   -- a store was made; that was written, or its writing failed
-  pub one_is_made : (old new : Devices D) (s : Shown D) (before after : List WriteCall) (none one two : List (Instant D)) (first second : Instant D) → IsFresh g s empty_content
+  pub one_is_made : (old new : Devices D) (s : ShownStore D) (before after : List WriteCall) (none one two : List (Instant D)) (first second : Instant D) → IsFresh g s empty_content
       → none ≡ [] → one ≡ first ∷ none → first ≡ instant s.devices before → two ≡ second ∷ one → second ≡ instant s.devices after
       → (failed_writes before < failed_writes after) ⊎ (new ≡ s.devices) → CreatedIsKept g (instant old before) two (instant new after)
   one_is_made old new s before after none one two first second fresh empty pushed is pushed_again is_again ends =

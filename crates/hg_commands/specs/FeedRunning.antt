@@ -5,6 +5,7 @@ use Rattle.hg_model.specs.declared.verdict.Refusal.TheVariants.{Broken, Damaged,
 use Rattle.hg_model.specs.declared.event.Event.{Event}
 use Rattle.hg_model.specs.Contents.{Content}
 use Rattle.hg_sets.specs.Interning.{Table}
+use Rattle.hg_sets.specs.declared.table.TheConstants.{MOST_SETS}
 use Rattle.hg_detect.specs.declared.detector.Answer.{Answer}
 use Rattle.hg_streams.specs.declared.call.ReadCall.{ReadCall}
 use Rattle.hg_streams.specs.declared.call.ReadCall.TheVariants.{Gave}
@@ -23,7 +24,7 @@ use Rattle.hg_store.specs.declared.steps.StepFault.TheVariants as step
 use Rattle.hg_store.specs.declared.steps.StepFault.TheVariants.{WrongPhase}
 use Rattle.hg_store.specs.Images.{EachImage, HasOpened, failures_of, read_of, states_of}
 use Rattle.hg_store.specs.Recovering.{HasTable}
-use Rattle.hg_store.specs.Shown.{Shown, live, saved}
+use Rattle.hg_store.specs.Shown.{ShownStore, live, saved}
 use Rattle.hg_store.specs.Steps.{ContentOffered, OfferDone}
 use Rattle.hg_store.specs.Store.{Backs}
 use Rattle.hg_wire.specs.declared.reader.Reading.{Reading}
@@ -39,11 +40,11 @@ use Rattle.hg_commands.specs.Storing.{HasFeedCause, failed_calls}
 
 -- a store, what was fed to it, and the output
 pub record Place (D : Type 0) : Type 0 where
-  pub store : Shown D
+  pub store : ShownStore D
   pub fed : Fed
   pub output : List WriteCall
 
-abbrev pub place : {D : Type 0} → Shown D → Fed → List WriteCall → Place D
+abbrev pub place : {D : Type 0} → ShownStore D → Fed → List WriteCall → Place D
 place store fed output = record { store = store; fed = fed; output = output }
 
 -- the content with all accepted events
@@ -55,7 +56,7 @@ abbrev pub table_at : {D : Type 0} → Place D → Table
 table_at p = p.store.detector.sets
 
 -- The store works, and those of the accepted events are pending that came since the last 256th of them.
-pub record IsReady {D : Type 0} (store : Shown D) (fed : Fed) : Type 0 where
+pub record IsReady {D : Type 0} (store : ShownStore D) (fed : Fed) : Type 0 where
   pub works : store.is_broken ≡ false
   pub pending : length store.pending ≡ fed.accepted % 256
   pub few : fed.accepted ≤ fed.number
@@ -169,7 +170,7 @@ module _ {D : Type 0} (g : disk.Ghosts D) where
   abbrev pub WroteFeedFront : ℕ → Devices D → List ReadCall → List ReadCall → List WriteCall → List WriteCall → Type 0
   WroteFeedFront source old reads_old reads_new calls_old calls_new =
       (calls_new ≡ calls_old)
-      ⊎ (IsTrue g.is_honest → (table : Table) × ((first : Content) × (HasContent (read_of g old) first × (HasTable 262144 (read_of g old) first table
+      ⊎ (IsTrue g.is_honest → (table : Table) × ((first : Content) × (HasContent (read_of g old) first × (HasTable MOST_SETS (read_of g old) first table
       × WroteFrontFrom source table first reads_old reads_new calls_old calls_new))))
 
   -- A feeding that ended by a fault: it had a cause, it was told, or that failed too, and what was written before is a front of what was due.
@@ -178,7 +179,7 @@ module _ {D : Type 0} (g : disk.Ghosts D) where
       (r : Refusal) × (HasFeedCause g old new reads_old reads_new calls_old calls_new r × (IsTold faults_old faults_new r × WroteFeedFront source old reads_old reads_new calls_old calls_new))
 
   -- A commit was answered Ok.
-  pub record WasCommitted (old new : Shown D) : Type 0 where
+  pub record WasCommitted (old new : ShownStore D) : Type 0 where
     pub works : new.is_broken ≡ false
     pub none : new.pending ≡ []
     pub detector : new.detector ≡ old.detector
@@ -186,7 +187,7 @@ module _ {D : Type 0} (g : disk.Ghosts D) where
     pub failures : failures_of g new.devices ≡ failures_of g old.devices
 
   -- An event was sent to a store.
-  pub record WasSent (old new : Shown D) (before now : Fed) (e : Event) (r : Result Answer Refusal) : Type 0 where
+  pub record WasSent (old new : ShownStore D) (before now : Fed) (e : Event) (r : Result Answer Refusal) : Type 0 where
     pub done : OfferDone g old new (sent before.source before.number e) r
     pub content : IsTrue g.is_honest → ContentOffered g old new (sent before.source before.number e) r
     pub fed : now ≡ record before { number = before.number + 1 }
@@ -202,7 +203,7 @@ module _ {D : Type 0} (g : disk.Ghosts D) where
     pub printed : Took old.output new.output (if nat_eq ((old.fed.accepted + 1) % 256) 0 then ack_text (content_at g old).events else [])
 
   -- The store did one step of a checkpoint, or refused it: the events stay, in memory and in each image, and a call failed where that is answered.
-  pub record WasStepped {T : Type 0} (old new : Shown D) (result : Result T StepFault) : Type 0 where
+  pub record WasStepped {T : Type 0} (old new : ShownStore D) (result : Result T StepFault) : Type 0 where
     pub images : IsTrue g.is_honest → Backs g old → EachImage g old.devices new.devices (Stands (saved g old) (live g old) old.in_doubt)
     pub live : IsTrue g.is_honest → live g new ≡ live g old
     pub committed : new.committed ≡ old.committed
@@ -210,7 +211,7 @@ module _ {D : Type 0} (g : disk.Ghosts D) where
     pub failures : failures_of g new.devices ≡ failed_by result + failures_of g old.devices
 
   -- One step of a checkpoint was made, or refused: the events stay, and a call failed where that is told.
-  pub record StaysFed {T : Type 0} (old new : Shown D) (result : Result T Refusal) : Type 0 where
+  pub record StaysFed {T : Type 0} (old new : ShownStore D) (result : Result T Refusal) : Type 0 where
     pub live : IsTrue g.is_honest → live g new ≡ live g old
     pub committed : new.committed ≡ old.committed
     pub pending : new.pending ≡ old.pending
@@ -223,7 +224,7 @@ module _ {D : Type 0} (g : disk.Ghosts D) where
   WasMade false devices c checkpoint = checkpoint ≡ None
 
   -- The checkpoint that was due was made, and told; or none was due.
-  pub record WasCheckpointed (is_made : Bool) (old new : Shown D) (before after : List WriteCall) : Type 0 where
+  pub record WasCheckpointed (is_made : Bool) (old new : ShownStore D) (before after : List WriteCall) : Type 0 where
     pub checkpoint : Option ℕ
     pub made : WasMade is_made new.devices (live g old) checkpoint
     pub printed : Took before after (checkpoint_text checkpoint)
@@ -233,7 +234,7 @@ module _ {D : Type 0} (g : disk.Ghosts D) where
     pub failures : failures_of g new.devices ≡ failures_of g old.devices
 
   -- A store was fed all of an input, or up to the line that ended it.
-  pub record WasFed (reads later : List ReadCall) (source : ℕ) (asked : Bool) (old new : Shown D) (before after : List WriteCall) (end : Ending) : Type 0 where
+  pub record WasFed (reads later : List ReadCall) (source : ℕ) (asked : Bool) (old new : ShownStore D) (before after : List WriteCall) (end : Ending) : Type 0 where
     pub checkpoint : Option ℕ
     pub feeds : Feeds reads later source old.detector.sets (live g old) (live g new) end
     pub printed : IsTrue g.is_honest → Took before after (feed_text source (live g old) (live g new) checkpoint end)
@@ -256,5 +257,5 @@ module _ {D : Type 0} (g : disk.Ghosts D) where
     pub printed : IsTrue g.is_honest → Took before after (feed_text source first last checkpoint end)
     pub made : WasMade (is_due asked end) new last checkpoint
     pub failures : failed_calls g new after ≡ failed_calls g old before
-    pub began : IsTrue g.is_honest → HasContent (read_of g old) first × HasTable 262144 (read_of g old) first table
+    pub began : IsTrue g.is_honest → HasContent (read_of g old) first × HasTable MOST_SETS (read_of g old) first table
     pub ended : IsTrue g.is_honest → (image : Image) → IsLeft (states_of g new) image → HasContent image last

@@ -7,7 +7,7 @@ use Rattle.hg_model.specs.Change.{followed}
 use Rattle.hg_disk.specs.declared.disk.Disk as disk
 use Rattle.hg_contents.specs.Images.{HasContent, Image}
 use Rattle.hg_store.specs.Images.{EachImage, IsOn, Recovers, read_of}
-use Rattle.hg_store.specs.Shown.{Shown, live, saved}
+use Rattle.hg_store.specs.Shown.{ShownStore, live, saved}
 use Rattle.hg_store.specs.Store.{Backs}
 use Rattle.hg_check.specs.declared.checker.Ending.{Ending}
 use Rattle.hg_commands.specs.Feeding.{ack_text, feed_end_text}
@@ -56,7 +56,7 @@ module _ {D : Type 0} (g : disk.Ghosts D) where
 
   -- While a store that was opened on devices with the first content is fed: its durable content follows from the first one by
   -- accepted events and has each acknowledged one; the devices are those of the newest moment; and all is kept so far.
-  pub record IsKept (start : Instant D) (first : Content) (moments : List (Instant D)) (s : Shown D) (now : List WriteCall) : Type 0 where
+  pub record IsKept (start : Instant D) (first : Content) (moments : List (Instant D)) (s : ShownStore D) (now : List WriteCall) : Type 0 where
     pub backs : Backs g s
     pub front : List Named
     pub before : followed first front ≡ Some (saved g s)
@@ -68,6 +68,6 @@ module _ {D : Type 0} (g : disk.Ghosts D) where
     pub along : IsKeptAlong first (live g s) start (newest ∷ earlier) (instant s.devices now)
 
   -- What is kept stays kept from one moment to another.
-  abbrev pub KeepsOn : Shown D → List WriteCall → List (Instant D) → Shown D → List WriteCall → List (Instant D) → Type 0
+  abbrev pub KeepsOn : ShownStore D → List WriteCall → List (Instant D) → ShownStore D → List WriteCall → List (Instant D) → Type 0
   KeepsOn old before earlier new after later =
       (start : Instant D) (first : Content) → IsTrue g.is_honest → IsKept start first earlier old before → IsKept start first later new after

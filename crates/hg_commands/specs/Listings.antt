@@ -7,7 +7,7 @@ use Rattle.hg_disk.specs.declared.disk.Disk as disk
 use Rattle.hg_contents.specs.Images.{HasContent}
 use Rattle.hg_store.specs.declared.devices.Devices.{Devices}
 use Rattle.hg_store.specs.Images.{read_of}
-use Rattle.hg_store.specs.Shown.{Shown, live}
+use Rattle.hg_store.specs.Shown.{ShownStore, live}
 use Rattle.hg_streams.specs.Shown.{Outgoing}
 use Rattle.hg_check.specs.Holding.{HoldsOrWrites, WritesFront}
 use Rattle.hg_check.specs.Printing.{IsDue, line_text, reports_text, segments_text}
@@ -34,15 +34,15 @@ module _ {V Z T E : Type 0} where
 
 module _ {D V : Type 0} (g : disk.Ghosts D) where
   -- The listing of a store was printed.
-  abbrev pub ListsStore : Listing → Shown D → Outgoing V → Outgoing V → Type 0
+  abbrev pub ListsStore : Listing → ShownStore D → Outgoing V → Outgoing V → Type 0
   ListsStore listing s before after = Took before.calls after.calls (listing_text listing (live g s))
 
   -- It was printed but for what is still held of it.
-  abbrev pub ListsButHeld : {Z : Type 0} → Listing → Shown D → Outgoing V → Outgoing V → Vec ℕ Z → Type 0
+  abbrev pub ListsButHeld : {Z : Type 0} → Listing → ShownStore D → Outgoing V → Outgoing V → Vec ℕ Z → Type 0
   ListsButHeld listing s before after held = IsDue before.calls after.calls held.items [] (listing_text listing (live g s))
 
   -- A front of it was printed.
-  abbrev pub ListsFront : Listing → Shown D → Outgoing V → Outgoing V → Type 0
+  abbrev pub ListsFront : Listing → ShownStore D → Outgoing V → Outgoing V → Type 0
   ListsFront listing s before after = TookFront before.calls after.calls (listing_text listing (live g s))
 
   -- Honest devices have a content, of which the listing was printed.

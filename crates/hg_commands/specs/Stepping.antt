@@ -5,7 +5,7 @@ use Rattle.hg_streams.specs.Shown.{Incoming, Outgoing}
 use Rattle.hg_disk.specs.declared.disk.Disk as disk
 use Rattle.hg_store.specs.declared.devices.Devices.{Devices}
 use Rattle.hg_store.specs.Images.{HasOpened}
-use Rattle.hg_store.specs.Shown.{Shown, captured, live}
+use Rattle.hg_store.specs.Shown.{ShownStore, captured, live}
 use Rattle.hg_wire.specs.declared.reader.Reading.{Reading}
 use Rattle.hg_check.specs.declared.checker.Ending.{Ending}
 use Rattle.hg_check.specs.Printing.{status_of}
@@ -25,7 +25,7 @@ abbrev pub at : {D W V : Type 0} → Feeding D W → Outgoing V → Place D
 at f output = place f.store f.fed output.calls
 
 -- the last line of a feeding that leaves a store so
-abbrev pub end_of : {D : Type 0} → disk.Ghosts D → Shown D → Ending → List ℕ
+abbrev pub end_of : {D : Type 0} → disk.Ghosts D → ShownStore D → Ending → List ℕ
 end_of g s end = feed_end_text (live g s) end
 
 -- what recovering a store and feeding it answers: how it ended, the devices, and the moments since it is open
@@ -46,7 +46,7 @@ module _ {D W V : Type 0} (g : disk.Ghosts D) where
   StaysKept old before new after = KeepsOn g old.store before.calls old.moments new.store after.calls new.moments
 
   -- What was kept as the store began a step stays kept behind it. Nothing was written meanwhile.
-  abbrev pub KeepsStep : Shown D → Feeding D W → Outgoing V → Feeding D W → Type 0
+  abbrev pub KeepsStep : ShownStore D → Feeding D W → Outgoing V → Feeding D W → Type 0
   KeepsStep began old output new = KeepsOn g began output.calls old.moments new.store output.calls new.moments
 
   -- An accepted event was counted.

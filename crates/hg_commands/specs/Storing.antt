@@ -9,7 +9,7 @@ use Rattle.hg_contents.specs.Images.{HasContent}
 use Rattle.hg_store.specs.declared.devices.Devices.{Devices}
 use Rattle.hg_store.specs.Images.{failures_of, read_of}
 use Rattle.hg_store.specs.Recovering.{HasFewSets}
-use Rattle.hg_store.specs.Shown.{Shown, live}
+use Rattle.hg_store.specs.Shown.{ShownStore, live}
 use Rattle.hg_streams.specs.declared.call.ReadCall.{ReadCall}
 use Rattle.hg_streams.specs.declared.call.WriteCall.{WriteCall}
 use Rattle.hg_streams.specs.Calls.{failed_reads, failed_writes}
@@ -17,6 +17,7 @@ use Rattle.hg_streams.specs.Told.{told_refusal}
 use Rattle.hg_wire.specs.Reports.{end_line}
 use Rattle.hg_check.specs.Printing.{line_text}
 use Rattle.hg_check.specs.Streaming.{IsStreamFault}
+use Rattle.hg_sets.specs.declared.table.TheConstants.{MOST_SETS}
 
 -- a line of a word and a number
 abbrev pub number_text : List ℕ → ℕ → List ℕ
@@ -38,7 +39,7 @@ IsFeedFault r = IsStreamFault r ⊎ ((r ≡ Damaged) ⊎ ((r ≡ Broken) ⊎ ((r
 
 module _ {D : Type 0} (g : disk.Ghosts D) where
   -- the same of a store, with its line feed
-  abbrev pub end_text : Shown D → List ℕ
+  abbrev pub end_text : ShownStore D → List ℕ
   end_text s = line_text (store_end_line (live g s))
 
   -- A refusal of a store's devices that is true: the bytes of honest devices have no content, or the table of sets is too
@@ -46,7 +47,7 @@ module _ {D : Type 0} (g : disk.Ghosts D) where
   abbrev pub IsTrueOf : Devices D → Refusal → Type 0
   IsTrueOf old r =
       ((r ≡ Damaged) × (IsTrue g.is_honest → (c : Content) → ¬ HasContent (read_of g old) c))
-      ⊎ (((r ≡ FullSets) × (IsTrue g.is_honest → HasFewSets 262144 (read_of g old)))
+      ⊎ (((r ≡ FullSets) × (IsTrue g.is_honest → HasFewSets MOST_SETS (read_of g old)))
       ⊎ ((r ≡ FullSlots) ⊎ ((r ≡ DeviceFault) ⊎ (r ≡ OutOfMemory))))
 
   -- No call of the devices failed.

@@ -9,6 +9,7 @@ ghost use Rattle.hg_commands.specs.Storing.{IsTrueOf, NoCallFailed};
 
 use hg_disk::Disk;
 use hg_model::verdict::Refusal;
+use hg_sets::MOST_SETS;
 use hg_store::devices::{Caps, Devices};
 use hg_store::store::Store;
 use std::alloc::Global;
@@ -23,7 +24,7 @@ pub fn open_store<D: Disk>(
     requires { IsFrameCount frames }
     ensures idle { IfOk result IsIdle }
     ensures content { IsTrue D.is_honest → IfOk result (IsRecovered ⟦<D as Disk>⟧ devices) }
-    ensures sets { IsTrue D.is_honest → IfOk result (HasItsTable ⟦<D as Disk>⟧ 262144 devices) }
+    ensures sets { IsTrue D.is_honest → IfOk result (HasItsTable ⟦<D as Disk>⟧ MOST_SETS devices) }
     ensures device { IfOk result (λ store. NoCallFailed ⟦<D as Disk>⟧ devices store.devices) }
     ensures cause { IfErr result (λ e. IsTrueOf ⟦<D as Disk>⟧ devices e.0) }
     ensures fault { IfErr result (TellsFailures ⟦<D as Disk>⟧ devices) }

@@ -3,7 +3,7 @@ use Rattle.std.specs.Prelude.{◌≡◌, ◌<◌, ◌≤◌, ◌^◌, ℕ, List,
 use Rattle.hg_model.specs.Contents.{Content}
 use Rattle.hg_cells.specs.declared.cell.Cell.{Cell}
 use Rattle.hg_sets.specs.Interning.{AreSets}
-use Rattle.hg_detect.specs.Shown.{Shown, content}
+use Rattle.hg_detect.specs.Shown.{ShownDetector, content}
 use Rattle.hg_root.specs.declared.parts.SourceCount.{SourceCount}
 use Rattle.hg_root.specs.Checking.{last_number}
 use Rattle.hg_root.specs.Grammar.{LockFits, SetFits}
@@ -16,7 +16,7 @@ abbrev pub source_counts : (ℕ → ℕ) → List SourceCount
 source_counts last = map (λ s. record { source = s; last = last s }) (filter (λ s. nat_lt 0 (last s)) sources)
 
 -- The content is lawful, the reports name sets of the table, and locks and members have two bytes.
-pub record FitsARoot {W : Type 0} (cell_of : W → ℕ → Cell) (d : Shown W) : Type 0 where
+pub record FitsARoot {W : Type 0} (cell_of : W → ℕ → Cell) (d : ShownDetector W) : Type 0 where
   pub lawful : IsLawfulContent (content cell_of d)
   pub table : AreSets d.sets
   pub members : All SetFits d.sets.sets
@@ -26,7 +26,7 @@ pub record FitsARoot {W : Type 0} (cell_of : W → ℕ → Cell) (d : Shown W) :
 -- What such a detector shows is the head of a root, under each number of a checkpoint.
 abbrev pub ADetectorHasALawfulHead : {W : Type 0} → (W → ℕ → Cell) → Type 0
 ADetectorHasALawfulHead {W} cell_of =
-    (d : Shown W) (number : ℕ) → FitsARoot cell_of d → 1 ≤ number → number ≤ 2 ^ 58
+    (d : ShownDetector W) (number : ℕ) → FitsARoot cell_of d → 1 ≤ number → number ≤ 2 ^ 58
     → IsLawfulHead (head_parts number d.parts.events d.segments d.parts.threads d.sets d.total d.kept (source_counts (slice_index d.parts.last)))
 
 -- The root of a lawful content has the last number of each source.

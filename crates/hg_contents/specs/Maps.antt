@@ -2,7 +2,7 @@
 use Rattle.std.specs.Prelude.{◌≡◌, ◌<◌, ◌+◌, ◌*◌, ◌/◌, ℕ, zero, suc, false, List, [], ◌∷◌, length, get_or, All}
 use Rattle.hg_cells.specs.declared.cell.Cell.{Cell}
 use Rattle.hg_cells.specs.declared.cell.Cell.TheVariants.{New}
-use Rattle.hg_detect.specs.Shown.{Shown, content}
+use Rattle.hg_detect.specs.Shown.{ShownDetector, content}
 use Rattle.hg_pages.specs.Slots.{HasSlot, IsKnown}
 use Rattle.hg_root.specs.declared.parts.PageSlot.{PageSlot}
 use Rattle.hg_root.specs.Checking.{HaveLast}
@@ -32,7 +32,7 @@ abbrev pub IsNewElsewhere : Parts → (ℕ → Cell) → Type 0
 IsNewElsewhere root map = (w : ℕ) → has_slot root.pages (w / 256) ≡ false → map w ≡ New
 
 -- A root has the parts of what a detector shows, but its words.
-pub record HasPartsOf {W : Type 0} (d : Shown W) (root : Parts) : Type 0 where
+pub record HasPartsOf {W : Type 0} (d : ShownDetector W) (root : Parts) : Type 0 where
   pub events : root.events ≡ d.parts.events
   pub segments : root.segments ≡ d.segments
   pub threads : root.threads ≡ d.parts.threads
@@ -48,4 +48,4 @@ MapsAreStored = (root : Parts) (map : ℕ → Cell) (slots : List ℕ) → IsKno
 -- The checkpoint of a detector's parts and words has the detector's content.
 abbrev pub CheckpointsAreContents : Type 0
 CheckpointsAreContents =
-    (d : Shown (ℕ → Cell)) (root : Parts) → HasPartsOf d root → IsNewElsewhere root d.words → content_of (checkpoint_of root d.words) ≡ content (λ map. map) d
+    (d : ShownDetector (ℕ → Cell)) (root : Parts) → HasPartsOf d root → IsNewElsewhere root d.words → content_of (checkpoint_of root d.words) ≡ content (λ map. map) d

@@ -16,7 +16,7 @@ use Rattle.hg_cells.specs.Cells.{IsWithin, meaning}
 use Rattle.hg_sets.specs.Interning.{AreSets, Table}
 use Rattle.hg_sets.specs.declared.fault.SetFault.{SetFault}
 use Rattle.hg_detect.specs.Making.{Asks, AsksBy, sets_asked}
-use Rattle.hg_detect.specs.Shown.{Shown, content}
+use Rattle.hg_detect.specs.Shown.{ShownDetector, content}
 use Rattle.hg_pages.specs.Slots.{IsKnown}
 use Rattle.hg_root.specs.Checkpoints.{Checkpoint, HasPages}
 use Rattle.hg_root.specs.Grammar.{SetFits}
@@ -58,7 +58,7 @@ RootsHaveLawfulStates = (c : Checkpoint) (slots : List ℕ) → IsLawful c.root 
 
 -- What a detector shows goes into a root where its content is a lawful state, its sets have spellings, and its reports name sets that are there.
 abbrev pub StatesFit : {W : Type 0} → (W → ℕ → Cell) → Type 0
-StatesFit {W} cell_of = (d : Shown W) → IsLawfulState (content cell_of d) → AreSets d.sets → All SetFits d.sets.sets → All (λ r. r.threads < length d.sets.sets) d.kept → FitsARoot cell_of d
+StatesFit {W} cell_of = (d : ShownDetector W) → IsLawfulState (content cell_of d) → AreSets d.sets → All SetFits d.sets.sets → All (λ r. r.threads < length d.sets.sets) d.kept → FitsARoot cell_of d
 
 -- A table of sets keeps to sets that have a spelling where an accepted event asks it for its sets.
 abbrev pub TablesStaySpelled : Type 0

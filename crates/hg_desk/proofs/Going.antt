@@ -18,7 +18,7 @@ use Rattle.hg_store.specs.declared.steps.StepResult.{StepResult}
 use Rattle.hg_store.specs.declared.steps.StepResult.TheVariants as told
 use Rattle.hg_store.specs.Doing.{ContentDone, StepDone, fails_by, in_doubt_during}
 use Rattle.hg_store.specs.Images.{EachImage, EachImageAlong, IsOn, MayLeaveAll, failures_of}
-use Rattle.hg_store.specs.Shown.{Shown, live, saved}
+use Rattle.hg_store.specs.Shown.{ShownStore, live, saved}
 use Rattle.hg_store.specs.Steps.{CommitDone, if_accepted}
 use Rattle.hg_store.specs.Store.{Backs}
 use Rattle.hg_store.proofs.Moments.{all_still}
@@ -132,7 +132,7 @@ module _ {D : Type 0} (g : disk.Ghosts D) where
   -- ---- steps
 
   -- a store of which nothing was asked yet
-  pub went_nowhere : (s : Shown D) → (IsTrue g.is_honest → Backs g s) → WentOn g (began g s) [] s
+  pub went_nowhere : (s : ShownStore D) → (IsTrue g.is_honest → Backs g s) → WentOn g (began g s) [] s
   went_nowhere s backs =
       let same : failures_of points (points_of g s.devices) ≡ failures_of g s.devices = refl in
       record {
@@ -144,9 +144,9 @@ module _ {D : Type 0} (g : disk.Ghosts D) where
             (λ image left. stands_on (saved g s) (live g s) s.in_doubt image (s.pending, (backs honest).live) ((backs honest).stands image left)));
       }
 
-  module _ (old new : Shown D) where
+  module _ (old new : ShownStore D) where
     saved_same : new.committed ≡ old.committed → saved g new ≡ saved g old
-    saved_same same = ap (λ (d : detect.Shown (pool.Shown D)). detect.content (pools.live g) d) same
+    saved_same same = ap (λ (d : detect.ShownDetector (pool.ShownPool D)). detect.content (pools.live g) d) same
 
     live_leads : (step : Step) (result : StepResult) → ContentDone g old new step result → LeadsTo (live g old) (live g new)
     live_leads (step.Offer n) result content = (if_accepted n content.0, content.2.leads)
@@ -160,14 +160,14 @@ module _ {D : Type 0} (g : disk.Ghosts D) where
     live_leads step.OpenRoot result content = same_leads (live g old) (live g new) content.2.live
 
     commit_leads : (r : Result ℕ Refusal) → CommitDone g old new r → LeadsTo (saved g old) (live g old) → LeadsTo (saved g old) (saved g new)
-    commit_leads (Ok count) done leads = subst (λ (c : Content). LeadsTo (saved g old) c) (sym (ap (λ (d : detect.Shown (pool.Shown D)). detect.content (pools.live g) d) done.answer.committed)) leads
+    commit_leads (Ok count) done leads = subst (λ (c : Content). LeadsTo (saved g old) c) (sym (ap (λ (d : detect.ShownDetector (pool.ShownPool D)). detect.content (pools.live g) d) done.answer.committed)) leads
     commit_leads (Err r) done leads = same_leads (saved g old) (saved g new) (saved_same done.answer.committed)
 
     saved_leads : (step : Step) (result : StepResult) → StepDone g old new step result → LeadsTo (saved g old) (live g old) → LeadsTo (saved g old) (saved g new)
     saved_leads (step.Offer n) result done leads = same_leads (saved g old) (saved g new) (saved_same done.2.same.committed)
     saved_leads step.Commit result done leads = commit_leads done.0 done.2 leads
     saved_leads step.Freeze result done leads = same_leads (saved g old) (saved g new) (saved_same done.2.done.committed)
-    saved_leads step.TakeJob result done leads = same_leads (saved g old) (saved g new) (ap (λ (s : Shown D). saved g s) done.2.same)
+    saved_leads step.TakeJob result done leads = same_leads (saved g old) (saved g new) (ap (λ (s : ShownStore D). saved g s) done.2.same)
     saved_leads (step.Put page) result done leads = same_leads (saved g old) (saved g new) (saved_same done.2.done.committed)
     saved_leads step.SealPages result done leads = same_leads (saved g old) (saved g new) (saved_same done.2.done.committed)
     saved_leads step.PrepareRoot result done leads = same_leads (saved g old) (saved g new) (saved_same done.2.done.committed)

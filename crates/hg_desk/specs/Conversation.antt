@@ -15,7 +15,7 @@ use Rattle.hg_frames.specs.declared.reply.Reply.TheVariants.{Welcome, Accepted, 
 use Rattle.hg_frames.specs.declared.lines.ReportLines.{ReportLines}
 use Rattle.hg_store.specs.declared.steps.Step.TheVariants.{Offer, Commit}
 use Rattle.hg_store.specs.declared.steps.StepResult.TheVariants.{Offered, Committed}
-use Rattle.hg_store.specs.Shown.{Shown, live}
+use Rattle.hg_store.specs.Shown.{ShownStore, live}
 use Rattle.hg_desk.specs.declared.desk.Stage.{Stage}
 use Rattle.hg_desk.specs.declared.desk.Stage.TheVariants.{Greeting, Talking, Over}
 use Rattle.hg_desk.specs.Told.{Told, StepKept}
@@ -54,14 +54,14 @@ abbrev pub stage_after_hello : ℕ → Bool → Stage
 stage_after_hello source is_broken = cond (nat_lt 1023 source) Greeting (cond is_broken Greeting (Talking source))
 
 -- Nothing of the store has changed, and the share was told nothing.
-abbrev pub Still : {D : Type 0} → (old new : Shown D) → (told told_after : Told) → Type 0
+abbrev pub Still : {D : Type 0} → (old new : ShownStore D) → (told told_after : Told) → Type 0
 Still old new told told_after = (new ≡ old) × (told_after ≡ told)
 
 abbrev pub Leads : Stage → Reply → Stage → Reply → Type 0
 Leads stage reply to said = (stage ≡ to) × (reply ≡ said)
 
 -- before the Welcome
-abbrev pub Greets : {D : Type 0} → disk.Ghosts D → (old new : Shown D) → (told told_after : Told) → Frame → Stage → Reply → Type 0
+abbrev pub Greets : {D : Type 0} → disk.Ghosts D → (old new : ShownStore D) → (told told_after : Told) → Frame → Stage → Reply → Type 0
 Greets g old new told told_after (Hello source) stage reply = Still old new told told_after × Leads stage reply (stage_after_hello source old.is_broken) (hello_reply source old.is_broken (live g old))
 Greets g old new told told_after (Numbered number event) stage reply = Still old new told told_after × Leads stage reply Over (Fault 2)
 Greets g old new told told_after Ask stage reply = Still old new told told_after × Leads stage reply Over (Fault 2)
@@ -69,17 +69,17 @@ Greets g old new told told_after Reports stage reply = Still old new told told_a
 Greets g old new told told_after Bye stage reply = Still old new told told_after × Leads stage reply Over (Fault 2)
 
 -- One offer to the store, and the reply that belongs to its answer.
-abbrev pub Offers : {D : Type 0} → disk.Ghosts D → Named → (old new : Shown D) → (told told_after : Told) → Reply → Type 0
+abbrev pub Offers : {D : Type 0} → disk.Ghosts D → Named → (old new : ShownStore D) → (told told_after : Told) → Reply → Type 0
 Offers g named old new told told_after reply =
     (result : Result Answer Refusal) × StepKept g old new told told_after (Offer named) (Offered result) × (reply ≡ offer_reply named.number result)
 
 -- One commit, and the reply that belongs to its answer, with the last number of this source.
-abbrev pub Commits : {D : Type 0} → disk.Ghosts D → ℕ → (old new : Shown D) → (told told_after : Told) → Reply → Type 0
+abbrev pub Commits : {D : Type 0} → disk.Ghosts D → ℕ → (old new : ShownStore D) → (told told_after : Told) → Reply → Type 0
 Commits g source old new told told_after reply =
     (result : Result ℕ Refusal) × StepKept g old new told told_after Commit (Committed result) × (reply ≡ commit_reply ((live g new).last source) result)
 
 -- between the Welcome and the end: one offer for an Event, one commit for an Ask, and no other step
-abbrev pub Talks : {D : Type 0} → disk.Ghosts D → ℕ → (old new : Shown D) → (told told_after : Told) → Frame → Stage → Reply → Type 0
+abbrev pub Talks : {D : Type 0} → disk.Ghosts D → ℕ → (old new : ShownStore D) → (told told_after : Told) → Frame → Stage → Reply → Type 0
 Talks g source old new told told_after (Hello other) stage reply = Still old new told told_after × Leads stage reply Over (Fault 3)
 Talks g source old new told told_after (Numbered number event) stage reply =
     (result : Result Answer Refusal) × StepKept g old new told told_after (Offer (record { source = source; number = number; event = event })) (Offered result)
@@ -91,7 +91,7 @@ Talks g source old new told told_after Reports stage reply = Still old new told 
 Talks g source old new told told_after Bye stage reply = Still old new told told_after × Leads stage reply Over Nothing
 
 -- The answer to a frame at a stage of a conversation.
-abbrev pub Answers : {D : Type 0} → disk.Ghosts D → Stage → (old new : Shown D) → (told told_after : Told) → Frame → Stage → Reply → Type 0
+abbrev pub Answers : {D : Type 0} → disk.Ghosts D → Stage → (old new : ShownStore D) → (told told_after : Told) → Frame → Stage → Reply → Type 0
 Answers g Greeting old new told told_after frame stage reply = Greets g old new told told_after frame stage reply
 Answers g (Talking source) old new told told_after frame stage reply = Talks g source old new told told_after frame stage reply
 Answers g Over old new told told_after frame stage reply = Still old new told told_after × Leads stage reply Over (Fault 4)
@@ -116,13 +116,13 @@ pub record AskTold (is_honest : Bool) (told new : Told) (reply : Reply) : Type 0
   pub durable : told.durable ≤ new.durable
 
 -- Frames are answered one after another, each as the conversation and the store stand by then.
-abbrev pub Converses : {D : Type 0} → disk.Ghosts D → Stage → (old new : Shown D) → (told told_after : Told) → List Frame → Stage → List Reply → Type 0
+abbrev pub Converses : {D : Type 0} → disk.Ghosts D → Stage → (old new : ShownStore D) → (told told_after : Told) → List Frame → Stage → List Reply → Type 0
 Converses g stage old new told told_after [] to [] = (to ≡ stage) × Still old new told told_after
 Converses {D} g stage old new told told_after (frame ∷ frames) to (reply ∷ replies) =
-    (mid : Shown D) × (between : Told) × (next : Stage) × Answers g stage old mid told between frame next reply × Converses g next mid new between told_after frames to replies
+    (mid : ShownStore D) × (between : Told) × (next : Stage) × Answers g stage old mid told between frame next reply × Converses g next mid new between told_after frames to replies
 Converses g stage old new told told_after [] to (reply ∷ replies) = ⊥
 Converses g stage old new told told_after (frame ∷ frames) to [] = ⊥
 
 -- Where there was room for the replies, the frames are answered so.
-abbrev pub ConversesOnOk : {D Z E : Type 0} → disk.Ghosts D → Stage → (old new : Shown D) → (told told_after : Told) → List Frame → Stage → Result (Vec Reply Z) E → Type 0
+abbrev pub ConversesOnOk : {D Z E : Type 0} → disk.Ghosts D → Stage → (old new : ShownStore D) → (told told_after : Told) → List Frame → Stage → Result (Vec Reply Z) E → Type 0
 ConversesOnOk g stage old new told told_after frames to result = IfOk result (λ replies. Converses g stage old new told told_after frames to replies.items)

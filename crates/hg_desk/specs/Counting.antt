@@ -5,7 +5,7 @@ use Rattle.hg_model.specs.Contents.{Content}
 use Rattle.hg_contents.specs.Images.{HasContent, Image}
 use Rattle.hg_contents.specs.Stores.{IsLeft}
 use Rattle.hg_store.specs.Images.{states_of}
-use Rattle.hg_store.specs.Shown.{Shown, live}
+use Rattle.hg_store.specs.Shown.{ShownStore, live}
 use Rattle.hg_desk.specs.declared.locked.Counts.{Counts}
 use Rattle.hg_desk.specs.declared.shared.TakenIn.{TakenIn}
 use Rattle.hg_desk.specs.declared.shared.Tally.{Tally}
@@ -35,11 +35,11 @@ FindsAtLeast share share_after counts = (share_after ≡ share) × (share.accept
 
 module _ {D : Type 0} (g : disk.Ghosts D) where
   -- how many events a store has accepted
-  abbrev pub events_of : Shown D → ℕ
+  abbrev pub events_of : ShownStore D → ℕ
   events_of s = (live g s).events
 
   -- A store that began with so many events, accepted and durable, has as many more as were counted.
-  abbrev pub AreSince : (opening_events opening_durable : ℕ) → Shown D → Counts → Type 0
+  abbrev pub AreSince : (opening_events opening_durable : ℕ) → ShownStore D → Counts → Type 0
   AreSince opening_events opening_durable s counts = (events_of s ≡ opening_events + counts.accepted) × (s.durable ≡ opening_durable + counts.durable)
 
   -- The store that was taken in has accepted as many events more than so many as the shares were told.
@@ -51,7 +51,7 @@ module _ {D : Type 0} (g : disk.Ghosts D) where
   HasTheirDurable opening shares taken_in = taken_in.store.durable ≡ opening + durable_in shares
 
   -- Each image of the store's devices has a content of so many events at least.
-  abbrev pub EachImageHas : Shown D → ℕ → Type 0
+  abbrev pub EachImageHas : ShownStore D → ℕ → Type 0
   EachImageHas s n = (image : Image) → IsLeft (states_of g s.devices) image → (k : Content) × HasContent image k × (n ≤ k.events)
 
   -- Each image of the devices of the store that was taken in has these at least.

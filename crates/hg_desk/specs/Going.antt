@@ -7,7 +7,7 @@ use Rattle.hg_disk.specs.State.{DiskState}
 use Rattle.hg_disk.specs.declared.disk.Disk as disk
 use Rattle.hg_store.specs.declared.devices.Devices.{Devices}
 use Rattle.hg_store.specs.Images.{EachImageAlong, IsOn, failures_of}
-use Rattle.hg_store.specs.Shown.{Shown, live, saved}
+use Rattle.hg_store.specs.Shown.{ShownStore, live, saved}
 
 -- Events, each accepted after those before it, lead from one content to another.
 abbrev pub LeadsTo : Content → Content → Type 0
@@ -42,13 +42,13 @@ module _ {D : Type 0} (g : disk.Ghosts D) where
   abbrev pub points_of : Devices D → Devices Point
   points_of devices = record { journal = point_of devices.journal; slots = point_of devices.slots; root0 = point_of devices.root0; root1 = point_of devices.root1 }
 
-  abbrev pub began : Shown D → Began
+  abbrev pub began : ShownStore D → Began
   began s = record { devices = points_of s.devices; live = live g s; saved = saved g s }
 
   -- A store goes on from what it was at the opening: more events may be accepted, and become durable, and no event is lost, in memory or in an
   -- image. The devices went through these moments, the newest first, of which the oldest is the opening. Over honest devices each image between each
   -- two of them has the content after a front of the accepted events, with those at least that were durable at the opening.
-  pub record WentOn (start : Began) (moments : List (Devices D)) (now : Shown D) : Type 0 where
+  pub record WentOn (start : Began) (moments : List (Devices D)) (now : ShownStore D) : Type 0 where
     pub follows : IsTrue g.is_honest → LeadsTo start.live (live g now)
     pub durable : IsTrue g.is_honest → LeadsTo start.saved (saved g now)
     pub failed : failures_of (of_points g.is_honest) start.devices ≤ failures_of g now.devices
@@ -56,9 +56,9 @@ module _ {D : Type 0} (g : disk.Ghosts D) where
     pub images : IsTrue g.is_honest → EachImageAlong (of_points g.is_honest) start.devices (map points_of moments) (points_of now.devices) (IsOn start.saved (live g now))
 
   -- The store went on from what it was at the opening of the lock, where that is known.
-  abbrev pub WentOnSince : Option Began → List (Devices D) → Shown D → Type 0
+  abbrev pub WentOnSince : Option Began → List (Devices D) → ShownStore D → Type 0
   WentOnSince opening moments now = (start : Began) → opening ≡ Some start → WentOn start moments now
 
   -- A call of a device failed since the opening of the lock, where that is known.
-  abbrev pub FailedSince : Option Began → Shown D → Type 0
+  abbrev pub FailedSince : Option Began → ShownStore D → Type 0
   FailedSince opening now = (start : Began) → opening ≡ Some start → failures_of (of_points g.is_honest) start.devices < failures_of g now.devices

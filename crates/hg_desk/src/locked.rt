@@ -42,10 +42,10 @@ pub struct Core<D: Disk, A: Opening, B: Column> {
 }
 
 impl<D: Disk, A: Opening, B: Column> Model for Core<D, A, B> {
-    ghost use Rattle.hg_store.specs.Shown.{Shown};
+    ghost use Rattle.hg_store.specs.Shown.{ShownStore};
     ghost use Rattle.hg_desk.specs.Told.{IsCore};
 
-    ghost Value = { Shown D };
+    ghost Value = { ShownStore D };
 
     ghost view = { λ c. c.store };
 

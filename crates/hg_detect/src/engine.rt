@@ -27,7 +27,7 @@ use hg_model::report::Report;
 use hg_model::sets::NumberSet;
 use hg_model::state::TraceState;
 use hg_model::verdict::Refusal;
-use hg_sets::SetTable;
+use hg_sets::{MOST_SETS, SetTable};
 use std::alloc::{AllocError, Global};
 
 /// How many words one access overlaps at most.
@@ -91,7 +91,7 @@ impl<W: Words> Engine<W> {
     pub(crate) fn new(alloc: Global, words: W, most_sets: u32) -> Result<Self, W>
         requires fresh { (w : ℕ) → W.cell_of words w ≡ New }
         requires least { 1 ≤ most_sets }
-        requires greatest { most_sets ≤ 262144 }
+        requires greatest { most_sets ≤ MOST_SETS }
         ensures content { IfOk result (λ e. content W.cell_of (shown_of e) ≡ empty_content) }
         ensures sets { IfOk result (λ e. e.sets ≡ first_table most_sets) }
         ensures graph { IfOk result (λ e. length e.graph ≡ 1) }
@@ -521,7 +521,7 @@ fn empty_parts(
     most_sets: u32,
 ) -> Result<(TraceState, Graph, SetTable, Vec<Planned>), AllocError>
     requires least { 1 ≤ most_sets }
-    requires greatest { most_sets ≤ 262144 }
+    requires greatest { most_sets ≤ MOST_SETS }
     ensures state { IfOk result (λ p. HasParts empty_content p.0) }
     ensures graph { IfOk result (λ p. p.1 ≡ of_thread 0 [] ∷ []) }
     ensures sets { IfOk result (λ p. p.2 ≡ first_table most_sets) }

@@ -3,7 +3,7 @@ use Rattle.std.specs.Prelude.{ℕ, Bool, List, [], ◌∷◌, Result, Ok, Err, i
 use Rattle.hg_disk.specs.declared.call.Call.{Call}
 use Rattle.hg_disk.specs.declared.call.Answer.{Answer}
 use Rattle.hg_disk.specs.declared.call.Answer.TheVariants.{Done, Failed, Refused}
-pub use Rattle.hg_disk.specs.declared.record.Event.{Event}
+pub use Rattle.hg_disk.specs.declared.history.Event.{Event}
 
 -- one call with its answer and bytes
 abbrev pub event : Call → Answer → List ℕ → Event

@@ -6,7 +6,7 @@ ghost use Rattle.hg_disk.specs.Kept.{has_contents};
 
 use crate::call::Call;
 use crate::disk::{MAX_LEN, is_within};
-use crate::record::Record;
+use crate::history::History;
 use crate::{Disk, DiskFault};
 use std::fs::File;
 use std::io;
@@ -19,7 +19,7 @@ pub struct FileDisk {
     file: Option<File>,
     opened_len: u64,
     len: u64,
-    history: Record,
+    history: History,
     error: Option<io::Error>,
     ghost keeps: { KeepsError error history.events },
     ghost shows: { len ≡ length (replay (replicate opened_len 0) history.events).contents },
@@ -57,7 +57,7 @@ impl FileDisk {
             file: Some(file),
             opened_len: len,
             len,
-            history: Record::new(),
+            history: History::new(),
             error: None,
         })
     }
@@ -73,7 +73,7 @@ impl FileDisk {
             file: None,
             opened_len: 0,
             len: 0,
-            history: Record::new(),
+            history: History::new(),
             error: None,
         }
     }
@@ -88,7 +88,7 @@ impl FileDisk {
 
 /// Notes a call with its answer, and keeps its error, where it is the first one.
 fn note(
-    history: &mut Record,
+    history: &mut History,
     error: &mut Option<io::Error>,
     call: Call,
     bytes: &[u8],

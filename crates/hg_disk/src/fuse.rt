@@ -5,7 +5,7 @@ ghost use Rattle.hg_disk.specs.Event.{with_refusal};
 ghost use Rattle.hg_disk.specs.Fuse.{is_next, left_after};
 
 use crate::call::Call;
-use crate::record::Record;
+use crate::history::History;
 use crate::{Disk, DiskFault};
 
 /// Passes calls on, but for one, or for one and all after it. A call that it refuses changes no byte, and counts as
@@ -14,7 +14,7 @@ pub struct FuseDisk<D: Disk> {
     inner: D,
     calls_left: Option<u64>,
     stops: bool,
-    history: Record,
+    history: History,
 }
 
 impl<D: Disk + Drop> Drop for FuseDisk<D> {
@@ -47,7 +47,7 @@ impl<D: Disk> FuseDisk<D> {
             inner,
             calls_left: Some(k - 1),
             stops: false,
-            history: Record::new(),
+            history: History::new(),
         }
     }
 
@@ -65,7 +65,7 @@ impl<D: Disk> FuseDisk<D> {
             inner,
             calls_left: Some(k - 1),
             stops: true,
-            history: Record::new(),
+            history: History::new(),
         }
     }
 
@@ -83,8 +83,8 @@ impl<D: Disk> FuseDisk<D> {
     }
 }
 
-// Counts a call, and tells whether it is refused. It then goes on record.
-fn refuses(calls_left: &mut Option<u64>, stops: bool, history: &mut Record, call: Call) -> bool
+// Counts a call, and tells whether it is refused. It is noted then.
+fn refuses(calls_left: &mut Option<u64>, stops: bool, history: &mut History, call: Call) -> bool
     ensures which { result ≡ is_next calls_left.old }
     ensures left { calls_left.new ≡ left_after stops calls_left.old }
     ensures noted { history.new.events ≡ (if result then with_refusal call history.old.events else history.old.events) }

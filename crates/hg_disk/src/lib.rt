@@ -9,7 +9,7 @@ mod fuse;
 pub mod laws;
 mod memory;
 mod overwrite;
-mod record;
+mod history;
 mod replay;
 mod tape;
 mod tear;

@@ -6,7 +6,7 @@ ghost use Rattle.hg_disk.specs.Tape.{kept, calls_in, written_in, Fits, AllFit, A
 
 use crate::DiskFault;
 use crate::call::{Answer, Answered, Call};
-use crate::record::Record;
+use crate::history::History;
 use std::alloc::{AllocError, Global};
 
 /// It keeps each call with its answer, and the bytes of each write that took effect, until a call finds no memory to
@@ -16,7 +16,7 @@ pub(crate) struct Tape {
     pub calls: Vec<Answered>,
     pub written: Vec<u8>,
     pub is_full: bool,
-    pub history: Record,
+    pub history: History,
     ghost calls_kept: { calls.items ≡ calls_in (kept history.events) },
     ghost bytes_kept: { written.items ≡ written_in (kept history.events) },
     ghost all_fit: { AllFit (kept history.events) } by { AllFit_prop (kept history.events) },
@@ -34,7 +34,7 @@ impl Tape {
             calls: Vec::new(alloc),
             written: Vec::new(alloc),
             is_full: false,
-            history: Record::new(),
+            history: History::new(),
         }
     }
 
@@ -47,11 +47,11 @@ impl Tape {
             calls: Vec::with_capacity(alloc, calls)?,
             written: Vec::with_capacity(alloc, bytes)?,
             is_full: false,
-            history: Record::new(),
+            history: History::new(),
         })
     }
 
-    /// Makes room for one more call. Where it finds none, the tape is full, and the call goes on record as refused.
+    /// Makes room for one more call. Where it finds none, the tape is full, and the call is noted as refused.
     pub fn makes_room(&mut self, call: Call) -> bool
         ensures record { self.new.history.events ≡ refused_unless result call self.old.history.events }
         ensures made { IsTrue result → TapeHasRoom self.new 1 0 }

@@ -4,14 +4,14 @@ use Rattle.std.proofs.lemmas.List.{append_assoc, append-nil, length-append, leng
 use Rattle.hg_wire.specs.declared.reader.Reading.{Reading}
 use Rattle.std.specs.Borrow.{Bor}
 use Rattle.std.specs.List.{flat_map}
-use Rattle.hg_wire.specs.Streams.{Pending, at_start, readings, readings_from, GivesReading, GivesNoReading}
+use Rattle.hg_wire.specs.Streams.{LinesRead, at_start, readings, readings_from, GivesReading, GivesNoReading}
 
 -- What a reader gives of a stream from a state on, is what is out already, and then what it gives of the rest.
-pub record IsReadTo (old : Pending) (begun : List Reading) (piece : List ℕ) (new : Pending) (out : List Reading) (rest : List ℕ) : Type 0 where
+pub record IsReadTo (old : LinesRead) (begun : List Reading) (piece : List ℕ) (new : LinesRead) (out : List Reading) (rest : List ℕ) : Type 0 where
   pub counted : new.lines + length rest ≤ old.lines + length piece
   pub read : (more : List ℕ) → begun ++ readings_from old (piece ++ more) ≡ out ++ readings_from new (rest ++ more)
 
-pub one_more_read : (old mid new : Pending) (begun out : List Reading) (piece rest : List ℕ) (reading : Reading) (used : ℕ) → IsReadTo old begun piece mid out rest
+pub one_more_read : (old mid new : LinesRead) (begun out : List Reading) (piece rest : List ℕ) (reading : Reading) (used : ℕ) → IsReadTo old begun piece mid out rest
     → GivesReading mid new rest reading used → IsReadTo old begun piece new (out ++ reading ∷ []) (drop used rest)
 one_more_read old mid new begun out piece rest reading used h g =
     record {
@@ -19,7 +19,7 @@ one_more_read old mid new begun out piece rest reading used h g =
       read = λ more. (h.read more ∙ (ap (λ rs. out ++ rs) (g.readings more) ∙ sym (append_assoc out (reading ∷ []) (readings_from new (drop used rest ++ more)))));
     }
 
-pub all_read : (old mid new : Pending) (begun out : List Reading) (piece rest : List ℕ) → IsReadTo old begun piece mid out rest
+pub all_read : (old mid new : LinesRead) (begun out : List Reading) (piece rest : List ℕ) → IsReadTo old begun piece mid out rest
     → GivesNoReading mid new rest → IsReadTo old begun piece new out []
 all_read old mid new begun out piece rest h g =
     record {
@@ -40,7 +40,7 @@ joined_next pieces i within = ap joined (drop_more pieces i _ within)
 pub nothing_read : (pieces : List (Bor (List ℕ))) → IsReadTo at_start [] (joined pieces) at_start [] (joined (drop 0 pieces))
 nothing_read pieces = record { counted = omega arith; read = λ more. refl }
 
-pub next_read : (mid new : Pending) (all : List ℕ) (before after : List Reading) (pieces : List (Bor (List ℕ))) (i : ℕ) → i < length pieces
+pub next_read : (mid new : LinesRead) (all : List ℕ) (before after : List Reading) (pieces : List (Bor (List ℕ))) (i : ℕ) → i < length pieces
     → IsReadTo at_start [] all mid before (joined (drop i pieces)) → new.lines ≤ mid.lines + length (piece_at pieces i)
     → ((more : List ℕ) → before ++ readings_from mid (piece_at pieces i ++ more) ≡ after ++ readings_from new more) → IsReadTo at_start [] all new after (joined (drop (i + 1) pieces))
 next_read mid new all before after pieces i within h counted read =
@@ -52,7 +52,7 @@ next_read mid new all before after pieces i within h counted read =
           ∙ (ap (λ bytes. before ++ readings_from mid bytes) (append_assoc (piece_at pieces i) rest more) ∙ read (rest ++ more))));
     }
 
-pub whole_read : (new : Pending) (pieces : List (Bor (List ℕ))) (out : List Reading) (i : ℕ) → length pieces ≤ i → IsReadTo at_start [] (joined pieces) new out (joined (drop i pieces))
+pub whole_read : (new : LinesRead) (pieces : List (Bor (List ℕ))) (out : List Reading) (i : ℕ) → length pieces ≤ i → IsReadTo at_start [] (joined pieces) new out (joined (drop i pieces))
     → readings (joined pieces) ≡ out ++ readings_from new []
 whole_read new pieces out i past h =
     ap readings (sym (append-nil (joined pieces))) ∙ (h.read [] ∙ ap (λ ps. out ++ readings_from new (joined ps ++ [])) (drop_all i pieces past))

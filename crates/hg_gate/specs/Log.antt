@@ -6,7 +6,7 @@ use Rattle.hg_disk.specs.State.{settled}
 use Rattle.hg_gate.specs.declared.batch.Batch.{Batch}
 use Rattle.hg_gate.specs.declared.fault.GateFault.{GateFault}
 use Rattle.hg_gate.specs.declared.fault.GateFault.TheVariants.{Damaged, DeviceFault, OutOfMemory}
-use Rattle.hg_gate.specs.declared.log.Batches.{Batches}
+use Rattle.hg_gate.specs.declared.log.LogPlace.{LogPlace}
 use Rattle.hg_gate.specs.declared.log.Log.{Log}
 use Rattle.hg_gate.specs.Batch.{body_of}
 use Rattle.hg_gate.specs.Fault.{after_fault}
@@ -69,7 +69,7 @@ module _ {D : Type 0} {g : disk.Ghosts D} where
   failures_of_making (Err refused) n = after_fault refused.0 n
 
 -- The next batch is the one behind these.
-abbrev pub IsBehind : Batches → List (List ℕ) → Type 0
+abbrev pub IsBehind : LogPlace → List (List ℕ) → Type 0
 IsBehind batches seen = batches.at ≡ length (spelled seen)
 
 -- the bytes of what was found
@@ -92,12 +92,12 @@ FailedOrUncalled before refused = (refused.0 ≡ DeviceFault) ⊎ ((refused.0 �
 
 module _ {D : Type 0} {g : disk.Ghosts D} where
   -- From an honest disk the next batch is read, if one is left, and the place is behind it,
-  abbrev pub ReadsNext : {E : Type 0} → Log D g → (old new : Batches) → Result (Option Batch) E → Type 0
+  abbrev pub ReadsNext : {E : Type 0} → Log D g → (old new : LogPlace) → Result (Option Batch) E → Type 0
   ReadsNext log old new result =
       (seen left : List (List ℕ)) → IsTrue g.is_honest → Reads log (seen ++ left) → IsBehind old seen
       → IfOk result (λ found. IsFirst found left × IsBehind new (seen ++ given found))
 
   -- and there is no damage.
-  abbrev pub ReadsUndamaged : {T : Type 0} → Log D g → (old : Batches) → Result T GateFault → Type 0
+  abbrev pub ReadsUndamaged : {T : Type 0} → Log D g → (old : LogPlace) → Result T GateFault → Type 0
   ReadsUndamaged log old result =
       (seen left : List (List ℕ)) → IsTrue g.is_honest → Reads log (seen ++ left) → IsBehind old seen → IfErr result (λ e. e ≢ Damaged)

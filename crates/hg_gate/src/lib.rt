@@ -12,4 +12,4 @@ mod scan;
 pub use batch::{Batch, MAX_BODY_LEN};
 pub use fault::GateFault;
 pub use gated::Gated;
-pub use log::{Batches, CLOSED, Log, LogRoom, OPEN};
+pub use log::{CLOSED, Log, LogPlace, LogRoom, OPEN};

@@ -196,26 +196,26 @@ impl<D: Disk> Log<D> {
         Ok(())
     }
 
-    /// The batches, from the first on, for `next_batch`.
-    pub fn batches(&self) -> Result<Batches, GateFault>
-        ensures first { IfOk result (λ batches. IsBehind batches []) }
+    /// The place of the first batch, for `next_batch`.
+    pub fn first_place(&self) -> Result<LogPlace, GateFault>
+        ensures first { IfOk result (λ place. IsBehind place []) }
         ensures fault { IfErr result (λ e. (e ≡ GateFault.Broken) × IsTrue (is_broken self.now)) }
         ensures refuses { IsTrue (is_broken self.now) → result ≡ Err GateFault.Broken }
     {
         if self.is_broken {
             return Err(GateFault::Broken);
         }
-        Ok(Batches {
+        Ok(LogPlace {
             at: HEADER.len() as u64,
         })
     }
 
-    /// Reads the next batch, or none behind the last. After an `Err` it can be tried again. It makes two device calls
-    /// at most, and takes memory for the one batch alone.
-    pub fn next_batch(&mut self, batches: &mut Batches) -> Result<Option<Batch>, GateFault>
-        ensures next { ReadsNext self.old batches.old batches.new result }
-        ensures whole { ReadsUndamaged self.old batches.old result }
-        ensures again { OnErr result (batches.new ≡ batches.old) }
+    /// Reads the batch at the place, or none behind the last, and moves the place on. After an `Err` it can be tried again.
+    /// It makes two device calls at most, and takes memory for the one batch alone.
+    pub fn next_batch(&mut self, place: &mut LogPlace) -> Result<Option<Batch>, GateFault>
+        ensures next { ReadsNext self.old place.old place.new result }
+        ensures whole { ReadsUndamaged self.old place.old result }
+        ensures again { OnErr result (place.new ≡ place.old) }
 
         // The log stays as it is.
         ensures broken_or_not { is_broken self.new ≡ is_broken self.old }
@@ -232,22 +232,22 @@ impl<D: Disk> Log<D> {
         if self.is_broken {
             return Err(GateFault::Broken);
         }
-        if batches.at > self.disk.len() {
+        if place.at > self.disk.len() {
             return Err(GateFault::Damaged);
         }
-        let Some(len) = read_head(&mut self.disk, batches.at)? else {
+        let Some(len) = read_head(&mut self.disk, place.at)? else {
             return Ok(None);
         };
-        let at = batches.at + HEAD_LEN as u64;
+        let at = place.at + HEAD_LEN as u64;
         let alloc = *self.buffer.allocator();
         let body = read_vec(&mut self.disk, alloc, at, len as usize)?;
-        batches.at = at + len as u64;
+        place.at = at + len as u64;
         Ok(Some(Batch::of(body)))
     }
 }
 
 /// A place in a log: the next batch to be read.
 #[derive(Clone, Copy, Debug, PartialEq, Eq)]
-pub struct Batches {
+pub struct LogPlace {
     at: u64,
 }

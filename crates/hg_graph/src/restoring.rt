@@ -9,12 +9,13 @@ ghost use Rattle.hg_graph.specs.Restoring.{AreSegments};
 use crate::THREADS;
 use crate::clock::Clock;
 use crate::sweep::mark;
+use hg_model::limits::MOST_SEGMENTS;
 use hg_model::segment::Segment;
 use std::alloc::{AllocError, Global};
 
 /// The present segment of each thread, and 0 where it has none.
 pub(crate) fn present_segments(alloc: Global, segments: &[Segment]) -> Result<Vec<u32>, AllocError>
-    requires few { length segments.now ≤ 1048576 }
+    requires few { length segments.now ≤ MOST_SEGMENTS }
     requires lawful { AreSegments segments.now }
     ensures rows { IfOk result (λ table. length table.items ≡ 1024) }
     ensures each { IfOk result (λ table. ArePresent segments.now table.items) }
@@ -34,7 +35,7 @@ pub(crate) fn clocks_of(
     marks: &mut [bool],
 ) -> Result<Vec<Clock>, AllocError>
     requires some { 0 < length segments.now }
-    requires few { length segments.now ≤ 1048576 }
+    requires few { length segments.now ≤ MOST_SEGMENTS }
     requires lawful { AreSegments segments.now }
     requires rows { length present.now ≡ 1024 }
     requires each { ArePresent segments.now present.now }
@@ -73,7 +74,7 @@ fn clock_of(
     threads: usize,
 ) -> Result<Clock, AllocError>
     requires within { to < length segments.now }
-    requires few { length segments.now ≤ 1048576 }
+    requires few { length segments.now ≤ MOST_SEGMENTS }
     requires lawful { AreSegments segments.now }
     requires threads { (s : ℕ) → s < length segments.now → thread_at segments.now s < threads }
     requires marks { length marks.old ≡ length segments.now }
@@ -93,7 +94,7 @@ fn clock_of(
 /// before and after.
 fn note(segments: &[Segment], marks: &mut [bool], to: usize, clock: &mut Clock)
     requires within { to < length segments.now }
-    requires few { length segments.now ≤ 1048576 }
+    requires few { length segments.now ≤ MOST_SEGMENTS }
     requires lawful { AreSegments segments.now }
     requires threads { (s : ℕ) → s < length segments.now → thread_at segments.now s < length clock.old }
     requires empty { (u : ℕ) → slice_index_or clock.old u 0 ≡ 0 }

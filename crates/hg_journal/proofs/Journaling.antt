@@ -16,7 +16,7 @@ use Rattle.hg_gate.specs.Log.{Has, IsBehind}
 use Rattle.hg_gate.proofs.Appending.{each_image}
 use Rattle.hg_journal.specs.declared.journal.Journal.{Journal}
 use Rattle.hg_journal.specs.declared.journal.JournalReader.{JournalReader}
-use Rattle.hg_journal.specs.Journal.{IsJournal, batch_text, told_as}
+use Rattle.hg_journal.specs.Journal.{IsJournal, batch_text, of_gate}
 use Rattle.hg_journal.specs.Reading.{IsAt, KeepsEvents, Passes, disk_of, is_broken, rest_of}
 use Rattle.hg_journal.proofs.Journals.{Turned, bytes_of, events_of, events_push, fits_back, fits_join, front_of, no_journal, pushed, text_push, turned}
 
@@ -201,7 +201,7 @@ module _ {D : Type 0} (g : disk.Ghosts D) where
     more events is = front_of (g.state (disk_of old)).contents h.past h.present h.later h.read seen events (rest_of r) h.has.reads.has h.split h.fits h.whole is
 
 -- a fault that is told as damage is damage
-pub told_damaged : (f : GateFault) → told_as f ≡ refusal.Damaged → f ≡ fault.Damaged
+pub told_damaged : (f : GateFault) → of_gate f ≡ refusal.Damaged → f ≡ fault.Damaged
 told_damaged fault.Broken same = absurd cc
 told_damaged fault.Damaged same = refl
 told_damaged fault.DeviceFault same = absurd cc

@@ -43,11 +43,11 @@ abbrev pub FailedOrUncalled : {D : Type 0} → D → (Refusal × D) → Type 0
 FailedOrUncalled before refused = (refused.0 ≡ DeviceFault) ⊎ ((refused.0 ≡ OutOfMemory) × (refused.1 ≡ before))
 
 -- what a log's refusal is told as
-abbrev pub told_as : GateFault → Refusal
-told_as fault.Broken = Broken
-told_as fault.Damaged = Damaged
-told_as fault.DeviceFault = DeviceFault
-told_as fault.OutOfMemory = OutOfMemory
+abbrev pub of_gate : GateFault → Refusal
+of_gate fault.Broken = Broken
+of_gate fault.Damaged = Damaged
+of_gate fault.DeviceFault = DeviceFault
+of_gate fault.OutOfMemory = OutOfMemory
 
 -- the refusals of a call that takes no memory and reads nothing
 abbrev pub IsBrokenOrDevice : Refusal → Type 0

@@ -7,10 +7,10 @@ ghost use Rattle.hg_disk.specs.Moments.{AddsNoImage};
 ghost use Rattle.hg_gate.specs.Batch.{vec_of};
 ghost use Rattle.hg_gate.specs.Batches.{IsBody, OneCallABatch};
 ghost use Rattle.hg_records.specs.Records.{RecordFits};
-ghost use Rattle.hg_journal.specs.Journal.{FailedOrUncalled, IsBrokenOrDevice, IsNoJournalIfDamaged, IsOfReading, batch_text, failed_after, told_as};
+ghost use Rattle.hg_journal.specs.Journal.{FailedOrUncalled, IsBrokenOrDevice, IsNoJournalIfDamaged, IsOfReading, batch_text, failed_after, of_gate};
 
 use hg_disk::Disk;
-use hg_gate::{Batch, Batches, GateFault, Log, LogRoom, MAX_BODY_LEN};
+use hg_gate::{Batch, GateFault, Log, LogPlace, LogRoom, MAX_BODY_LEN};
 use hg_model::event::Named;
 use hg_model::verdict::Refusal;
 use hg_records::record::{MAX_RECORD_LEN, put_record};
@@ -57,7 +57,7 @@ impl JournalRoom {
 /// A place among the events of a journal: the next one to be read.
 #[derive(Drop)]
 pub struct JournalReader {
-    pub(crate) place: Batches,
+    pub(crate) place: LogPlace,
     pub(crate) body: Vec<u8>,
     pub(crate) at: usize,
     ghost within: { at ≤ length body.items },
@@ -65,7 +65,7 @@ pub struct JournalReader {
 
 // What a log's refusal is told as.
 pub(crate) fn refusal_of(fault: GateFault) -> Refusal
-    ensures { result ≡ told_as fault }
+    ensures { result ≡ of_gate fault }
 {
     match fault {
         GateFault::Broken => Refusal::Broken,

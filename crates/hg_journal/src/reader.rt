@@ -53,7 +53,7 @@ impl<D: Disk> Journal<D> {
         ensures fault { IfErr result (λ e. (e ≡ Refusal.Broken) × IsTrue (is_broken self.now)) }
         ensures refuses { IsTrue (is_broken self.now) → result ≡ Err Refusal.Broken }
     {
-        match self.log.batches() {
+        match self.log.first_place() {
             Ok(place) => Ok(JournalReader {
                 place,
                 body: Vec::new(*self.body.allocator()),
@@ -80,7 +80,7 @@ impl<D: Disk> Journal<D> {
         ensures same { IsTrue (is_broken self.old) → self.new ≡ self.old }
         ensures broken_or_not { is_broken self.new ≡ is_broken self.old }
     {
-        if let Err(fault) = self.log.batches() {
+        if let Err(fault) = self.log.first_place() {
             return Err(refusal_of(fault));
         }
         if reader.at < reader.body.len() {

@@ -4,7 +4,7 @@ use Rattle.std.specs.List.Sorted.{IsStrictlyIncreasing}
 
 -- The entries of a table, a page and its slot each; how many entries its memory is for; and the slots below which it has memory to
 -- say that they are named.
-pub record Shown : Type 0 where
+pub record ShownTable : Type 0 where
   pub entries : List (ℕ × ℕ)
   pub capacity : ℕ
   pub slots : ℕ
@@ -24,20 +24,20 @@ pub record AreEntries (entries : List (ℕ × ℕ)) : Type 0 where
   pub distinct : AllPairs ◌≢◌ (map (λ e. e.1) entries)
 
 -- one of the tables names the slot
-abbrev pub SomeNames : List Shown → ℕ → Type 0
-SomeNames tables slot = (i : ℕ) × (table : Shown) × (slice_get tables i ≡ Some table) × IsNamed table.entries slot
+abbrev pub SomeNames : List ShownTable → ℕ → Type 0
+SomeNames tables slot = (i : ℕ) × (table : ShownTable) × (slice_get tables i ≡ Some table) × IsNamed table.entries slot
 
 -- each slot from the one on, up to the other, is named
 abbrev pub EachNamed : (ℕ → Type 0) → ℕ → ℕ → Type 0
 EachNamed named from to = (slot : ℕ) → from ≤ slot → slot < to → named slot
 
 -- the least slot up to the most that no table names, or none where each is named
-abbrev pub IsLeastFree : List Shown → (most : ℕ) → Option ℕ → Type 0
+abbrev pub IsLeastFree : List ShownTable → (most : ℕ) → Option ℕ → Type 0
 IsLeastFree tables most found =
     MatchOption found (EachNamed (SomeNames tables) 0 most) (λ free. (free < most) × (¬ SomeNames tables free) × EachNamed (SomeNames tables) 0 free)
 
 -- the same from a slot on
-abbrev pub IsLeastFreeFrom : (from : ℕ) → List Shown → (most : ℕ) → Option ℕ → Type 0
+abbrev pub IsLeastFreeFrom : (from : ℕ) → List ShownTable → (most : ℕ) → Option ℕ → Type 0
 IsLeastFreeFrom from tables most found =
     MatchOption found (EachNamed (SomeNames tables) from most)
     (λ free. (from ≤ free) × (free < most) × (¬ SomeNames tables free) × EachNamed (SomeNames tables) from free)

@@ -30,10 +30,10 @@ impl Model for Table {
     ghost use Rattle.std.specs.Vec.{vec_capacity};
     ghost use Rattle.std.specs.Prelude.{length};
     ghost use Rattle.hg_pages.specs.Marks.{AreMarks, IsInOrder};
-    ghost use Rattle.hg_pages.specs.Tables.{Shown};
+    ghost use Rattle.hg_pages.specs.Tables.{ShownTable};
     ghost use Rattle.std.specs.Option.{ForSome};
 
-    ghost Value = { Shown };
+    ghost Value = { ShownTable };
 
     ghost view = { λ t. record { entries = t.entries.items; capacity = vec_capacity t.entries; slots = length t.named.items } };
 

@@ -10,7 +10,7 @@ use Rattle.hg_pool.specs.Answers.{IsTaken}
 use Rattle.hg_pool.specs.Kept.{IsWhole, SameMap}
 use Rattle.hg_pool.specs.Maps.{bytes_of, copy_in, frame_in, frozen, frozen_at, frozen_by, in_copy_or, in_frame_or, in_slot, live, live_at}
 use Rattle.hg_pool.specs.Picking.{HasDirty}
-use Rattle.hg_pool.specs.Shown.{Shown}
+use Rattle.hg_pool.specs.Shown.{ShownPool}
 use Rattle.hg_pool.specs.Sound.{AreSound}
 
 -- a page that does not wait keeps its slot
@@ -18,7 +18,7 @@ left_of : (w live left : Option ℕ) (slot : ℕ) → left ≡ (if is_some w the
 left_of None live left slot look is = sym look ∙ is
 left_of (Some s) live left slot look is = absurd (cc (sym look ∙ is))
 
-pub sound_begun : {D : Type 0} (p : Shown D) (root : tables.Shown) (before : Option tables.Shown) (after live before_waiting waiting : tables.Shown) (copies also : LruCache ℕ (List Cell)) (frames : LruCache ℕ Frame) (slots : ℕ) (is_sealed : Bool) → AreSound root before live before_waiting copies frames slots is_sealed
+pub sound_begun : {D : Type 0} (p : ShownPool D) (root : tables.ShownTable) (before : Option tables.ShownTable) (after live before_waiting waiting : tables.ShownTable) (copies also : LruCache ℕ (List Cell)) (frames : LruCache ℕ Frame) (slots : ℕ) (is_sealed : Bool) → AreSound root before live before_waiting copies frames slots is_sealed
     → p.root ≡ root.entries → p.live ≡ live.entries
     → ((q : ℕ) → (is_some (slot_in waiting.entries q) ≡ true) ↔ HasDirty frames.entries q) → ((q slot : ℕ) → slot_in waiting.entries q ≡ Some slot → (¬ IsTaken p slot) × (slot < slots)) → length waiting.entries ≤ frames.cap
     → ((q : ℕ) → slot_in after.entries q ≡ (if is_some (slot_in waiting.entries q) then None else slot_in live.entries q))
@@ -56,9 +56,9 @@ sound_begun p root before after live before_waiting waiting copies also frames s
   live_below = s.live_below;
 }
 
-module _ {D : Type 0} (g : disk.Ghosts D) (old : Shown D) (after waiting : List (ℕ × ℕ)) (copies : List (ℕ × List Cell)) (dirty : (q : ℕ) → (is_some (slot_in waiting q) ≡ true) ↔ HasDirty old.frames q)
+module _ {D : Type 0} (g : disk.Ghosts D) (old : ShownPool D) (after waiting : List (ℕ × ℕ)) (copies : List (ℕ × List Cell)) (dirty : (q : ℕ) → (is_some (slot_in waiting q) ≡ true) ↔ HasDirty old.frames q)
     (left : (q : ℕ) → slot_in after q ≡ (if is_some (slot_in waiting q) then None else slot_in old.live q)) (none : copies ≡ []) where
-  abbrev begun : Shown D
+  abbrev begun : ShownPool D
   begun = record old { frozen = after; waiting = waiting; copies = copies; is_sealed = false }
 
   clean_one : (q i : ℕ) → i < 256 → (o : Option Frame) → frame_in old.frames q ≡ o → (is_some (slot_in waiting q) ≡ false) → IsWhole g old → in_slot (bytes_of g old) (slot_in old.live q) i ≡ in_frame_or o (in_slot (bytes_of g old) (slot_in old.live q) i) i

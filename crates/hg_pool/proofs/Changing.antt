@@ -10,10 +10,10 @@ use Rattle.hg_pages.specs.Tables.{IsNamed, slot_in}
 use Rattle.hg_pages.proofs.Decoding.{stored}
 use Rattle.hg_pool.specs.Kept.{BreaksByFailure, Extends, HasSome, IsPageWhole, IsWhole, KeepsNamed, SameMap, Went}
 use Rattle.hg_pool.specs.Maps.{bytes_of, copy_in, disk_of, frame_in, frozen, frozen_at, frozen_by, in_frame_or, in_slot, is_broken, live, live_at}
-use Rattle.hg_pool.specs.Shown.{Shown}
+use Rattle.hg_pool.specs.Shown.{ShownPool}
 
 -- nothing is looked up otherwise at this page
-pub record Same {D : Type 0} (q : ℕ) (old new : Shown D) : Type 0 where
+pub record Same {D : Type 0} (q : ℕ) (old new : ShownPool D) : Type 0 where
   pub frames : frame_in new.frames q ≡ frame_in old.frames q
   pub live : slot_in new.live q ≡ slot_in old.live q
   pub frozen : slot_in new.frozen q ≡ slot_in old.frozen q
@@ -37,19 +37,19 @@ small w = omega arith
 
 module _ {D : Type 0} (g : disk.Ghosts D) where
   -- what the slots have that the tables name, they go on to have
-  abbrev pub SlotsStay : Shown D → Shown D → Type 0
+  abbrev pub SlotsStay : ShownPool D → ShownPool D → Type 0
   SlotsStay old new = (slot : ℕ) (bytes : List ℕ) → IsNamed old.live slot ⊎ IsNamed old.frozen slot → HasBytes slot bytes (bytes_of g old) → HasBytes slot bytes (bytes_of g new)
 
   -- the frozen cells of this page are the same, and it is whole
-  pub record Here (q : ℕ) (old new : Shown D) : Type 0 where
+  pub record Here (q : ℕ) (old new : ShownPool D) : Type 0 where
     pub frozen : (i : ℕ) → i < 256 → frozen_at (bytes_of g new) new q i ≡ frozen_at (bytes_of g old) old q i
     pub whole : IsPageWhole g new q
 
-  abbrev pub LiveHere : ℕ → Shown D → Shown D → Type 0
+  abbrev pub LiveHere : ℕ → ShownPool D → ShownPool D → Type 0
   LiveHere q old new = (i : ℕ) → i < 256 → live_at (bytes_of g new) new q i ≡ live_at (bytes_of g old) old q i
 
   -- what a step makes of the file and of the tables
-  pub record FileStep (old new : Shown D) : Type 0 where
+  pub record FileStep (old new : ShownPool D) : Type 0 where
     pub goes : GoesOn g (disk_of old) (disk_of new)
     pub works : is_broken new ≡ false → is_broken old ≡ false
     pub breaks : BreaksByFailure g old new
@@ -62,21 +62,21 @@ module _ {D : Type 0} (g : disk.Ghosts D) where
     pub sealed_table : IsTrue old.is_sealed → new.frozen ≡ old.frozen
     pub limits : (new.most_frames ≡ old.most_frames) × (new.slots ≡ old.slots)
 
-  live_slot_same : (q : ℕ) (old new : Shown D) → SlotsStay old new → IsWhole g old → (i : ℕ) → i < 256 → in_slot (bytes_of g new) (slot_in old.live q) i ≡ in_slot (bytes_of g old) (slot_in old.live q) i
+  live_slot_same : (q : ℕ) (old new : ShownPool D) → SlotsStay old new → IsWhole g old → (i : ℕ) → i < 256 → in_slot (bytes_of g new) (slot_in old.live q) i ≡ in_slot (bytes_of g old) (slot_in old.live q) i
   live_slot_same q old new stay h i lt =
       slot_same (bytes_of g old) (bytes_of g new) (slot_in old.live q) q i lt (λ s is. (h.pages q).live_page s is) (λ s bytes is has. stay s bytes (inl (q, is)) has)
 
-  frozen_slot_same : (q : ℕ) (old new : Shown D) → SlotsStay old new → IsWhole g old → (i : ℕ) → i < 256 → in_slot (bytes_of g new) (slot_in old.frozen q) i ≡ in_slot (bytes_of g old) (slot_in old.frozen q) i
+  frozen_slot_same : (q : ℕ) (old new : ShownPool D) → SlotsStay old new → IsWhole g old → (i : ℕ) → i < 256 → in_slot (bytes_of g new) (slot_in old.frozen q) i ≡ in_slot (bytes_of g old) (slot_in old.frozen q) i
   frozen_slot_same q old new stay h i lt =
       slot_same (bytes_of g old) (bytes_of g new) (slot_in old.frozen q) q i lt (λ s is. (h.pages q).frozen_page s is) (λ s bytes is has. stay s bytes (inr (q, is)) has)
 
   -- a page at which nothing is looked up otherwise
-  pub live_same : (q : ℕ) (old new : Shown D) → Same q old new → SlotsStay old new → IsWhole g old → LiveHere q old new
+  pub live_same : (q : ℕ) (old new : ShownPool D) → Same q old new → SlotsStay old new → IsWhole g old → LiveHere q old new
   live_same q old new same stay h i lt =
       (λ k. in_frame_or (same.frames k) (in_slot (bytes_of g new) (same.live k) i) i)
       ∙ ap (λ (c : Cell). in_frame_or (frame_in old.frames q) c i) (live_slot_same q old new stay h i lt)
 
-  pub here_same : (q : ℕ) (old new : Shown D) → Same q old new → SlotsStay old new → IsWhole g old → Here q old new
+  pub here_same : (q : ℕ) (old new : ShownPool D) → Same q old new → SlotsStay old new → IsWhole g old → Here q old new
   here_same q old new same stay h = record {
     frozen = λ i lt.
         (λ k. frozen_by (same.waiting k) (same.copies k) (in_slot (bytes_of g new) (same.frozen k) i) (live_same q old new same stay h i lt k) i)
@@ -94,12 +94,12 @@ module _ {D : Type 0} (g : disk.Ghosts D) where
     };
   }
 
-  here_by : (q : ℕ) (old new : Shown D) → SlotsStay old new → IsWhole g old → Same q old new ⊎ (IsWhole g old → Here q old new) → Here q old new
+  here_by : (q : ℕ) (old new : ShownPool D) → SlotsStay old new → IsWhole g old → Same q old new ⊎ (IsWhole g old → Here q old new) → Here q old new
   here_by q old new stay h (inl same) = here_same q old new same stay h
   here_by q old new stay h (inr here) = here h
 
   -- a step, page by page
-  pub went_by : (old new : Shown D) → FileStep old new → SlotsStay old new → ((q : ℕ) → Same q old new ⊎ (IsWhole g old → Here q old new)) → Went g old new
+  pub went_by : (old new : ShownPool D) → FileStep old new → SlotsStay old new → ((q : ℕ) → Same q old new ⊎ (IsWhole g old → Here q old new)) → Went g old new
   went_by old new file stay each = record {
     goes = file.goes;
     works = file.works;
@@ -116,15 +116,15 @@ module _ {D : Type 0} (g : disk.Ghosts D) where
     limits = file.limits;
   }
 
-  live_here_by : (q : ℕ) (old new : Shown D) → SlotsStay old new → IsWhole g old → Same q old new ⊎ (IsWhole g old → LiveHere q old new) → LiveHere q old new
+  live_here_by : (q : ℕ) (old new : ShownPool D) → SlotsStay old new → IsWhole g old → Same q old new ⊎ (IsWhole g old → LiveHere q old new) → LiveHere q old new
   live_here_by q old new stay h (inl same) = live_same q old new same stay h
   live_here_by q old new stay h (inr here) = here h
 
-  pub live_by : (old new : Shown D) → SlotsStay old new → ((q : ℕ) → Same q old new ⊎ (IsWhole g old → LiveHere q old new)) → IsWhole g old → SameMap (live g old) (live g new)
+  pub live_by : (old new : ShownPool D) → SlotsStay old new → ((q : ℕ) → Same q old new ⊎ (IsWhole g old → LiveHere q old new)) → IsWhole g old → SameMap (live g old) (live g new)
   live_by old new stay each h w = live_here_by (w / 256) old new stay h (each (w / 256)) (w % 256) (small w)
 
   -- where the file is as it was
-  pub still_file : (old new : Shown D) → new.file ≡ old.file → new.root ≡ old.root → Extends old.frozen new.frozen → (IsTrue old.is_sealed → IsTrue new.is_sealed) → (IsTrue old.is_sealed → new.frozen ≡ old.frozen) → (new.most_frames ≡ old.most_frames) × (new.slots ≡ old.slots) → FileStep old new
+  pub still_file : (old new : ShownPool D) → new.file ≡ old.file → new.root ≡ old.root → Extends old.frozen new.frozen → (IsTrue old.is_sealed → IsTrue new.is_sealed) → (IsTrue old.is_sealed → new.frozen ≡ old.frozen) → (new.most_frames ≡ old.most_frames) × (new.slots ≡ old.slots) → FileStep old new
   still_file old new file root frozen sealed sealed_table limits =
       let same : disk_of new ≡ disk_of old = λ k. (file k).disk in
       record {
@@ -142,7 +142,7 @@ module _ {D : Type 0} (g : disk.Ghosts D) where
       }
 
   -- where a call of the file adds no image
-  pub quiet_file : (old new : Shown D) → LeavesOnly g (disk_of old) (disk_of new) (IsImage (g.state (disk_of old))) → (is_broken new ≡ false → is_broken old ≡ false) → BreaksByFailure g old new → new.root ≡ old.root → Extends old.frozen new.frozen
+  pub quiet_file : (old new : ShownPool D) → LeavesOnly g (disk_of old) (disk_of new) (IsImage (g.state (disk_of old))) → (is_broken new ≡ false → is_broken old ≡ false) → BreaksByFailure g old new → new.root ≡ old.root → Extends old.frozen new.frozen
       → (IsTrue old.is_sealed → IsTrue new.is_sealed) → (IsTrue old.is_sealed → new.frozen ≡ old.frozen) → (new.most_frames ≡ old.most_frames) × (new.slots ≡ old.slots) → FileStep old new
   quiet_file old new only works breaks root frozen sealed sealed_table limits = record {
     goes = (only.later, only.has_gone);
@@ -159,7 +159,7 @@ module _ {D : Type 0} (g : disk.Ghosts D) where
   }
 
   -- where a page is written to a slot that no table of the root or of the frozen map names
-  pub written_file : (old new : Shown D) (slot : ℕ) → ¬ IsNamed old.root slot → ¬ IsNamed old.frozen slot
+  pub written_file : (old new : ShownPool D) (slot : ℕ) → ¬ IsNamed old.root slot → ¬ IsNamed old.frozen slot
       → ((other : ℕ) (bytes : List ℕ) → other ≢ slot → Leaves (HasBytes other bytes) (g.state (disk_of old)) → LeavesOnly g (disk_of old) (disk_of new) (HasBytes other bytes))
       → ((n : ℕ) → Leaves (λ image. n ≤ length image) (g.state (disk_of old)) → LeavesOnly g (disk_of old) (disk_of new) (λ image. n ≤ length image))
       → (is_broken new ≡ false → is_broken old ≡ false) → BreaksByFailure g old new → new.root ≡ old.root → Extends old.frozen new.frozen

@@ -11,7 +11,7 @@ use Rattle.hg_pages.specs.Tables.{slot_in}
 use Rattle.hg_pool.specs.declared.frame.Frame.{Frame}
 use Rattle.hg_pool.specs.Kept.{AreWithin, IsFaithful, Went}
 use Rattle.hg_pool.specs.Maps.{bytes_of, frame_in, in_frame_or, in_slot, live}
-use Rattle.hg_pool.specs.Shown.{Shown}
+use Rattle.hg_pool.specs.Shown.{ShownPool}
 use Rattle.hg_pool.proofs.Lookups.{same_number, turned}
 use Rattle.hg_pool.proofs.Stepping.{the_some}
 
@@ -109,12 +109,12 @@ still_present page from to cell f old new q h is = ap is_some (h.looks q) ∙ by
     by false = is
 
 module _ {D : Type 0} (g : disk.Ghosts D) where
-  pub live_filled : (page from to : ℕ) (cell : Cell) (f : Frame) (old new : Shown D) → new ≡ record old { frames = new.frames } → IsFilled page from to cell f old.frames new.frames → (w : ℕ)
+  pub live_filled : (page from to : ℕ) (cell : Cell) (f : Frame) (old new : ShownPool D) → new ≡ record old { frames = new.frames } → IsFilled page from to cell f old.frames new.frames → (w : ℕ)
       → live g new w ≡ cond (is_inside page from to w) cell (live g old w)
   live_filled page from to cell f old new rest h w =
-      ap (λ (p : Shown D). live g p w) rest ∙ word_filled page from to cell f old.frames new.frames (in_slot (bytes_of g old) (slot_in old.live (w / 256)) (w % 256)) w h
+      ap (λ (p : ShownPool D). live g p w) rest ∙ word_filled page from to cell f old.frames new.frames (in_slot (bytes_of g old) (slot_in old.live (w / 256)) (w % 256)) w h
 
-  pub faithful_filled : (page from to : ℕ) (cell : Cell) (old new : Shown D) (n m : ℕ) → Went g old new → ((w : ℕ) → live g new w ≡ cond (is_inside page from to w) cell (live g old w)) → IsWithin n m cell → IsFaithful g old n m → IsFaithful g new n m
+  pub faithful_filled : (page from to : ℕ) (cell : Cell) (old new : ShownPool D) (n m : ℕ) → Went g old new → ((w : ℕ) → live g new w ≡ cond (is_inside page from to w) cell (live g old w)) → IsWithin n m cell → IsFaithful g old n m → IsFaithful g new n m
   faithful_filled page from to cell old new n m went cells is h = record {
     whole = went.whole h.whole;
     within = λ w. subst (λ (c : Cell). IsWithin n m c) (sym (cells w)) (by (is_inside page from to w) (live g old w) (h.within w));

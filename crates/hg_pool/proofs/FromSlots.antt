@@ -10,7 +10,7 @@ use Rattle.hg_cells.specs.Cells.{IsWithin}
 use Rattle.hg_pages.specs.declared.fault.SlotFault.{SlotFault}
 use Rattle.hg_pages.specs.declared.fault.SlotFault.TheVariants as fault
 use Rattle.hg_pages.specs.declared.slot_file.SlotFile.{SlotFile}
-use Rattle.hg_pages.specs.Fault.{told_as}
+use Rattle.hg_pages.specs.Fault.{read_refusal}
 use Rattle.hg_pages.specs.Files as files
 use Rattle.hg_pages.specs.Slots.{AreKnown, HasBytes, HasPage, IsKnown}
 use Rattle.hg_pages.specs.Tables.{slot_in}
@@ -18,7 +18,7 @@ use Rattle.hg_pages.proofs.Decoding.{stored}
 use Rattle.hg_pool.specs.declared.frame.Frame.{Frame}
 use Rattle.hg_pool.specs.Kept.{AreWithin, CellsFrom, HasSome, IsWhole, Stays}
 use Rattle.hg_pool.specs.Maps.{bytes_of, disk_of, frame_in, in_frame_or, in_slot, is_broken, live}
-use Rattle.hg_pool.specs.Shown.{Shown}
+use Rattle.hg_pool.specs.Shown.{ShownPool}
 use Rattle.hg_pool.proofs.Changing.{quiet_file}
 use Rattle.hg_pool.proofs.Stepping.{no_some, stays_all}
 
@@ -46,7 +46,7 @@ all_known : (segments : ℕ) (sets : List (List ℕ)) (cells : List Cell) → ((
 all_known segments sets [] each = tt
 all_known segments sets (c ∷ cells) each = (each 0 (omega arith), all_known segments sets cells (λ i lt. each (suc i) (omega (arith, lt))))
 
-pub no_damage : (f : SlotFault) → (f ≡ fault.Damaged → ⊥) → told_as f ≢ refusal.Damaged
+pub no_damage : (f : SlotFault) → (f ≡ fault.Damaged → ⊥) → read_refusal f ≢ refusal.Damaged
 no_damage fault.Broken not same = absurd (cc same)
 no_damage fault.Damaged not same = not refl
 no_damage fault.DeviceFault not same = absurd (cc same)
@@ -73,15 +73,15 @@ frames_with old new page n m e look each within q f is i = by (page == q) (sym (
 
 module _ {D : Type 0} (g : disk.Ghosts D) where
   -- a call of the file that changes nothing that is known of it
-  pub stays_read : (old : Shown D) (file : SlotFile D) → LeavesOnly g (disk_of old) (files.disk_of file) (IsImage (g.state (disk_of old))) → files.is_broken file ≡ is_broken old → g.failures (disk_of old) ≤ g.failures (files.disk_of file) → files.known g file ≡ bytes_of g old → Stays g old (record old { file = file })
+  pub stays_read : (old : ShownPool D) (file : SlotFile D) → LeavesOnly g (disk_of old) (files.disk_of file) (IsImage (g.state (disk_of old))) → files.is_broken file ≡ is_broken old → g.failures (disk_of old) ≤ g.failures (files.disk_of file) → files.known g file ≡ bytes_of g old → Stays g old (record old { file = file })
   stays_read old file only works more known =
-      let new : Shown D = record old { file = file } in
+      let new : ShownPool D = record old { file = file } in
       stays_all g old new (quiet_file g old new only (λ now. sym works ∙ now) (more, inl works) refl (λ q s is. is) (λ sealed. sealed) (λ sealed. refl) (refl, refl))
       (λ s bytes named has. subst (λ (l : List ℕ). HasBytes s bytes l) (sym known) has)
       (λ q. record { frames = refl; live = refl; frozen = refl; waiting = refl; copies = refl })
 
   -- a page that stands in its slot is not damaged
-  pub stands_there : (p : Shown D) (page slot segments : ℕ) (sets : List (List ℕ)) → IsWhole g p → slot_in p.live page ≡ Some slot → ((i : ℕ) → i < 256 → IsKnown segments sets (in_slot (bytes_of g p) (slot_in p.live page) i))
+  pub stands_there : (p : ShownPool D) (page slot segments : ℕ) (sets : List (List ℕ)) → IsWhole g p → slot_in p.live page ≡ Some slot → ((i : ℕ) → i < 256 → IsKnown segments sets (in_slot (bytes_of g p) (slot_in p.live page) i))
       → ((cells : List Cell) → ¬ HasPage segments sets slot page cells (bytes_of g p)) → ⊥
   stands_there p page slot segments sets h is known none =
       let found = (h.pages page).live_page slot is in
@@ -92,13 +92,13 @@ module _ {D : Type 0} (g : disk.Ghosts D) where
             subst (λ (c : Cell). IsKnown segments sets c) (ap (λ (o : Option ℕ). in_slot (bytes_of g p) o i) is ∙ stored slot page i found.0 (bytes_of g p) inside found.1) (known i inside));
       })
 
-  pub read_there : (p : Shown D) (page slot i : ℕ) (cells : List Cell) (segments : ℕ) (sets : List (List ℕ)) (file : List ℕ) → i < 256 → slot_in p.live page ≡ Some slot → file ≡ bytes_of g p → HasPage segments sets slot page cells (bytes_of g p)
+  pub read_there : (p : ShownPool D) (page slot i : ℕ) (cells : List Cell) (segments : ℕ) (sets : List (List ℕ)) (file : List ℕ) → i < 256 → slot_in p.live page ≡ Some slot → file ≡ bytes_of g p → HasPage segments sets slot page cells (bytes_of g p)
       → get_or cells i New ≡ in_slot file (slot_in p.live page) i
   read_there p page slot i cells segments sets file lt is same has =
       sym ((λ k. in_slot (same k) (is k) i) ∙ stored slot page i cells (bytes_of g p) lt has.stands)
 
   -- what is whole after such a call was so before
-  pub whole_before : (old : Shown D) (file : SlotFile D) → files.known g file ≡ bytes_of g old → IsWhole g (record old { file = file }) → IsWhole g old
+  pub whole_before : (old : ShownPool D) (file : SlotFile D) → files.known g file ≡ bytes_of g old → IsWhole g (record old { file = file }) → IsWhole g old
   whole_before old file known h = record {
     honest = h.honest;
     pages = λ q.
@@ -118,7 +118,7 @@ pub not_there : (old new : Option Frame) → (is_some new ≡ true → is_some o
 not_there old new there is = no_some new (gone (is_some new) (is_some old) there is)
 
 -- what the live map has in a page that is not in memory stands in its slot
-pub known_there : {D : Type 0} (g : disk.Ghosts D) (old new : Shown D) (page segments : ℕ) (sets : List (List ℕ)) → Stays g old new → IsWhole g old → frame_in new.frames page ≡ None
+pub known_there : {D : Type 0} (g : disk.Ghosts D) (old new : ShownPool D) (page segments : ℕ) (sets : List (List ℕ)) → Stays g old new → IsWhole g old → frame_in new.frames page ≡ None
     → ((w : ℕ) → w / 256 ≡ page → IsKnown segments sets (live g old w)) → (i : ℕ) → i < 256 → IsKnown segments sets (in_slot (bytes_of g new) (slot_in new.live page) i)
 known_there g old new page segments sets stays h none known i lt =
     let number : (256 * page + i) / 256 ≡ page = omega (arith, lt) in

@@ -12,7 +12,7 @@ use Rattle.hg_pages.specs.Tables.{slot_in}
 use Rattle.hg_pool.specs.Kept.{KeepsGiven, KeepsNamed}
 use Rattle.hg_pool.specs.Laws.{RootStays, SealedStays}
 use Rattle.hg_pool.specs.Maps.{GivesCells, disk_of, frozen}
-use Rattle.hg_pool.specs.Shown.{Shown}
+use Rattle.hg_pool.specs.Shown.{ShownPool}
 
 -- a page has just one list of these cells
 same_cells : (cells_of : ℕ → Cell) (page : ℕ) (xs ys : List Cell) → length xs ≡ 256 → length ys ≡ 256
@@ -46,7 +46,7 @@ module _ {D : Type 0} (g : disk.Ghosts D) (has_its_bytes : (d : D) → IsImage (
   abbrev has : (table : List (ℕ × ℕ)) → (ℕ → Cell) → Entry table → List ℕ → Type 0
   has table cells_of e image = (cells : List Cell) × HasSlot e.slot e.page cells image × ((i : ℕ) → i < 256 → cells_of (256 * e.page + i) ≡ get_or cells i New)
 
-  one : (table : List (ℕ × ℕ)) (cells_of : ℕ → Cell) (old new : Shown D) → KeepsNamed g table old new → Leaves (GivesCells table cells_of) (g.state (disk_of old)) → (e : Entry table) → LeavesOnly g (disk_of old) (disk_of new) (has table cells_of e)
+  one : (table : List (ℕ × ℕ)) (cells_of : ℕ → Cell) (old new : ShownPool D) → KeepsNamed g table old new → Leaves (GivesCells table cells_of) (g.state (disk_of old)) → (e : Entry table) → LeavesOnly g (disk_of old) (disk_of new) (has table cells_of e)
   one table cells_of old new keeps gives e =
       let contents = (g.state (disk_of old)).contents in
       let found = (gives contents (has_its_bytes (disk_of old))).named e.page e.slot e.names in
@@ -58,7 +58,7 @@ module _ {D : Type 0} (g : disk.Ghosts D) (has_its_bytes : (d : D) → IsImage (
       weaker g (disk_of old) (disk_of new) (HasBytes e.slot bytes) (has table cells_of e) (keeps e.slot bytes (e.page, e.names) each)
       (λ image stands. (cells, record { page_is = found.1.page_is; bytes = stands }, found.2))
 
-  pub given_by_named : (table : List (ℕ × ℕ)) (old new : Shown D) → GoesOn g (disk_of old) (disk_of new) → KeepsNamed g table old new → KeepsGiven g table old new
+  pub given_by_named : (table : List (ℕ × ℕ)) (old new : ShownPool D) → GoesOn g (disk_of old) (disk_of new) → KeepsNamed g table old new → KeepsGiven g table old new
   given_by_named table old new goes keeps cells_of gives =
       let unnamed = (gives (g.state (disk_of old)).contents (has_its_bytes (disk_of old))).unnamed in
       weaker g (disk_of old) (disk_of new) (λ image. (e : Entry table) → has table cells_of e image) (GivesCells table cells_of)

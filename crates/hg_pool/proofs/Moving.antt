@@ -12,7 +12,7 @@ use Rattle.hg_pages.proofs.Decoding.{stored}
 use Rattle.hg_pool.specs.declared.frame.Frame.{Frame}
 use Rattle.hg_pool.specs.Kept.{Stays}
 use Rattle.hg_pool.specs.Maps.{bytes_of, copy_in, frame_in, frozen_at, frozen_by, in_frame_or, in_slot, live_at}
-use Rattle.hg_pool.specs.Shown.{Shown}
+use Rattle.hg_pool.specs.Shown.{ShownPool}
 use Rattle.hg_pool.specs.Sound.{AreSound}
 use Rattle.hg_pool.specs.Tables.{FindsBelow, IsSetAt}
 use Rattle.hg_pool.proofs.Changing.{LiveHere, still_file}
@@ -24,7 +24,7 @@ ok_of (Ok value) is a = a
 ok_of (Err error) is a = absurd (cc is)
 
 -- a table with room takes an entry
-pub set_at : {T E : Type 0} (page slot : ℕ) (old new : tables.Shown) (result : Result T E) (waiting : tables.Shown) → length old.entries + length waiting.entries < old.capacity → slot < old.slots
+pub set_at : {T E : Type 0} (page slot : ℕ) (old new : tables.ShownTable) (result : Result T E) (waiting : tables.ShownTable) → length old.entries + length waiting.entries < old.capacity → slot < old.slots
     → OnOk result ((other : ℕ) → slot_in new.entries other ≡ (if page == other then Some slot else slot_in old.entries other)) → (length old.entries < old.capacity → slot < old.slots → IsOk result)
     → OnOk result (length new.entries ≡ length old.entries + (if is_some (slot_in old.entries page) then 0 else 1)) → (old.capacity ≤ new.capacity) × (old.slots ≤ new.slots) → IsSetAt page slot old new
 set_at page slot old new result waiting room slots looks adds size more =
@@ -35,11 +35,11 @@ one_more : (b : Bool) (n m : ℕ) → m ≡ n + (if b then 0 else 1) → m ≤ n
 one_more true n m is = omega (arith, is)
 one_more false n m is = omega (arith, is)
 
-pub at_most_one : (page slot : ℕ) (old new : tables.Shown) → IsSetAt page slot old new → length new.entries ≤ length old.entries + 1
+pub at_most_one : (page slot : ℕ) (old new : tables.ShownTable) → IsSetAt page slot old new → length new.entries ≤ length old.entries + 1
 at_most_one page slot old new put = one_more (is_some (slot_in old.entries page)) (length old.entries) (length new.entries) put.size
 
 -- which slots the table names then
-pub names_no_other : (page slot other : ℕ) (old new : tables.Shown) → IsSetAt page slot old new → (slot ≡ other → ⊥) → ¬ IsNamed old.entries other → ¬ IsNamed new.entries other
+pub names_no_other : (page slot other : ℕ) (old new : tables.ShownTable) → IsSetAt page slot old new → (slot ≡ other → ⊥) → ¬ IsNamed old.entries other → ¬ IsNamed new.entries other
 names_no_other page slot other old new put apart not named = by (page == named.0) (sym (put.looks named.0) ∙ named.1)
   where
     by : (b : Bool) → (if b then Some slot else slot_in old.entries named.0) ≡ Some other → ⊥
@@ -47,7 +47,7 @@ names_no_other page slot other old new put apart not named = by (page == named.0
     by false is = not (named.0, is)
 
 -- and which pages it has
-set_below : (slots page slot : ℕ) (old new : tables.Shown) → IsSetAt page slot old new → page < 2 ^ 54 → slot < slots → FindsBelow slots old.entries → FindsBelow slots new.entries
+set_below : (slots page slot : ℕ) (old new : tables.ShownTable) → IsSetAt page slot old new → page < 2 ^ 54 → slot < slots → FindsBelow slots old.entries → FindsBelow slots new.entries
 set_below slots page slot old new put number within below q t is = by (page == q) refl (sym (put.looks q) ∙ is)
   where
     by : (b : Bool) → (page == q) ≡ b → (if b then Some slot else slot_in old.entries q) ≡ Some t → (q < 2 ^ 54) × (t < slots)
@@ -55,7 +55,7 @@ set_below slots page slot old new put number within below q t is = by (page == q
     by false test found = below q t found
 
 -- the live table
-pub sound_moved : (root : tables.Shown) (frozen : Option tables.Shown) (live also waiting : tables.Shown) (copies : LruCache ℕ (List Cell)) (frames after : LruCache ℕ Frame) (slots : ℕ) (is_sealed : Bool) (page slot : ℕ) (f : Frame) → AreSound root frozen live waiting copies frames slots is_sealed
+pub sound_moved : (root : tables.ShownTable) (frozen : Option tables.ShownTable) (live also waiting : tables.ShownTable) (copies : LruCache ℕ (List Cell)) (frames after : LruCache ℕ Frame) (slots : ℕ) (is_sealed : Bool) (page slot : ℕ) (f : Frame) → AreSound root frozen live waiting copies frames slots is_sealed
     → IsSetAt page slot live also → frame_in frames.entries page ≡ Some f → ((q : ℕ) → frame_in after.entries q ≡ (if page == q then Some (record f { is_dirty = false }) else frame_in frames.entries q)) → after.cap ≡ frames.cap
     → ¬ IsNamed waiting.entries slot → (slot_in waiting.entries page ≡ None) ⊎ (is_some (copy_in copies.entries page) ≡ true) → length live.entries + length waiting.entries < live.capacity → slot < slots
     → AreSound root frozen also waiting copies after slots is_sealed
@@ -98,11 +98,11 @@ sound_moved root frozen live also waiting copies frames after slots is_sealed pa
     number q e true test is = subst (λ (n : ℕ). n < 2 ^ 54) (same_number page q test) (s.numbers page f there)
     number q e false test is = s.numbers q e is
 
-pub stays_moved : {D : Type 0} (g : disk.Ghosts D) (old : Shown D) (live : List (ℕ × ℕ)) (frames : List (ℕ × Frame)) (cap page slot : ℕ) (f : Frame) → ((q : ℕ) → slot_in live q ≡ (if page == q then Some slot else slot_in old.live q)) → frame_in old.frames page ≡ Some f
+pub stays_moved : {D : Type 0} (g : disk.Ghosts D) (old : ShownPool D) (live : List (ℕ × ℕ)) (frames : List (ℕ × Frame)) (cap page slot : ℕ) (f : Frame) → ((q : ℕ) → slot_in live q ≡ (if page == q then Some slot else slot_in old.live q)) → frame_in old.frames page ≡ Some f
     → ((q : ℕ) → frame_in frames q ≡ (if page == q then Some (record f { is_dirty = false }) else frame_in old.frames q)) → cap ≡ old.most_frames → HasSlot slot page f.cells (bytes_of g old)
     → Stays g old (record old { live = live; frames = frames; most_frames = cap })
 stays_moved {D} g old live frames cap page slot f look there frames_look same_cap stands =
-    let new : Shown D = record old { live = live; frames = frames; most_frames = cap } in
+    let new : ShownPool D = record old { live = live; frames = frames; most_frames = cap } in
     let clean : Frame = record f { is_dirty = false } in
     let here : frame_in frames page ≡ Some clean = frames_look page ∙ if_true (page == page) (Some clean) (frame_in old.frames page) (itself page) in
     let slot_here : slot_in live page ≡ Some slot = look page ∙ if_true (page == page) (Some slot) (slot_in old.live page) (itself page) in
@@ -138,7 +138,7 @@ copy_left true o cells is = absurd (cc is)
 copy_left false o cells is = (refl, is)
 
 -- the frozen table
-pub sound_released : (root : tables.Shown) (frozen : Option tables.Shown) (was_frozen now_frozen : tables.Shown) (live waiting rest : tables.Shown) (copies also : LruCache ℕ (List Cell)) (frames : LruCache ℕ Frame) (slots : ℕ) (is_sealed : Bool) (page slot : ℕ)
+pub sound_released : (root : tables.ShownTable) (frozen : Option tables.ShownTable) (was_frozen now_frozen : tables.ShownTable) (live waiting rest : tables.ShownTable) (copies also : LruCache ℕ (List Cell)) (frames : LruCache ℕ Frame) (slots : ℕ) (is_sealed : Bool) (page slot : ℕ)
     → AreSound root frozen live waiting copies frames slots is_sealed → frozen ≡ Some was_frozen → IsSetAt page slot was_frozen now_frozen → slot_in waiting.entries page ≡ Some slot
     → ((q : ℕ) → slot_in rest.entries q ≡ (if page == q then None else slot_in waiting.entries q)) → length rest.entries + 1 ≡ length waiting.entries
     → ((q : ℕ) → copy_in also.entries q ≡ (if page == q then None else copy_in copies.entries q)) → also.cap ≡ copies.cap
@@ -148,11 +148,11 @@ sound_released root frozen was_frozen now_frozen live waiting rest copies also f
   picked = λ q t there.
       let left = no_page_left (page == q) (slot_in waiting.entries q) t (sym (look q) ∙ there) in
       let was = s.picked q t left.1 in
-      let not : ¬ IsNamed was_frozen.entries t = subst (λ (o : Option tables.Shown). ¬ IsNamed (unwrap_or o root).entries t) own was.not_frozen in
+      let not : ¬ IsNamed was_frozen.entries t = subst (λ (o : Option tables.ShownTable). ¬ IsNamed (unwrap_or o root).entries t) own was.not_frozen in
       let other : slot ≡ t → ⊥ = λ same. let at = once q (left.1 ∙ ap (λ (n : ℕ). Some n) (sym same)) in absurd (cc (sym left.0 ∙ ap (λ (n : ℕ). page == n) (sym at) ∙ itself page)) in
-      let none : slot_in was_frozen.entries q ≡ None = subst (λ (o : Option tables.Shown). slot_in (unwrap_or o root).entries q ≡ None) own was.unwritten in
-      let room : length was_frozen.entries + length waiting.entries ≤ was_frozen.capacity = subst (λ (o : Option tables.Shown). length (unwrap_or o root).entries + length waiting.entries ≤ (unwrap_or o root).capacity) own was.frozen_room in
-      let slots_room : t < was_frozen.slots = subst (λ (o : Option tables.Shown). t < (unwrap_or o root).slots) own was.frozen_slots in
+      let none : slot_in was_frozen.entries q ≡ None = subst (λ (o : Option tables.ShownTable). slot_in (unwrap_or o root).entries q ≡ None) own was.unwritten in
+      let room : length was_frozen.entries + length waiting.entries ≤ was_frozen.capacity = subst (λ (o : Option tables.ShownTable). length (unwrap_or o root).entries + length waiting.entries ≤ (unwrap_or o root).capacity) own was.frozen_room in
+      let slots_room : t < was_frozen.slots = subst (λ (o : Option tables.ShownTable). t < (unwrap_or o root).slots) own was.frozen_slots in
       record {
         not_root = was.not_root;
         not_frozen = names_no_other page slot t was_frozen now_frozen put other not;
@@ -178,16 +178,16 @@ sound_released root frozen was_frozen now_frozen live waiting rest copies also f
   least_frames = s.least_frames;
   most_slots = s.most_slots;
   root_below = s.root_below;
-  frozen_below = let was = s.picked page slot waits in set_below slots page slot was_frozen now_frozen put was.number was.within (subst (λ (o : Option tables.Shown). FindsBelow slots (unwrap_or o root).entries) own s.frozen_below);
+  frozen_below = let was = s.picked page slot waits in set_below slots page slot was_frozen now_frozen put was.number was.within (subst (λ (o : Option tables.ShownTable). FindsBelow slots (unwrap_or o root).entries) own s.frozen_below);
   live_below = s.live_below;
 }
 
-pub stays_released : {D : Type 0} (g : disk.Ghosts D) (old : Shown D) (frozen waiting : List (ℕ × ℕ)) (copies : List (ℕ × List Cell)) (page slot : ℕ) → ((q : ℕ) → slot_in frozen q ≡ (if page == q then Some slot else slot_in old.frozen q))
+pub stays_released : {D : Type 0} (g : disk.Ghosts D) (old : ShownPool D) (frozen waiting : List (ℕ × ℕ)) (copies : List (ℕ × List Cell)) (page slot : ℕ) → ((q : ℕ) → slot_in frozen q ≡ (if page == q then Some slot else slot_in old.frozen q))
     → slot_in old.waiting page ≡ Some slot → slot_in old.frozen page ≡ None → ((q : ℕ) → slot_in waiting q ≡ (if page == q then None else slot_in old.waiting q)) → ((q : ℕ) → copy_in copies q ≡ (if page == q then None else copy_in old.copies q))
     → ((cells : List Cell) × HasSlot slot page cells (bytes_of g old) × ((i : ℕ) → i < 256 → get_or cells i New ≡ frozen_at (bytes_of g old) old page i))
     → (IsTrue old.is_sealed → old.waiting ≡ []) → Stays g old (record old { frozen = frozen; waiting = waiting; copies = copies })
 stays_released {D} g old frozen waiting copies page slot look waits unwritten waiting_look copies_look stands none_waits =
-    let new : Shown D = record old { frozen = frozen; waiting = waiting; copies = copies } in
+    let new : ShownPool D = record old { frozen = frozen; waiting = waiting; copies = copies } in
     let slot_here : slot_in frozen page ≡ Some slot = look page ∙ if_true (page == page) (Some slot) (slot_in old.frozen page) (itself page) in
     let none_here : slot_in waiting page ≡ None = waiting_look page ∙ if_true (page == page) None (slot_in old.waiting page) (itself page) in
     stays_at g old new page (still_file g old new refl refl (λ q s is. by q s is (page == q) refl) (λ sealed. sealed) (λ sealed. absurd (cc (sym waits ∙ ap (λ (es : List (ℕ × ℕ)). slot_in es page) (none_waits sealed)))) (refl, refl)) (λ s b named has. has)

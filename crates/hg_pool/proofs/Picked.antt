@@ -6,7 +6,7 @@ use Rattle.hg_pages.specs.Marks.{ArePagesRising}
 use Rattle.hg_pages.specs.Tables.{IsNamed, slot_in}
 use Rattle.hg_pool.specs.Answers.{IsTaken}
 use Rattle.hg_pool.specs.Picking.{ArePicks}
-use Rattle.hg_pool.specs.Shown.{Shown}
+use Rattle.hg_pool.specs.Shown.{ShownPool}
 use Rattle.hg_pool.proofs.Lookups.{if_false, if_true, itself, same_number}
 
 some_if : (b : Bool) (s : ℕ) (o : Option ℕ) → is_some (if b then Some s else o) ≡ (if b then true else is_some o)
@@ -66,7 +66,7 @@ earlier (e ∷ es) (suc i) q lt rising is = by (e.0 == q) refl (sym (some_if (e.
     by false test found rest = rest found
 
 -- What holds of the picks for the first so many pages, behind which slots are searched from here on.
-pub record IsPicking {D : Type 0} (p : Shown D) (pages picks : List (ℕ × ℕ)) (index from : ℕ) : Type 0 where
+pub record IsPicking {D : Type 0} (p : ShownPool D) (pages picks : List (ℕ × ℕ)) (index from : ℕ) : Type 0 where
   pub among : (q : ℕ) → is_some (slot_in picks q) ≡ true → is_some (slot_in (take index pages) q) ≡ true
   pub each : (q : ℕ) → is_some (slot_in (take index pages) q) ≡ true → is_some (slot_in picks q) ≡ true
   pub free : (q slot : ℕ) → slot_in picks q ≡ Some slot → (¬ IsTaken p slot) × (slot < p.slots) × (slot < from)
@@ -74,7 +74,7 @@ pub record IsPicking {D : Type 0} (p : Shown D) (pages picks : List (ℕ × ℕ)
   pub rising : (q r s t : ℕ) → q < r → slot_in picks q ≡ Some s → slot_in picks r ≡ Some t → s < t
   pub few : length picks ≤ index
 
-pub none_picked : {D : Type 0} (p : Shown D) (pages : List (ℕ × ℕ)) → IsPicking p pages [] 0 0
+pub none_picked : {D : Type 0} (p : ShownPool D) (pages : List (ℕ × ℕ)) → IsPicking p pages [] 0 0
 none_picked p pages = record {
   among = λ q is. absurd (cc is);
   each = λ q is. absurd (cc is);
@@ -91,7 +91,7 @@ one_more false n m is = omega (arith, is)
 three : (slot from free : ℕ) → slot < free + 1 → (slot < from) ⊎ (((from ≤ slot) × (slot < free)) ⊎ (slot ≡ free))
 three slot from free lt = grind arith
 
-pub picked_more : {D : Type 0} (p : Shown D) (pages old new : List (ℕ × ℕ)) (index from slot : ℕ) → IsPicking p pages old index from → index < length pages → ArePagesRising pages
+pub picked_more : {D : Type 0} (p : ShownPool D) (pages old new : List (ℕ × ℕ)) (index from slot : ℕ) → IsPicking p pages old index from → index < length pages → ArePagesRising pages
     → ((q : ℕ) → slot_in new q ≡ (if (get_or pages index (0, 0)).0 == q then Some slot else slot_in old q)) → length new ≡ length old + (if is_some (slot_in old (get_or pages index (0, 0)).0) then 0 else 1)
     → from ≤ slot → slot < p.slots → ¬ IsTaken p slot → ((s : ℕ) → from ≤ s → s < slot → IsTaken p s) → IsPicking p pages new (index + 1) (slot + 1)
 picked_more p pages old new index from slot s inside rising_pages look size from_on within not_taken between = record {
@@ -142,7 +142,7 @@ picked_more p pages old new index from slot s inside rising_pages look size from
     named t below (inr (inr same)) = inr (key, look key ∙ if_true (key == key) (Some slot) (slot_in old key) (itself key) ∙ ap (λ (n : ℕ). Some n) (sym same))
 
 -- all pages have one
-pub all_picked : {D : Type 0} (p : Shown D) (pages picks : List (ℕ × ℕ)) (index from : ℕ) → IsPicking p pages picks index from → length pages ≤ index → index ≤ length pages → ArePicks p pages picks
+pub all_picked : {D : Type 0} (p : ShownPool D) (pages picks : List (ℕ × ℕ)) (index from : ℕ) → IsPicking p pages picks index from → length pages ≤ index → index ≤ length pages → ArePicks p pages picks
 all_picked p pages picks index from s end le =
     let whole : take index pages ≡ pages = take_all index pages end in
     record {
@@ -157,7 +157,7 @@ all_picked p pages picks index from s end le =
     }
 
 -- no slot is left
-pub too_few : {D : Type 0} (p : Shown D) (pages picks : List (ℕ × ℕ)) (index from : ℕ) → IsPicking p pages picks index from → ((slot : ℕ) → from ≤ slot → slot < p.slots → IsTaken p slot) → (slot : ℕ) → slot < p.slots → IsTaken p slot ⊎ IsNamed picks slot
+pub too_few : {D : Type 0} (p : ShownPool D) (pages picks : List (ℕ × ℕ)) (index from : ℕ) → IsPicking p pages picks index from → ((slot : ℕ) → from ≤ slot → slot < p.slots → IsTaken p slot) → (slot : ℕ) → slot < p.slots → IsTaken p slot ⊎ IsNamed picks slot
 too_few p pages picks index from s full slot below = by (side slot from)
   where
     side : (a b : ℕ) → (a < b) ⊎ (b ≤ a)

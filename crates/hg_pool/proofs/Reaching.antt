@@ -4,10 +4,10 @@ use Rattle.std.proofs.lemmas.Bool.{cases_lt}
 use Rattle.hg_pages.specs.Tables.{IsNamed, slot_in}
 use Rattle.hg_pool.specs.Answers.{IsTaken}
 use Rattle.hg_pool.specs.Picking.{IsLeastFree}
-use Rattle.hg_pool.specs.Shown.{Shown}
+use Rattle.hg_pool.specs.Shown.{ShownPool}
 use Rattle.hg_pool.proofs.Lookups.{if_false, same_number}
 
-module _ {D : Type 0} (p : Shown D) where
+module _ {D : Type 0} (p : ShownPool D) where
   -- a search from a slot below which each is named
   pub least_of_all : (from : ℕ) (o : Option ℕ) → ((slot : ℕ) → slot < from → IsTaken p slot)
       → MatchOption o ((slot : ℕ) → from ≤ slot → slot < p.slots → IsTaken p slot) (λ free. (from ≤ free) × (free < p.slots) × (¬ IsTaken p free) × ((slot : ℕ) → from ≤ slot → slot < free → IsTaken p slot))
@@ -43,7 +43,7 @@ module _ {D : Type 0} (p : Shown D) where
       by (inr (inr (inr named))) = inr (inr (inr named))
 
 -- the page that got the slot, and the others
-pub takes_moved : {D : Type 0} (p : Shown D) (live : List (ℕ × ℕ)) (page slot : ℕ) → IsLeastFree p slot → ((q : ℕ) → slot_in live q ≡ (if page == q then Some slot else slot_in p.live q))
+pub takes_moved : {D : Type 0} (p : ShownPool D) (live : List (ℕ × ℕ)) (page slot : ℕ) → IsLeastFree p slot → ((q : ℕ) → slot_in live q ≡ (if page == q then Some slot else slot_in p.live q))
     → (q s : ℕ) → slot_in live q ≡ Some s → (slot_in p.live q ≡ Some s) ⊎ ((slot_in p.waiting q ≡ Some s) ⊎ IsLeastFree p s)
 takes_moved p live page slot least look q s is = by (page == q) (sym (look q) ∙ is)
   where
@@ -57,5 +57,5 @@ of_either (Ok value) a b one other = one a
 of_either (Err error) a b one other = other b
 
 -- where the table stays, and the search begins at the free slot or before
-pub reached_still : {D : Type 0} (p : Shown D) (live : List (ℕ × ℕ)) (slot from : ℕ) → IsLeastFree p slot → ((s : ℕ) → s < from → s < slot) → live ≡ p.live → (s : ℕ) → s < from → IsTaken (record p { live = live }) s
+pub reached_still : {D : Type 0} (p : ShownPool D) (live : List (ℕ × ℕ)) (slot from : ℕ) → IsLeastFree p slot → ((s : ℕ) → s < from → s < slot) → live ≡ p.live → (s : ℕ) → s < from → IsTaken (record p { live = live }) s
 reached_still p live slot from least below same s lt = subst (λ (es : List (ℕ × ℕ)). IsTaken (record p { live = es }) s) (sym same) (least.1 s (below s lt))

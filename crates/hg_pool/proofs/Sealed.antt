@@ -10,7 +10,7 @@ use Rattle.hg_pages.specs.declared.slot_file.SlotFile.{SlotFile}
 use Rattle.hg_pages.proofs.Decoding.{stored}
 use Rattle.hg_pool.specs.Kept.{BreaksByFailure, IsWhole, Stays}
 use Rattle.hg_pool.specs.Maps.{GivesCells, IsSealed, bytes_of, copy_in, disk_of, frozen, frozen_at, frozen_by, in_slot, is_broken, live_at}
-use Rattle.hg_pool.specs.Shown.{Shown}
+use Rattle.hg_pool.specs.Shown.{ShownPool}
 use Rattle.hg_pool.proofs.Changing.{quiet_file}
 use Rattle.hg_pool.proofs.Stepping.{stays_all}
 
@@ -20,7 +20,7 @@ place page i lt = omega arith
 word : (page i : ℕ) → i < 256 → (256 * page + i) % 256 ≡ i
 word page i lt = omega arith
 
-none_waits : {D : Type 0} (p : Shown D) (file : List ℕ) (page i : ℕ) → p.waiting ≡ [] → frozen_at file p page i ≡ in_slot file (slot_in p.frozen page) i
+none_waits : {D : Type 0} (p : ShownPool D) (file : List ℕ) (page i : ℕ) → p.waiting ≡ [] → frozen_at file p page i ≡ in_slot file (slot_in p.frozen page) i
 none_waits p file page i none = ap (λ (waiting : List (ℕ × ℕ)). frozen_by (slot_in waiting page) (copy_in p.copies page) (in_slot file (slot_in p.frozen page) i) (live_at file p page i) i) none
 
 -- a call that a broken value refuses, and that was answered Ok, found it in use
@@ -30,7 +30,7 @@ usable false is refuses = refl
 
 module _ {D : Type 0} (g : disk.Ghosts D) where
   -- where no page waits, the slots have the frozen map
-  pages_give : (p : Shown D) → IsWhole g p → p.waiting ≡ [] → GivesCells p.frozen (frozen g p) (bytes_of g p)
+  pages_give : (p : ShownPool D) → IsWhole g p → p.waiting ≡ [] → GivesCells p.frozen (frozen g p) (bytes_of g p)
   pages_give p h none = record {
     named = λ page slot is.
         let found = (h.pages page).frozen_page slot is in (
@@ -46,17 +46,17 @@ module _ {D : Type 0} (g : disk.Ghosts D) where
   }
 
   -- and after a sync each image has it
-  pub seal_sealed : (old : Shown D) (file : SlotFile D) (sealed : Bool) → IsWhole g old → old.waiting ≡ [] → files.known g file ≡ bytes_of g old → Leaves (λ image. image ≡ bytes_of g old) (g.state (files.disk_of file))
+  pub seal_sealed : (old : ShownPool D) (file : SlotFile D) (sealed : Bool) → IsWhole g old → old.waiting ≡ [] → files.known g file ≡ bytes_of g old → Leaves (λ image. image ≡ bytes_of g old) (g.state (files.disk_of file))
       → IsSealed g (record old { file = file; is_sealed = sealed })
   seal_sealed old file sealed h none same durable image is =
       let given = pages_give old h none in
       let now : GivesCells old.frozen (frozen g old) image = subst (λ (l : List ℕ). GivesCells old.frozen (frozen g old) l) (sym (durable image is)) given in
       subst (λ (l : List ℕ). GivesCells old.frozen (λ w. frozen_at l old (w / 256) (w % 256)) image) (sym same) now
 
-  pub stays_sealed : (old : Shown D) (file : SlotFile D) (sealed : Bool) → LeavesOnly g (disk_of old) (files.disk_of file) (IsImage (g.state (disk_of old))) → (files.is_broken file ≡ false → is_broken old ≡ false) → BreaksByFailure g old (record old { file = file }) → files.known g file ≡ bytes_of g old
+  pub stays_sealed : (old : ShownPool D) (file : SlotFile D) (sealed : Bool) → LeavesOnly g (disk_of old) (files.disk_of file) (IsImage (g.state (disk_of old))) → (files.is_broken file ≡ false → is_broken old ≡ false) → BreaksByFailure g old (record old { file = file }) → files.known g file ≡ bytes_of g old
       → (IsTrue old.is_sealed → IsTrue sealed) → Stays g old (record old { file = file; is_sealed = sealed })
   stays_sealed old file sealed only works breaks known mark =
-      let new : Shown D = record old { file = file; is_sealed = sealed } in
+      let new : ShownPool D = record old { file = file; is_sealed = sealed } in
       stays_all g old new (quiet_file g old new only works breaks refl (λ q s is. is) mark (λ sealed. refl) (refl, refl))
       (λ s bytes named has. subst (λ (l : List ℕ). HasBytes s bytes l) (sym known) has)
       (λ q. record { frames = refl; live = refl; frozen = refl; waiting = refl; copies = refl })

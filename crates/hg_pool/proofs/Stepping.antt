@@ -10,7 +10,7 @@ use Rattle.hg_pages.proofs.Decoding.{stored}
 use Rattle.hg_pool.specs.declared.frame.Frame.{Frame}
 use Rattle.hg_pool.specs.Kept.{CellsFrom, IsWhole, Stays}
 use Rattle.hg_pool.specs.Maps.{bytes_of, copy_in, frame_in, frozen_at, frozen_by, in_frame_or, in_slot}
-use Rattle.hg_pool.specs.Shown.{Shown}
+use Rattle.hg_pool.specs.Shown.{ShownPool}
 use Rattle.hg_pool.specs.Sound.{AreSound}
 use Rattle.hg_pool.specs.Tables.{FindsBelow}
 use Rattle.hg_pool.proofs.Changing.{FileStep, Here, LiveHere, Same, SlotsStay, live_by, still_file, went_by}
@@ -27,7 +27,7 @@ each_page P page here apart q = by (page == q) refl
 
 module _ {D : Type 0} (g : disk.Ghosts D) where
   -- a step that changes what is looked up at one page
-  pub stays_at : (old new : Shown D) (page : ℕ) → FileStep g old new → SlotsStay g old new → ((q : ℕ) → (page == q) ≡ false → Same q old new)
+  pub stays_at : (old new : ShownPool D) (page : ℕ) → FileStep g old new → SlotsStay g old new → ((q : ℕ) → (page == q) ≡ false → Same q old new)
       → (IsWhole g old → LiveHere g page old new) → (IsWhole g old → Here g page old new) → Stays g old new
   stays_at old new page file stay apart live here = record {
     went = went_by g old new file stay (each_page (λ q. Same q old new ⊎ (IsWhole g old → Here g q old new)) page (inr here) (λ q test. inl (apart q test)));
@@ -35,20 +35,20 @@ module _ {D : Type 0} (g : disk.Ghosts D) where
   }
 
   -- and one that changes nothing that is looked up
-  pub stays_all : (old new : Shown D) → FileStep g old new → SlotsStay g old new → ((q : ℕ) → Same q old new) → Stays g old new
+  pub stays_all : (old new : ShownPool D) → FileStep g old new → SlotsStay g old new → ((q : ℕ) → Same q old new) → Stays g old new
   stays_all old new file stay same = record {
     went = went_by g old new file stay (λ q. inl (same q));
     live_is = live_by g old new stay (λ q. inl (same q));
   }
 
   -- The frozen cells of a page are the same where its live ones are, and it waits and was copied as before.
-  pub frozen_from_live : (q : ℕ) (old new : Shown D) → slot_in new.waiting q ≡ slot_in old.waiting q → copy_in new.copies q ≡ copy_in old.copies q
+  pub frozen_from_live : (q : ℕ) (old new : ShownPool D) → slot_in new.waiting q ≡ slot_in old.waiting q → copy_in new.copies q ≡ copy_in old.copies q
       → ((i : ℕ) → i < 256 → in_slot (bytes_of g new) (slot_in new.frozen q) i ≡ in_slot (bytes_of g old) (slot_in old.frozen q) i) → LiveHere g q old new
       → (i : ℕ) → i < 256 → frozen_at (bytes_of g new) new q i ≡ frozen_at (bytes_of g old) old q i
   frozen_from_live q old new waiting copies written live i lt k = frozen_by (waiting k) (copies k) (written i lt k) (live i lt k) i
 
 -- other frames
-pub sound_frames : (root : tables.Shown) (frozen : Option tables.Shown) (live waiting : tables.Shown) (copies : LruCache ℕ (List Cell)) (frames also : LruCache ℕ Frame) (slots : ℕ) (is_sealed : Bool) → AreSound root frozen live waiting copies frames slots is_sealed
+pub sound_frames : (root : tables.ShownTable) (frozen : Option tables.ShownTable) (live waiting : tables.ShownTable) (copies : LruCache ℕ (List Cell)) (frames also : LruCache ℕ Frame) (slots : ℕ) (is_sealed : Bool) → AreSound root frozen live waiting copies frames slots is_sealed
     → also.cap ≡ frames.cap → ((page : ℕ) (f : Frame) → frame_in also.entries page ≡ Some f → page < 2 ^ 54)
     → ((page slot : ℕ) (f : Frame) → slot_in waiting.entries page ≡ Some slot → copy_in copies.entries page ≡ None → frame_in frames.entries page ≡ Some f → f.is_dirty ≡ true → (e : Frame) × (frame_in also.entries page ≡ Some e) × (e.is_dirty ≡ true))
     → AreSound root frozen live waiting copies also slots is_sealed
@@ -83,7 +83,7 @@ sound_frames root frozen live waiting copies frames also slots is_sealed s cap n
 }
 
 -- a page that waits without a copy is in a dirty frame; so one in a clean frame does not
-pub clean_apart : (root : tables.Shown) (frozen : Option tables.Shown) (live waiting : tables.Shown) (copies : LruCache ℕ (List Cell)) (frames : LruCache ℕ Frame) (slots : ℕ) (is_sealed : Bool) (page q slot : ℕ) (f : Frame) → AreSound root frozen live waiting copies frames slots is_sealed
+pub clean_apart : (root : tables.ShownTable) (frozen : Option tables.ShownTable) (live waiting : tables.ShownTable) (copies : LruCache ℕ (List Cell)) (frames : LruCache ℕ Frame) (slots : ℕ) (is_sealed : Bool) (page q slot : ℕ) (f : Frame) → AreSound root frozen live waiting copies frames slots is_sealed
     → ((e : Frame) → frame_in frames.entries page ≡ Some e → e.is_dirty ≡ false) → frame_in frames.entries q ≡ Some f → f.is_dirty ≡ true → (page == q) ≡ false
 clean_apart root frozen live waiting copies frames slots is_sealed page q slot f s clean is dirty = by (page == q) refl
   where
@@ -92,7 +92,7 @@ clean_apart root frozen live waiting copies frames slots is_sealed page q slot f
     by false test = test
 
 -- a live table with more room
-pub sound_room : (root : tables.Shown) (frozen : Option tables.Shown) (live also waiting : tables.Shown) (copies : LruCache ℕ (List Cell)) (frames : LruCache ℕ Frame) (slots : ℕ) (is_sealed : Bool) → AreSound root frozen live waiting copies frames slots is_sealed
+pub sound_room : (root : tables.ShownTable) (frozen : Option tables.ShownTable) (live also waiting : tables.ShownTable) (copies : LruCache ℕ (List Cell)) (frames : LruCache ℕ Frame) (slots : ℕ) (is_sealed : Bool) → AreSound root frozen live waiting copies frames slots is_sealed
     → also.entries ≡ live.entries → live.capacity ≤ also.capacity → live.slots ≤ also.slots → AreSound root frozen also waiting copies frames slots is_sealed
 sound_room root frozen live also waiting copies frames slots is_sealed s entries more_room more_slots = record {
   picked = λ page slot waits.
@@ -129,7 +129,7 @@ copied_before true o cells is = absurd (cc is)
 copied_before false o cells is = is
 
 -- one copy more
-pub sound_copy : (root : tables.Shown) (frozen : Option tables.Shown) (live waiting : tables.Shown) (copies also : LruCache ℕ (List Cell)) (frames : LruCache ℕ Frame) (slots : ℕ) (is_sealed : Bool) (page : ℕ) (cells : List Cell) → AreSound root frozen live waiting copies frames slots is_sealed
+pub sound_copy : (root : tables.ShownTable) (frozen : Option tables.ShownTable) (live waiting : tables.ShownTable) (copies also : LruCache ℕ (List Cell)) (frames : LruCache ℕ Frame) (slots : ℕ) (is_sealed : Bool) (page : ℕ) (cells : List Cell) → AreSound root frozen live waiting copies frames slots is_sealed
     → ((q : ℕ) → copy_in also.entries q ≡ (if page == q then Some cells else copy_in copies.entries q)) → is_some (slot_in waiting.entries page) ≡ true → also.cap ≡ copies.cap
     → AreSound root frozen live waiting also frames slots is_sealed
 sound_copy root frozen live waiting copies also frames slots is_sealed page cells s look waits cap = record {
@@ -191,14 +191,14 @@ either (Ok value) a b ok err = ok a
 either (Err error) a b ok err = err b
 
 -- a pool that was not changed
-pub stays_nowhere : {D : Type 0} (g : disk.Ghosts D) (p : Shown D) → Stays g p p
+pub stays_nowhere : {D : Type 0} (g : disk.Ghosts D) (p : ShownPool D) → Stays g p p
 stays_nowhere g p = stays_all g p p (still_file g p p refl refl (λ q s there. there) (λ sealed. sealed) (λ sealed. refl) (refl, refl)) (λ s b named has. has) (λ q. record { frames = refl; live = refl; frozen = refl; waiting = refl; copies = refl })
 
 -- a copy more
-pub stays_copied : {D : Type 0} (g : disk.Ghosts D) (old : Shown D) (copies : List (ℕ × List Cell)) (page slot : ℕ) (f : Frame) (cells : List Cell) → ((q : ℕ) → copy_in copies q ≡ (if page == q then Some cells else copy_in old.copies q))
+pub stays_copied : {D : Type 0} (g : disk.Ghosts D) (old : ShownPool D) (copies : List (ℕ × List Cell)) (page slot : ℕ) (f : Frame) (cells : List Cell) → ((q : ℕ) → copy_in copies q ≡ (if page == q then Some cells else copy_in old.copies q))
     → slot_in old.waiting page ≡ Some slot → copy_in old.copies page ≡ None → frame_in old.frames page ≡ Some f → cells ≡ f.cells → Stays g old (record old { copies = copies })
 stays_copied {D} g old copies page slot f cells look waits none there same =
-    let new : Shown D = record old { copies = copies } in
+    let new : ShownPool D = record old { copies = copies } in
     stays_at g old new page (still_file g old new refl refl (λ q s is. is) (λ sealed. sealed) (λ sealed. refl) (refl, refl)) (λ s b named has. has)
     (λ q apart. record { frames = refl; live = refl; frozen = refl; waiting = refl; copies = look q ∙ if_false (page == q) (Some cells) (copy_in old.copies q) apart })
     (λ h i lt. refl)
@@ -210,11 +210,11 @@ stays_copied {D} g old copies page slot f cells look waits none there same =
     })
 
 -- steps one after the other
-pub stays_on : {D : Type 0} (g : disk.Ghosts D) (old mid new : Shown D) → Stays g old mid → Stays g mid new → Stays g old new
+pub stays_on : {D : Type 0} (g : disk.Ghosts D) (old mid new : ShownPool D) → Stays g old mid → Stays g mid new → Stays g old new
 stays_on g old mid new one two = record { went = went_on g old mid new one.went two.went; live_is = λ h w. two.live_is (one.went.whole h) w ∙ one.live_is h w }
 
 -- another list of the live table's entries, which is the same
-pub stays_live : {D : Type 0} (g : disk.Ghosts D) (old : Shown D) (live : List (ℕ × ℕ)) → live ≡ old.live → Stays g old (record old { live = live })
+pub stays_live : {D : Type 0} (g : disk.Ghosts D) (old : ShownPool D) (live : List (ℕ × ℕ)) → live ≡ old.live → Stays g old (record old { live = live })
 stays_live {D} g old live same = subst (λ (es : List (ℕ × ℕ)). Stays g old (record old { live = es })) (sym same) (stays_nowhere g old)
 
 -- cells in memory

@@ -11,13 +11,13 @@ use Rattle.hg_pool.specs.Kept.{BreaksByFailure, Stays}
 use Rattle.hg_pool.specs.declared.frame.Frame.{Frame}
 use Rattle.hg_pages.specs.Tables.{slot_in}
 use Rattle.hg_pool.specs.Maps.{bytes_of, copy_in, disk_of, frame_in, frozen_at, frozen_by, in_copy_or, in_frame_or, in_slot, is_broken, live_at}
-use Rattle.hg_pool.specs.Shown.{Shown}
+use Rattle.hg_pool.specs.Shown.{ShownPool}
 use Rattle.hg_pool.proofs.Changing.{Same, SlotsStay, written_file}
 use Rattle.hg_pool.proofs.Stepping.{stays_all}
 
-module _ {D : Type 0} (g : disk.Ghosts D) (old : Shown D) (file : SlotFile D) (slot : ℕ) (not_root : ¬ IsNamed old.root slot) (not_frozen : ¬ IsNamed old.frozen slot) (not_live : ¬ IsNamed old.live slot)
+module _ {D : Type 0} (g : disk.Ghosts D) (old : ShownPool D) (file : SlotFile D) (slot : ℕ) (not_root : ¬ IsNamed old.root slot) (not_frozen : ¬ IsNamed old.frozen slot) (not_live : ¬ IsNamed old.live slot)
     (others : (other : ℕ) (bytes : List ℕ) → other ≢ slot → HasBytes other bytes (bytes_of g old) → HasBytes other bytes (bytes_of g (record old { file = file }))) where
-  abbrev after : Shown D
+  abbrev after : ShownPool D
   after = record old { file = file }
 
   apart : (s : ℕ) (bytes : List ℕ) → IsNamed old.live s ⊎ IsNamed old.frozen s → s ≢ slot
@@ -45,7 +45,7 @@ in_copy (Some cells) frame stored also i present = refl
 in_copy None frame stored also i present = let f = present refl in ap (λ (x : Option Frame). in_frame_or x also i) f.1 ∙ sym (ap (λ (x : Option Frame). in_frame_or x stored i) f.1)
 
 -- the frozen cells of a page that waits stand in no file
-pub frozen_waiting : {D : Type 0} (p : Shown D) (file also : List ℕ) (page slot i : ℕ) → slot_in p.waiting page ≡ Some slot → (copy_in p.copies page ≡ None → (f : Frame) × (frame_in p.frames page ≡ Some f) × (f.is_dirty ≡ true))
+pub frozen_waiting : {D : Type 0} (p : ShownPool D) (file also : List ℕ) (page slot i : ℕ) → slot_in p.waiting page ≡ Some slot → (copy_in p.copies page ≡ None → (f : Frame) × (frame_in p.frames page ≡ Some f) × (f.is_dirty ≡ true))
     → frozen_at also p page i ≡ frozen_at file p page i
 frozen_waiting p file also page slot i waits present =
     ap (λ (o : Option ℕ). frozen_by o (copy_in p.copies page) (in_slot also (slot_in p.frozen page) i) (live_at also p page i) i) waits
@@ -53,6 +53,6 @@ frozen_waiting p file also page slot i waits present =
     ∙ sym (ap (λ (o : Option ℕ). frozen_by o (copy_in p.copies page) (in_slot file (slot_in p.frozen page) i) (live_at file p page i) i) waits)
 
 -- the frozen cells of a page that waits without a copy are those in its frame
-pub frozen_plain : {D : Type 0} (p : Shown D) (file : List ℕ) (page slot i : ℕ) (f : Frame) → slot_in p.waiting page ≡ Some slot → copy_in p.copies page ≡ None → frame_in p.frames page ≡ Some f → get_or f.cells i New ≡ frozen_at file p page i
+pub frozen_plain : {D : Type 0} (p : ShownPool D) (file : List ℕ) (page slot i : ℕ) (f : Frame) → slot_in p.waiting page ≡ Some slot → copy_in p.copies page ≡ None → frame_in p.frames page ≡ Some f → get_or f.cells i New ≡ frozen_at file p page i
 frozen_plain p file page slot i f waits none there =
     sym (λ k. frozen_by (waits k) (none k) (in_slot file (slot_in p.frozen page) i) (in_frame_or (there k) (in_slot file (slot_in p.live page) i) i) i)

@@ -9,7 +9,7 @@ use Rattle.hg_pool.specs.declared.fault.FreezeFault.{FreezeFault}
 use Rattle.hg_pool.specs.declared.fault.FreezeFault.TheVariants as fault
 use Rattle.hg_pool.specs.declared.frame.Frame.{Frame}
 use Rattle.hg_pool.specs.Maps.{copy_in, frame_in, is_broken}
-use Rattle.hg_pool.specs.Shown.{Shown}
+use Rattle.hg_pool.specs.Shown.{ShownPool}
 
 -- what a refused freeze is told as
 abbrev pub refusal_of : FreezeFault → Refusal
@@ -17,15 +17,15 @@ refusal_of fault.FullSlots = refusal.FullSlots
 refusal_of fault.OutOfMemory = refusal.OutOfMemory
 
 -- The slot is named: by a table of the pool, or as picked.
-abbrev pub IsTaken : {D : Type 0} → Shown D → ℕ → Type 0
+abbrev pub IsTaken : {D : Type 0} → ShownPool D → ℕ → Type 0
 IsTaken p slot = IsNamed p.root slot ⊎ (IsNamed p.frozen slot ⊎ (IsNamed p.live slot ⊎ IsNamed p.waiting slot))
 
 -- Each slot is named.
-abbrev pub IsFull : {D : Type 0} → Shown D → Type 0
+abbrev pub IsFull : {D : Type 0} → ShownPool D → Type 0
 IsFull p = (slot : ℕ) → slot < p.slots → IsTaken p slot
 
 -- A refusal is told only where its cause holds, as the pool stands then: an eviction may have taken the last slot.
-abbrev pub IsTrueCause : {D : Type 0} → Shown D → Shown D → Refusal → Type 0
+abbrev pub IsTrueCause : {D : Type 0} → ShownPool D → ShownPool D → Refusal → Type 0
 IsTrueCause old new refusal.Broken = IsTrue (is_broken new)
 IsTrueCause old new refusal.FullSlots = IsFull new
 IsTrueCause old new refusal.DeviceFault = Unit {0}
@@ -39,17 +39,17 @@ least_of [] = None
 least_of (e ∷ rest) = Some e.0
 
 -- the pages in memory, that used last first
-abbrev pub order_of : {D : Type 0} → Shown D → List ℕ
+abbrev pub order_of : {D : Type 0} → ShownPool D → List ℕ
 order_of p = map (λ e. e.0) p.frames
 
 -- The same after this page was used: it is first. Where it was not in memory and all frames were taken, the last one left.
-abbrev pub order_with : {D : Type 0} → Shown D → ℕ → List ℕ
+abbrev pub order_with : {D : Type 0} → ShownPool D → ℕ → List ℕ
 order_with p page = page ∷ (if is_some (frame_in p.frames page) then remove_key (nat_eq page) (order_of p) else take (p.most_frames - 1) (order_of p))
 
 -- The page is in memory, and was changed since it was new, read or written.
-abbrev pub IsDirty : {D : Type 0} → Shown D → ℕ → Type 0
+abbrev pub IsDirty : {D : Type 0} → ShownPool D → ℕ → Type 0
 IsDirty p page = (f : Frame) × (frame_in p.frames page ≡ Some f) × IsTrue f.is_dirty
 
 -- These are the cells of a page that waits: those that were copied, or else those in its frame, which was not changed since.
-abbrev pub IsFrozen : {D : Type 0} → Shown D → ℕ → List Cell → Type 0
+abbrev pub IsFrozen : {D : Type 0} → ShownPool D → ℕ → List Cell → Type 0
 IsFrozen p page cells = (copy_in p.copies page ≡ Some cells) ⊎ ((copy_in p.copies page ≡ None) × (f : Frame) × (frame_in p.frames page ≡ Some f) × (f.cells ≡ cells))

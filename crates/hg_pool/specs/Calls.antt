@@ -25,7 +25,7 @@ use Rattle.hg_pool.specs.Answers.{IsFrozen, IsTaken, least_of, order_of, order_w
 use Rattle.hg_pool.specs.Kept.{AreWithin, IsFaithful, IsWhole, SameMap}
 use Rattle.hg_pool.specs.Maps.{IsSealed, bytes_of, copy_in, disk_of, frame_in, frozen, frozen_at, in_slot, is_broken, live}
 use Rattle.hg_pool.specs.Picking.{HasDirty, IsLeastFree}
-use Rattle.hg_pool.specs.Shown.{Shown}
+use Rattle.hg_pool.specs.Shown.{ShownPool}
 use Rattle.hg_recency.specs.Entries.{IsFree}
 
 -- The table has no slot for this page, and for the others what it had.
@@ -92,16 +92,16 @@ abbrev pub AreOfEither : (first second table : List (ℕ × ℕ)) → Type 0
 AreOfEither first second table = (q s : ℕ) → slot_in table q ≡ Some s → (slot_in first q ≡ Some s) ⊎ (slot_in second q ≡ Some s)
 
 -- The table has room for these pages, and for so many slots.
-abbrev pub HasRoomFor : List (ℕ × ℕ) → (slots : ℕ) → tables.Shown → Type 0
+abbrev pub HasRoomFor : List (ℕ × ℕ) → (slots : ℕ) → tables.ShownTable → Type 0
 HasRoomFor waiting slots table = (length table.entries + length waiting ≤ table.capacity) × (slots ≤ table.slots)
 
 -- The table has room for these pages, and for one more.
-abbrev pub HasRoomForOne : List (ℕ × ℕ) → tables.Shown → Type 0
+abbrev pub HasRoomForOne : List (ℕ × ℕ) → tables.ShownTable → Type 0
 HasRoomForOne waiting table = length table.entries + length waiting < table.capacity
 
 -- No other page of the table has the slot.
-abbrev pub IsSlotOf : (page slot : ℕ) → Option tables.Shown → Type 0
-IsSlotOf page slot frozen = (t : tables.Shown) → frozen ≡ Some t → (other : ℕ) → slot_in t.entries other ≡ Some slot → other ≡ page
+abbrev pub IsSlotOf : (page slot : ℕ) → Option tables.ShownTable → Type 0
+IsSlotOf page slot frozen = (t : tables.ShownTable) → frozen ≡ Some t → (other : ℕ) → slot_in t.entries other ≡ Some slot → other ≡ page
 
 -- The slots below the one from which a search begins are not free: they lie below the one that was found, or a table has them.
 abbrev pub MayBegin : (root frozen : List (ℕ × ℕ)) → (found : ℕ) → (former : Option ℕ) → (from : ℕ) → Type 0
@@ -130,74 +130,74 @@ LosesWritten page old new result = IfOk result (λ p. p ≡ put.Written → IsWi
 
 module _ {D : Type 0} where
   -- The words of the page may change: it does not wait, or its frozen cells are copied.
-  abbrev pub MayChange : Shown D → (page : ℕ) → Type 0
+  abbrev pub MayChange : ShownPool D → (page : ℕ) → Type 0
   MayChange p page = (slot_in p.waiting page ≡ None) ⊎ (is_some (copy_in p.copies page) ≡ true)
 
   -- The job is the first of the pages that wait, with its cells at the freeze; there is none where no page waits.
-  abbrev pub IsNextJob : Shown D → Option Job → Type 0
+  abbrev pub IsNextJob : ShownPool D → Option Job → Type 0
   IsNextJob p found =
       MatchOption found (p.waiting ≡ []) (λ job. (Some job.page ≡ least_of p.waiting) × (is_some (slot_in p.waiting job.page) ≡ true) × IsFrozen p job.page job.cells)
 
   -- The page waits, and the bytes are those of its cells at the freeze.
-  abbrev pub HasWaited : Shown D → Encoded → Type 0
+  abbrev pub HasWaited : ShownPool D → Encoded → Type 0
   HasWaited p page =
       (cells : List Cell) × (is_some (slot_in p.waiting page.page) ≡ true) × IsFrozen p page.page cells × IsSlot page.page cells page.bytes
 
   -- The same, with the slot for which it waits.
-  abbrev pub WaitsFor : Shown D → Encoded → (slot : ℕ) → Type 0
+  abbrev pub WaitsFor : ShownPool D → Encoded → (slot : ℕ) → Type 0
   WaitsFor p page slot =
       (slot_in p.waiting page.page ≡ Some slot) × (cells : List Cell) × IsFrozen p page.page cells × IsSlot page.page cells page.bytes
 
   -- The page does not wait, or the bytes are not those of its cells at the freeze.
-  abbrev pub IsStale : Shown D → Encoded → Type 0
+  abbrev pub IsStale : ShownPool D → Encoded → Type 0
   IsStale p page =
       (slot : ℕ) (cells : List Cell) → slot_in p.waiting page.page ≡ Some slot → IsFrozen p page.page cells
       → page.bytes ≡ slot_text page.page cells → ⊥
 
   -- The page that was used the longest time ago is in memory no more; where none was, there is none.
-  abbrev pub HasFreed : (old new : Shown D) → Option ℕ → Type 0
+  abbrev pub HasFreed : (old new : ShownPool D) → Option ℕ → Type 0
   HasFreed old new freed = MatchOption freed (old.frames ≡ []) (λ n. order_of old ≡ order_of new ++ n ∷ [])
 
   -- the pages in memory, once there is room for one more
-  abbrev pub order_with_room : Shown D → List ℕ
+  abbrev pub order_with_room : ShownPool D → List ℕ
   order_with_room p = take (p.most_frames - 1) (order_of p)
 
   -- the pages in memory, of which this one was used
-  abbrev pub order_used : Shown D → (page : ℕ) → List ℕ
+  abbrev pub order_used : ShownPool D → (page : ℕ) → List ℕ
   order_used p page = page ∷ remove_key (nat_eq page) (order_of p)
 
   -- Where the page is in memory, it is the first of those.
-  abbrev pub UsesPage : (old new : Shown D) → (page : ℕ) → Type 0
+  abbrev pub UsesPage : (old new : ShownPool D) → (page : ℕ) → Type 0
   UsesPage old new page = is_some (frame_in old.frames page) ≡ true → order_of new ≡ order_with old page
 
   -- A write or a sync failed before.
-  abbrev pub IsBroken : Shown D → Type 0
+  abbrev pub IsBroken : ShownPool D → Type 0
   IsBroken p = IsTrue (is_broken p)
 
   -- Without a copy, the bytes are those of the page in memory.
-  abbrev pub IsOfFrame : Shown D → Encoded → Type 0
+  abbrev pub IsOfFrame : ShownPool D → Encoded → Type 0
   IsOfFrame p page =
       copy_in p.copies page.page ≡ None → (f : Frame) → frame_in p.frames page.page ≡ Some f → IsSlot page.page f.cells page.bytes
 
   -- Each slot from this one on is taken.
-  abbrev pub AreTakenFrom : Shown D → (from : ℕ) → Type 0
+  abbrev pub AreTakenFrom : ShownPool D → (from : ℕ) → Type 0
   AreTakenFrom p from = (slot : ℕ) → from ≤ slot → slot < p.slots → IsTaken p slot
 
   -- The slot is free, and none between is.
-  abbrev pub IsFirstFree : Shown D → (from free : ℕ) → Type 0
+  abbrev pub IsFirstFree : ShownPool D → (from free : ℕ) → Type 0
   IsFirstFree p from free =
       (from ≤ free) × (free < p.slots) × (¬ IsTaken p free) × ((slot : ℕ) → from ≤ slot → slot < free → IsTaken p slot)
 
   -- Each slot that is picked is free.
-  abbrev pub AreFree : Shown D → List (ℕ × ℕ) → Type 0
+  abbrev pub AreFree : ShownPool D → List (ℕ × ℕ) → Type 0
   AreFree p picks = (q slot : ℕ) → slot_in picks q ≡ Some slot → (¬ IsTaken p slot) × (slot < p.slots)
 
   -- The slot is the least that is free.
-  abbrev pub IsLeastSlot : Shown D → ℕ → Type 0
+  abbrev pub IsLeastSlot : ShownPool D → ℕ → Type 0
   IsLeastSlot p slot = (slot < p.slots) × IsLeastFree p slot
 
   -- the pool of a table over a file: nothing waits, and no page is in memory
-  abbrev pub first_pool : SlotFile D → List (ℕ × ℕ) → (frames slots : ℕ) → Shown D
+  abbrev pub first_pool : SlotFile D → List (ℕ × ℕ) → (frames slots : ℕ) → ShownPool D
   first_pool file table frames slots =
       record {
         file = file;
@@ -213,93 +213,93 @@ module _ {D : Type 0} where
       }
 
   -- The page that was used last is in memory.
-  abbrev pub KeepsFirst : (old new : Shown D) → Type 0
+  abbrev pub KeepsFirst : (old new : ShownPool D) → Type 0
   KeepsFirst old new = (other : ℕ) (rest : List ℕ) → order_of old ≡ other ∷ rest → is_some (frame_in new.frames other) ≡ true
 
 module _ {D : Type 0} (g : disk.Ghosts D) where
   -- The count of failed calls is that of before, and the one of an answer DeviceFault.
-  abbrev pub CountsFailures : {T : Type 0} → (old new : Shown D) → Result T Refusal → Type 0
+  abbrev pub CountsFailures : {T : Type 0} → (old new : ShownPool D) → Result T Refusal → Type 0
   CountsFailures old new result = g.failures (disk_of new) ≡ failed_after result (g.failures (disk_of old))
 
   -- The same of a write or a sync.
-  abbrev pub CountsWrites : {T : Type 0} → (old new : Shown D) → Result T WriteFault → Type 0
+  abbrev pub CountsWrites : {T : Type 0} → (old new : ShownPool D) → Result T WriteFault → Type 0
   CountsWrites old new result = g.failures (disk_of new) ≡ failures_after_write result (g.failures (disk_of old))
 
   -- Over a whole pool the frozen map is the live one of before.
-  abbrev pub FreezesLive : (old new : Shown D) → Type 0
+  abbrev pub FreezesLive : (old new : ShownPool D) → Type 0
   FreezesLive old new = IsWhole g old → SameMap (live g old) (frozen g new)
 
-  abbrev pub FreezesOnOk : {T E : Type 0} → (old new : Shown D) → Result T E → Type 0
+  abbrev pub FreezesOnOk : {T E : Type 0} → (old new : ShownPool D) → Result T E → Type 0
   FreezesOnOk old new result = IsWhole g old → OnOk result (SameMap (live g old) (frozen g new))
 
   -- A whole pool in which no page waits is sealed after an Ok.
-  abbrev pub SealsWhole : {T E : Type 0} → (old new : Shown D) → Result T E → Type 0
+  abbrev pub SealsWhole : {T E : Type 0} → (old new : ShownPool D) → Result T E → Type 0
   SealsWhole old new result = IsWhole g old → old.waiting ≡ [] → OnOk result (IsSealed g new)
 
   -- These are the cells of the page's slot, or new ones where it has none.
-  abbrev pub AreStored : Shown D → (page : ℕ) → List Cell → Type 0
+  abbrev pub AreStored : ShownPool D → (page : ℕ) → List Cell → Type 0
   AreStored p page cells = (i : ℕ) → i < 256 → get_or cells i New ≡ in_slot (bytes_of g p) (slot_in p.live page) i
 
-  abbrev pub AreStoredIfWhole : Shown D → (page : ℕ) → List Cell → Type 0
+  abbrev pub AreStoredIfWhole : ShownPool D → (page : ℕ) → List Cell → Type 0
   AreStoredIfWhole p page cells = IsWhole g p → (i : ℕ) → i < 256 → get_or cells i New ≡ in_slot (bytes_of g p) (slot_in p.live page) i
 
   -- Of a whole pool the cells that are read are those.
-  abbrev pub ReadsStored : {E : Type 0} → Shown D → (page : ℕ) → Result (List Cell) E → Type 0
+  abbrev pub ReadsStored : {E : Type 0} → ShownPool D → (page : ℕ) → Result (List Cell) E → Type 0
   ReadsStored p page result = IsWhole g p → IfOk result (AreStored p page)
 
   -- The bytes are those of the page's frozen cells.
-  abbrev pub IsOfFrozen : Shown D → Encoded → Type 0
+  abbrev pub IsOfFrozen : ShownPool D → Encoded → Type 0
   IsOfFrozen p page =
       (cells : List Cell) × IsSlot page.page cells page.bytes
       × ((i : ℕ) → i < 256 → get_or cells i New ≡ frozen_at (bytes_of g p) p page.page i)
 
   -- The slot has the page as it is in memory, if it is.
-  abbrev pub SlotHasFrame : Shown D → (page slot : ℕ) → Type 0
+  abbrev pub SlotHasFrame : ShownPool D → (page slot : ℕ) → Type 0
   SlotHasFrame p page slot = (f : Frame) → frame_in p.frames page ≡ Some f → HasSlot slot page f.cells (bytes_of g p)
 
   -- The slot has the page with its frozen cells.
-  abbrev pub SlotHasFrozen : Shown D → (page slot : ℕ) → Type 0
+  abbrev pub SlotHasFrozen : ShownPool D → (page slot : ℕ) → Type 0
   SlotHasFrozen p page slot =
       (cells : List Cell) × HasSlot slot page cells (bytes_of g p)
       × ((i : ℕ) → i < 256 → get_or cells i New ≡ frozen_at (bytes_of g p) p page i)
 
   -- The file reads as it did.
-  abbrev pub SameBytes : (old new : Shown D) → Type 0
+  abbrev pub SameBytes : (old new : ShownPool D) → Type 0
   SameBytes old new = bytes_of g new ≡ bytes_of g old
 
   -- The words of a page from one place up to another have the cell, and other words what they had.
-  abbrev pub FillsWords : (page from to : ℕ) → Cell → (old new : Shown D) → Type 0
+  abbrev pub FillsWords : (page from to : ℕ) → Cell → (old new : ShownPool D) → Type 0
   FillsWords page from to cell old new =
       (w : ℕ) → live g new w ≡ (if (w / 256 == page) && (nat_le from (w % 256) && nat_lt (w % 256) to) then cell else live g old w)
 
   -- A map that has the words still has them, where the cell that came names only known segments and sets.
-  abbrev pub StaysFaithfulWith : Cell → (old new : Shown D) → Type 0
+  abbrev pub StaysFaithfulWith : Cell → (old new : ShownPool D) → Type 0
   StaysFaithfulWith cell old new = (n m : ℕ) → IsWithin n m cell → IsFaithful g old n m → IsFaithful g new n m
 
   -- Reading a page of a whole pool, whose stored cells are known, answers no Damaged.
-  abbrev pub ReadsUndamaged : {T : Type 0} → Shown D → (page segments : ℕ) → List (List ℕ) → Result T Refusal → Type 0
+  abbrev pub ReadsUndamaged : {T : Type 0} → ShownPool D → (page segments : ℕ) → List (List ℕ) → Result T Refusal → Type 0
   ReadsUndamaged p page segments sets result =
       IsWhole g p → ((i : ℕ) → i < 256 → IsKnown segments sets (in_slot (bytes_of g p) (slot_in p.live page) i))
       → IfErr result (λ r. r ≢ Damaged)
 
   -- The same where the cells of the live map are known.
-  abbrev pub LoadsUndamaged : {T : Type 0} → Shown D → (page segments : ℕ) → List (List ℕ) → Result T Refusal → Type 0
+  abbrev pub LoadsUndamaged : {T : Type 0} → ShownPool D → (page segments : ℕ) → List (List ℕ) → Result T Refusal → Type 0
   LoadsUndamaged p page segments sets result =
       IsWhole g p → ((w : ℕ) → w / 256 ≡ page → IsKnown segments sets (live g p w)) → IfErr result (λ r. r ≢ Damaged)
 
   -- Other slots have what they had.
-  abbrev pub KeepsSlotsBut : (slot : ℕ) → (old new : Shown D) → Type 0
+  abbrev pub KeepsSlotsBut : (slot : ℕ) → (old new : ShownPool D) → Type 0
   KeepsSlotsBut slot old new =
       (other : ℕ) (bytes : List ℕ) → other ≢ slot → HasBytes other bytes (bytes_of g old) → HasBytes other bytes (bytes_of g new)
 
   -- What each image has in another slot, it has at each moment.
-  abbrev pub LeavesSlotsBut : (slot : ℕ) → (old new : Shown D) → Type 0
+  abbrev pub LeavesSlotsBut : (slot : ℕ) → (old new : ShownPool D) → Type 0
   LeavesSlotsBut slot old new =
       (other : ℕ) (bytes : List ℕ) → other ≢ slot → Leaves (HasBytes other bytes) (g.state (disk_of old))
       → LeavesOnly g (disk_of old) (disk_of new) (HasBytes other bytes)
 
   -- Images that were so long are no shorter at any moment.
-  abbrev pub StaysLong : (old new : Shown D) → Type 0
+  abbrev pub StaysLong : (old new : ShownPool D) → Type 0
   StaysLong old new =
       (n : ℕ) → Leaves (λ image. n ≤ length image) (g.state (disk_of old))
       → LeavesOnly g (disk_of old) (disk_of new) (λ image. n ≤ length image)

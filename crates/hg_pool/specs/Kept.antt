@@ -9,7 +9,7 @@ use Rattle.hg_pages.specs.Slots.{HasBytes, HasSlot}
 use Rattle.hg_pages.specs.Tables.{IsNamed, slot_in}
 use Rattle.hg_pool.specs.declared.frame.Frame.{Frame}
 use Rattle.hg_pool.specs.Maps.{GivesCells, bytes_of, disk_of, frame_in, frozen, in_slot, is_broken, live}
-use Rattle.hg_pool.specs.Shown.{Shown}
+use Rattle.hg_pool.specs.Shown.{ShownPool}
 
 -- each page keeps its slot
 abbrev pub Extends : List (ℕ × ℕ) → List (ℕ × ℕ) → Type 0
@@ -25,37 +25,37 @@ HasSome slot page file = (cells : List Cell) × HasSlot slot page cells file
 
 module _ {D : Type 0} (g : disk.Ghosts D) where
   -- The slots that a page is named in have it, and what is in memory and was not changed is what stands in its slot.
-  pub record IsPageWhole (p : Shown D) (page : ℕ) : Type 0 where
+  pub record IsPageWhole (p : ShownPool D) (page : ℕ) : Type 0 where
     pub live_page : (slot : ℕ) → slot_in p.live page ≡ Some slot → HasSome slot page (bytes_of g p)
     pub frozen_page : (slot : ℕ) → slot_in p.frozen page ≡ Some slot → HasSome slot page (bytes_of g p)
     pub clean : (f : Frame) → frame_in p.frames page ≡ Some f → f.is_dirty ≡ false → (i : ℕ) → i < 256 → get_or f.cells i New ≡ in_slot (bytes_of g p) (slot_in p.live page) i
 
   -- The maps are what was written: reads are honest, and each page is whole.
-  pub record IsWhole (p : Shown D) : Type 0 where
+  pub record IsWhole (p : ShownPool D) : Type 0 where
     pub honest : IsTrue g.is_honest
     pub pages : (page : ℕ) → IsPageWhole p page
 
   -- The same, and the live cells name only segments and sets below these numbers.
-  pub record IsFaithful (p : Shown D) (segments sets : ℕ) : Type 0 where
+  pub record IsFaithful (p : ShownPool D) (segments sets : ℕ) : Type 0 where
     pub whole : IsWhole p
     pub within : (w : ℕ) → IsWithin segments sets (live g p w)
 
   -- What each image has in a slot that the table names, it has at each moment from the one pool to the other.
-  abbrev pub KeepsNamed : List (ℕ × ℕ) → Shown D → Shown D → Type 0
+  abbrev pub KeepsNamed : List (ℕ × ℕ) → ShownPool D → ShownPool D → Type 0
   KeepsNamed table old new = (slot : ℕ) (bytes : List ℕ) → IsNamed table slot → Leaves (HasBytes slot bytes) (g.state (disk_of old)) → LeavesOnly g (disk_of old) (disk_of new) (HasBytes slot bytes)
 
   -- Where each image of the slots, read by this table, gives these cells, it does at each moment from the one pool to the other.
-  abbrev pub KeepsGiven : List (ℕ × ℕ) → Shown D → Shown D → Type 0
+  abbrev pub KeepsGiven : List (ℕ × ℕ) → ShownPool D → ShownPool D → Type 0
   KeepsGiven table old new = (cells_of : ℕ → Cell) → Leaves (GivesCells table cells_of) (g.state (disk_of old)) → LeavesOnly g (disk_of old) (disk_of new) (GivesCells table cells_of)
 
   -- No failure of the device is forgotten, and only a call of it that failed breaks a pool.
-  abbrev pub BreaksByFailure : Shown D → Shown D → Type 0
+  abbrev pub BreaksByFailure : ShownPool D → ShownPool D → Type 0
   BreaksByFailure old new = (g.failures (disk_of old) ≤ g.failures (disk_of new)) × ((is_broken new ≡ is_broken old) ⊎ (g.failures (disk_of old) < g.failures (disk_of new)))
 
   -- What a pool keeps of the checkpoint that is being written, and of the one that counts, from one moment to another: nothing but a
   -- freeze changes the frozen map, and nothing but the opening of a root changes which table the root has. What the two tables
   -- name stays in each image. Once the frozen map is sealed, nothing waits, so its table stays as it is.
-  pub record Went (old new : Shown D) : Type 0 where
+  pub record Went (old new : ShownPool D) : Type 0 where
     pub goes : GoesOn g (disk_of old) (disk_of new)
     pub works : is_broken new ≡ false → is_broken old ≡ false
     pub breaks : BreaksByFailure old new
@@ -71,7 +71,7 @@ module _ {D : Type 0} (g : disk.Ghosts D) where
     pub limits : (new.most_frames ≡ old.most_frames) × (new.slots ≡ old.slots)
 
   -- What each call leaves that changes no word: the live map too, where it is what was written.
-  pub record Stays (old new : Shown D) : Type 0 where
+  pub record Stays (old new : ShownPool D) : Type 0 where
     pub went : Went old new
     pub live_is : IsWhole old → SameMap (live g old) (live g new)
 

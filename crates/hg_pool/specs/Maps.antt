@@ -10,7 +10,7 @@ use Rattle.hg_pages.specs.Slots.{HasSlot}
 use Rattle.hg_pages.specs.Stored.{cell_in_slot}
 use Rattle.hg_pages.specs.Tables.{slot_in}
 use Rattle.hg_pool.specs.declared.frame.Frame.{Frame}
-use Rattle.hg_pool.specs.Shown.{Shown}
+use Rattle.hg_pool.specs.Shown.{ShownPool}
 
 -- the page in its frame, where it is in memory
 abbrev pub frame_in : List (ℕ × Frame) → ℕ → Option Frame
@@ -40,32 +40,32 @@ abbrev pub frozen_by : Option ℕ → Option (List Cell) → Cell → Cell → �
 frozen_by None copy written present word = written
 frozen_by (Some slot) copy written present word = in_copy_or copy present word
 
-abbrev pub disk_of : {D : Type 0} → Shown D → D
+abbrev pub disk_of : {D : Type 0} → ShownPool D → D
 disk_of p = files.disk_of p.file
 
 -- whether a write or a sync failed
-abbrev pub is_broken : {D : Type 0} → Shown D → Bool
+abbrev pub is_broken : {D : Type 0} → ShownPool D → Bool
 is_broken p = files.is_broken p.file
 
 -- a word of a page of the live map, over a file with these bytes
-abbrev pub live_at : {D : Type 0} → List ℕ → Shown D → ℕ → ℕ → Cell
+abbrev pub live_at : {D : Type 0} → List ℕ → ShownPool D → ℕ → ℕ → Cell
 live_at file p page word = in_frame_or (frame_in p.frames page) (in_slot file (slot_in p.live page) word) word
 
 -- and of the frozen map
-abbrev pub frozen_at : {D : Type 0} → List ℕ → Shown D → ℕ → ℕ → Cell
+abbrev pub frozen_at : {D : Type 0} → List ℕ → ShownPool D → ℕ → ℕ → Cell
 frozen_at file p page word = frozen_by (slot_in p.waiting page) (copy_in p.copies page) (in_slot file (slot_in p.frozen page) word) (live_at file p page word) word
 
 module _ {D : Type 0} (g : disk.Ghosts D) where
   -- what is known of the file
-  abbrev pub bytes_of : Shown D → List ℕ
+  abbrev pub bytes_of : ShownPool D → List ℕ
   bytes_of p = files.known g p.file
 
   -- The live map.
-  abbrev pub live : Shown D → ℕ → Cell
+  abbrev pub live : ShownPool D → ℕ → Cell
   live p w = live_at (bytes_of p) p (w / 256) (w % 256)
 
   -- The frozen map: the live one at the last freeze.
-  abbrev pub frozen : Shown D → ℕ → Cell
+  abbrev pub frozen : ShownPool D → ℕ → Cell
   frozen p w = frozen_at (bytes_of p) p (w / 256) (w % 256)
 
 -- Read by the table, the image gives these cells: a named slot has the page, and a page without one is new.
@@ -74,5 +74,5 @@ pub record GivesCells (table : List (ℕ × ℕ)) (cells_of : ℕ → Cell) (ima
   pub unnamed : (page i : ℕ) → i < 256 → slot_in table page ≡ None → cells_of (256 * page + i) ≡ New
 
 -- Each image of the slots, read by the frozen table, gives the frozen map.
-abbrev pub IsSealed : {D : Type 0} → disk.Ghosts D → Shown D → Type 0
+abbrev pub IsSealed : {D : Type 0} → disk.Ghosts D → ShownPool D → Type 0
 IsSealed g p = Leaves (GivesCells p.frozen (frozen g p)) (g.state (disk_of p))

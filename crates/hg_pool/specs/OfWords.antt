@@ -13,26 +13,26 @@ use Rattle.hg_pages.specs.Slots.{HasBytes}
 use Rattle.hg_pages.specs.Tables.{slot_in}
 use Rattle.hg_pool.specs.Kept.{AreWithin, BreaksByFailure, Extends, IsFaithful, KeepsNamed, Went}
 use Rattle.hg_pool.specs.Maps.{copy_in, disk_of, frame_in, is_broken, live}
-use Rattle.hg_pool.specs.Shown.{Shown}
+use Rattle.hg_pool.specs.Shown.{ShownPool}
 
 -- what is in memory names only segments and sets below these numbers
-abbrev pub MayBring : {D : Type 0} → Shown D → ℕ → ℕ → Type 0
+abbrev pub MayBring : {D : Type 0} → ShownPool D → ℕ → ℕ → Type 0
 MayBring p segments sets = AreWithin p.frames segments sets
 
 -- the word's page is in memory
-abbrev pub IsBrought : {D : Type 0} → Shown D → ℕ → Type 0
+abbrev pub IsBrought : {D : Type 0} → ShownPool D → ℕ → Type 0
 IsBrought p w = is_some (frame_in p.frames (w / 256)) ≡ true
 
 -- The page may be changed: it does not wait, or its frozen cells are kept.
-abbrev pub IsSettled : {D : Type 0} → Shown D → ℕ → Type 0
+abbrev pub IsSettled : {D : Type 0} → ShownPool D → ℕ → Type 0
 IsSettled p page = (slot_in p.waiting page ≡ None) ⊎ (is_some (copy_in p.copies page) ≡ true)
 
 -- the word's page is in memory, and may be changed
-abbrev pub IsKept : {D : Type 0} → Shown D → ℕ → Type 0
+abbrev pub IsKept : {D : Type 0} → ShownPool D → ℕ → Type 0
 IsKept p w = IsBrought p w × IsSettled p (w / 256)
 
 -- the words lie in one page, which is in memory and may be changed
-abbrev pub MayFill : {D : Type 0} → Shown D → ℕ → ℕ → Type 0
+abbrev pub MayFill : {D : Type 0} → ShownPool D → ℕ → ℕ → Type 0
 MayFill p first count = IsKept p first × (first % 256 + count ≤ 256)
 
 -- what the pool refuses with: want of memory, no free slot, and what the file refuses with
@@ -47,7 +47,7 @@ MayRefuse _ = ⊥
 pub never_full : MayRefuse refusal.FullSets → ⊥
 never_full refused = refused
 
-pub brings_more : {D : Type 0} (p : Shown D) (segments sets more_segments more_sets : ℕ) → segments ≤ more_segments → sets ≤ more_sets → MayBring p segments sets → MayBring p more_segments more_sets
+pub brings_more : {D : Type 0} (p : ShownPool D) (segments sets more_segments more_sets : ℕ) → segments ≤ more_segments → sets ≤ more_sets → MayBring p segments sets → MayBring p more_segments more_sets
 brings_more p segments sets more_segments more_sets a b within q f is i = within_more segments sets more_segments more_sets (get_or f.cells i New) a b (within q f is i)
 
 each_unit : (states : List DiskState) → EachLeaves (λ _. Unit {0}) states
@@ -55,13 +55,13 @@ each_unit [] = tt
 each_unit (s ∷ earlier) = (λ _ _. tt, each_unit earlier)
 
 module _ {D : Type 0} (g : disk.Ghosts D) where
-  pub more_faithful : (p : Shown D) (segments sets more_segments more_sets : ℕ) → segments ≤ more_segments → sets ≤ more_sets → IsFaithful g p segments sets → IsFaithful g p more_segments more_sets
+  pub more_faithful : (p : ShownPool D) (segments sets more_segments more_sets : ℕ) → segments ≤ more_segments → sets ≤ more_sets → IsFaithful g p segments sets → IsFaithful g p more_segments more_sets
   more_faithful p segments sets more_segments more_sets a b h = record { whole = h.whole; within = λ w. within_more segments sets more_segments more_sets (live g p w) a b (h.within w) }
 
-  pub faithful_within : (p : Shown D) (segments sets : ℕ) → IsFaithful g p segments sets → (w : ℕ) → IsWithin segments sets (live g p w)
+  pub faithful_within : (p : ShownPool D) (segments sets : ℕ) → IsFaithful g p segments sets → (w : ℕ) → IsWithin segments sets (live g p w)
   faithful_within p segments sets h = h.within
 
-  pub went_nowhere : (p : Shown D) → Went g p p
+  pub went_nowhere : (p : ShownPool D) → Went g p p
   went_nowhere p = record {
     goes = ([], refl);
     works = λ works. works;
@@ -83,25 +83,25 @@ module _ {D : Type 0} (g : disk.Ghosts D) where
       let both = joined g old mid new (λ _. Unit {0}) (record { later = one.0; has_gone = one.1; first = λ _ _. tt; each = each_unit one.0 }) (record { later = two.0; has_gone = two.1; first = λ _ _. tt; each = each_unit two.0 }) in
       (both.later, both.has_gone)
 
-  named_join : (table after : List (ℕ × ℕ)) (old mid new : Shown D) → Extends table after → KeepsNamed g table old mid → KeepsNamed g after mid new → KeepsNamed g table old new
+  named_join : (table after : List (ℕ × ℕ)) (old mid new : ShownPool D) → Extends table after → KeepsNamed g table old mid → KeepsNamed g after mid new → KeepsNamed g table old new
   named_join table after old mid new extends one two slot bytes named leaves =
       let first = one slot bytes named leaves in
       joined g (disk_of old) (disk_of mid) (disk_of new) (HasBytes slot bytes) first (two slot bytes (named.0, extends named.0 slot named.1) (at_end g (disk_of old) (disk_of mid) (HasBytes slot bytes) first))
 
-  breaks_either : (old mid new : Shown D) → g.failures (disk_of old) ≤ g.failures (disk_of mid) → g.failures (disk_of mid) ≤ g.failures (disk_of new)
+  breaks_either : (old mid new : ShownPool D) → g.failures (disk_of old) ≤ g.failures (disk_of mid) → g.failures (disk_of mid) ≤ g.failures (disk_of new)
       → (is_broken mid ≡ is_broken old) ⊎ (g.failures (disk_of old) < g.failures (disk_of mid)) → (is_broken new ≡ is_broken mid) ⊎ (g.failures (disk_of mid) < g.failures (disk_of new))
       → (is_broken new ≡ is_broken old) ⊎ (g.failures (disk_of old) < g.failures (disk_of new))
   breaks_either old mid new a b (inl x) (inl y) = inl (y ∙ x)
   breaks_either old mid new a b (inr x) y = inr (omega (arith, x, b))
   breaks_either old mid new a b (inl x) (inr y) = inr (omega (arith, a, y))
 
-  breaks_join : (old mid new : Shown D) → BreaksByFailure g old mid → BreaksByFailure g mid new → BreaksByFailure g old new
+  breaks_join : (old mid new : ShownPool D) → BreaksByFailure g old mid → BreaksByFailure g mid new → BreaksByFailure g old new
   breaks_join old mid new one two =
       let a = one.0 in
       let b = two.0 in
       (omega (arith, a, b), breaks_either old mid new a b one.1 two.1)
 
-  pub went_on : (old mid new : Shown D) → Went g old mid → Went g mid new → Went g old new
+  pub went_on : (old mid new : ShownPool D) → Went g old mid → Went g mid new → Went g old new
   went_on old mid new one two = record {
     goes = goes_join (disk_of old) (disk_of mid) (disk_of new) one.goes two.goes;
     works = λ works. one.works (two.works works);

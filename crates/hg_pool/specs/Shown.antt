@@ -8,7 +8,7 @@ use Rattle.hg_pool.specs.declared.frame.Frame.{Frame}
 -- wait to be written for the frozen map, each with the slot that was picked for it, and the frozen cells of those that were changed
 -- since. The pages in memory, that used last first, and how many there may be. How many slots there may be. Whether the frozen
 -- map was sealed.
-pub record Shown (D : Type 0) : Type 0 where
+pub record ShownPool (D : Type 0) : Type 0 where
   pub file : SlotFile D
   pub root : List (ℕ × ℕ)
   pub frozen : List (ℕ × ℕ)

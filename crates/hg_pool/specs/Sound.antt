@@ -8,15 +8,15 @@ use Rattle.hg_pages.specs.Tables.{IsNamed, slot_in}
 use Rattle.hg_pool.specs.declared.frame.Frame.{Frame}
 use Rattle.hg_pool.specs.declared.parts.Parts.{Parts}
 use Rattle.hg_pool.specs.Maps.{copy_in, frame_in}
-use Rattle.hg_pool.specs.Shown.{Shown}
+use Rattle.hg_pool.specs.Shown.{ShownPool}
 use Rattle.hg_pool.specs.Tables.{FindsBelow}
 
 -- the frozen table: the root's where there is no other
-abbrev pub frozen_of : {D : Type 0} → Parts D → tables.Shown
+abbrev pub frozen_of : {D : Type 0} → Parts D → tables.ShownTable
 frozen_of p = unwrap_or p.frozen p.root
 
 -- what contracts see
-abbrev pub shown_of : {D : Type 0} → Parts D → Shown D
+abbrev pub shown_of : {D : Type 0} → Parts D → ShownPool D
 shown_of p = record {
   file = p.file;
   root = p.root.entries;
@@ -39,7 +39,7 @@ abbrev pub ChangesWaiting : {D : Type 0} → (old new : Parts D) → Type 0
 ChangesWaiting old new = new ≡ record old { frozen = new.frozen; waiting = new.waiting; copies = new.copies }
 
 -- A checkpoint has begun, with this frozen table and these pages that wait.
-abbrev pub HasBegun : {D : Type 0} → tables.Shown → tables.Shown → (old new : Parts D) → Type 0
+abbrev pub HasBegun : {D : Type 0} → tables.ShownTable → tables.ShownTable → (old new : Parts D) → Type 0
 HasBegun table waiting old new = new ≡ record old { frozen = Some table; waiting = waiting; copies = new.copies; is_sealed = false }
 
 -- The two tables, what waits, and where a search for slots begins have changed alone.
@@ -49,7 +49,7 @@ ChangesTables old new =
 
 -- What holds of a page that waits for this slot: no table names the slot; the page is not written yet; without a copy, it is in
 -- memory as it was frozen; and there is room for its entries.
-pub record IsPicked (root : tables.Shown) (frozen : Option tables.Shown) (live waiting : tables.Shown) (copies : List (ℕ × List Cell)) (frames : List (ℕ × Frame)) (slots page slot : ℕ) : Type 0 where
+pub record IsPicked (root : tables.ShownTable) (frozen : Option tables.ShownTable) (live waiting : tables.ShownTable) (copies : List (ℕ × List Cell)) (frames : List (ℕ × Frame)) (slots page slot : ℕ) : Type 0 where
   pub not_root : ¬ IsNamed root.entries slot
   pub not_frozen : ¬ IsNamed (unwrap_or frozen root).entries slot
   pub not_live : ¬ IsNamed live.entries slot
@@ -64,7 +64,7 @@ pub record IsPicked (root : tables.Shown) (frozen : Option tables.Shown) (live w
   pub number : page < 2 ^ 54
 
 -- The parts agree with each other.
-pub record AreSound (root : tables.Shown) (frozen : Option tables.Shown) (live waiting : tables.Shown) (copies : LruCache ℕ (List Cell)) (frames : LruCache ℕ Frame) (slots : ℕ) (is_sealed : Bool) : Type 0 where
+pub record AreSound (root : tables.ShownTable) (frozen : Option tables.ShownTable) (live waiting : tables.ShownTable) (copies : LruCache ℕ (List Cell)) (frames : LruCache ℕ Frame) (slots : ℕ) (is_sealed : Bool) : Type 0 where
   pub picked : (page slot : ℕ) → slot_in waiting.entries page ≡ Some slot → IsPicked root frozen live waiting copies.entries frames.entries slots page slot
   pub copied : (page : ℕ) (cells : List Cell) → copy_in copies.entries page ≡ Some cells → is_some (slot_in waiting.entries page) ≡ true
   pub few : length waiting.entries ≤ frames.cap

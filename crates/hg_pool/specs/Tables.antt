@@ -1,6 +1,6 @@
 -- Tables: their pages and slots, and a table in which a page was given a slot.
 use Rattle.std.specs.Prelude.{◌≡◌, ◌+◌, ◌≤◌, ◌<◌, ◌^◌, ◌==◌, ℕ, List, length, Some, All, is_some, if◌then◌else◌}
-use Rattle.hg_pages.specs.Tables.{AreEntries, Shown, slot_in}
+use Rattle.hg_pages.specs.Tables.{AreEntries, ShownTable, slot_in}
 
 -- the pages are below 2^54, and the slots below this number
 abbrev pub AreBelow : ℕ → List (ℕ × ℕ) → Type 0
@@ -18,7 +18,7 @@ pub record IsNameable (slots : ℕ) (table : List (ℕ × ℕ)) : Type 0 where
   pub most : slots ≤ 1048576
 
 -- The page has the slot, other pages have theirs, and there is no less room.
-pub record IsSetAt (page slot : ℕ) (old new : Shown) : Type 0 where
+pub record IsSetAt (page slot : ℕ) (old new : ShownTable) : Type 0 where
   pub looks : (other : ℕ) → slot_in new.entries other ≡ (if page == other then Some slot else slot_in old.entries other)
   pub size : length new.entries ≡ length old.entries + (if is_some (slot_in old.entries page) then 0 else 1)
   pub capacity : old.capacity ≤ new.capacity

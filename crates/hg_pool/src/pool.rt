@@ -17,7 +17,7 @@ use crate::parts::Parts;
 use hg_cells::{Cell, Page};
 use hg_disk::Disk;
 use hg_model::verdict::Refusal;
-use hg_pages::{EncodedPage, SlotFile, Table, WriteFault};
+use hg_pages::{EncodedPage, MOST_SLOTS, SlotFile, Table, WriteFault};
 use hg_sets::SetTable;
 use lru::LruCache;
 use std::alloc::{AllocError, Global};
@@ -37,11 +37,11 @@ impl<D: Disk + Drop> Drop for Pool<D> {
 }
 
 impl<D: Disk> Model for Pool<D> {
-    ghost use Rattle.hg_pool.specs.Shown.{Shown};
+    ghost use Rattle.hg_pool.specs.Shown.{ShownPool};
     ghost use Rattle.hg_pool.specs.Reached.{IsReached};
     ghost use Rattle.hg_pool.specs.Sound.{IsSound, shown_of};
 
-    ghost Value = { Shown D };
+    ghost Value = { ShownPool D };
 
     ghost view = { λ p. shown_of p.parts };
 
@@ -84,7 +84,7 @@ impl<D: Disk> Pool<D> {
         slots: u32,
     ) -> Result<Self, SlotFile<D>>
         requires frames { frames ≤ 4096 }
-        requires slots { slots ≤ 1048576 }
+        requires slots { slots ≤ MOST_SLOTS }
         requires table { AreBelow slots table.entries }
         ensures pool { IfOk result (λ p. p ≡ first_pool file table.entries frames slots) }
         ensures handed_back { IfErr result (λ f. f ≡ file) }

@@ -2,7 +2,7 @@
 ghost use Rattle.std.specs.Prelude.{◌≡◌, ◌⊎◌, ◌↔◌, ◌+◌, ◌<◌, ◌≤◌, ◌==◌, ◌^◌, ℕ, nat_eq, ◌∷◌, length, map, true, false, Some, None, Ok, Err, is_some, IsTrue, OnOk, OnErr, IfErr, if◌then◌else◌};
 ghost use Rattle.std.specs.Map.{remove_entry};
 ghost use Rattle.lru.specs.LruCache.{promoted};
-ghost use Rattle.hg_pages.specs.Tables.{IsNamed, Shown as TableOf, slot_in};
+ghost use Rattle.hg_pages.specs.Tables.{IsNamed, ShownTable as TableOf, slot_in};
 ghost use Rattle.hg_pool.specs.Tables.{IsSetAt};
 ghost use Rattle.hg_pool.specs.declared.frame.Frame.{Frame as FrameOf};
 ghost use Rattle.hg_pool.specs.Maps.{copy_in, frame_in};

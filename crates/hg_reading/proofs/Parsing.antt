@@ -3,19 +3,19 @@ use Rattle.std.proofs.Common.{◌≡◌, ℕ, ◌+◌, ◌-◌, List, [], ◌∷
 use Rattle.std.proofs.lemmas.List.{append_assoc, length-append, length-drop, drop-drop, drop_all, take_all}
 use Rattle.hg_model.specs.declared.event.Event.{Event}
 use Rattle.hg_wire.specs.declared.reader.Reading.{Reading}
-use Rattle.hg_wire.specs.Streams.{GivesNoReading, GivesReading, Pending, at_start, between_lines, ended_from, numbered_on, readings_from}
+use Rattle.hg_wire.specs.Streams.{GivesNoReading, GivesReading, LinesRead, at_start, between_lines, ended_from, numbered_on, readings_from}
 use Rattle.hg_wire.proofs.Numbering.{gives_none_on, gives_on}
 use Rattle.hg_reading.specs.declared.kept.Kept.{Kept}
 use Rattle.hg_reading.specs.Keeping.{IsKept, lines_kept, one, readings_kept}
 
 -- A text was parsed up to a rest, each line that has an event was kept, and a reader stands in front of the rest.
-pub record IsParsedTo (text : List ℕ) (kept : List Kept) (lines bytes : ℕ) (reader : Pending) (rest : List ℕ) : Type 0 where
+pub record IsParsedTo (text : List ℕ) (kept : List Kept) (lines bytes : ℕ) (reader : LinesRead) (rest : List ℕ) : Type 0 where
   pub front : IsKept text kept lines bytes
   pub exact : lines_kept kept ≡ lines
   pub left : rest ≡ drop bytes text
   pub stands : reader ≡ between_lines lines
 
-pub parsed_first : (text : List ℕ) (kept : List Kept) (reader : Pending) → kept ≡ [] → reader ≡ at_start → IsParsedTo text kept 0 0 reader text
+pub parsed_first : (text : List ℕ) (kept : List Kept) (reader : LinesRead) → kept ≡ [] → reader ≡ at_start → IsParsedTo text kept 0 0 reader text
 parsed_first text kept reader none start =
     let here : (n : ℕ) → n ≡ n + 0 = λ n. omega arith in
     record {
@@ -32,17 +32,17 @@ parsed_first text kept reader none start =
       stands = start;
     }
 
-between : (p : Pending) → p.begun ≡ [] → p ≡ between_lines p.lines
+between : (p : LinesRead) → p.begun ≡ [] → p ≡ between_lines p.lines
 between p none = ap (λ b. record { lines = p.lines; begun = b }) none
 
 -- one line more
-pub parsed_on : (text : List ℕ) (kept more_kept : List Kept) (lines bytes : ℕ) (old new : Pending) (rest : List ℕ) (event : Event) (used passed : ℕ) → IsParsedTo text kept lines bytes old rest
+pub parsed_on : (text : List ℕ) (kept more_kept : List Kept) (lines bytes : ℕ) (old new : LinesRead) (rest : List ℕ) (event : Event) (used passed : ℕ) → IsParsedTo text kept lines bytes old rest
     → GivesReading old new rest (record { line = new.lines; event = Ok event }) used → passed ≡ new.lines - lines - 1
     → ((n : ℕ) → readings_kept n more_kept ≡ readings_kept n kept ++ one (n + lines_kept kept + passed) event) → lines_kept more_kept ≡ lines_kept kept + passed + 1
     → IsParsedTo text more_kept new.lines (bytes + used) new (drop used rest)
 parsed_on text kept more_kept lines bytes old new rest event used passed h gives lead reads counts =
-    let start : old.lines ≡ lines = ap (λ (p : Pending). p.lines) h.stands in
-    let begun : old.begun ≡ [] = ap (λ (p : Pending). p.begun) h.stands in
+    let start : old.lines ≡ lines = ap (λ (p : LinesRead). p.lines) h.stands in
+    let begun : old.begun ≡ [] = ap (λ (p : LinesRead). p.begun) h.stands in
     let size : length rest ≡ length text - bytes = ap length h.left ∙ length-drop bytes text in
     let left : drop used rest ≡ drop (bytes + used) text = ap (drop used) h.left ∙ drop-drop used bytes text in
     let whole : lines_kept more_kept ≡ new.lines = omega (arith, counts, h.exact, lead, gives.rising, start) in
@@ -78,11 +78,11 @@ parsed_on text kept more_kept lines bytes old new rest event used passed h gives
     }
 
 -- no line more
-pub parsed_all : (text : List ℕ) (kept : List Kept) (lines bytes : ℕ) (old new : Pending) (rest : List ℕ) → IsParsedTo text kept lines bytes old rest → GivesNoReading old new rest → new.begun ≡ []
+pub parsed_all : (text : List ℕ) (kept : List Kept) (lines bytes : ℕ) (old new : LinesRead) (rest : List ℕ) → IsParsedTo text kept lines bytes old rest → GivesNoReading old new rest → new.begun ≡ []
     → IsKept text kept new.lines (length text)
 parsed_all text kept lines bytes old new rest h gives after =
-    let start : old.lines ≡ lines = ap (λ (p : Pending). p.lines) h.stands in
-    let begun : old.begun ≡ [] = ap (λ (p : Pending). p.begun) h.stands in
+    let start : old.lines ≡ lines = ap (λ (p : LinesRead). p.lines) h.stands in
+    let begun : old.begun ≡ [] = ap (λ (p : LinesRead). p.begun) h.stands in
     let size : length rest ≡ length text - bytes = ap length h.left ∙ length-drop bytes text in
     let none : drop (length text) text ≡ [] = drop_all (length text) text (omega arith) in
     let step : (n : ℕ) → GivesNoReading (between_lines (n + lines)) (between_lines (n + new.lines)) rest =

@@ -4,18 +4,18 @@ use Rattle.std.proofs.lemmas.List.{append-nil, append_assoc, length-append, leng
 use Rattle.hg_model.specs.declared.verdict.Refusal.{Refusal}
 use Rattle.hg_streams.specs.declared.call.WriteCall.{WriteCall}
 use Rattle.hg_wire.specs.declared.reader.Reading.{Reading}
-use Rattle.hg_wire.specs.Streams.{Pending, between_lines, ended_from, readings_from}
+use Rattle.hg_wire.specs.Streams.{LinesRead, between_lines, ended_from, readings_from}
 use Rattle.hg_reading.specs.declared.kept.Kept.{Kept}
 use Rattle.hg_reading.specs.Keeping.{IsKept, IsOffered, readings_kept}
 use Rattle.hg_reading.specs.Taking.{Passes, Pushes, StopsIn, Taking}
 
 module _ {S E : Type 0} (takes : Taking S E) where
-  pub pushes_pass : (p : Pending) (a : S) (at_a : List WriteCall) (piece : List ℕ) (r : Result (Option E) Refusal) (q : Pending) (b : S) (at_b : List WriteCall)
+  pub pushes_pass : (p : LinesRead) (a : S) (at_a : List WriteCall) (piece : List ℕ) (r : Result (Option E) Refusal) (q : LinesRead) (b : S) (at_b : List WriteCall)
       → r ≡ Ok None → Pushes takes p a at_a piece r q b at_b → Passes takes p a at_a piece q b at_b []
   pushes_pass p a at_a piece r q b at_b is h = subst (λ x. Pushes takes p a at_a piece x q b at_b) is h
 
   -- what was passed of a piece was passed of a longer one
-  pub passes_longer : (p q : Pending) (a b : S) (at_a at_b : List WriteCall) (piece rest tail : List ℕ) → Passes takes p a at_a piece q b at_b rest → Passes takes p a at_a (piece ++ tail) q b at_b (rest ++ tail)
+  pub passes_longer : (p q : LinesRead) (a b : S) (at_a at_b : List WriteCall) (piece rest tail : List ℕ) → Passes takes p a at_a piece q b at_b rest → Passes takes p a at_a (piece ++ tail) q b at_b (rest ++ tail)
   passes_longer p q a b at_a at_b piece rest tail h = record {
     lines = h.lines;
     steps = h.steps;
@@ -25,7 +25,7 @@ module _ {S E : Type 0} (takes : Taking S E) where
     few = omega (arith, h.few, length-append piece tail, length-append rest tail);
   }
 
-  pub stops_longer : (p : Pending) (a b : S) (at_a at_b : List WriteCall) (piece tail : List ℕ) (r : Result (Option E) Refusal) → StopsIn takes p a at_a piece r b at_b → StopsIn takes p a at_a (piece ++ tail) r b at_b
+  pub stops_longer : (p : LinesRead) (a b : S) (at_a at_b : List WriteCall) (piece tail : List ℕ) (r : Result (Option E) Refusal) → StopsIn takes p a at_a piece r b at_b → StopsIn takes p a at_a (piece ++ tail) r b at_b
   stops_longer p a b at_a at_b piece tail r h = record {
     lines = h.lines;
     steps = h.steps;
@@ -36,7 +36,7 @@ module _ {S E : Type 0} (takes : Taking S E) where
   pub room_left : (may_take : S → ℕ → Type 0)
       → ((a b : S) (at_a at_b : List WriteCall) (first : List Reading) (n : ℕ) → may_take a (length first + n) → takes a at_a first (Ok None) b at_b → may_take b n)
       → ((s : S) (n more : ℕ) → may_take s (n + more) → may_take s n)
-      → (p q : Pending) (a b : S) (at_a at_b : List WriteCall) (piece rest : List ℕ) → Passes takes p a at_a piece q b at_b rest → may_take a (length piece) → may_take b (length rest)
+      → (p q : LinesRead) (a b : S) (at_a at_b : List WriteCall) (piece rest : List ℕ) → Passes takes p a at_a piece q b at_b rest → may_take a (length piece) → may_take b (length rest)
   room_left may_take room fewer p q a b at_a at_b piece rest h may =
       let over = length piece - length h.lines - length rest in
       let count : length piece ≡ length h.lines + (length rest + over) = omega (arith, h.few) in
@@ -45,7 +45,7 @@ module _ {S E : Type 0} (takes : Taking S E) where
   module _ (on : (a b c : S) (at_a at_b at_c : List WriteCall) (first later : List Reading) (r : Result (Option E) Refusal)
       → takes a at_a first (Ok None) b at_b → takes b at_b later r c at_c → takes a at_a (first ++ later) r c at_c)
     where
-      pub passes_then : (p q s : Pending) (a b c : S) (at_a at_b at_c : List WriteCall) (piece mid rest : List ℕ)
+      pub passes_then : (p q s : LinesRead) (a b c : S) (at_a at_b at_c : List WriteCall) (piece mid rest : List ℕ)
           → Passes takes p a at_a piece q b at_b mid → Passes takes q b at_b mid s c at_c rest → Passes takes p a at_a piece s c at_c rest
       passes_then p q s a b c at_a at_b at_c piece mid rest h k = record {
         lines = h.lines ++ k.lines;
@@ -56,7 +56,7 @@ module _ {S E : Type 0} (takes : Taking S E) where
         few = omega (arith, h.few, k.few, length-append h.lines k.lines);
       }
 
-      pub stops_then : (p q : Pending) (a b c : S) (at_a at_b at_c : List WriteCall) (piece mid : List ℕ) (r : Result (Option E) Refusal)
+      pub stops_then : (p q : LinesRead) (a b c : S) (at_a at_b at_c : List WriteCall) (piece mid : List ℕ) (r : Result (Option E) Refusal)
           → Passes takes p a at_a piece q b at_b mid → StopsIn takes q b at_b mid r c at_c → StopsIn takes p a at_a piece r c at_c
       stops_then p q a b c at_a at_b at_c piece mid r h k = record {
         lines = h.lines ++ k.lines;
@@ -64,25 +64,25 @@ module _ {S E : Type 0} (takes : Taking S E) where
         front = λ more. let rest = k.front more in (rest.0, h.readings more ∙ (ap (λ xs. h.lines ++ xs) rest.1 ∙ sym (append_assoc h.lines k.lines rest.0)));
       }
 
-      pub pushes_then : (p q s : Pending) (a b c : S) (at_a at_b at_c : List WriteCall) (piece mid : List ℕ) (r : Result (Option E) Refusal)
+      pub pushes_then : (p q s : LinesRead) (a b c : S) (at_a at_b at_c : List WriteCall) (piece mid : List ℕ) (r : Result (Option E) Refusal)
           → Passes takes p a at_a piece q b at_b mid → Pushes takes q b at_b mid r s c at_c → Pushes takes p a at_a piece r s c at_c
       pushes_then p q s a b c at_a at_b at_c piece mid (Ok None) h k = passes_then p q s a b c at_a at_b at_c piece mid [] h k
       pushes_then p q s a b c at_a at_b at_c piece mid (Ok (Some end)) h k = stops_then p q a b c at_a at_b at_c piece mid (Ok (Some end)) h k
       pushes_then p q s a b c at_a at_b at_c piece mid (Err x) h k = stops_then p q a b c at_a at_b at_c piece mid (Err x) h k
 
       -- a piece in two: all of its first part was passed
-      pub pushes_front : (p q s : Pending) (a b c : S) (at_a at_b at_c : List WriteCall) (piece first later : List ℕ) (r : Result (Option E) Refusal) → piece ≡ first ++ later
+      pub pushes_front : (p q s : LinesRead) (a b c : S) (at_a at_b at_c : List WriteCall) (piece first later : List ℕ) (r : Result (Option E) Refusal) → piece ≡ first ++ later
           → Passes takes p a at_a first q b at_b [] → Pushes takes q b at_b later r s c at_c → Pushes takes p a at_a piece r s c at_c
       pushes_front p q s a b c at_a at_b at_c piece first later r is h k =
           pushes_then p q s a b c at_a at_b at_c piece later r (subst (λ x. Passes takes p a at_a x q b at_b later) (sym is) (passes_longer p q a b at_a at_b first [] later h)) k
 
   -- a piece in two: its first part was not passed
-  pub stops_front : (p : Pending) (a b : S) (at_a at_b : List WriteCall) (piece first later : List ℕ) (r : Result (Option E) Refusal) → piece ≡ first ++ later → StopsIn takes p a at_a first r b at_b → StopsIn takes p a at_a piece r b at_b
+  pub stops_front : (p : LinesRead) (a b : S) (at_a at_b : List WriteCall) (piece first later : List ℕ) (r : Result (Option E) Refusal) → piece ≡ first ++ later → StopsIn takes p a at_a first r b at_b → StopsIn takes p a at_a piece r b at_b
   stops_front p a b at_a at_b piece first later r is h = subst (λ x. StopsIn takes p a at_a x r b at_b) (sym is) (stops_longer p a b at_a at_b first later r h)
 
   -- ---- what a part holds
 
-  pub part_passes : (p : Pending) (a b : S) (at_a at_b : List WriteCall) (text : List ℕ) (kept : List Kept) (lines bytes n : ℕ) (r : Result (Option E) Refusal) → p.begun ≡ [] → n ≡ p.lines → IsKept text kept lines bytes
+  pub part_passes : (p : LinesRead) (a b : S) (at_a at_b : List WriteCall) (text : List ℕ) (kept : List Kept) (lines bytes n : ℕ) (r : Result (Option E) Refusal) → p.begun ≡ [] → n ≡ p.lines → IsKept text kept lines bytes
       → IsOffered takes a at_a (readings_kept n kept) r b at_b → r ≡ Ok None → Passes takes p a at_a text (record { lines = p.lines + lines; begun = p.begun }) b at_b (drop bytes text)
   part_passes p a b at_a at_b text kept lines bytes n r begun is h offered passed =
       let stands : p ≡ between_lines p.lines = ap (λ x. record { lines = p.lines; begun = x }) begun in
@@ -91,15 +91,15 @@ module _ {S E : Type 0} (takes : Taking S E) where
       record {
         lines = offered.lines;
         steps = subst (λ x. takes a at_a offered.lines x b at_b) passed offered.steps;
-        readings = λ more. ap (λ (x : Pending). readings_from x (text ++ more)) stands ∙ (h.readings p.lines more
-            ∙ (ap (λ xs. xs ++ readings_from (between_lines (p.lines + lines)) (drop bytes text ++ more)) all ∙ ap (λ (x : Pending). offered.lines ++ readings_from x (drop bytes text ++ more)) after));
-        ended = λ more. ap (λ (x : Pending). ended_from x (text ++ more)) stands ∙ (h.ended p.lines more
-            ∙ (ap (λ xs. xs ++ ended_from (between_lines (p.lines + lines)) (drop bytes text ++ more)) all ∙ ap (λ (x : Pending). offered.lines ++ ended_from x (drop bytes text ++ more)) after));
+        readings = λ more. ap (λ (x : LinesRead). readings_from x (text ++ more)) stands ∙ (h.readings p.lines more
+            ∙ (ap (λ xs. xs ++ readings_from (between_lines (p.lines + lines)) (drop bytes text ++ more)) all ∙ ap (λ (x : LinesRead). offered.lines ++ readings_from x (drop bytes text ++ more)) after));
+        ended = λ more. ap (λ (x : LinesRead). ended_from x (text ++ more)) stands ∙ (h.ended p.lines more
+            ∙ (ap (λ xs. xs ++ ended_from (between_lines (p.lines + lines)) (drop bytes text ++ more)) all ∙ ap (λ (x : LinesRead). offered.lines ++ ended_from x (drop bytes text ++ more)) after));
         counted = omega (arith, h.counted, h.within, length-drop bytes text);
         few = omega (arith, h.few p.lines, ap length all, h.within, length-drop bytes text);
       }
 
-  pub part_stops : (p : Pending) (a b : S) (at_a at_b : List WriteCall) (text : List ℕ) (kept : List Kept) (lines bytes n : ℕ) (r : Result (Option E) Refusal) → p.begun ≡ [] → n ≡ p.lines → IsKept text kept lines bytes
+  pub part_stops : (p : LinesRead) (a b : S) (at_a at_b : List WriteCall) (text : List ℕ) (kept : List Kept) (lines bytes n : ℕ) (r : Result (Option E) Refusal) → p.begun ≡ [] → n ≡ p.lines → IsKept text kept lines bytes
       → IsOffered takes a at_a (readings_kept n kept) r b at_b → StopsIn takes p a at_a text r b at_b
   part_stops p a b at_a at_b text kept lines bytes n r begun is h offered =
       let stands : p ≡ between_lines p.lines = ap (λ x. record { lines = p.lines; begun = x }) begun in
@@ -109,7 +109,7 @@ module _ {S E : Type 0} (takes : Taking S E) where
         steps = offered.steps;
         front = λ more. let after = readings_from (between_lines (p.lines + lines)) (drop bytes text ++ more) in (
           offered.left ++ after,
-          ap (λ (x : Pending). readings_from x (text ++ more)) stands ∙ (h.readings p.lines more ∙ (ap (λ xs. xs ++ after) all ∙ append_assoc offered.lines offered.left after)),
+          ap (λ (x : LinesRead). readings_from x (text ++ more)) stands ∙ (h.readings p.lines more ∙ (ap (λ xs. xs ++ after) all ∙ append_assoc offered.lines offered.left after)),
         );
       }
 
@@ -117,6 +117,6 @@ module _ {S E : Type 0} (takes : Taking S E) where
   pub room_second : (may_take : S → ℕ → Type 0)
       → ((a b : S) (at_a at_b : List WriteCall) (first : List Reading) (n : ℕ) → may_take a (length first + n) → takes a at_a first (Ok None) b at_b → may_take b n)
       → ((s : S) (n more : ℕ) → may_take s (n + more) → may_take s n)
-      → (p q : Pending) (a b : S) (at_a at_b : List WriteCall) (piece first later : List ℕ) → piece ≡ first ++ later → Passes takes p a at_a first q b at_b [] → may_take a (length piece) → may_take b (length later)
+      → (p q : LinesRead) (a b : S) (at_a at_b : List WriteCall) (piece first later : List ℕ) → piece ≡ first ++ later → Passes takes p a at_a first q b at_b [] → may_take a (length piece) → may_take b (length later)
   room_second may_take room fewer p q a b at_a at_b piece first later is h may =
       room_left may_take room fewer p q a b at_a at_b (first ++ later) later (passes_longer p q a b at_a at_b first [] later h) (subst (λ x. may_take a (length x)) is may)

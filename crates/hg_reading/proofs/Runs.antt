@@ -10,7 +10,7 @@ use Rattle.hg_streams.specs.declared.call.ReadCall.TheVariants.{Erred, Gave}
 use Rattle.hg_streams.specs.declared.call.WriteCall.{WriteCall}
 use Rattle.hg_streams.specs.Calls.{ends_met, failed_reads, given}
 use Rattle.hg_wire.specs.declared.reader.Reading.{Reading}
-use Rattle.hg_wire.specs.Streams.{Pending, at_start, ended_from, ended_readings, readings, readings_from}
+use Rattle.hg_wire.specs.Streams.{LinesRead, at_start, ended_from, ended_readings, readings, readings_from}
 use Rattle.hg_reading.specs.Taking.{EachIsNeeded, HasNoneLeft, HasRead, Passes, ReadBroke, Reads, StopsIn, Taking, WasRead}
 
 some_met : (piece : List ℕ) (later : List ReadCall) → 0 < length piece → ends_met (Gave piece ∷ later) ≡ ends_met later
@@ -22,7 +22,7 @@ module _ {S E : Type 0} (takes : Taking S E)
     → takes a at_a first (Ok None) b at_b → takes b at_b later r c at_c → takes a at_a (first ++ later) r c at_c)
   where
     -- before the first read
-    pub has_read_first : (known : List ReadCall) (s : S) (calls : List WriteCall) (p : Pending) → p ≡ at_start → takes s calls [] (Ok None) s calls → HasRead takes known known s calls p s calls
+    pub has_read_first : (known : List ReadCall) (s : S) (calls : List WriteCall) (p : LinesRead) → p ≡ at_start → takes s calls [] (Ok None) s calls → HasRead takes known known s calls p s calls
     has_read_first known s calls p start none = record {
       later = [];
       since = refl;
@@ -30,13 +30,13 @@ module _ {S E : Type 0} (takes : Taking S E)
       underway = refl;
       lines = [];
       steps = none;
-      readings = λ more. ap (λ (q : Pending). readings_from q more) (sym start);
-      ended = λ more. ap (λ (q : Pending). ended_from q more) (sym start);
-      none_left = ap (λ (q : Pending). ended_from q []) start;
+      readings = λ more. ap (λ (q : LinesRead). readings_from q more) (sym start);
+      ended = λ more. ap (λ (q : LinesRead). ended_from q more) (sym start);
+      none_left = ap (λ (q : LinesRead). ended_from q []) start;
     }
 
     -- a read that was interrupted
-    pub has_read_again : (first reads now : List ReadCall) (start : S) (at_start : List WriteCall) (p : Pending) (s : S) (calls : List WriteCall)
+    pub has_read_again : (first reads now : List ReadCall) (start : S) (at_start : List WriteCall) (p : LinesRead) (s : S) (calls : List WriteCall)
         → now ≡ Erred Interrupted ∷ reads → HasRead takes first reads start at_start p s calls → HasRead takes first now start at_start p s calls
     has_read_again first reads now start at_start p s calls is h = record {
       later = Erred Interrupted ∷ h.later;
@@ -51,7 +51,7 @@ module _ {S E : Type 0} (takes : Taking S E)
     }
 
     -- a piece of which each line was passed
-    pub has_read_on : (first reads now : List ReadCall) (start : S) (at_start : List WriteCall) (p q : Pending) (s t : S) (at_s at_t : List WriteCall) (piece : List ℕ)
+    pub has_read_on : (first reads now : List ReadCall) (start : S) (at_start : List WriteCall) (p q : LinesRead) (s t : S) (at_s at_t : List WriteCall) (piece : List ℕ)
         → now ≡ Gave piece ∷ reads → 0 < length piece → (passes : Passes takes p s at_s piece q t at_t []) → HasNoneLeft q → HasRead takes first reads start at_start p s at_s → HasRead takes first now start at_start q t at_t
     has_read_on first reads now start at_start p q s t at_s at_t piece is some passes none_left h = record {
       later = Gave piece ∷ h.later;
@@ -68,7 +68,7 @@ module _ {S E : Type 0} (takes : Taking S E)
     }
 
     -- what is printed behind a piece passes no line more
-    pub passes_printed : (p q : Pending) (s t u : S) (at_s at_t at_u : List WriteCall) (piece rest : List ℕ)
+    pub passes_printed : (p q : LinesRead) (s t u : S) (at_s at_t at_u : List WriteCall) (piece rest : List ℕ)
         → Passes takes p s at_s piece q t at_t rest → takes t at_t [] (Ok None) u at_u → Passes takes p s at_s piece q u at_u rest
     passes_printed p q s t u at_s at_t at_u piece rest passes printed = record {
       lines = passes.lines;
@@ -80,7 +80,7 @@ module _ {S E : Type 0} (takes : Taking S E)
     }
 
     -- printing behind a piece was broken off
-    pub stops_printing : (p q : Pending) (s t u : S) (at_s at_t at_u : List WriteCall) (piece : List ℕ) (r : Result (Option E) Refusal)
+    pub stops_printing : (p q : LinesRead) (s t u : S) (at_s at_t at_u : List WriteCall) (piece : List ℕ) (r : Result (Option E) Refusal)
         → Passes takes p s at_s piece q t at_t [] → takes t at_t [] r u at_u → StopsIn takes p s at_s piece r u at_u
     stops_printing p q s t u at_s at_t at_u piece r passes printed = record {
       lines = passes.lines;
@@ -92,21 +92,21 @@ module _ {S E : Type 0} (takes : Taking S E)
     pub room_behind : (may_take : S → ℕ → Type 0)
         → ((a b : S) (at_a at_b : List WriteCall) (first : List Reading) (n : ℕ) → may_take a (length first + n) → takes a at_a first (Ok None) b at_b → may_take b n)
         → ((s : S) (n more : ℕ) → may_take s (n + more) → may_take s n)
-        → (p q : Pending) (s t : S) (at_s at_t : List WriteCall) (piece : List ℕ) (size n : ℕ)
+        → (p q : LinesRead) (s t : S) (at_s at_t : List WriteCall) (piece : List ℕ) (size n : ℕ)
         → length piece ≤ size → Passes takes p s at_s piece q t at_t [] → may_take s (size + n) → may_take t n
     room_behind may_take room fewer p q s t at_s at_t piece size n within passes may =
         let left : size + n ≡ length passes.lines + (n + (size - length passes.lines)) = omega (arith, passes.few, within) in
         fewer t n (size - length passes.lines) (room s t at_s at_t passes.lines (n + (size - length passes.lines)) (subst (λ (k : ℕ). may_take s k) left may) passes.steps)
 
     -- the lines that had come whole were passed
-    passed : (first reads : List ReadCall) (start : S) (at_start : List WriteCall) (p : Pending) (s : S) (at_s : List WriteCall) (h : HasRead takes first reads start at_start p s at_s)
+    passed : (first reads : List ReadCall) (start : S) (at_start : List WriteCall) (p : LinesRead) (s : S) (at_s : List WriteCall) (h : HasRead takes first reads start at_start p s at_s)
         → takes start at_start (ended_readings (given h.later)) (Ok None) s at_s
     passed first reads start at_start p s at_s h =
         subst (λ xs. takes start at_start xs (Ok None) s at_s)
         (sym (ap ended_readings (sym (append-nil (given h.later))) ∙ (h.ended [] ∙ (ap (λ xs. h.lines ++ xs) h.none_left ∙ append-nil h.lines))))
         h.steps
 
-    needed : (first reads : List ReadCall) (start : S) (at_start : List WriteCall) (p : Pending) (s : S) (at_s : List WriteCall) (call : ReadCall) (h : HasRead takes first reads start at_start p s at_s)
+    needed : (first reads : List ReadCall) (start : S) (at_start : List WriteCall) (p : LinesRead) (s : S) (at_s : List WriteCall) (call : ReadCall) (h : HasRead takes first reads start at_start p s at_s)
         → EachIsNeeded takes start at_start (call ∷ h.later)
     needed first reads start at_start p s at_s call h = record {
       last = call;
@@ -119,7 +119,7 @@ module _ {S E : Type 0} (takes : Taking S E)
     }
 
     -- a line of a piece ended the run, or was broken off
-    pub read_stop : (first reads now : List ReadCall) (start : S) (at_start : List WriteCall) (p : Pending) (s t : S) (at_s at_t : List WriteCall) (piece : List ℕ) (r : Result (Option E) Refusal)
+    pub read_stop : (first reads now : List ReadCall) (start : S) (at_start : List WriteCall) (p : LinesRead) (s t : S) (at_s at_t : List WriteCall) (piece : List ℕ) (r : Result (Option E) Refusal)
         → now ≡ Gave piece ∷ reads → (r ≡ Ok None → ⊥) → StopsIn takes p s at_s piece r t at_t → HasRead takes first reads start at_start p s at_s → WasRead takes first now start at_start r t at_t
     read_stop first reads now start at_start p s t at_s at_t piece r is never stops h = record {
       later = Gave piece ∷ h.later;
@@ -138,7 +138,7 @@ module _ {S E : Type 0} (takes : Taking S E)
     }
 
     -- at the end of the input, its last line was offered
-    pub read_end : (first reads now : List ReadCall) (start : S) (at_start : List WriteCall) (p : Pending) (s t : S) (at_s at_t : List WriteCall) (r : Result (Option E) Refusal)
+    pub read_end : (first reads now : List ReadCall) (start : S) (at_start : List WriteCall) (p : LinesRead) (s t : S) (at_s at_t : List WriteCall) (r : Result (Option E) Refusal)
         → now ≡ Gave [] ∷ reads → takes s at_s (readings_from p []) r t at_t → HasRead takes first reads start at_start p s at_s → WasRead takes first now start at_start r t at_t
     read_end first reads now start at_start p s t at_s at_t r met last h = record {
       later = Gave [] ∷ h.later;
@@ -157,7 +157,7 @@ module _ {S E : Type 0} (takes : Taking S E)
     reads_all first now start calls (Err r) t at_t w = inl w
 
     -- a read failed
-    pub read_failed : (first reads now : List ReadCall) (start : S) (at_start : List WriteCall) (p : Pending) (s : S) (at_s : List WriteCall) (kind : ErrorKind) (r : Refusal)
+    pub read_failed : (first reads now : List ReadCall) (start : S) (at_start : List WriteCall) (p : LinesRead) (s : S) (at_s : List WriteCall) (kind : ErrorKind) (r : Refusal)
         → now ≡ Erred kind ∷ reads → failed_reads now ≡ 1 + failed_reads reads → r ≡ DeviceFault → HasRead takes first reads start at_start p s at_s → ReadBroke takes first now start at_start r s at_s
     read_failed first reads now start at_start p s at_s kind r is failed fault h = record {
       later = Erred kind ∷ h.later;
@@ -170,7 +170,7 @@ module _ {S E : Type 0} (takes : Taking S E)
     }
 
     -- so many reads were made
-    pub read_too_often : (first now : List ReadCall) (start : S) (at_start : List WriteCall) (p : Pending) (s : S) (at_s : List WriteCall) (reads : ℕ)
+    pub read_too_often : (first now : List ReadCall) (start : S) (at_start : List WriteCall) (p : LinesRead) (s : S) (at_s : List WriteCall) (reads : ℕ)
         → length now ≡ reads + length first → 2 ^ 32 ≤ reads → HasRead takes first now start at_start p s at_s → ReadBroke takes first now start at_start DeviceFault s at_s
     read_too_often first now start at_start p s at_s reads counted many h = record {
       later = h.later;

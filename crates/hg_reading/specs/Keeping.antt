@@ -7,7 +7,7 @@ use Rattle.hg_model.specs.declared.verdict.Refusal.{Refusal}
 use Rattle.hg_streams.specs.declared.call.WriteCall.{WriteCall}
 use Rattle.hg_streams.specs.Shown.{Outgoing}
 use Rattle.hg_wire.specs.declared.reader.Reading.{Reading}
-use Rattle.hg_wire.specs.Streams.{GivesNoReading, GivesReading, Pending, between_lines, ended_from, readings_from}
+use Rattle.hg_wire.specs.Streams.{GivesNoReading, GivesReading, LinesRead, between_lines, ended_from, readings_from}
 use Rattle.hg_reading.specs.declared.kept.Kept.{Kept}
 use Rattle.hg_reading.specs.declared.kept.Kept.TheVariants.{Passed, Fork, Join, Lock, RdLock, Unlock, Read, Write, Alloc, Free}
 use Rattle.hg_reading.specs.declared.part.Next.{Next}
@@ -82,7 +82,7 @@ pub record IsKept (text : List ℕ) (kept : List Kept) (lines bytes : ℕ) : Typ
   pub ended : (n : ℕ) (more : List ℕ) → ended_from (between_lines n) (text ++ more) ≡ readings_kept n kept ++ ended_from (between_lines (n + lines)) (drop bytes text ++ more)
 
 -- what was taken of the rest of a text
-abbrev pub FindsNext : Pending → Pending → List ℕ → Next → Type 0
+abbrev pub FindsNext : LinesRead → LinesRead → List ℕ → Next → Type 0
 FindsNext old new rest (next.Event event used) = GivesReading old new rest (record { line = new.lines; event = Ok event }) used
 FindsNext old new rest Bad = ⊤
 FindsNext old new rest End = GivesNoReading old new rest

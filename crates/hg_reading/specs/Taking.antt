@@ -10,7 +10,7 @@ use Rattle.hg_streams.specs.Calls.{ends_met, failed_reads, given}
 use Rattle.hg_wire.specs.Accesses.{event_of}
 use Rattle.hg_wire.specs.declared.line.AccessLine.{AccessLine}
 use Rattle.hg_wire.specs.declared.reader.Reading.{Reading}
-use Rattle.hg_wire.specs.Streams.{Pending, ended_from, ended_readings, readings, readings_from}
+use Rattle.hg_wire.specs.Streams.{LinesRead, ended_from, ended_readings, readings, readings_from}
 
 -- What was printed ends no run, unless that failed.
 abbrev pub as_stop : {T E : Type 0} → Result T Refusal → Result (Option E) Refusal
@@ -30,12 +30,12 @@ abbrev pub Begins : List ℕ → List Reading → Type 0
 Begins bytes lines = (more : List ℕ) → (rest : List Reading) × (readings (bytes ++ more) ≡ lines ++ rest)
 
 -- No line is left that a line feed has ended.
-abbrev pub HasNoneLeft : Pending → Type 0
+abbrev pub HasNoneLeft : LinesRead → Type 0
 HasNoneLeft p = ended_from p [] ≡ []
 
 module _ {S E : Type 0} (takes : Taking S E) where
   -- A piece before the reader was taken up to a rest of it: the lines in front of that were passed.
-  pub record Passes (old : Pending) (before : S) (at_first : List WriteCall) (piece : List ℕ) (new : Pending) (now : S) (at_last : List WriteCall) (rest : List ℕ) : Type 0 where
+  pub record Passes (old : LinesRead) (before : S) (at_first : List WriteCall) (piece : List ℕ) (new : LinesRead) (now : S) (at_last : List WriteCall) (rest : List ℕ) : Type 0 where
     pub lines : List Reading
     pub steps : takes before at_first lines (Ok None) now at_last
     pub readings : (more : List ℕ) → readings_from old (piece ++ more) ≡ lines ++ readings_from new (rest ++ more)
@@ -44,23 +44,23 @@ module _ {S E : Type 0} (takes : Taking S E) where
     pub few : length lines + length rest ≤ length piece
 
   -- A line of the piece ended the run or was broken off, whatever follows the piece.
-  pub record StopsIn (old : Pending) (before : S) (at_first : List WriteCall) (piece : List ℕ) (r : Result (Option E) Refusal) (now : S) (at_last : List WriteCall) : Type 0 where
+  pub record StopsIn (old : LinesRead) (before : S) (at_first : List WriteCall) (piece : List ℕ) (r : Result (Option E) Refusal) (now : S) (at_last : List WriteCall) : Type 0 where
     pub lines : List Reading
     pub steps : takes before at_first lines r now at_last
     pub front : (more : List ℕ) → (rest : List Reading) × (readings_from old (piece ++ more) ≡ lines ++ rest)
 
   -- What came of a piece: each line was passed and the piece taken whole, or a line ended the run or was broken off.
-  abbrev pub Pushes : Pending → S → List WriteCall → List ℕ → Result (Option E) Refusal → Pending → S → List WriteCall → Type 0
+  abbrev pub Pushes : LinesRead → S → List WriteCall → List ℕ → Result (Option E) Refusal → LinesRead → S → List WriteCall → Type 0
   Pushes old before at_first piece (Ok None) new now at_last = Passes old before at_first piece new now at_last []
   Pushes old before at_first piece (Ok (Some end)) new now at_last = StopsIn old before at_first piece (Ok (Some end)) now at_last
   Pushes old before at_first piece (Err r) new now at_last = StopsIn old before at_first piece (Err r) now at_last
 
   -- The same of a piece that was offered, with the output.
-  abbrev pub Offers : {W : Type 0} → Pending → S → Outgoing W → List ℕ → Result (Option E) Refusal → Pending → S → Outgoing W → Type 0
+  abbrev pub Offers : {W : Type 0} → LinesRead → S → Outgoing W → List ℕ → Result (Option E) Refusal → LinesRead → S → Outgoing W → Type 0
   Offers old before output piece r new now printed = Pushes old before output.calls piece r new now printed.calls
 
   -- From the first reads to those of now none failed and none met the end, and each line that a line feed ended was passed.
-  pub record HasRead (first now : List ReadCall) (before : S) (at_first : List WriteCall) (p : Pending) (here : S) (at_last : List WriteCall) : Type 0 where
+  pub record HasRead (first now : List ReadCall) (before : S) (at_first : List WriteCall) (p : LinesRead) (here : S) (at_last : List WriteCall) : Type 0 where
     pub later : List ReadCall
     pub since : now ≡ later ++ first
     pub intact : failed_reads later ≡ 0

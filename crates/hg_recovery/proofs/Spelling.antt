@@ -4,7 +4,7 @@ use Rattle.std.specs.Prelude.{slice_index}
 use Rattle.std.proofs.lemmas.List.Elements.{All-from_recursion, recursion_from_All}
 use Rattle.hg_model.specs.declared.thread.ThreadState.{ThreadState}
 use Rattle.hg_cells.specs.declared.cell.Cell.{Cell}
-use Rattle.hg_detect.specs.Shown.{Shown, content}
+use Rattle.hg_detect.specs.Shown.{ShownDetector, content}
 use Rattle.hg_root.specs.declared.parts.SourceCount.{SourceCount}
 use Rattle.hg_contents.specs.Heads.{ADetectorHasALawfulHead, FitsARoot, ThreadsHaveSmallNumbers, source_counts}
 use Rattle.hg_root.specs.Grammar.{HeadFits, ReportFits, SegmentFits, SetFits, SourceFits, ThreadFits}
@@ -46,7 +46,7 @@ are_spelled p fits small = record {
 }
 
 -- what fits a root has a spelling
-pub spells : {W : Type 0} (cell_of : W → ℕ → Cell) (d : Shown W) (number : ℕ) (sources : List SourceCount) → ADetectorHasALawfulHead cell_of → ThreadsHaveSmallNumbers
+pub spells : {W : Type 0} (cell_of : W → ℕ → Cell) (d : ShownDetector W) (number : ℕ) (sources : List SourceCount) → ADetectorHasALawfulHead cell_of → ThreadsHaveSmallNumbers
     → sources ≡ source_counts (slice_index d.parts.last) → 1 ≤ number → number ≤ 2 ^ 58 → FitsARoot cell_of d → AreSpelled d.segments d.parts.threads d.sets.sets d.kept sources
 spells cell_of d number sources heads numbers same least most fits =
     subst (λ (s : List SourceCount). AreSpelled d.segments d.parts.threads d.sets.sets d.kept s) (sym same)

@@ -3,7 +3,7 @@ use Rattle.std.specs.Prelude.{◌<◌, ◌^◌, All, length, ℕ, List, [], ◌�
 use Rattle.hg_model.specs.declared.thread.ThreadState.{ThreadState}
 use Rattle.hg_model.specs.declared.segment.Segment.{Segment}
 use Rattle.hg_cells.specs.declared.report.KeptReport.{KeptReport}
-use Rattle.hg_detect.specs.Shown.{Shown}
+use Rattle.hg_detect.specs.Shown.{ShownDetector}
 use Rattle.hg_root.specs.declared.parts.SourceCount.{SourceCount}
 use Rattle.hg_root.specs.Grammar.{ReportFits, SegmentFits, SetFits, SourceFits, ThreadFits}
 use Rattle.hg_root.specs.Heads.{head_parts}
@@ -11,11 +11,11 @@ use Rattle.hg_root.specs.Parts.{Parts}
 use Rattle.hg_contents.specs.Heads.{source_counts}
 
 -- the parts of a root with this number and these sources, and else what the detector shows, but its words
-abbrev pub head_with : {W : Type 0} → ℕ → Shown W → List SourceCount → Parts
+abbrev pub head_with : {W : Type 0} → ℕ → ShownDetector W → List SourceCount → Parts
 head_with number d sources = head_parts number d.parts.events d.segments d.parts.threads d.sets d.total d.kept sources
 
 -- the same with the sources that sent something
-abbrev pub parts_with : {W : Type 0} → ℕ → Shown W → Parts
+abbrev pub parts_with : {W : Type 0} → ℕ → ShownDetector W → Parts
 parts_with number d = head_parts number d.parts.events d.segments d.parts.threads d.sets d.total d.kept (source_counts (slice_index d.parts.last))
 
 -- a source with its last number, where it sent something
@@ -40,5 +40,5 @@ pub record AreSpelled (segments : List Segment) (threads : List ThreadState) (se
   pub source_count : length sources < 2 ^ 16
 
 -- The parts of a head that the detector shows, with these threads and sources, have a spelling.
-abbrev pub IsSpelled : {W : Type 0} → Shown W → List ThreadState → List SourceCount → Type 0
+abbrev pub IsSpelled : {W : Type 0} → ShownDetector W → List ThreadState → List SourceCount → Type 0
 IsSpelled d threads sources = AreSpelled d.segments threads d.sets.sets d.kept sources

@@ -29,7 +29,7 @@ pub record FitsCaps (root : Parts) (caps : Caps) : Type 0 where
   pub slots : All (λ p. p.slot < caps.slots) root.pages
 
 -- The pool of these pages over a file: each map is what their table gives, nothing waits, and no page is in memory.
-abbrev pub pool_of : {D : Type 0} → List PageSlot → Caps → SlotFile D → pool.Shown D
+abbrev pub pool_of : {D : Type 0} → List PageSlot → Caps → SlotFile D → pool.ShownPool D
 pool_of pages caps file =
     record {
       file = file;
@@ -45,16 +45,16 @@ pool_of pages caps file =
     }
 
 -- the detector with the parts of a root and so many sets at most, over a map
-abbrev pub detector_with : {W : Type 0} → Root → ℕ → W → detect.Shown W
+abbrev pub detector_with : {W : Type 0} → Root → ℕ → W → detect.ShownDetector W
 detector_with root most_sets words =
     record { parts = root.state; segments = root.segments.items; sets = record { limit = most_sets; sets = root.sets.sets }; words = words; kept = root.reports.items; total = root.total }
 
 -- The detector of a root, over the pool of its pages.
-abbrev pub detector_of : {D : Type 0} → Root → Caps → SlotFile D → detect.Shown (pool.Shown D)
+abbrev pub detector_of : {D : Type 0} → Root → Caps → SlotFile D → detect.ShownDetector (pool.ShownPool D)
 detector_of root caps file = detector_with root caps.sets (pool_of root.pages.items caps file)
 
 -- the file, in the detector's pool or handed back
-abbrev pub file_in : {D : Type 0} → Result (detect.Shown (pool.Shown D)) (Refusal × SlotFile D) → SlotFile D
+abbrev pub file_in : {D : Type 0} → Result (detect.ShownDetector (pool.ShownPool D)) (Refusal × SlotFile D) → SlotFile D
 file_in (Ok d) = d.words.file
 file_in (Err e) = e.1
 
@@ -82,6 +82,6 @@ abbrev pub NamesBeyond : Root → Caps → Type 0
 NamesBeyond root caps = ¬ All (λ p. p.slot < caps.slots) root.pages.items
 
 -- The detector has the content of the checkpoint of this root whose pages the file has.
-abbrev pub RestoresContent : {D E : Type 0} → disk.Ghosts D → Root → SlotFile D → Result (detect.Shown (pool.Shown D)) E → Type 0
+abbrev pub RestoresContent : {D E : Type 0} → disk.Ghosts D → Root → SlotFile D → Result (detect.ShownDetector (pool.ShownPool D)) E → Type 0
 RestoresContent g root file result =
     (c : Checkpoint) → c.root ≡ parts_of root → HasPages (known g file) c → IfOk result (λ d. detect.content (pools.live g) d ≡ content_of c)

@@ -14,6 +14,7 @@ use hg_graph::Graph;
 use hg_pages::{SlotFile, Table};
 use hg_pool::Pool;
 use hg_root::Root;
+use hg_sets::MOST_SETS;
 use std::alloc::Global;
 
 // The detector of a root, over a pool with no page in memory, with so many sets at most. Where memory runs out, the pool is handed back.
@@ -26,7 +27,7 @@ fn with_parts<D: Disk>(
     requires lawful { IsLawful (parts_of root) }
     requires whole { IsWhole root }
     requires within { length root.sets.sets ≤ most_sets }
-    requires greatest { most_sets ≤ 262144 }
+    requires greatest { most_sets ≤ MOST_SETS }
     requires frames { pool.frames ≡ [] }
     ensures shown { IfOk result (λ d. d ≡ detector_with root most_sets pool) }
     ensures lawful { IfOk result (AtPresent ⟦<Pool<D> as Words>⟧.may_bring) }

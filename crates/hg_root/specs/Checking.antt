@@ -5,6 +5,7 @@ use Rattle.hg_model.specs.Restoring.{AreThreads}
 use Rattle.hg_model.specs.declared.segment.Segment.{Segment}
 use Rattle.hg_model.specs.declared.thread.ThreadState.{ThreadState}
 use Rattle.hg_sets.specs.Interning.{AreSets}
+use Rattle.hg_sets.specs.declared.table.TheConstants.{MOST_SETS}
 use Rattle.hg_root.specs.declared.body.Back.{Back}
 use Rattle.hg_root.specs.declared.parts.SourceCount.{SourceCount}
 use Rattle.hg_root.specs.Body.{BackParts, seen}
@@ -40,7 +41,7 @@ pub record IsChecked (p : Parts) : Type 0 where
   pub counts : AreCounts p.number p.events p.total (length p.reports)
   pub threads : AreThreads p.threads
   pub named : map (λ t. t.number) p.threads ≡ named_threads p.segments
-  pub sets : AreSets (record { limit = 262144; sets = p.sets })
+  pub sets : AreSets (record { limit = MOST_SETS; sets = p.sets })
   pub reports : All (IsReport p.events p.sets) p.reports
   pub order : AreInOrder p.reports
   pub sources : HaveSent p.events p.sources

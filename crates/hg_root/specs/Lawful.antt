@@ -10,6 +10,7 @@ use Rattle.hg_cells.specs.declared.report.KeptReport.{KeptReport}
 use Rattle.hg_graph.specs.Graph.{names}
 use Rattle.hg_graph.specs.Restoring.{AreSegments}
 use Rattle.hg_sets.specs.Interning.{AreSets, set_at}
+use Rattle.hg_sets.specs.declared.table.TheConstants.{MOST_SETS}
 use Rattle.hg_root.specs.declared.parts.PageSlot.{PageSlot}
 use Rattle.hg_root.specs.declared.parts.SourceCount.{SourceCount}
 use Rattle.hg_root.specs.Grammar.{HeadFits, PagesFit, root_text}
@@ -64,7 +65,7 @@ pub record IsLawfulHead (p : Parts) : Type 0 where
   pub threads : AreThreads p.threads
   pub named : map (λ t. t.number) p.threads ≡ named_threads p.segments
   pub held : All (λ t. AreHeld t.held) p.threads
-  pub sets : AreSets (record { limit = 262144; sets = p.sets })
+  pub sets : AreSets (record { limit = MOST_SETS; sets = p.sets })
   pub total : p.total ≤ 17 * p.events
   pub kept : length p.reports ≡ min p.total 65536
   pub reports : All (IsReport p.events p.sets) p.reports

@@ -1,6 +1,7 @@
 -- What a root that was read stands for.
 use Rattle.std.specs.Prelude.{◌≡◌, length}
 use Rattle.hg_sets.specs.Interning.{AreSets}
+use Rattle.hg_sets.specs.declared.table.TheConstants.{MOST_SETS}
 use Rattle.hg_root.specs.declared.root.Root.{Root}
 use Rattle.hg_root.specs.Checking.{HaveLast}
 use Rattle.hg_root.specs.Parts.{Parts}
@@ -24,5 +25,5 @@ parts_of r =
 pub record IsWhole (r : Root) : Type 0 where
   pub segments : r.state.segments ≡ length r.segments.items
   pub last : HaveLast r.sources.items r.state.last
-  pub limit : r.sets.limit ≡ 262144
+  pub limit : r.sets.limit ≡ MOST_SETS
   pub sets : AreSets r.sets

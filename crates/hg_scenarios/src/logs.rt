@@ -5,13 +5,13 @@ use crate::device::Device;
 use crate::shelf::{Held, Shelf};
 use crate::words::{self, Halt, front};
 use hg_disk::Disk;
-use hg_gate::{Batch, Batches, GateFault, Log};
+use hg_gate::{Batch, GateFault, Log, LogPlace};
 use std::alloc::{AllocError, Global};
 
 /// A log that is open, and where the batch stands that is read next.
 struct OpenLog {
     log: Log<Held>,
-    place: Option<Batches>,
+    place: Option<LogPlace>,
 }
 
 impl Drop for OpenLog {
@@ -52,7 +52,7 @@ fn put_batch(batch: &Batch, out: &mut Text) {
 
 /// Appends all batches of a log, or `none`.
 fn put_batches(log: &mut Log<Held>, out: &mut Text) -> Result<(), Halt> {
-    let mut place = log.batches()?;
+    let mut place = log.first_place()?;
     for _ in 0..MOST_BATCHES {
         match log.next_batch(&mut place)? {
             Some(batch) => put_batch(&batch, out),
@@ -88,7 +88,7 @@ fn append(alloc: Global, opened: &mut OpenLog, rest: &str, out: &mut Text) -> Re
 
 /// Goes to the first batch.
 fn rewind(opened: &mut OpenLog, out: &mut Text) -> Result<(), Halt> {
-    opened.place = Some(opened.log.batches()?);
+    opened.place = Some(opened.log.first_place()?);
     put_ok(out)
 }
 

@@ -7,6 +7,8 @@ ghost use Rattle.std.specs.Prelude.{◌≤◌};
 
 use crate::shelf::{Fuse, Held, Image, NO_FUSES, disk_with};
 use hg_disk::MemDisk;
+use hg_pages::MOST_SLOTS;
+use hg_sets::MOST_SETS;
 use hg_store::create::CreateFault;
 use hg_store::devices::{Caps, Devices};
 use hg_store::store::Store;
@@ -148,12 +150,12 @@ impl Disks {
 }
 
 fn caps_of(room: Room) -> Caps
-    ensures sets { (1 ≤ result.sets) × (result.sets ≤ 262144) }
-    ensures slots { (1 ≤ result.slots) × (result.slots ≤ 1048576) }
+    ensures sets { (1 ≤ result.sets) × (result.sets ≤ MOST_SETS) }
+    ensures slots { (1 ≤ result.slots) × (result.slots ≤ MOST_SLOTS) }
 {
     Caps {
-        sets: room.sets.clamp(1, 262_144),
-        slots: room.slots.clamp(1, 1_048_576),
+        sets: room.sets.clamp(1, MOST_SETS),
+        slots: room.slots.clamp(1, MOST_SLOTS),
     }
 }
 

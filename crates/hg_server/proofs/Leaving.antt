@@ -6,7 +6,7 @@ use Rattle.hg_disk.specs.declared.disk.Disk as disk
 use Rattle.hg_contents.specs.Images.{HasContent}
 use Rattle.hg_store.specs.declared.devices.Devices.{Devices}
 use Rattle.hg_store.specs.Images.{EachImage, EachImageAlong, HasContentOfOne, IsOn, Recovers, failures_of, read_of}
-use Rattle.hg_store.specs.Shown.{Shown, live}
+use Rattle.hg_store.specs.Shown.{ShownStore, live}
 use Rattle.hg_store.specs.Store.{IsFresh}
 use Rattle.hg_desk.specs.Going.{LeadsTo, Point, WentOn, began, of_points, oldest, points_of}
 use Rattle.hg_desk.proofs.Going.{along_of_points, each_of_points, each_to_points, oldest_point}
@@ -30,7 +30,7 @@ module _ {D : Type 0} (g : disk.Ghosts D) where
   serve_cause old start new r same (inl is) = let less = is.1 in inr (inl (is.0, omega (arith, same, less)))
   serve_cause old start new r same (inr is) = inr (inr is)
 
-  module _ (old : Devices D) (start now : Shown D) (moments : List (Devices D)) (went : WentOn g (began g start) moments now) where
+  module _ (old : Devices D) (start now : ShownStore D) (moments : List (Devices D)) (went : WentOn g (began g start) moments now) where
     abbrev opened : Devices D
     opened = oldest now.devices moments
 

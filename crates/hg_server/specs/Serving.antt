@@ -9,7 +9,7 @@ use Rattle.hg_streams.specs.declared.call.WriteCall.{WriteCall}
 use Rattle.hg_contents.specs.Images.{HasContent}
 use Rattle.hg_store.specs.declared.devices.Devices.{Devices}
 use Rattle.hg_store.specs.Images.{EachImageAlong, IsOn, Recovers, failures_of, read_of}
-use Rattle.hg_store.specs.Shown.{Shown, live, saved}
+use Rattle.hg_store.specs.Shown.{ShownStore, live, saved}
 use Rattle.hg_store.specs.Store.{Backs}
 use Rattle.hg_desk.specs.Going.{Began, LeadsTo, WentOn, oldest}
 use Rattle.hg_check.specs.Printing.{Took, line_text}
@@ -52,22 +52,22 @@ IsStatusOf (Err devices) status = status ≡ 3
 
 module _ {D : Type 0} (g : disk.Ghosts D) where
   -- how many connections were served, and the end line of this store
-  abbrev pub served_by : Plan → Shown D → List ℕ
+  abbrev pub served_by : Plan → ShownStore D → List ℕ
   served_by plan s = served_text plan.connections (live g s)
 
   -- all that a server prints whose store is this at the end
-  abbrev pub serving_by : Plan → Shown D → List ℕ
+  abbrev pub serving_by : Plan → ShownStore D → List ℕ
   serving_by plan s = serving_text plan (live g s)
 
   -- On success all that is due of a server whose store is this at the end was written, and on an error a front of it.
-  abbrev pub PrintsAllOnOk : {W T E : Type 0} → Plan → Shown D → (old new : Outgoing W) → Result T E → Type 0
+  abbrev pub PrintsAllOnOk : {W T E : Type 0} → Plan → ShownStore D → (old new : Outgoing W) → Result T E → Type 0
   PrintsAllOnOk plan s old new ended = OnOk ended (Took old.calls new.calls (serving_by plan s))
 
-  abbrev pub PrintsFrontOnErr : {W T E : Type 0} → Plan → Shown D → (old new : Outgoing W) → Result T E → Type 0
+  abbrev pub PrintsFrontOnErr : {W T E : Type 0} → Plan → ShownStore D → (old new : Outgoing W) → Result T E → Type 0
   PrintsFrontOnErr plan s old new ended = OnErr ended (TookFront old.calls new.calls (serving_by plan s))
 
   -- A store that went on from its opening has still gone on from it.
-  abbrev pub StillWentOn : List (Devices D) → Shown D → List (Devices D) → Shown D → Type 0
+  abbrev pub StillWentOn : List (Devices D) → ShownStore D → List (Devices D) → ShownStore D → Type 0
   StillWentOn moments s later t = (start : Began) → WentOn g start moments s → WentOn g start later t
 
   -- `Broken` is told only where a device failed meanwhile.
@@ -80,7 +80,7 @@ module _ {D : Type 0} (g : disk.Ghosts D) where
   IsServingFault old new r = ((r ≡ Broken) × (failures_of g old < failures_of g new)) ⊎ ((r ≡ DeviceFault) ⊎ (r ≡ OutOfMemory))
 
   -- Each accepted event is durable, and each image has the content with all of them.
-  pub record IsSettled (s : Shown D) : Type 0 where
+  pub record IsSettled (s : ShownStore D) : Type 0 where
     pub backs : Backs g s
     pub durable : saved g s ≡ live g s
 
@@ -97,7 +97,7 @@ module _ {D : Type 0} (g : disk.Ghosts D) where
     pub kept : EachImageAlong g opened moments new (IsOn first last)
 
   -- A server that came to its end: all was printed, and each accepted event is durable.
-  pub record EndsWell (plan : Plan) (old : Devices D) (moments : List (Devices D)) (store : Shown D) (calls_old calls_new : List WriteCall) : Type 0 where
+  pub record EndsWell (plan : Plan) (old : Devices D) (moments : List (Devices D)) (store : ShownStore D) (calls_old calls_new : List WriteCall) : Type 0 where
     pub printed : Took calls_old calls_new (serving_text plan (live g store))
     pub served : IsTrue g.is_honest → Served old moments store.devices (live g store)
     pub settled : IsTrue g.is_honest → IsSettled store
@@ -119,7 +119,7 @@ module _ {D : Type 0} (g : disk.Ghosts D) where
       (r : Refusal) × (HasServeCause old new r × (IsTold faults_old faults_new r × WroteServing plan old moments new calls_old calls_new))
 
   -- With a store the server came to its end.
-  abbrev pub EndsWellOnOk : {W E : Type 0} → Plan → Devices D → List (Devices D) → (old new : Outgoing W) → Result (Shown D) E → Type 0
+  abbrev pub EndsWellOnOk : {W E : Type 0} → Plan → Devices D → List (Devices D) → (old new : Outgoing W) → Result (ShownStore D) E → Type 0
   EndsWellOnOk plan devices moments old new ended = IfOk ended (λ s. EndsWell plan devices moments s old.calls new.calls)
 
   -- Without one, what was written.

@@ -3,6 +3,7 @@
 use crate::fault::SetFault;
 use crate::lists::Lists;
 use crate::merging::{write_common, write_joined};
+use crate::table::MOST_SETS;
 use std::alloc::{AllocError, Global};
 
 /// Distinct sets, at most `limit` of them, and a buffer.
@@ -24,7 +25,7 @@ impl Interner {
     /// The table with the empty set alone.
     pub(crate) fn with_limit(alloc: Global, limit: u32) -> Result<Self, AllocError>
         requires least { 1 ≤ limit }
-        requires greatest { limit ≤ 262144 }
+        requires greatest { limit ≤ MOST_SETS }
         ensures table { IfOk result (λ i. table_of i ≡ record { limit = limit; sets = [] ∷ [] }) }
         ensures sound { IfOk result IsSound }
     {

@@ -7,7 +7,7 @@ use Rattle.hg_contents.proofs.Following.{followed_events}
 use Rattle.hg_contents.proofs.Joining.{facts_back}
 use Rattle.hg_store.specs.Images.{EachImage}
 use Rattle.hg_store.specs.Kept.{Parts, Standing, shown_of}
-use Rattle.hg_store.specs.Shown.{Shown, live, saved}
+use Rattle.hg_store.specs.Shown.{ShownStore, live, saved}
 use Rattle.hg_store.specs.Store.{Backs, view_of}
 use Rattle.hg_store.proofs.Moments.{all_still}
 
@@ -16,11 +16,11 @@ module _ {D : Type 0} (g : disk.Ghosts D) where
   backs_of s basis is = facts_back basis (view_of g (shown_of g s)) (saved g (shown_of g s)) is.keeps
 
   -- the accepted events are those that are durable and those that are pending
-  pub counts_all : (s : Shown D) → Backs g s → (live g s).events ≡ s.durable + length s.pending
+  pub counts_all : (s : ShownStore D) → Backs g s → (live g s).events ≡ s.durable + length s.pending
   counts_all s backs = followed_events s.pending (saved g s) (live g s) backs.live ∙ ap (λ (n : ℕ). n + length s.pending) (sym backs.count)
 
   -- a step that called no device
-  pub images_stand : (s : Shown D) (in_doubt : Bool) → Backs g s → (s.in_doubt ≡ true → in_doubt ≡ true) → EachImage g s.devices s.devices (Stands (saved g s) (live g s) in_doubt)
+  pub images_stand : (s : ShownStore D) (in_doubt : Bool) → Backs g s → (s.in_doubt ≡ true → in_doubt ≡ true) → EachImage g s.devices s.devices (Stands (saved g s) (live g s) in_doubt)
   images_stand s in_doubt backs more = all_still g s.devices (Stands (saved g s) (live g s) in_doubt) (λ image left. raised s.in_doubt (backs.stands image left) more) where
     raised : {image : Image} (doubt : Bool) → Stands (saved g s) (live g s) doubt image → (doubt ≡ true → in_doubt ≡ true) → Stands (saved g s) (live g s) in_doubt image
     raised doubt (inl a) more = inl a

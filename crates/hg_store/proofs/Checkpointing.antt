@@ -39,7 +39,7 @@ pub of_pool : {T : Type 0} (P Q : T → Type 0) (lent own : T) → lent ≡ own 
 of_pool P Q lent own same tells = subst (λ x. P x → Q x) same tells
 
 -- the head of a draft, by equal parts
-draft_by : {D : Type 0} (g : disk.Ghosts D) (old new : Checkpointer D g) (w : pool.Shown D) (now : Option Checkpoint) (was : detect.Shown (ℕ → Cell)) → KeepsHead old new
+draft_by : {D : Type 0} (g : disk.Ghosts D) (old new : Checkpointer D g) (w : pool.ShownPool D) (now : Option Checkpoint) (was : detect.ShownDetector (ℕ → Cell)) → KeepsHead old new
     → checkpoints.IsDraft g old w now (parts_with old.next was) was.words → checkpoints.IsDraft g new w now (parts_with new.next was) was.words
 draft_by g old new w now was keeps draft =
     subst (λ (h : Option (List ℕ)). checkpoints.IsDraftOf g h new.next w now (parts_with new.next was) was.words) (sym keeps.head)
@@ -47,7 +47,7 @@ draft_by g old new w now was keeps draft =
 
 module _ {D : Type 0} (g : disk.Ghosts D) (s : Parts D g) (basis : Basis) (is : Standing g s basis) (bytes : (d : D) → IsImage (g.state d) (g.state d).contents) where
   -- the checkpoint that is in progress goes on, while its head stays and its pool is called
-  pub freezing_on : (c : Checkpointer D g) (w : pool.Shown D) (broken : Bool) → KeepsHead s.checkpointer c → Went g s.detector.words w → IsFreezing g s basis → IsFreezing g (with_parts g s basis is c (over g s.detector w) broken) basis
+  pub freezing_on : (c : Checkpointer D g) (w : pool.ShownPool D) (broken : Bool) → KeepsHead s.checkpointer c → Went g s.detector.words w → IsFreezing g s basis → IsFreezing g (with_parts g s basis is c (over g s.detector w) broken) basis
   freezing_on c w broken keeps went f = record {
     was = f.was;
     content = f.content;
@@ -58,14 +58,14 @@ module _ {D : Type 0} (g : disk.Ghosts D) (s : Parts D g) (basis : Basis) (is : 
 
   -- ---- a page is put
 
-  stays_moved : (w : pool.Shown D) → s.is_broken ≡ false → Stays g s.detector.words w → Moved g basis s.pending s.in_doubt (shown_of g s).devices (devices_of g s.journal w s.checkpointer)
+  stays_moved : (w : pool.ShownPool D) → s.is_broken ≡ false → Stays g s.detector.words w → Moved g basis s.pending s.in_doubt (shown_of g s).devices (devices_of g s.journal w s.checkpointer)
   stays_moved w works stays = pool_moved g s basis is bytes works s.checkpointer w stays.went refl
 
-  pub put_images : (w : pool.Shown D) → s.is_broken ≡ false → Stays g s.detector.words w
+  pub put_images : (w : pool.ShownPool D) → s.is_broken ≡ false → Stays g s.detector.words w
       → EachImage g (shown_of g s).devices (devices_of g s.journal w s.checkpointer) (Stands (saved g (shown_of g s)) (live g (shown_of g s)) s.in_doubt)
   put_images w works stays = images_after g s basis is basis s.checkpointer w is.keeps.gives (stays_moved w works stays)
 
-  pub put_standing : (w : pool.Shown D) (broken : Bool) → s.is_broken ≡ false → Stays g s.detector.words w → Standing g (with_parts g s basis is s.checkpointer (over g s.detector w) broken) basis
+  pub put_standing : (w : pool.ShownPool D) (broken : Bool) → s.is_broken ≡ false → Stays g s.detector.words w → Standing g (with_parts g s basis is s.checkpointer (over g s.detector w) broken) basis
   put_standing w broken works stays =
       let d = over g s.detector w in
       let content = same_content g s.detector w (stays.live_is is.faithful.whole) in
@@ -74,18 +74,18 @@ module _ {D : Type 0} (g : disk.Ghosts D) (s : Parts D g) (basis : Basis) (is : 
 
   -- ---- the pages are sealed
 
-  seal_moved : (c : Checkpointer D g) (w : pool.Shown D) → s.is_broken ≡ false → Stays g s.detector.words w → c.roots ≡ s.checkpointer.roots → Moved g basis s.pending s.in_doubt (shown_of g s).devices (devices_of g s.journal w c)
+  seal_moved : (c : Checkpointer D g) (w : pool.ShownPool D) → s.is_broken ≡ false → Stays g s.detector.words w → c.roots ≡ s.checkpointer.roots → Moved g basis s.pending s.in_doubt (shown_of g s).devices (devices_of g s.journal w c)
   seal_moved c w works stays same = pool_moved g s basis is bytes works c w stays.went same
 
-  pub seal_images : (c : Checkpointer D g) (w : pool.Shown D) → s.is_broken ≡ false → Stays g s.detector.words w → c.roots ≡ s.checkpointer.roots
+  pub seal_images : (c : Checkpointer D g) (w : pool.ShownPool D) → s.is_broken ≡ false → Stays g s.detector.words w → c.roots ≡ s.checkpointer.roots
       → EachImage g (shown_of g s).devices (devices_of g s.journal w c) (Stands (saved g (shown_of g s)) (live g (shown_of g s)) s.in_doubt)
   seal_images c w works stays same = images_after g s basis is basis c w is.keeps.gives (seal_moved c w works stays same)
 
-  pub sealing_failed : (c : Checkpointer D g) (w : pool.Shown D) → s.is_broken ≡ false → Stays g s.detector.words w → c.roots ≡ s.checkpointer.roots → Standing g (with_parts g s basis is c (over g s.detector w) true) basis
+  pub sealing_failed : (c : Checkpointer D g) (w : pool.ShownPool D) → s.is_broken ≡ false → Stays g s.detector.words w → c.roots ≡ s.checkpointer.roots → Standing g (with_parts g s basis is c (over g s.detector w) true) basis
   sealing_failed c w works stays same =
       stands_after g s basis is basis c (over g s.detector w) true (same_content g s.detector w (stays.live_is is.faithful.whole)) is.spelled (stays_faithful g s.detector w stays is.faithful) is.keeps.gives (seal_moved c w works stays same) (λ no. absurd (cc no))
 
-  content_next : (was : detect.Shown (ℕ → Cell)) (w : pool.Shown D) → IsLawfulState (detect.content (λ map. map) was) → IsNewElsewhere (root_with (parts_with s.checkpointer.next was) w.frozen) was.words
+  content_next : (was : detect.ShownDetector (ℕ → Cell)) (w : pool.ShownPool D) → IsLawfulState (detect.content (λ map. map) was) → IsNewElsewhere (root_with (parts_with s.checkpointer.next was) w.frozen) was.words
       → content_of (checkpoint_of (root_with (parts_with s.checkpointer.next was) w.frozen) was.words) ≡ detect.content (λ map. map) was
   content_next was w state new = contents was (root_with (parts_with s.checkpointer.next was) w.frozen) (record {
     events = refl;
@@ -97,7 +97,7 @@ module _ {D : Type 0} (g : disk.Ghosts D) (s : Parts D g) (basis : Basis) (is : 
     last = λ source. sym (read_again (detect.content (λ map. map) was).last (detect.content (λ map. map) was).events source state.lawful.last);
   }) new
 
-  rooting : (c : Checkpointer D g) (w : pool.Shown D) (broken : Bool) → Stays g s.detector.words w → KeepsHead s.checkpointer c → (f : IsFreezing g s basis)
+  rooting : (c : Checkpointer D g) (w : pool.ShownPool D) (broken : Bool) → Stays g s.detector.words w → KeepsHead s.checkpointer c → (f : IsFreezing g s basis)
       → checkpoints.IsNext g c w basis.now.checkpoint (checkpoint_of (root_with (parts_with s.checkpointer.next f.was) w.frozen) f.was.words) → IsNewElsewhere (root_with (parts_with s.checkpointer.next f.was) w.frozen) f.was.words
       → IsRooting g (with_parts g s basis is c (over g s.detector w) broken) basis
   unfolding freezing_on
@@ -108,7 +108,7 @@ module _ {D : Type 0} (g : disk.Ghosts D) (s : Parts D g) (basis : Basis) (is : 
     content = content_next f.was w f.state new;
   }
 
-  pub sealed : (c : Checkpointer D g) (w : pool.Shown D) (broken : Bool) → s.is_broken ≡ false → Stays g s.detector.words w → c.roots ≡ s.checkpointer.roots → KeepsHead s.checkpointer c → c.phase ≡ phase.Sealed
+  pub sealed : (c : Checkpointer D g) (w : pool.ShownPool D) (broken : Bool) → s.is_broken ≡ false → Stays g s.detector.words w → c.roots ≡ s.checkpointer.roots → KeepsHead s.checkpointer c → c.phase ≡ phase.Sealed
       → (f : IsFreezing g s basis) → checkpoints.Stands g c w basis.now.checkpoint basis.now.former
       → checkpoints.IsNext g c w basis.now.checkpoint (checkpoint_of (root_with (parts_with s.checkpointer.next f.was) w.frozen) f.was.words) → IsNewElsewhere (root_with (parts_with s.checkpointer.next f.was) w.frozen) f.was.words
       → Standing g (with_parts g s basis is c (over g s.detector w) broken) basis

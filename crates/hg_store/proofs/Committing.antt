@@ -43,7 +43,7 @@ module _ {D : Type 0} (g : disk.Ghosts D) (s : Parts D g) (basis : Basis) (is : 
   images appends =
       each_image g basis s.pending true (shown_of g s).devices (devices_of g journal s.detector.words s.checkpointer) (moved appends) (saved g (shown_of g s)) (live g (shown_of g s)) is.keeps.gives is.keeps.live
 
-  abbrev pub with_journal : detect.Shown (pool.Shown D) → List Named → ℕ → Bool → Parts D g
+  abbrev pub with_journal : detect.ShownDetector (pool.ShownPool D) → List Named → ℕ → Bool → Parts D g
   with_journal committed pending durable broken = record {
     journal = journal;
     detector = s.detector;
@@ -129,7 +129,7 @@ module _ {D : Type 0} (g : disk.Ghosts D) (s : Parts D g) (basis : Basis) (is : 
           };
     }
 
-    abbrev as_committed : detect.Shown (pool.Shown D) → List Named → Bool → Bool → Parts D g
+    abbrev as_committed : detect.ShownDetector (pool.ShownPool D) → List Named → Bool → Bool → Parts D g
     as_committed was pending broken doubt = record {
       journal = journal;
       detector = s.detector;
@@ -143,10 +143,10 @@ module _ {D : Type 0} (g : disk.Ghosts D) (s : Parts D g) (basis : Basis) (is : 
     }
 
     -- the same, of parts that are equal to these
-    pub succeeded_as : (was : detect.Shown (pool.Shown D)) (pending : List Named) (broken doubt : Bool) → was ≡ s.detector → pending ≡ [] → broken ≡ false → doubt ≡ false
+    pub succeeded_as : (was : detect.ShownDetector (pool.ShownPool D)) (pending : List Named) (broken doubt : Bool) → was ≡ s.detector → pending ≡ [] → broken ≡ false → doubt ≡ false
         → Standing g committed grown → Standing g (as_committed was pending broken doubt) grown
     succeeded_as was pending broken doubt same none works certain is =
-        subst (λ (x : detect.Shown (pool.Shown D)). Standing g (as_committed x pending broken doubt) grown) (sym same)
+        subst (λ (x : detect.ShownDetector (pool.ShownPool D)). Standing g (as_committed x pending broken doubt) grown) (sym same)
         (subst (λ (x : List Named). Standing g (as_committed s.detector x broken doubt) grown) (sym none)
         (subst (λ (x : Bool). Standing g (as_committed s.detector [] x doubt) grown) (sym works)
         (subst (λ (x : Bool). Standing g (as_committed s.detector [] false x) grown) (sym certain) is)))
@@ -159,7 +159,7 @@ module _ {D : Type 0} (g : disk.Ghosts D) (s : Parts D g) (basis : Basis) (is : 
   all_saved : saved g (shown_of g s) ≡ live g (shown_of g s)
   all_saved = some_is (saved g (shown_of g s)) (live g (shown_of g s)) (ap (λ (p : List Named). followed (saved g (shown_of g s)) p) (sym none) ∙ is.keeps.live)
 
-  abbrev marked : detect.Shown (pool.Shown D) → ℕ → Parts D g
+  abbrev marked : detect.ShownDetector (pool.ShownPool D) → ℕ → Parts D g
   marked was durable = record {
     journal = s.journal;
     detector = s.detector;
@@ -172,23 +172,23 @@ module _ {D : Type 0} (g : disk.Ghosts D) (s : Parts D g) (basis : Basis) (is : 
     in_doubt = s.in_doubt;
   }
 
-  still_freezing : (was : detect.Shown (pool.Shown D)) (durable : ℕ) → IsFreezing g s basis → IsFreezing g (marked was durable) basis
+  still_freezing : (was : detect.ShownDetector (pool.ShownPool D)) (durable : ℕ) → IsFreezing g s basis → IsFreezing g (marked was durable) basis
   still_freezing was durable f = record { was = f.was; content = f.content; state = f.state; front = f.front; draft = f.draft }
 
-  still_rooting : (was : detect.Shown (pool.Shown D)) (durable : ℕ) → IsRooting g s basis → IsRooting g (marked was durable) basis
+  still_rooting : (was : detect.ShownDetector (pool.ShownPool D)) (durable : ℕ) → IsRooting g s basis → IsRooting g (marked was durable) basis
   unfolding still_freezing
   still_rooting was durable r = record { freezing = still_freezing was durable r.freezing; next = r.next; is_next = r.is_next; content = r.content }
 
-  still_in_progress : (was : detect.Shown (pool.Shown D)) (durable : ℕ) (at : Phase) → IsInProgress g at s basis → IsInProgress g at (marked was durable) basis
+  still_in_progress : (was : detect.ShownDetector (pool.ShownPool D)) (durable : ℕ) (at : Phase) → IsInProgress g at s basis → IsInProgress g at (marked was durable) basis
   still_in_progress was durable phase.Idle p = tt
   still_in_progress was durable phase.Flushing p = still_freezing was durable p
   still_in_progress was durable phase.Sealed p = still_rooting was durable p
   still_in_progress was durable phase.Prepared p = still_rooting was durable p
   still_in_progress was durable phase.Written p = still_rooting was durable p
 
-  pub nothing_waited : (was : detect.Shown (pool.Shown D)) (durable : ℕ) → was ≡ s.detector → durable ≡ (live g (shown_of g s)).events → Standing g (marked was durable) basis
+  pub nothing_waited : (was : detect.ShownDetector (pool.ShownPool D)) (durable : ℕ) → was ≡ s.detector → durable ≡ (live g (shown_of g s)).events → Standing g (marked was durable) basis
   nothing_waited was durable same count =
-      let now : detect.content (pools.live g) was ≡ live g (shown_of g s) = ap (λ (d : detect.Shown (pool.Shown D)). detect.content (pools.live g) d) same in
+      let now : detect.content (pools.live g) was ≡ live g (shown_of g s) = ap (λ (d : detect.ShownDetector (pool.ShownPool D)). detect.content (pools.live g) d) same in
       let stays : saved g (shown_of g s) ≡ detect.content (pools.live g) was = all_saved ∙ sym now in
       record {
         keeps = record {

@@ -47,13 +47,13 @@ idle_phase phase.Prepared pending is = absurd (cc is)
 idle_phase phase.Written pending is = absurd (cc is)
 
 -- the draft by the number that the checkpointer noted
-pub draft_of : {D : Type 0} (g : disk.Ghosts D) (c : Checkpointer D g) (w : pool.Shown D) (to : Option Checkpoint) (was : detect.Shown (ℕ → Cell)) (number : ℕ) → c.next ≡ number
+pub draft_of : {D : Type 0} (g : disk.Ghosts D) (c : Checkpointer D g) (w : pool.ShownPool D) (to : Option Checkpoint) (was : detect.ShownDetector (ℕ → Cell)) (number : ℕ) → c.next ≡ number
     → checkpoints.IsDraft g c w to (parts_with number was) was.words → checkpoints.IsDraft g c w to (parts_with c.next was) was.words
 draft_of g c w to was number same draft = subst (λ (n : ℕ). checkpoints.IsDraft g c w to (parts_with n was) was.words) (sym same) draft
 
 module _ {D : Type 0} (g : disk.Ghosts D) (s : Parts D g) (basis : Basis) (is : Standing g s basis) (works : s.is_broken ≡ false) where
   -- the detector as it stands, with its words by number
-  abbrev pub now : detect.Shown (ℕ → Cell)
+  abbrev pub now : detect.ShownDetector (ℕ → Cell)
   now = record { parts = s.detector.parts; segments = s.detector.segments; sets = s.detector.sets; words = pools.live g s.detector.words; kept = s.detector.kept; total = s.detector.total }
 
   pub known : (number : ℕ) → IsKnownTo (parts_with number now) (pools.live g s.detector.words)
@@ -81,7 +81,7 @@ module _ {D : Type 0} (g : disk.Ghosts D) (s : Parts D g) (basis : Basis) (is : 
   front none = record { front = basis.events; since = []; split = append-nil basis.events; gives = subst (λ (c : Content). Gives basis.now.checkpoint basis.events c) (all_durable none) is.keeps.gives.now }
 
   -- what a freeze leaves
-  module _ (c : Checkpointer D g) (w : pool.Shown D) (same : SameMap (pools.live g s.detector.words) (pools.live g w)) (whole : IsWhole g w) (file : w.file ≡ s.detector.words.file) (roots : c.roots ≡ s.checkpointer.roots) where
+  module _ (c : Checkpointer D g) (w : pool.ShownPool D) (same : SameMap (pools.live g s.detector.words) (pools.live g w)) (whole : IsWhole g w) (file : w.file ≡ s.detector.words.file) (roots : c.roots ≡ s.checkpointer.roots) where
     still : devices_of g s.journal w c ≡ (shown_of g s).devices
     still = λ i. record { journal = (shown_of g s).devices.journal; slots = files.disk_of (file i); root0 = first_of (roots i); root1 = second_of (roots i) }
 
@@ -112,7 +112,7 @@ module _ {D : Type 0} (g : disk.Ghosts D) (s : Parts D g) (basis : Basis) (is : 
         })
 
     -- the same, of a detector that is equal to this one
-    pub frozen_as : (was : detect.Shown (pool.Shown D)) (broken : Bool) → was ≡ s.detector → s.pending ≡ [] → c.phase ≡ phase.Flushing → c.number ≡ s.checkpointer.number → checkpoints.Stands g c w basis.now.checkpoint basis.now.former
+    pub frozen_as : (was : detect.ShownDetector (pool.ShownPool D)) (broken : Bool) → was ≡ s.detector → s.pending ≡ [] → c.phase ≡ phase.Flushing → c.number ≡ s.checkpointer.number → checkpoints.Stands g c w basis.now.checkpoint basis.now.former
         → checkpoints.IsDraft g c w basis.now.checkpoint (parts_with c.next now) now.words → Standing g (with_frozen g s basis is was c (over g s.detector w) broken) basis
     frozen_as was broken is_was none at number stands draft =
-        subst (λ (d : detect.Shown (pool.Shown D)). Standing g (with_frozen g s basis is d c (over g s.detector w) broken) basis) (sym is_was) (frozen broken none at number stands draft)
+        subst (λ (d : detect.ShownDetector (pool.ShownPool D)). Standing g (with_frozen g s basis is d c (over g s.detector w) broken) basis) (sym is_was) (frozen broken none at number stands draft)

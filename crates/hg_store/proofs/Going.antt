@@ -35,7 +35,7 @@ pub progress_at : {D : Type 0} (g : disk.Ghosts D) (s : Parts D g) (basis : Basi
 progress_at g s basis is works at same = subst (λ (p : Phase). IsInProgress g p s basis) same (is.works works).progress
 
 module _ {D : Type 0} (g : disk.Ghosts D) (bytes : (d : D) → IsImage (g.state d) (g.state d).contents) (s : Parts D g) (basis : Basis) (is : Standing g s basis) (works : s.is_broken ≡ false) where
-  both_slots : (next : Choice) (new : pool.Shown D) → next ≡ basis.now → Went g s.detector.words new → LeavesOnly g (pools.disk_of s.detector.words) (pools.disk_of new) (λ slots. HasSlots basis.now slots × HasSlots next slots)
+  both_slots : (next : Choice) (new : pool.ShownPool D) → next ≡ basis.now → Went g s.detector.words new → LeavesOnly g (pools.disk_of s.detector.words) (pools.disk_of new) (λ slots. HasSlots basis.now slots × HasSlots next slots)
   both_slots next new same went =
       let w = is.works works in
       subst (λ (choice : Choice). LeavesOnly g (pools.disk_of s.detector.words) (pools.disk_of new) (λ slots. HasSlots basis.now slots × HasSlots choice slots)) (sym same)
@@ -43,7 +43,7 @@ module _ {D : Type 0} (g : disk.Ghosts D) (bytes : (d : D) → IsImage (g.state 
       (slots_stay g bytes s.detector.words new basis.now.checkpoint basis.now.former went w.stands.names w.stands.slots) (λ image has. (has, has)))
 
   -- the slots alone are called
-  pub moved : (pending : List Named) (new : pool.Shown D) → Went g s.detector.words new → Moved g basis pending s.in_doubt (shown_of g s).devices (devices_of g s.journal new s.checkpointer)
+  pub moved : (pending : List Named) (new : pool.ShownPool D) → Went g s.detector.words new → Moved g basis pending s.in_doubt (shown_of g s).devices (devices_of g s.journal new s.checkpointer)
   moved pending new went = record {
     journal = started g (shown_of g s).devices.journal (HasEvents basis.events pending s.in_doubt)
         (λ image left. other_pending basis.events s.pending pending s.in_doubt image (is.works works).certain (is.keeps.journal image left));
@@ -51,11 +51,11 @@ module _ {D : Type 0} (g : disk.Ghosts D) (bytes : (d : D) → IsImage (g.state 
     slots = both_slots basis.next new (is.works works).one went;
   }
 
-  pub images : (new : pool.Shown D) → Went g s.detector.words new → EachImage g (shown_of g s).devices (devices_of g s.journal new s.checkpointer) (Stands (saved g (shown_of g s)) (live g (shown_of g s)) s.in_doubt)
+  pub images : (new : pool.ShownPool D) → Went g s.detector.words new → EachImage g (shown_of g s).devices (devices_of g s.journal new s.checkpointer) (Stands (saved g (shown_of g s)) (live g (shown_of g s)) s.in_doubt)
   images new went =
       each_image g basis s.pending s.in_doubt (shown_of g s).devices (devices_of g s.journal new s.checkpointer) (moved s.pending new went) (saved g (shown_of g s)) (live g (shown_of g s)) is.keeps.gives is.keeps.live
 
-  abbrev pub with_detector : detect.Shown (pool.Shown D) → List Named → Bool → Parts D g
+  abbrev pub with_detector : detect.ShownDetector (pool.ShownPool D) → List Named → Bool → Parts D g
   with_detector d pending broken = record {
     journal = s.journal;
     detector = d;
@@ -68,7 +68,7 @@ module _ {D : Type 0} (g : disk.Ghosts D) (bytes : (d : D) → IsImage (g.state 
     in_doubt = s.in_doubt;
   }
 
-  module _ (d : detect.Shown (pool.Shown D)) (pending : List Named) (broken : Bool) (went : Went g s.detector.words d.words) where
+  module _ (d : detect.ShownDetector (pool.ShownPool D)) (pending : List Named) (broken : Bool) (went : Went g s.detector.words d.words) where
     freezing : IsFreezing g s basis → IsFreezing g (with_detector d pending broken) basis
     freezing f = record {
       was = f.was;

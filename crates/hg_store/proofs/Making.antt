@@ -61,7 +61,7 @@ use Rattle.hg_store.specs.Shown.{live, saved}
 use Rattle.hg_store.specs.Store.{IsFresh, IsIdle, view_of}
 
 -- the pool of a table over a file, with no page in memory
-abbrev pub over_table : {D : Type 0} → SlotFile D → List (ℕ × ℕ) → ℕ → ℕ → pool.Shown D
+abbrev pub over_table : {D : Type 0} → SlotFile D → List (ℕ × ℕ) → ℕ → ℕ → pool.ShownPool D
 over_table file entries most slots = record {
   file = file;
   root = entries;
@@ -131,7 +131,7 @@ module _ {D : Type 0} (g : disk.Ghosts D) where
 
   module _ (s : Parts D g) (made : IsMade s) (basis : Basis) (based : IsBased g s.journal s.detector s.checkpointer basis) where
     saved_is : saved g (shown_of g s) ≡ live g (shown_of g s)
-    saved_is = ap (λ (d : detect.Shown (pool.Shown D)). detect.content (pools.live g) d) made.committed
+    saved_is = ap (λ (d : detect.ShownDetector (pool.ShownPool D)). detect.content (pools.live g) d) made.committed
 
     gives : GivesDurable basis (live g (shown_of g s))
     gives = record {
@@ -197,7 +197,7 @@ module _ {D : Type 0} (g : disk.Ghosts D) where
   basis_of events now = record { events = events; now = now; next = now }
 
   -- the parts of a store of no events on two closed roots
-  pub new_based : (journal : Journal D g) (d : detect.Shown (pool.Shown D)) (c : Checkpointer D g) → journals.KeepsEvents journal [] → detect.content (pools.live g) d ≡ empty_content
+  pub new_based : (journal : Journal D g) (d : detect.ShownDetector (pool.ShownPool D)) (c : Checkpointer D g) → journals.KeepsEvents journal [] → detect.content (pools.live g) d ≡ empty_content
       → RootsStand g c.phase c.roots None None c.body.value.items → c.number ≡ 0 → IsBased g journal d c new_basis
   new_based journal d c keeps content stand number = record {
     one = refl;
@@ -217,7 +217,7 @@ module _ {D : Type 0} (g : disk.Ghosts D) where
       ∙ (ap (λ (l : List ℕ). image_of journal slots l first.root1) is_one
       ∙ ap (λ (l : List ℕ). image_of journal slots one l) is_other))
 
-  module _ (bytes : (d : D) → IsImage (g.state d) (g.state d).contents) (old : detect.Shown (pool.Shown D)) (roots : RootPair D) (number : ℕ) (now : Choice) (started : IsStarted g old roots number now) (d : detect.Shown (pool.Shown D)) (went : Went g old.words d.words) where
+  module _ (bytes : (d : D) → IsImage (g.state d) (g.state d).contents) (old : detect.ShownDetector (pool.ShownPool D)) (roots : RootPair D) (number : ℕ) (now : Choice) (started : IsStarted g old roots number now) (d : detect.ShownDetector (pool.ShownPool D)) (went : Went g old.words d.words) where
     pub based : (journal : Journal D g) (events : List Named) (c : Checkpointer D g) → journals.KeepsEvents journal events → LeadFrom (detect.content (pools.live g) old) events (detect.content (pools.live g) d)
         → RootsStand g c.phase c.roots (root_of now.checkpoint) now.former c.body.value.items → c.number ≡ number → IsBased g journal d c (basis_of events now)
     based journal events c keeps lead stand is = record {
@@ -242,7 +242,7 @@ module _ {D : Type 0} (g : disk.Ghosts D) where
     }
 
   -- the detector of a root can go on
-  pub root_ready : (root : Root) (d : detect.Shown (pool.Shown D)) (slots : List ℕ) (c : Checkpoint) → IsLawful (parts_of root) → c.root ≡ parts_of root → HasPages slots c
+  pub root_ready : (root : Root) (d : detect.ShownDetector (pool.ShownPool D)) (slots : List ℕ) (c : Checkpoint) → IsLawful (parts_of root) → c.root ≡ parts_of root → HasPages slots c
       → d.sets.sets ≡ root.sets.sets → detect.content (pools.live g) d ≡ content_of c → AtPresent (IsFaithful g) d → IsReady g d
   root_ready root d slots c lawful is has sets same faithful = record {
     faithful = faithful;
@@ -250,25 +250,25 @@ module _ {D : Type 0} (g : disk.Ghosts D) where
     spelled = subst (λ (l : List (List ℕ)). All SetFits l) (sym sets) (All-from_recursion SetFits root.sets.sets lawful.head.fits.sets);
   }
 
-  pub first_ready : (d : detect.Shown (pool.Shown D)) (limit : ℕ) → detect.content (pools.live g) d ≡ empty_content → d.sets ≡ first_table limit → AtPresent (IsFaithful g) d → IsReady g d
+  pub first_ready : (d : detect.ShownDetector (pool.ShownPool D)) (limit : ℕ) → detect.content (pools.live g) d ≡ empty_content → d.sets ≡ first_table limit → AtPresent (IsFaithful g) d → IsReady g d
   first_ready d limit same sets faithful = record {
     faithful = faithful;
     state = subst IsLawfulState (sym same) first;
     spelled = subst (λ (t : Table). All SetFits t.sets) (sym sets) (All-from_recursion SetFits ([] ∷ []) ((omega arith, tt), tt));
   }
 
-  pub each_ready : {E : Type 0} (root : Root) (caps : Caps) (slots : List ℕ) → IsLawful (parts_of root) → (result : Result (detect.Shown (pool.Shown D)) E) → OnOk result (HasPagesOf (parts_of root) slots)
+  pub each_ready : {E : Type 0} (root : Root) (caps : Caps) (slots : List ℕ) → IsLawful (parts_of root) → (result : Result (detect.ShownDetector (pool.ShownPool D)) E) → OnOk result (HasPagesOf (parts_of root) slots)
       → IfOk result (λ d. d ≡ detector_of root caps d.words.file) → ((c : Checkpoint) → c.root ≡ parts_of root → HasPages slots c → IfOk result (λ d. detect.content (pools.live g) d ≡ content_of c))
       → IfOk result (AtPresent (IsFaithful g)) → IfOk result (IsReady g)
   each_ready root caps slots lawful (Ok d) has shown content faithful =
-      root_ready root d slots has.0 lawful has.1 has.2 (ap (λ (e : detect.Shown (pool.Shown D)). e.sets.sets) shown) (content has.0 has.1 has.2) faithful
+      root_ready root d slots has.0 lawful has.1 has.2 (ap (λ (e : detect.ShownDetector (pool.ShownPool D)). e.sets.sets) shown) (content has.0 has.1 has.2) faithful
   each_ready root caps slots lawful (Err e) has shown content faithful = tt
 
-  pub each_names : {E : Type 0} (root : Root) (caps : Caps) (o : Option Checkpoint) → IsLawful (parts_of root) → root_of o ≡ Some (parts_of root) → (result : Result (detect.Shown (pool.Shown D)) E)
+  pub each_names : {E : Type 0} (root : Root) (caps : Caps) (o : Option Checkpoint) → IsLawful (parts_of root) → root_of o ≡ Some (parts_of root) → (result : Result (detect.ShownDetector (pool.ShownPool D)) E)
       → IfOk result (λ d. d ≡ detector_of root caps d.words.file) → IfOk result (λ d. NamesOf d.words.root o)
   each_names root caps o lawful is (Ok d) shown =
       let k = some_checkpoint o (parts_of root) is in
-      let same : d.words.root ≡ entries_of root.pages.items = ap (λ (e : detect.Shown (pool.Shown D)). e.words.root) shown in
+      let same : d.words.root ≡ entries_of root.pages.items = ap (λ (e : detect.ShownDetector (pool.ShownPool D)). e.words.root) shown in
       subst (λ (t : List (ℕ × ℕ)). NamesOf t o) (sym same)
       (subst (λ (p : Option Checkpoint). NamesOf (entries_of root.pages.items) p) (sym k.1)
       (subst (λ (r : roots.Parts). Names (entries_of root.pages.items) r) (sym k.2) (named root lawful)))

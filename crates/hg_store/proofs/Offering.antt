@@ -31,7 +31,7 @@ pub followed_one : (c : Content) (n : Named) → verdict (standing_of c) n ≡ A
 followed_one c n is = ap (λ (v : Verdict). option_and_then (λ (d : Content). Some d) (if is_accept v then Some (after c n) else None)) is
 
 module _ {D : Type 0} (g : disk.Ghosts D) (bytes : (d : D) → IsImage (g.state d) (g.state d).contents) (s : Parts D g) (basis : Basis) (is : Standing g s basis) (works : s.is_broken ≡ false)
-    (d : detect.Shown (pool.Shown D)) (n : Named) (broken : Bool) (accepts : verdict (standing_of (live g (shown_of g s))) n ≡ Accept) (fits : RecordFits n) (went : Went g s.detector.words d.words) (faithful : AtPresent (IsFaithful g) d) where
+    (d : detect.ShownDetector (pool.ShownPool D)) (n : Named) (broken : Bool) (accepts : verdict (standing_of (live g (shown_of g s))) n ≡ Accept) (fits : RecordFits n) (went : Went g s.detector.words d.words) (faithful : AtPresent (IsFaithful g) d) where
   pub accepted : (pending : List Named) → pending ≡ s.pending ++ n ∷ [] → detect.content (pools.live g) d ≡ after (live g (shown_of g s)) n → AsksBy s.detector.sets (sets_asked (live g (shown_of g s)) n.event) (Ok tt) d.sets
       → Standing g (with_detector g bytes s basis is works d pending broken) basis
   accepted pending more content asks =

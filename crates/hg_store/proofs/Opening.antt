@@ -62,7 +62,7 @@ module _ {D : Type 0} (g : disk.Ghosts D) (s : Parts D g) (basis : Basis) (is : 
   images c each = images_after g s basis is opening c s.detector.words gives_opening (moved c each)
 
   -- the same of a pool over the same disk
-  pub images_as : (c : Checkpointer D g) (w : pool.Shown D) → pools.disk_of w ≡ pools.disk_of s.detector.words → EachEither g s.checkpointer.roots c.roots basis.now.checkpoint basis.now.former r.next
+  pub images_as : (c : Checkpointer D g) (w : pool.ShownPool D) → pools.disk_of w ≡ pools.disk_of s.detector.words → EachEither g s.checkpointer.roots c.roots basis.now.checkpoint basis.now.former r.next
       → EachImage g (shown_of g s).devices (devices_of g s.journal w c) (Stands (saved g (shown_of g s)) (live g (shown_of g s)) s.in_doubt)
   images_as c w same each =
       subst (λ (d : D). EachImage g (shown_of g s).devices (record { journal = (shown_of g s).devices.journal; slots = d; root0 = first_of c.roots; root1 = second_of c.roots }) (Stands (saved g (shown_of g s)) (live g (shown_of g s)) s.in_doubt)) (sym same)
@@ -73,16 +73,16 @@ module _ {D : Type 0} (g : disk.Ghosts D) (s : Parts D g) (basis : Basis) (is : 
   failed c each = stands_after g s basis is opening c s.detector true refl is.spelled is.faithful gives_opening (moved c each) (λ no. absurd (cc no))
 
   -- the same of a pool that stayed
-  pub failed_as : (c : Checkpointer D g) (w : pool.Shown D) → w ≡ s.detector.words → EachEither g s.checkpointer.roots c.roots basis.now.checkpoint basis.now.former r.next → Standing g (with_parts g s basis is c (over g s.detector w) true) opening
+  pub failed_as : (c : Checkpointer D g) (w : pool.ShownPool D) → w ≡ s.detector.words → EachEither g s.checkpointer.roots c.roots basis.now.checkpoint basis.now.former r.next → Standing g (with_parts g s basis is c (over g s.detector w) true) opening
   failed_as c w same each =
       let other = over g s.detector w in
-      let moved_as = subst (λ (p : pool.Shown D). Moved g opening s.pending s.in_doubt (shown_of g s).devices (devices_of g s.journal p c)) (sym same) (moved c each) in
-      stands_after g s basis is opening c other true (same_content g s.detector w (λ word. ap (λ (p : pool.Shown D). pools.live g p word) same)) is.spelled
-      (subst (λ (p : pool.Shown D). IsFaithful g p (length s.detector.segments) (length s.detector.sets.sets)) (sym same) is.faithful) gives_opening moved_as (λ no. absurd (cc no))
+      let moved_as = subst (λ (p : pool.ShownPool D). Moved g opening s.pending s.in_doubt (shown_of g s).devices (devices_of g s.journal p c)) (sym same) (moved c each) in
+      stands_after g s basis is opening c other true (same_content g s.detector w (λ word. ap (λ (p : pool.ShownPool D). pools.live g p word) same)) is.spelled
+      (subst (λ (p : pool.ShownPool D). IsFaithful g p (length s.detector.segments) (length s.detector.sets.sets)) (sym same) is.faithful) gives_opening moved_as (λ no. absurd (cc no))
 
   -- ---- the root is open
 
-  abbrev rooted : pool.Shown D
+  abbrev rooted : pool.ShownPool D
   rooted = record s.detector.words { root = s.detector.words.frozen }
 
   whole : IsWhole g s.detector.words → IsWhole g rooted
@@ -127,14 +127,14 @@ module _ {D : Type 0} (g : disk.Ghosts D) (s : Parts D g) (basis : Basis) (is : 
   }
 
   -- the same of a pool that is equal to this one
-  pub succeeded_as : (c : Checkpointer D g) (w : pool.Shown D) (broken : Bool) → w ≡ rooted → c.phase ≡ phase.Idle → c.number ≡ s.checkpointer.next → checkpoints.Stands g c w (Some r.next) (root_of basis.now.checkpoint)
+  pub succeeded_as : (c : Checkpointer D g) (w : pool.ShownPool D) (broken : Bool) → w ≡ rooted → c.phase ≡ phase.Idle → c.number ≡ s.checkpointer.next → checkpoints.Stands g c w (Some r.next) (root_of basis.now.checkpoint)
       → Standing g (with_parts g s basis is c (over g s.detector w) broken) at_opened
   succeeded_as c w broken same at number stands =
-      subst (λ (p : pool.Shown D). Standing g (with_parts g s basis is c (over g s.detector p) broken) at_opened) (sym same)
-      (succeeded c broken at number (subst (λ (p : pool.Shown D). checkpoints.Stands g c p (Some r.next) (root_of basis.now.checkpoint)) same stands))
+      subst (λ (p : pool.ShownPool D). Standing g (with_parts g s basis is c (over g s.detector p) broken) at_opened) (sym same)
+      (succeeded c broken at number (subst (λ (p : pool.ShownPool D). checkpoints.Stands g c p (Some r.next) (root_of basis.now.checkpoint)) same stands))
 
   -- what the devices have then
-  pub has_opened : (c : Checkpointer D g) (w : pool.Shown D) (number : ℕ) → w ≡ rooted → c.phase ≡ phase.Idle → number ≡ s.checkpointer.next → checkpoints.Stands g c w (Some r.next) (root_of basis.now.checkpoint)
+  pub has_opened : (c : Checkpointer D g) (w : pool.ShownPool D) (number : ℕ) → w ≡ rooted → c.phase ≡ phase.Idle → number ≡ s.checkpointer.next → checkpoints.Stands g c w (Some r.next) (root_of basis.now.checkpoint)
       → HasOpened g (devices_of g s.journal w c) number (captured g (shown_of g s))
   has_opened c w number same at is_next stands =
       let content = r.content ∙ r.freezing.content in

@@ -59,7 +59,7 @@ module _ {D : Type 0} (g : disk.Ghosts D) where
     }
 
     -- the pages of a checkpoint were read, and slots that it does not name were written
-    pub with_pages : (most number : ℕ) (d : detect.Shown (pool.Shown D)) (roots : RootPair D)
+    pub with_pages : (most number : ℕ) (d : detect.ShownDetector (pool.ShownPool D)) (roots : RootPair D)
         → (rooted : IsRooted g most (g.state old.root0).contents (g.state old.root1).contents (g.state old.slots).contents d roots number)
         → LeavesOnly g old.journal new.journal (IsImage (g.state old.journal)) → LeavesOnly g old.slots new.slots (HasSlots rooted.now)
         → LeavesOnly g old.root0 new.root0 (IsImage (g.state old.root0)) → LeavesOnly g old.root1 new.root1 (IsImage (g.state old.root1))

@@ -150,18 +150,18 @@ pub behind_seen : (seen rest : List Named) (n : ℕ) → length seen ≡ n → d
 behind_seen seen rest n is = drop_at seen rest n is
 
 module _ {D : Type 0} (g : disk.Ghosts D) where
-  abbrev pub content_in : detect.Shown (pool.Shown D) → Content
+  abbrev pub content_in : detect.ShownDetector (pool.ShownPool D) → Content
   content_in d = detect.content (live g) d
 
   -- The detector followed the events that were read behind those that were skipped.
-  pub record HasRead (j : Journal D g) (r : JournalReader) (seen : List Named) (first now : detect.Shown (pool.Shown D)) : Type 0 where
+  pub record HasRead (j : Journal D g) (r : JournalReader) (seen : List Named) (first now : detect.ShownDetector (pool.ShownPool D)) : Type 0 where
     pub since : List Named
     pub at : IsAt j r (seen ++ since)
     pub gives : followed (content_in first) since ≡ Some (content_in now)
     pub fills : Fills since (content_in first) first.sets (content_in now) now.sets
     pub faithful : AtPresent (IsFaithful g) now
 
-  pub read_none : (j : Journal D g) (r : JournalReader) (seen : List Named) (d : detect.Shown (pool.Shown D)) → IsAt j r seen → AtPresent (IsFaithful g) d → HasRead j r seen d d
+  pub read_none : (j : Journal D g) (r : JournalReader) (seen : List Named) (d : detect.ShownDetector (pool.ShownPool D)) → IsAt j r seen → AtPresent (IsFaithful g) d → HasRead j r seen d d
   read_none j r seen d at faithful = record {
     since = [];
     at = subst (λ (events : List Named). IsAt j r events) (sym (append-nil seen)) at;
@@ -170,8 +170,8 @@ module _ {D : Type 0} (g : disk.Ghosts D) where
     faithful = faithful;
   }
 
-  module _ (old : Journal D g) (r : JournalReader) (seen : List Named) (first was : detect.Shown (pool.Shown D)) (read : HasRead old r seen first was) (new : Journal D g) (s : JournalReader) (n : Named) (at : IsAt new s ((seen ++ read.since) ++ n ∷ [])) where
-    pub read_more : (now : detect.Shown (pool.Shown D)) → IsAccepted (content_in was) n → content_in now ≡ after (content_in was) n → Asks was.sets (sets_asked (content_in was) n.event) None now.sets → AtPresent (IsFaithful g) now → HasRead new s seen first now
+  module _ (old : Journal D g) (r : JournalReader) (seen : List Named) (first was : detect.ShownDetector (pool.ShownPool D)) (read : HasRead old r seen first was) (new : Journal D g) (s : JournalReader) (n : Named) (at : IsAt new s ((seen ++ read.since) ++ n ∷ [])) where
+    pub read_more : (now : detect.ShownDetector (pool.ShownPool D)) → IsAccepted (content_in was) n → content_in now ≡ after (content_in was) n → Asks was.sets (sets_asked (content_in was) n.event) None now.sets → AtPresent (IsFaithful g) now → HasRead new s seen first now
     read_more now accepted is asks faithful = record {
       since = read.since ++ n ∷ [];
       at = subst (λ (events : List Named). IsAt new s events) (append_assoc seen read.since (n ∷ [])) at;

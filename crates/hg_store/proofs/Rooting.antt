@@ -52,7 +52,7 @@ pub settled_reads : (bytes : List ℕ) (s : DiskState) → s ≡ settled bytes �
 settled_reads bytes s is = ap (λ (t : DiskState). t.contents) is
 
 module _ {D : Type 0} (g : disk.Ghosts D) where
-  pub rooted_so : (cap : ℕ) (one other bytes : List ℕ) (found former : Option Parts) (cp : Option Checkpoint) (d : detect.Shown (pool.Shown D)) (roots : RootPair D) (number : ℕ) → root_of cp ≡ found
+  pub rooted_so : (cap : ℕ) (one other bytes : List ℕ) (found former : Option Parts) (cp : Option Checkpoint) (d : detect.ShownDetector (pool.ShownPool D)) (roots : RootPair D) (number : ℕ) → root_of cp ≡ found
       → IsNewest found former one other → IfSome former (LieWithin bytes) → IfSome cp (HasPages bytes) → ((root f : Option Parts) → IsNewest root f one other → root ≡ found)
       → Stands g roots found former → number ≡ number_in found → g.state (pools.disk_of d.words) ≡ settled bytes → NamesOf d.words.root cp → detect.content (pools.live g) d ≡ start_of cp
       → IsReady g d → d.sets ≡ table_at cap found → IsRooted g cap one other bytes d roots number

@@ -37,14 +37,14 @@ within_still old new segments sets from within q f is i =
 
 module _ {D : Type 0} (g : disk.Ghosts D) where
   -- a pool none of whose calls failed works on
-  pub works_on : (old new : pool.Shown D) → Went g old new → g.failures (pools.disk_of new) ≡ g.failures (pools.disk_of old) → pools.is_broken old ≡ false → pools.is_broken new ≡ false
+  pub works_on : (old new : pool.ShownPool D) → Went g old new → g.failures (pools.disk_of new) ≡ g.failures (pools.disk_of old) → pools.is_broken old ≡ false → pools.is_broken new ≡ false
   works_on old new went none works = ⊎_elim (λ same. same ∙ works) (λ more. absurd (omega (arith, more, none))) went.breaks.1
 
   -- the detector over another pool
-  abbrev pub over : detect.Shown (pool.Shown D) → pool.Shown D → detect.Shown (pool.Shown D)
+  abbrev pub over : detect.ShownDetector (pool.ShownPool D) → pool.ShownPool D → detect.ShownDetector (pool.ShownPool D)
   over d w = record { parts = d.parts; segments = d.segments; sets = d.sets; words = w; kept = d.kept; total = d.total }
 
-  pub same_content : (d : detect.Shown (pool.Shown D)) (w : pool.Shown D) → SameMap (pools.live g d.words) (pools.live g w) → detect.content (pools.live g) (over d w) ≡ detect.content (pools.live g) d
+  pub same_content : (d : detect.ShownDetector (pool.ShownPool D)) (w : pool.ShownPool D) → SameMap (pools.live g d.words) (pools.live g w) → detect.content (pools.live g) (over d w) ≡ detect.content (pools.live g) d
   same_content d w same = λ i. record {
     events = d.parts.events;
     segments = d.segments;
@@ -55,7 +55,7 @@ module _ {D : Type 0} (g : disk.Ghosts D) where
     last = slice_index d.parts.last;
   }
 
-  pub stays_faithful : (d : detect.Shown (pool.Shown D)) (w : pool.Shown D) → Stays g d.words w → AtPresent (IsFaithful g) d → AtPresent (IsFaithful g) (over d w)
+  pub stays_faithful : (d : detect.ShownDetector (pool.ShownPool D)) (w : pool.ShownPool D) → Stays g d.words w → AtPresent (IsFaithful g) d → AtPresent (IsFaithful g) (over d w)
   stays_faithful d w stays h = record {
     whole = stays.went.whole h.whole;
     within = λ word. subst (λ (cell : Cell). IsWithin (length d.segments) (length d.sets.sets) cell) (sym (stays.live_is h.whole word)) (h.within word);
@@ -63,7 +63,7 @@ module _ {D : Type 0} (g : disk.Ghosts D) where
 
   module _ (s : Parts D g) (basis : Basis) (is : Standing g s basis) where
     -- other parts, and another frozen detector
-    abbrev pub with_frozen : detect.Shown (pool.Shown D) → Checkpointer D g → detect.Shown (pool.Shown D) → Bool → Parts D g
+    abbrev pub with_frozen : detect.ShownDetector (pool.ShownPool D) → Checkpointer D g → detect.ShownDetector (pool.ShownPool D) → Bool → Parts D g
     with_frozen frozen c d broken = record {
       journal = s.journal;
       detector = d;
@@ -76,11 +76,11 @@ module _ {D : Type 0} (g : disk.Ghosts D) where
       in_doubt = s.in_doubt;
     }
 
-    abbrev pub with_parts : Checkpointer D g → detect.Shown (pool.Shown D) → Bool → Parts D g
+    abbrev pub with_parts : Checkpointer D g → detect.ShownDetector (pool.ShownPool D) → Bool → Parts D g
     with_parts c d broken = with_frozen s.frozen c d broken
 
     -- The devices went to these, and the content stays.
-    pub stands_with : (frozen : detect.Shown (pool.Shown D)) (to : Basis) (c : Checkpointer D g) (d : detect.Shown (pool.Shown D)) (broken : Bool) → detect.content (pools.live g) d ≡ live g (shown_of g s) → All SetFits d.sets.sets → AtPresent (IsFaithful g) d
+    pub stands_with : (frozen : detect.ShownDetector (pool.ShownPool D)) (to : Basis) (c : Checkpointer D g) (d : detect.ShownDetector (pool.ShownPool D)) (broken : Bool) → detect.content (pools.live g) d ≡ live g (shown_of g s) → All SetFits d.sets.sets → AtPresent (IsFaithful g) d
         → GivesDurable to (saved g (shown_of g s)) → Moved g to s.pending s.in_doubt (shown_of g s).devices (devices_of g s.journal d.words c) → (broken ≡ false → IsWorking g (with_frozen frozen c d broken) to) → Standing g (with_frozen frozen c d broken) to
     stands_with frozen to c d broken content spelled faithful gives moved works = record {
       keeps = keeps_after g to s.pending s.in_doubt (shown_of g s).devices (devices_of g s.journal d.words c) moved (saved g (shown_of g s)) (live g (shown_of g (with_frozen frozen c d broken))) gives
@@ -91,11 +91,11 @@ module _ {D : Type 0} (g : disk.Ghosts D) where
       works = works;
     }
 
-    pub stands_after : (to : Basis) (c : Checkpointer D g) (d : detect.Shown (pool.Shown D)) (broken : Bool) → detect.content (pools.live g) d ≡ live g (shown_of g s) → All SetFits d.sets.sets → AtPresent (IsFaithful g) d
+    pub stands_after : (to : Basis) (c : Checkpointer D g) (d : detect.ShownDetector (pool.ShownPool D)) (broken : Bool) → detect.content (pools.live g) d ≡ live g (shown_of g s) → All SetFits d.sets.sets → AtPresent (IsFaithful g) d
         → GivesDurable to (saved g (shown_of g s)) → Moved g to s.pending s.in_doubt (shown_of g s).devices (devices_of g s.journal d.words c) → (broken ≡ false → IsWorking g (with_parts c d broken) to) → Standing g (with_parts c d broken) to
     stands_after to c d broken content spelled faithful gives moved works = stands_with s.frozen to c d broken content spelled faithful gives moved works
 
-    pub images_after : (to : Basis) (c : Checkpointer D g) (w : pool.Shown D) → GivesDurable to (saved g (shown_of g s)) → Moved g to s.pending s.in_doubt (shown_of g s).devices (devices_of g s.journal w c)
+    pub images_after : (to : Basis) (c : Checkpointer D g) (w : pool.ShownPool D) → GivesDurable to (saved g (shown_of g s)) → Moved g to s.pending s.in_doubt (shown_of g s).devices (devices_of g s.journal w c)
         → EachImage g (shown_of g s).devices (devices_of g s.journal w c) (Stands (saved g (shown_of g s)) (live g (shown_of g s)) s.in_doubt)
     images_after to c w gives moved = each_image g to s.pending s.in_doubt (shown_of g s).devices (devices_of g s.journal w c) moved (saved g (shown_of g s)) (live g (shown_of g s)) gives is.keeps.live
 
@@ -117,16 +117,16 @@ module _ {D : Type 0} (g : disk.Ghosts D) where
 
     -- ---- the pool alone is called, and the checkpoint goes on
 
-    pub pool_moved : (bytes : (d : D) → IsImage (g.state d) (g.state d).contents) → s.is_broken ≡ false → (c : Checkpointer D g) (w : pool.Shown D) → Went g s.detector.words w → c.roots ≡ s.checkpointer.roots
+    pub pool_moved : (bytes : (d : D) → IsImage (g.state d) (g.state d).contents) → s.is_broken ≡ false → (c : Checkpointer D g) (w : pool.ShownPool D) → Went g s.detector.words w → c.roots ≡ s.checkpointer.roots
         → Moved g basis s.pending s.in_doubt (shown_of g s).devices (devices_of g s.journal w c)
     pool_moved bytes works c w went same =
         subst (λ (r : RootPair D). Moved g basis s.pending s.in_doubt (shown_of g s).devices (record { journal = (shown_of g s).devices.journal; slots = pools.disk_of w; root0 = first_of r; root1 = second_of r })) (sym same)
         (going.moved g bytes s basis is works s.pending w went)
 
     -- nothing was called
-    pub same_images_as : (c : Checkpointer D g) (w : pool.Shown D) → c ≡ s.checkpointer → w ≡ s.detector.words
+    pub same_images_as : (c : Checkpointer D g) (w : pool.ShownPool D) → c ≡ s.checkpointer → w ≡ s.detector.words
         → EachImage g (shown_of g s).devices (devices_of g s.journal w c) (Stands (saved g (shown_of g s)) (live g (shown_of g s)) s.in_doubt)
     same_images_as c w same stays =
         subst (λ (x : Checkpointer D g). EachImage g (shown_of g s).devices (devices_of g s.journal w x) (Stands (saved g (shown_of g s)) (live g (shown_of g s)) s.in_doubt)) (sym same)
-        (subst (λ (p : pool.Shown D). EachImage g (shown_of g s).devices (devices_of g s.journal p s.checkpointer) (Stands (saved g (shown_of g s)) (live g (shown_of g s)) s.in_doubt)) (sym stays)
+        (subst (λ (p : pool.ShownPool D). EachImage g (shown_of g s).devices (devices_of g s.journal p s.checkpointer) (Stands (saved g (shown_of g s)) (live g (shown_of g s)) s.in_doubt)) (sym stays)
         (parts_stand g s basis s.in_doubt is (λ doubt. doubt)))

@@ -7,7 +7,7 @@ use Rattle.hg_checkpointer.specs.declared.cause.Cause.{Cause}
 use Rattle.hg_checkpointer.specs.declared.cause.Cause.TheVariants as cause
 use Rattle.hg_recovery.specs.declared.fault.HeadFault.{HeadFault}
 use Rattle.hg_recovery.specs.declared.fault.HeadFault.TheVariants as head
-use Rattle.hg_store.specs.Shown.{Shown, phase_of}
+use Rattle.hg_store.specs.Shown.{ShownStore, phase_of}
 use Rattle.hg_store.specs.declared.steps.StepFault.{StepFault}
 use Rattle.hg_store.specs.declared.steps.StepFault.TheVariants.{Refused, WrongPhase}
 
@@ -17,7 +17,7 @@ of_head head.Damaged = Refused cause.Damaged
 of_head head.OutOfMemory = Refused cause.OutOfMemory
 
 -- A step that is lawful only so: a broken store answers Broken, and else WrongPhase with the phase exactly where it is not lawful.
-abbrev pub IsAllowed : {D T : Type 0} → Shown D → Type 0 → Result T StepFault → Type 0
+abbrev pub IsAllowed : {D T : Type 0} → ShownStore D → Type 0 → Result T StepFault → Type 0
 IsAllowed s Lawful (Ok value) = (s.is_broken ≡ false) × Lawful
 IsAllowed s Lawful (Err (WrongPhase p)) = (s.is_broken ≡ false) × (¬ Lawful) × (p ≡ phase_of s)
 IsAllowed s Lawful (Err (Refused r)) = ((s.is_broken ≡ true) × (r ≡ cause.Broken)) ⊎ ((s.is_broken ≡ false) × Lawful)

@@ -12,7 +12,7 @@ use Rattle.hg_pool.specs.declared.job.Put.TheVariants as put
 use Rattle.hg_checkpointer.specs.declared.cause.Cause.TheVariants as cause
 use Rattle.hg_checkpointer.specs.declared.phase.Phase.TheVariants as phase
 use Rattle.hg_store.specs.Answers.{IfRefused, IsAllowed, failed_by}
-use Rattle.hg_store.specs.Shown.{HasNextNumber, IsFlushed, IsIn, Shown, live, phase_of, words}
+use Rattle.hg_store.specs.Shown.{HasNextNumber, IsFlushed, IsIn, ShownStore, live, phase_of, words}
 use Rattle.hg_store.specs.Steps.{CheckpointDone, CommitDone, ContentOffered, OfferDone}
 use Rattle.hg_store.specs.Store.{HasOpenedFrozen, StandMeanwhile}
 use Rattle.hg_store.specs.declared.steps.Step.{Step}
@@ -27,28 +27,28 @@ abbrev pub Tells : {X : Type 0} → (X → StepResult) → StepResult → (X →
 Tells {X} kind result P = (x : X) × (result ≡ kind x) × P x
 
 -- The job is the first of the pages that wait, with its cells at the freeze; there is none where no page waits.
-abbrev pub IsFirstWaiting : {D : Type 0} → pool.Shown D → Option Job → Type 0
+abbrev pub IsFirstWaiting : {D : Type 0} → pool.ShownPool D → Option Job → Type 0
 IsFirstWaiting words found =
     MatchOption found (words.waiting ≡ []) (λ job. (Some job.page ≡ least_of words.waiting) × IsFrozen words job.page job.cells)
 
 -- neither the slots nor what is in memory of them
-pub record SameWords {D : Type 0} (old new : Shown D) : Type 0 where
+pub record SameWords {D : Type 0} (old new : ShownStore D) : Type 0 where
   pub slots : new.devices.slots ≡ old.devices.slots
   pub detector : new.detector ≡ old.detector
 
 -- neither of the root files
-pub record SameRoots {D : Type 0} (old new : Shown D) : Type 0 where
+pub record SameRoots {D : Type 0} (old new : ShownStore D) : Type 0 where
   pub root0 : new.devices.root0 ≡ old.devices.root0
   pub root1 : new.devices.root1 ≡ old.devices.root1
 
 -- which checkpoint is the newest, and which is in progress
-pub record SameNumbers {D : Type 0} (old new : Shown D) : Type 0 where
+pub record SameNumbers {D : Type 0} (old new : ShownStore D) : Type 0 where
   pub number : new.progress.number ≡ old.progress.number
   pub next : new.progress.next ≡ old.progress.next
   pub head : new.progress.head ≡ old.progress.head
 
 -- A checkpoint begins, with the number behind that of the newest one. No device is called.
-pub record FreezeDone {D : Type 0} (old new : Shown D) (result : Result (Unit {0}) StepFault) : Type 0 where
+pub record FreezeDone {D : Type 0} (old new : ShownStore D) (result : Result (Unit {0}) StepFault) : Type 0 where
   pub done : CheckpointDone old new (phase_of old ≡ store.Idle) phase.Flushing result
   pub refused : OnErr result (new ≡ old)
   pub last : OnOk result (old.progress.number < 2 ^ 58)
@@ -58,14 +58,14 @@ pub record FreezeDone {D : Type 0} (old new : Shown D) (result : Result (Unit {0
   pub frozen : OnOk result (new.frozen ≡ old.detector)
 
 -- The page is the first of those that wait, with its cells at the freeze. Nothing changes.
-pub record JobTaken {D : Type 0} (old new : Shown D) (result : Result (Option Job) StepFault) : Type 0 where
+pub record JobTaken {D : Type 0} (old new : ShownStore D) (result : Result (Option Job) StepFault) : Type 0 where
   pub same : new ≡ old
   pub allowed : IsAllowed old (IsIn phase.Flushing old) result
   pub refusal : IfRefused (λ r. r ≡ cause.Broken) result
   pub job : IfOk result (IsFirstWaiting (words old))
 
 -- A page is written where it waits and the bytes are those of its cells at the freeze. The phase stays.
-pub record PutDone {D : Type 0} (old new : Shown D) (page : Encoded) (result : Result Put StepFault) : Type 0 where
+pub record PutDone {D : Type 0} (old new : ShownStore D) (page : Encoded) (result : Result Put StepFault) : Type 0 where
   pub done : CheckpointDone old new (old.is_broken ≡ false) old.progress.phase result
   pub written : IfOk result (λ p. p ≡ put.Written → HasWaited (words old) page)
   pub stale : IfOk result (λ p. p ≡ put.Stale → IsStale (words old) page)
@@ -75,35 +75,35 @@ pub record PutDone {D : Type 0} (old new : Shown D) (page : Encoded) (result : R
   pub frozen : new.frozen ≡ old.frozen
 
 -- The pages are durable, once none waits.
-pub record SealDone {D : Type 0} (old new : Shown D) (result : Result (Unit {0}) StepFault) : Type 0 where
+pub record SealDone {D : Type 0} (old new : ShownStore D) (result : Result (Unit {0}) StepFault) : Type 0 where
   pub done : CheckpointDone old new (IsFlushed old) phase.Sealed result
   pub roots : SameRoots old new
   pub numbers : SameNumbers old new
   pub frozen : new.frozen ≡ old.frozen
 
 -- The file of the next root is closed.
-pub record PrepareDone {D : Type 0} (old new : Shown D) (result : Result (Unit {0}) StepFault) : Type 0 where
+pub record PrepareDone {D : Type 0} (old new : ShownStore D) (result : Result (Unit {0}) StepFault) : Type 0 where
   pub done : CheckpointDone old new (IsIn phase.Sealed old) phase.Prepared result
   pub words : SameWords old new
   pub numbers : SameNumbers old new
   pub frozen : new.frozen ≡ old.frozen
 
 -- The next root is durable behind its closed gate.
-pub record WriteDone {D : Type 0} (old new : Shown D) (result : Result (Unit {0}) StepFault) : Type 0 where
+pub record WriteDone {D : Type 0} (old new : ShownStore D) (result : Result (Unit {0}) StepFault) : Type 0 where
   pub done : CheckpointDone old new (IsIn phase.Prepared old) phase.Written result
   pub words : SameWords old new
   pub numbers : SameNumbers old new
   pub frozen : new.frozen ≡ old.frozen
 
 -- The next root is the newest one, and its number is answered.
-pub record OpenDone {D : Type 0} (old new : Shown D) (result : Result ℕ StepFault) : Type 0 where
+pub record OpenDone {D : Type 0} (old new : ShownStore D) (result : Result ℕ StepFault) : Type 0 where
   pub done : CheckpointDone old new (IsIn phase.Written old) phase.Idle result
   pub number : IfOk result (λ n. (n ≡ old.progress.next) × (new.progress.number ≡ n))
   pub slots : new.devices.slots ≡ old.devices.slots
   pub frozen : new.frozen ≡ old.frozen
 
 -- Each step is answered by an answer of its own kind.
-abbrev pub StepDone : {D : Type 0} → disk.Ghosts D → (old new : Shown D) → Step → StepResult → Type 0
+abbrev pub StepDone : {D : Type 0} → disk.Ghosts D → (old new : ShownStore D) → Step → StepResult → Type 0
 StepDone g old new (step.Offer n) result = Tells told.Offered result (λ r. OfferDone g old new n r)
 StepDone g old new step.Commit result = Tells told.Committed result (λ r. CommitDone g old new r)
 StepDone g old new step.Freeze result = Tells told.Frozen result (λ r. FreezeDone old new r)
@@ -115,12 +115,12 @@ StepDone g old new step.WriteRoot result = Tells told.Written result (λ r. Writ
 StepDone g old new step.OpenRoot result = Tells told.Opened result (λ r. OpenDone old new r)
 
 -- After the opening of a root that one is the newest, and has the content at the freeze.
-pub record ContentOpened {D : Type 0} (g : disk.Ghosts D) (old new : Shown D) (result : Result ℕ StepFault) : Type 0 where
+pub record ContentOpened {D : Type 0} (g : disk.Ghosts D) (old new : ShownStore D) (result : Result ℕ StepFault) : Type 0 where
   pub live : live g new ≡ live g old
   pub checkpoint : IfOk result (HasOpenedFrozen g old new)
 
 -- What becomes of the live content over honest devices: an accepted event joins it, and each other step leaves it.
-abbrev pub ContentDone : {D : Type 0} → disk.Ghosts D → (old new : Shown D) → Step → StepResult → Type 0
+abbrev pub ContentDone : {D : Type 0} → disk.Ghosts D → (old new : ShownStore D) → Step → StepResult → Type 0
 ContentDone g old new (step.Offer n) result = Tells told.Offered result (λ r. ContentOffered g old new n r)
 ContentDone g old new step.OpenRoot result = Tells told.Opened result (λ r. ContentOpened g old new r)
 ContentDone g old new _ result = live g new ≡ live g old
@@ -131,7 +131,7 @@ in_doubt_during step.Commit in_doubt = true
 in_doubt_during _ in_doubt = in_doubt
 
 -- Each image during a step stands for the durable content of before; where there is a doubt, it may be for the live one.
-abbrev pub StandDuring : {D : Type 0} → disk.Ghosts D → Step → (old new : Shown D) → Type 0
+abbrev pub StandDuring : {D : Type 0} → disk.Ghosts D → Step → (old new : ShownStore D) → Type 0
 StandDuring g step old new = StandMeanwhile g old new (in_doubt_during step old.in_doubt)
 
 -- how many calls of devices have failed after a step, of n before

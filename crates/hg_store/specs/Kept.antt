@@ -26,16 +26,16 @@ use Rattle.hg_checkpointer.specs.declared.phase.Phase.{Phase}
 use Rattle.hg_checkpointer.specs.declared.phase.Phase.TheVariants as phase
 use Rattle.hg_checkpointer.specs.Standing.{IsDraft, IsNext, Stands}
 use Rattle.hg_store.specs.declared.devices.Devices.{Devices}
-use Rattle.hg_store.specs.Shown.{Shown, captured, live, saved}
+use Rattle.hg_store.specs.Shown.{ShownStore, captured, live, saved}
 use Rattle.hg_store.specs.Store.{view_of}
 
 -- the parts of a store
 pub record Parts (D : Type 0) (g : disk.Ghosts D) : Type 0 where
   pub journal : Journal D g
-  pub detector : detect.Shown (pool.Shown D)
+  pub detector : detect.ShownDetector (pool.ShownPool D)
   pub checkpointer : Checkpointer D g
-  pub committed : detect.Shown (pool.Shown D)
-  pub frozen : detect.Shown (pool.Shown D)
+  pub committed : detect.ShownDetector (pool.ShownPool D)
+  pub frozen : detect.ShownDetector (pool.ShownPool D)
   pub pending : List Named
   pub durable : ℕ
   pub is_broken : Bool
@@ -57,7 +57,7 @@ is_rooting phase.Prepared = true
 is_rooting phase.Written = true
 
 module _ {D : Type 0} (g : disk.Ghosts D) where
-  abbrev pub devices_of : Journal D g → pool.Shown D → Checkpointer D g → Devices D
+  abbrev pub devices_of : Journal D g → pool.ShownPool D → Checkpointer D g → Devices D
   devices_of journal words checkpointer = record {
     journal = journals.disk_of journal;
     slots = pools.disk_of words;
@@ -66,7 +66,7 @@ module _ {D : Type 0} (g : disk.Ghosts D) where
   }
 
   -- what contracts see
-  abbrev pub shown_of : Parts D g → Shown D
+  abbrev pub shown_of : Parts D g → ShownStore D
   shown_of s = record {
     devices = devices_of s.journal s.detector.words s.checkpointer;
     detector = s.detector;
@@ -81,7 +81,7 @@ module _ {D : Type 0} (g : disk.Ghosts D) where
 
   -- A checkpoint is in progress, of what the detector showed at the freeze, with its words as the frozen map has them.
   pub record IsFreezing (s : Parts D g) (basis : Basis) : Type 0 where
-    pub was : detect.Shown (ℕ → Cell)
+    pub was : detect.ShownDetector (ℕ → Cell)
     pub content : detect.content (λ map. map) was ≡ captured g (shown_of s)
     pub state : IsLawfulState (detect.content (λ map. map) was)
     pub front : IsFront basis (detect.content (λ map. map) was)

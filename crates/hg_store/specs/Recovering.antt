@@ -43,7 +43,7 @@ use Rattle.hg_checkpointer.specs.declared.checkpointer.Checkpointer.{Checkpointe
 use Rattle.hg_checkpointer.specs.Standing.{Stands}
 use Rattle.hg_checkpointer.specs.Tables.{NamesOf}
 use Rattle.hg_recovery.specs.Restoring.{failures_after, file_in}
-use Rattle.hg_store.specs.Shown.{Shown}
+use Rattle.hg_store.specs.Shown.{ShownStore}
 use Rattle.hg_store.specs.Answers.{failed_in}
 use Rattle.hg_store.specs.declared.create.CreateFault.{CreateFault}
 use Rattle.hg_store.specs.declared.create.CreateFault.TheVariants.{NotEmpty, Refused}
@@ -162,7 +162,7 @@ CountsFailures (Err refusal) old new = CountedBy refusal old new
 
 -- The parts of a store that has just been made have this basis: the journal its events, the roots and the slots its checkpoint, and the detector
 -- the content that they give.
-pub record IsBased {D : Type 0} (g : disk.Ghosts D) (journal : Journal D g) (d : detect.Shown (pool.Shown D)) (c : Checkpointer D g) (basis : Basis) : Type 0 where
+pub record IsBased {D : Type 0} (g : disk.Ghosts D) (journal : Journal D g) (d : detect.ShownDetector (pool.ShownPool D)) (c : Checkpointer D g) (basis : Basis) : Type 0 where
   pub one : basis.next ≡ basis.now
   pub keeps : journals.KeepsEvents journal basis.events
   pub stands : Stands g c d.words basis.now.checkpoint basis.now.former
@@ -170,13 +170,13 @@ pub record IsBased {D : Type 0} (g : disk.Ghosts D) (journal : Journal D g) (d :
   pub gives : Gives basis.now.checkpoint basis.events (detect.content (pools.live g) d)
 
 -- The detector can go on, and its content may go into a root.
-pub record IsReady {D : Type 0} (g : disk.Ghosts D) (d : detect.Shown (pool.Shown D)) : Type 0 where
+pub record IsReady {D : Type 0} (g : disk.Ghosts D) (d : detect.ShownDetector (pool.ShownPool D)) : Type 0 where
   pub faithful : AtPresent (IsFaithful g) d
   pub state : IsLawfulState (detect.content (pools.live g) d)
   pub spelled : All SetFits d.sets.sets
 
 -- A detector stands at a checkpoint, or at none: the roots and the slots have it, and it has the content from which the events go on.
-pub record IsStarted {D : Type 0} (g : disk.Ghosts D) (d : detect.Shown (pool.Shown D)) (roots : RootPair D) (number : ℕ) (now : Choice) : Type 0 where
+pub record IsStarted {D : Type 0} (g : disk.Ghosts D) (d : detect.ShownDetector (pool.ShownPool D)) (roots : RootPair D) (number : ℕ) (now : Choice) : Type 0 where
   pub stands : pairs.Stands g roots (root_of now.checkpoint) now.former
   pub is_number : number ≡ number_in (root_of now.checkpoint)
   pub slots : Leaves (HasSlots now) (g.state (pools.disk_of d.words))
@@ -185,7 +185,7 @@ pub record IsStarted {D : Type 0} (g : disk.Ghosts D) (d : detect.Shown (pool.Sh
   pub ready : IsReady g d
 
 -- A detector stands at the newest root of two files with these bytes, or at none, over a file of slots with these bytes. No other checkpoint is there.
-pub record IsRooted {D : Type 0} (g : disk.Ghosts D) (cap : ℕ) (one other slots : List ℕ) (d : detect.Shown (pool.Shown D)) (roots : RootPair D) (number : ℕ) : Type 0 where
+pub record IsRooted {D : Type 0} (g : disk.Ghosts D) (cap : ℕ) (one other slots : List ℕ) (d : detect.ShownDetector (pool.ShownPool D)) (roots : RootPair D) (number : ℕ) : Type 0 where
   pub now : Choice
   pub has_roots : HasRoots now one other
   pub has_slots : HasSlots now slots
@@ -205,13 +205,13 @@ abbrev pub after_create_fault : CreateFault → ℕ → ℕ
 after_create_fault NotEmpty n = n
 after_create_fault (Refused refusal) n = after_refusal refusal n
 
-abbrev pub tells_create : {D : Type 0} → Result (Shown D) (CreateFault × Devices D) → ℕ → ℕ
+abbrev pub tells_create : {D : Type 0} → Result (ShownStore D) (CreateFault × Devices D) → ℕ → ℕ
 tells_create (Ok store) n = n
 tells_create (Err refused) n = after_create_fault refused.0 n
 
 -- a detector with the two root files, or what is handed back
 abbrev pub RootedOr : Type 0 → Type 0
-RootedOr D = Result (detect.Shown (pool.Shown D) × RootPair D × ℕ) (Refusal × D × RootPair D)
+RootedOr D = Result (detect.ShownDetector (pool.ShownPool D) × RootPair D × ℕ) (Refusal × D × RootPair D)
 
 module _ {D : Type 0} where
   abbrev pub slots_of : RootedOr D → D
@@ -227,24 +227,24 @@ module _ {D : Type 0} where
   CountsRooted (Err e) old new = CountedBy e.0 old new
 
   -- the devices after a making, or a recovery, with this answer
-  abbrev pub made_of : {E : Type 0} → Result (Shown D) (E × Devices D) → Devices D
+  abbrev pub made_of : {E : Type 0} → Result (ShownStore D) (E × Devices D) → Devices D
   made_of (Ok s) = s.devices
   made_of (Err e) = e.1
 
-  abbrev pub CountsRecovered : Result (Shown D) (Refusal × Devices D) → ℕ → ℕ → Type 0
+  abbrev pub CountsRecovered : Result (ShownStore D) (Refusal × Devices D) → ℕ → ℕ → Type 0
   CountsRecovered (Ok s) old new = new ≡ old
   CountsRecovered (Err e) old new = CountedBy e.0 old new
 
 -- the parts that a store is made of, or that are handed back
 abbrev pub Caught : (D : Type 0) → disk.Ghosts D → Type 0
-Caught D g = Result (Shown D) (Refusal × Journal D g × detect.Shown (pool.Shown D) × RootPair D)
+Caught D g = Result (ShownStore D) (Refusal × Journal D g × detect.ShownDetector (pool.ShownPool D) × RootPair D)
 
 module _ {D : Type 0} {g : disk.Ghosts D} where
   abbrev pub journal_after : Caught D g → D
   journal_after (Ok s) = s.devices.journal
   journal_after (Err e) = journals.disk_of e.1
 
-  abbrev pub words_after : Caught D g → pool.Shown D
+  abbrev pub words_after : Caught D g → pool.ShownPool D
   words_after (Ok s) = s.detector.words
   words_after (Err e) = e.2.words
 
@@ -288,7 +288,7 @@ abbrev pub IsToldAs : (told refusal : Refusal) → Type 0
 IsToldAs told refusal = (failed_in told ≡ failed_in refusal) ⊎ ((told ≡ DeviceFault) × (failed_in refusal ≡ 0))
 
 -- The detector's pages are those of the checkpoint of this root.
-abbrev pub NamesPages : {D X : Type 0} → Option Parts → Result (detect.Shown (pool.Shown D)) X → Type 0
+abbrev pub NamesPages : {D X : Type 0} → Option Parts → Result (detect.ShownDetector (pool.ShownPool D)) X → Type 0
 NamesPages root result = (c : Option Checkpoint) → root_of c ≡ root → IfOk result (λ d. NamesOf d.words.root c)
 
 -- The image has no content.
@@ -296,7 +296,7 @@ abbrev pub HasNoContent : Image → Type 0
 HasNoContent image = (c : Content) → ¬ HasContent image c
 
 -- the devices of which a store is made
-abbrev pub joined : {D : Type 0} → D → pool.Shown D → D → D → Devices D
+abbrev pub joined : {D : Type 0} → D → pool.ShownPool D → D → D → Devices D
 joined journal words root0 root1 = record { journal = journal; slots = pools.disk_of words; root0 = root0; root1 = root1 }
 
 -- Making
@@ -315,31 +315,31 @@ module _ {D : Type 0} (g : disk.Ghosts D) where
       g.failures new_one + g.failures new_other ≡ counted result (g.failures one + g.failures other)
 
   -- The parts of a store have a basis, and its detector can go on.
-  abbrev pub MayBeMade : Journal D g → detect.Shown (pool.Shown D) → Checkpointer D g → Type 0
+  abbrev pub MayBeMade : Journal D g → detect.ShownDetector (pool.ShownPool D) → Checkpointer D g → Type 0
   MayBeMade journal d c = (basis : Basis) × IsBased g journal d c basis × IsReady g d
 
   -- The store that is made of parts with a basis is fresh, with the content of the detector.
-  abbrev pub IsFreshOf : Journal D g → detect.Shown (pool.Shown D) → Checkpointer D g → Shown D → Type 0
+  abbrev pub IsFreshOf : Journal D g → detect.ShownDetector (pool.ShownPool D) → Checkpointer D g → ShownStore D → Type 0
   IsFreshOf journal d c s = (basis : Basis) → IsBased g journal d c basis → IsFresh g s (detect.content (pools.live g) d)
 
   -- The devices read what those of a store of no events do, but for the slots, which are as they were.
-  abbrev pub ReadsEmpty : pool.Shown D → Shown D → Type 0
+  abbrev pub ReadsEmpty : pool.ShownPool D → ShownStore D → Type 0
   ReadsEmpty words s = read_of g s.devices ≡ record empty_image { slots = (g.state (pools.disk_of words)).contents }
 
-  abbrev pub CountsMaking : Devices D → Result (Shown D) (CreateFault × Devices D) → Type 0
+  abbrev pub CountsMaking : Devices D → Result (ShownStore D) (CreateFault × Devices D) → Type 0
   CountsMaking devices result = FailuresBecome g devices (made_of result) (tells_create result)
 
 -- Recovering
 module _ {D : Type 0} (g : disk.Ghosts D) where
   -- The store is fresh, with a content that the devices had.
-  abbrev pub IsRecovered : Devices D → Shown D → Type 0
+  abbrev pub IsRecovered : Devices D → ShownStore D → Type 0
   IsRecovered devices s = (c : Content) × HasContent (read_of g devices) c × IsFresh g s c
 
   -- The table of sets is what that of the newest root became.
-  abbrev pub HasItsTable : ℕ → Devices D → Shown D → Type 0
+  abbrev pub HasItsTable : ℕ → Devices D → ShownStore D → Type 0
   HasItsTable cap devices s = HasTable cap (read_of g devices) (detect.content (pools.live g) s.detector) s.detector.sets
 
-  abbrev pub CountsRecovery : Devices D → Result (Shown D) (Refusal × Devices D) → Type 0
+  abbrev pub CountsRecovery : Devices D → Result (ShownStore D) (Refusal × Devices D) → Type 0
   CountsRecovery devices result = CountsRecovered result (failures_of g devices) (failures_of g (made_of result))
 
   -- what a pair of roots leads to, where each has on it what it reads
@@ -407,49 +407,49 @@ module _ {D : Type 0} (g : disk.Ghosts D) where
   HasNoCheckpointOf root file = (c : Option Checkpoint) → root_of c ≡ root → ¬ IfSome c (HasPages (files.known g file))
 
   -- The detector starts at the checkpoint of this root whose pages the file has.
-  abbrev pub StartsAt : Option Parts → SlotFile D → Result (detect.Shown (pool.Shown D)) (Refusal × SlotFile D) → Type 0
+  abbrev pub StartsAt : Option Parts → SlotFile D → Result (detect.ShownDetector (pool.ShownPool D)) (Refusal × SlotFile D) → Type 0
   StartsAt root file result =
       (c : Option Checkpoint) → root_of c ≡ root → IfSome c (HasPages (files.known g file))
       → IfOk result (λ d. detect.content (pools.live g) d ≡ start_of c)
 
-  abbrev pub CountsInFile : SlotFile D → Result (detect.Shown (pool.Shown D)) (Refusal × SlotFile D) → Type 0
+  abbrev pub CountsInFile : SlotFile D → Result (detect.ShownDetector (pool.ShownPool D)) (Refusal × SlotFile D) → Type 0
   CountsInFile file result = g.failures (files.disk_of (file_in result)) ≡ failures_after result (g.failures (files.disk_of file))
 
   -- A map that has the words still has them.
-  abbrev pub StaysFaithful : (old new : detect.Shown (pool.Shown D)) → Type 0
+  abbrev pub StaysFaithful : (old new : detect.ShownDetector (pool.ShownPool D)) → Type 0
   StaysFaithful old new = AtPresent (IsFaithful g) old → AtPresent (IsFaithful g) new
 
   -- The rules accept the event after the content of the detector.
-  abbrev pub Accepts : detect.Shown (pool.Shown D) → Named → Type 0
+  abbrev pub Accepts : detect.ShownDetector (pool.ShownPool D) → Named → Type 0
   Accepts d n = IsAccepted (detect.content (pools.live g) d) n
 
   -- Over a map that has the words, the detector has the content behind one event more.
-  abbrev pub FollowsIfFaithful : (old new : detect.Shown (pool.Shown D)) → Named → Result (Unit {0}) Refusal → Type 0
+  abbrev pub FollowsIfFaithful : (old new : detect.ShownDetector (pool.ShownPool D)) → Named → Result (Unit {0}) Refusal → Type 0
   FollowsIfFaithful old new n result =
       AtPresent (IsFaithful g) old → OnOk result (detect.content (pools.live g) new ≡ after (detect.content (pools.live g) old) n)
 
   -- Over such a map, the table of sets has those of the event.
-  abbrev pub AsksIfFaithful : (old new : detect.Shown (pool.Shown D)) → Named → Result (Unit {0}) Refusal → Type 0
+  abbrev pub AsksIfFaithful : (old new : detect.ShownDetector (pool.ShownPool D)) → Named → Result (Unit {0}) Refusal → Type 0
   AsksIfFaithful old new n result =
       AtPresent (IsFaithful g) old → OnOk result (Asks old.sets (sets_asked (detect.content (pools.live g) old) n.event) None new.sets)
 
   -- Over such a map, a table is told as full only where the event asks for a set too many.
-  abbrev pub IsFullIfFaithful : (old new : detect.Shown (pool.Shown D)) → Named → Result (Unit {0}) Refusal → Type 0
+  abbrev pub IsFullIfFaithful : (old new : detect.ShownDetector (pool.ShownPool D)) → Named → Result (Unit {0}) Refusal → Type 0
   IsFullIfFaithful old new n result =
       AtPresent (IsFaithful g) old → result ≡ Err FullSets
       → IsAccepted (detect.content (pools.live g) old) n × Asks old.sets (sets_asked (detect.content (pools.live g) old) n.event) (Some Full) new.sets
 
-  abbrev pub CountsWords : (old new : detect.Shown (pool.Shown D)) → Result (Unit {0}) Refusal → Type 0
+  abbrev pub CountsWords : (old new : detect.ShownDetector (pool.ShownPool D)) → Result (Unit {0}) Refusal → Type 0
   CountsWords old new result = CountsFailures result (g.failures (pools.disk_of old.words)) (g.failures (pools.disk_of new.words))
 
 -- Following the events of a journal
 module _ {D : Type 0} {g : disk.Ghosts D} where
   -- Over an honest disk whose journal opens, and a map that has the words, P holds.
-  abbrev pub IfOpens : Journal D g → detect.Shown (pool.Shown D) → Type 0 → Type 0
+  abbrev pub IfOpens : Journal D g → detect.ShownDetector (pool.ShownPool D) → Type 0 → Type 0
   IfOpens journal d P = (bodies : List (List ℕ)) → IsTrue g.is_honest → journals.Opens journal bodies → AtPresent (IsFaithful g) d → P
 
   -- The same of a reader that has read some events, where P is said of these.
-  abbrev pub IfAt : Journal D g → JournalReader → detect.Shown (pool.Shown D) → (List Named → Type 0) → Type 0
+  abbrev pub IfAt : Journal D g → JournalReader → detect.ShownDetector (pool.ShownPool D) → (List Named → Type 0) → Type 0
   IfAt journal reader d P =
       (seen : List Named) → IsTrue g.is_honest → journals.IsAt journal reader seen → AtPresent (IsFaithful g) d → P seen
 
@@ -467,7 +467,7 @@ module _ {D : Type 0} {g : disk.Ghosts D} where
       (events : List Named) → IsJournal (g.state (journals.disk_of journal)).contents events → ¬ (count ≤ length events)
 
   -- Behind the events that were seen the journal has others, and the detector has followed these.
-  abbrev pub Follows : Journal D g → (old new : detect.Shown (pool.Shown D)) → Result (Unit {0}) Refusal → List Named → Type 0
+  abbrev pub Follows : Journal D g → (old new : detect.ShownDetector (pool.ShownPool D)) → Result (Unit {0}) Refusal → List Named → Type 0
   Follows journal old new result seen =
       OnOk result
       ((more : List Named) × journals.KeepsEvents journal (seen ++ more)
@@ -475,59 +475,59 @@ module _ {D : Type 0} {g : disk.Ghosts D} where
       × Fills more (detect.content (pools.live g) old) old.sets (detect.content (pools.live g) new) new.sets)
 
   -- The journal keeps events that lead from the content of the first detector to that of the second.
-  abbrev pub LeadsTo : Journal D g → (old new : detect.Shown (pool.Shown D)) → Type 0
+  abbrev pub LeadsTo : Journal D g → (old new : detect.ShownDetector (pool.ShownPool D)) → Type 0
   LeadsTo journal old new =
       (events : List Named) × journals.KeepsEvents journal events
       × LeadFrom (detect.content (pools.live g) old) events (detect.content (pools.live g) new)
 
   -- No events of the journal lead on from the content of the detector.
-  abbrev pub LeadsNowhere : Journal D g → detect.Shown (pool.Shown D) → Type 0
+  abbrev pub LeadsNowhere : Journal D g → detect.ShownDetector (pool.ShownPool D) → Type 0
   LeadsNowhere journal d =
       (events : List Named) (c : Content) → IsJournal (g.state (journals.disk_of journal)).contents events
       → ¬ LeadFrom (detect.content (pools.live g) d) events c
 
   -- The events of the journal took the first table of sets to the second.
-  abbrev pub FillsSets : Journal D g → (old new : detect.Shown (pool.Shown D)) → Type 0
+  abbrev pub FillsSets : Journal D g → (old new : detect.ShownDetector (pool.ShownPool D)) → Type 0
   FillsSets journal old new =
       HasSets (detect.content (pools.live g) old) old.sets (g.state (journals.disk_of journal)).contents (detect.content (pools.live g) new) new.sets
 
   -- The table of sets is too small for the events of the journal.
-  abbrev pub LacksSets : Journal D g → detect.Shown (pool.Shown D) → Type 0
+  abbrev pub LacksSets : Journal D g → detect.ShownDetector (pool.ShownPool D) → Type 0
   LacksSets journal d = IsTooSmall (detect.content (pools.live g) d) d.sets (g.state (journals.disk_of journal)).contents
 
   -- Damaged is told behind so many events only where none lead on, and FullSets only where the table is too small.
-  abbrev pub IsDamagedFrom : Journal D g → detect.Shown (pool.Shown D) → Result (Unit {0}) Refusal → List Named → Type 0
+  abbrev pub IsDamagedFrom : Journal D g → detect.ShownDetector (pool.ShownPool D) → Result (Unit {0}) Refusal → List Named → Type 0
   IsDamagedFrom journal d result seen = result ≡ Err Damaged → length seen ≡ (detect.content (pools.live g) d).events → LeadsNowhere journal d
 
-  abbrev pub IsFullFrom : Journal D g → detect.Shown (pool.Shown D) → Result (Unit {0}) Refusal → List Named → Type 0
+  abbrev pub IsFullFrom : Journal D g → detect.ShownDetector (pool.ShownPool D) → Result (Unit {0}) Refusal → List Named → Type 0
   IsFullFrom journal d result seen = result ≡ Err FullSets → length seen ≡ (detect.content (pools.live g) d).events → LacksSets journal d
 
   -- the failed calls of a journal's disk and of the file of slots
-  abbrev pub failures_in : Journal D g → detect.Shown (pool.Shown D) → ℕ
+  abbrev pub failures_in : Journal D g → detect.ShownDetector (pool.ShownPool D) → ℕ
   failures_in journal d = g.failures (journals.disk_of journal) + g.failures (pools.disk_of d.words)
 
-  abbrev pub CountsReplay : Journal D g → detect.Shown (pool.Shown D) → Journal D g → detect.Shown (pool.Shown D) → Result (Unit {0}) Refusal → Type 0
+  abbrev pub CountsReplay : Journal D g → detect.ShownDetector (pool.ShownPool D) → Journal D g → detect.ShownDetector (pool.ShownPool D) → Result (Unit {0}) Refusal → Type 0
   CountsReplay journal d new_journal new_d result = CountsFailures result (failures_in journal d) (failures_in new_journal new_d)
 
   -- The journal opens, and the detector stands at a checkpoint, or at none.
-  abbrev pub MayCatchUp : Journal D g → detect.Shown (pool.Shown D) → RootPair D → ℕ → Type 0
+  abbrev pub MayCatchUp : Journal D g → detect.ShownDetector (pool.ShownPool D) → RootPair D → ℕ → Type 0
   MayCatchUp journal d roots number = (bodies : List (List ℕ)) × (now : Choice) × journals.Opens journal bodies × IsStarted g d roots number now
 
   -- The store is fresh, with the content that the journal's events lead to from the checkpoint at which the detector stands.
-  abbrev pub CatchesUp : Journal D g → detect.Shown (pool.Shown D) → RootPair D → ℕ → Caught D g → Type 0
+  abbrev pub CatchesUp : Journal D g → detect.ShownDetector (pool.ShownPool D) → RootPair D → ℕ → Caught D g → Type 0
   CatchesUp journal d roots number result =
       (now : Choice) → IsTrue g.is_honest → IsStarted g d roots number now
       → IfOk result (λ s. (c : Content) × (events : List Named) × IsJournal (g.state (journals.disk_of journal)).contents events × Gives now.checkpoint events c × IsFresh g s c)
 
   -- A journal is told as damaged only where its events lead nowhere from that checkpoint.
-  abbrev pub CantCatchUp : Journal D g → detect.Shown (pool.Shown D) → RootPair D → ℕ → Caught D g → Type 0
+  abbrev pub CantCatchUp : Journal D g → detect.ShownDetector (pool.ShownPool D) → RootPair D → ℕ → Caught D g → Type 0
   CantCatchUp journal d roots number result =
       (now : Choice) → IsTrue g.is_honest → IsStarted g d roots number now
       → IfErr result (λ e. e.0 ≡ Damaged → (events : List Named) (c : Content) → IsJournal (g.state (journals.disk_of journal)).contents events → ¬ Gives now.checkpoint events c)
 
   -- FullSets is told only where the table of sets is too small for the events of the journal.
-  abbrev pub CantFill : Journal D g → detect.Shown (pool.Shown D) → Caught D g → Type 0
+  abbrev pub CantFill : Journal D g → detect.ShownDetector (pool.ShownPool D) → Caught D g → Type 0
   CantFill journal d result = IfErr result (λ e. e.0 ≡ FullSets → LacksSets journal d)
 
-  abbrev pub CountsCatching : Journal D g → detect.Shown (pool.Shown D) → Caught D g → Type 0
+  abbrev pub CountsCatching : Journal D g → detect.ShownDetector (pool.ShownPool D) → Caught D g → Type 0
   CountsCatching journal d result = CountsCaught result (failures_in journal d) (g.failures (journal_after result) + g.failures (pools.disk_of (words_after result)))

@@ -9,7 +9,7 @@ use Rattle.hg_contents.specs.Runs.{Run, StandsFor, accepted}
 use Rattle.hg_checkpointer.specs.declared.cause.Cause.TheVariants as cause
 use Rattle.hg_store.specs.Doing.{ContentDone, StepDone, Tells, fails_by, in_doubt_during}
 use Rattle.hg_store.specs.Images.{EachImage, failures_of}
-use Rattle.hg_store.specs.Shown.{Shown, live, saved}
+use Rattle.hg_store.specs.Shown.{ShownStore, live, saved}
 use Rattle.hg_store.specs.Steps.{OfferAnswers, if_accepted}
 use Rattle.hg_store.specs.Store.{Backs}
 use Rattle.hg_store.specs.declared.drive.StepAnswer.{StepAnswer}
@@ -33,7 +33,7 @@ run_after run _ _ = run
 
 -- of each step, the store as it began, and what it was answered
 abbrev pub Told : Type 0 → Type 0
-Told D = List (Shown D × StepResult)
+Told D = List (ShownStore D × StepResult)
 
 abbrev pub run_of : {D : Type 0} → Run → List Step → Told D → Run
 run_of run [] told = run
@@ -62,13 +62,13 @@ Lawful start run is_broken step.WriteRoot result = Tells told.Written result (If
 Lawful start run is_broken step.OpenRoot result = Tells told.Opened result (IfBroken is_broken)
 
 -- the store as the first of these steps began; where there is none, at the end
-abbrev pub begins : {D : Type 0} → Told D → Shown D → Shown D
+abbrev pub begins : {D : Type 0} → Told D → ShownStore D → ShownStore D
 begins [] end = end
 begins (a ∷ told) end = a.0
 
 -- Each step has one answer, leads from the store as it began to that as the next one did, or to the end, and a device failed in it
 -- just where it was answered so.
-abbrev pub LeadsOn : {D : Type 0} → disk.Ghosts D → List Step → Told D → Shown D → Type 0
+abbrev pub LeadsOn : {D : Type 0} → disk.Ghosts D → List Step → Told D → ShownStore D → Type 0
 LeadsOn g [] [] end = Unit {0}
 LeadsOn g (step ∷ steps) (a ∷ told) end =
     StepDone g a.0 (begins told end) step a.1 × (failures_of g (begins told end).devices ≡ fails_by a.1 (failures_of g a.0.devices)) × LeadsOn g steps told end
@@ -76,14 +76,14 @@ LeadsOn g [] (a ∷ told) end = ⊥
 LeadsOn g (step ∷ steps) [] end = ⊥
 
 -- A list of steps was run on the store, whatever its devices are.
-pub record StepsDone {D : Type 0} (g : disk.Ghosts D) (old new : Shown D) (steps : List Step) (told : Told D) : Type 0 where
+pub record StepsDone {D : Type 0} (g : disk.Ghosts D) (old new : ShownStore D) (steps : List Step) (told : Told D) : Type 0 where
   -- the first step began where the list did
   pub first : begins told new ≡ old
   pub each : LeadsOn g steps told new
 
 -- Each step is answered as it may be, leads from the store as it began to that as the next one did, or to the end, and each image
 -- meanwhile stands for the run so far.
-abbrev pub Covered : {D : Type 0} → disk.Ghosts D → Content → Run → List Step → Told D → Shown D → Type 0
+abbrev pub Covered : {D : Type 0} → disk.Ghosts D → Content → Run → List Step → Told D → ShownStore D → Type 0
 Covered g start run [] [] end = Unit {0}
 Covered g start run (step ∷ steps) (a ∷ told) end =
     Lawful start run a.0.is_broken step a.1 × StepDone g a.0 (begins told end) step a.1 × ContentDone g a.0 (begins told end) step a.1
@@ -92,7 +92,7 @@ Covered g start run [] (a ∷ told) end = ⊥
 Covered g start run (step ∷ steps) [] end = ⊥
 
 -- The run has the contents of the store.
-pub record IsAt {D : Type 0} (g : disk.Ghosts D) (start : Content) (run : Run) (s : Shown D) : Type 0 where
+pub record IsAt {D : Type 0} (g : disk.Ghosts D) (start : Content) (run : Run) (s : ShownStore D) : Type 0 where
   pub acknowledged : followed start run.acknowledged ≡ Some (saved g s)
   pub accepted_is : followed start (accepted run) ≡ Some (live g s)
   pub pending : run.pending ≡ s.pending
@@ -100,11 +100,11 @@ pub record IsAt {D : Type 0} (g : disk.Ghosts D) (start : Content) (run : Run) (
   pub backed : Backs g s
 
 -- the run before the first step
-abbrev pub before : {D : Type 0} → Shown D → Run
+abbrev pub before : {D : Type 0} → ShownStore D → Run
 before s = record { acknowledged = []; pending = s.pending; in_doubt = s.in_doubt }
 
 -- A list of steps was run on the store, from its durable content on.
-pub record DriveDone {D : Type 0} (g : disk.Ghosts D) (old new : Shown D) (steps : List Step) (told : Told D) : Type 0 where
+pub record DriveDone {D : Type 0} (g : disk.Ghosts D) (old new : ShownStore D) (steps : List Step) (told : Told D) : Type 0 where
   -- the store has the content of the run
   pub run : IsAt g (saved g old) (run_of (before old) steps told) new
   -- the first step began where the list did
@@ -117,9 +117,9 @@ told_of answers = map (λ a. (a.began.value, a.result)) answers
 
 module _ {D : Type 0} (g : disk.Ghosts D) where
   -- The steps, and then the last one, were answered so.
-  abbrev pub HasDriven : {Z : Type 0} → (old new : Shown D) → List Step → Step → Vec (StepAnswer D) Z → Type 0
+  abbrev pub HasDriven : {Z : Type 0} → (old new : ShownStore D) → List Step → Step → Vec (StepAnswer D) Z → Type 0
   HasDriven old new done last answers = DriveDone g old new (done ++ last ∷ []) (told_of answers.items)
 
   -- The same, whatever the devices are.
-  abbrev pub HasStepped : {Z : Type 0} → (old new : Shown D) → List Step → Step → Vec (StepAnswer D) Z → Type 0
+  abbrev pub HasStepped : {Z : Type 0} → (old new : ShownStore D) → List Step → Step → Vec (StepAnswer D) Z → Type 0
   HasStepped old new done last answers = StepsDone g old new (done ++ last ∷ []) (told_of answers.items)

@@ -25,11 +25,11 @@ pub record Progress : Type 0 where
 -- are not committed, `committed` is the detector as it was with the others alone, and `durable` is their count. `frozen` is the detector as it
 -- was at the last freeze. `is_broken`: a call of a device failed that was to change it. `in_doubt`: it was one
 -- of a commit.
-pub record Shown (D : Type 0) : Type 0 where
+pub record ShownStore (D : Type 0) : Type 0 where
   pub devices : Devices D
-  pub detector : detect.Shown (pool.Shown D)
-  pub committed : detect.Shown (pool.Shown D)
-  pub frozen : detect.Shown (pool.Shown D)
+  pub detector : detect.ShownDetector (pool.ShownPool D)
+  pub committed : detect.ShownDetector (pool.ShownPool D)
+  pub frozen : detect.ShownDetector (pool.ShownPool D)
   pub pending : List Named
   pub durable : ℕ
   pub progress : Progress
@@ -37,19 +37,19 @@ pub record Shown (D : Type 0) : Type 0 where
   pub in_doubt : Bool
 
 -- The content with all accepted events.
-abbrev pub live : {D : Type 0} → disk.Ghosts D → Shown D → Content
+abbrev pub live : {D : Type 0} → disk.Ghosts D → ShownStore D → Content
 live g s = detect.content (pools.live g) s.detector
 
 -- The durable content: that with the committed events.
-abbrev pub saved : {D : Type 0} → disk.Ghosts D → Shown D → Content
+abbrev pub saved : {D : Type 0} → disk.Ghosts D → ShownStore D → Content
 saved g s = detect.content (pools.live g) s.committed
 
 -- The content at the last freeze.
-abbrev pub captured : {D : Type 0} → disk.Ghosts D → Shown D → Content
+abbrev pub captured : {D : Type 0} → disk.Ghosts D → ShownStore D → Content
 captured g s = detect.content (pools.live g) s.frozen
 
 -- the pool, which has the words and the frozen words
-abbrev pub words : {D : Type 0} → Shown D → pool.Shown D
+abbrev pub words : {D : Type 0} → ShownStore D → pool.ShownPool D
 words s = s.detector.words
 
 -- the phase where no checkpoint is in progress
@@ -64,33 +64,33 @@ phase_by phase.Sealed pending = store.Sealed
 phase_by phase.Prepared pending = store.Prepared
 phase_by phase.Written pending = store.Written
 
-abbrev pub phase_of : {D : Type 0} → Shown D → StorePhase
+abbrev pub phase_of : {D : Type 0} → ShownStore D → StorePhase
 phase_of s = phase_by s.progress.phase s.pending
 
 -- The next checkpoint of the store is in this phase.
-abbrev pub IsIn : {D : Type 0} → Phase → Shown D → Type 0
+abbrev pub IsIn : {D : Type 0} → Phase → ShownStore D → Type 0
 IsIn phase s = s.progress.phase ≡ phase
 
 -- The pages of a checkpoint are written, and none waits.
-abbrev pub IsFlushed : {D : Type 0} → Shown D → Type 0
+abbrev pub IsFlushed : {D : Type 0} → ShownStore D → Type 0
 IsFlushed s = (s.progress.phase ≡ phase.Flushing) × ((words s).waiting ≡ [])
 
 -- The next checkpoint has the number behind that of the newest one, which stays.
-abbrev pub HasNextNumber : {D : Type 0} → (old new : Shown D) → Type 0
+abbrev pub HasNextNumber : {D : Type 0} → (old new : ShownStore D) → Type 0
 HasNextNumber old new = (new.progress.number ≡ old.progress.number) × (new.progress.next ≡ old.progress.number + 1)
 
 -- The journal alone has moved on.
-abbrev pub IsSameButJournal : {D : Type 0} → (old new : Shown D) → Type 0
+abbrev pub IsSameButJournal : {D : Type 0} → (old new : ShownStore D) → Type 0
 IsSameButJournal old new = new ≡ record old { devices = record old.devices { journal = new.devices.journal } }
 
 -- a store that is broken answers so, and any other one this value
-abbrev pub unless_broken : {D T : Type 0} → Shown D → T → Result T Refusal
+abbrev pub unless_broken : {D T : Type 0} → ShownStore D → T → Result T Refusal
 unless_broken s value = cond s.is_broken (Err refusal.Broken) (Ok value)
 
 -- what a call is refused with that only memory could keep from a store that works
-abbrev pub broken_or_no_memory : {D : Type 0} → Shown D → Refusal
+abbrev pub broken_or_no_memory : {D : Type 0} → ShownStore D → Refusal
 broken_or_no_memory s = cond s.is_broken refusal.Broken refusal.OutOfMemory
 
 -- All accepted events are the durable ones and the pending ones.
-abbrev pub HasCounted : {D : Type 0} → disk.Ghosts D → Shown D → Type 0
+abbrev pub HasCounted : {D : Type 0} → disk.Ghosts D → ShownStore D → Type 0
 HasCounted g s = (live g s).events ≡ s.durable + length s.pending

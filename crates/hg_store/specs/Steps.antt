@@ -17,7 +17,7 @@ use Rattle.hg_pool.specs.OfWords.{MayRefuse}
 use Rattle.hg_checkpointer.specs.declared.cause.Cause.TheVariants as cause
 use Rattle.hg_checkpointer.specs.declared.phase.Phase.{Phase}
 use Rattle.hg_store.specs.Answers.{IfRefused, IfWrongPhase, IsAllowed}
-use Rattle.hg_store.specs.Shown.{Shown, live}
+use Rattle.hg_store.specs.Shown.{ShownStore, live}
 use Rattle.hg_store.specs.declared.steps.StepFault.{StepFault}
 
 -- what an event that the rules accept may be refused with: no room for its sets, or what its pages are refused with
@@ -41,13 +41,13 @@ if_accepted n (Ok (Duplicate last)) = []
 if_accepted n (Err refusal) = []
 
 -- The store takes the event up: it works, the rules accept it, and there is room for one more that waits.
-pub record IsTaken {D : Type 0} (g : disk.Ghosts D) (s : Shown D) (n : Named) : Type 0 where
+pub record IsTaken {D : Type 0} (g : disk.Ghosts D) (s : ShownStore D) (n : Named) : Type 0 where
   pub works : s.is_broken ≡ false
   pub accepted : verdict (standing_of (live g s)) n ≡ Accept
   pub room : length s.pending < 1024
 
 -- Nothing but the slots and what is in memory of them has changed, and whether the store is broken.
-pub record SameBut {D : Type 0} (old new : Shown D) : Type 0 where
+pub record SameBut {D : Type 0} (old new : ShownStore D) : Type 0 where
   pub journal : new.devices.journal ≡ old.devices.journal
   pub root0 : new.devices.root0 ≡ old.devices.root0
   pub root1 : new.devices.root1 ≡ old.devices.root1
@@ -58,7 +58,7 @@ pub record SameBut {D : Type 0} (old new : Shown D) : Type 0 where
   pub in_doubt : new.in_doubt ≡ old.in_doubt
 
 -- An accepted event joins the pending ones. A store that does not take the event up stays as it is, and only a failed call breaks it.
-pub record OfferDone {D : Type 0} (g : disk.Ghosts D) (old new : Shown D) (n : Named) (result : Result Answer Refusal) : Type 0 where
+pub record OfferDone {D : Type 0} (g : disk.Ghosts D) (old new : ShownStore D) (n : Named) (result : Result Answer Refusal) : Type 0 where
   pub answer : OfferAnswers (live g old) old.is_broken (length old.pending) n result
   pub pending : new.pending ≡ old.pending ++ if_accepted n result
   pub same : SameBut old new
@@ -67,12 +67,12 @@ pub record OfferDone {D : Type 0} (g : disk.Ghosts D) (old new : Shown D) (n : N
   pub breaks : (result ≡ Err refusal.DeviceFault → ⊥) → new.is_broken ≡ old.is_broken
 
 -- Over honest devices: an accepted event joins the live content, which else stays, and the sets that it asks for join the table.
-pub record ContentOffered {D : Type 0} (g : disk.Ghosts D) (old new : Shown D) (n : Named) (result : Result Answer Refusal) : Type 0 where
+pub record ContentOffered {D : Type 0} (g : disk.Ghosts D) (old new : ShownStore D) (n : Named) (result : Result Answer Refusal) : Type 0 where
   pub leads : followed (live g old) (if_accepted n result) ≡ Some (live g new)
   pub sets : IsTaken g old n → AsksBy old.detector.sets (sets_asked (live g old) n.event) (done result) new.detector.sets
 
 -- After an Ok nothing is pending, and the count is that of all accepted events; after a failure the store is broken.
-pub record IsCommitted {D : Type 0} (g : disk.Ghosts D) (old new : Shown D) (count : ℕ) : Type 0 where
+pub record IsCommitted {D : Type 0} (g : disk.Ghosts D) (old new : ShownStore D) (count : ℕ) : Type 0 where
   pub worked : old.is_broken ≡ false
   pub answer : count ≡ (live g old).events
   pub durable : new.durable ≡ count
@@ -81,7 +81,7 @@ pub record IsCommitted {D : Type 0} (g : disk.Ghosts D) (old new : Shown D) (cou
   pub works : new.is_broken ≡ false
   pub certain : new.in_doubt ≡ old.in_doubt
 
-pub record IsNotCommitted {D : Type 0} (old new : Shown D) (r : Refusal) : Type 0 where
+pub record IsNotCommitted {D : Type 0} (old new : ShownStore D) (r : Refusal) : Type 0 where
   pub answer : r ≡ cond old.is_broken refusal.Broken refusal.DeviceFault
   pub durable : new.durable ≡ old.durable
   pub committed : new.committed ≡ old.committed
@@ -89,12 +89,12 @@ pub record IsNotCommitted {D : Type 0} (old new : Shown D) (r : Refusal) : Type 
   pub broken : new.is_broken ≡ true
   pub doubt : new.in_doubt ≡ cond old.is_broken old.in_doubt true
 
-abbrev pub ByCommit : {D : Type 0} → disk.Ghosts D → (old new : Shown D) → Result ℕ Refusal → Type 0
+abbrev pub ByCommit : {D : Type 0} → disk.Ghosts D → (old new : ShownStore D) → Result ℕ Refusal → Type 0
 ByCommit g old new (Ok count) = IsCommitted g old new count
 ByCommit g old new (Err refusal) = IsNotCommitted old new refusal
 
 -- A commit changes the journal alone, and with nothing pending no device.
-pub record CommitDone {D : Type 0} (g : disk.Ghosts D) (old new : Shown D) (result : Result ℕ Refusal) : Type 0 where
+pub record CommitDone {D : Type 0} (g : disk.Ghosts D) (old new : ShownStore D) (result : Result ℕ Refusal) : Type 0 where
   pub answer : ByCommit g old new result
   pub detector : new.detector ≡ old.detector
   pub frozen : new.frozen ≡ old.frozen
@@ -107,7 +107,7 @@ pub record CommitDone {D : Type 0} (g : disk.Ghosts D) (old new : Shown D) (resu
 
 -- What each step of a checkpoint does, that is lawful only so and leads to this phase. It leaves the events, and the journal; a refusal leaves
 -- all of the store as it is, or breaks it.
-pub record CheckpointDone {D T : Type 0} (old new : Shown D) (Lawful : Type 0) (to : Phase) (result : Result T StepFault) : Type 0 where
+pub record CheckpointDone {D T : Type 0} (old new : ShownStore D) (Lawful : Type 0) (to : Phase) (result : Result T StepFault) : Type 0 where
   pub allowed : IsAllowed old Lawful result
   pub phase : OnOk result (new.progress.phase ≡ to)
   pub works : OnOk result (new.is_broken ≡ false)

@@ -10,45 +10,45 @@ use Rattle.hg_journal.specs.Journal.{IsJournal}
 use Rattle.hg_contents.specs.Choices.{Stands}
 use Rattle.hg_contents.specs.Stores as stores
 use Rattle.hg_store.specs.Images.{EachImage, HasOpened, states_of}
-use Rattle.hg_store.specs.Shown.{Shown, captured, live, saved}
+use Rattle.hg_store.specs.Shown.{ShownStore, captured, live, saved}
 
 -- A store that works, with nothing pending and no checkpoint in progress.
-pub record IsIdle {D : Type 0} (s : Shown D) : Type 0 where
+pub record IsIdle {D : Type 0} (s : ShownStore D) : Type 0 where
   pub pending : s.pending ≡ []
   pub phase : s.progress.phase ≡ Idle
   pub works : s.is_broken ≡ false
   pub certain : s.in_doubt ≡ false
 
 module _ {D : Type 0} (g : disk.Ghosts D) where
-  abbrev pub view_of : Shown D → stores.View
+  abbrev pub view_of : ShownStore D → stores.View
   view_of s = record { devices = states_of g s.devices; live = live g s; pending = s.pending; durable = s.durable; in_doubt = s.in_doubt }
 
   -- The pending events lead from the durable content to the live one, and each image of the devices has the durable content. Where a commit
   -- failed, an image may have the live content instead.
-  abbrev pub Backs : Shown D → Type 0
+  abbrev pub Backs : ShownStore D → Type 0
   Backs s = stores.Backs (view_of s) (saved g s)
 
   -- A store that works, with nothing pending and no checkpoint in progress, of this content.
-  pub record IsFresh (s : Shown D) (c : Content) : Type 0 where
+  pub record IsFresh (s : ShownStore D) (c : Content) : Type 0 where
     pub has : live g s ≡ c
     pub durable : saved g s ≡ c
     pub idle : IsIdle s
     pub backs : Backs s
 
   -- Each image meanwhile stands for the durable content of before; where there is a doubt, it may be for the live one.
-  abbrev pub StandMeanwhile : (old new : Shown D) → Bool → Type 0
+  abbrev pub StandMeanwhile : (old new : ShownStore D) → Bool → Type 0
   StandMeanwhile old new in_doubt = EachImage g old.devices new.devices (Stands (saved g old) (live g old) in_doubt)
 
   -- The journal was called so often at most.
-  abbrev pub JournalCallsAtMost : ℕ → (old new : Shown D) → Type 0
+  abbrev pub JournalCallsAtMost : ℕ → (old new : ShownStore D) → Type 0
   JournalCallsAtMost most old new = CallsAtMost g most old.devices.journal new.devices.journal
 
   -- The root of this number is the newest one, with the content at the freeze.
-  abbrev pub HasOpenedFrozen : (old new : Shown D) → ℕ → Type 0
+  abbrev pub HasOpenedFrozen : (old new : ShownStore D) → ℕ → Type 0
   HasOpenedFrozen old new n = HasOpened g new.devices n (captured g old)
 
   -- What was found are the journal's events from the one numbered `from` on, at most so many.
-  abbrev pub HasFoundEvents : {Z : Type 0} → Shown D → (from most : ℕ) → Result (Vec Named Z) Refusal → Type 0
+  abbrev pub HasFoundEvents : {Z : Type 0} → ShownStore D → (from most : ℕ) → Result (Vec Named Z) Refusal → Type 0
   HasFoundEvents s from most result =
       (events : List Named) → IsTrue g.is_honest → IsJournal (g.state s.devices.journal).contents events
       → IfOk result (λ found. found.items ≡ take most (drop (from - 1) events))

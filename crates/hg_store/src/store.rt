@@ -65,9 +65,9 @@ impl<D: Disk + Drop> Drop for Store<D> {
 impl<D: Disk> Model for Store<D> {
     ghost use Rattle.std.specs.Prelude.{vec_capacity};
     ghost use Rattle.hg_store.specs.Kept.{IsSound, shown_of};
-    ghost use Rattle.hg_store.specs.Shown.{Shown};
+    ghost use Rattle.hg_store.specs.Shown.{ShownStore};
 
-    ghost Value = { Shown D };
+    ghost Value = { ShownStore D };
 
     ghost view = { λ s. shown_of ⟦<D as Disk>⟧ (record { journal = s.journal; detector = s.detector; checkpointer = s.checkpointer; committed = s.committed.value; frozen = s.frozen.value; pending = s.pending.items; durable = s.durable; is_broken = s.is_broken; in_doubt = s.in_doubt }) };
 

@@ -3,7 +3,7 @@ use Rattle.std.proofs.Common.{◌≡◌, ℕ, ◌+◌, Bool, true, false, not, L
 use Rattle.std.proofs.lemmas.Bool.{cases_Bool}
 use Rattle.std.specs.List.{enumerate_from}
 use Rattle.hg_wire.specs.declared.reader.Reading.{Reading}
-use Rattle.hg_wire.specs.Streams.{Pending, GivesReading, GivesNoReading, between_lines, is_skipped, lines_when, numbered_on, reading_of, readings_in, readings_when}
+use Rattle.hg_wire.specs.Streams.{LinesRead, GivesReading, GivesNoReading, between_lines, is_skipped, lines_when, numbered_on, reading_of, readings_in, readings_when}
 use Rattle.hg_wire.proofs.ReaderLemmas.{read_from, read_more, skip_more}
 
 cons_both : {a b : Reading} {xs ys : List Reading} → a ≡ b → xs ≡ ys → a ∷ xs ≡ b ∷ ys
@@ -33,7 +33,7 @@ read_from_start over k rest =
     ap (λ (m : ℕ). readings_when over m rest) none ∙ read_on over k 0 rest
 
 -- a reading that a reader gave between lines, so many lines further on
-pub gives_on : (k : ℕ) (old new : Pending) (piece : List ℕ) (reading : Reading) (used : ℕ) → old.begun ≡ [] → GivesReading old new piece reading used
+pub gives_on : (k : ℕ) (old new : LinesRead) (piece : List ℕ) (reading : Reading) (used : ℕ) → old.begun ≡ [] → GivesReading old new piece reading used
     → GivesReading (between_lines (k + old.lines)) (between_lines (k + new.lines)) piece (numbered_on k reading) used
 gives_on k old new piece reading used between h = record {
   some = h.some;
@@ -54,7 +54,7 @@ gives_on k old new piece reading used between h = record {
         read_on over k old.lines (piece ++ more) ∙ (ap (map (numbered_on k)) from ∙ ap (λ rs. numbered_on k reading ∷ rs) (sym (read_on over k new.lines (drop used piece ++ more))))
 
 -- a piece in which nothing more was read, between lines
-pub gives_none_on : (k : ℕ) (old new : Pending) (piece : List ℕ) → old.begun ≡ [] → new.begun ≡ [] → GivesNoReading old new piece
+pub gives_none_on : (k : ℕ) (old new : LinesRead) (piece : List ℕ) → old.begun ≡ [] → new.begun ≡ [] → GivesNoReading old new piece
     → GivesNoReading (between_lines (k + old.lines)) (between_lines (k + new.lines)) piece
 gives_none_on k old new piece between after h = record {
   counted = omega (arith, h.counted);

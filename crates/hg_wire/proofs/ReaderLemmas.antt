@@ -12,7 +12,7 @@ use Rattle.hg_wire.specs.Words.{NoByte}
 use Rattle.hg_wire.specs.Verbs.{row_of}
 use Rattle.hg_wire.specs.Lines.{AreOperands, IsLine, line_of}
 use Rattle.hg_wire.specs.InFront.{HasEventLine, EndsLineBefore}
-use Rattle.hg_wire.specs.Streams.{lines_when, is_skipped, reading_of, readings_in, readings_when, lines_from, Pending, Splitting, EndsLine, EndsNoLine, GivesReading, GivesNoReading}
+use Rattle.hg_wire.specs.Streams.{lines_when, is_skipped, reading_of, readings_in, readings_when, lines_from, LinesRead, Splitting, EndsLine, EndsNoLine, GivesReading, GivesNoReading}
 use Rattle.hg_wire.proofs.NumberLemmas.{number_no_byte}
 use Rattle.hg_wire.proofs.WordLemmas.{led_by}
 use Rattle.hg_wire.proofs.VerbLemmas.{each_is_verb, no_low_byte}
@@ -65,28 +65,28 @@ readings_shown n (line ∷ lines) =
     ]
 
 -- what is read of the rest of a stream, which is over or may go on
-abbrev pub read_from : Bool → Pending → List ℕ → List Reading
-read_from over pending rest = readings_when over pending.lines (pending.begun ++ rest)
+abbrev pub read_from : Bool → LinesRead → List ℕ → List Reading
+read_from over so_far rest = readings_when over so_far.lines (so_far.begun ++ rest)
 
-pub from_lines : (over : Bool) (pending : Pending) (rest : List ℕ) → read_from over pending rest ≡ readings_in (lines_from over pending rest)
-from_lines over pending rest = sym (readings_shown (pending.lines + 1) (lines_when over (pending.begun ++ rest)))
+pub from_lines : (over : Bool) (so_far : LinesRead) (rest : List ℕ) → read_from over so_far rest ≡ readings_in (lines_from over so_far rest)
+from_lines over so_far rest = sym (readings_shown (so_far.lines + 1) (lines_when over (so_far.begun ++ rest)))
 
 -- ---- a line that a splitter ended
 
 pub line_read : (over : Bool) (old new : Splitting) (piece : List ℕ) (used : ℕ) → EndsLine old new piece used → not (is_skipped new.last) ≡ true → (more : List ℕ)
-    → read_from over old.pending (piece ++ more) ≡ reading_of (new.pending.lines, new.last) ∷ read_from over new.pending (drop used piece ++ more)
+    → read_from over old.so_far (piece ++ more) ≡ reading_of (new.so_far.lines, new.last) ∷ read_from over new.so_far (drop used piece ++ more)
 line_read over old new piece used h read more =
-    from_lines over old.pending (piece ++ more) ∙ (ap readings_in (h.line over more) ∙ (read_more new.pending.lines new.last (lines_from over new.pending (drop used piece ++ more)) read
-    ∙ ap (λ rs. reading_of (new.pending.lines, new.last) ∷ rs) (sym (from_lines over new.pending (drop used piece ++ more)))))
+    from_lines over old.so_far (piece ++ more) ∙ (ap readings_in (h.line over more) ∙ (read_more new.so_far.lines new.last (lines_from over new.so_far (drop used piece ++ more)) read
+    ∙ ap (λ rs. reading_of (new.so_far.lines, new.last) ∷ rs) (sym (from_lines over new.so_far (drop used piece ++ more)))))
 
 pub line_skipped : (over : Bool) (old new : Splitting) (piece : List ℕ) (used : ℕ) → EndsLine old new piece used → not (is_skipped new.last) ≡ false → (more : List ℕ)
-    → read_from over old.pending (piece ++ more) ≡ read_from over new.pending (drop used piece ++ more)
+    → read_from over old.so_far (piece ++ more) ≡ read_from over new.so_far (drop used piece ++ more)
 line_skipped over old new piece used h skipped more =
-    from_lines over old.pending (piece ++ more) ∙ (ap readings_in (h.line over more) ∙ (skip_more new.pending.lines new.last (lines_from over new.pending (drop used piece ++ more)) skipped
-    ∙ sym (from_lines over new.pending (drop used piece ++ more))))
+    from_lines over old.so_far (piece ++ more) ∙ (ap readings_in (h.line over more) ∙ (skip_more new.so_far.lines new.last (lines_from over new.so_far (drop used piece ++ more)) skipped
+    ∙ sym (from_lines over new.so_far (drop used piece ++ more))))
 
-pub no_line_read : (over : Bool) (old new : Splitting) (piece : List ℕ) → EndsNoLine old new piece → (more : List ℕ) → read_from over old.pending (piece ++ more) ≡ read_from over new.pending more
-no_line_read over old new piece h more = from_lines over old.pending (piece ++ more) ∙ (ap readings_in (h.lines over more) ∙ sym (from_lines over new.pending more))
+pub no_line_read : (over : Bool) (old new : Splitting) (piece : List ℕ) → EndsNoLine old new piece → (more : List ℕ) → read_from over old.so_far (piece ++ more) ≡ read_from over new.so_far more
+no_line_read over old new piece h more = from_lines over old.so_far (piece ++ more) ∙ (ap readings_in (h.lines over more) ∙ sym (from_lines over new.so_far more))
 
 -- ---- an event line at the front of a piece
 
@@ -167,31 +167,31 @@ event_line_read over n piece event used h more =
 -- ---- lines that are taken one after another
 
 -- the piece is taken up to the rest, and nothing in it was read
-pub record IsTakenTo (old now : Pending) (piece rest : List ℕ) : Type 0 where
+pub record IsTakenTo (old now : LinesRead) (piece rest : List ℕ) : Type 0 where
   pub shorter : length rest ≤ length piece
   pub left : drop (length piece - length rest) piece ≡ rest
   pub counted : now.lines + length rest ≤ old.lines + length piece
   pub rising : old.lines ≤ now.lines
   pub readings : (over : Bool) (more : List ℕ) → read_from over old (piece ++ more) ≡ read_from over now (rest ++ more)
 
-line_gives : (over : Bool) (old new : Splitting) (piece : List ℕ) (used : ℕ) (rs : List Reading) → EndsLine old new piece used → rs ≡ readings_in ((new.pending.lines, new.last) ∷ []) → (more : List ℕ)
-    → read_from over old.pending (piece ++ more) ≡ rs ++ read_from over new.pending (drop used piece ++ more)
+line_gives : (over : Bool) (old new : Splitting) (piece : List ℕ) (used : ℕ) (rs : List Reading) → EndsLine old new piece used → rs ≡ readings_in ((new.so_far.lines, new.last) ∷ []) → (more : List ℕ)
+    → read_from over old.so_far (piece ++ more) ≡ rs ++ read_from over new.so_far (drop used piece ++ more)
 line_gives over old new piece used rs h is more =
-    let after = read_from over new.pending (drop used piece ++ more) in
+    let after = read_from over new.so_far (drop used piece ++ more) in
     elim (cases_Bool (not (is_skipped new.last))) [
-      | inl read ↦ (let one : rs ≡ reading_of (new.pending.lines, new.last) ∷ [] = is ∙ read_more new.pending.lines new.last [] read in
+      | inl read ↦ (let one : rs ≡ reading_of (new.so_far.lines, new.last) ∷ [] = is ∙ read_more new.so_far.lines new.last [] read in
           line_read over old new piece used h read more ∙ ap (λ r. r ++ after) (sym one))
-      | inr skipped ↦ (let none : rs ≡ [] = is ∙ skip_more new.pending.lines new.last [] skipped in
+      | inr skipped ↦ (let none : rs ≡ [] = is ∙ skip_more new.so_far.lines new.last [] skipped in
           line_skipped over old new piece used h skipped more ∙ ap (λ r. r ++ after) (sym none))
     ]
 
 -- one line more of the piece
-taken_on : (old : Pending) (now new : Splitting) (piece rest : List ℕ) (used : ℕ) (rs : List Reading) → IsTakenTo old now.pending piece rest → EndsLine now new rest used
-    → rs ≡ readings_in ((new.pending.lines, new.last) ∷ [])
+taken_on : (old : LinesRead) (now new : Splitting) (piece rest : List ℕ) (used : ℕ) (rs : List Reading) → IsTakenTo old now.so_far piece rest → EndsLine now new rest used
+    → rs ≡ readings_in ((new.so_far.lines, new.last) ∷ [])
     → (length (drop used rest) < length rest) × (drop (length piece - length (drop used rest)) piece ≡ drop used rest)
-    × (new.pending.lines + length (drop used rest) ≤ old.lines + length piece)
-    × (old.lines < new.pending.lines)
-    × ((over : Bool) (more : List ℕ) → read_from over old (piece ++ more) ≡ rs ++ read_from over new.pending (drop used rest ++ more))
+    × (new.so_far.lines + length (drop used rest) ≤ old.lines + length piece)
+    × (old.lines < new.so_far.lines)
+    × ((over : Bool) (more : List ℕ) → read_from over old (piece ++ more) ≡ rs ++ read_from over new.so_far (drop used rest ++ more))
 taken_on old now new piece rest used rs t h is =
     let count : length (drop used rest) ≡ length rest - used = length-drop used rest in
     let place : length piece - length (drop used rest) ≡ length piece - length rest + used = omega (arith, t.shorter, h.some, h.within) in (
@@ -202,11 +202,11 @@ taken_on old now new piece rest used rs t h is =
       λ over more. t.readings over more ∙ line_gives over now new rest used rs h is more,
     )
 
-pub taken_skips : (old : Pending) (now new : Splitting) (piece rest : List ℕ) (used : ℕ) → IsTakenTo old now.pending piece rest → EndsLine now new rest used
-    → [] ≡ readings_in ((new.pending.lines, new.last) ∷ []) → IsTakenTo old new.pending piece (between used (length rest) rest)
+pub taken_skips : (old : LinesRead) (now new : Splitting) (piece rest : List ℕ) (used : ℕ) → IsTakenTo old now.so_far piece rest → EndsLine now new rest used
+    → [] ≡ readings_in ((new.so_far.lines, new.last) ∷ []) → IsTakenTo old new.so_far piece (between used (length rest) rest)
 taken_skips old now new piece rest used t h none =
     let on = taken_on old now new piece rest used [] t h none in
-    let P : List ℕ → Type 0 = IsTakenTo old new.pending piece in
+    let P : List ℕ → Type 0 = IsTakenTo old new.so_far piece in
     subst P (sym (between_to_end rest used (length rest) (omega arith)))
     (record { shorter = omega (arith, on.0, t.shorter); left = on.1; counted = on.2; rising = omega (arith, on.3); readings = on.4 })
 
@@ -219,12 +219,12 @@ number_of_one n line reading one =
       | inr skipped ↦ absurd (let none : reading ∷ [] ≡ [] = one ∙ skip_more n line [] skipped in cc)
     ]
 
-pub taken_gives : (old : Pending) (now new : Splitting) (piece rest : List ℕ) (used : ℕ) (reading : Reading) → IsTakenTo old now.pending piece rest → EndsLine now new rest used
-    → reading ∷ [] ≡ readings_in ((new.pending.lines, new.last) ∷ [])
-    → GivesReading old new.pending piece reading (length piece - length (between used (length rest) rest))
+pub taken_gives : (old : LinesRead) (now new : Splitting) (piece rest : List ℕ) (used : ℕ) (reading : Reading) → IsTakenTo old now.so_far piece rest → EndsLine now new rest used
+    → reading ∷ [] ≡ readings_in ((new.so_far.lines, new.last) ∷ [])
+    → GivesReading old new.so_far piece reading (length piece - length (between used (length rest) rest))
 taken_gives old now new piece rest used reading t h one =
     let on = taken_on old now new piece rest used (reading ∷ []) t h one in
-    let P : List ℕ → Type 0 = λ left. GivesReading old new.pending piece reading (length piece - length left) in
+    let P : List ℕ → Type 0 = λ left. GivesReading old new.so_far piece reading (length piece - length left) in
     subst P (sym (between_to_end rest used (length rest) (omega arith)))
     (
     record {
@@ -232,32 +232,32 @@ taken_gives old now new piece rest used reading t h one =
       within = omega arith;
       counted = omega (arith, on.2, on.0, t.shorter);
       rising = on.3;
-      numbered = number_of_one new.pending.lines new.last reading one;
+      numbered = number_of_one new.so_far.lines new.last reading one;
       between = h.begun;
-      readings = λ more. on.4 true more ∙ ap (λ left. reading ∷ read_from true new.pending (left ++ more)) (sym on.1);
-      ended = λ more. on.4 false more ∙ ap (λ left. reading ∷ read_from false new.pending (left ++ more)) (sym on.1);
+      readings = λ more. on.4 true more ∙ ap (λ left. reading ∷ read_from true new.so_far (left ++ more)) (sym on.1);
+      ended = λ more. on.4 false more ∙ ap (λ left. reading ∷ read_from false new.so_far (left ++ more)) (sym on.1);
     }
     )
 
-pub taken_all : (old : Pending) (now new : Splitting) (piece rest : List ℕ) → IsTakenTo old now.pending piece rest → EndsNoLine now new rest → GivesNoReading old new.pending piece
+pub taken_all : (old : LinesRead) (now new : Splitting) (piece rest : List ℕ) → IsTakenTo old now.so_far piece rest → EndsNoLine now new rest → GivesNoReading old new.so_far piece
 taken_all old now new piece rest t h =
     record {
       counted = omega (arith, t.counted, h.counted);
       readings = λ more. t.readings true more ∙ no_line_read true now new rest h more;
       ended = λ more. t.readings false more ∙ no_line_read false now new rest h more;
-      none_left = from_lines false new.pending [] ∙ ap readings_in h.none_left;
+      none_left = from_lines false new.so_far [] ∙ ap readings_in h.none_left;
     }
 
 -- an event line in front of a piece, between lines
-pub event_gives : (pending : Pending) (piece : List ℕ) (event : Event) (used : ℕ) → pending.begun ≡ [] → HasEventLine piece event used
-    → GivesReading pending (record { lines = pending.lines + 1; begun = pending.begun }) piece (record { line = pending.lines + 1; event = Ok event }) used
-event_gives pending piece event used between_lines h =
+pub event_gives : (so_far : LinesRead) (piece : List ℕ) (event : Event) (used : ℕ) → so_far.begun ≡ [] → HasEventLine piece event used
+    → GivesReading so_far (record { lines = so_far.lines + 1; begun = so_far.begun }) piece (record { line = so_far.lines + 1; event = Ok event }) used
+event_gives so_far piece event used between_lines h =
     let left = event_line_rest piece event used h in
     record { some = left.1; within = left.2; counted = omega (arith, left.1); rising = omega arith; numbered = refl; between = between_lines; readings = gives true; ended = gives false }
   where
     gives : (over : Bool) (more : List ℕ)
-        → read_from over pending (piece ++ more)
-        ≡ record { line = pending.lines + 1; event = Ok event } ∷ read_from over (record { lines = pending.lines + 1; begun = pending.begun }) (drop used piece ++ more)
+        → read_from over so_far (piece ++ more)
+        ≡ record { line = so_far.lines + 1; event = Ok event } ∷ read_from over (record { lines = so_far.lines + 1; begun = so_far.begun }) (drop used piece ++ more)
     gives over more =
-        ap (λ b. readings_when over pending.lines (b ++ (piece ++ more))) between_lines ∙ (event_line_read over pending.lines piece event used h more
-        ∙ ap (λ b. record { line = pending.lines + 1; event = Ok event } ∷ readings_when over (pending.lines + 1) (b ++ (drop used piece ++ more))) (sym between_lines))
+        ap (λ b. readings_when over so_far.lines (b ++ (piece ++ more))) between_lines ∙ (event_line_read over so_far.lines piece event used h more
+        ∙ ap (λ b. record { line = so_far.lines + 1; event = Ok event } ∷ readings_when over (so_far.lines + 1) (b ++ (drop used piece ++ more))) (sym between_lines))

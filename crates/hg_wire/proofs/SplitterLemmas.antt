@@ -6,7 +6,7 @@ use Rattle.hg_wire.specs.Streams.{Splitting, held, EndsLine, EndsNoLine, EndsLas
 use Rattle.hg_wire.proofs.StreamLemmas.{shown, IsParted, piece_held, line_taken, last_line_taken, no_byte_append, no_byte_held, no_line_shown}
 
 abbrev pub splitting : ℕ → List ℕ → List ℕ → Splitting
-splitting n begun last = record { pending = record { lines = n; begun = begun }; last = last }
+splitting n begun last = record { so_far = record { lines = n; begun = begun }; last = last }
 
 pub ends_no_line : (n : ℕ) (begun last other piece : List ℕ) → NoByte 10 begun → NoByte 10 piece → EndsNoLine (splitting n begun last) (splitting n (held (begun ++ piece)) other) piece
 ends_no_line n begun last other piece h k = record {

@@ -9,15 +9,15 @@ pub use Rattle.hg_wire.specs.Readings.{ended_readings, is_skipped, lines_among, 
 
 -- How far a stream has come: how many lines have ended, and what has come of the line that has not.
 -- (A line that is too long to be an event is as good as its first 257 bytes and one byte more, so that it may be held as those.)
-pub record Pending : Type 0 where
+pub record LinesRead : Type 0 where
   pub lines : ℕ
   pub begun : List ℕ
 
-abbrev pub at_start : Pending
+abbrev pub at_start : LinesRead
 at_start = record { lines = 0; begun = [] }
 
 -- So many lines have ended, and none has begun since.
-abbrev pub between_lines : ℕ → Pending
+abbrev pub between_lines : ℕ → LinesRead
 between_lines n = record { lines = n; begun = [] }
 
 -- The reading, of a line that stands so many lines further on.
@@ -25,16 +25,16 @@ abbrev pub numbered_on : ℕ → Reading → Reading
 numbered_on k reading = record { line = k + reading.line; event = reading.event }
 
 -- What is read of the rest of a stream.
-abbrev pub readings_from : Pending → List ℕ → List Reading
-readings_from pending rest = readings_after pending.lines (pending.begun ++ rest)
+abbrev pub readings_from : LinesRead → List ℕ → List Reading
+readings_from so_far rest = readings_after so_far.lines (so_far.begun ++ rest)
 
 -- The same, of the lines that a line feed ends.
-abbrev pub ended_from : Pending → List ℕ → List Reading
-ended_from pending rest = readings_when false pending.lines (pending.begun ++ rest)
+abbrev pub ended_from : LinesRead → List ℕ → List Reading
+ended_from so_far rest = readings_when false so_far.lines (so_far.begun ++ rest)
 
 -- The lines that end in the rest of a stream, which is over or may go on, each with its number, and shown by its first 257 bytes at most.
-abbrev pub lines_from : Bool → Pending → List ℕ → List (ℕ × List ℕ)
-lines_from over pending rest = enumerate_from (pending.lines + 1) (map (take 257) (lines_when over (pending.begun ++ rest)))
+abbrev pub lines_from : Bool → LinesRead → List ℕ → List (ℕ × List ℕ)
+lines_from over so_far rest = enumerate_from (so_far.lines + 1) (map (take 257) (lines_when over (so_far.begun ++ rest)))
 
 -- what is held of the bytes of a line: its first 257, and a 0 for those after them
 abbrev pub held : List ℕ → List ℕ
@@ -42,31 +42,31 @@ held bytes = if nat_lt 257 (length bytes) then take 257 bytes ++ 0 ∷ [] else b
 
 -- How far a splitter has come, and the last line that has ended, as it is shown.
 pub record Splitting : Type 0 where
-  pub pending : Pending
+  pub so_far : LinesRead
   pub last : List ℕ
 
 -- Taking so many bytes of the piece ends one line.
 pub record EndsLine (old new : Splitting) (piece : List ℕ) (used : ℕ) : Type 0 where
   pub some : 0 < used
   pub within : used ≤ length piece
-  pub counted : new.pending.lines ≡ old.pending.lines + 1
-  pub begun : new.pending.begun ≡ []
-  pub line : (over : Bool) (more : List ℕ) → lines_from over old.pending (piece ++ more) ≡ (new.pending.lines, new.last) ∷ lines_from over new.pending (drop used piece ++ more)
+  pub counted : new.so_far.lines ≡ old.so_far.lines + 1
+  pub begun : new.so_far.begun ≡ []
+  pub line : (over : Bool) (more : List ℕ) → lines_from over old.so_far (piece ++ more) ≡ (new.so_far.lines, new.last) ∷ lines_from over new.so_far (drop used piece ++ more)
 
 -- Taking all of the piece ends no line.
 pub record EndsNoLine (old new : Splitting) (piece : List ℕ) : Type 0 where
-  pub counted : new.pending.lines ≡ old.pending.lines
-  pub lines : (over : Bool) (more : List ℕ) → lines_from over old.pending (piece ++ more) ≡ lines_from over new.pending more
-  pub none_left : lines_from false new.pending [] ≡ []
+  pub counted : new.so_far.lines ≡ old.so_far.lines
+  pub lines : (over : Bool) (more : List ℕ) → lines_from over old.so_far (piece ++ more) ≡ lines_from over new.so_far more
+  pub none_left : lines_from false new.so_far [] ≡ []
 
 -- At the end of the stream the line that lacks its line feed ends.
 pub record EndsLastLine (old new : Splitting) : Type 0 where
-  pub counted : new.pending.lines ≡ old.pending.lines + 1
-  pub begun : new.pending.begun ≡ []
-  pub line : lines_from true old.pending [] ≡ (new.pending.lines, new.last) ∷ []
+  pub counted : new.so_far.lines ≡ old.so_far.lines + 1
+  pub begun : new.so_far.begun ≡ []
+  pub line : lines_from true old.so_far [] ≡ (new.so_far.lines, new.last) ∷ []
 
 -- Taking so many bytes of the piece gives one reading.
-pub record GivesReading (old new : Pending) (piece : List ℕ) (reading : Reading) (used : ℕ) : Type 0 where
+pub record GivesReading (old new : LinesRead) (piece : List ℕ) (reading : Reading) (used : ℕ) : Type 0 where
   pub some : 0 < used
   pub within : used ≤ length piece
   pub counted : new.lines ≤ old.lines + used
@@ -77,14 +77,14 @@ pub record GivesReading (old new : Pending) (piece : List ℕ) (reading : Readin
   pub ended : (more : List ℕ) → ended_from old (piece ++ more) ≡ reading ∷ ended_from new (drop used piece ++ more)
 
 -- Taking all of the piece gives none, and each line that a line feed ends in it is taken.
-pub record GivesNoReading (old new : Pending) (piece : List ℕ) : Type 0 where
+pub record GivesNoReading (old new : LinesRead) (piece : List ℕ) : Type 0 where
   pub counted : new.lines ≤ old.lines + length piece
   pub readings : (more : List ℕ) → readings_from old (piece ++ more) ≡ readings_from new more
   pub ended : (more : List ℕ) → ended_from old (piece ++ more) ≡ ended_from new more
   pub none_left : ended_from new [] ≡ []
 
 -- What is taken of a piece.
-abbrev pub Takes : Pending → Pending → List ℕ → Taken → Type 0
+abbrev pub Takes : LinesRead → LinesRead → List ℕ → Taken → Type 0
 Takes old new piece (Line reading used) = GivesReading old new piece reading used
 Takes old new piece More = GivesNoReading old new piece
 

@@ -34,11 +34,11 @@ pub struct EventReader {
 }
 
 impl Model for EventReader {
-    ghost use Rattle.hg_wire.specs.Streams.{Pending};
+    ghost use Rattle.hg_wire.specs.Streams.{LinesRead};
 
-    ghost Value = { Pending };
+    ghost Value = { LinesRead };
 
-    ghost view = { λ r. r.splitter.pending };
+    ghost view = { λ r. r.splitter.so_far };
 }
 
 impl EventReader {
@@ -137,7 +137,7 @@ impl EventReader {
 
 /// What the last line that has ended says, where it is neither empty nor a comment.
 fn reading_of_last(splitter: &Splitter) -> Option<Reading>
-    ensures { option_to_list result ≡ readings_in ((splitter.now.pending.lines, splitter.now.last) ∷ []) }
+    ensures { option_to_list result ≡ readings_in ((splitter.now.so_far.lines, splitter.now.last) ∷ []) }
 {
     let line = splitter.lines();
     match splitter.last() {
@@ -152,8 +152,8 @@ fn reading_of_last(splitter: &Splitter) -> Option<Reading>
 /// The same as `EventReader::take`, line by line.
 #[inline(never)]
 fn take_by_lines(splitter: &mut Splitter, piece: &[u8]) -> Taken
-    requires { splitter.old.pending.lines + length piece.now < 2 ^ 64 }
-    ensures { Takes splitter.old.pending splitter.new.pending piece.now result }
+    requires { splitter.old.so_far.lines + length piece.now < 2 ^ 64 }
+    ensures { Takes splitter.old.so_far splitter.new.so_far piece.now result }
 {
     let mut rest = piece;
     while let Some(used) = splitter.take(rest) {

@@ -27,7 +27,7 @@ impl Model for Splitter {
 
     ghost Value = { Splitting };
 
-    ghost view = { λ s. record { pending = record { lines = s.lines; begun = s.line }; last = take 257 (strip_carriage_return s.last) } };
+    ghost view = { λ s. record { so_far = record { lines = s.lines; begun = s.line }; last = take 257 (strip_carriage_return s.last) } };
 
     ghost invariant = { λ s. NoByte 10 s.line };
 }
@@ -39,7 +39,7 @@ impl Splitter {
 
     /// A splitter at the start of a stream.
     pub fn new(alloc: Global) -> Result<Self, AllocError>
-        ensures { IfOk result (λ splitter. splitter.pending ≡ at_start) }
+        ensures { IfOk result (λ splitter. splitter.so_far ≡ at_start) }
     {
         Ok(Splitter {
             lines: 0,
@@ -51,7 +51,7 @@ impl Splitter {
     /// How many lines have ended.
     #[inline(always)]
     pub fn lines(&self) -> u64
-        ensures { result ≡ self.now.pending.lines }
+        ensures { result ≡ self.now.so_far.lines }
     {
         self.lines
     }
@@ -66,7 +66,7 @@ impl Splitter {
     /// Whether no line has begun that has not ended.
     #[inline(always)]
     pub fn is_between_lines(&self) -> bool
-        ensures { IsTrue result ↔ (self.now.pending.begun ≡ []) }
+        ensures { IsTrue result ↔ (self.now.so_far.begun ≡ []) }
     {
         self.line.is_empty()
     }
@@ -74,9 +74,9 @@ impl Splitter {
     /// Counts a line that was taken from the stream elsewhere, as a whole and between lines.
     #[inline(always)]
     pub fn count_line(&mut self)
-        requires { self.old.pending.lines + 1 < 2 ^ 64 }
+        requires { self.old.so_far.lines + 1 < 2 ^ 64 }
         ensures { self.new ≡ record {
-          pending = record { lines = self.old.pending.lines + 1; begun = self.old.pending.begun };
+          so_far = record { lines = self.old.so_far.lines + 1; begun = self.old.so_far.begun };
           last = self.old.last;
         } }
     {
@@ -86,9 +86,9 @@ impl Splitter {
     /// Counts lines that were taken from the stream elsewhere, as wholes and between lines.
     #[inline(always)]
     pub fn count_lines(&mut self, count: u64)
-        requires { self.old.pending.lines + count < 2 ^ 64 }
+        requires { self.old.so_far.lines + count < 2 ^ 64 }
         ensures { self.new ≡ record {
-          pending = record { lines = self.old.pending.lines + count; begun = self.old.pending.begun };
+          so_far = record { lines = self.old.so_far.lines + count; begun = self.old.so_far.begun };
           last = self.old.last;
         } }
     {
@@ -97,7 +97,7 @@ impl Splitter {
 
     /// Goes to the start of a stream, in the memory that it has.
     pub fn reset(&mut self)
-        ensures { self.new.pending ≡ at_start }
+        ensures { self.new.so_far ≡ at_start }
     {
         self.lines = 0;
         self.line.clear();
@@ -106,7 +106,7 @@ impl Splitter {
     /// Takes the piece up to and with its first line feed, which ends a line, or all of it where it has none.
     /// The answer says how many bytes were taken where a line has ended.
     pub fn take(&mut self, piece: &[u8]) -> Option<usize>
-        requires { self.old.pending.lines + length piece.now < 2 ^ 64 }
+        requires { self.old.so_far.lines + length piece.now < 2 ^ 64 }
         ensures line { IfSome result (EndsLine self.old self.new piece.now) }
         ensures none { IfNone result (EndsNoLine self.old self.new piece.now) }
     {
@@ -125,9 +125,9 @@ impl Splitter {
 
     /// Ends the line that lacks its line feed, and answers whether there was one: at the end of a stream.
     pub fn finish(&mut self) -> bool
-        requires { self.old.pending.lines + 1 < 2 ^ 64 }
+        requires { self.old.so_far.lines + 1 < 2 ^ 64 }
         ensures line { OnTrue result (EndsLastLine self.old self.new) }
-        ensures none { OnFalse result ((self.new ≡ self.old) × (lines_from true self.old.pending [] ≡ [])) }
+        ensures none { OnFalse result ((self.new ≡ self.old) × (lines_from true self.old.so_far [] ≡ [])) }
     {
         if self.line.is_empty() {
             return false;
@@ -137,10 +137,10 @@ impl Splitter {
     }
 
     fn end_line(&mut self)
-        requires { self.old.pending.lines + 1 < 2 ^ 64 }
+        requires { self.old.so_far.lines + 1 < 2 ^ 64 }
         ensures { self.new ≡ record {
-          pending = record { lines = self.old.pending.lines + 1; begun = [] };
-          last = take 257 (strip_carriage_return self.old.pending.begun);
+          so_far = record { lines = self.old.so_far.lines + 1; begun = [] };
+          last = take 257 (strip_carriage_return self.old.so_far.begun);
         } }
     {
         mem::swap(&mut self.line, &mut self.last);

@@ -16,6 +16,7 @@ use hg_model::event::{Access, Block, Event, Named};
 use hg_model::report::Report;
 use hg_model::segment::Segment;
 use hg_model::verdict::{Refusal, Verdict};
+use hg_sets::MOST_SETS;
 use std::alloc::{AllocError, Global};
 use std::process::Abort;
 use std::test::Fail;
@@ -54,7 +55,7 @@ fn named(number: u64, event: Event) -> Named {
 /// The detector of an empty trace, with so many sets at most.
 fn begin(alloc: Global, most_sets: u32) -> Result<Own<Detector<PagedWords>>, Refusal>
     requires least { 1 ≤ most_sets }
-    requires greatest { most_sets ≤ 262144 }
+    requires greatest { most_sets ≤ MOST_SETS }
     ensures { IfOk result (λ made. AtPresent AreWithin made.it) }
 {
     let words = match PagedWords::new(alloc) {

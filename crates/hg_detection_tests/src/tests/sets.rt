@@ -2,7 +2,7 @@ ghost use Rattle.std.specs.Prelude.{◌≡◌, ◌<◌, ◌≤◌, length, IfOk}
 ghost use Rattle.hg_sets.specs.Interning.{AreSets, first_table};
 
 use crate::tests::own::Own;
-use hg_sets::{SetFault, SetTable};
+use hg_sets::{MOST_SETS, SetFault, SetTable};
 use std::alloc::{AllocError, Global};
 use std::process::Abort;
 use std::test::Fail;
@@ -10,7 +10,7 @@ use std::test::Fail;
 /// A table of so many sets at most.
 fn table_of(alloc: Global, limit: u32) -> Result<Own<SetTable>, AllocError>
     requires least { 1 ≤ limit }
-    requires greatest { limit ≤ 262144 }
+    requires greatest { limit ≤ MOST_SETS }
     ensures table { IfOk result (λ made. made.it ≡ first_table limit) }
     ensures sets { IfOk result (λ made. AreSets made.it) }
 {

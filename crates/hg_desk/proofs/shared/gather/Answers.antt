@@ -1,7 +1,7 @@
 use Rattle.std.proofs.Common.{◌≡◌, ◌∙◌, ◌+◌, ◌≤◌, ◌++◌, inl, inr, ℕ, append-nil, ap, drop, length, map, sum, sym, take, arith}
 use Rattle.std.proofs.lemmas.List.{drop_all, take_all}
 use Rattle.hg_contents.proofs.Following.{followed_events}
-use Rattle.hg_store.specs.Shown.{Shown, live, saved}
+use Rattle.hg_store.specs.Shown.{ShownStore, live, saved}
 use Rattle.hg_desk.proofs.Standing.{stood}
 use Rattle.hg_desk.proofs.shared.gather.Goals as goal
 use Rattle.hg_desk.proofs.shared.gather.Goals.{then-tally-via-then-tally, then-tally-via-else-tally+then-tally-2}
@@ -36,13 +36,13 @@ returns-then-tally-clause-err g c =
 pub returns-clause-events : goal.returns-clause-events
 returns-clause-events g c honest =
     let same : c.into_store-taken_in.result.store ≡ c.into_inner-core.result = c.into_store-taken_in.ensures.store ∙ c.tally-tally.ensures.same in
-    ap (λ (s : Shown g.row.D.Denot). (live g.D.Disk s).events) same ∙ c.tally-tally.ensures.accepted_book honest
+    ap (λ (s : ShownStore g.row.D.Denot). (live g.D.Disk s).events) same ∙ c.tally-tally.ensures.accepted_book honest
     ∙ ap (λ (n : ℕ). g.A.Column.opening + n) (sym c.if-tally.false ∙ c.tally-tally.ensures.accepted_told ∙ ap (λ l. sum (map (λ s. s.accepted) l)) c.as_mut_slice.ensures.value)
 
 pub returns-clause-durable : goal.returns-clause-durable
 returns-clause-durable g c honest =
     let same : c.into_store-taken_in.result.store ≡ c.into_inner-core.result = c.into_store-taken_in.ensures.store ∙ c.tally-tally.ensures.same in
-    ap (λ (s : Shown g.row.D.Denot). s.durable) same ∙ c.tally-tally.ensures.durable_book honest
+    ap (λ (s : ShownStore g.row.D.Denot). s.durable) same ∙ c.tally-tally.ensures.durable_book honest
     ∙ ap (λ (n : ℕ). g.B.Column.opening + n) (sym c.if-tally-2.false ∙ c.tally-tally.ensures.durable_told ∙ ap (λ l. sum (map (λ s. s.durable) l)) c.as_mut_slice.ensures.value)
 
 pub returns-clause-images : goal.returns-clause-images

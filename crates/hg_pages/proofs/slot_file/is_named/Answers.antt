@@ -1,6 +1,6 @@
 use Rattle.std.proofs.Common.{◌≡◌, ◌<◌, ◌∙◌, ℕ, true, Some, map, slice_get, sym, ⊎_elim, subst, arith}
 use Rattle.std.proofs.lemmas.Option.{slice_get_within}
-use Rattle.hg_pages.specs.Tables.{IsNamed, Shown}
+use Rattle.hg_pages.specs.Tables.{IsNamed, ShownTable}
 use Rattle.hg_pages.proofs.Searching.{less_or_last, mapped, mapped_len}
 use Rattle.hg_pages.proofs.slot_file.is_named.Goals as goal
 
@@ -10,7 +10,7 @@ loop-table-preserved c i table lt found named =
     (λ (here : i ≡ c.loop-table.table-index).
     let same : c.table-item.result.now ≡ table = mapped (λ t. t.now) c.args.tables.now c.loop-table.table-index c.table-item.result table c.loop-table-test.true c.table-item.is
     (subst (λ (n : ℕ). slice_get (map (λ t. t.now) c.args.tables.now) n ≡ Some table) here found) in
-    let is : c.names.result ≡ true = c.names.ensures.1 (subst (λ (t : Shown). IsNamed t.entries c.args.slot) (sym same) named) in
+    let is : c.names.result ≡ true = c.names.ensures.1 (subst (λ (t : ShownTable). IsNamed t.entries c.args.slot) (sym same) named) in
     absurd (cc (sym is ∙ c.if-names.false)))
     (less_or_last i c.loop-table.table-index lt)
 

@@ -1,5 +1,5 @@
 use Rattle.std.proofs.Common.{◌≡◌, ℕ, ◌+◌, ◌-◌, ◌≤◌, length, drop, None, Some, Ok, Err, sym, ap, subst, arith}
-use Rattle.hg_wire.specs.Streams.{Pending}
+use Rattle.hg_wire.specs.Streams.{LinesRead}
 use Rattle.hg_reading.specs.Keeping.{IsKept, IsOffered, readings_kept}
 use Rattle.hg_reading.specs.Taking.{Passes, Pushes}
 use Rattle.hg_reading.proofs.Parsing.{rest_is}
@@ -46,7 +46,7 @@ returns g c =
     let h = subst (λ k. IsKept c.args.text.now k c.args.part.now.extent.lines c.args.part.now.extent.bytes) (sym c.as_slice.ensures.value) c.requires.held.kept in
     let passes = part_passes g.S.Sink.takes c.args.reader.now c.args.sink.now c.offer_all.new.sink c.args.output.now.calls c.offer_all.new.output.calls c.args.text.now c.as_slice.result.now
     c.args.part.now.extent.lines c.args.part.now.extent.bytes c.lines.result (Ok c.in_ok-end.field-0) (c.is_between_lines.ensures.0 c.if-not-is_between_lines.false) c.lines.ensures h c.in_ok-end.ensures (ap Ok none) in
-    let counted = subst (λ (q : Pending). Passes g.S.Sink.takes c.args.reader.now c.args.sink.now c.args.output.now.calls c.args.text.now q c.offer_all.new.sink c.offer_all.new.output.calls (drop c.args.part.now.extent.bytes c.args.text.now))
+    let counted = subst (λ (q : LinesRead). Passes g.S.Sink.takes c.args.reader.now c.args.sink.now c.args.output.now.calls c.args.text.now q c.offer_all.new.sink c.offer_all.new.output.calls (drop c.args.part.now.extent.bytes c.args.text.now))
     (sym c.count_lines.ensures) passes in
     let placed = subst (λ x. Passes g.S.Sink.takes c.args.reader.now c.args.sink.now c.args.output.now.calls c.args.text.now c.count_lines.new.self c.offer_all.new.sink c.offer_all.new.output.calls x)
     (sym (rest_is c.args.part.now.extent.bytes c.args.text.now)) counted in

@@ -4,7 +4,7 @@ use Rattle.std.proofs.lemmas.List.{length-take}
 use Rattle.hg_streams.specs.Calls.{failed_reads, got_call}
 use Rattle.hg_streams.specs.Told.{told_refusal}
 use Rattle.hg_streams.specs.declared.call.ReadCall.TheVariants.{Gave}
-use Rattle.hg_wire.specs.Streams.{Pending}
+use Rattle.hg_wire.specs.Streams.{LinesRead}
 use Rattle.hg_reading.specs.Taking.{Pushes, Reads}
 use Rattle.hg_reading.proofs.Pushing.{pushes_pass}
 use Rattle.hg_reading.proofs.Runs.{has_read_again, has_read_first, has_read_on, read_end, read_failed, read_stop, read_too_often, reads_all, room_behind}
@@ -35,7 +35,7 @@ pub loop-reads-init : goal.loop-reads-init
 loop-reads-init g c =
     record {
       run = has_read_first g.S.Sink.takes g.met.S.Sink.on c.args.input.now.calls c.args.sink.now c.args.output.now.calls c.args.intake.reader c.requires.start (g.met.S.Sink.none c.args.sink.now c.args.output.now.calls);
-      lines = omega (arith, ap (λ (p : Pending). p.lines) c.requires.start);
+      lines = omega (arith, ap (λ (p : LinesRead). p.lines) c.requires.start);
       room = c.requires.room;
       size = ap length c.as_mut_slice-bytes.ensures.value;
       counted = omega arith;

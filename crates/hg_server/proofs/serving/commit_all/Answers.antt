@@ -13,7 +13,7 @@ returns-in-Ok-clause-went g c start went =
     let new = c.commit-committed.new.self in
     rw c.push.ensures (rw c.of.ensures (step_went g.D.Disk old new start c.args.moments.now Commit (Committed c.commit-committed.result) went
     (c.commit-committed.result, refl, c.commit-committed.ensures.done)
-    (λ honest. ap (λ (d : detect.Shown (pool.Shown g.row.D.Denot)). detect.content (pools.live g.D.Disk) d) c.commit-committed.ensures.done.detector)
+    (λ honest. ap (λ (d : detect.ShownDetector (pool.ShownPool g.row.D.Denot)). detect.content (pools.live g.D.Disk) d) c.commit-committed.ensures.done.detector)
     c.commit-committed.ensures.device (λ honest. c.stands.ensures.backs honest) (λ honest. c.commit-committed.ensures.images honest)))
 
 pub returns-in-Err-clause-went : goal.returns-in-Err-clause-went
@@ -22,5 +22,5 @@ returns-in-Err-clause-went g c start went =
     let new = c.commit-committed.new.self in
     rw c.push.ensures (rw c.of.ensures (step_went g.D.Disk old new start c.args.moments.now Commit (Committed c.commit-committed.result) went
     (c.commit-committed.result, refl, c.commit-committed.ensures.done)
-    (λ honest. ap (λ (d : detect.Shown (pool.Shown g.row.D.Denot)). detect.content (pools.live g.D.Disk) d) c.commit-committed.ensures.done.detector)
+    (λ honest. ap (λ (d : detect.ShownDetector (pool.ShownPool g.row.D.Denot)). detect.content (pools.live g.D.Disk) d) c.commit-committed.ensures.done.detector)
     c.commit-committed.ensures.device (λ honest. c.stands.ensures.backs honest) (λ honest. c.commit-committed.ensures.images honest)))

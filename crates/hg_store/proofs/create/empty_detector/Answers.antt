@@ -9,5 +9,5 @@ returns-in-Ok-clause-faithful g c honest =
     let d = c.in-Ok.detector in
     let n = length d.segments in
     let m = length d.sets.sets in
-    subst (λ (p : pool.Shown g.row.D.Denot). IsFaithful g.D.Disk p n m) (sym (c.in-Ok.ensures.words ∙ c.in_ok-pool.ensures.pool))
+    subst (λ (p : pool.ShownPool g.row.D.Denot). IsFaithful g.D.Disk p n m) (sym (c.in-Ok.ensures.words ∙ c.in_ok-pool.ensures.pool))
     (empty_faithful g.D.Disk c.args.file c.new.result.entries _ c.args.caps.slots c.new.ensures honest n m)

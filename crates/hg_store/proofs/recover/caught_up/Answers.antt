@@ -47,5 +47,5 @@ returns-in-Err-clause-damaged g c now honest started told events d is gives =
 pub returns-clause-sets : goal.returns-clause-sets
 returns-clause-sets g c honest =
     let start = c.requires.started honest in
-    subst (λ (d : detect.Shown (pool.Shown g.row.D.Denot)). HasSets (content_in g.D.Disk c.args.detector) c.args.detector.sets (g.D.Disk.state (journals.disk_of c.args.journal)).contents (content_in g.D.Disk d) d.sets) (sym c.made.ensures.detector)
+    subst (λ (d : detect.ShownDetector (pool.ShownPool g.row.D.Denot)). HasSets (content_in g.D.Disk c.args.detector) c.args.detector.sets (g.D.Disk.state (journals.disk_of c.args.journal)).contents (content_in g.D.Disk d) d.sets) (sym c.made.ensures.detector)
     (c.in-Ok.ensures.sets start.0 honest start.2 start.3.ready.faithful)

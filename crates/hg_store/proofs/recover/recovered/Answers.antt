@@ -142,7 +142,7 @@ returns-in-Err-caught_up-clause-device g c =
     let two = ap (λ d. g.D.Disk.failures d) c.attach-roots.ensures.second in
     let handed = ap (λ (n : Devices g.row.D.Denot). failures_of g.D.Disk n) c.handed_back-in-Err-caught_up.ensures in
     let journal = ap (λ d. g.D.Disk.failures d) c.into_disk.ensures in
-    let slots = ap (λ d. g.D.Disk.failures d) (c.into_disks-slots.ensures ∙ ap (λ (f : SlotFile g.row.D.Denot). files.disk_of f) (c.into_disks.ensures ∙ ap (λ (w : pool.Shown g.row.D.Denot). w.file) c.into_words.ensures)) in
+    let slots = ap (λ d. g.D.Disk.failures d) (c.into_disks-slots.ensures ∙ ap (λ (f : SlotFile g.row.D.Denot). files.disk_of f) (c.into_disks.ensures ∙ ap (λ (w : pool.ShownPool g.row.D.Denot). w.file) c.into_words.ensures)) in
     let still_one = ap (λ d. g.D.Disk.failures d) c.in-Err-caught_up.ensures.first in
     let still_two = ap (λ d. g.D.Disk.failures d) c.in-Err-caught_up.ensures.second in
     counted_so c.in-Err-caught_up.refusal _ _ _ _ (g.D.Disk.failures first + g.D.Disk.failures second) c.in-Err-caught_up.ensures.device (omega (arith, opened, found, one, two)) (omega (arith, handed, journal, slots, still_one, still_two))
@@ -162,7 +162,7 @@ returns-in-Err-caught_up-clause-images g c honest =
     (moved g.D.Disk old.journal old.journal _ (journals.disk_of c.in-Err-caught_up.journal) (IsImage (g.D.Disk.state old.journal)) refl (sym c.into_disk.ensures)
     (then g.D.Disk old.journal (journals.disk_of c.in-Ok.journal) (journals.disk_of c.in-Err-caught_up.journal) c.in-Ok.ensures.any_moment c.in-Err-caught_up.ensures.journal))
     (moved g.D.Disk old.slots old.slots _ (pools.disk_of now) P refl
-    (sym (c.into_disks-slots.ensures ∙ ap (λ (f : SlotFile g.row.D.Denot). files.disk_of f) (c.into_disks.ensures ∙ ap (λ (w : pool.Shown g.row.D.Denot). w.file) c.into_words.ensures)))
+    (sym (c.into_disks-slots.ensures ∙ ap (λ (f : SlotFile g.row.D.Denot). files.disk_of f) (c.into_disks.ensures ∙ ap (λ (w : pool.ShownPool g.row.D.Denot). w.file) c.into_words.ensures)))
     (joined g.D.Disk old.slots (pools.disk_of words) (pools.disk_of now) P
     (weaker g.D.Disk old.slots (pools.disk_of words) (IsImage (g.D.Disk.state old.slots)) P c.in-Ok-rooted.ensures.any_moment (settled_leaves P (g.D.Disk.state old.slots).contents (g.D.Disk.state old.slots) c.requires.settled.slots rooted.has_slots))
     (slots_stay g.D.Disk g.met.D.Disk.has_its_bytes words now rooted.now.checkpoint rooted.now.former c.in-Err-caught_up.ensures.went rooted.started.names rooted.started.slots)))

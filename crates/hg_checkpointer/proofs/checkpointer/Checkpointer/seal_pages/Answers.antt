@@ -1,6 +1,6 @@
 use Rattle.std.proofs.Common.{◌∙◌, ℕ, List, sym, subst}
 use Rattle.hg_pool.specs.Maps.{disk_of}
-use Rattle.hg_pool.specs.Shown.{Shown}
+use Rattle.hg_pool.specs.Shown.{ShownPool}
 use Rattle.hg_pool.specs.Tables.{IsNameable}
 use Rattle.hg_root.specs.Checkpoints.{HasSlotsOf, root_of}
 use Rattle.hg_disk.proofs.Moments.{at_end}
@@ -48,7 +48,7 @@ returns-in-Ok-clause-next g c = λ now former parts cells stands draft.
     let from = c.args.pool.now in
     let to = c.seal.new.self in
     let went = c.seal.ensures.stays.went in
-    let nameable : IsNameable to.slots to.frozen = subst (λ (p : Shown g.row.D.Denot). IsNameable p.slots p.frozen) (sym c.seal.ensures.rest) c.ready_to_seal.ensures.nameable in
+    let nameable : IsNameable to.slots to.frozen = subst (λ (p : ShownPool g.row.D.Denot). IsNameable p.slots p.frozen) (sym c.seal.ensures.rest) c.ready_to_seal.ensures.nameable in
     let slots = at_end g.D.Disk (disk_of from) (disk_of to) (HasSlotsOf now former) (slots_stay g.D.Disk g.met.D.Disk.has_its_bytes from to now former went stands.names stands.slots) in
     let sealed = c.in-Ok.ensures.sealed draft.whole c.in_default.ensures.phase.1.1 in
     record {

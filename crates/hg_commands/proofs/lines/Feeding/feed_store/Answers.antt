@@ -195,4 +195,4 @@ returns-in_err-print_end-clause-front g c = λ honest.
     always_err _ (wrote_end g.D.Disk honest c.args.input.now.calls c.feed_all.new.input.calls c.args.self.now.fed.source s c.feed_all.new.self.store c.args.self.now.fed c.feed_all.new.self.fed
     o p c.feed_all.new.output.calls c.acknowledge.new.output.calls c.checkpoint_if_due.new.output.calls c.print_end.new.output.calls (live g.D.Disk c.checkpoint_if_due.new.self.store) made.checkpoint c.in_ok-end.end c.requires.accepted (subst (λ (n : ℕ). Took o p (number_text (codes "resume ") n)) (last_is s.is_broken c.in_ok-last.last ((live g.D.Disk s).last c.args.self.now.fed.source) c.requires.idle.works c.in_ok-last.ensures) c.in_ok-print_number.ensures.printed)
     c.in_ok-end.ensures.goes c.in_ok-end.ensures.feeds c.in_ok-acknowledge.ensures.printed made.printed
-    (made.live honest ∙ ap (λ (d : detect.Shown (pool.Shown g.row.D.Denot)). detect.content (pools.live g.D.Disk) d) c.in_ok-acknowledge.ensures.committed.detector) c.print_end.ensures.calls)
+    (made.live honest ∙ ap (λ (d : detect.ShownDetector (pool.ShownPool g.row.D.Denot)). detect.content (pools.live g.D.Disk) d) c.in_ok-acknowledge.ensures.committed.detector) c.print_end.ensures.calls)

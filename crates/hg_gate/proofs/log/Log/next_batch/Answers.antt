@@ -15,13 +15,13 @@ returns-in_err-len-clause-whole g c seen left honest h place =
     let is : c.from_residual.result ≡ Err c.in_err-len.field-0.0 = grind arith in
     let file = (g.D.Disk.state c.args.self.now.disk).contents in
     subst (λ (r : Result (Option Batch) GateFault). IfErr r (λ e. e ≢ Damaged)) (sym is) (λ same.
-    c.in_err-len.ensures.damaged honest (λ i. Err (same i)) left (tail_at file c.args.batches.now.at seen left place h.has))
+    c.in_err-len.ensures.damaged honest (λ i. Err (same i)) left (tail_at file c.args.place.now.at seen left place h.has))
 
 pub returns-in_default-clause-next : goal.returns-in_default-clause-next
 returns-in_default-clause-next g c seen left honest h place =
     let file = (g.D.Disk.state c.args.self.now.disk).contents in
-    let closed : IsClosed (drop c.args.batches.now.at file) = subst (IsHead (drop c.args.batches.now.at file)) c.in_default.is (c.in_ok-len.ensures.head honest) in (
-      none_left (drop c.args.batches.now.at file) left (tail_at file c.args.batches.now.at seen left place h.has) closed,
+    let closed : IsClosed (drop c.args.place.now.at file) = subst (IsHead (drop c.args.place.now.at file)) c.in_default.is (c.in_ok-len.ensures.head honest) in (
+      none_left (drop c.args.place.now.at file) left (tail_at file c.args.place.now.at seen left place h.has) closed,
       place ∙ ap (λ (l : List (List ℕ)). length (spelled l)) (sym (append-nil seen)),
     )
 
@@ -36,7 +36,7 @@ returns-clause-any_moment g c =
 pub returns-clause-next : goal.returns-clause-next
 returns-clause-next g c seen left honest h place =
     let file = (g.D.Disk.state c.args.self.now.disk).contents in
-    let at = c.args.batches.now.at in
+    let at = c.args.place.now.at in
     let begins : IsOpen (drop at file) c.in-Some.len = subst (IsHead (drop at file)) c.in-Some.is (c.in_ok-len.ensures.head honest) in
     let next = next_of (drop at file) c.in-Some.len left (tail_at file at seen left place h.has) begins in
     let read : c.in_ok-body.body.items ≡ take c.in-Some.len (drop (at + 5) file) =

@@ -1,6 +1,6 @@
 use Rattle.std.proofs.Common.{if◌then◌else◌, ◌==◌, ◌≡◌, ℕ, List, Bool, Option, None, ap, sym, ◌∙◌, subst}
 use Rattle.hg_pages.specs.Marks.{AreMarks, Parts}
-use Rattle.hg_pages.specs.Tables.{Shown, slot_in}
+use Rattle.hg_pages.specs.Tables.{ShownTable, slot_in}
 use Rattle.hg_pages.proofs.Parting.{entries_taken, former_within, look_put, looked, marks_taken}
 use Rattle.hg_pages.proofs.table.Table.remove.Goals as goal
 
@@ -20,9 +20,9 @@ invariant_of-self c =
 
 pub returns-clause-answer : goal.returns-clause-answer
 returns-clause-answer c =
-    sym (looked c.args.page c.take_out-former.result c.self.inside.entries.items c.take_out-former.ensures.taken.parts) ∙ ap (λ (s : Shown). slot_in s.entries c.args.page) c.self.view_is
+    sym (looked c.args.page c.take_out-former.result c.self.inside.entries.items c.take_out-former.ensures.taken.parts) ∙ ap (λ (s : ShownTable). slot_in s.entries c.args.page) c.self.view_is
 
 pub returns-clause-removed : goal.returns-clause-removed
 returns-clause-removed c =
-    subst (λ (s : Shown). (other : ℕ) → slot_in c.take_out-former.new.entries.items other ≡ (if c.args.page == other then None else slot_in s.entries other)) c.self.view_is
+    subst (λ (s : ShownTable). (other : ℕ) → slot_in c.take_out-former.new.entries.items other ≡ (if c.args.page == other then None else slot_in s.entries other)) c.self.view_is
     (look_put c.args.page c.take_out-former.result None c.self.inside.entries.items c.take_out-former.new.entries.items c.take_out-former.ensures.taken)

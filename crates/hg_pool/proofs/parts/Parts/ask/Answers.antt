@@ -5,7 +5,7 @@ use Rattle.std.specs.Set.{remove_key}
 use Rattle.lru.specs.LruCache.{LruCache}
 use Rattle.hg_pool.specs.declared.frame.Frame.{Frame}
 use Rattle.hg_pool.specs.Maps.{frame_in}
-use Rattle.hg_pool.specs.Shown.{Shown}
+use Rattle.hg_pool.specs.Shown.{ShownPool}
 use Rattle.hg_pool.specs.Sound.{shown_of}
 use Rattle.hg_pool.proofs.Changing.{still_file}
 use Rattle.hg_pool.proofs.Lookups.{if_true, looked_promoted}
@@ -27,8 +27,8 @@ pub returns-clause-stays : goal.returns-clause-stays
 returns-clause-stays g c =
     let looks : (q : ℕ) → frame_in c.ask.new.self.entries q ≡ frame_in c.args.self.now.frames.entries q =
     λ q. ap (λ (x : LruCache ℕ Frame). frame_in x.entries q) c.ask.ensures.entries ∙ looked_promoted c.args.page q c.args.self.now.frames.entries c.len-count.ensures.valid.0 in
-    let old : Shown g.row.D.Denot = shown_of c.args.self.now in
-    let new : Shown g.row.D.Denot = record old { frames = c.ask.new.self.entries; most_frames = c.ask.new.self.cap } in
+    let old : ShownPool g.row.D.Denot = shown_of c.args.self.now in
+    let new : ShownPool g.row.D.Denot = record old { frames = c.ask.new.self.entries; most_frames = c.ask.new.self.cap } in
     stays_all g.D.Disk old new (still_file g.D.Disk old new refl refl (λ q s there. there) (λ sealed. sealed) (λ sealed. refl) (ap (λ (x : LruCache ℕ Frame). x.cap) c.ask.ensures.entries, refl)) (λ s b named has. has)
     (λ q. record { frames = looks q; live = refl; frozen = refl; waiting = refl; copies = refl })
 

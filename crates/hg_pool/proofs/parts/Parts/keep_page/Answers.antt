@@ -3,7 +3,7 @@ use Rattle.hg_cells.specs.declared.cell.Cell.{Cell}
 use Rattle.hg_pages.specs.Tables.{slot_in}
 use Rattle.hg_pool.specs.Kept.{Stays}
 use Rattle.hg_pool.specs.Maps.{copy_in, frame_in}
-use Rattle.hg_pool.specs.Shown.{Shown}
+use Rattle.hg_pool.specs.Shown.{ShownPool}
 use Rattle.hg_pool.specs.Sound.{shown_of}
 use Rattle.lru.specs.LruCache.{LruCache}
 use Rattle.hg_pool.proofs.Counting.{distinct_new, fewer}
@@ -25,7 +25,7 @@ pub returns-in-Some-clause-stays : goal.returns-in-Some-clause-stays
 returns-in-Some-clause-stays g c =
     let p = c.args.self.now in
     let page = c.args.page in
-    let old : Shown g.row.D.Denot = shown_of p in
+    let old : ShownPool g.row.D.Denot = shown_of p in
     let waits : is_some (slot_in p.waiting.entries page) ≡ true = search rules in
     let missing : is_some (copy_in p.copies.entries page) ≡ false = search rules in
     let there : Some c.in-Some.frame.now ≡ frame_in p.frames.entries page = search rules in

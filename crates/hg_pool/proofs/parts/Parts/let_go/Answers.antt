@@ -5,7 +5,7 @@ use Rattle.hg_cells.specs.declared.cell.Cell.TheVariants.{New}
 use Rattle.hg_pages.specs.Tables.{slot_in}
 use Rattle.hg_pool.specs.declared.frame.Frame.{Frame}
 use Rattle.hg_pool.specs.Maps.{bytes_of, frame_in, in_frame_or, in_slot}
-use Rattle.hg_pool.specs.Shown.{Shown}
+use Rattle.hg_pool.specs.Shown.{ShownPool}
 use Rattle.hg_pool.specs.Sound.{shown_of}
 use Rattle.hg_pool.specs.Kept.{IsWhole}
 use Rattle.hg_pool.proofs.Changing.{LiveHere, still_file}
@@ -37,8 +37,8 @@ returns-clause-sound g c =
 pub returns-clause-stays : goal.returns-clause-stays
 returns-clause-stays g c =
     let p = c.args.self.now in
-    let old : Shown g.row.D.Denot = shown_of p in
-    let new : Shown g.row.D.Denot = record old { frames = c.remove.new.self.entries; most_frames = c.remove.new.self.cap } in
+    let old : ShownPool g.row.D.Denot = shown_of p in
+    let new : ShownPool g.row.D.Denot = record old { frames = c.remove.new.self.entries; most_frames = c.remove.new.self.cap } in
     let page = c.args.page in
     let is = c.remove.ensures.entries in
     let look : (q : ℕ) → frame_in new.frames q ≡ (if page == q then None else frame_in p.frames.entries q) =

@@ -6,7 +6,7 @@ use Rattle.hg_cells.specs.Cells.{IsWithin}
 use Rattle.hg_pool.specs.declared.parts.Parts.{Parts}
 use Rattle.hg_pool.specs.Answers.{order_of}
 use Rattle.hg_pool.specs.Maps.{frame_in}
-use Rattle.hg_pool.specs.Shown.{Shown}
+use Rattle.hg_pool.specs.Shown.{ShownPool}
 use Rattle.hg_pool.proofs.FromSlots.{known_there, not_there}
 use Rattle.hg_pool.specs.Sound.{shown_of}
 use Rattle.hg_pool.proofs.Orders.{before_stays, first_listed}
@@ -54,7 +54,7 @@ pub returns-clause-undamaged : goal.returns-clause-undamaged
 returns-clause-undamaged g c h known =
     let q = c.args.self.now in
     let room = c.make_room.new.self in
-    let old : Shown g.row.D.Denot = shown_of q in
+    let old : ShownPool g.row.D.Denot = shown_of q in
     let stays = stays_on g.D.Disk old (shown_of c.use_page.new.self) (shown_of room) c.use_page.ensures.stays c.make_room.ensures.stays in
     let missing = not_there (frame_in q.frames.entries c.args.page) (frame_in room.frames.entries c.args.page) (λ is. ap is_some (sym (c.use_page.ensures.looks c.args.page)) ∙ c.make_room.ensures.fewer c.args.page is)
     (sym c.use_page.ensures.answer ∙ c.if-use_page.false) in

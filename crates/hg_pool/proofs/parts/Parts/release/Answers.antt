@@ -6,7 +6,7 @@ use Rattle.hg_pages.specs.Tables as tables
 use Rattle.hg_pages.specs.Tables.{AreEntries, IsNamed, slot_in}
 use Rattle.hg_pages.proofs.Places.{in_order, once}
 use Rattle.hg_pool.specs.Maps.{copy_in}
-use Rattle.hg_pool.specs.Shown.{Shown}
+use Rattle.hg_pool.specs.Shown.{ShownPool}
 use Rattle.hg_pool.specs.Sound.{AreSound, shown_of}
 use Rattle.hg_pool.proofs.Lookups.{itself, looked_removed}
 use Rattle.hg_pool.proofs.Moving.{no_page_left, sound_released, stays_released}
@@ -33,7 +33,7 @@ returns-clause-sound g c =
     let was = c.requires.sound.picked page c.args.slot c.requires.waits in
     let own = the_some p.frozen was.own in
     let put = c.name_frozen.ensures own.0 own.1 in
-    subst (λ (o : Option tables.Shown). AreSound p.root o p.live c.remove.new.self c.pop.new.self p.frames p.slots p.is_sealed) (sym put.1)
+    subst (λ (o : Option tables.ShownTable). AreSound p.root o p.live c.remove.new.self c.pop.new.self p.frames p.slots p.is_sealed) (sym put.1)
     (sound_released p.root p.frozen own.0 put.0 p.live p.waiting c.remove.new.self p.copies c.pop.new.self p.frames p.slots p.is_sealed page c.args.slot c.requires.sound own.1 put.2 c.requires.waits
     c.remove.ensures.removed (returns-clause-fewer g c)
     (λ q. ap (λ (x : LruCache ℕ (List Cell)). copy_in x.entries q) c.pop.ensures.entries ∙ looked_removed page q p.copies.entries c.len-count.ensures.valid.0)
@@ -44,13 +44,13 @@ pub returns-clause-stays : goal.returns-clause-stays
 returns-clause-stays g c =
     let p = c.args.self.now in
     let page = c.args.page in
-    let old : Shown g.row.D.Denot = shown_of p in
+    let old : ShownPool g.row.D.Denot = shown_of p in
     let was = c.requires.sound.picked page c.args.slot c.requires.waits in
     let own = the_some p.frozen was.own in
     let put = c.name_frozen.ensures own.0 own.1 in
     stays_released g.D.Disk old (unwrap_or c.name_frozen.new.frozen p.root).entries c.remove.new.self.entries c.pop.new.self.entries page c.args.slot
-    (λ q. ap (λ (o : Option tables.Shown). slot_in (unwrap_or o p.root).entries q) put.1 ∙ put.2.looks q
-    ∙ ap (λ (o : Option tables.Shown). if page == q then Some c.args.slot else slot_in (unwrap_or o p.root).entries q) (sym own.1))
+    (λ q. ap (λ (o : Option tables.ShownTable). slot_in (unwrap_or o p.root).entries q) put.1 ∙ put.2.looks q
+    ∙ ap (λ (o : Option tables.ShownTable). if page == q then Some c.args.slot else slot_in (unwrap_or o p.root).entries q) (sym own.1))
     c.requires.waits was.unwritten c.remove.ensures.removed
     (λ q. ap (λ (x : LruCache ℕ (List Cell)). copy_in x.entries q) c.pop.ensures.entries ∙ looked_removed page q p.copies.entries c.len-count.ensures.valid.0)
     c.requires.stands c.requires.sound.sealed

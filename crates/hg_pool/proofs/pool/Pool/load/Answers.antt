@@ -2,19 +2,19 @@ use Rattle.std.proofs.Common.{◌≡◌, ◌/◌, ℕ, sym, subst}
 use Rattle.hg_pages.specs.Slots.{IsKnown}
 use Rattle.hg_pool.specs.Kept.{AreWithin, IsWhole}
 use Rattle.hg_pool.specs.Maps.{live}
-use Rattle.hg_pool.specs.Shown.{Shown}
+use Rattle.hg_pool.specs.Shown.{ShownPool}
 use Rattle.hg_pool.specs.Picking.{TakesLeastFree}
 use Rattle.hg_pool.specs.Sound.{shown_of}
 use Rattle.hg_pool.proofs.pool.Pool.load.Goals as goal
 
 pub returns-clause-within : goal.returns-clause-within
 returns-clause-within g c n m a b within =
-    c.load.ensures.within n m a b (subst (λ (p : Shown g.row.D.Denot). AreWithin p.frames n m) (sym c.self.view_is) within)
+    c.load.ensures.within n m a b (subst (λ (p : ShownPool g.row.D.Denot). AreWithin p.frames n m) (sym c.self.view_is) within)
 
 pub returns-clause-undamaged : goal.returns-clause-undamaged
 returns-clause-undamaged g c h known =
-    c.load.ensures.undamaged (subst (λ (p : Shown g.row.D.Denot). IsWhole g.D.Disk p) (sym c.self.view_is) h)
-    (subst (λ (p : Shown g.row.D.Denot). (w : ℕ) → w / 256 ≡ c.args.page → IsKnown c.args.segments c.args.sets.now.sets (live g.D.Disk p w)) (sym c.self.view_is) known)
+    c.load.ensures.undamaged (subst (λ (p : ShownPool g.row.D.Denot). IsWhole g.D.Disk p) (sym c.self.view_is) h)
+    (subst (λ (p : ShownPool g.row.D.Denot). (w : ℕ) → w / 256 ≡ c.args.page → IsKnown c.args.segments c.args.sets.now.sets (live g.D.Disk p w)) (sym c.self.view_is) known)
 
 pub returns-clause-takes : goal.returns-clause-takes
-returns-clause-takes g c = subst (λ (p : Shown g.row.D.Denot). TakesLeastFree p (shown_of c.load.new.self)) c.self.view_is c.load.ensures.takes
+returns-clause-takes g c = subst (λ (p : ShownPool g.row.D.Denot). TakesLeastFree p (shown_of c.load.new.self)) c.self.view_is c.load.ensures.takes

@@ -4,13 +4,13 @@ use Rattle.hg_pages.specs.Slots.{slot_text}
 use Rattle.hg_pages.specs.Tables.{slot_in}
 use Rattle.hg_pool.specs.declared.job.Put.TheVariants.{Stale}
 use Rattle.hg_pool.specs.Answers.{IsFrozen}
-use Rattle.hg_pool.specs.Shown.{Shown}
+use Rattle.hg_pool.specs.Shown.{ShownPool}
 use Rattle.hg_pool.proofs.pool.Pool.put.Goals as goal
 
 pub returns-clause-stale : goal.returns-clause-stale
 returns-clause-stale g c =
     let e = c.args.page.now in
-    subst (λ (p : Shown g.row.D.Denot). IfOk c.put.result (λ put. put ≡ Stale → (slot : ℕ) (cells : List Cell) → slot_in p.waiting e.page ≡ Some slot → IsFrozen p e.page cells → e.bytes ≡ slot_text e.page cells → ⊥)) c.self.view_is
+    subst (λ (p : ShownPool g.row.D.Denot). IfOk c.put.result (λ put. put ≡ Stale → (slot : ℕ) (cells : List Cell) → slot_in p.waiting e.page ≡ Some slot → IsFrozen p e.page cells → e.bytes ≡ slot_text e.page cells → ⊥)) c.self.view_is
     c.put.ensures.stale
 
 pub invariant_of-self : goal.invariant_of-self

@@ -1,7 +1,7 @@
 use Rattle.std.proofs.Common.{◌≡◌, true, is_some, sym, subst}
 use Rattle.hg_pool.specs.Maps.{frame_in}
 use Rattle.hg_pool.specs.OfWords.{IsSettled, went_on}
-use Rattle.hg_pool.specs.Shown.{Shown}
+use Rattle.hg_pool.specs.Shown.{ShownPool}
 use Rattle.hg_pool.proofs.Overlapping.{at_first, at_last}
 use Rattle.hg_pool.proofs.words.PoolWords.reset.Goals as goal
 
@@ -20,7 +20,7 @@ fill_page-requires-then-last-first-clause-present g c =
 
 pub fill_page-requires-then-last-first-clause-settled : goal.fill_page-requires-then-last-first-clause-settled
 fill_page-requires-then-last-first-clause-settled g c =
-    subst (λ (p : Shown g.row.D.Denot). IsSettled p c.pages_of-first.result.1) (sym c.fill_page.ensures.rest)
+    subst (λ (p : ShownPool g.row.D.Denot). IsSettled p c.pages_of-first.result.1) (sym c.fill_page.ensures.rest)
     (at_last (λ n. IsSettled c.args.self.now n) c.args.at c.args.len c.pages_of-first.result.1 c.requires.some c.pages_of-first.ensures.last (λ w is. (c.requires.kept w is).1))
 
 pub returns-then-last-first-clause-lawful : goal.returns-then-last-first-clause-lawful

@@ -4,7 +4,7 @@ use Rattle.hg_journal.specs.Journal.{IsJournal}
 use Rattle.hg_journal.specs.Reading.{disk_of}
 use Rattle.hg_journal.proofs.Journals.{one_reading}
 use Rattle.hg_journal.proofs.Journaling.{bytes_now}
-use Rattle.hg_store.specs.Shown.{Shown}
+use Rattle.hg_store.specs.Shown.{ShownStore}
 use Rattle.hg_store.proofs.Reading.{has_durable, images_left, images_same, read_on}
 use Rattle.hg_store.proofs.store.Store.durable_events.Goals as goal
 
@@ -33,7 +33,7 @@ returns-clause-events g c events honest is =
     let i = c.self.inside in
     let k = c.self.invariant.stands honest in
     let keeps = (k.1.works (search rules)).journal in
-    let here = subst (λ (v : Shown g.row.D.Denot). IsJournal (g.D.Disk.state v.devices.journal).contents events) (sym c.self.view_is) is in
+    let here = subst (λ (v : ShownStore g.row.D.Denot). IsJournal (g.D.Disk.state v.devices.journal).contents events) (sym c.self.view_is) is in
     let all : events ≡ k.0.events = one_reading (g.D.Disk.state (disk_of i.journal)).contents events k.0.events here (bytes_now g.D.Disk i.journal k.0.events keeps) in
     subst (λ (es : List Named). IfOk c.collect.result (λ found. found.items ≡ take c.args.max (drop (c.args.from - 1) es))) (sym all) (c.collect.ensures.events k.0.events honest keeps (has_durable g.D.Disk _ k.0 k.1))
 

@@ -3,8 +3,8 @@ use Rattle.hg_wire.proofs.reader.EventReader.take_access.Goals as goal
 
 pub returns : goal.returns
 returns c =
-    let pending = c.self.inside.splitter.pending in
+    let so_far = c.self.inside.splitter.so_far in
     record {
-      access = rw (c.count_line.ensures, ← c.self.view_is) (event_gives pending c.args.piece.now _ _ (c.is_between_lines.ensures.0 c.if-not-is_between_lines.false) c.in_ok-found.ensures);
+      access = rw (c.count_line.ensures, ← c.self.view_is) (event_gives so_far c.args.piece.now _ _ (c.is_between_lines.ensures.0 c.if-not-is_between_lines.false) c.in_ok-found.ensures);
       none = tt;
     }

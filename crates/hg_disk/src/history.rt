@@ -15,16 +15,16 @@ pub(crate) struct Event {
 
 /// The calls of a disk, the newest first. It takes no memory, and it only grows.
 #[derive(Drop)]
-pub(crate) struct Record {
+pub(crate) struct History {
     pub events: Trail<Event>,
 }
 
-impl Record {
+impl History {
     /// Of a disk with no call made yet.
-    pub(crate) fn new() -> Record
+    pub(crate) fn new() -> History
         ensures { result.events ≡ [] }
     {
-        Record {
+        History {
             events: Trail::new(),
         }
     }
