@@ -1,13 +1,15 @@
 -- Definition: what a diagnosis of a bad line says. Words are counted from 0 on, the verb first.
-use Rattle.std.specs.Prelude.{◌≡◌, ◌≢◌, ℕ, ◌+◌, ◌<◌, ◌≤◌, ◌^◌, List, [], ◌∷◌, length, slice_get, Some, None, Ok}
+use Rattle.std.specs.Prelude.{◌≡◌, ◌≢◌, ℕ, ◌+◌, ◌<◌, ◌≤◌, ◌^◌, List, [], ◌∷◌, length, slice_get, MatchOption, Option, Some, None, Ok}
 use Rattle.hg_model.specs.declared.event.Event.{Event}
 use Rattle.hg_wire.specs.declared.diagnosis.Diagnosis.{Diagnosis}
 use Rattle.hg_wire.specs.declared.diagnosis.Diagnosis.TheVariants as says
+use Rattle.hg_wire.specs.declared.diagnosis.Misfit.{Misfit}
 use Rattle.hg_wire.specs.declared.line.LineFault.{LineFault}
 use Rattle.hg_wire.specs.declared.line.LineFault.TheVariants.{TooLong, Verb, Count, Number}
 use Rattle.hg_wire.specs.declared.verb.Verb as source
 use Rattle.hg_wire.specs.Numbers.{number_of}
 use Rattle.hg_wire.specs.Lines.{line_of, operand_of, words_of}
+use Rattle.hg_wire.specs.Taken.{HaveValues}
 use Rattle.hg_wire.specs.Verbs.{row_of}
 
 -- the fault that it is about
@@ -34,6 +36,10 @@ pub record IsFirstMisfit (widths : List ℕ) (words : List (List ℕ)) (place : 
   pub is_width : slice_get widths place ≡ Some bits
   pub misfit : operand_of bits word ≡ None
   pub earlier : (k width : ℕ) (fit : List ℕ) → k < place → slice_get widths k ≡ Some width → slice_get words k ≡ Some fit → (n : ℕ) × (operand_of width fit ≡ Some n)
+
+-- the first misfit among the words, or none where all have values
+abbrev pub GivesMisfit : List ℕ → List (List ℕ) → Option Misfit → Type 0
+GivesMisfit widths words answer = MatchOption answer (HaveValues widths words) (λ found. IsFirstMisfit widths words found.place found.word.now found.bits)
 
 -- the same of a line, whose operands follow its verb
 pub record HasMisfit (line : List ℕ) (place : ℕ) (word : List ℕ) (bits : ℕ) : Type 0 where

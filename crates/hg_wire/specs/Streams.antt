@@ -1,6 +1,7 @@
 -- For proofs alone: how far a reader has come in a stream, and what each call of it takes.
 use Rattle.std.specs.Prelude.{◌≡◌, ◌⊎◌, ℕ, ◌+◌, ◌<◌, ◌≤◌, Bool, true, false, nat_lt, List, [], ◌∷◌, ◌++◌, length, take, drop, map, Some, None, if◌then◌else◌}
 use Rattle.std.specs.List.{enumerate_from}
+use Rattle.std.specs.Str.Lines.{strip_carriage_return}
 use Rattle.memchr.specs.Find.{IsLastByte, is_byte}
 use Rattle.hg_wire.specs.declared.reader.Reading.{Reading}
 use Rattle.hg_wire.specs.declared.reader.Taken.{Taken}
@@ -44,6 +45,14 @@ held bytes = if nat_lt 257 (length bytes) then take 257 bytes ++ 0 ∷ [] else b
 pub record Splitting : Type 0 where
   pub so_far : LinesRead
   pub last : List ℕ
+
+-- So many lines more have ended, and nothing else has changed.
+abbrev pub counted_on : ℕ → Splitting → Splitting
+counted_on count s = record { so_far = record { lines = s.so_far.lines + count; begun = s.so_far.begun }; last = s.last }
+
+-- The line that had begun has ended.
+abbrev pub line_ended : Splitting → Splitting
+line_ended s = record { so_far = between_lines (s.so_far.lines + 1); last = take 257 (strip_carriage_return s.so_far.begun) }
 
 -- Taking so many bytes of the piece ends one line.
 pub record EndsLine (old new : Splitting) (piece : List ℕ) (used : ℕ) : Type 0 where

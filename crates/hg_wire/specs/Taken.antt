@@ -1,7 +1,8 @@
 -- For proofs alone: the words of a line, taken one after another.
-use Rattle.std.specs.Prelude.{◌≡◌, ℕ, ◌<◌, nat_lt, List, [], ◌∷◌, length, Some, true, false}
+use Rattle.std.specs.Prelude.{◌≡◌, ℕ, ◌<◌, nat_lt, List, [], ◌∷◌, length, MatchOption, Option, Some, true, false}
+use Rattle.std.specs.Borrow.{Bor}
 use Rattle.std.specs.List.{list_all}
-use Rattle.hg_wire.specs.Lines.{are_counted, values_of}
+use Rattle.hg_wire.specs.Lines.{are_counted, values_of, words_after}
 
 -- Some words begin with this one, which is not empty, and then come the others.
 abbrev pub HasWord : List (List ℕ) → List ℕ → List (List ℕ) → Type 0
@@ -26,6 +27,18 @@ LacksTwo words = (a b : ℕ) → are_counted (a ∷ b ∷ []) words ≡ false
 -- Some words are not the words of three operands.
 abbrev pub LacksThree : List (List ℕ) → Type 0
 LacksThree words = (a b d : ℕ) → are_counted (a ∷ b ∷ d ∷ []) words ≡ false
+
+-- The first of some words, where it is not empty, and those after it.
+abbrev pub GivesWord : List (List ℕ) → Option (Bor (List ℕ) × Option (Bor (List ℕ))) → Type 0
+GivesWord words answer = MatchOption answer (LacksWord words) (λ found. HasWord words found.0.now (words_after found.1))
+
+-- The two words, where there are two and none is empty.
+abbrev pub GivesTwo : List (List ℕ) → Option (Bor (List ℕ) × Bor (List ℕ)) → Type 0
+GivesTwo words answer = MatchOption answer (LacksTwo words) (λ found. AreTwo words found.0.now found.1.now)
+
+-- The three words, where there are three and none is empty.
+abbrev pub GivesThree : List (List ℕ) → Option (Bor (List ℕ) × Bor (List ℕ) × Bor (List ℕ)) → Type 0
+GivesThree words answer = MatchOption answer (LacksThree words) (λ found. AreThree words found.0.now found.1.now found.2.now)
 
 -- None of the words is empty.
 abbrev pub NoneIsEmpty : List (List ℕ) → Type 0

@@ -3,7 +3,7 @@
 ghost use Rattle.std.specs.Prelude.{◌≡◌, ◌⊎◌, ◌+◌, ◌<◌, ◌≤◌, [], ◌∷◌, ℕ, List, Ok, Err, Some, true, is_some, length, nat_lt, IfSome, MatchOption};
 ghost use Rattle.std.specs.List.{AllByRecursion, list_all};
 ghost use Rattle.hg_model.specs.declared.event.Event.{Event as EventOf};
-ghost use Rattle.hg_wire.specs.Diagnoses.{HasVerb, IsFirstEmpty, IsFirstMisfit, IsTrueOf, SpellsEvent, fault_of};
+ghost use Rattle.hg_wire.specs.Diagnoses.{GivesMisfit, HasVerb, IsFirstEmpty, IsTrueOf, SpellsEvent, fault_of};
 ghost use Rattle.hg_wire.specs.Lines.{are_counted, line_of, operand_of, values_of, words_after, words_of};
 ghost use Rattle.hg_wire.specs.Taken.{HaveValues, NoneIsEmpty};
 ghost use Rattle.hg_wire.specs.Verbs.{row_of};
@@ -90,8 +90,7 @@ fn is_operand(word: &[u8], bits: u8) -> bool
 /// The first word that is no operand of its width.
 fn first_misfit<'a>(widths: &[u8], words: Option<&'a [u8]>) -> Option<Misfit<'a>>
     requires { AllByRecursion (λ bits. (bits ≡ 8) ⊎ ((bits ≡ 16) ⊎ (bits ≡ 64))) widths.now }
-    ensures first { MatchOption result (HaveValues widths.now (words_after words.entry))
-        (λ found. IsFirstMisfit widths.now (words_after words.entry) found.place found.word.now found.bits) }
+    ensures first { GivesMisfit widths.now (words_after words.entry) result }
     ensures within { IfSome result (λ found. found.place < length widths.now) }
 {
     let (bits, others) = widths.split_first()?;

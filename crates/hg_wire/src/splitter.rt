@@ -33,9 +33,8 @@ impl Model for Splitter {
 }
 
 impl Splitter {
-    ghost use Rattle.std.specs.Prelude.{take, true};
-    ghost use Rattle.std.specs.Str.Lines.{strip_carriage_return};
-    ghost use Rattle.hg_wire.specs.Streams.{at_start, lines_from, EndsLine, EndsNoLine, EndsLastLine};
+    ghost use Rattle.std.specs.Prelude.{true};
+    ghost use Rattle.hg_wire.specs.Streams.{at_start, counted_on, line_ended, lines_from, EndsLine, EndsNoLine, EndsLastLine};
 
     /// A splitter at the start of a stream.
     pub fn new(alloc: Global) -> Result<Self, AllocError>
@@ -75,10 +74,7 @@ impl Splitter {
     #[inline(always)]
     pub fn count_line(&mut self)
         requires { self.old.so_far.lines + 1 < 2 ^ 64 }
-        ensures { self.new ≡ record {
-          so_far = record { lines = self.old.so_far.lines + 1; begun = self.old.so_far.begun };
-          last = self.old.last;
-        } }
+        ensures { self.new ≡ counted_on 1 self.old }
     {
         self.lines += 1;
     }
@@ -87,10 +83,7 @@ impl Splitter {
     #[inline(always)]
     pub fn count_lines(&mut self, count: u64)
         requires { self.old.so_far.lines + count < 2 ^ 64 }
-        ensures { self.new ≡ record {
-          so_far = record { lines = self.old.so_far.lines + count; begun = self.old.so_far.begun };
-          last = self.old.last;
-        } }
+        ensures { self.new ≡ counted_on count self.old }
     {
         self.lines += count;
     }
@@ -138,10 +131,7 @@ impl Splitter {
 
     fn end_line(&mut self)
         requires { self.old.so_far.lines + 1 < 2 ^ 64 }
-        ensures { self.new ≡ record {
-          so_far = record { lines = self.old.so_far.lines + 1; begun = [] };
-          last = take 257 (strip_carriage_return self.old.so_far.begun);
-        } }
+        ensures { self.new ≡ line_ended self.old }
     {
         mem::swap(&mut self.line, &mut self.last);
         self.line.clear();

@@ -1,8 +1,8 @@
 //! The words of a line, and the first of its faults.
 
-ghost use Rattle.std.specs.Prelude.{◌≡◌, [], ◌∷◌, ℕ, List, ◌<◌, length, false, MatchOption, IfSome, position, ◌==◌};
+ghost use Rattle.std.specs.Prelude.{◌≡◌, [], ◌∷◌, ℕ, List, ◌<◌, length, false, IfSome, position, ◌==◌};
 ghost use Rattle.hg_wire.specs.Lines.{words_of, words_after, are_counted, operand_of, operands_of, result_map, of_verb, line_of};
-ghost use Rattle.hg_wire.specs.Taken.{AreThree, AreTwo, HasWord, LacksThree, LacksTwo, LacksWord};
+ghost use Rattle.hg_wire.specs.Taken.{GivesThree, GivesTwo, GivesWord};
 ghost use Rattle.hg_wire.specs.Verbs.{pair_widths, access_widths, block_widths};
 
 use crate::line::{LineFault, MOST_LINE_BYTES};
@@ -29,8 +29,7 @@ pub(crate) fn split_word(line: &[u8]) -> (&[u8], Option<&[u8]>)
 
 /// The first of some words, which is not empty, and the words after it.
 fn take_word(words: Option<&[u8]>) -> Option<(&[u8], Option<&[u8]>)>
-    ensures { MatchOption result (LacksWord (words_after words.entry))
-        (λ found. HasWord (words_after words.entry) found.0.now (words_after found.1)) }
+    ensures { GivesWord (words_after words.entry) result }
 {
     let (word, rest) = split_word(words?);
     if word.is_empty() {
@@ -41,8 +40,7 @@ fn take_word(words: Option<&[u8]>) -> Option<(&[u8], Option<&[u8]>)>
 
 /// Two words, none of them empty, and no more.
 fn two_words(words: Option<&[u8]>) -> Option<(&[u8], &[u8])>
-    ensures { MatchOption result (LacksTwo (words_after words.entry))
-        (λ found. AreTwo (words_after words.entry) found.0.now found.1.now) }
+    ensures { GivesTwo (words_after words.entry) result }
 {
     let (first, rest) = take_word(words)?;
     let (second, rest) = take_word(rest)?;
@@ -54,8 +52,7 @@ fn two_words(words: Option<&[u8]>) -> Option<(&[u8], &[u8])>
 
 /// Three words, none of them empty, and no more.
 fn three_words(words: Option<&[u8]>) -> Option<(&[u8], &[u8], &[u8])>
-    ensures { MatchOption result (LacksThree (words_after words.entry))
-        (λ found. AreThree (words_after words.entry) found.0.now found.1.now found.2.now) }
+    ensures { GivesThree (words_after words.entry) result }
 {
     let (first, rest) = take_word(words)?;
     let (second, third) = two_words(rest)?;
