@@ -1,11 +1,11 @@
 //! Many events in memory, to measure how long they take.
 
-use crate::text::Text;
 use crate::world::World;
 use hg_desk::share::{Column, Opening};
 use hg_frames::frame::Frame;
 use hg_frames::put::put_frame;
 use hg_model::event::{Access, Event};
+use hg_text::Text;
 use std::alloc::Global;
 
 /// How many events are sent before each Ask.

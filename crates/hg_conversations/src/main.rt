@@ -2,11 +2,11 @@
 #![tactic(auto)]
 
 mod load;
-mod text;
+mod replies;
 mod world;
 
-use crate::text::Text;
 use crate::world::run_store;
+use hg_text::Text;
 use std::alloc::Global;
 use std::io;
 use std::io::Write;

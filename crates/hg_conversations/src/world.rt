@@ -8,7 +8,7 @@ ghost use Rattle.hg_store.specs.Shown.{live};
 ghost use Rattle.hg_store.specs.Store.{IsFresh};
 
 use crate::load::load;
-use crate::text::{Text, bytes_of, front};
+use crate::replies::{put_fault, tell_reply};
 use hg_desk::desk::Desk;
 use hg_desk::locked::Core;
 use hg_desk::share::{Column, Opening, Share};
@@ -19,6 +19,7 @@ use hg_frames::put::put_reply;
 use hg_frames::reply::{Reply, ReplyFeed};
 use hg_store::devices::{Caps, Devices};
 use hg_store::store::Store;
+use hg_text::{Text, bytes_of, front};
 use std::alloc::Global;
 use std::marker::Brand;
 use std::sync::ledger::Blank;
@@ -63,7 +64,7 @@ impl<A: Opening, B: Column> World<A, B> {
         out.put(b"answer ");
         out.put_hex(self.answered.as_slice());
         match fed.fault {
-            Some(fault) => out.put_fault(fault),
+            Some(fault) => put_fault(fault, out),
             None => {}
         }
     }
@@ -127,10 +128,10 @@ impl<A: Opening, B: Column> World<A, B> {
 fn put_replies(fed: &Fed<Reply>, out: &mut Text) {
     out.put(b"replies");
     for reply in fed.messages.iter() {
-        out.put_reply(reply);
+        tell_reply(reply, out);
     }
     match fed.fault {
-        Some(fault) => out.put_fault(fault),
+        Some(fault) => put_fault(fault, out),
         None => {}
     }
 }

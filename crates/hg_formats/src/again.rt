@@ -6,7 +6,6 @@ ghost use Rattle.hg_root.specs.Grammar.{LockFits, ThreadFits};
 ghost use Rattle.hg_root.specs.Lawful.{IsLawful};
 ghost use Rattle.hg_root.specs.Roots.{parts_of};
 
-use crate::text::{Text, bytes_of};
 use crate::threads::{is_alive, is_among, last_of};
 use hg_graph::Graph;
 use hg_model::held::{HeldLock, HeldLocks};
@@ -15,6 +14,7 @@ use hg_model::segment::Segment;
 use hg_model::state::TraceState;
 use hg_model::thread::ThreadState;
 use hg_root::{HeadParts, Root, RootFault, RootHead};
+use hg_text::{Text, bytes_of};
 use std::alloc::{AllocError, Global};
 
 /// Adds a lock, where the thread does not hold it and holds less than 64.

@@ -1,7 +1,7 @@
 //! Disks in memory with the bytes that digits spell.
 
-use crate::text::bytes_of;
 use hg_disk::MemDisk;
+use hg_text::bytes_of;
 use std::alloc::Global;
 
 /// A disk with these bytes.

@@ -6,14 +6,13 @@ mod disks;
 mod roots;
 mod slots;
 mod stops;
-mod text;
 mod threads;
 
 use crate::again::tell_again;
 use crate::roots::{tell_file, tell_newest, tell_root};
 use crate::slots::tell_slot;
 use crate::stops::{tell_pair, tell_slots, tell_stopped};
-use crate::text::{Text, front};
+use hg_text::{Text, front};
 use std::alloc::Global;
 use std::io;
 use std::io::Write;

@@ -3,7 +3,6 @@
 ghost use Rattle.std.specs.Prelude.{◌<◌};
 
 use crate::disks::{disk_of, disks_of};
-use crate::text::{Text, bytes_of};
 use crate::threads::put_threads;
 use hg_cells::KeptReport;
 use hg_gate::{GateFault, Gated};
@@ -11,6 +10,7 @@ use hg_model::limits::GREATEST_NUMBER;
 use hg_model::segment::Segment;
 use hg_root::{Newest, PageSlot, Root, RootFault, RootPair, SourceCount};
 use hg_sets::SetTable;
+use hg_text::{Text, bytes_of};
 use std::alloc::Global;
 
 /// Numbers behind this word, with commas between.

@@ -2,11 +2,11 @@
 
 ghost use Rattle.std.specs.Prelude.{◌≡◌, length};
 
-use crate::text::{Text, bytes_of, front};
 use hg_cells::{Cell, PAGE_WORDS, Page};
 use hg_model::sets::NumberSet;
 use hg_pages::{SLOT_LEN, decode, encode};
 use hg_sets::{MOST_SETS, SetTable};
+use hg_text::{Text, bytes_of, front};
 use std::alloc::Global;
 
 /// The numbers of a list with commas.

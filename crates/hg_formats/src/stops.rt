@@ -3,10 +3,10 @@
 ghost use Rattle.std.specs.Prelude.{◌<◌};
 
 use crate::disks::disks_of;
-use crate::text::{Text, bytes_of, front};
 use hg_disk::{FuseDisk, MemDisk, Tear};
 use hg_pages::{EncodedPage, SLOT_LEN, SlotFile, WriteFault};
 use hg_root::{RootFault, RootPair};
+use hg_text::{Text, bytes_of, front};
 use std::alloc::Global;
 
 /// The tear that a word names: `lost`, `kept`, `front` or `fill`, the last two with a number.

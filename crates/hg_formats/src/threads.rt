@@ -1,12 +1,12 @@
 //! The threads of a trace state, as its public calls show them.
 
-use crate::text::Text;
 use hg_model::event::{Access, Event, Named};
 use hg_model::judging::judge;
 use hg_model::limits::GREATEST_NUMBER;
 use hg_model::segment::Segment;
 use hg_model::state::TraceState;
 use hg_model::verdict::{Refusal, Verdict};
+use hg_text::Text;
 
 /// The last segment of a thread, where there is one.
 pub fn last_of(segments: &[Segment], thread: u16) -> Option<usize> {

@@ -1,7 +1,7 @@
 //! Cells in words: read, and told.
 
-use crate::text::Text;
 use hg_cells::{Cell, PAGE_WORDS, Page};
+use hg_text::Text;
 
 /// Two numbers with a comma between.
 fn pair_of(word: &str) -> Option<(u32, u32)> {

@@ -1,10 +1,10 @@
 //! The pool under trial, what its cells are checked against, and the disk of the last pool.
 
 use crate::opening::{pool_of, sets_of};
-use crate::text::{Text, front};
 use crate::trial::{Known, Trial};
 use hg_disk::{Answer, Answered, Call, MemDisk, Tear};
 use hg_sets::{MOST_SETS, SetTable};
+use hg_text::{Text, front};
 use std::alloc::Global;
 
 /// The pool under trial, what its cells are checked against, and the disk of the last pool.

@@ -21,11 +21,10 @@ mod cells;
 mod desk;
 mod disk;
 mod opening;
-mod text;
 mod trial;
 
 use crate::desk::Desk;
-use crate::text::Text;
+use hg_text::Text;
 use std::alloc::Global;
 use std::io;
 use std::io::Write;

@@ -4,12 +4,12 @@ ghost use Rattle.std.specs.Prelude.{◌<◌, ◌^◌, IfSome, IsTrue};
 ghost use Rattle.hg_pool.specs.Tables.{AreBelow};
 
 use crate::disk::{Failures, TrialDisk};
-use crate::text::{bytes_of, front};
 use hg_disk::MemDisk;
 use hg_model::sets::NumberSet;
 use hg_pages::{MOST_PAGES, MOST_SLOTS, SlotFile, Table};
 use hg_pool::Pool;
 use hg_sets::{MOST_SETS, SetTable};
+use hg_text::{bytes_of, front};
 use std::alloc::Global;
 
 /// The numbers of a list with commas.

@@ -5,13 +5,13 @@ ghost use Rattle.std.specs.Prelude.{◌≡◌, ◌<◌, ◌≤◌, ◌^◌, true
 use crate::cells::{cell_of, put_cell, put_page};
 use crate::disk::TrialDisk;
 use crate::opening::page_of;
-use crate::text::{Text, front};
 use hg_cells::{Cell, PAGE_WORDS};
 use hg_disk::MemDisk;
 use hg_model::verdict::Refusal;
 use hg_pages::{EncodedPage, SLOT_LEN, WriteFault};
 use hg_pool::{Pool, Put};
 use hg_sets::SetTable;
+use hg_text::{Text, front};
 use std::alloc::Global;
 
 /// What cells are checked against when they are read.

@@ -12,58 +12,21 @@ use hg_model::segment::Segment;
 use hg_model::verdict::Refusal;
 use hg_pool::Put;
 use hg_store::steps::StorePhase;
+use hg_text::Text;
 use hg_wire::lines::put_segment_line;
 use hg_wire::report::put_report_line;
-use itoa::Buffer;
-use std::alloc::Global;
 
-/// A text that is written piece by piece. Where memory is refused for one, that is noted, and nobody need ask before the end.
-#[derive(Drop)]
-pub struct Text {
-    bytes: Vec<u8>,
-    is_whole: bool,
+/// The line of the k-th race.
+pub fn put_report(k: u64, report: &Report, out: &mut Text) {
+    if put_report_line(k, report, out.bytes_mut()).is_err() {
+        out.note_missing();
+    }
 }
 
-impl Text {
-    pub fn new(alloc: Global) -> Text {
-        Text {
-            bytes: Vec::new(alloc),
-            is_whole: true,
-        }
-    }
-
-    pub fn clear(&mut self) {
-        self.bytes.clear();
-        self.is_whole = true;
-    }
-
-    pub fn bytes(&self) -> &[u8] {
-        &self.bytes
-    }
-
-    /// Whether no piece is missing.
-    pub fn is_whole(&self) -> bool {
-        self.is_whole
-    }
-
-    pub fn put(&mut self, piece: &[u8]) {
-        if self.bytes.extend_from_slice(piece).is_err() {
-            self.is_whole = false;
-        }
-    }
-
-    /// The line of the k-th race.
-    pub fn put_report(&mut self, k: u64, report: &Report) {
-        if put_report_line(k, report, &mut self.bytes).is_err() {
-            self.is_whole = false;
-        }
-    }
-
-    /// The line of the k-th segment.
-    pub fn put_segment(&mut self, k: u64, segment: &Segment) {
-        if put_segment_line(k, segment, &mut self.bytes).is_err() {
-            self.is_whole = false;
-        }
+/// The line of the k-th segment.
+pub fn put_segment(k: u64, segment: &Segment, out: &mut Text) {
+    if put_segment_line(k, segment, out.bytes_mut()).is_err() {
+        out.note_missing();
     }
 }
 
@@ -71,18 +34,6 @@ impl Text {
 pub fn put_ok(out: &mut Text) -> Result<(), Halt> {
     out.put(b"ok");
     Ok(())
-}
-
-/// A number in decimal.
-pub fn put_number(value: u64, out: &mut Text) {
-    let mut digits = Buffer::new();
-    out.put(digits.format(value).as_bytes());
-}
-
-/// Words, and a number behind them.
-pub fn put_count(words: &[u8], value: u64, out: &mut Text) {
-    out.put(words);
-    put_number(value, out);
 }
 
 /// The hexadecimal digit of a number below 16.
@@ -114,22 +65,22 @@ pub fn put_bytes(bytes: &[u8], out: &mut Text) {
 
 /// `N events`
 pub fn put_count_of_events(count: u64, out: &mut Text) {
-    put_number(count, out);
+    out.put_decimal(count);
     out.put(b" events");
 }
 
 /// `refused CODE`, and for a gap the number that is next.
 fn put_refusal(refusal: Refusal, out: &mut Text) {
-    put_count(b"refused ", u64::from(refusal.code()), out);
+    out.put_number(b"refused ", u64::from(refusal.code()));
     if let Refusal::Gap(next) = refusal {
-        put_count(b" next ", next, out);
+        out.put_number(b" next ", next);
     }
 }
 
 fn put_offered(answer: Answer, out: &mut Text) {
     match answer {
         Answer::Accepted => out.put(b"accepted"),
-        Answer::Duplicate(last) => put_count(b"duplicate ", last, out),
+        Answer::Duplicate(last) => out.put_number(b"duplicate ", last),
     }
 }
 
@@ -161,12 +112,12 @@ fn put_put(put: Put, out: &mut Text) {
 pub fn put_told(told: Told, out: &mut Text) {
     match told {
         Told::Offered(answer) => put_offered(answer, out),
-        Told::Committed(count) => put_number(count, out),
+        Told::Committed(count) => out.put_decimal(count),
         Told::Done => out.put(b"ok"),
-        Told::Page(page) => put_count(b"page ", page, out),
+        Told::Page(page) => out.put_number(b"page ", page),
         Told::NoneWaits => out.put(b"none"),
         Told::Put(put) => put_put(put, out),
-        Told::Root(number) => put_count(b"root ", number, out),
+        Told::Root(number) => out.put_number(b"root ", number),
         Told::WrongPhase(phase) => put_wrong_phase(phase, out),
         Told::Refused(refusal) => put_refusal(refusal, out),
         Told::NoPage => out.put(b"no page"),
@@ -175,29 +126,29 @@ pub fn put_told(told: Told, out: &mut Text) {
 
 /// `root N, M pages`
 pub fn put_checkpoint(opened: Opened, out: &mut Text) {
-    put_count(b"root ", opened.root, out);
-    put_count(b", ", opened.pages, out);
+    out.put_number(b"root ", opened.root);
+    out.put_number(b", ", opened.pages);
     out.put(b" pages");
 }
 
 fn put_pair(verb: &[u8], first: u16, second: u16, out: &mut Text) {
     out.put(verb);
-    put_count(b" ", u64::from(first), out);
-    put_count(b" ", u64::from(second), out);
+    out.put_number(b" ", u64::from(first));
+    out.put_number(b" ", u64::from(second));
 }
 
 fn put_access(verb: &[u8], access: Access, out: &mut Text) {
     out.put(verb);
-    put_count(b" ", u64::from(access.t), out);
-    put_count(b" ", access.at, out);
-    put_count(b" ", u64::from(access.len), out);
+    out.put_number(b" ", u64::from(access.t));
+    out.put_number(b" ", access.at);
+    out.put_number(b" ", u64::from(access.len));
 }
 
 fn put_block(verb: &[u8], block: Block, out: &mut Text) {
     out.put(verb);
-    put_count(b" ", u64::from(block.t), out);
-    put_count(b" ", block.at, out);
-    put_count(b" ", u64::from(block.len), out);
+    out.put_number(b" ", u64::from(block.t));
+    out.put_number(b" ", block.at);
+    out.put_number(b" ", u64::from(block.len));
 }
 
 fn put_event(event: Event, out: &mut Text) {
@@ -216,8 +167,8 @@ fn put_event(event: Event, out: &mut Text) {
 
 /// `SOURCE NUMBER EVENT`, with all numbers in decimal.
 pub fn put_named(named: &Named, out: &mut Text) {
-    put_number(u64::from(named.source), out);
-    put_count(b" ", named.number, out);
+    out.put_decimal(u64::from(named.source));
+    out.put_number(b" ", named.number);
     out.put(b" ");
     put_event(named.event, out);
 }
@@ -237,7 +188,7 @@ pub fn put_tear(tear: Tear, out: &mut Text) {
     match tear {
         Tear::Lost => out.put(b"lost"),
         Tear::Kept => out.put(b"kept"),
-        Tear::Front(count) => put_count(b"front ", count as u64, out),
+        Tear::Front(count) => out.put_number(b"front ", count as u64),
         Tear::Fill(byte) => {
             out.put(b"fill ");
             put_byte(byte, out);

@@ -1,9 +1,7 @@
 //! What the lines of a scenario do with a store.
 
 use crate::actions::{Action, Desk, Told, note_and_make, told_of};
-use crate::answers::{
-    Text, put_checkpoint, put_count, put_count_of_events, put_number, put_ok, put_told,
-};
+use crate::answers::{put_checkpoint, put_count_of_events, put_ok, put_told};
 use crate::checkpoints::{checkpoint, put_all};
 use crate::device::{Device, read_device};
 use crate::rows::put_events;
@@ -21,6 +19,7 @@ use hg_store::create::CreateFault;
 use hg_store::devices::{Caps, Devices};
 use hg_store::drive::StepAnswer;
 use hg_store::steps::Step;
+use hg_text::Text;
 use std::alloc::{AllocError, Global};
 
 /// A store, if one is open, and its run so far.
@@ -110,7 +109,7 @@ fn put_answers(answers: &[StepAnswer<Held>], out: &mut Text) {
 /// `ANSWER`, or `N times ANSWER`
 fn put_times(times: u64, told: Told, out: &mut Text) {
     if times > 1 {
-        put_number(times, out);
+        out.put_decimal(times);
         out.put(b" times ");
     }
     put_told(told, out);
@@ -229,9 +228,9 @@ fn stop_at(
 
 /// `ACKNOWLEDGED`, or `ACKNOWLEDGED or ACCEPTED`
 fn put_progress(progress: Progress, out: &mut Text) -> Result<(), Halt> {
-    put_number(progress.acknowledged, out);
+    out.put_decimal(progress.acknowledged);
     if progress.in_doubt {
-        put_count(b" or ", progress.accepted, out);
+        out.put_number(b" or ", progress.accepted);
     }
     Ok(())
 }
@@ -259,8 +258,8 @@ fn put_found(opened: OpenStore, out: &mut Text) -> Result<(), Halt> {
 /// `sets N slots M`: the greatest that a store may have.
 fn put_profile(out: &mut Text) -> Result<(), Halt> {
     let caps = Caps::profile();
-    put_count(b"sets ", u64::from(caps.sets), out);
-    put_count(b" slots ", u64::from(caps.slots), out);
+    out.put_number(b"sets ", u64::from(caps.sets));
+    out.put_number(b" slots ", u64::from(caps.slots));
     Ok(())
 }
 
@@ -423,7 +422,7 @@ impl Bench {
         };
         let made = &mut self.run.actions;
         match put_all(self.alloc, &mut opened.store, &mut self.desk, made) {
-            Ok(count) => put_number(count, out),
+            Ok(count) => out.put_decimal(count),
             Err(told) => put_told(told, out),
         }
         Ok(())

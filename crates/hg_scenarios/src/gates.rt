@@ -1,10 +1,11 @@
 //! What the lines of a scenario do with a gated file. It stands on the disk of the first root.
 
-use crate::answers::{Text, put_bytes, put_ok};
+use crate::answers::{put_bytes, put_ok};
 use crate::device::Device;
 use crate::shelf::{Held, Shelf};
 use crate::words::{self, Halt, front};
 use hg_gate::Gated;
+use hg_text::Text;
 use std::alloc::{AllocError, Global};
 
 /// A gated file that is open.

@@ -1,6 +1,6 @@
 //! What the lines of a scenario do with a journal of events. It stands on the disk of the journal.
 
-use crate::answers::{Text, put_named, put_ok};
+use crate::answers::{put_named, put_ok};
 use crate::device::Device;
 use crate::rows::put_events;
 use crate::shelf::{Held, Shelf};
@@ -9,6 +9,7 @@ use hg_disk::Disk;
 use hg_journal::journal::{Journal, JournalReader, MAX_BATCH_EVENTS};
 use hg_model::event::Named;
 use hg_model::verdict::Refusal;
+use hg_text::Text;
 use std::alloc::{AllocError, Global};
 
 /// A journal that is open, and the reader of its events.

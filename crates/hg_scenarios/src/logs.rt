@@ -1,11 +1,12 @@
 //! What the lines of a scenario do with a log of batches. It stands on the disk of the journal.
 
-use crate::answers::{Text, put_bytes, put_ok};
+use crate::answers::{put_bytes, put_ok};
 use crate::device::Device;
 use crate::shelf::{Held, Shelf};
 use crate::words::{self, Halt, front};
 use hg_disk::Disk;
 use hg_gate::{Batch, GateFault, Log, LogPlace};
+use hg_text::Text;
 use std::alloc::{AllocError, Global};
 
 /// A log that is open, and where the batch stands that is read next.

@@ -19,9 +19,10 @@ mod telling;
 mod words;
 mod world;
 
-use crate::answers::{Text, put_halt};
+use crate::answers::put_halt;
 use crate::words::Halt;
 use crate::world::World;
+use hg_text::Text;
 use std::alloc::Global;
 use std::io;
 use std::process::ExitCode;

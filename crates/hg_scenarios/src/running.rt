@@ -1,7 +1,7 @@
 //! Runs of a store that are made again, and stopped.
 
 use crate::actions::{Action, Desk, Told, make};
-use crate::answers::{Text, put_count, put_told};
+use crate::answers::put_told;
 use crate::checkpoints::checkpoint;
 use crate::device::Device;
 use crate::shelf::{Fuse, Held, Image, NO_FUSES};
@@ -12,6 +12,7 @@ use hg_detect::detector::Answer;
 use hg_model::event::Named;
 use hg_model::verdict::Refusal;
 use hg_store::store::Store;
+use hg_text::Text;
 use std::alloc::{AllocError, Global};
 
 /// How a store came to be, and what was done to it since then.
@@ -182,7 +183,7 @@ pub fn reference_of(alloc: Global, run: &Run) -> Result<Reference, Halt> {
 
 /// Says what was wrong, with a number.
 fn wrong_at(words: &[u8], number: u64, out: &mut Text) -> Halt {
-    put_count(words, number, out);
+    out.put_number(words, number);
     Halt::Said
 }
 

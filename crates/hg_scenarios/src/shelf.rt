@@ -1,12 +1,13 @@
 //! What the disks of a scenario have while nothing is open over them.
 
-use crate::answers::{Text, put_bytes, put_number, put_ok};
+use crate::answers::{put_bytes, put_ok};
 use crate::device::{DEVICES, Device, read_device};
 use crate::stores::Memories;
 use crate::tears::{Tears, tear};
 use crate::words::{Halt, after, number};
 use hg_disk::{FuseDisk, MemDisk, Tear};
 use hg_store::devices::Devices;
+use hg_text::Text;
 use std::alloc::{AllocError, Global};
 
 /// A disk of a scenario.
@@ -216,8 +217,8 @@ impl Shelf {
         let bytes = device.of(&self.image.parts);
         match word {
             "bytes" => return put_part(bytes, rest, out),
-            "length" => put_number(bytes.len() as u64, out),
-            _ => put_number(*device.of(&self.calls), out),
+            "length" => out.put_decimal(bytes.len() as u64),
+            _ => out.put_decimal(*device.of(&self.calls)),
         }
         Ok(())
     }

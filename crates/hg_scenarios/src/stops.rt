@@ -1,6 +1,6 @@
 //! A stop of each device at each of its calls.
 
-use crate::answers::{Text, put_count, put_tear};
+use crate::answers::put_tear;
 use crate::device::{DEVICES, Device};
 use crate::running::{Progress, Reference, Run, reference_of, resume, stop_run};
 use crate::shelf::Image;
@@ -9,6 +9,7 @@ use crate::tears::{Tears, tears_of};
 use crate::words::Halt;
 use hg_disk::{Answer, Call, MemDisk, Tear};
 use hg_store::devices::Devices;
+use hg_text::Text;
 use std::alloc::{AllocError, Global};
 
 /// How many stops were gone on from, and how often the commit that was under way was found.
@@ -101,7 +102,7 @@ struct Stop<'a> {
 fn put_place(stop: &Stop, tear: Tear, out: &mut Text) {
     out.clear();
     out.put(stop.device.name());
-    put_count(b" after ", stop.after, out);
+    out.put_number(b" after ", stop.after);
     out.put(b" calls, ");
     put_tear(tear, out);
     out.put(b": ");
@@ -238,8 +239,8 @@ pub fn put_stops(
 ) -> Result<(), Halt> {
     let count = count_stops(alloc, run, only, words, out)?;
     out.clear();
-    put_count(b"", count.stops, out);
-    put_count(b" ended alike, ", count.ahead, out);
+    out.put_decimal(count.stops);
+    out.put_number(b" ended alike, ", count.ahead);
     out.put(b" of them ahead");
     Ok(())
 }

@@ -1,10 +1,11 @@
 //! What a store tells of itself, as lines.
 
-use crate::answers::{Text, put_count, put_named, put_number, put_phase_name};
+use crate::answers::{put_named, put_phase_name, put_report, put_segment};
 use crate::shelf::Held;
 use crate::words::{Halt, front, number, short_number};
 use hg_model::verdict::Refusal;
 use hg_store::store::Store;
+use hg_text::Text;
 use std::alloc::Global;
 
 fn put_phase(store: &Store<Held>, out: &mut Text) -> Result<(), Halt> {
@@ -17,8 +18,8 @@ fn put_phase(store: &Store<Held>, out: &mut Text) -> Result<(), Halt> {
 fn put_last(store: &Store<Held>, rest: &str, out: &mut Text) -> Result<(), Halt> {
     let (source, _) = short_number(rest)?;
     let last = store.last(source)?;
-    put_count(b"last ", u64::from(source), out);
-    put_count(b" ", last, out);
+    out.put_number(b"last ", u64::from(source));
+    out.put_number(b" ", last);
     Ok(())
 }
 
@@ -26,17 +27,17 @@ fn put_last(store: &Store<Held>, rest: &str, out: &mut Text) -> Result<(), Halt>
 fn put_race(alloc: Global, store: &Store<Held>, rest: &str, out: &mut Text) -> Result<(), Halt> {
     let (k, _) = number(rest)?;
     match store.reports(alloc)?.get(k.saturating_sub(1) as usize) {
-        Some(report) => out.put_report(k, report),
+        Some(report) => put_report(k, report, out),
         None => out.put(b"no such race"),
     }
     Ok(())
 }
 
 /// The line of a segment, from 0 on.
-fn put_segment(store: &Store<Held>, rest: &str, out: &mut Text) -> Result<(), Halt> {
+fn tell_segment(store: &Store<Held>, rest: &str, out: &mut Text) -> Result<(), Halt> {
     let (k, _) = number(rest)?;
     match store.graph()?.get(k as usize) {
-        Some(segment) => out.put_segment(k, segment),
+        Some(segment) => put_segment(k, segment, out),
         None => out.put(b"no such segment"),
     }
     Ok(())
@@ -45,7 +46,7 @@ fn put_segment(store: &Store<Held>, rest: &str, out: &mut Text) -> Result<(), Ha
 fn put_total(word: &str, told: Result<u64, Refusal>, out: &mut Text) -> Result<(), Halt> {
     let total = told?;
     out.put(word.as_bytes());
-    put_count(b" ", total, out);
+    out.put_number(b" ", total);
     Ok(())
 }
 
@@ -69,7 +70,7 @@ pub fn put_answer(
         "phase" => put_phase(store, out),
         "last" => put_last(store, rest, out),
         "race" => put_race(alloc, store, rest, out),
-        "segment" => put_segment(store, rest, out),
+        "segment" => tell_segment(store, rest, out),
         _ => Err(Halt::Words),
     }
 }
@@ -84,7 +85,7 @@ pub fn put_durable(
     let (from, rest) = number(rest)?;
     let (max, _) = short_number(rest)?;
     let events = store.durable_events(alloc, from, usize::from(max))?;
-    put_count(b"", events.len() as u64, out);
+    out.put_decimal(events.len() as u64);
     for named in events.iter() {
         out.put(b", ");
         put_named(named, out);
@@ -94,32 +95,32 @@ pub fn put_durable(
 
 fn put_lasts(store: &Store<Held>, out: &mut Text) -> Result<(), Halt> {
     for source in 0..8 {
-        put_count(b" ", store.last(source)?, out);
+        out.put_number(b" ", store.last(source)?);
     }
     Ok(())
 }
 
 fn put_races(alloc: Global, store: &Store<Held>, out: &mut Text) -> Result<(), Halt> {
     for report in store.reports(alloc)?.iter() {
-        out.put_report(0, report);
+        put_report(0, report, out);
     }
     Ok(())
 }
 
-fn put_segments(store: &Store<Held>, out: &mut Text) -> Result<(), Halt> {
+fn tell_segments(store: &Store<Held>, out: &mut Text) -> Result<(), Halt> {
     for segment in store.graph()? {
-        out.put_segment(0, segment);
+        put_segment(0, segment, out);
     }
     Ok(())
 }
 
 /// Appends what a store tells of its events, with the last numbers of the sources 0 to 7.
 pub fn put_contents(alloc: Global, store: &Store<Held>, out: &mut Text) -> Result<(), Halt> {
-    put_number(store.events()?, out);
-    put_count(b" ", store.durable()?, out);
-    put_count(b" ", store.total()?, out);
+    out.put_decimal(store.events()?);
+    out.put_number(b" ", store.durable()?);
+    out.put_number(b" ", store.total()?);
     put_lasts(store, out)?;
-    put_segments(store, out)?;
+    tell_segments(store, out)?;
     put_races(alloc, store, out)
 }
 

@@ -1,6 +1,6 @@
 //! What the lines of a scenario act on.
 
-use crate::answers::{Text, put_ok};
+use crate::answers::put_ok;
 use crate::bench::Bench;
 use crate::gates::GateBench;
 use crate::journals::JournalBench;
@@ -8,6 +8,7 @@ use crate::logs::LogBench;
 use crate::shelf::Shelf;
 use crate::words::{Halt, front};
 use hg_disk::Tear;
+use hg_text::Text;
 use std::alloc::{AllocError, Global};
 
 /// What there is in a scenario.
