@@ -7,10 +7,11 @@ ghost use Rattle.std.specs.List.Sorted.{IsStrictlyIncreasing};
 ghost use Rattle.hg_model.specs.Locks.{has_lock, has_lock_for_writing};
 ghost use Rattle.hg_model.specs.Verdicts.{has_thread, MayFollow};
 ghost use Rattle.hg_model.specs.Change.{change, dead, locks_of, threads_after, with_thread};
+ghost use Rattle.hg_model.specs.Holding.{hold_event};
 ghost use Rattle.hg_model.specs.Restoring.{is_next};
 ghost use Rattle.hg_model.specs.Tables.{readers_in};
 
-use crate::event::Event;
+use crate::event::{Event, Hold, HoldKind};
 use crate::held::{HeldLock, HeldLocks};
 use crate::limits::{LOCK_NUMBERS, MOST_HELD, THREAD_NUMBERS};
 use crate::places::{add_at, are_empty, empty_slots, end_at, remove_at, slot, started_in};
@@ -100,6 +101,19 @@ impl ThreadTable {
             Event::RdLock { t, l } => self.read_lock(t, l),
             Event::Unlock { t, l } => self.unlock(t, l),
             Event::Read(_) | Event::Write(_) | Event::Alloc(_) | Event::Free(_) => {}
+        }
+    }
+
+    /// Changes the locks that a thread holds by a hold that was accepted.
+    #[inline(always)]
+    pub(crate) fn follow_hold(&mut self, hold: Hold)
+        requires { MayFollow self.old (hold_event hold) }
+        ensures { self.new ≡ threads_after (hold_event hold) self.old }
+    {
+        match hold.kind {
+            HoldKind::Lock => self.lock(hold.t, hold.l),
+            HoldKind::RdLock => self.read_lock(hold.t, hold.l),
+            HoldKind::Unlock => self.unlock(hold.t, hold.l),
         }
     }
 

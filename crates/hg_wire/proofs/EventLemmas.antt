@@ -5,7 +5,11 @@ use Rattle.std.proofs.lemmas.List.{append_assoc, append_cancel_right, length-app
 use Rattle.hg_model.specs.declared.event.Event.{Event}
 use Rattle.hg_wire.specs.declared.verb.Verb.{Verb}
 use Rattle.hg_model.specs.declared.event.Event.TheVariants.{Read, Write}
+use Rattle.hg_model.specs.declared.event.HoldKind.{HoldKind}
+use Rattle.hg_model.specs.declared.event.HoldKind.TheVariants as holds
+use Rattle.hg_model.specs.Holding.{event_on}
 use Rattle.hg_wire.specs.declared.verb.VerbKind.TheVariants as kind
+use Rattle.hg_wire.specs.Holds.{verb_on}
 use Rattle.hg_wire.specs.Verbs.{row_of, verb_of, AllFit, Makes}
 use Rattle.hg_wire.specs.Lines.{AreOperands, line_of}
 use Rattle.hg_wire.specs.InFront.{HasOperands, HasEvent, HasEventLine, EndsLineBefore}
@@ -53,3 +57,9 @@ operands_fit (width ∷ widths) (word ∷ words) (v ∷ values) h = (h.1, operan
 pub makes_access : (is_write : Bool) (t at len : ℕ) → t < 2 ^ 16 → at < 2 ^ 64 → len < 256 → Makes (verb_of (kind.Access is_write)) (t ∷ at ∷ len ∷ []) (if is_write then Write (record { t = t; at = at; len = len }) else Read (record { t = t; at = at; len = len }))
 makes_access true t at len a b d = ((a, (b, (omega arith, tt))), refl)
 makes_access false t at len a b d = ((a, (b, (omega arith, tt))), refl)
+
+-- the parts of a hold make the event of its verb
+pub makes_hold : (k : HoldKind) (t l : ℕ) → t < 2 ^ 16 → l < 2 ^ 16 → Makes (verb_on k) (t ∷ l ∷ []) (event_on k t l)
+makes_hold holds.Lock t l a b = ((a, (b, tt)), refl)
+makes_hold holds.RdLock t l a b = ((a, (b, tt)), refl)
+makes_hold holds.Unlock t l a b = ((a, (b, tt)), refl)

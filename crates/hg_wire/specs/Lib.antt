@@ -8,5 +8,6 @@ pub mod InFront
 pub mod Readings
 pub mod Streams
 pub mod Accesses
+pub mod Holds
 pub mod Reports
 pub mod Laws

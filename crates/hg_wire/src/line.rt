@@ -1,14 +1,17 @@
 //! One line of the trace text.
 
 ghost use Rattle.std.specs.Prelude.{◌≡◌, ◌+◌, ◌≤◌, length, drop, Ok, IfSome};
+ghost use Rattle.hg_model.specs.Holding.{hold_event};
 ghost use Rattle.hg_wire.specs.Accesses.{event_of};
 ghost use Rattle.hg_wire.specs.Lines.{line_of};
 ghost use Rattle.hg_wire.specs.InFront.{HasEvent, HasEventLine, EndsLineBefore};
 
 use crate::operands::{long_at, short_at};
-use crate::verb::{VerbKind, access_verb_in_front, pair_event, sized_event, verb_in_front};
+use crate::verb::{
+    VerbKind, access_verb_in_front, hold_verb_in_front, pair_event, sized_event, verb_in_front,
+};
 use crate::words::line_by_words;
-use hg_model::event::{Access, Event};
+use hg_model::event::{Access, Event, Hold};
 
 /// What is wrong with a line of the trace text, in the order in which it is tested (this project's profile).
 #[derive(Clone, Copy, Debug, PartialEq, Eq, Drop)]
@@ -124,6 +127,29 @@ pub(crate) fn access_line_in_front(bytes: &[u8]) -> Option<AccessLine>
         access,
         used,
     })
+}
+
+/// An event on a lock, and how many bytes its line takes with its line feed.
+#[derive(Clone, Copy, Debug, PartialEq, Eq, Drop)]
+pub struct HoldLine {
+    pub hold: Hold,
+    pub used: usize,
+}
+
+/// The same where it is an event on a lock, in its parts.
+#[inline(always)]
+pub(crate) fn hold_line_in_front(bytes: &[u8]) -> Option<HoldLine>
+    ensures { IfSome result (λ found. HasEventLine bytes.now (hold_event found.hold) found.used) }
+{
+    if bytes.len() < WINDOW {
+        return None;
+    }
+    let (kind, end) = hold_verb_in_front(bytes)?;
+    let (t, end) = short_at(bytes, end)?;
+    let (l, end) = short_at(bytes, end)?;
+    let used = line_end_at(bytes, end)?;
+    let hold = Hold { t, l, kind };
+    Some(HoldLine { hold, used })
 }
 
 /// Where the line feed at a place ends, perhaps behind one carriage return.

@@ -3,7 +3,10 @@
 ghost use Rattle.std.specs.Prelude.{◌≡◌, ◌+◌, ◌<◌, ◌^◌, ◌∷◌, [], length, option_to_list, IfOk, IfSome, IfNone, IsTrue, ◌↔◌, Ok};
 ghost use Rattle.hg_wire.specs.Streams.{Takes, readings_in};
 
-use crate::line::{AccessLine, LineFault, access_line_in_front, event_line_in_front, read_line};
+use crate::line::{
+    AccessLine, HoldLine, LineFault, access_line_in_front, event_line_in_front, hold_line_in_front,
+    read_line,
+};
 use crate::splitter::Splitter;
 use hg_model::event::Event;
 use std::alloc::{AllocError, Global};
@@ -43,6 +46,7 @@ impl Model for EventReader {
 
 impl EventReader {
     ghost use Rattle.hg_wire.specs.Accesses.{GivesAccess};
+    ghost use Rattle.hg_wire.specs.Holds.{GivesHold};
     ghost use Rattle.hg_wire.specs.Streams.{at_start, readings_from, GivesReading, Takes};
 
     /// A reader at the start of a stream.
@@ -87,6 +91,21 @@ impl EventReader {
             return None;
         }
         let found = access_line_in_front(piece)?;
+        self.splitter.count_line();
+        Some(found)
+    }
+
+    /// The same where it is an event on a lock.
+    #[inline(always)]
+    pub fn take_hold(&mut self, piece: &[u8]) -> Option<HoldLine>
+        requires { self.old.lines + length piece.now < 2 ^ 64 }
+        ensures hold { IfSome result (λ found. GivesHold self.old self.new piece.now found) }
+        ensures none { IfNone result (self.new ≡ self.old) }
+    {
+        if !self.splitter.is_between_lines() {
+            return None;
+        }
+        let found = hold_line_in_front(piece)?;
         self.splitter.count_line();
         Some(found)
     }

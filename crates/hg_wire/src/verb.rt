@@ -3,9 +3,10 @@
 ghost use Rattle.std.specs.Prelude.{◌≡◌, ◌≤◌, ◌++◌, [], ◌∷◌, length, take, drop, IfSome};
 ghost use Rattle.std.specs.Int.{to_le_bytes, w32};
 ghost use Rattle.hg_wire.specs.InFront.{BeginsWith};
+ghost use Rattle.hg_wire.specs.Holds.{verb_on};
 ghost use Rattle.hg_wire.specs.Verbs.{row_of, verb_of, Makes};
 
-use hg_model::event::{Access, Block, Event};
+use hg_model::event::{Access, Block, Event, HoldKind};
 
 /// A verb of the trace text (this project's profile).
 #[derive(Clone, Copy, Debug, PartialEq, Eq, Drop)]
@@ -166,6 +167,38 @@ fn block_verb_in_front(bytes: &[u8]) -> Option<(bool, usize)>
     None
 }
 
+/// What the bytes begin with where it is `lock`, `rdlock` or `unlock`, and where it ends.
+#[inline(always)]
+pub(crate) fn hold_verb_in_front(bytes: &[u8]) -> Option<(HoldKind, usize)>
+    requires { 6 ≤ length bytes.now }
+    ensures verb { IfSome result (λ found. BeginsWith bytes.now (verb_on found.0) found.1) }
+    ensures near { IfSome result (λ found. found.1 ≤ 6) }
+{
+    let first = first_letters(bytes);
+    if first == FIRST_OF_LOCK {
+        return Some((HoldKind::Lock, 4));
+    }
+    if first == FIRST_OF_UNLOCK && bytes[4] == b'c' && bytes[5] == b'k' {
+        return Some((HoldKind::Unlock, 6));
+    }
+    if first == FIRST_OF_RDLOCK && bytes[4] == b'c' && bytes[5] == b'k' {
+        return Some((HoldKind::RdLock, 6));
+    }
+    None
+}
+
+/// The verb of what is done to a lock.
+#[inline(always)]
+fn hold_verb(kind: HoldKind) -> Verb
+    ensures { result ≡ verb_on kind }
+{
+    match kind {
+        HoldKind::Lock => Verb::Lock,
+        HoldKind::RdLock => Verb::RdLock,
+        HoldKind::Unlock => Verb::Unlock,
+    }
+}
+
 /// Which of the other verbs the bytes begin with, and where it ends.
 #[inline(always)]
 fn pair_verb_in_front(bytes: &[u8]) -> Option<(Verb, usize)>
@@ -173,16 +206,10 @@ fn pair_verb_in_front(bytes: &[u8]) -> Option<(Verb, usize)>
     ensures verb { IfSome result (λ found. BeginsWith bytes.now found.0 found.1) }
     ensures near { IfSome result (λ found. found.1 ≤ 6) }
 {
+    if let Some((kind, end)) = hold_verb_in_front(bytes) {
+        return Some((hold_verb(kind), end));
+    }
     let first = first_letters(bytes);
-    if first == FIRST_OF_LOCK {
-        return Some((Verb::Lock, 4));
-    }
-    if first == FIRST_OF_UNLOCK && bytes[4] == b'c' && bytes[5] == b'k' {
-        return Some((Verb::Unlock, 6));
-    }
-    if first == FIRST_OF_RDLOCK && bytes[4] == b'c' && bytes[5] == b'k' {
-        return Some((Verb::RdLock, 6));
-    }
     if first == FIRST_OF_FORK {
         return Some((Verb::Fork, 4));
     }
