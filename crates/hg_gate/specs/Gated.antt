@@ -1,5 +1,5 @@
 -- A file that is open or closed by its first byte, and what a gated file shows.
-use Rattle.std.specs.Prelude.{◌≡◌, ◌≢◌, ◌⊎◌, ◌↔◌, ℕ, Bool, false, IsTrue, List, ◌∷◌, ◌++◌, length, take, drop, get_or, Option, MatchOption, Result, OnOk, IsErrOf}
+use Rattle.std.specs.Prelude.{◌≡◌, ◌≢◌, ◌⊎◌, ◌↔◌, ℕ, Bool, false, IsTrue, List, ◌∷◌, ◌++◌, length, take, drop, get_or, Option, MatchOption, Result, Ok, Err, OnOk, IsErrOf}
 use Rattle.std.specs.Global.{Vec}
 use Rattle.std.specs.Int.{w64, to_be_bytes}
 use Rattle.hg_disk.specs.declared.disk.Disk as disk
@@ -59,6 +59,11 @@ disk_of it = it.disk
 -- whether a write, a cut or a sync failed
 abbrev pub is_broken : {D : Type 0} → Gated D → Bool
 is_broken it = it.is_broken
+
+-- the disk after a call that makes a file of it, or hands it back
+abbrev pub disk_after : {D : Type 0} → Result (Gated D) D → D
+disk_after (Ok it) = it.disk
+disk_after (Err disk) = disk
 
 -- It can be used, and the bytes of its disk are these and durable.
 pub record Rests {D : Type 0} (g : disk.Ghosts D) (it : Gated D) (file : List ℕ) : Type 0 where

@@ -1,11 +1,11 @@
 //! A file whose first byte says whether the rest counts.
-ghost use Rattle.std.specs.Prelude.{◌≡◌, ◌+◌, ◌<◌, ◌≤◌, ◌^◌, [], ℕ, List, length, drop, false, IsTrue, OnOk, OnErr, IsErrOf, Err, IfOk, IfErr};
+ghost use Rattle.std.specs.Prelude.{◌≡◌, ◌+◌, ◌<◌, ◌≤◌, ◌^◌, ◌∷◌, [], ℕ, List, length, drop, false, IsTrue, OnOk, OnErr, IsErrOf, Err, IfOk, IfErr};
 ghost use Rattle.hg_disk.specs.State.{counted};
 ghost use Rattle.hg_disk.specs.Calls.{CallsAtMost};
-ghost use Rattle.hg_disk.specs.Moments.{AddsNoImage};
+ghost use Rattle.hg_disk.specs.Moments.{AddsNoImage, LeavesTorn};
 ghost use Rattle.std.specs.Int.{w64, to_be_bytes};
 ghost use Rattle.hg_gate.specs.Gated.{HasLength, IsNotOpen, LeavesClosed, ReplacesBody, TellsGate};
-ghost use Rattle.hg_gate.specs.Batches.{open_gate};
+ghost use Rattle.hg_gate.specs.Batches.{closed_gate, open_gate};
 ghost use Rattle.hg_gate.specs.Fault.{failures_after, IsBrokenOrDevice, IsDamagedOrDevice};
 
 use crate::fault::GateFault;
@@ -32,7 +32,7 @@ impl<D: Disk + Drop> Drop for Gated<D> {
 }
 
 impl<D: Disk> Gated<D> {
-    ghost use Rattle.hg_gate.specs.Gated.{ClosesGate, HasBody, LeavesRest, OpensDurably, OpensGate, PutsBody, Rests, StaysClosed, StaysClosedOrOpens, TellsTrueDamage, disk_of, is_broken};
+    ghost use Rattle.hg_gate.specs.Gated.{ClosesGate, HasBody, LeavesRest, OpensDurably, OpensGate, PutsBody, Rests, StaysClosed, StaysClosedOrOpens, TellsTrueDamage, disk_after, disk_of, is_broken};
 
     /// The file on a disk, whatever its bytes are. It makes no device call.
     pub fn attach(disk: D) -> Gated<D>
@@ -43,6 +43,25 @@ impl<D: Disk> Gated<D> {
             disk,
             is_broken: false,
         }
+    }
+
+    /// A closed file, made of a disk without a byte: one closed gate, which is durable. An `Err` hands the disk back, of which
+    /// a call failed. It makes two device calls at most.
+    pub fn create(disk: D) -> Result<Gated<D>, D>
+        requires { length (D.state disk).contents ≡ 0 }
+        ensures closed { IfOk result (λ it. Rests ⟦<D as Disk>⟧ it (closed_gate ∷ [])) }
+
+        // A crash at any moment of the call, and one after an `Err`, leaves what a torn write of the gate may leave.
+        ensures any_moment { LeavesTorn ⟦<D as Disk>⟧ 0 (closed_gate ∷ []) disk (disk_after result) }
+
+        ensures calls { CallsAtMost ⟦<D as Disk>⟧ 2 disk (disk_after result) }
+        ensures device { D.failures (disk_after result) ≡ counted result (D.failures disk) }
+    {
+        let mut disk = disk;
+        if write_through(&mut disk, 0, &[CLOSED]).is_err() {
+            return Err(disk);
+        }
+        Ok(Gated::attach(disk))
     }
 
     /// The disk.
