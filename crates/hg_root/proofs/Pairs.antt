@@ -1,10 +1,10 @@
 -- What a crash leaves of two root files in the steps of a root.
-use Rattle.std.proofs.Common.{◌≡◌, ◌≢◌, inl, inr, ⊎_elim, ℕ, Bool, false, List, [], ◌∷◌, ◌++◌, Option, Some, None, OnOk, Ok, Err, Result, refl, sym, ◌∙◌, ap, subst, append_assoc, append-nil}
+use Rattle.std.proofs.Common.{◌≡◌, ◌≢◌, inl, inr, ⊎_elim, ℕ, Bool, false, List, [], ◌∷◌, ◌++◌, Option, Some, None, OnOk, Ok, Err, Result, refl, sym, ◌∙◌, ap, subst, append_assoc, append-nil, arith}
 use Rattle.std.proofs.lemmas.Bool.{cases_eq}
 use Rattle.hg_disk.specs.State.{DiskState, IsImage, settled}
 use Rattle.hg_disk.specs.Moments.{LeavesOnly, MayLeave, history}
 use Rattle.hg_disk.specs.declared.disk.Disk as disk
-use Rattle.hg_gate.specs.Batches.{IsClosed, open_gate}
+use Rattle.hg_gate.specs.Batches.{IsClosed, closed_gate, open_gate}
 use Rattle.hg_gate.specs.Gated.{IsBehindGate, IsClosedOrOpenWith, Rests, framed}
 use Rattle.hg_root.specs.Lawful.{IsRoot}
 use Rattle.hg_root.specs.Newest.{IsBelow, IsFormer, IsNewest, IsRootFile}
@@ -12,6 +12,9 @@ use Rattle.hg_root.specs.Pairs.{EachPair, IsEither, IsKnown, IsPrepared, Stands,
 use Rattle.hg_disk.proofs.Moments.{may_leave, still}
 use Rattle.hg_root.specs.Parts.{Parts}
 use Rattle.hg_root.specs.declared.pair.RootPair.{RootPair}
+
+pub gate_is_closed : IsClosed (closed_gate ∷ [])
+gate_is_closed = record { gate = closed_gate; rest = []; spelling = refl; closed = λ e. absurd (omega (arith, e)) }
 
 -- a file that is behind an open gate stays open with its body, or is closed
 pub closed_or_open : (body rest image : List ℕ) → IsBehindGate (framed body ++ rest) image → IsClosedOrOpenWith body image

@@ -1,9 +1,9 @@
 -- What a crash may leave of two root files, and how a pair of them stands in each step.
-use Rattle.std.specs.Prelude.{◌≡◌, ◌≢◌, ◌⊎◌, ◌+◌, ℕ, Bool, true, false, IsTrue, not, List, ◌∷◌, Option, Some, None, Result, OnOk, OnErr, if◌then◌else◌}
+use Rattle.std.specs.Prelude.{◌≡◌, ◌≢◌, ◌⊎◌, ◌+◌, ℕ, Bool, true, false, IsTrue, not, List, [], ◌∷◌, Option, Some, None, Result, Ok, Err, OnOk, OnErr, if◌then◌else◌}
 use Rattle.hg_disk.specs.Moments.{GoesOn, MayLeave}
 use Rattle.hg_disk.specs.State.{settled}
 use Rattle.hg_disk.specs.declared.disk.Disk as disk
-use Rattle.hg_gate.specs.Batches.{IsClosed, open_gate}
+use Rattle.hg_gate.specs.Batches.{IsClosed, closed_gate, open_gate}
 use Rattle.hg_gate.specs.Gated as gated
 use Rattle.hg_gate.specs.Gated.{Rests, framed}
 use Rattle.hg_root.specs.Lawful.{IsRoot}
@@ -59,6 +59,15 @@ first_of p = if p.is_turned then newer p else older p
 
 abbrev pub second_of : {D : Type 0} → RootPair D → D
 second_of p = if p.is_turned then older p else newer p
+
+-- the disks after a call that makes a pair of them, or hands them back
+abbrev pub first_after : {D : Type 0} → Result (RootPair D) (D × D) → D
+first_after (Ok p) = first_of p
+first_after (Err disks) = disks.0
+
+abbrev pub second_after : {D : Type 0} → Result (RootPair D) (D × D) → D
+second_after (Ok p) = second_of p
+second_after (Err disks) = disks.1
 
 module _ {D : Type 0} (g : disk.Ghosts D) where
   -- the bytes of the first file, and those of the second one
@@ -118,6 +127,18 @@ abbrev pub IsEither : Option Parts → Option Parts → List ℕ → List ℕ �
 IsEither root next one other = IsNewest root None one other ⊎ IsNewest next root one other
 
 module _ {D : Type 0} (g : disk.Ghosts D) where
+  -- The disk is one closed gate, which is durable.
+  abbrev pub IsGate : D → Type 0
+  IsGate d = g.state d ≡ settled (closed_gate ∷ [])
+
+  -- Both files are.
+  abbrev pub AreGates : RootPair D → Type 0
+  AreGates p = IsGate (first_of p) × IsGate (second_of p)
+
+  -- Of the disks that are handed back the second is as it was, or the first is closed.
+  abbrev pub ClosesInTurn : (root1 : D) → (back : D × D) → Type 0
+  ClosesInTurn root1 back = (back.1 ≡ root1) ⊎ IsGate back.0
+
   -- The pair of two durable files that are closed stands with no root.
   abbrev pub StandsClosed : (root0 root1 : D) → RootPair D → Type 0
   StandsClosed root0 root1 p =

@@ -1,6 +1,9 @@
 //! Two root files that take turns.
-ghost use Rattle.std.specs.Prelude.{◌≡◌, ℕ, Option, None, Err, IsOk, is_ok, OnOk, OnErr, IfOk, IfErr, IsTrue, IsErrOf, false};
+ghost use Rattle.std.specs.Prelude.{◌≡◌, ◌+◌, ◌∷◌, [], ℕ, Option, None, Err, IsOk, is_ok, OnOk, OnErr, IfOk, IfErr, IsTrue, IsErrOf, false, length};
 ghost use Rattle.hg_disk.specs.Calls.{CallsAtMost};
+ghost use Rattle.hg_disk.specs.Moments.{LeavesTorn};
+ghost use Rattle.hg_disk.specs.State.{counted};
+ghost use Rattle.hg_gate.specs.Batches.{closed_gate};
 ghost use Rattle.hg_root.specs.Fault.{IsBrokenOrDevice, failures_after};
 
 use crate::fault::RootFault;
@@ -35,7 +38,7 @@ pub struct RootPair<D: Disk> {
 
 impl<D: Disk> RootPair<D> {
     ghost use Rattle.hg_root.specs.Finding.{HaveOneNumber, AreWhole, ChoosesFrom, HasNoNewest, IsNewestOf, IsOnlyOf, IsWholeIn, StandsByChoice, StandsDurably, WasRead, root_in};
-    ghost use Rattle.hg_root.specs.Pairs.{IsEitherBroken, IsWorking, LeavesEither, LeavesRoot, LeavesRoots, OpensNext, Prepares, PutsBody, StandsClosed, StandsOpened, StaysOnErr, failures, first_of, is_broken, is_closed, is_other_broken, is_other_closed, is_turned, newer, older, second_of, turned};
+    ghost use Rattle.hg_root.specs.Pairs.{AreGates, ClosesInTurn, IsEitherBroken, IsWorking, LeavesEither, LeavesRoot, LeavesRoots, OpensNext, Prepares, PutsBody, Stands, StandsClosed, StandsOpened, StaysOnErr, failures, first_after, first_of, is_broken, is_closed, is_other_broken, is_other_closed, is_turned, newer, older, second_after, second_of, turned};
 
     /// The pair of two files, whatever their bytes are. It makes no device call. Which of them has the newest open root is told by
     /// `newest`, which comes first.
@@ -54,11 +57,41 @@ impl<D: Disk> RootPair<D> {
         }
     }
 
-    /// The pair of two files that are closed, as a new store has them. It makes no device call.
+    /// The pair of two files that are made of disks without a byte, as a new store has them. Each is one closed gate, which is durable. An
+    /// `Err` hands the disks back: a call of the first one failed, and the second was not called; or the first is closed, and a call of
+    /// the second failed. It makes two device calls of each disk at most.
+    pub fn create(root0: D, root1: D) -> Result<RootPair<D>, (D, D)>
+        requires first { length (D.state root0).contents ≡ 0 }
+        requires second { length (D.state root1).contents ≡ 0 }
+        ensures gates { IfOk result (AreGates ⟦<D as Disk>⟧) }
+        ensures stands { IfOk result (λ pair. Stands ⟦<D as Disk>⟧ pair None None) }
+        ensures turn { IfOk result (λ pair. is_turned pair ≡ false) }
+        ensures in_turn { IfErr result (ClosesInTurn ⟦<D as Disk>⟧ root1) }
+
+        // A crash at any moment of the call, and one after an `Err`, leaves of each what a torn write of the gate may leave.
+        ensures first_moments { LeavesTorn ⟦<D as Disk>⟧ 0 (closed_gate ∷ []) root0 (first_after result) }
+        ensures second_moments { LeavesTorn ⟦<D as Disk>⟧ 0 (closed_gate ∷ []) root1 (second_after result) }
+
+        ensures first_calls { CallsAtMost ⟦<D as Disk>⟧ 2 root0 (first_after result) }
+        ensures second_calls { CallsAtMost ⟦<D as Disk>⟧ 2 root1 (second_after result) }
+        ensures device { D.failures (first_after result) + D.failures (second_after result) ≡ counted result (D.failures root0 + D.failures root1) }
+    {
+        let first = match Gated::create(root0) {
+            Ok(first) => first.into_disks(),
+            Err(root0) => return Err((root0, root1)),
+        };
+        match Gated::create(root1) {
+            Ok(second) => Ok(RootPair::of_closed(first, second.into_disks())),
+            Err(root1) => Err((first, root1)),
+        }
+    }
+
+    /// The pair of two files that are closed. It makes no device call.
     pub fn of_closed(root0: D, root1: D) -> RootPair<D>
         ensures first { first_of result ≡ root0 }
         ensures second { second_of result ≡ root1 }
         ensures works { IsWorking result }
+        ensures turn { is_turned result ≡ false }
         ensures stands { StandsClosed ⟦<D as Disk>⟧ root0 root1 result }
     {
         RootPair {
