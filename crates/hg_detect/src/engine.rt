@@ -6,6 +6,7 @@ ghost use Rattle.hg_graph.specs.Graph.{names};
 ghost use Rattle.hg_model.specs.Segments.{of_thread};
 ghost use Rattle.hg_model.specs.Parts.{HasParts};
 ghost use Rattle.hg_model.specs.Accessing.{access_named};
+ghost use Rattle.hg_model.specs.Holding.{hold_named};
 ghost use Rattle.hg_model.specs.Change.{empty_content};
 ghost use Rattle.hg_model.specs.Verdicts.{MayBeNext};
 ghost use Rattle.hg_sets.specs.Interning.{AreSets, KeepsNumbers, first_table};
@@ -14,7 +15,7 @@ ghost use Rattle.hg_cells.specs.Cells.{IsWithin};
 ghost use Rattle.hg_detect.specs.Words.{ForWords, HaveCell, KeepsLaw, failed_after};
 ghost use Rattle.hg_detect.specs.Planning.{as_it_is};
 ghost use Rattle.hg_detect.specs.Shown.{HasRoom, IsReportAt, content, shown_with};
-ghost use Rattle.hg_detect.specs.Engine.{Answers, AnswersAccess, AsksForAccess, AsksForCell, AtPresent, HasPlan, HasThread, IsOnLock, IsPlannedBy, IsSound, KeepsCells, KeepsLocks, PassesTo, shown_of};
+ghost use Rattle.hg_detect.specs.Engine.{Answers, AnswersAccess, AsksForAccess, AsksForCell, AtPresent, HasPlan, HasThread, IsPlannedBy, IsSound, KeepsCells, KeepsLocks, PassesTo, shown_of};
 
 use crate::kept::{add_reports, reserve_reports};
 use crate::plan::{Accessor, Planned, plan_alike, plan_word, plan_words};
@@ -22,7 +23,7 @@ use crate::setting::set_words;
 use crate::words::Words;
 use hg_cells::{Cell, KeptReport, are_same};
 use hg_graph::Graph;
-use hg_model::event::{Access, Block, Event, Named};
+use hg_model::event::{Access, Block, Event, Hold, HoldKind, Named};
 use hg_model::report::Report;
 use hg_model::sets::NumberSet;
 use hg_model::state::TraceState;
@@ -461,16 +462,15 @@ impl<W: Words> Engine<W> {
 
     /// Accepts an event on a lock.
     #[inline(always)]
-    fn hold(&mut self, named: &Named)
-        requires event { IsOnLock named.now.event }
+    pub(crate) fn hold(&mut self, source: u16, number: u64, hold: Hold)
         requires sound { IsSound self.old }
-        requires accepted { MayBeNext self.old.state named.now }
+        requires accepted { MayBeNext self.old.state (hold_named source number hold) }
         requires lawful { AtPresent W.may_bring (shown_of self.old) }
-        ensures answers { Answers ⟦<W as Words>⟧ self.old named.now (Ok tt) self.new }
+        ensures answers { Answers ⟦<W as Words>⟧ self.old (hold_named source number hold) (Ok tt) self.new }
         ensures went { W.went self.old.words self.new.words }
         ensures failures { W.failures self.new.words ≡ W.failures self.old.words }
     {
-        self.state.follow(named);
+        self.state.follow_hold(source, number, hold);
     }
 
     /// Accepts that a block was allocated or freed: its words become new.
@@ -507,8 +507,19 @@ impl<W: Words> Engine<W> {
             Event::Fork { p, c } => self.fork(named, *p, *c),
             Event::Join { p, c } => self.join(named, *p, *c),
             Event::Alloc(block) | Event::Free(block) => self.reset(named, block),
-            Event::Lock { .. } | Event::RdLock { .. } | Event::Unlock { .. } => {
-                self.hold(named);
+            Event::Lock { t, l } => {
+                let (t, l, kind) = (*t, *l, HoldKind::Lock);
+                self.hold(named.source, named.number, Hold { t, l, kind });
+                Ok(())
+            }
+            Event::RdLock { t, l } => {
+                let (t, l, kind) = (*t, *l, HoldKind::RdLock);
+                self.hold(named.source, named.number, Hold { t, l, kind });
+                Ok(())
+            }
+            Event::Unlock { t, l } => {
+                let (t, l, kind) = (*t, *l, HoldKind::Unlock);
+                self.hold(named.source, named.number, Hold { t, l, kind });
                 Ok(())
             }
         }
