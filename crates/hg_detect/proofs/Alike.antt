@@ -121,11 +121,11 @@ asks_keeps (set ∷ sets) old new h =
     none_is_not_some : (fault : SetFault) → ◌≡◌ {A = Option SetFault} None (Some fault) → ⊥
     none_is_not_some fault e = absurd (cc)
 
-abbrev Stand : Table → List (List ℕ) → Type 0
+abbrev pub Stand : Table → List (List ℕ) → Type 0
 Stand t [] = Unit {0}
 Stand t (set ∷ sets) = ((n : ℕ) × StandsAt t.sets set n) × Stand t sets
 
-asks_stand : (sets : List (List ℕ)) (old new : Table) → Asks old sets None new → Stand new sets
+pub asks_stand : (sets : List (List ℕ)) (old new : Table) → Asks old sets None new → Stand new sets
 asks_stand [] old new h = tt
 asks_stand (set ∷ sets) old new h =
     ⊎_elim
@@ -137,7 +137,7 @@ asks_stand (set ∷ sets) old new h =
     none_is_not_some fault e = absurd (cc)
 
 -- and is found when it is asked for again
-asks_again : (sets : List (List ℕ)) (t : Table) → Stand t sets → Asks t sets None t
+pub asks_again : (sets : List (List ℕ)) (t : Table) → Stand t sets → Asks t sets None t
 asks_again [] t h = refl
 asks_again (set ∷ sets) t h = inl (h.0.0, t, inl (h.0.0, h.0.1, refl, refl), asks_again sets t h.1)
 

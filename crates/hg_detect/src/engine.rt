@@ -5,7 +5,6 @@ ghost use Rattle.std.specs.List.{list_any};
 ghost use Rattle.hg_graph.specs.Graph.{names};
 ghost use Rattle.hg_model.specs.Segments.{of_thread};
 ghost use Rattle.hg_model.specs.Parts.{HasParts};
-ghost use Rattle.hg_model.specs.Accessing.{access_named};
 ghost use Rattle.hg_model.specs.Holding.{hold_named};
 ghost use Rattle.hg_model.specs.Change.{empty_content};
 ghost use Rattle.hg_model.specs.Verdicts.{MayBeNext};
@@ -15,9 +14,10 @@ ghost use Rattle.hg_cells.specs.Cells.{IsWithin};
 ghost use Rattle.hg_detect.specs.Words.{ForWords, HaveCell, KeepsLaw, failed_after};
 ghost use Rattle.hg_detect.specs.Planning.{as_it_is};
 ghost use Rattle.hg_detect.specs.Shown.{HasRoom, IsReportAt, content, shown_with};
-ghost use Rattle.hg_detect.specs.Engine.{Answers, AnswersAccess, AsksForAccess, AsksForCell, AtPresent, HasPlan, HasThread, IsPlannedBy, IsSound, KeepsCells, KeepsLocks, PassesTo, shown_of};
+ghost use Rattle.hg_detect.specs.Engine.{Answers, AnswersAccess, AsksForAccess, AsksForCell, AtPresent, HasPlan, HasThread, IsPlannedBy, IsSound, KeepsCells, KeepsLocks, PassesTo, named_of, shown_of};
 
 use crate::kept::{add_reports, reserve_reports};
+use crate::parts::DetectorParts;
 use crate::plan::{Accessor, Planned, plan_alike, plan_word, plan_words};
 use crate::setting::set_words;
 use crate::words::Words;
@@ -33,6 +33,15 @@ use std::alloc::{AllocError, Global};
 
 /// How many words one access overlaps at most.
 const MOST_WORDS: usize = 17;
+
+/// A read or a write under the number that its source gave it.
+#[derive(Clone, Copy, Debug, PartialEq, Eq)]
+pub(crate) struct NamedAccess {
+    pub(crate) source: u16,
+    pub(crate) number: u64,
+    pub(crate) access: Access,
+    pub(crate) write: bool,
+}
 
 /// The parts of a detector.
 #[derive(Drop)]
@@ -115,24 +124,23 @@ impl<W: Words> Engine<W> {
     }
 
     /// The engine with these parts, over a map of words.
-    pub(crate) fn restore(
-        alloc: Global,
-        state: TraceState,
-        graph: Graph,
-        sets: SetTable,
-        kept: Vec<KeptReport>,
-        total: u64,
-        words: W,
-    ) -> Result<Self, W>
-        requires segments { state.segments ≡ length graph }
-        requires threads { (t : ℕ) → list_any (λ x. x.number == t) state.threads ≡ names graph t }
-        requires reports { All (λ r. r.threads < length sets.sets) kept.items }
-        requires few { length kept.items ≤ 65536 }
-        requires total { total ≤ 17 * state.events }
-        ensures shown { IfOk result (λ e. shown_of e ≡ shown_with state graph sets words kept.items total) }
+    pub(crate) fn restore(alloc: Global, parts: DetectorParts, words: W) -> Result<Self, W>
+        requires segments { parts.state.segments ≡ length parts.graph }
+        requires threads { (t : ℕ) → list_any (λ x. x.number == t) parts.state.threads ≡ names parts.graph t }
+        requires reports { All (λ r. r.threads < length parts.sets.sets) parts.kept.items }
+        requires few { length parts.kept.items ≤ 65536 }
+        requires total { parts.total ≤ 17 * parts.state.events }
+        ensures shown { IfOk result (λ e. shown_of e ≡ shown_with parts words) }
         ensures sound { IfOk result IsSound }
         ensures handed_back { IfErr result (λ w. w ≡ words) }
     {
+        let DetectorParts {
+            state,
+            graph,
+            sets,
+            kept,
+            total,
+        } = parts;
         let _count = sets.len();
         match Vec::with_capacity(alloc, MOST_WORDS) {
             Ok(plan) => Ok(Engine {
@@ -181,16 +189,16 @@ impl<W: Words> Engine<W> {
         self.words
             .bring(access.at, len, self.state.segments(), &self.sets)?;
         let accessor = Accessor {
+            graph: &self.graph,
             thread: access.t,
             segment: self.graph.present(access.t),
             write,
             locks: self.state.counted(access.t, write),
         };
         plan_words(
-            &self.graph,
+            &accessor,
             &mut self.sets,
             &self.words,
-            &accessor,
             first,
             end,
             &mut self.plan,
@@ -215,12 +223,13 @@ impl<W: Words> Engine<W> {
     {
         let locks = self.state.counted(access.t, write);
         let accessor = Accessor {
+            graph: &self.graph,
             thread: access.t,
             segment: self.graph.present(access.t),
             write,
             locks,
         };
-        Ok(plan_word(&self.graph, &mut self.sets, &accessor, cell)?)
+        Ok(plan_word(&mut self.sets, &accessor, cell)?)
     }
 
     /// Whether words with this cell pass to the acting segment: they are new, or their owner reaches it.
@@ -271,29 +280,26 @@ impl<W: Words> Engine<W> {
     #[inline(always)]
     fn access_alike(
         &mut self,
-        source: u16,
-        number: u64,
-        access: &Access,
-        write: bool,
+        named: NamedAccess,
         first: u64,
         count: u64,
         cell: Cell,
     ) -> Result<(), Refusal>
         requires sound { IsSound self.old }
-        requires accepted { MayBeNext self.old.state (access_named source number write access.now) }
+        requires accepted { MayBeNext self.old.state (named_of named) }
         requires lawful { AtPresent W.may_bring (shown_of self.old) }
-        requires first { first ≡ access.now.at / 4 }
-        requires count { count ≡ (access.now.at + access.now.len + 3) / 4 - first }
+        requires first { first ≡ named.access.at / 4 }
+        requires count { count ≡ (named.access.at + named.access.len + 3) / 4 - first }
         requires cells { HaveCell (W.cell_of self.old.words) first count cell }
         requires within { IsWithin (length self.old.graph) (length self.old.sets.sets) cell }
         requires fillable { W.may_fill self.old.words first count }
-        ensures answers { AnswersAccess ⟦<W as Words>⟧ self.old source number write access.now result self.new }
+        ensures answers { AnswersAccess ⟦<W as Words>⟧ self.old named result self.new }
         ensures went { W.went self.old.words self.new.words }
         ensures failures { W.failures self.new.words ≡ failed_after result (W.failures self.old.words) }
     {
-        let planned = self.plan_for(access, write, cell)?;
+        let planned = self.plan_for(&named.access, named.write, cell)?;
         if !planned.reported {
-            self.state.follow_access(source, number);
+            self.state.follow_access(named.source, named.number);
             if are_same(planned.cell, cell) {
                 return Ok(());
             }
@@ -303,13 +309,13 @@ impl<W: Words> Engine<W> {
         plan_alike(&mut self.plan, planned, count);
         reserve_reports(&mut self.kept, self.plan.as_slice())?;
         let next = self.state.events() + 1;
-        self.state.follow_access(source, number);
+        self.state.follow_access(named.source, named.number);
         self.words.fill(first, count, planned.cell);
         let reports = add_reports(
             &mut self.kept,
             next,
-            write,
-            access.t,
+            named.write,
+            named.access.t,
             first,
             self.plan.as_slice(),
         );
@@ -319,111 +325,88 @@ impl<W: Words> Engine<W> {
 
     /// Accepts an access to memory.
     #[inline(always)]
-    pub(crate) fn access(
-        &mut self,
-        source: u16,
-        number: u64,
-        access: &Access,
-        write: bool,
-    ) -> Result<(), Refusal>
+    pub(crate) fn access(&mut self, named: NamedAccess) -> Result<(), Refusal>
         requires sound { IsSound self.old }
-        requires accepted { MayBeNext self.old.state (access_named source number write access.now) }
+        requires accepted { MayBeNext self.old.state (named_of named) }
         requires lawful { AtPresent W.may_bring (shown_of self.old) }
-        ensures answers { AnswersAccess ⟦<W as Words>⟧ self.old source number write access.now result self.new }
+        ensures answers { AnswersAccess ⟦<W as Words>⟧ self.old named result self.new }
         ensures went { W.went self.old.words self.new.words }
         ensures failures { W.failures self.new.words ≡ failed_after result (W.failures self.old.words) }
     {
-        let first = access.at / 4;
-        let last = (access.at + (u64::from(access.len) - 1)) / 4;
+        let first = named.access.at / 4;
+        let last = (named.access.at + (u64::from(named.access.len) - 1)) / 4;
         let found = self.words.same(first, last + 1 - first);
-        self.access_found(
-            source,
-            number,
-            access,
-            write,
-            first,
-            last + 1 - first,
-            found,
-        )
+        self.access_found(named, first, last + 1 - first, found)
     }
 
     /// Accepts an access, where the map was asked whether its words all have one cell.
     #[inline(always)]
     fn access_found(
         &mut self,
-        source: u16,
-        number: u64,
-        access: &Access,
-        write: bool,
+        named: NamedAccess,
         first: u64,
         count: u64,
         found: Option<Cell>,
     ) -> Result<(), Refusal>
         requires sound { IsSound self.old }
-        requires accepted { MayBeNext self.old.state (access_named source number write access.now) }
+        requires accepted { MayBeNext self.old.state (named_of named) }
         requires lawful { AtPresent W.may_bring (shown_of self.old) }
-        requires first { first ≡ access.now.at / 4 }
-        requires count { count ≡ (access.now.at + access.now.len + 3) / 4 - first }
+        requires first { first ≡ named.access.at / 4 }
+        requires count { count ≡ (named.access.at + named.access.len + 3) / 4 - first }
         requires cells { IfSome found (HaveCell (W.cell_of self.old.words) first count) }
         requires within { IfSome found (IsWithin (length self.old.graph) (length self.old.sets.sets)) }
         requires fillable { IfSome found (λ cell. W.may_fill self.old.words first count) }
-        ensures answers { AnswersAccess ⟦<W as Words>⟧ self.old source number write access.now result self.new }
+        ensures answers { AnswersAccess ⟦<W as Words>⟧ self.old named result self.new }
         ensures went { W.went self.old.words self.new.words }
         ensures failures { W.failures self.new.words ≡ failed_after result (W.failures self.old.words) }
     {
         if let Some(cell) = found {
-            let owned = Cell::Exclusive(self.graph.present(access.t));
+            let owned = Cell::Exclusive(self.graph.present(named.access.t));
             if are_same(cell, owned) {
-                self.state.follow_access(source, number);
+                self.state.follow_access(named.source, named.number);
                 return Ok(());
             }
-            if self.passes(access, cell) {
-                self.state.follow_access(source, number);
+            if self.passes(&named.access, cell) {
+                self.state.follow_access(named.source, named.number);
                 self.words.fill(first, count, owned);
                 return Ok(());
             }
-            if self.stays_shared(access, write, cell) {
-                self.state.follow_access(source, number);
+            if self.stays_shared(&named.access, named.write, cell) {
+                self.state.follow_access(named.source, named.number);
                 return Ok(());
             }
-            return self.access_alike(source, number, access, write, first, count, cell);
+            return self.access_alike(named, first, count, cell);
         }
-        let segment = self.graph.present(access.t);
+        let segment = self.graph.present(named.access.t);
         if self.words.are_new_or_owned(first, count, segment) {
-            self.state.follow_access(source, number);
+            self.state.follow_access(named.source, named.number);
             self.words.fill(first, count, Cell::Exclusive(segment));
             return Ok(());
         }
-        self.access_unlike(source, number, *access, write)
+        self.access_unlike(named)
     }
 
     /// Accepts an access to words that have different cells, or that may not be filled.
     #[inline(never)]
-    fn access_unlike(
-        &mut self,
-        source: u16,
-        number: u64,
-        access: Access,
-        write: bool,
-    ) -> Result<(), Refusal>
+    fn access_unlike(&mut self, named: NamedAccess) -> Result<(), Refusal>
         requires sound { IsSound self.old }
-        requires accepted { MayBeNext self.old.state (access_named source number write access) }
+        requires accepted { MayBeNext self.old.state (named_of named) }
         requires lawful { AtPresent W.may_bring (shown_of self.old) }
-        ensures answers { AnswersAccess ⟦<W as Words>⟧ self.old source number write access result self.new }
+        ensures answers { AnswersAccess ⟦<W as Words>⟧ self.old named result self.new }
         ensures went { W.went self.old.words self.new.words }
         ensures failures { W.failures self.new.words ≡ failed_after result (W.failures self.old.words) }
     {
-        let first = access.at / 4;
-        let last = (access.at + (u64::from(access.len) - 1)) / 4;
-        self.prepare(&access, write, first, last + 1)?;
+        let first = named.access.at / 4;
+        let last = (named.access.at + (u64::from(named.access.len) - 1)) / 4;
+        self.prepare(&named.access, named.write, first, last + 1)?;
         let event = self.state.events() + 1;
-        self.state.follow_access(source, number);
+        self.state.follow_access(named.source, named.number);
         set_words(&mut self.words, first, self.plan.as_slice());
         self.total += add_reports(
             &mut self.kept,
             event,
-            write,
-            access.t,
+            named.write,
+            named.access.t,
             first,
             self.plan.as_slice(),
         );
@@ -502,8 +485,18 @@ impl<W: Words> Engine<W> {
         ensures failures { W.failures self.new.words ≡ failed_after result (W.failures self.old.words) }
     {
         match &named.event {
-            Event::Read(access) => self.access(named.source, named.number, access, false),
-            Event::Write(access) => self.access(named.source, named.number, access, true),
+            Event::Read(access) => self.access(NamedAccess {
+                source: named.source,
+                number: named.number,
+                access: *access,
+                write: false,
+            }),
+            Event::Write(access) => self.access(NamedAccess {
+                source: named.source,
+                number: named.number,
+                access: *access,
+                write: true,
+            }),
             Event::Fork { p, c } => self.fork(named, *p, *c),
             Event::Join { p, c } => self.join(named, *p, *c),
             Event::Alloc(block) | Event::Free(block) => self.reset(named, block),

@@ -1,12 +1,13 @@
 //! A map of words in memory.
 
-ghost use Rattle.std.specs.Prelude.{◌≡◌, ℕ, ◌+◌, ◌/◌, ◌<◌, ◌≤◌, ◌^◌, true, None, is_some, IfOk, OnOk, MatchOption, nat_eq, ◌-◌};
+ghost use Rattle.std.specs.Prelude.{◌≡◌, ℕ, ◌+◌, ◌/◌, ◌<◌, ◌≤◌, ◌^◌, true, None, Some, is_some, IfOk, OnOk, MatchOption, nat_eq, ◌-◌};
 ghost use Rattle.indexmap.specs.IndexMap.{get};
 ghost use Rattle.hg_model.specs.declared.verdict.Refusal.TheVariants.{OutOfMemory};
 ghost use Rattle.hg_cells.specs.declared.cell.Cell.TheVariants.{New};
 ghost use Rattle.hg_detect.specs.Paged.{AreInPage, AreWithin, FillsWords, HasPage, StandsIn, cell_in, page_of};
 ghost use Rattle.hg_detect.specs.PagedLaws.{each_within, more_within, never_full};
 
+use crate::run::{Run, run_in};
 use crate::words::Words;
 use hg_cells::{Cell, PAGE_WORDS, Page};
 use hg_model::verdict::Refusal;
@@ -89,20 +90,29 @@ impl PagedWords {
         }
     }
 
+    /// A page that is present.
+    #[inline]
+    fn page(&self, number: u64) -> Option<&Page>
+        ensures { MatchOption result (page_of self.now number ≡ None) (λ page. page_of self.now number ≡ Some page.now) }
+    {
+        if let Some((key, page)) = self.pages.get_index(self.hint(number)) {
+            if *key == number {
+                return Some(&**page);
+            }
+        }
+        match self.pages.get(&number) {
+            Some(page) => Some(&**page),
+            None => None,
+        }
+    }
+
     /// The cell of a word.
     #[inline]
     fn cell(&self, word: u64) -> Cell
         ensures { result ≡ cell_in self.now word }
     {
-        let number = word / WORDS;
-        let place = (word % WORDS) as usize;
-        if let Some((key, page)) = self.pages.get_index(self.hint(number)) {
-            if *key == number {
-                return page.get(place);
-            }
-        }
-        match self.pages.get(&number) {
-            Some(page) => page.get(place),
+        match self.page(word / WORDS) {
+            Some(page) => page.get((word % WORDS) as usize),
             None => Cell::New,
         }
     }
@@ -203,6 +213,18 @@ impl Words for PagedWords {
         self.cell(word)
     }
 
+    fn run(&self, word: u64, end: u64) -> Run {
+        let from = word % WORDS;
+        let to = from + (end - word).min(WORDS - from);
+        match self.page(word / WORDS) {
+            Some(page) => run_in(page, from as usize, to as usize),
+            None => Run {
+                cell: Cell::New,
+                count: to - from,
+            },
+        }
+    }
+
     #[inline(always)]
     fn same(&mut self, first: u64, count: u64) -> Option<Cell> {
         let number = first / WORDS;
@@ -242,6 +264,17 @@ impl Words for PagedWords {
             if let Some(page) = self.pages.get_index_mut(place) {
                 page.set((word % WORDS) as usize, cell);
             }
+        }
+    }
+
+    fn set_run(&mut self, first: u64, count: u64, cell: Cell) {
+        let end = first + count;
+        let mut word = first;
+        while word < end {
+            let from = word % WORDS;
+            let count = (end - word).min(WORDS - from);
+            self.fill_page(word / WORDS, from, from + count, cell);
+            word += count;
         }
     }
 

@@ -1,12 +1,30 @@
 //! The words that an access has planned get their cells.
 
-ghost use Rattle.std.specs.Prelude.{◌≡◌, ℕ, ◌+◌, ◌≤◌, ◌^◌, length};
-ghost use Rattle.hg_detect.specs.Planning.{KeepsLawForPlan};
+ghost use Rattle.std.specs.Prelude.{◌≡◌, ℕ, ◌+◌, ◌<◌, ◌≤◌, ◌^◌, length};
+ghost use Rattle.hg_detect.specs.Planning.{HaveCellOf, KeepsLawForPlan};
 ghost use Rattle.hg_detect.specs.Words.{ForWords};
 ghost use Rattle.hg_detect.specs.Shown.{given};
 
 use crate::plan::Planned;
 use crate::words::Words;
+use hg_cells::are_same;
+
+/// Where the words of a plan end that get the same cell as the one at this place.
+#[inline]
+fn run_end(plan: &[Planned], from: usize) -> usize
+    requires { from < length plan.now }
+    ensures some { from < result }
+    ensures within { result ≤ length plan.now }
+    ensures cells { HaveCellOf plan.now from result }
+{
+    let cell = plan[from].cell;
+    for next in from + 1..plan.len() {
+        if !are_same(plan[next].cell, cell) {
+            return next;
+        }
+    }
+    plan.len()
+}
 
 /// Gives the words from `first` on their planned cells.
 pub(crate) fn set_words<W: Words>(words: &mut W, first: u64, plan: &[Planned])
@@ -18,9 +36,11 @@ pub(crate) fn set_words<W: Words>(words: &mut W, first: u64, plan: &[Planned])
     ensures went { W.went words.old words.new }
     ensures failures { W.failures words.new ≡ W.failures words.old }
 {
-    let mut word = first;
-    for planned in plan {
-        words.set(word, planned.cell);
-        word += 1;
+    let mut at = 0;
+    while at < plan.len() {
+        let end = run_end(plan, at);
+        let planned = plan[at];
+        words.set_run(first + at as u64, (end - at) as u64, planned.cell);
+        at = end;
     }
 }

@@ -3,12 +3,13 @@
 ghost use Rattle.std.specs.Prelude.{◌≡◌, ◌+◌, ◌^◌, ◌<◌, ◌≤◌, ◌==◌, ◌⊎◌, ℕ, length, OnOk, IfErr, IfSome, IsTrue, if◌then◌else◌};
 ghost use Rattle.hg_model.specs.History.{overlaps};
 ghost use Rattle.hg_cells.specs.Cells.{IsWithin};
-ghost use Rattle.hg_detect.specs.Words.{AreNewOrOwned, ForOverlapped, HasCellWithin, HaveCell, IsWithinWhere, KeepsLaw, KeepsLawFor, KeepsLawFrom, SameCells, failed_after};
+ghost use Rattle.hg_detect.specs.Words.{AreNewOrOwned, ForOverlapped, ForWords, HasCellWithin, HaveCell, IsWithinWhere, KeepsLaw, KeepsLawFor, KeepsLawFrom, SameCells, failed_after};
 ghost use Rattle.hg_model.specs.declared.verdict.Refusal.{Refusal as RefusalOf};
 ghost use Rattle.hg_model.specs.declared.verdict.Refusal.TheVariants.{FullSets};
 ghost use Rattle.hg_cells.specs.declared.cell.Cell.{Cell as CellOf};
 ghost use Rattle.hg_cells.specs.declared.cell.Cell.TheVariants.{New};
 
+use crate::run::Run;
 use hg_cells::Cell;
 use hg_model::verdict::Refusal;
 use hg_sets::SetTable;
@@ -82,6 +83,20 @@ pub trait Words {
         requires { is_brought self.now word }
         ensures { result ≡ cell_of self.now word };
 
+    /// The words from this one on that have one cell, up to some word before `end`: their cell, and how many they are.
+    fn run(&self, word: u64, end: u64) -> Run
+        requires order { word < end }
+        requires brought { ForWords word end (is_brought self.now) }
+        ensures some { 0 < result.count }
+        ensures within { word + result.count ≤ end }
+        ensures cells { HaveCell (cell_of self.now) word result.count result.cell }
+    {
+        Run {
+            cell: self.get(word),
+            count: 1,
+        }
+    }
+
     /// The cell that `count` words from `first` on all have, where they may be filled. (`None` says nothing of them.) An event asks
     /// this first, so a map with frames takes it as a use of their page.
     fn same(&mut self, first: u64, count: u64) -> Option<Cell>
@@ -122,6 +137,24 @@ pub trait Words {
         ensures faithful { KeepsLawFor cell (is_faithful self.old) (is_faithful self.new) }
         ensures went { went self.old self.new }
         ensures failures { failures self.new ≡ failures self.old };
+
+    /// Gives `count` words from `first` on, which were kept, one cell.
+    fn set_run(&mut self, first: u64, count: u64, cell: Cell)
+        requires kept { ForWords first (first + count) (is_kept self.old) }
+        requires some { 0 < count }
+        requires fits { first + count ≤ 2 ^ 62 }
+        ensures inside { HaveCell (cell_of self.new) first count cell }
+        ensures outside { (w : ℕ) → (w < first) ⊎ (first + count ≤ w) → cell_of self.new w ≡ cell_of self.old w }
+        ensures kept { (w : ℕ) → is_kept self.old w → is_kept self.new w }
+        ensures lawful { KeepsLawFor cell (may_bring self.old) (may_bring self.new) }
+        ensures faithful { KeepsLawFor cell (is_faithful self.old) (is_faithful self.new) }
+        ensures went { went self.old self.new }
+        ensures failures { failures self.new ≡ failures self.old }
+    {
+        for word in first..first + count {
+            self.set(word, cell);
+        }
+    }
 
     /// Makes the words new that `len` bytes from `at` on overlap.
     fn reset(&mut self, at: u64, len: u16)

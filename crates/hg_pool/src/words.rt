@@ -11,6 +11,7 @@ ghost use Rattle.hg_pool.specs.Calls.{ArePagesOf, CountsFailures, FillsWords, St
 use crate::frame::Frame;
 use crate::pool::Pool;
 use hg_cells::{Cell, PAGE_WORDS};
+use hg_detect::run::{Run, run_in};
 use hg_detect::words::Words;
 use hg_disk::Disk;
 use hg_model::verdict::Refusal;
@@ -104,6 +105,41 @@ impl<D: Disk> Pool<D> {
         self.parts.frames.first(page)
     }
 
+    // The words of a page in memory from one place on, up to another at most, that have the first one's cell, by a look-up.
+    #[inline(never)]
+    fn run_by_look_up(&self, page: u64, from: usize, to: usize) -> Run
+        requires present { is_some (frame_in self.now.frames page) ≡ true }
+        requires in_order { from < to }
+        requires in_page { to ≤ 256 }
+        ensures some { 0 < result.count }
+        ensures within { from + result.count ≤ to }
+        ensures cells { HasCell self.now.frames page from (from + result.count) result.cell }
+    {
+        match self.parts.frames.get(page) {
+            Some(frame) => run_in(&frame.cells, from, to),
+            None => Run {
+                cell: Cell::New,
+                count: 1,
+            },
+        }
+    }
+
+    // The same, without a look-up where the page is the one used last.
+    #[inline]
+    fn run_of(&self, page: u64, from: usize, to: usize) -> Run
+        requires present { is_some (frame_in self.now.frames page) ≡ true }
+        requires in_order { from < to }
+        requires in_page { to ≤ 256 }
+        ensures some { 0 < result.count }
+        ensures within { from + result.count ≤ to }
+        ensures cells { HasCell self.now.frames page from (from + result.count) result.cell }
+    {
+        match self.last_frame(page) {
+            Some(frame) => run_in(&frame.cells, from, to),
+            None => self.run_by_look_up(page, from, to),
+        }
+    }
+
     /// The cell that the words of a page from one place up to another all have, where the page is in memory and may be changed. (`None`
     /// says nothing of them.) The page becomes the one used last.
     #[inline]
@@ -194,6 +230,12 @@ impl<D: Disk> Words for Pool<D> {
         }
     }
 
+    fn run(&self, word: u64, end: u64) -> Run {
+        let from = word % WORDS;
+        let to = from + (end - word).min(WORDS - from);
+        self.run_of(word / WORDS, from as usize, to as usize)
+    }
+
     fn same(&mut self, first: u64, count: u64) -> Option<Cell> {
         let number = first / WORDS;
         let from = first % WORDS;
@@ -211,6 +253,17 @@ impl<D: Disk> Words for Pool<D> {
     fn set(&mut self, word: u64, cell: Cell) {
         let place = word % WORDS;
         self.fill_page(word / WORDS, place, place + 1, cell);
+    }
+
+    fn set_run(&mut self, first: u64, count: u64, cell: Cell) {
+        let end = first + count;
+        let mut word = first;
+        while word < end {
+            let from = word % WORDS;
+            let count = (end - word).min(WORDS - from);
+            self.fill_page(word / WORDS, from, from + count, cell);
+            word += count;
+        }
     }
 
     fn reset(&mut self, at: u64, len: u16) {

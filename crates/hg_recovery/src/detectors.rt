@@ -8,6 +8,7 @@ ghost use Rattle.hg_recovery.specs.Standing.{entries_of};
 
 use crate::caps::Caps;
 use hg_detect::detector::Detector;
+use hg_detect::parts::DetectorParts;
 use hg_detect::words::Words;
 use hg_disk::Disk;
 use hg_graph::Graph;
@@ -48,7 +49,16 @@ fn with_parts<D: Disk>(
     let mut sets = sets;
     sets.set_limit(most_sets);
     match Graph::restore(alloc, segments) {
-        Ok(graph) => Detector::restore(alloc, state, graph, sets, reports, total, pool),
+        Ok(graph) => {
+            let parts = DetectorParts {
+                state,
+                graph,
+                sets,
+                kept: reports,
+                total,
+            };
+            Detector::restore(alloc, parts, pool)
+        }
         Err(_) => Err(pool),
     }
 }

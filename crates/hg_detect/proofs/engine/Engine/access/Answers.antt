@@ -1,8 +1,8 @@
 use Rattle.std.proofs.Common.{ℕ, length, Option, Some, None, IfSome, refl, arith}
-use Rattle.hg_model.specs.Accessing.{access_named}
 use Rattle.hg_model.specs.Verdicts.{standing}
 use Rattle.hg_cells.specs.declared.cell.Cell.{Cell}
 use Rattle.hg_cells.specs.Cells.{IsWithin}
+use Rattle.hg_detect.specs.Engine.{named_of}
 use Rattle.hg_detect.proofs.Accesses.{last_word}
 use Rattle.hg_detect.proofs.Answering.{answers_from}
 use Rattle.hg_detect.proofs.Passing.{access_passes}
@@ -10,8 +10,8 @@ use Rattle.hg_detect.proofs.engine.Engine.access.Goals as goal
 
 pub access_found-requires-clause-count : goal.access_found-requires-clause-count
 access_found-requires-clause-count g c =
-    let a = c.args.access.now in
-    let passed = access_passes (standing c.args.self.now.state) (access_named c.args.source c.args.number c.args.write c.args.access.now) c.args.write a refl c.requires.accepted in
+    let a = c.args.named.access in
+    let passed = access_passes (standing c.args.self.now.state) (named_of c.args.named) c.args.named.write a refl c.requires.accepted in
     let ends = last_word a c.from.result c.from.ensures passed.some in
     omega (arith, ends)
 
@@ -28,4 +28,4 @@ access_found-requires-clause-within g c =
 pub returns-clause-answers : goal.returns-clause-answers
 returns-clause-answers g c =
     let words = g.W.Words in
-    answers_from words c.args.self.now c.access_found.new.self c.same-found.new.self (access_named c.args.source c.args.number c.args.write c.args.access.now) c.access_found.result c.same-found.ensures.unchanged c.same-found.ensures.faithful c.access_found.ensures.answers
+    answers_from words c.args.self.now c.access_found.new.self c.same-found.new.self (named_of c.args.named) c.access_found.result c.same-found.ensures.unchanged c.same-found.ensures.faithful c.access_found.ensures.answers

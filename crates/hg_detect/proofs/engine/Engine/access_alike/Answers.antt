@@ -1,10 +1,10 @@
 use Rattle.std.proofs.Common.{◌≡◌, ◌⊎◌, ◌+◌, ◌-◌, ◌/◌, ◌<◌, ◌≤◌, ◌++◌, ℕ, length, take, replicate, add-zero, Ok, Err, IfOk, OnOk, IfErr, None, inl, inr, ⊎_elim, refl, sym, ap, ◌∙◌, subst, arith}
 use Rattle.std.proofs.lemmas.List.{append-nil, length-replicate, take_all}
-use Rattle.hg_model.specs.Accessing.{access_event, access_named}
+use Rattle.hg_model.specs.Accessing.{access_event}
 use Rattle.hg_model.specs.Verdicts.{standing, verdict}
 use Rattle.hg_model.specs.declared.verdict.Refusal.TheVariants as refusal
 use Rattle.hg_cells.specs.Cells.{meaning}
-use Rattle.hg_detect.specs.Engine.{actor_of, shown_of}
+use Rattle.hg_detect.specs.Engine.{actor_of, named_of, shown_of}
 use Rattle.hg_detect.specs.Making.{Asks, AsksBy, sets_in}
 use Rattle.hg_detect.specs.Planning.{IsPlanned, touched_by}
 use Rattle.hg_detect.specs.Shown.{found}
@@ -16,16 +16,16 @@ use Rattle.hg_detect.proofs.Reports.{found_few}
 use Rattle.hg_detect.proofs.engine.Engine.access_alike.Goals as goal
 
 pub follow_access-requires : goal.follow_access-requires
-follow_access-requires g c = (c.args.write, c.args.access.now, ap (λ e. verdict (standing e.state) (access_named c.args.source c.args.number c.args.write c.args.access.now)) c.plan_for.ensures.others ∙ c.requires.accepted)
+follow_access-requires g c = (c.args.named.write, c.args.named.access, ap (λ e. verdict (standing e.state) (named_of c.args.named)) c.plan_for.ensures.others ∙ c.requires.accepted)
 
 pub returns-in_err-planned-clause-answers : goal.returns-in_err-planned-clause-answers
 returns-in_err-planned-clause-answers g c =
     let words = g.W.Words in
     let laws = g.met.W.Words in
     let old = c.args.self.now in
-    let a = c.args.access.now in
-    let passed = access_passes (standing old.state) (access_named c.args.source c.args.number c.args.write c.args.access.now) c.args.write a refl c.requires.accepted in
-    let actor = actor_of old a c.args.write in
+    let a = c.args.named.access in
+    let passed = access_passes (standing old.state) (named_of c.args.named) c.args.named.write a refl c.requires.accepted in
+    let actor = actor_of old a c.args.named.write in
     let first = a.at / 4 in
     let n : ℕ = (a.at + a.len + 3) / 4 - first in
     let some : 0 < n = let l = passed.some in omega arith in
@@ -38,9 +38,9 @@ returns-in_err-planned-clause-answers g c =
     in
     let cause : (r ≡ refusal.FullSets) ⊎ (r ≡ refusal.OutOfMemory) = subst (λ x. IfErr x (λ e. (e ≡ refusal.FullSets) ⊎ (e ≡ refusal.OutOfMemory))) fails c.plan_for.ensures.refusal in
     let k = sets_changed words.cell_of words.may_bring words.is_faithful old c.plan_for.new.self c.plan_for.ensures.others c.plan_for.ensures.sets c.plan_for.ensures.numbers c.requires.sound in
-    refused_answers words old c.plan_for.new.self (access_named c.args.source c.args.number c.args.write c.args.access.now) c.from_residual.result r
+    refused_answers words old c.plan_for.new.self (named_of c.args.named) c.from_residual.result r
     same k laws.brings_more laws.more_faithful laws.faithful_within c.requires.sound c.requires.lawful
-    (λ h. asked_from words.cell_of (shown_of old) (access_event c.args.write c.args.access.now) c.args.write a actor _ c.from_residual.result (Err r) c.plan_for.new.self.sets refl passed.some refl refl same
+    (λ h. asked_from words.cell_of (shown_of old) (access_event c.args.named.write c.args.named.access) c.args.named.write a actor _ c.from_residual.result (Err r) c.plan_for.new.self.sets refl passed.some refl refl same
     (alike_refused old.graph old.sets c.plan_for.new.self.sets actor (words.cell_of old.words) c.args.cell first n r some alike cause asked))
     (subst (λ x. IfErr x (λ e. (e ≡ refusal.FullSets) ⊎ ((e ≡ refusal.OutOfMemory) ⊎ words.may_refuse e))) (sym same) (⊎_elim (λ full. inl full) (λ out. inr (inl out)) cause))
 
@@ -50,9 +50,9 @@ returns-then-are_same-clause-answers g c =
     let laws = g.met.W.Words in
     let old = c.args.self.now in
     let mid = c.plan_for.new.self in
-    let a = c.args.access.now in
-    let passed = access_passes (standing old.state) (access_named c.args.source c.args.number c.args.write c.args.access.now) c.args.write a refl c.requires.accepted in
-    let actor = actor_of old a c.args.write in
+    let a = c.args.named.access in
+    let passed = access_passes (standing old.state) (named_of c.args.named) c.args.named.write a refl c.requires.accepted in
+    let actor = actor_of old a c.args.named.write in
     let first = a.at / 4 in
     let n : ℕ = (a.at + a.len + 3) / 4 - first in
     let some : 0 < n = let l = passed.some in omega arith in
@@ -67,16 +67,16 @@ returns-then-are_same-clause-answers g c =
     let plan = replicate n p in
     let all_planned = alike_planned old.graph old.sets.sets mid.sets.sets actor (words.cell_of mid.words) c.args.cell p first n planned alike_mid in
     let k = sets_changed words.cell_of words.may_bring words.is_faithful old c.plan_for.new.self c.plan_for.ensures.others c.plan_for.ensures.sets c.plan_for.ensures.numbers c.requires.sound in
-    let none = alike_found (mid.state.events + 1) c.args.write a.t first p n (quiet p.reported c.if-not-planned.true) in
+    let none = alike_found (mid.state.events + 1) c.args.named.write a.t first p n (quiet p.reported c.if-not-planned.true) in
     let same : p.cell ≡ c.args.cell = c.are_same.ensures.0 c.if-are_same.true in
-    access_answers words old mid _ (access_named c.args.source c.args.number c.args.write c.args.access.now) c.args.write a (mid.state.events + 1) 0 _ plan
+    access_answers words old mid _ (named_of c.args.named) c.args.named.write a (mid.state.events + 1) 0 _ plan
     refl passed k laws.brings_more laws.more_faithful laws.faithful_within c.requires.sound c.requires.lawful
-    (c.follow_access.ensures c.args.write c.args.access.now) refl refl refl refl all_planned (length-replicate n p)
+    (c.follow_access.ensures c.args.named.write c.args.named.access) refl refl refl refl all_planned (length-replicate n p)
     (alike_given (words.cell_of mid.words) (words.cell_of mid.words) p first n (λ w low high. alike_mid w low high ∙ sym same) (λ w out. refl))
     (λ s m each h. h)
     (λ s m each h. h)
     refl (sym (ap (λ xs. take 65536 (mid.kept.items ++ xs)) none ∙ ap (take 65536) (append-nil mid.kept.items) ∙ take_all 65536 mid.kept.items (omega (arith, c.requires.sound.few, ap length k.kept)))) (sym (ap length none)) (sym (add-zero mid.total))
-    (λ h. asked_from words.cell_of (shown_of old) (access_event c.args.write c.args.access.now) c.args.write a actor _ (Ok tt) (Ok tt) mid.sets refl passed.some refl refl refl asked)
+    (λ h. asked_from words.cell_of (shown_of old) (access_event c.args.named.write c.args.named.access) c.args.named.write a actor _ (Ok tt) (Ok tt) mid.sets refl passed.some refl refl refl asked)
 
 pub returns-then-not-planned-clause-answers : goal.returns-then-not-planned-clause-answers
 returns-then-not-planned-clause-answers g c =
@@ -84,9 +84,9 @@ returns-then-not-planned-clause-answers g c =
     let laws = g.met.W.Words in
     let old = c.args.self.now in
     let mid = c.plan_for.new.self in
-    let a = c.args.access.now in
-    let passed = access_passes (standing old.state) (access_named c.args.source c.args.number c.args.write c.args.access.now) c.args.write a refl c.requires.accepted in
-    let actor = actor_of old a c.args.write in
+    let a = c.args.named.access in
+    let passed = access_passes (standing old.state) (named_of c.args.named) c.args.named.write a refl c.requires.accepted in
+    let actor = actor_of old a c.args.named.write in
     let first = a.at / 4 in
     let n : ℕ = (a.at + a.len + 3) / 4 - first in
     let some : 0 < n = let l = passed.some in omega arith in
@@ -101,18 +101,18 @@ returns-then-not-planned-clause-answers g c =
     let plan = replicate n p in
     let all_planned = alike_planned old.graph old.sets.sets mid.sets.sets actor (words.cell_of mid.words) c.args.cell p first n planned alike_mid in
     let k = sets_changed words.cell_of words.may_bring words.is_faithful old c.plan_for.new.self c.plan_for.ensures.others c.plan_for.ensures.sets c.plan_for.ensures.numbers c.requires.sound in
-    let none = alike_found (mid.state.events + 1) c.args.write a.t first p n (quiet p.reported c.if-not-planned.true) in
+    let none = alike_found (mid.state.events + 1) c.args.named.write a.t first p n (quiet p.reported c.if-not-planned.true) in
     let inside : (w : ℕ) → first ≤ w → w < first + n → words.cell_of c.fill.new.self w ≡ p.cell = λ w low high. c.fill.ensures.inside w (omega (arith, c.requires.first)) (omega (arith, c.requires.first, c.requires.count)) in
     let outside : (w : ℕ) → (w < first) ⊎ (first + n ≤ w) → words.cell_of c.fill.new.self w ≡ words.cell_of mid.words w =
     λ w out. c.fill.ensures.outside w (⊎_elim (λ low. inl (omega (arith, c.requires.first))) (λ high. inr (omega (arith, c.requires.first, c.requires.count))) out) in
-    access_answers words old mid _ (access_named c.args.source c.args.number c.args.write c.args.access.now) c.args.write a (mid.state.events + 1) 0 _ plan
+    access_answers words old mid _ (named_of c.args.named) c.args.named.write a (mid.state.events + 1) 0 _ plan
     refl passed k laws.brings_more laws.more_faithful laws.faithful_within c.requires.sound c.requires.lawful
-    (c.follow_access.ensures c.args.write c.args.access.now) refl refl refl refl all_planned (length-replicate n p)
+    (c.follow_access.ensures c.args.named.write c.args.named.access) refl refl refl refl all_planned (length-replicate n p)
     (alike_given (words.cell_of mid.words) (words.cell_of c.fill.new.self) p first n inside outside)
     (λ s m each h. c.fill.ensures.lawful s m (alike_within s m p n some each) h)
     (λ s m each h. c.fill.ensures.faithful s m (alike_within s m p n some each) h)
     refl (sym (ap (λ xs. take 65536 (mid.kept.items ++ xs)) none ∙ ap (take 65536) (append-nil mid.kept.items) ∙ take_all 65536 mid.kept.items (omega (arith, c.requires.sound.few, ap length k.kept)))) (sym (ap length none)) (sym (add-zero mid.total))
-    (λ h. asked_from words.cell_of (shown_of old) (access_event c.args.write c.args.access.now) c.args.write a actor _ (Ok tt) (Ok tt) mid.sets refl passed.some refl refl refl asked)
+    (λ h. asked_from words.cell_of (shown_of old) (access_event c.args.named.write c.args.named.access) c.args.named.write a actor _ (Ok tt) (Ok tt) mid.sets refl passed.some refl refl refl asked)
 
 pub returns-in_err-reserve_reports-clause-answers : goal.returns-in_err-reserve_reports-clause-answers
 returns-in_err-reserve_reports-clause-answers g c =
@@ -120,9 +120,9 @@ returns-in_err-reserve_reports-clause-answers g c =
     let laws = g.met.W.Words in
     let old = c.args.self.now in
     let mid = c.plan_for.new.self in
-    let a = c.args.access.now in
-    let passed = access_passes (standing old.state) (access_named c.args.source c.args.number c.args.write c.args.access.now) c.args.write a refl c.requires.accepted in
-    let actor = actor_of old a c.args.write in
+    let a = c.args.named.access in
+    let passed = access_passes (standing old.state) (named_of c.args.named) c.args.named.write a refl c.requires.accepted in
+    let actor = actor_of old a c.args.named.write in
     let first = a.at / 4 in
     let n : ℕ = (a.at + a.len + 3) / 4 - first in
     let some : 0 < n = let l = passed.some in omega arith in
@@ -153,25 +153,25 @@ returns-in_err-reserve_reports-clause-answers g c =
     }
     in
     let same : c.from_residual-in_err-reserve_reports.result ≡ Err refusal.OutOfMemory = grind arith in
-    refused_answers words old roomy (access_named c.args.source c.args.number c.args.write c.args.access.now) c.from_residual-in_err-reserve_reports.result refusal.OutOfMemory
+    refused_answers words old roomy (named_of c.args.named) c.from_residual-in_err-reserve_reports.result refusal.OutOfMemory
     same roomier laws.brings_more laws.more_faithful laws.faithful_within c.requires.sound c.requires.lawful
-    (λ h. asked_from words.cell_of (shown_of old) (access_event c.args.write c.args.access.now) c.args.write a actor _ c.from_residual-in_err-reserve_reports.result (Err refusal.OutOfMemory) mid.sets refl passed.some refl refl same (inr (inl asked)))
+    (λ h. asked_from words.cell_of (shown_of old) (access_event c.args.named.write c.args.named.access) c.args.named.write a actor _ c.from_residual-in_err-reserve_reports.result (Err refusal.OutOfMemory) mid.sets refl passed.some refl refl same (inr (inl asked)))
     (subst (λ x. IfErr x (λ e. (e ≡ refusal.FullSets) ⊎ ((e ≡ refusal.OutOfMemory) ⊎ words.may_refuse e))) (sym same) (inr (inl refl)))
 
 pub add_reports-reports-requires-clause-fits : goal.add_reports-reports-requires-clause-fits
 add_reports-reports-requires-clause-fits g c =
     let old = c.args.self.now in
-    let a = c.args.access.now in
-    let passed = access_passes (standing old.state) (access_named c.args.source c.args.number c.args.write c.args.access.now) c.args.write a refl c.requires.accepted in
+    let a = c.args.named.access in
+    let passed = access_passes (standing old.state) (named_of c.args.named) c.args.named.write a refl c.requires.accepted in
     let len = ap length (c.as_slice-2.ensures.value ∙ c.plan_alike.ensures.items) ∙ length-replicate c.args.count c.in_ok-planned.planned in
     omega (arith, len, c.requires.count, c.requires.first, passed.within, passed.some)
 
 pub overflow_add-self : goal.overflow_add-self
 overflow_add-self g c =
     let old = c.args.self.now in
-    let a = c.args.access.now in
-    let passed = access_passes (standing old.state) (access_named c.args.source c.args.number c.args.write c.args.access.now) c.args.write a refl c.requires.accepted in
-    let few = found_few (c.events-next.result + 1) c.args.write a.t c.args.first c.as_slice-2.result.now in
+    let a = c.args.named.access in
+    let passed = access_passes (standing old.state) (named_of c.args.named) c.args.named.write a refl c.requires.accepted in
+    let few = found_few (c.events-next.result + 1) c.args.named.write a.t c.args.first c.as_slice-2.result.now in
     let len = ap length (c.as_slice-2.ensures.value ∙ c.plan_alike.ensures.items) ∙ length-replicate c.args.count c.in_ok-planned.planned in
     omega (arith, few, len, c.add_reports-reports.ensures.count, ap (λ e. e.total) c.plan_for.ensures.others, c.requires.sound.total, passed.events, c.requires.count, c.requires.first, passed.few, passed.some)
 
@@ -181,9 +181,9 @@ returns-clause-answers g c =
     let laws = g.met.W.Words in
     let old = c.args.self.now in
     let mid = c.plan_for.new.self in
-    let a = c.args.access.now in
-    let passed = access_passes (standing old.state) (access_named c.args.source c.args.number c.args.write c.args.access.now) c.args.write a refl c.requires.accepted in
-    let actor = actor_of old a c.args.write in
+    let a = c.args.named.access in
+    let passed = access_passes (standing old.state) (named_of c.args.named) c.args.named.write a refl c.requires.accepted in
+    let actor = actor_of old a c.args.named.write in
     let first = a.at / 4 in
     let n : ℕ = (a.at + a.len + 3) / 4 - first in
     let some : 0 < n = let l = passed.some in omega arith in
@@ -218,13 +218,13 @@ returns-clause-answers g c =
     let outside : (w : ℕ) → (w < first) ⊎ (first + n ≤ w) → words.cell_of c.fill-2.new.self w ≡ words.cell_of mid.words w =
     λ w out. c.fill-2.ensures.outside w (⊎_elim (λ low. inl (omega (arith, c.requires.first))) (λ high. inr (omega (arith, c.requires.first, c.requires.count))) out) in
     let slice : c.as_slice-2.result.now ≡ replicate n p = c.as_slice-2.ensures.value ∙ planned_room in
-    let items = c.add_reports-reports.ensures.items ∙ (λ i. take 65536 (c.reserve_reports.new.kept.items ++ found (c.events-next.result + 1) c.args.write a.t (c.requires.first i) (slice i))) in
-    let count = c.add_reports-reports.ensures.count ∙ (λ i. length (found (c.events-next.result + 1) c.args.write a.t (c.requires.first i) (slice i))) in
-    access_answers words old roomy _ (access_named c.args.source c.args.number c.args.write c.args.access.now) c.args.write a (c.events-next.result + 1) c.add_reports-reports.result _ plan
+    let items = c.add_reports-reports.ensures.items ∙ (λ i. take 65536 (c.reserve_reports.new.kept.items ++ found (c.events-next.result + 1) c.args.named.write a.t (c.requires.first i) (slice i))) in
+    let count = c.add_reports-reports.ensures.count ∙ (λ i. length (found (c.events-next.result + 1) c.args.named.write a.t (c.requires.first i) (slice i))) in
+    access_answers words old roomy _ (named_of c.args.named) c.args.named.write a (c.events-next.result + 1) c.add_reports-reports.result _ plan
     refl passed roomier laws.brings_more laws.more_faithful laws.faithful_within c.requires.sound c.requires.lawful
-    (c.follow_access-2.ensures c.args.write c.args.access.now) refl refl refl refl all_planned (length-replicate n p)
+    (c.follow_access-2.ensures c.args.named.write c.args.named.access) refl refl refl refl all_planned (length-replicate n p)
     (alike_given (words.cell_of mid.words) (words.cell_of c.fill-2.new.self) p first n inside outside)
     (λ s m each h. c.fill-2.ensures.lawful s m (alike_within s m p n some each) h)
     (λ s m each h. c.fill-2.ensures.faithful s m (alike_within s m p n some each) h)
     (ap (λ (x : ℕ). x + 1) c.events-next.ensures) items count refl
-    (λ h. asked_from words.cell_of (shown_of old) (access_event c.args.write c.args.access.now) c.args.write a actor _ (Ok tt) (Ok tt) mid.sets refl passed.some refl refl refl asked)
+    (λ h. asked_from words.cell_of (shown_of old) (access_event c.args.named.write c.args.named.access) c.args.named.write a actor _ (Ok tt) (Ok tt) mid.sets refl passed.some refl refl refl asked)

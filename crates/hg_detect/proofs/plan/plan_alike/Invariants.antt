@@ -1,7 +1,0 @@
-use Rattle.std.proofs.Common.{◌≡◌, ◌≤◌, replicate}
-use Rattle.std.specs.Prelude.{vec_capacity}
-use Rattle.hg_detect.proofs.plan.plan_alike.Given as goal
-
--- so many are planned so far
-abbrev pub invariant-loop : goal.invariant-loop
-invariant-loop l = (l.plan.items ≡ replicate l.counter l.planned) × (17 ≤ vec_capacity l.plan)
