@@ -1,8 +1,7 @@
 -- A plan for words by runs of one cell.
-use Rattle.std.proofs.Common.{◌≡◌, ℕ, zero, suc, ◌+◌, ◌-◌, ◌<◌, ◌≤◌, List, [], ◌∷◌, ◌++◌, length, replicate, Some, None, Result, Ok, Err, IfOk, refl, sym, ap, ◌∙◌, subst, append_assoc, arith}
+use Rattle.std.proofs.Common.{◌≡◌, ℕ, zero, suc, ◌+◌, ◌<◌, ◌≤◌, List, [], ◌∷◌, ◌++◌, length, replicate, None, Result, Ok, IfOk, refl, sym, ◌∙◌, subst, append_assoc, arith}
 use Rattle.std.proofs.lemmas.List.{append-nil}
 use Rattle.std.specs.Result.{result_err}
-use Rattle.std.specs.List.{range_with_len}
 use Rattle.hg_model.specs.declared.segment.Segment.{Segment}
 use Rattle.hg_model.specs.declared.word.WordState.{WordState}
 use Rattle.hg_sets.specs.Interning.{Table, AreSets, KeepsNumbers}
@@ -10,7 +9,7 @@ use Rattle.hg_sets.specs.declared.fault.SetFault.{SetFault}
 use Rattle.hg_cells.specs.declared.cell.Cell.{Cell}
 use Rattle.hg_cells.specs.Cells.{meaning, IsWithin}
 use Rattle.hg_detect.specs.declared.plan.Planned.{Planned}
-use Rattle.hg_detect.specs.Planning.{Actor, IsPlanned, touched_by, wanted}
+use Rattle.hg_detect.specs.Planning.{Actor, IsPlanned, touched_by}
 use Rattle.hg_detect.specs.Making.{Asks, sets_in}
 use Rattle.hg_detect.proofs.Plans.{from_before, kept_twice, meaning_kept}
 use Rattle.hg_detect.proofs.Sequences.{IsUnderway, underway_next}

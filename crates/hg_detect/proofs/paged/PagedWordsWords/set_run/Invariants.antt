@@ -1,5 +1,4 @@
 use Rattle.std.proofs.Common.{◌≡◌, ◌⊎◌, ◌+◌, ◌-◌, ◌/◌, ◌<◌, ◌≤◌, ℕ, true, is_some}
-use Rattle.hg_cells.specs.Cells.{IsWithin}
 use Rattle.hg_detect.specs.Paged.{cell_in, page_of}
 use Rattle.hg_detect.proofs.paged.PagedWordsWords.set_run.Given as goal
 
