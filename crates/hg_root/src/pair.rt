@@ -38,7 +38,7 @@ pub struct RootPair<D: Disk> {
 
 impl<D: Disk> RootPair<D> {
     ghost use Rattle.hg_root.specs.Finding.{HaveOneNumber, AreWhole, ChoosesFrom, HasNoNewest, IsNewestOf, IsOnlyOf, IsWholeIn, StandsByChoice, StandsDurably, WasRead, root_in};
-    ghost use Rattle.hg_root.specs.Pairs.{AreGates, ClosesInTurn, IsEitherBroken, IsWorking, LeavesEither, LeavesRoot, LeavesRoots, OpensNext, Prepares, PutsBody, Stands, StandsClosed, StandsOpened, StaysOnErr, failures, first_after, first_of, is_broken, is_closed, is_other_broken, is_other_closed, is_turned, newer, older, second_after, second_of, turned};
+    ghost use Rattle.hg_root.specs.Pairs.{AreGates, ClosesInTurn, IsEitherBroken, IsGate, IsWorking, LeavesEither, LeavesRoot, LeavesRoots, OpensNext, Prepares, PutsBody, Stands, StandsClosed, StandsOpened, StaysOnErr, failures, first_after, first_of, is_broken, is_closed, is_other_broken, is_other_closed, is_turned, newer, older, second_after, second_of, turned};
 
     /// The pair of two files, whatever their bytes are. It makes no device call. Which of them has the newest open root is told by
     /// `newest`, which comes first.
@@ -87,12 +87,14 @@ impl<D: Disk> RootPair<D> {
     }
 
     /// The pair of two files that are closed. It makes no device call.
+    #[tactic(auto, using(crate::proofs::Pairs::gate_is_closed))]
     pub fn of_closed(root0: D, root1: D) -> RootPair<D>
         ensures first { first_of result ≡ root0 }
         ensures second { second_of result ≡ root1 }
         ensures works { IsWorking result }
         ensures turn { is_turned result ≡ false }
         ensures stands { StandsClosed ⟦<D as Disk>⟧ root0 root1 result }
+        ensures gates { IsGate ⟦<D as Disk>⟧ root0 → IsGate ⟦<D as Disk>⟧ root1 → Stands ⟦<D as Disk>⟧ result None None }
     {
         RootPair {
             older: Gated::attach(root0),

@@ -13,7 +13,6 @@ use Rattle.hg_detect.specs.Making.{Asks, sets_asked}
 use Rattle.hg_disk.specs.declared.disk.Disk as disk
 use Rattle.hg_disk.specs.Calls.{CallsAtMost}
 use Rattle.hg_disk.specs.State.{IsImage, counted, settled}
-use Rattle.hg_disk.specs.declared.disk.DiskFault.{DiskFault}
 use Rattle.hg_disk.specs.Moments.{Leaves, LeavesOnly}
 use Rattle.hg_gate.specs.Batches.{closed_gate, header}
 use Rattle.hg_journal.specs.Journal.{IsJournal, after_refusal}
@@ -295,24 +294,44 @@ NamesPages root result = (c : Option Checkpoint) → root_of c ≡ root → IfOk
 abbrev pub HasNoContent : Image → Type 0
 HasNoContent image = (c : Content) → ¬ HasContent image c
 
--- the devices of which a store is made
-abbrev pub joined : {D : Type 0} → D → pool.ShownPool D → D → D → Devices D
-joined journal words root0 root1 = record { journal = journal; slots = pools.disk_of words; root0 = root0; root1 = root1 }
+-- the journal and the roots of a store of no events, or the devices that are handed back
+abbrev pub NewFilesOr : (D : Type 0) → disk.Ghosts D → Type 0
+NewFilesOr D g = Result (Journal D g × RootPair D) (D × D × D)
+
+module _ {D : Type 0} {g : disk.Ghosts D} where
+  -- the devices of a store of these parts
+  abbrev pub joined : Journal D g → pool.ShownPool D → RootPair D → Devices D
+  joined journal words roots = record {
+    journal = journals.disk_of journal;
+    slots = pools.disk_of words;
+    root0 = pairs.first_of roots;
+    root1 = pairs.second_of roots;
+  }
+
+  -- the devices of new files
+  abbrev pub journal_in : NewFilesOr D g → D
+  journal_in (Ok files) = journals.disk_of files.0
+  journal_in (Err disks) = disks.0
+
+  abbrev pub first_in : NewFilesOr D g → D
+  first_in (Ok files) = pairs.first_of files.1
+  first_in (Err disks) = disks.1
+
+  abbrev pub second_in : NewFilesOr D g → D
+  second_in (Ok files) = pairs.second_of files.1
+  second_in (Err disks) = disks.2
+
+  -- One call of them failed, or none.
+  abbrev pub CountsNewFiles : (journal root0 root1 : D) → NewFilesOr D g → Type 0
+  CountsNewFiles journal root0 root1 result =
+      g.failures (journal_in result) + g.failures (first_in result) + g.failures (second_in result)
+      ≡ counted result (g.failures journal + g.failures root0 + g.failures root1)
 
 -- Making
 module _ {D : Type 0} (g : disk.Ghosts D) where
   -- The devices have bytes, and are handed back as they were.
   abbrev pub WereNotEmpty : (devices back : Devices D) → Type 0
   WereNotEmpty devices back = ¬ IsEmpty g devices × (back ≡ devices)
-
-  -- An empty device has a closed gate on it.
-  abbrev pub ClosesEmpty : (old new : D) → Result (Unit {0}) DiskFault → Type 0
-  ClosesEmpty old new result = (g.state old).contents ≡ [] → OnOk result (g.state new ≡ settled (closed_gate ∷ []))
-
-  -- Of two devices one call failed, or none.
-  abbrev pub CountsBoth : (one other : D) → (new_one new_other : D) → Result (Unit {0}) DiskFault → Type 0
-  CountsBoth one other new_one new_other result =
-      g.failures new_one + g.failures new_other ≡ counted result (g.failures one + g.failures other)
 
   -- The parts of a store have a basis, and its detector can go on.
   abbrev pub MayBeMade : Journal D g → detect.ShownDetector (pool.ShownPool D) → Checkpointer D g → Type 0
@@ -321,10 +340,6 @@ module _ {D : Type 0} (g : disk.Ghosts D) where
   -- The store that is made of parts with a basis is fresh, with the content of the detector.
   abbrev pub IsFreshOf : Journal D g → detect.ShownDetector (pool.ShownPool D) → Checkpointer D g → ShownStore D → Type 0
   IsFreshOf journal d c s = (basis : Basis) → IsBased g journal d c basis → IsFresh g s (detect.content (pools.live g) d)
-
-  -- The devices read what those of a store of no events do, but for the slots, which are as they were.
-  abbrev pub ReadsEmpty : pool.ShownPool D → ShownStore D → Type 0
-  ReadsEmpty words s = read_of g s.devices ≡ record empty_image { slots = (g.state (pools.disk_of words)).contents }
 
   abbrev pub CountsMaking : Devices D → Result (ShownStore D) (CreateFault × Devices D) → Type 0
   CountsMaking devices result = FailuresBecome g devices (made_of result) (tells_create result)

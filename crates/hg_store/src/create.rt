@@ -1,6 +1,6 @@
 //! Making a store.
 
-ghost use Rattle.std.specs.Prelude.{◌≡◌, ◌≢◌, ◌⊎◌, ◌+◌, ◌≤◌, ◌∷◌, [], vec_capacity, false, IsTrue, IfOk, IfErr};
+ghost use Rattle.std.specs.Prelude.{◌≡◌, ◌≢◌, ◌⊎◌, ◌+◌, ◌≤◌, [], None, vec_capacity, false, IsTrue, IfOk, IfErr};
 ghost use Rattle.hg_model.specs.Change.{empty_content};
 ghost use Rattle.hg_detect.specs.Engine.{AtPresent};
 ghost use Rattle.hg_detect.specs.Shown.{content};
@@ -14,15 +14,15 @@ ghost use Rattle.hg_sets.specs.Interning.{first_table};
 ghost use Rattle.hg_checkpointer.specs.declared.phase.Phase.TheVariants.{Idle};
 ghost use Rattle.hg_store.specs.Kept.{devices_of};
 ghost use Rattle.hg_store.specs.Images.{read_of};
-ghost use Rattle.hg_store.specs.Recovering.{ClosesEmpty, CountsBoth, CountsMaking, IsEmpty, IsFreshOf, IsOfMaking, IsReady, MakingCalls, MayBeMade, ReadsEmpty, WereNotEmpty, empty_image, joined, made_of};
+ghost use Rattle.hg_root.specs.Pairs.{AreGates, Stands};
+ghost use Rattle.hg_store.specs.Recovering.{CountsMaking, CountsNewFiles, IsEmpty, IsFreshOf, IsOfMaking, IsReady, MakingCalls, MayBeMade, WereNotEmpty, empty_image, first_in, journal_in, joined, made_of, second_in};
 ghost use Rattle.hg_store.specs.Store.{IsFresh, IsIdle};
 
 use crate::devices::{Caps, Devices};
 use crate::store::{MOST_PENDING, Store};
 use hg_checkpointer::Checkpointer;
 use hg_detect::detector::Detector;
-use hg_disk::{Disk, DiskFault, write_through};
-use hg_gate::CLOSED;
+use hg_disk::Disk;
 use hg_journal::journal::{Journal, JournalRoom};
 use hg_model::event::Named;
 use hg_model::verdict::Refusal;
@@ -30,7 +30,7 @@ use hg_pages::{MOST_SLOTS, SlotFile, Table};
 use hg_pool::Pool;
 use hg_root::RootPair;
 use hg_sets::MOST_SETS;
-use std::alloc::{AllocError, Global};
+use std::alloc::Global;
 use std::snapshot::Snapshot;
 
 /// Why a store was not made.
@@ -48,20 +48,18 @@ pub(crate) fn pending_room(alloc: Global) -> Result<Vec<Named>, Refusal>
     ensures room { IfOk result (λ pending. 1024 ≤ vec_capacity pending) }
     ensures refusal { IfErr result (λ refusal. refusal ≡ Refusal.OutOfMemory) }
 {
-    match Vec::with_capacity(alloc, MOST_PENDING) {
-        Ok(pending) => Ok(pending),
-        Err(AllocError) => Err(Refusal::OutOfMemory),
-    }
+    Ok(Vec::with_capacity(alloc, MOST_PENDING)?)
 }
 
-/// The memory of the journal.
-fn journal_room(alloc: Global) -> Result<JournalRoom, Refusal>
+/// Room for all events that may wait for a commit, and the memory of a journal.
+fn rooms(alloc: Global) -> Result<(Vec<Named>, JournalRoom), Refusal>
+    ensures none { IfOk result (λ rooms. rooms.0.items ≡ []) }
+    ensures room { IfOk result (λ rooms. 1024 ≤ vec_capacity rooms.0) }
     ensures refusal { IfErr result (λ refusal. refusal ≡ Refusal.OutOfMemory) }
 {
-    match JournalRoom::new(alloc) {
-        Ok(room) => Ok(room),
-        Err(AllocError) => Err(Refusal::OutOfMemory),
-    }
+    let pending = pending_room(alloc)?;
+    let journal = JournalRoom::new(alloc)?;
+    Ok((pending, journal))
 }
 
 /// The detector of no events, over a file of slots of which none is named. Where memory runs out, the file is handed back.
@@ -112,16 +110,35 @@ fn is_empty<D: Disk>(devices: &Devices<D>) -> bool
     devices.root1.len() == 0
 }
 
-/// Closes the empty roots, durably.
-fn close_roots<D: Disk>(root0: &mut D, root1: &mut D) -> Result<(), DiskFault>
-    ensures first { ClosesEmpty ⟦<D as Disk>⟧ root0.old root0.new result }
-    ensures second { ClosesEmpty ⟦<D as Disk>⟧ root1.old root1.new result }
-    ensures first_calls { CallsAtMost ⟦<D as Disk>⟧ 2 root0.old root0.new }
-    ensures second_calls { CallsAtMost ⟦<D as Disk>⟧ 2 root1.old root1.new }
-    ensures failures { CountsBoth ⟦<D as Disk>⟧ root0.old root1.old root0.new root1.new result }
+/// The journal and the two roots of a store of no events, on devices without a byte. Where one of them fails, they are handed back.
+fn new_files<D: Disk>(
+    room: JournalRoom,
+    journal: D,
+    root0: D,
+    root1: D,
+) -> Result<(Journal<D>, RootPair<D>), (D, D, D)>
+    requires journal { (D.state journal).contents ≡ [] }
+    requires first { (D.state root0).contents ≡ [] }
+    requires second { (D.state root1).contents ≡ [] }
+    ensures empty { IfOk result (λ files. journals.IsEmptyOn journal files.0) }
+    ensures stands { IfOk result (λ files. Stands ⟦<D as Disk>⟧ files.1 None None) }
+    ensures gates { IfOk result (λ files. AreGates ⟦<D as Disk>⟧ files.1) }
+    ensures journal_calls { CallsAtMost ⟦<D as Disk>⟧ 2 journal (journal_in result) }
+    ensures first_calls { CallsAtMost ⟦<D as Disk>⟧ 2 root0 (first_in result) }
+    ensures second_calls { CallsAtMost ⟦<D as Disk>⟧ 2 root1 (second_in result) }
+    ensures device { CountsNewFiles journal root0 root1 result }
 {
-    write_through(root0, 0, &[CLOSED])?;
-    write_through(root1, 0, &[CLOSED])
+    let roots = match RootPair::create(root0, root1) {
+        Ok(roots) => roots,
+        Err((root0, root1)) => return Err((journal, root0, root1)),
+    };
+    match Journal::create_in(room, journal) {
+        Ok(journal) => Ok((journal, roots)),
+        Err((_, journal)) => {
+            let (root0, root1) = roots.into_disks();
+            Err((journal, root0, root1))
+        }
+    }
 }
 
 /// The store of these parts, with nothing pending and no checkpoint in progress.
@@ -160,61 +177,29 @@ pub(crate) fn made<D: Disk>(
     }
 }
 
-/// The store of a detector of no events on an empty journal and two empty roots.
+/// The store of a detector of no events, on a journal of no events and two closed roots.
 fn on_closed_roots<D: Disk>(
     alloc: Global,
-    journal: D,
-    room: JournalRoom,
+    journal: Journal<D>,
+    roots: RootPair<D>,
     detector: Detector<Pool<D>>,
-    root0: D,
-    root1: D,
     pending: Vec<Named>,
-) -> Result<Store<D>, (CreateFault, Devices<D>)>
+) -> Store<D>
     requires none { pending.items ≡ [] }
     requires room { 1024 ≤ vec_capacity pending }
-    requires journal { (D.state journal).contents ≡ [] }
-    requires first { (D.state root0).contents ≡ [] }
-    requires second { (D.state root1).contents ≡ [] }
+    requires journal { journals.KeepsEvents journal [] }
+    requires stands { Stands ⟦<D as Disk>⟧ roots None None }
     requires lawful { AtPresent MayBring detector }
     requires words { pools.is_broken detector.words ≡ false }
-    requires unnamed { detector.words.root ≡ [] }
     requires content { content (live ⟦<D as Disk>⟧) detector ≡ empty_content }
     requires ready { IsTrue D.is_honest → IsReady ⟦<D as Disk>⟧ detector }
-    ensures fresh { IfOk result (λ store. IsFresh ⟦<D as Disk>⟧ store empty_content) }
-    ensures idle { IfOk result IsIdle }
-    ensures detector { IfOk result (λ store. store.detector ≡ detector) }
-    ensures bytes { IfOk result (ReadsEmpty ⟦<D as Disk>⟧ detector.words) }
-    ensures calls { MakingCalls ⟦<D as Disk>⟧ (joined journal detector.words root0 root1) (made_of result) }
-    ensures refusal { IfErr result (λ e. e.0 ≡ CreateFault.Refused Refusal.DeviceFault) }
-    ensures device { CountsMaking ⟦<D as Disk>⟧ (joined journal detector.words root0 root1) result }
+    ensures fresh { IsFresh ⟦<D as Disk>⟧ result empty_content }
+    ensures idle { IsIdle result }
+    ensures detector { result.detector ≡ detector }
+    ensures devices { result.devices ≡ joined journal detector.words roots }
 {
-    let mut root0 = root0;
-    let mut root1 = root1;
-    if close_roots(&mut root0, &mut root1).is_err() {
-        let devices = Devices {
-            journal,
-            slots: detector.into_words().into_disks().into_disks(),
-            root0,
-            root1,
-        };
-        return Err((CreateFault::Refused(Refusal::DeviceFault), devices));
-    }
-    match Journal::create_in(room, journal) {
-        Ok(journal) => {
-            let roots = RootPair::of_closed(root0, root1);
-            let checkpointer = Checkpointer::new(alloc, roots, 0);
-            Ok(made(journal, detector, checkpointer, pending))
-        }
-        Err((refusal, journal)) => {
-            let devices = Devices {
-                journal,
-                slots: detector.into_words().into_disks().into_disks(),
-                root0,
-                root1,
-            };
-            Err((CreateFault::Refused(refusal), devices))
-        }
-    }
+    let checkpointer = Checkpointer::new(alloc, roots, 0);
+    made(journal, detector, checkpointer, pending)
 }
 
 impl<D: Disk> Store<D> {
@@ -247,12 +232,8 @@ impl<D: Disk> Store<D> {
         if !is_empty(&devices) {
             return Err((CreateFault::NotEmpty, devices));
         }
-        let pending = match pending_room(alloc) {
-            Ok(pending) => pending,
-            Err(refusal) => return Err((CreateFault::Refused(refusal), devices)),
-        };
-        let room = match journal_room(alloc) {
-            Ok(room) => room,
+        let (pending, room) = match rooms(alloc) {
+            Ok(rooms) => rooms,
             Err(refusal) => return Err((CreateFault::Refused(refusal), devices)),
         };
         let Devices {
@@ -273,6 +254,17 @@ impl<D: Disk> Store<D> {
                 return Err((CreateFault::Refused(Refusal::OutOfMemory), devices));
             }
         };
-        on_closed_roots(alloc, journal, room, detector, root0, root1, pending)
+        match new_files(room, journal, root0, root1) {
+            Ok((journal, roots)) => Ok(on_closed_roots(alloc, journal, roots, detector, pending)),
+            Err((journal, root0, root1)) => {
+                let devices = Devices {
+                    journal,
+                    slots: detector.into_words().into_disks().into_disks(),
+                    root0,
+                    root1,
+                };
+                Err((CreateFault::Refused(Refusal::DeviceFault), devices))
+            }
+        }
     }
 }
