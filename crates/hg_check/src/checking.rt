@@ -4,9 +4,10 @@ ghost use Rattle.std.specs.Prelude.{◌≡◌, [], length, IfErr, IfOk};
 ghost use Rattle.hg_detect.specs.Memory.{content_of};
 ghost use Rattle.hg_reading.specs.Taking.{as_stop};
 
-use crate::checker::{Ending, apply, apply_access};
+use crate::checker::{Ending, apply, apply_access, apply_hold};
 use crate::printing::print_reports;
 use hg_detect::memory::{MemoryDetector, new_detector};
+use hg_model::event::Hold;
 use hg_model::verdict::Refusal;
 use hg_reading::sink::Sink;
 use hg_sets::MOST_SETS;
@@ -75,6 +76,16 @@ impl<W: Write> Sink<W> for Checking {
         _output: &mut Output<W>,
     ) -> Result<Option<Ending>, Refusal> {
         apply_access(&mut self.detector, line, found)
+    }
+
+    #[inline(always)]
+    fn offer_hold(
+        &mut self,
+        line: u64,
+        hold: Hold,
+        _output: &mut Output<W>,
+    ) -> Result<Option<Ending>, Refusal> {
+        apply_hold(&mut self.detector, line, hold)
     }
 
     /// Prints the reports that are new since the last time, where they are to be printed.

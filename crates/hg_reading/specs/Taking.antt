@@ -1,7 +1,9 @@
 -- What a sink takes of a trace text.
 use Rattle.std.specs.Prelude.{◌≡◌, ◌⊎◌, ℕ, ◌+◌, ◌^◌, ◌≤◌, List, [], ◌∷◌, ◌++◌, length, Option, None, Some, Result, Ok, Err}
+use Rattle.hg_model.specs.declared.event.Hold.{Hold}
 use Rattle.hg_model.specs.declared.verdict.Refusal.{Refusal}
 use Rattle.hg_model.specs.declared.verdict.Refusal.TheVariants.{DeviceFault, OutOfMemory}
+use Rattle.hg_model.specs.Holding.{hold_event}
 use Rattle.hg_streams.specs.declared.call.ReadCall.{ReadCall}
 use Rattle.hg_streams.specs.declared.call.ReadCall.TheVariants.{Gave}
 use Rattle.hg_streams.specs.declared.call.WriteCall.{WriteCall}
@@ -24,6 +26,10 @@ Taking S E = S → List WriteCall → List Reading → Result (Option E) Refusal
 -- what is read of a line that is a read or a write
 abbrev pub access_at : ℕ → AccessLine → List Reading
 access_at line found = record { line = line; event = Ok (event_of found) } ∷ []
+
+-- what is read of a line that is an event on a lock
+abbrev pub hold_at : ℕ → Hold → List Reading
+hold_at line hold = record { line = line; event = Ok (hold_event hold) } ∷ []
 
 -- Whatever follows these bytes, what is read of all of them begins with these lines.
 abbrev pub Begins : List ℕ → List Reading → Type 0

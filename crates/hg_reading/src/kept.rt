@@ -2,10 +2,11 @@
 
 ghost use Rattle.std.specs.Prelude.{◌≡◌, ℕ, ◌+◌, ◌++◌, ◌∷◌, [], ◌<◌, ◌≤◌, ◌^◌, length, vec_capacity, vec_len};
 ghost use Rattle.std.specs.Bool.{OnFalse, OnTrue};
+ghost use Rattle.hg_model.specs.Holding.{hold_event};
 ghost use Rattle.hg_reading.specs.Keeping.{KeepsOn, OffersKept, lines_by, lines_kept, one, one_access, reading_kept, readings_kept};
 
 use crate::sink::Sink;
-use hg_model::event::{Access, Block, Event};
+use hg_model::event::{Access, Block, Event, Hold, HoldKind};
 use hg_model::verdict::Refusal;
 use hg_streams::output::Output;
 use hg_wire::line::AccessLine;
@@ -126,9 +127,36 @@ fn offer<W, S: Sink<W>>(
         Kept::Passed(_) => Ok(None),
         Kept::Fork { p, c } => offer_event(lines, Event::Fork { p, c }, sink, output),
         Kept::Join { p, c } => offer_event(lines, Event::Join { p, c }, sink, output),
-        Kept::Lock { t, l } => offer_event(lines, Event::Lock { t, l }, sink, output),
-        Kept::RdLock { t, l } => offer_event(lines, Event::RdLock { t, l }, sink, output),
-        Kept::Unlock { t, l } => offer_event(lines, Event::Unlock { t, l }, sink, output),
+        Kept::Lock { t, l } => offer_hold(
+            lines,
+            Hold {
+                t,
+                l,
+                kind: HoldKind::Lock,
+            },
+            sink,
+            output,
+        ),
+        Kept::RdLock { t, l } => offer_hold(
+            lines,
+            Hold {
+                t,
+                l,
+                kind: HoldKind::RdLock,
+            },
+            sink,
+            output,
+        ),
+        Kept::Unlock { t, l } => offer_hold(
+            lines,
+            Hold {
+                t,
+                l,
+                kind: HoldKind::Unlock,
+            },
+            sink,
+            output,
+        ),
         Kept::Read { len, t, at } => offer_access(
             lines,
             false,
@@ -175,6 +203,21 @@ fn offer_event<W, S: Sink<W>>(
         event: Ok(event),
     };
     sink.offer(&reading, output)
+}
+
+/// Offers the line of an event on a lock behind so many lines.
+#[inline(always)]
+fn offer_hold<W, S: Sink<W>>(
+    lines: u64,
+    hold: Hold,
+    sink: &mut S,
+    output: &mut Output<W>,
+) -> Result<Option<S::End>, Refusal>
+    requires lines { lines + 1 < 2 ^ 64 }
+    requires room { S.may_take sink.old 1 }
+    ensures { S.takes sink.old output.old.calls (one lines (hold_event hold)) result sink.new output.new.calls }
+{
+    sink.offer_hold(lines + 1, hold, output)
 }
 
 /// Offers the line of a read or write behind so many lines.

@@ -114,6 +114,12 @@ fn next_line(reader: &mut EventReader, rest: &[u8]) -> Next
             used: found.used,
         };
     }
+    if let Some(held) = reader.take_hold(rest) {
+        return Next::Event {
+            event: held.hold.event(),
+            used: held.used,
+        };
+    }
     match reader.take(rest) {
         Taken::Line { reading, used } => match reading.event {
             Ok(event) => Next::Event { event, used },

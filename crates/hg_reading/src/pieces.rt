@@ -31,6 +31,13 @@ pub fn push<W, S: Sink<W>>(
             }
             continue;
         }
+        if let Some(held) = reader.take_hold(rest) {
+            rest = &rest[held.used..];
+            if let Some(end) = sink.offer_hold(reader.lines(), held.hold, output)? {
+                return Ok(Some(end));
+            }
+            continue;
+        }
         let Taken::Line { reading, used } = reader.take(rest) else {
             return Ok(None);
         };

@@ -5,9 +5,9 @@ ghost use Rattle.hg_model.specs.declared.verdict.Refusal.{Refusal as RefusalOf};
 ghost use Rattle.hg_streams.specs.declared.call.WriteCall.{WriteCall};
 ghost use Rattle.hg_wire.specs.Accesses.{event_of};
 ghost use Rattle.hg_wire.specs.declared.reader.Reading.{Reading as ReadingOf};
-ghost use Rattle.hg_reading.specs.Taking.{access_at, as_stop};
+ghost use Rattle.hg_reading.specs.Taking.{access_at, as_stop, hold_at};
 
-use hg_model::event::Event;
+use hg_model::event::{Event, Hold};
 use hg_model::verdict::Refusal;
 use hg_streams::output::Output;
 use hg_wire::line::AccessLine;
@@ -55,6 +55,24 @@ pub trait Sink<W> {
     ) -> Result<Option<Self::End>, Refusal>
         requires room { may_take self.old 1 }
         ensures takes { takes self.old output.old.calls (access_at line found.now) result self.new output.new.calls };
+
+    /// Offers the line of an event on a lock, in its parts.
+    #[inline(always)]
+    fn offer_hold(
+        &mut self,
+        line: u64,
+        hold: Hold,
+        output: &mut Output<W>,
+    ) -> Result<Option<Self::End>, Refusal>
+        requires room { may_take self.old 1 }
+        ensures takes { takes self.old output.old.calls (hold_at line hold) result self.new output.new.calls }
+    {
+        let reading = Reading {
+            line,
+            event: Ok(hold.event()),
+        };
+        self.offer(&reading, output)
+    }
 
     /// Prints what is to be printed before more is read.
     fn print(&mut self, output: &mut Output<W>) -> Result<(), Refusal>
