@@ -12,7 +12,7 @@ use hg_cells::Cell;
 use hg_detect::detector::{Answer, Detector};
 use hg_detect::paged::PagedWords;
 use hg_detect::words::Words;
-use hg_model::event::{Access, Block, Event, Named};
+use hg_model::event::{Access, Block, Event, Hold, HoldKind, Named};
 use hg_model::report::Report;
 use hg_model::segment::Segment;
 use hg_model::verdict::{Refusal, Verdict};
@@ -390,5 +390,29 @@ fn lends_its_words(rt: HostRuntime) -> Result<(), Fail> {
     words.keep(0x1000, 4)?;
     words.reset(0x1000, 4);
     is_cell(&rt, detector, WORD, Cell::New);
+    Ok(())
+}
+
+#[test]
+fn takes_holds(rt: HostRuntime) -> Result<(), Fail> {
+    let mut own = begin(rt.alloc(), 4)?;
+    let detector = &mut own.it;
+    let lock = Hold {
+        t: 0,
+        l: 7,
+        kind: HoldKind::Lock,
+    };
+    assert_eq!(rt; detector.hold(0, 1, lock), Ok(Answer::Accepted));
+    assert_eq!(rt; detector.hold(0, 1, lock), Ok(Answer::Duplicate(1)));
+    let read_lock = Hold {
+        kind: HoldKind::RdLock,
+        ..lock
+    };
+    assert_eq!(rt; detector.hold(0, 2, read_lock), Err(Refusal::AlreadyHeld));
+    let unlock = Hold {
+        kind: HoldKind::Unlock,
+        ..lock
+    };
+    assert_eq!(rt; detector.hold(0, 2, unlock), Ok(Answer::Accepted));
     Ok(())
 }

@@ -2,8 +2,8 @@ ghost use Rattle.std.specs.Prelude.{◌≡◌, ◌+◌, ◌<◌, ◌≤◌, ◌^
 ghost use Rattle.std.specs.List.{flat_map};
 ghost use Rattle.hg_wire.specs.Streams.{readings, readings_from};
 
-use hg_model::event::{Access, Event};
-use hg_wire::line::{AccessLine, LineFault};
+use hg_model::event::{Access, Event, Hold, HoldKind};
+use hg_wire::line::{AccessLine, HoldLine, LineFault};
 use hg_wire::reader::{EventReader, Reading, Taken};
 use std::alloc::{AllocError, Global};
 use std::test::Fail;
@@ -152,4 +152,40 @@ const OTHERS: [&[u8]; 5] = [
     b"lock 1 2\n",
     b"# read 1 2 3\n",
     b"",
+];
+
+/// The event on a lock in front of a stream that goes on with a long comment, and how many lines were counted.
+fn hold_in_front(stream: &[u8], alloc: Global) -> Result<(Option<HoldLine>, u64), AllocError> {
+    let mut piece = stream.to_vec(alloc)?;
+    piece.extend_from_slice(b"# A reader looks only where some bytes are there.\n")?;
+    let mut reader = EventReader::new(alloc)?;
+    let found = reader.take_hold(&piece);
+    Ok((found, reader.lines()))
+}
+
+/// Events on locks are taken where they stand whole in front, and nothing else is.
+#[test]
+fn takes_holds_in_front(rt: HostRuntime) -> Result<(), Fail> {
+    let unlock = HoldLine {
+        hold: Hold {
+            t: 3,
+            l: 16,
+            kind: HoldKind::Unlock,
+        },
+        used: 15,
+    };
+    let found = hold_in_front(b"unlock 3 0x10\r\nread 5 32 8\n", rt.alloc())?;
+    assert_eq!(rt; found, (Some(unlock), 1));
+    for other in NO_HOLDS {
+        assert_eq!(rt; hold_in_front(other, rt.alloc())?, (None, 0));
+    }
+    Ok(())
+}
+
+/// What is no whole line of an event on a lock that fits its fields.
+const NO_HOLDS: [&[u8]; 4] = [
+    b"lock 1 65536\n",
+    b"rdlock 1 2 3\n",
+    b"fork 1 2\n",
+    b"unlocks 1 2\n",
 ];
