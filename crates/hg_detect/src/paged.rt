@@ -24,10 +24,15 @@ const WORDS: u64 = PAGE_WORDS as u64;
 /// How many places of pages are remembered.
 const HINTS: usize = 16_384;
 
+/// How many pages lie in 8 MiB.
+const REGION: u64 = 8_192;
+
+/// 2^64 over the golden ratio, an odd number: its multiples are spread evenly.
+const SPREAD: u64 = 0x9e37_79b9_7f4a_7c15;
+
 /// A map of words that grows by the pages that are touched: 3 KiB for each 1,024 bytes.
 ///
-/// A page is found by a hint, a small row of places by the last bits of a page's number. A hint that is wrong costs a
-/// look-up, and says nothing else.
+/// A page is found by a hint, one of a row of places of pages. A hint that is wrong costs a look-up, and says nothing else.
 pub struct PagedWords {
     alloc: Global,
     pages: IndexMap<u64, Box<Page>>,
@@ -305,8 +310,11 @@ fn pages_of(at: u64, len: u16) -> (u64, u64)
     (at / PAGE_BYTES, (at + u64::from(len - 1)) / PAGE_BYTES)
 }
 
-/// Where the hint of a page is.
+/// Where the hint of a page is. Pages that lie side by side have hints side by side, and each region of 8 MiB begins at a place of its
+/// own: stacks of threads often lie as far apart.
 #[inline]
 fn slot(number: u64) -> usize {
-    number as usize % HINTS
+    let region = number / REGION;
+    let place = number.wrapping_add(region.wrapping_mul(SPREAD) >> 50);
+    place as usize % HINTS
 }
