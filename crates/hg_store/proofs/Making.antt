@@ -35,7 +35,6 @@ use Rattle.hg_detect.specs.Engine.{AtPresent}
 use Rattle.hg_detect.specs.Shown as detect
 use Rattle.hg_disk.specs.declared.disk.Disk as disk
 use Rattle.hg_disk.proofs.Moments.{at_end, left_at_end, stays}
-use Rattle.hg_gate.specs.Batches.{IsClosed, closed_gate}
 use Rattle.hg_journal.specs.Reading as journals
 use Rattle.hg_journal.proofs.Journaling.{each_image_has}
 use Rattle.hg_pages.specs.declared.slot_file.SlotFile.{SlotFile}
@@ -47,14 +46,12 @@ use Rattle.hg_root.specs.Checkpoints.{Checkpoint, HasPages, root_of}
 use Rattle.hg_root.specs.Pairs.{first_of, second_of}
 use Rattle.hg_root.specs.Parts as roots
 use Rattle.hg_contents.specs.Choices.{Basis, Choice, GivesDurable, HasSlots}
-use Rattle.hg_contents.specs.Images.{Gives, Image, content_of}
+use Rattle.hg_contents.specs.Images.{Gives, content_of}
 use Rattle.hg_contents.specs.Stores as stores
 use Rattle.hg_contents.proofs.Joining.{facts_back}
 use Rattle.hg_checkpointer.specs.declared.phase.Phase.{Phase}
 use Rattle.hg_checkpointer.specs.declared.phase.Phase.TheVariants as phase
 use Rattle.hg_checkpointer.proofs.Rooting.{still_now}
-use Rattle.hg_store.specs.declared.devices.Devices.{Devices}
-use Rattle.hg_store.specs.Images.{read_of}
 use Rattle.hg_store.specs.Kept.{IsInProgress, IsSound, IsWorking, Parts, Standing, is_rooting, shown_of}
 use Rattle.hg_store.specs.Recovering.{Fills, IsBased, IsReady, IsStarted}
 use Rattle.hg_store.specs.Shown.{live, saved}
@@ -75,15 +72,9 @@ over_table file entries most slots = record {
   is_sealed = false;
 }
 
-abbrev pub image_of : List ℕ → List ℕ → List ℕ → List ℕ → Image
-image_of journal slots one other = record { journal = journal; slots = slots; root0 = one; root1 = other }
-
 -- the basis of a store that was made
 abbrev pub new_basis : Basis
 new_basis = record { events = []; now = record { checkpoint = None; former = None }; next = record { checkpoint = None; former = None } }
-
-pub closed_is_closed : IsClosed (closed_gate ∷ [])
-closed_is_closed = record { gate = closed_gate; rest = []; spelling = refl; closed = λ e. absurd (omega (arith, e)) }
 
 -- a checkpoint that has this root
 pub some_checkpoint : (c : Option Checkpoint) (root : roots.Parts) → root_of c ≡ Some root → (k : Checkpoint) × (c ≡ Some k) × (k.root ≡ root)
@@ -206,16 +197,6 @@ module _ {D : Type 0} (g : disk.Ghosts D) where
     number = number;
     gives = record { enough = omega arith; leads = ap (λ (s : Content). Some s) (sym content) };
   }
-
-  -- what devices read, by what each of them reads
-  pub read_as : (devices : Devices D) (journal slots one other : List ℕ) → (g.state devices.journal).contents ≡ journal → (g.state devices.slots).contents ≡ slots
-      → (g.state devices.root0).contents ≡ one → (g.state devices.root1).contents ≡ other → read_of g devices ≡ image_of journal slots one other
-  read_as devices journal slots one other is_journal is_slots is_one is_other =
-      let first = read_of g devices in
-      ap (λ (l : List ℕ). image_of l first.slots first.root0 first.root1) is_journal
-      ∙ (ap (λ (l : List ℕ). image_of journal l first.root0 first.root1) is_slots
-      ∙ (ap (λ (l : List ℕ). image_of journal slots l first.root1) is_one
-      ∙ ap (λ (l : List ℕ). image_of journal slots one l) is_other))
 
   module _ (bytes : (d : D) → IsImage (g.state d) (g.state d).contents) (old : detect.ShownDetector (pool.ShownPool D)) (roots : RootPair D) (number : ℕ) (now : Choice) (started : IsStarted g old roots number now) (d : detect.ShownDetector (pool.ShownPool D)) (went : Went g old.words d.words) where
     pub based : (journal : Journal D g) (events : List Named) (c : Checkpointer D g) → journals.KeepsEvents journal events → LeadFrom (detect.content (pools.live g) old) events (detect.content (pools.live g) d)

@@ -1,6 +1,6 @@
 //! Making a store.
 
-ghost use Rattle.std.specs.Prelude.{◌≡◌, ◌≢◌, ◌⊎◌, ◌+◌, ◌≤◌, [], None, vec_capacity, false, IsTrue, IfOk, IfErr};
+ghost use Rattle.std.specs.Prelude.{◌≡◌, ◌≢◌, ◌≤◌, [], None, vec_capacity, false, IsTrue, IfOk, IfErr};
 ghost use Rattle.hg_model.specs.Change.{empty_content};
 ghost use Rattle.hg_detect.specs.Engine.{AtPresent};
 ghost use Rattle.hg_detect.specs.Shown.{content};
