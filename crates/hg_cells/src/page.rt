@@ -3,9 +3,9 @@
 ghost use Rattle.std.specs.Prelude.{IfSome, IsTrue, ◌≡◌, ◌↔◌, ◌<◌, ◌≤◌, None, Some, length, replicate, slice_get, slice_set};
 ghost use Rattle.hg_cells.specs.Pages.{AreNewOrOwned, HaveCell, filled};
 ghost use Rattle.hg_cells.specs.declared.cell.Cell.{Cell as CellOf};
-ghost use Rattle.hg_cells.specs.declared.cell.Cell.TheVariants.{New};
+ghost use Rattle.hg_cells.specs.declared.cell.Cell.TheVariants.{New, Exclusive, SharedRead, SharedModified};
 
-use crate::cell::{Cell, are_same, is_new_or_owned};
+use crate::cell::{Cell, is_new_or_owned};
 use std::marker::Model;
 
 /// How many words a page has, of 4 bytes each.
@@ -65,12 +65,79 @@ impl Page {
         ensures none { result ≡ None → (cell : CellOf) → ¬ HaveCell self.now from to cell }
     {
         let cell = self.cells[from];
-        for i in from + 1..to {
-            if !are_same(self.cells[i], cell) {
-                return None;
+        let are_alike = match cell {
+            Cell::New => self.are_new(from + 1, to),
+            Cell::Exclusive(segment) => self.are_owned(from + 1, to, segment),
+            Cell::SharedRead(threads, locks) => self.are_read(from + 1, to, threads, locks),
+            Cell::SharedModified(threads, locks) => self.are_modified(from + 1, to, threads, locks),
+        };
+        if are_alike { Some(cell) } else { None }
+    }
+
+    /// Whether the words from `from` up to, not including, `to` are new. Here and in the next three the kind of the cell is told before
+    /// the loop, not in it.
+    #[inline(always)]
+    fn are_new(&self, from: usize, to: usize) -> bool
+        requires in_page { to ≤ PAGE_WORDS }
+        ensures { IsTrue result ↔ HaveCell self.now from to New }
+    {
+        for i in from..to {
+            let Cell::New = self.cells[i] else {
+                return false;
+            };
+        }
+        true
+    }
+
+    /// Whether that segment owns them.
+    #[inline(always)]
+    fn are_owned(&self, from: usize, to: usize, segment: u32) -> bool
+        requires in_page { to ≤ PAGE_WORDS }
+        ensures { IsTrue result ↔ HaveCell self.now from to (Exclusive segment) }
+    {
+        for i in from..to {
+            let Cell::Exclusive(owner) = self.cells[i] else {
+                return false;
+            };
+            if owner != segment {
+                return false;
             }
         }
-        Some(cell)
+        true
+    }
+
+    /// Whether they are Shared-Read, by these threads under these locks.
+    #[inline(always)]
+    fn are_read(&self, from: usize, to: usize, threads: u32, locks: u32) -> bool
+        requires in_page { to ≤ PAGE_WORDS }
+        ensures { IsTrue result ↔ HaveCell self.now from to (SharedRead threads locks) }
+    {
+        for i in from..to {
+            let Cell::SharedRead(sharers, candidates) = self.cells[i] else {
+                return false;
+            };
+            if sharers != threads || candidates != locks {
+                return false;
+            }
+        }
+        true
+    }
+
+    /// Whether they are Shared-Modified, by these threads under these locks.
+    #[inline(always)]
+    fn are_modified(&self, from: usize, to: usize, threads: u32, locks: u32) -> bool
+        requires in_page { to ≤ PAGE_WORDS }
+        ensures { IsTrue result ↔ HaveCell self.now from to (SharedModified threads locks) }
+    {
+        for i in from..to {
+            let Cell::SharedModified(sharers, candidates) = self.cells[i] else {
+                return false;
+            };
+            if sharers != threads || candidates != locks {
+                return false;
+            }
+        }
+        true
     }
 
     /// Whether the words from `from` up to, not including, `to` are each new or owned by that segment.
