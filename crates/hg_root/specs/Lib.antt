@@ -2,6 +2,7 @@ pub mod Fault
 pub mod Parts
 pub mod Grammar
 pub mod Lawful
+pub mod Making
 pub mod Last
 pub mod Reading
 pub mod Body

@@ -1,8 +1,7 @@
 //! Two root files that take turns.
-ghost use Rattle.std.specs.Prelude.{◌≡◌, ◌+◌, ◌∷◌, [], ℕ, Option, None, Err, IsOk, is_ok, OnOk, OnErr, IfOk, IfErr, IsTrue, IsErrOf, false, length};
+ghost use Rattle.std.specs.Prelude.{◌≡◌, ◌∷◌, [], ℕ, Option, None, Err, IsOk, is_ok, OnOk, OnErr, IfOk, IfErr, IsTrue, IsErrOf, false, length};
 ghost use Rattle.hg_disk.specs.Calls.{CallsAtMost};
 ghost use Rattle.hg_disk.specs.Moments.{LeavesTorn};
-ghost use Rattle.hg_disk.specs.State.{counted};
 ghost use Rattle.hg_gate.specs.Batches.{closed_gate};
 ghost use Rattle.hg_root.specs.Fault.{IsBrokenOrDevice, failures_after};
 
@@ -38,6 +37,7 @@ pub struct RootPair<D: Disk> {
 
 impl<D: Disk> RootPair<D> {
     ghost use Rattle.hg_root.specs.Finding.{HaveOneNumber, AreWhole, ChoosesFrom, HasNoNewest, IsNewestOf, IsOnlyOf, IsWholeIn, StandsByChoice, StandsDurably, WasRead, root_in};
+    ghost use Rattle.hg_root.specs.Making.{CountsMaking};
     ghost use Rattle.hg_root.specs.Pairs.{AreGates, ClosesInTurn, IsEitherBroken, IsGate, IsWorking, LeavesEither, LeavesRoot, LeavesRoots, OpensNext, Prepares, PutsBody, Stands, StandsClosed, StandsOpened, StaysOnErr, failures, first_after, first_of, is_broken, is_closed, is_other_broken, is_other_closed, is_turned, newer, older, second_after, second_of, turned};
 
     /// The pair of two files, whatever their bytes are. It makes no device call. Which of them has the newest open root is told by
@@ -74,7 +74,7 @@ impl<D: Disk> RootPair<D> {
 
         ensures first_calls { CallsAtMost ⟦<D as Disk>⟧ 2 root0 (first_after result) }
         ensures second_calls { CallsAtMost ⟦<D as Disk>⟧ 2 root1 (second_after result) }
-        ensures device { D.failures (first_after result) + D.failures (second_after result) ≡ counted result (D.failures root0 + D.failures root1) }
+        ensures device { CountsMaking ⟦<D as Disk>⟧ root0 root1 result }
     {
         let first = match Gated::create(root0) {
             Ok(first) => first.into_disks(),
