@@ -65,17 +65,27 @@ impl Page {
         ensures none { result ≡ None → (cell : CellOf) → ¬ HaveCell self.now from to cell }
     {
         let cell = self.cells[from];
-        let are_alike = match cell {
-            Cell::New => self.are_new(from + 1, to),
-            Cell::Exclusive(segment) => self.are_owned(from + 1, to, segment),
-            Cell::SharedRead(threads, locks) => self.are_read(from + 1, to, threads, locks),
-            Cell::SharedModified(threads, locks) => self.are_modified(from + 1, to, threads, locks),
-        };
-        if are_alike { Some(cell) } else { None }
+        if to == from + 1 || self.are_all(from + 1, to, cell) {
+            return Some(cell);
+        }
+        None
     }
 
-    /// Whether the words from `from` up to, not including, `to` are new. Here and in the next three the kind of the cell is told before
-    /// the loop, not in it.
+    /// Whether the words from `from` up to, not including, `to` have that cell.
+    #[inline(always)]
+    fn are_all(&self, from: usize, to: usize, cell: Cell) -> bool
+        requires in_page { to ≤ PAGE_WORDS }
+        ensures { IsTrue result ↔ HaveCell self.now from to cell }
+    {
+        match cell {
+            Cell::New => self.are_new(from, to),
+            Cell::Exclusive(segment) => self.are_owned(from, to, segment),
+            Cell::SharedRead(threads, locks) => self.are_read(from, to, threads, locks),
+            Cell::SharedModified(threads, locks) => self.are_modified(from, to, threads, locks),
+        }
+    }
+
+    /// Whether they are new. Here and in the next three the kind of the cell is told before the loop, not in it.
     #[inline(always)]
     fn are_new(&self, from: usize, to: usize) -> bool
         requires in_page { to ≤ PAGE_WORDS }
