@@ -5,6 +5,7 @@ ghost use Rattle.std.specs.List.{list_any};
 ghost use Rattle.hg_graph.specs.Graph.{names};
 ghost use Rattle.hg_model.specs.Segments.{of_thread};
 ghost use Rattle.hg_model.specs.Parts.{HasParts};
+ghost use Rattle.hg_model.specs.Accessing.{access_named};
 ghost use Rattle.hg_model.specs.Holding.{hold_named};
 ghost use Rattle.hg_model.specs.Change.{empty_content};
 ghost use Rattle.hg_model.specs.Verdicts.{MayBeNext};
@@ -383,30 +384,37 @@ impl<W: Words> Engine<W> {
             self.words.fill(first, count, Cell::Exclusive(segment));
             return Ok(());
         }
-        self.access_unlike(named)
+        self.access_unlike(named.source, named.number, named.access, named.write)
     }
 
-    /// Accepts an access to words that have different cells, or that may not be filled.
+    /// Accepts an access to words that have different cells, or that may not be filled. It takes the parts of the access, which go in
+    /// registers: a struct would stand in memory at each access.
     #[inline(never)]
-    fn access_unlike(&mut self, named: NamedAccess) -> Result<(), Refusal>
+    fn access_unlike(
+        &mut self,
+        source: u16,
+        number: u64,
+        access: Access,
+        write: bool,
+    ) -> Result<(), Refusal>
         requires sound { IsSound self.old }
-        requires accepted { MayBeNext self.old.state (named_of named) }
+        requires accepted { MayBeNext self.old.state (access_named source number write access) }
         requires lawful { AtPresent W.may_bring (shown_of self.old) }
-        ensures answers { AnswersAccess ⟦<W as Words>⟧ self.old named result self.new }
+        ensures answers { Answers ⟦<W as Words>⟧ self.old (access_named source number write access) result self.new }
         ensures went { W.went self.old.words self.new.words }
         ensures failures { W.failures self.new.words ≡ failed_after result (W.failures self.old.words) }
     {
-        let first = named.access.at / 4;
-        let last = (named.access.at + (u64::from(named.access.len) - 1)) / 4;
-        self.prepare(&named.access, named.write, first, last + 1)?;
+        let first = access.at / 4;
+        let last = (access.at + (u64::from(access.len) - 1)) / 4;
+        self.prepare(&access, write, first, last + 1)?;
         let event = self.state.events() + 1;
-        self.state.follow_access(named.source, named.number);
+        self.state.follow_access(source, number);
         set_words(&mut self.words, first, self.plan.as_slice());
         self.total += add_reports(
             &mut self.kept,
             event,
-            named.write,
-            named.access.t,
+            write,
+            access.t,
             first,
             self.plan.as_slice(),
         );

@@ -1,7 +1,7 @@
 use Rattle.std.proofs.Common.{◌≡◌, ◌+◌, ◌/◌, ℕ, Ok, Err, refl, ap, ◌∙◌, subst, arith, length, take, ◌++◌, All}
-use Rattle.hg_model.specs.Accessing.{access_event}
+use Rattle.hg_model.specs.Accessing.{access_event, access_named}
 use Rattle.hg_model.specs.Verdicts.{standing}
-use Rattle.hg_detect.specs.Engine.{actor_of, named_of, shown_of}
+use Rattle.hg_detect.specs.Engine.{actor_of, shown_of}
 use Rattle.hg_detect.specs.Shown.{found, given}
 use Rattle.hg_cells.specs.Cells.{IsWithin}
 use Rattle.hg_detect.proofs.Accesses.{asked_from, last_word}
@@ -29,22 +29,22 @@ returns-in_err-prepare-clause-answers g c =
       cells = p.cells;
     }
     in
-    let a = c.args.named.access in
-    let passed = access_passes (standing old.state) (named_of c.args.named) c.args.named.write a refl c.requires.accepted in
+    let a = c.args.access in
+    let passed = access_passes (standing old.state) (access_named c.args.source c.args.number c.args.write c.args.access) c.args.write a refl c.requires.accepted in
     let same : c.from_residual.result ≡ c.prepare.result = grind arith in
     let fails : c.from_residual.result ≡ Err c.in_err-prepare.field-0.0 = grind arith in
-    refused_answers words old c.prepare.new.self (named_of c.args.named) c.from_residual.result c.in_err-prepare.field-0.0
+    refused_answers words old c.prepare.new.self (access_named c.args.source c.args.number c.args.write c.args.access) c.from_residual.result c.in_err-prepare.field-0.0
     fails k g.met.W.Words.brings_more g.met.W.Words.more_faithful g.met.W.Words.faithful_within c.requires.sound c.requires.lawful
-    (λ h. asked_from words.cell_of (shown_of old) (access_event c.args.named.write c.args.named.access) c.args.named.write a (actor_of old a c.args.named.write) _ c.from_residual.result c.prepare.result c.prepare.new.self.sets refl passed.some refl (last_word a c.from.result c.from.ensures passed.some) same (p.asked (length old.graph) (length old.sets.sets) h))
+    (λ h. asked_from words.cell_of (shown_of old) (access_event c.args.write c.args.access) c.args.write a (actor_of old a c.args.write) _ c.from_residual.result c.prepare.result c.prepare.new.self.sets refl passed.some refl (last_word a c.from.result c.from.ensures passed.some) same (p.asked (length old.graph) (length old.sets.sets) h))
     (grind arith)
 
 pub overflow_add-self : goal.overflow_add-self
 overflow_add-self g c =
     let old = c.args.self.now in
-    let a = c.args.named.access in
-    let passed = access_passes (standing old.state) (named_of c.args.named) c.args.named.write a refl c.requires.accepted in
-    let few = found_few (c.events-event.result + 1) c.args.named.write a.t (a.at / 4) c.prepare.new.self.plan.items in
-    let count = c.add_reports.ensures.count ∙ ap (λ xs. length (found (c.events-event.result + 1) c.args.named.write a.t (a.at / 4) xs)) c.as_slice-2.ensures.value in
+    let a = c.args.access in
+    let passed = access_passes (standing old.state) (access_named c.args.source c.args.number c.args.write c.args.access) c.args.write a refl c.requires.accepted in
+    let few = found_few (c.events-event.result + 1) c.args.write a.t (a.at / 4) c.prepare.new.self.plan.items in
+    let count = c.add_reports.ensures.count ∙ ap (λ xs. length (found (c.events-event.result + 1) c.args.write a.t (a.at / 4) xs)) c.as_slice-2.ensures.value in
     omega (arith, count, c.prepare.ensures.total, c.requires.sound.total, passed.events, c.in_ok-prepare.ensures.len, c.from.ensures, passed.few)
 
 pub returns-clause-answers : goal.returns-clause-answers
@@ -53,7 +53,7 @@ returns-clause-answers g c =
     let laws = g.met.W.Words in
     let old = c.args.self.now in
     let mid = c.prepare.new.self in
-    let a = c.args.named.access in
+    let a = c.args.access in
     let p = c.prepare.ensures in
     let done = c.in_ok-prepare.ensures in
     let k : KeepsEngine words.cell_of words.may_bring words.is_faithful old mid =
@@ -70,7 +70,7 @@ returns-clause-answers g c =
       cells = p.cells;
     }
     in
-    let passed = access_passes (standing old.state) (named_of c.args.named) c.args.named.write a refl c.requires.accepted in
+    let passed = access_passes (standing old.state) (access_named c.args.source c.args.number c.args.write c.args.access) c.args.write a refl c.requires.accepted in
     let ok : Ok tt ≡ c.prepare.result = grind arith in
     let plan = mid.plan.items in
     let first = a.at / 4 in
@@ -78,11 +78,11 @@ returns-clause-answers g c =
     let cells = subst (λ xs. (w : ℕ) → words.cell_of c.set_words.new.words w ≡ given (words.cell_of mid.words) first xs w) slice c.set_words.ensures.cells in
     let lawful = subst (λ xs. (n m : ℕ) → All (λ x. IsWithin n m x.cell) xs → words.may_bring mid.words n m → words.may_bring c.set_words.new.words n m) slice c.set_words.ensures.lawful in
     let faithful = subst (λ xs. (n m : ℕ) → All (λ x. IsWithin n m x.cell) xs → words.is_faithful mid.words n m → words.is_faithful c.set_words.new.words n m) slice c.set_words.ensures.faithful in
-    let items = c.add_reports.ensures.items ∙ ap (λ xs. take 65536 (mid.kept.items ++ found (c.events-event.result + 1) c.args.named.write a.t first xs)) c.as_slice-2.ensures.value in
-    let count = c.add_reports.ensures.count ∙ ap (λ xs. length (found (c.events-event.result + 1) c.args.named.write a.t first xs)) c.as_slice-2.ensures.value in
+    let items = c.add_reports.ensures.items ∙ ap (λ xs. take 65536 (mid.kept.items ++ found (c.events-event.result + 1) c.args.write a.t first xs)) c.as_slice-2.ensures.value in
+    let count = c.add_reports.ensures.count ∙ ap (λ xs. length (found (c.events-event.result + 1) c.args.write a.t first xs)) c.as_slice-2.ensures.value in
     let ends = last_word a c.from.result c.from.ensures passed.some in
-    access_answers words old mid _ (named_of c.args.named) c.args.named.write a (c.events-event.result + 1) c.add_reports.result _ plan
+    access_answers words old mid _ (access_named c.args.source c.args.number c.args.write c.args.access) c.args.write a (c.events-event.result + 1) c.add_reports.result _ plan
     refl passed k laws.brings_more laws.more_faithful laws.faithful_within c.requires.sound c.requires.lawful
-    (c.follow_access.ensures c.args.named.write c.args.named.access) refl refl refl ends done.planned done.len cells lawful faithful
+    (c.follow_access.ensures c.args.write c.args.access) refl refl refl ends done.planned done.len cells lawful faithful
     (ap (λ (x : ℕ). x + 1) c.events-event.ensures) items count refl
-    (λ h. asked_from words.cell_of (shown_of old) (access_event c.args.named.write c.args.named.access) c.args.named.write a (actor_of old a c.args.named.write) _ (Ok tt) c.prepare.result mid.sets refl passed.some refl ends ok (p.asked (length old.graph) (length old.sets.sets) h))
+    (λ h. asked_from words.cell_of (shown_of old) (access_event c.args.write c.args.access) c.args.write a (actor_of old a c.args.write) _ (Ok tt) c.prepare.result mid.sets refl passed.some refl ends ok (p.asked (length old.graph) (length old.sets.sets) h))
