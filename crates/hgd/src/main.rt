@@ -9,7 +9,7 @@ pub mod told;
 
 use crate::directory::{Access, open_directory};
 use crate::stores::{create_in, explain_in, feed_in, graph_in, reports_in};
-use crate::texts::{check_input, explain_input, graph_input};
+use crate::texts::{Wanted, explain_input, print_of_input};
 use crate::told::{FAULT, fail, fail_to_open};
 use hg_check::telling::tell;
 use hg_commands::plan::FeedPlan;
@@ -64,13 +64,9 @@ enum Outcome<'a> {
     Done {
         status: u8,
     },
-    /// The trace on standard input is to be checked. Threads can be made in `main` alone.
-    Check {
-        jobs: Jobs,
-        verbose: bool,
-    },
-    /// Its segments are to be printed.
-    Graph {
+    /// The trace on standard input is to be read. Threads can be made in `main` alone.
+    Text {
+        wanted: Wanted,
         jobs: Jobs,
         verbose: bool,
     },
@@ -117,8 +113,16 @@ fn perform<'a>(rt: &HostRuntime, words: &'a [String]) -> Outcome<'a> {
         }
     };
     match task {
-        Task::Check { jobs, verbose } => Outcome::Check { jobs, verbose },
-        Task::Graph { jobs, verbose } => Outcome::Graph { jobs, verbose },
+        Task::Check { jobs, verbose } => Outcome::Text {
+            wanted: Wanted::Reports,
+            jobs,
+            verbose,
+        },
+        Task::Graph { jobs, verbose } => Outcome::Text {
+            wanted: Wanted::Segments,
+            jobs,
+            verbose,
+        },
         Task::Explain { explaining } => Outcome::Done {
             status: explain_input(rt, explaining),
         },
@@ -173,8 +177,11 @@ fn main(rt: HostRuntime) -> ExitCode {
             match words {
                 Ok(words) => match perform(&rt, words.as_slice()) {
                     Outcome::Done { status } => status,
-                    Outcome::Check { jobs, verbose } => check_input(&rt, jobs, &rt, verbose),
-                    Outcome::Graph { jobs, verbose } => graph_input(&rt, jobs, &rt, verbose),
+                    Outcome::Text {
+                        wanted,
+                        jobs,
+                        verbose,
+                    } => print_of_input(&rt, wanted, jobs, &rt, verbose),
                     Outcome::Serve { directory, serving } => {
                         match open_directory(&rt, directory, Access::Change) {
                             Ok(devices) => {

@@ -2,6 +2,7 @@
 
 use crate::told::tell_of_text;
 use hg_check::commands::{check, graph};
+use hg_commands::printing::Outputs;
 use hg_explain::commands::explain;
 use hg_explain::form::Form;
 use hg_options::task::{Explaining, Jobs};
@@ -9,94 +10,73 @@ use hg_streams::input::Input;
 use hg_streams::output::Output;
 use hg_verbose::lines::Lines;
 use hg_verbose::noted::{NotedReader, NotedWriter};
+use std::alloc::Global;
+use std::io::{Read, Write};
 use std::sync::Wait;
 use std::thread::Threads;
 
-/// Checks the trace on standard input, whose lines are read by up to `jobs` threads.
-fn check_plainly<T: Threads + Wait + Sync>(threads: &T, jobs: usize, rt: &HostRuntime) -> u8 {
-    let mut input = Input::new(rt.stdin());
-    let mut output = Output::new(rt.stdout());
-    let mut faults = Output::new(rt.stderr());
-    check(
-        threads,
-        jobs,
-        rt.alloc(),
-        &mut input,
-        &mut output,
-        &mut faults,
-    )
+/// What is to be printed of a trace.
+#[derive(Clone, Copy, Debug, PartialEq, Eq, Drop)]
+pub enum Wanted {
+    /// The reports of its races.
+    Reports,
+    /// The segments of its threads.
+    Segments,
 }
 
-/// The same, and tells what the last line means. Where there is no memory for that it is left out.
-pub fn check_input<T: Threads + Wait + Sync>(
+/// Prints what is wanted of a trace, whose lines are read by up to `jobs` threads, and answers the status.
+fn print_wanted<T: Threads + Wait + Sync, R: Read, W: Write, V: Write>(
     threads: &T,
+    wanted: Wanted,
+    jobs: usize,
+    alloc: Global,
+    input: &mut Input<R>,
+    outputs: &mut Outputs<W, V>,
+) -> u8 {
+    let Outputs { output, faults } = outputs;
+    match wanted {
+        Wanted::Reports => check(threads, jobs, alloc, input, output, faults),
+        Wanted::Segments => graph(threads, jobs, alloc, input, output, faults),
+    }
+}
+
+/// The same of the trace on standard input.
+fn print_plainly<T: Threads + Wait + Sync>(
+    threads: &T,
+    wanted: Wanted,
+    jobs: usize,
+    rt: &HostRuntime,
+) -> u8 {
+    let mut input = Input::new(rt.stdin());
+    let mut outputs = Outputs {
+        output: Output::new(rt.stdout()),
+        faults: Output::new(rt.stderr()),
+    };
+    print_wanted(threads, wanted, jobs, rt.alloc(), &mut input, &mut outputs)
+}
+
+/// The same, and where it is asked for tells what the last line means. Where there is no memory for that it is left out.
+pub fn print_of_input<T: Threads + Wait + Sync>(
+    threads: &T,
+    wanted: Wanted,
     jobs: Jobs,
     rt: &HostRuntime,
     verbose: bool,
 ) -> u8 {
     let jobs = usize::from(jobs.threads);
     if !verbose {
-        return check_plainly(threads, jobs, rt);
+        return print_plainly(threads, wanted, jobs, rt);
     }
     let Ok(lines) = Lines::new(rt.alloc()) else {
-        return check_plainly(threads, jobs, rt);
+        return print_plainly(threads, wanted, jobs, rt);
     };
     let mut input = Input::new(NotedReader::new(rt.stdin(), lines));
-    let mut output = Output::new(NotedWriter::new(rt.alloc(), rt.stdout()));
-    let mut faults = Output::new(NotedWriter::new(rt.alloc(), rt.stderr()));
-    let status = check(
-        threads,
-        jobs,
-        rt.alloc(),
-        &mut input,
-        &mut output,
-        &mut faults,
-    );
-    tell_of_text(rt, input.into_stream(), &output, &faults);
-    status
-}
-
-/// Prints the segments of the trace on standard input, whose lines are read by up to `jobs` threads.
-fn graph_plainly<T: Threads + Wait + Sync>(threads: &T, jobs: usize, rt: &HostRuntime) -> u8 {
-    let mut input = Input::new(rt.stdin());
-    let mut output = Output::new(rt.stdout());
-    let mut faults = Output::new(rt.stderr());
-    graph(
-        threads,
-        jobs,
-        rt.alloc(),
-        &mut input,
-        &mut output,
-        &mut faults,
-    )
-}
-
-/// The same, and tells what the last line means. Where there is no memory for that it is left out.
-pub fn graph_input<T: Threads + Wait + Sync>(
-    threads: &T,
-    jobs: Jobs,
-    rt: &HostRuntime,
-    verbose: bool,
-) -> u8 {
-    let jobs = usize::from(jobs.threads);
-    if !verbose {
-        return graph_plainly(threads, jobs, rt);
-    }
-    let Ok(lines) = Lines::new(rt.alloc()) else {
-        return graph_plainly(threads, jobs, rt);
+    let mut outputs = Outputs {
+        output: Output::new(NotedWriter::new(rt.alloc(), rt.stdout())),
+        faults: Output::new(NotedWriter::new(rt.alloc(), rt.stderr())),
     };
-    let mut input = Input::new(NotedReader::new(rt.stdin(), lines));
-    let mut output = Output::new(NotedWriter::new(rt.alloc(), rt.stdout()));
-    let mut faults = Output::new(NotedWriter::new(rt.alloc(), rt.stderr()));
-    let status = graph(
-        threads,
-        jobs,
-        rt.alloc(),
-        &mut input,
-        &mut output,
-        &mut faults,
-    );
-    tell_of_text(rt, input.into_stream(), &output, &faults);
+    let status = print_wanted(threads, wanted, jobs, rt.alloc(), &mut input, &mut outputs);
+    tell_of_text(rt, input.into_stream(), &outputs.output, &outputs.faults);
     status
 }
 
