@@ -2,7 +2,7 @@
 
 use hg_cells::KeptReport;
 use hg_graph::Graph;
-use hg_model::state::TraceState;
+use hg_rules::state::TraceState;
 use hg_sets::SetTable;
 
 /// The parts of a detector, but for its map of words.

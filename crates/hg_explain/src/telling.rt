@@ -11,9 +11,9 @@ use crate::look::{Look, is_bare, look_at};
 use crate::pieces::{hold, hold_all, hold_members, hold_number};
 use hg_cells::Cell;
 use hg_detect::memory::MemoryDetector;
-use hg_detect::words::Words;
 use hg_model::event::Event;
 use hg_model::verdict::Refusal;
+use hg_words::words::Words;
 use itoa::Buffer;
 
 /// An event that was accepted just now, with what stood before it.

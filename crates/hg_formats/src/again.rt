@@ -11,9 +11,9 @@ use hg_graph::Graph;
 use hg_model::held::{HeldLock, HeldLocks};
 use hg_model::limits::{GREATEST_NUMBER, MOST_HELD};
 use hg_model::segment::Segment;
-use hg_model::state::TraceState;
 use hg_model::thread::ThreadState;
 use hg_root::{HeadParts, Root, RootFault, RootHead};
+use hg_rules::state::TraceState;
 use hg_text::{Text, bytes_of};
 use std::alloc::{AllocError, Global};
 

@@ -1,11 +1,11 @@
 //! The threads of a trace state, as its public calls show them.
 
 use hg_model::event::{Access, Event, Named};
-use hg_model::judging::judge;
 use hg_model::limits::GREATEST_NUMBER;
 use hg_model::segment::Segment;
-use hg_model::state::TraceState;
 use hg_model::verdict::{Refusal, Verdict};
+use hg_rules::judging::judge;
+use hg_rules::state::TraceState;
 use hg_text::Text;
 
 /// The last segment of a thread, where there is one.

@@ -1,5 +1,5 @@
 -- What a command line asks for, by the command that it names and the texts of that command's arguments.
-use Rattle.std.specs.Prelude.{◌≡◌, ◌⊎◌, ◌↔◌, ◌≤◌, ℕ, ⊤, Bool, true, List, [], Option, Some, None, IsSomeAnd, Result, MatchResult, codes}
+use Rattle.std.specs.Prelude.{◌≡◌, ◌⊎◌, ◌↔◌, ◌≤◌, ℕ, ⊤, Bool, true, List, [], Option, Some, None, IfSome, IsSomeAnd, Result, MatchResult, codes}
 use Rattle.std.specs.Str.Parse.{IsNumeral, digits_value, without_leading_plus}
 use Rattle.clap.specs.Words.{App, HasKind, IsAmong, Kinds, Row, Text, fault_of, first_of, one_of, subcommand_of}
 use Rattle.clap.specs.declared.error.Error.{Error}
@@ -72,11 +72,15 @@ IsStoreTask name rows (store.Serve serving) = (name ≡ codes "serve") × AreSer
 
 -- what the command `name` with these arguments asks for
 abbrev pub IsTask : Text × List Row → Task → Type 0
-IsTask (name, rows) (task.Check jobs verbose) = (name ≡ codes "check") × AreJobs rows jobs × IsFlag (codes "verbose") rows verbose
+IsTask (name, rows) (task.Check jobs verbose) = (name ≡ codes "check") × (first_of (codes "DIR") rows ≡ None) × AreJobs rows jobs × IsFlag (codes "verbose") rows verbose
 IsTask (name, rows) (task.Graph jobs verbose) = (name ≡ codes "graph") × (first_of (codes "DIR") rows ≡ None) × AreJobs rows jobs × IsFlag (codes "verbose") rows verbose
 IsTask (name, rows) (task.Explain explaining) = (name ≡ codes "explain") × (first_of (codes "DIR") rows ≡ None) × IsExplaining rows explaining
 IsTask (name, rows) (task.OnStore directory given) =
     (first_of (codes "DIR") rows ≡ Some directory.now) × IsStoreTask name rows given
+
+-- no value is what is asked for
+abbrev pub AsksForNothing : {T : Type 0} → (T → Type 0) → Type 0
+AsksForNothing {T} is_asked = (it : T) → is_asked it → ⊥
 
 -- the kinds of fault that are no mistake, but ask for a text
 abbrev pub AsksForText : ErrorKind → Type 0
@@ -91,7 +95,7 @@ abbrev pub IsMisread : Kinds → Option (Text × List Row) → Misread → Type 
 IsMisread kinds command (misread.Help text) = SomeKind AsksForText kinds
 IsMisread kinds command (misread.Bad text) = SomeKind (λ k. AsksForText k → ⊥) kinds
 IsMisread kinds command misread.BadAddress = (kinds ≡ []) × IsSomeAnd command (λ given. (given.0 ≡ codes "explain") × HasNoAddress given.1)
-IsMisread kinds command misread.Incomplete = kinds ≡ []
+IsMisread kinds command misread.Incomplete = (kinds ≡ []) × IfSome command (λ given. AsksForNothing (IsTask given))
 IsMisread kinds command misread.OutOfMemory = ⊤
 
 -- what is made of a command line: what its command asks for, exactly where it has no fault
@@ -108,18 +112,18 @@ IsReadBy app words r = IsReading (fault_of app words) (subcommand_of app words) 
 abbrev pub IsToldOf : Error → Misread → Type 0
 IsToldOf error r = (kinds : Kinds) (command : Option (Text × List Row)) → HasKind kinds error → IsMisread kinds command r
 
--- why the arguments of a command ask for nothing
-abbrev pub IsUnasked : Text × List Row → Misread → Type 0
-IsUnasked (name, rows) r = (r ≡ misread.Incomplete) ⊎ ((r ≡ misread.BadAddress) × ((name ≡ codes "explain") × HasNoAddress rows))
+-- Why the arguments of a command give nothing of what may be asked for: there is nothing, or the address is no number.
+abbrev pub IsUnasked : {T : Type 0} → (T → Type 0) → Text × List Row → Misread → Type 0
+IsUnasked is_asked (name, rows) r = ((r ≡ misread.Incomplete) × AsksForNothing is_asked) ⊎ ((r ≡ misread.BadAddress) × ((name ≡ codes "explain") × HasNoAddress rows))
 
 -- The command `explain` with these arguments asks for the life of a word, or for nothing.
 abbrev pub AsksToExplain : List Row → Result Explaining Misread → Type 0
-AsksToExplain rows r = MatchResult r (IsExplaining rows) (IsUnasked (codes "explain", rows))
+AsksToExplain rows r = MatchResult r (IsExplaining rows) (IsUnasked (IsExplaining rows) (codes "explain", rows))
 
 -- The command `name` with these arguments asks for something of a store, or for nothing.
 abbrev pub AsksOfStore : Text → List Row → Result StoreTask Misread → Type 0
-AsksOfStore name rows r = MatchResult r (IsStoreTask name rows) (IsUnasked (name, rows))
+AsksOfStore name rows r = MatchResult r (IsStoreTask name rows) (IsUnasked (IsStoreTask name rows) (name, rows))
 
 -- The command `name` with these arguments asks for a task, or for nothing.
 abbrev pub AsksFor : Text → List Row → Result Task Misread → Type 0
-AsksFor name rows r = MatchResult r (IsTask (name, rows)) (IsUnasked (name, rows))
+AsksFor name rows r = MatchResult r (IsTask (name, rows)) (IsUnasked (IsTask (name, rows)) (name, rows))

@@ -3,7 +3,7 @@ use Rattle.std.specs.Prelude.{◌≡◌, IfOk, ◌<◌, ◌≤◌, ℕ, false, L
 use Rattle.hg_model.specs.declared.verdict.Refusal.{Refusal}
 use Rattle.hg_model.specs.declared.verdict.Refusal.TheVariants as refusal
 use Rattle.hg_detect.specs.Shown as detect
-use Rattle.hg_detect.specs.Words.{after_refusal}
+use Rattle.hg_words.specs.Words.{after_refusal}
 use Rattle.hg_disk.specs.declared.disk.Disk as disk
 use Rattle.hg_pages.specs.Files.{is_broken, known}
 use Rattle.hg_pages.specs.declared.slot_file.SlotFile.{SlotFile}

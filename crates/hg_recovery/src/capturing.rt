@@ -9,11 +9,11 @@ use crate::fault::HeadFault;
 use crate::fitting::{have_spellings, sets_have_spellings};
 use hg_contents::laws::{a_detector_has_a_lawful_head, threads_have_small_numbers};
 use hg_detect::detector::Detector;
-use hg_detect::words::Words;
 use hg_model::limits::SOURCE_NUMBERS;
-use hg_model::state::TraceState;
 use hg_model::thread::ThreadState;
 use hg_root::{HeadParts, RootHead, SourceCount};
+use hg_rules::state::TraceState;
+use hg_words::words::Words;
 use std::alloc::{AllocError, Global};
 
 // Puts a source at the end, where it sent something.

@@ -9,13 +9,13 @@ ghost use Rattle.hg_recovery.specs.Standing.{entries_of};
 use crate::caps::Caps;
 use hg_detect::detector::Detector;
 use hg_detect::parts::DetectorParts;
-use hg_detect::words::Words;
 use hg_disk::Disk;
 use hg_graph::Graph;
 use hg_pages::{SlotFile, Table};
 use hg_pool::Pool;
 use hg_root::Root;
 use hg_sets::MOST_SETS;
+use hg_words::words::Words;
 use std::alloc::Global;
 
 // The detector of a root, over a pool with no page in memory, with so many sets at most. Where memory runs out, the pool is handed back.

@@ -2,7 +2,7 @@
 ghost use Rattle.std.specs.Prelude.{◌≡◌, ◌<◌, ◌≤◌, length, IfErr, IfOk, IsTrue, OnOk};
 ghost use Rattle.hg_detect.specs.Engine.{AtPresent};
 ghost use Rattle.hg_detect.specs.Shown.{content};
-ghost use Rattle.hg_detect.specs.Words.{failed_after};
+ghost use Rattle.hg_words.specs.Words.{failed_after};
 ghost use Rattle.hg_pages.specs.Files.{disk_of, known};
 ghost use Rattle.hg_root.specs.Lawful.{IsLawful};
 ghost use Rattle.hg_root.specs.Roots.{IsWhole, parts_of};
@@ -16,12 +16,12 @@ use crate::checking::check_slots;
 use crate::detectors::over_pool;
 use crate::tables::{lie_below, table_of};
 use hg_detect::detector::Detector;
-use hg_detect::words::Words;
 use hg_disk::Disk;
 use hg_model::verdict::Refusal;
 use hg_pages::{SlotFile, Table};
 use hg_pool::Pool;
 use hg_root::Root;
+use hg_words::words::Words;
 use std::alloc::Global;
 
 // Reads each page that a root names.

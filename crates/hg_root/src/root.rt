@@ -18,9 +18,9 @@ use hg_cells::KeptReport;
 use hg_model::limits::{MOST_EVENTS, MOST_SEGMENTS, SOURCE_NUMBERS, THREAD_NUMBERS};
 use hg_model::segment::Segment;
 use hg_model::sets::NumberSet;
-use hg_model::state::TraceState;
 use hg_model::thread::ThreadState;
 use hg_model::verdict::Refusal;
+use hg_rules::state::TraceState;
 use hg_sets::{MOST_SETS, SetTable};
 use std::alloc::{AllocError, Global};
 

@@ -9,7 +9,7 @@ use Rattle.hg_model.specs.declared.thread.ThreadState.{ThreadState}
 use Rattle.hg_model.specs.Locks.{has_lock, has_lock_for_writing, with_hold, without_lock}
 use Rattle.hg_model.specs.Verdicts.{already_held, lock_busy}
 use Rattle.hg_model.specs.Change.{change, dead, threads_after, with_held, with_thread}
-use Rattle.hg_model.proofs.Uses.{any_with_hold, has, writes}
+use Rattle.hg_rules.proofs.Uses.{any_with_hold, has, writes}
 use Rattle.hg_contents.proofs.lawful.Changing.{each_added, each_changed, each_fails, none_passes}
 use Rattle.hg_contents.proofs.lawful.Lists.{each_is, each_weaker, each_with}
 

@@ -9,7 +9,7 @@ use Rattle.hg_model.specs.Contents.{Content}
 use Rattle.hg_model.specs.Locks.{has_lock, has_lock_for_writing}
 use Rattle.hg_model.specs.Restoring.{AreThreads, excludes}
 use Rattle.hg_model.specs.Change.{empty_content}
-use Rattle.hg_model.proofs.Restoring.{below, fits_all}
+use Rattle.hg_rules.proofs.Restoring.{below, fits_all}
 use Rattle.hg_graph.specs.Graph.{names}
 use Rattle.hg_root.specs.Lawful.{named_threads}
 use Rattle.hg_contents.proofs.lawful.Changing.{numbers}

@@ -8,7 +8,7 @@ use Rattle.hg_model.specs.declared.held.HeldLock.{HeldLock}
 use Rattle.hg_model.specs.declared.thread.ThreadState.{ThreadState}
 use Rattle.hg_model.specs.Locks.{has_lock, has_lock_for_writing}
 use Rattle.hg_model.specs.Restoring.{AreThreads, excludes, holds_alive, is_next}
-use Rattle.hg_model.proofs.Uses.{has, writes}
+use Rattle.hg_rules.proofs.Uses.{has, writes}
 use Rattle.hg_contents.proofs.lawful.Changing.{none_passes}
 use Rattle.hg_contents.proofs.lawful.Excluding.{AreApart, IsApart, no_writer}
 use Rattle.hg_contents.proofs.lawful.Lists.{each_weaker}

@@ -4,19 +4,19 @@
 //! a call that answers want of memory has to leave the content as it was, and is made again.
 ghost use Rattle.std.specs.Prelude.{◌≤◌, IfOk};
 ghost use Rattle.hg_detect.specs.Engine.{AtPresent};
-ghost use Rattle.hg_detect.specs.Paged.{AreWithin};
+ghost use Rattle.hg_words.specs.Paged.{AreWithin};
 
 use crate::tests::own::Own;
 use crate::tests::races::{Race, compare};
 use hg_cells::Cell;
 use hg_detect::detector::{Answer, Detector};
-use hg_detect::paged::PagedWords;
-use hg_detect::words::Words;
 use hg_model::event::{Access, Block, Event, Hold, HoldKind, Named};
 use hg_model::report::Report;
 use hg_model::segment::Segment;
 use hg_model::verdict::{Refusal, Verdict};
 use hg_sets::MOST_SETS;
+use hg_words::paged::PagedWords;
+use hg_words::words::Words;
 use std::alloc::{AllocError, Global};
 use std::process::Abort;
 use std::test::Fail;

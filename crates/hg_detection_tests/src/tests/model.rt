@@ -2,11 +2,11 @@
 
 use hg_model::event::{Access, Event, Named};
 use hg_model::held::{HeldLock, HeldLocks};
-use hg_model::judging::judge;
 use hg_model::limits::{MOST_EVENTS, SOURCE_NUMBERS};
-use hg_model::state::TraceState;
 use hg_model::thread::ThreadState;
 use hg_model::verdict::{Refusal, Verdict};
+use hg_rules::judging::judge;
+use hg_rules::state::TraceState;
 use std::test::Fail;
 
 /// A living thread that holds no lock.

@@ -1,4 +1,4 @@
-use Rattle.std.proofs.Common.{◌≡◌, Some, codes, ◌∙◌, sym, ap, inr, refl}
+use Rattle.std.proofs.Common.{◌≡◌, Some, None, codes, ◌∙◌, sym, ap, inl, inr, refl}
 use Rattle.clap.specs.Words.{first_of, found_of, rows_of}
 use Rattle.clap.proofs.WalkLemmas.{first_value-rows}
 use Rattle.hg_wire.specs.Lines.{operand_of}
@@ -13,3 +13,8 @@ pub returns : goal.returns
 returns c =
     let is : Some c.in-Some.text.now ≡ first_of (codes "ADDRESS") (rows_of (found_of c.args.given.now)) = c.in-Some.ensures ∙ first_value-rows (found_of c.args.given.now) (codes "ADDRESS") in
     ((c.in-Some.text.now, sym is, ap (operand_of 64) (sym c.as_bytes.ensures.value) ∙ (sym c.number_of_word.ensures ∙ c.in-Some-number_of_word.is)), c.is_set.ensures)
+
+pub returns-in_default : goal.returns-in_default
+returns-in_default c =
+    let is : None ≡ first_of (codes "ADDRESS") (rows_of (found_of c.args.given.now)) = c.in_default.ensures ∙ first_value-rows (found_of c.args.given.now) (codes "ADDRESS") in
+    inl (refl, λ explaining h. absurd (let bad : None ≡ Some h.0.0 = is ∙ h.0.1 in cc bad))

@@ -1,7 +1,7 @@
 use Rattle.std.proofs.Common.{◌∙◌, List, take, get_or, false, ap, sym, arith, add-one}
 use Rattle.hg_model.specs.declared.held.HeldLock.{HeldLock}
 use Rattle.hg_model.specs.Locks.{IsByRisingLock, has_lock, with_hold}
-use Rattle.hg_model.proofs.Restoring.{next_absent, next_behind}
+use Rattle.hg_rules.proofs.Restoring.{next_absent, next_behind}
 use Rattle.hg_model.proofs.Rising.{from_increasing}
 use Rattle.hg_root.proofs.threads.held_of.Goals as goal
 

@@ -1,0 +1,5 @@
+pub mod First
+pub mod Slots
+pub mod Uses
+pub mod Steps
+pub mod Restoring

@@ -1,0 +1,3 @@
+pub mod Overlaps
+mod Places
+mod Writing
