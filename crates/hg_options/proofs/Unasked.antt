@@ -1,5 +1,5 @@
 -- Commands that ask for nothing.
-use Rattle.std.proofs.Common.{◌≡◌, Some, None, List, codes, inl, inr, sym, ap, ◌∙◌, slice_index_or, arith}
+use Rattle.std.proofs.Common.{◌≡◌, Some, None, List, codes, inl, inr, refl, sym, ap, ◌∙◌, slice_index_or, arith}
 use Rattle.clap.specs.Words.{Row, Text, first_of}
 use Rattle.hg_options.specs.declared.task.Misread.{Misread}
 use Rattle.hg_options.specs.declared.task.StoreTask.TheVariants as store
@@ -50,15 +50,15 @@ no_task_on_store name rows directory there none (task.OnStore other given) h = n
 
 -- `explain` of a store
 pub of_store : (name : Text) (rows : List Row) (r : Misread) → name ≡ codes "explain" → IsUnasked (IsExplaining rows) (codes "explain", rows) r → IsUnasked (IsStoreTask name rows) (name, rows) r
-of_store name rows r is (inl h) = inl (h.0, no_store_task name rows is h.1)
+of_store name rows r is (inl h) = inl (h.0, (no_store_task name rows is h.1.0, λ bad. h.1.1 (refl, bad.1)))
 of_store name rows r is (inr h) = inr (h.0, (is, h.1.1))
 
 -- `explain` of a trace text
 pub of_stream : (name : Text) (rows : List Row) (r : Misread) → name ≡ codes "explain" → first_of (codes "DIR") rows ≡ None → IsUnasked (IsExplaining rows) (codes "explain", rows) r → IsUnasked (IsTask (name, rows)) (name, rows) r
-of_stream name rows r is alone (inl h) = inl (h.0, no_stream_task name rows is alone h.1)
+of_stream name rows r is alone (inl h) = inl (h.0, (no_stream_task name rows is alone h.1.0, λ bad. h.1.1 (refl, bad.1)))
 of_stream name rows r is alone (inr h) = inr (h.0, (is, h.1.1))
 
 -- what asks for nothing of a store asks for nothing
 pub of_directory : (name : Text) (rows : List Row) (directory : Text) (r : Misread) → first_of (codes "DIR") rows ≡ Some directory → IsUnasked (IsStoreTask name rows) (name, rows) r → IsUnasked (IsTask (name, rows)) (name, rows) r
-of_directory name rows directory r there (inl h) = inl (h.0, no_task_on_store name rows directory there h.1)
+of_directory name rows directory r there (inl h) = inl (h.0, (no_task_on_store name rows directory there h.1.0, h.1.1))
 of_directory name rows directory r there (inr h) = inr h

@@ -90,12 +90,20 @@ AsksForText k = (k ≡ kind.DisplayHelp) ⊎ (k ≡ kind.DisplayVersion)
 abbrev pub SomeKind : (ErrorKind → Type 0) → Kinds → Type 0
 SomeKind P kinds = (k : ErrorKind) × IsAmong k kinds × P k
 
+-- it is `explain`, and its address is no number
+abbrev pub HasBadAddress : Text × List Row → Type 0
+HasBadAddress (name, rows) = (name ≡ codes "explain") × HasNoAddress rows
+
+-- What is asked for lacks something: no value is what is asked for, and that is not for a bad address.
+abbrev pub LacksSome : {T : Type 0} → (T → Type 0) → Text × List Row → Type 0
+LacksSome is_asked given = AsksForNothing is_asked × (HasBadAddress given → ⊥)
+
 -- what is told of a command line whose first fault has one of these kinds, or which has no fault but in an address
 abbrev pub IsMisread : Kinds → Option (Text × List Row) → Misread → Type 0
 IsMisread kinds command (misread.Help text) = SomeKind AsksForText kinds
 IsMisread kinds command (misread.Bad text) = SomeKind (λ k. AsksForText k → ⊥) kinds
-IsMisread kinds command misread.BadAddress = (kinds ≡ []) × IsSomeAnd command (λ given. (given.0 ≡ codes "explain") × HasNoAddress given.1)
-IsMisread kinds command misread.Incomplete = (kinds ≡ []) × IfSome command (λ given. AsksForNothing (IsTask given))
+IsMisread kinds command misread.BadAddress = (kinds ≡ []) × IsSomeAnd command HasBadAddress
+IsMisread kinds command misread.Incomplete = (kinds ≡ []) × IfSome command (λ given. LacksSome (IsTask given) given)
 IsMisread kinds command misread.OutOfMemory = ⊤
 
 -- what is made of a command line: what its command asks for, exactly where it has no fault
@@ -112,9 +120,9 @@ IsReadBy app words r = IsReading (fault_of app words) (subcommand_of app words) 
 abbrev pub IsToldOf : Error → Misread → Type 0
 IsToldOf error r = (kinds : Kinds) (command : Option (Text × List Row)) → HasKind kinds error → IsMisread kinds command r
 
--- Why the arguments of a command give nothing of what may be asked for: there is nothing, or the address is no number.
+-- Why a command with its arguments asks for nothing: it lacks something, or the address is no number.
 abbrev pub IsUnasked : {T : Type 0} → (T → Type 0) → Text × List Row → Misread → Type 0
-IsUnasked is_asked (name, rows) r = ((r ≡ misread.Incomplete) × AsksForNothing is_asked) ⊎ ((r ≡ misread.BadAddress) × ((name ≡ codes "explain") × HasNoAddress rows))
+IsUnasked is_asked given r = ((r ≡ misread.Incomplete) × LacksSome is_asked given) ⊎ ((r ≡ misread.BadAddress) × HasBadAddress given)
 
 -- The command `explain` with these arguments asks for the life of a word, or for nothing.
 abbrev pub AsksToExplain : List Row → Result Explaining Misread → Type 0

@@ -17,4 +17,10 @@ returns c =
 pub returns-in_default : goal.returns-in_default
 returns-in_default c =
     let is : None ≡ first_of (codes "ADDRESS") (rows_of (found_of c.args.given.now)) = c.in_default.ensures ∙ first_value-rows (found_of c.args.given.now) (codes "ADDRESS") in
-    inl (refl, λ explaining h. absurd (let bad : None ≡ Some h.0.0 = is ∙ h.0.1 in cc bad))
+    inl (
+      refl,
+      (
+        λ explaining h. absurd (let bad : None ≡ Some h.0.0 = is ∙ h.0.1 in cc bad),
+        λ h. absurd (let bad : None ≡ Some h.1.0 = is ∙ h.1.1 in cc bad),
+      ),
+    )
