@@ -183,6 +183,10 @@ impl Page {
         ensures words_before { length self.old ≡ PAGE_WORDS }
         ensures words { length self.new ≡ PAGE_WORDS }
     {
+        if to == from + 1 {
+            self.cells[from] = cell;
+            return;
+        }
         for place in from..to {
             self.cells[place] = cell;
         }

@@ -376,7 +376,9 @@ impl<W: Words> Engine<W> {
                 self.state.follow_access(named.source, named.number);
                 return Ok(());
             }
-            return self.access_alike(named, first, count, cell);
+            // By `?`, here and below, so that the short ways answer in registers.
+            self.access_alike(named, first, count, cell)?;
+            return Ok(());
         }
         let segment = self.graph.present(named.access.t);
         if self.words.are_new_or_owned(first, count, segment) {
@@ -384,7 +386,8 @@ impl<W: Words> Engine<W> {
             self.words.fill(first, count, Cell::Exclusive(segment));
             return Ok(());
         }
-        self.access_unlike(named.source, named.number, named.access, named.write)
+        self.access_unlike(named.source, named.number, named.access, named.write)?;
+        Ok(())
     }
 
     /// Accepts an access to words that have different cells, or that may not be filled. It takes the parts of the access, which go in

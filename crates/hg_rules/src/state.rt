@@ -118,7 +118,7 @@ impl TraceState {
         ensures { result ≡ slice_index self.now.last source }
     {
         let place = usize::from(source);
-        if place < self.last.len() {
+        if place < SOURCE_NUMBERS {
             self.last[place]
         } else {
             0

@@ -1,7 +1,7 @@
 //! Interning over the lists, with a buffer for the set that is asked for.
 
 use crate::fault::SetFault;
-use crate::lists::Lists;
+use crate::lists::{Lists, hash};
 use crate::merging::{write_common, write_joined};
 use crate::table::MOST_SETS;
 use std::alloc::{AllocError, Global};
@@ -20,6 +20,7 @@ impl Interner {
     ghost use Rattle.hg_model.specs.Sets.{common, with_member};
     ghost use Rattle.hg_sets.specs.declared.fault.SetFault.TheVariants.{Full};
     ghost use Rattle.hg_sets.specs.Interning.{set_at, StandsAt};
+    ghost use Rattle.hg_sets.specs.Listing.{hash_of};
     ghost use Rattle.hg_sets.specs.Soundness.{table_of, InternsBy, IsSound};
 
     /// The table with the empty set alone.
@@ -31,7 +32,7 @@ impl Interner {
     {
         let scratch = Vec::with_capacity(alloc, 64)?;
         let mut lists = Lists::new(alloc);
-        lists.push(&[])?;
+        lists.push(hash(&[]), &[])?;
         Ok(Interner {
             limit,
             lists,
@@ -64,7 +65,7 @@ impl Interner {
     pub(crate) fn find(&self, members: &[u16]) -> Option<u32>
         ensures { MatchOption result (¬ Contains self.now.lists members.now) (StandsAt self.now.lists members.now) }
     {
-        self.lists.find(members)
+        self.lists.find(hash(members), members)
     }
 
     pub(crate) fn intern(&mut self, members: &[u16]) -> Result<u32, SetFault>
@@ -73,13 +74,14 @@ impl Interner {
         ensures exact { InternsBy self.old members.now result self.new }
         ensures sound { IsSound self.new }
     {
-        if let Some(id) = self.lists.find(members) {
+        let hash = hash(members);
+        if let Some(id) = self.lists.find(hash, members) {
             return Ok(id);
         }
         self.check_room()?;
         self.scratch.clear();
         self.scratch.extend_from_slice(members)?;
-        self.add_scratch()
+        self.add_scratch(hash)
     }
 
     /// The number of the set in the buffer.
@@ -89,11 +91,12 @@ impl Interner {
         ensures exact { InternsBy self.old self.old.scratch.items result self.new }
         ensures sound { IsSound self.new }
     {
-        if let Some(id) = self.lists.find(self.scratch.as_slice()) {
+        let hash = hash(self.scratch.as_slice());
+        if let Some(id) = self.lists.find(hash, self.scratch.as_slice()) {
             return Ok(id);
         }
         self.check_room()?;
-        self.add_scratch()
+        self.add_scratch(hash)
     }
 
     /// Full where no set more may be added.
@@ -107,9 +110,10 @@ impl Interner {
         }
     }
 
-    /// Adds the set in the buffer, which is absent.
-    fn add_scratch(&mut self) -> Result<u32, SetFault>
+    /// Adds the set in the buffer, which is absent and has this hash.
+    fn add_scratch(&mut self, hash: u64) -> Result<u32, SetFault>
         requires sound { IsSound self.old }
+        requires hash { hash ≡ hash_of self.old.scratch.items }
         requires rising { IsStrictlyIncreasing self.old.scratch.items }
         requires absent { ¬ Contains self.old.lists self.old.scratch.items }
         requires below { length self.old.lists < self.old.limit }
@@ -118,7 +122,7 @@ impl Interner {
     {
         let id = self.lists.len();
         self.scratch.reserve(1)?;
-        self.lists.push(self.scratch.as_slice())?;
+        self.lists.push(hash, self.scratch.as_slice())?;
         Ok(id)
     }
 

@@ -77,19 +77,23 @@ impl Lists {
         elements_of(self.elements.as_slice(), self.spans[id as usize])
     }
 
-    pub(crate) fn find(&self, list: &[u16]) -> Option<u32>
+    /// The number of the list with this hash.
+    pub(crate) fn find(&self, hash: u64, list: &[u16]) -> Option<u32>
+        requires hash { hash ≡ hash_of list.now }
         ensures { IsNumberOf self.now list.now result }
     {
         find_among(
             self.elements.as_slice(),
             self.spans.as_slice(),
             self.slots.as_slice(),
+            hash,
             list,
         )
     }
 
-    /// Adds a list at the end.
-    pub(crate) fn push(&mut self, list: &[u16]) -> Result<(), AllocError>
+    /// Adds a list with this hash at the end.
+    pub(crate) fn push(&mut self, hash: u64, list: &[u16]) -> Result<(), AllocError>
+        requires hash { hash ≡ hash_of list.now }
         requires few { length self.old + 1 < 2 ^ 32 }
         ensures ok { OnOk result (self.new ≡ self.old ++ list.now ∷ []) }
         ensures err { OnErr result (self.new ≡ self.old) }
@@ -99,6 +103,7 @@ impl Lists {
             &mut self.elements,
             &mut self.spans,
             &mut self.slots,
+            hash,
             list,
         )
     }
@@ -128,7 +133,7 @@ fn elements_of(elements: &[u16], span: Span) -> &[u16]
 
 /// The hash of a list.
 #[inline]
-fn hash(list: &[u16]) -> u64
+pub(crate) fn hash(list: &[u16]) -> u64
     ensures { result ≡ hash_of list.now }
 {
     let mut hash: u64 = 0;
@@ -158,12 +163,19 @@ fn next_slot(count: usize, at: usize) -> usize
     if at + 1 < count { at + 1 } else { 0 }
 }
 
-/// The number of a list.
-fn find_among(elements: &[u16], spans: &[Span], slots: &[u32], list: &[u16]) -> Option<u32>
+/// The number of the list with this hash.
+fn find_among(
+    elements: &[u16],
+    spans: &[Span],
+    slots: &[u32],
+    hash: u64,
+    list: &[u16],
+) -> Option<u32>
     requires listed { AreListed elements.now spans.now slots.now }
+    requires hash { hash ≡ hash_of list.now }
     ensures { IsNumberOf (lists_of elements.now spans.now) list.now result }
 {
-    let mut at = first_slot(slots.len(), hash(list));
+    let mut at = first_slot(slots.len(), hash);
     for _ in 0..slots.len() {
         let entry = slots[at];
         if entry == 0 {
@@ -264,15 +276,17 @@ fn make_slots(
     Ok(())
 }
 
-/// Adds a list at the end.
+/// Adds a list with this hash at the end.
 fn push_list(
     alloc: Global,
     elements: &mut Vec<u16>,
     spans: &mut Vec<Span>,
     slots: &mut Vec<u32>,
+    hash: u64,
     list: &[u16],
 ) -> Result<(), AllocError>
     requires listed { AreListed elements.old.items spans.old.items slots.old.items }
+    requires hash { hash ≡ hash_of list.now }
     requires few { length spans.old.items + 1 < 2 ^ 32 }
     ensures listed { AreListed elements.new.items spans.new.items slots.new.items }
     ensures ok { OnOk result
@@ -286,7 +300,7 @@ fn push_list(
     };
     spans.reserve(1)?;
     elements.extend_from_slice(list)?;
-    if !put_in(slots, hash(list), spans.len() as u32 + 1) {
+    if !put_in(slots, hash, spans.len() as u32 + 1) {
         return Err(AllocError);
     }
     spans.push_reserved(span);

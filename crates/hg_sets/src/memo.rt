@@ -5,7 +5,7 @@ ghost use Rattle.std.specs.Prelude.{◌≡◌, ◌↔◌, ◌<◌, ◌≤◌, Is
 use std::alloc::{AllocError, Global};
 
 /// How many joins are remembered.
-pub(crate) const JOINS: usize = 1024;
+pub(crate) const JOINS: usize = 8192;
 
 /// How many meets are remembered.
 pub(crate) const MEETS: usize = 256;
@@ -77,7 +77,7 @@ pub(crate) fn join_place(set: u32, member: u16) -> usize
     ensures { result < JOINS }
 {
     let mixed = (u64::from(set) << 16 ^ u64::from(member)).wrapping_mul(0x9E37_79B9_7F4A_7C15);
-    (mixed >> 54) as usize % JOINS
+    (mixed >> 51) as usize % JOINS
 }
 
 /// Where the meet of this set and list is remembered.

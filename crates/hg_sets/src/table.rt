@@ -104,6 +104,10 @@ impl SetTable {
         ensures kept { KeepsNumbers self.old self.new }
         ensures sets { AreSets self.new }
     {
+        let _ = &self.interner;
+        if members.is_empty() {
+            return Ok(0);
+        }
         self.interner.intern(members)
     }
 

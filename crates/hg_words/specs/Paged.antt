@@ -4,6 +4,7 @@ use Rattle.indexmap.specs.IndexMap.{IndexMap, get}
 use Rattle.hg_cells.specs.declared.cell.Cell.{Cell}
 use Rattle.hg_cells.specs.declared.cell.Cell.TheVariants.{New}
 use Rattle.hg_cells.specs.Cells.{IsWithin}
+use Rattle.hg_cells.specs.Pages.{HaveCell}
 use Rattle.hg_words.specs.declared.paged.PagedWords.{PagedWords}
 
 -- a word's cell in its page, where there is one
@@ -38,3 +39,7 @@ StandsIn {P} pages number place = (page : P) × (slice_get pages.entries place �
 -- The words of a page from one place up to another have the cell, and other words what they had.
 abbrev pub FillsWords : ℕ → ℕ → ℕ → Cell → PagedWords → PagedWords → Type 0
 FillsWords page from to cell old new = (w : ℕ) → cell_in new w ≡ (if (w / 256 == page) && (nat_le from (w % 256) && nat_lt (w % 256) to) then cell else cell_in old w)
+
+-- a page is present, and its words from one place up to another have the cell
+abbrev pub PageHasCell : PagedWords → ℕ → ℕ → ℕ → Cell → Type 0
+PageHasCell words number from to cell = (cells : List Cell) × (page_of words number ≡ Some cells) × HaveCell cells from to cell

@@ -1,10 +1,10 @@
 //! A map of words in memory.
 
-ghost use Rattle.std.specs.Prelude.{◌≡◌, ℕ, ◌+◌, ◌/◌, ◌<◌, ◌≤◌, ◌^◌, true, None, Some, is_some, IfOk, OnOk, MatchOption, nat_eq, ◌-◌};
+ghost use Rattle.std.specs.Prelude.{◌≡◌, ℕ, ◌+◌, ◌/◌, ◌<◌, ◌≤◌, ◌^◌, true, None, Some, is_some, IfOk, IfSome, OnOk, MatchOption, nat_eq, ◌-◌};
 ghost use Rattle.indexmap.specs.IndexMap.{get};
 ghost use Rattle.hg_model.specs.declared.verdict.Refusal.TheVariants.{OutOfMemory};
 ghost use Rattle.hg_cells.specs.declared.cell.Cell.TheVariants.{New};
-ghost use Rattle.hg_words.specs.Paged.{AreInPage, AreWithin, FillsWords, HasPage, StandsIn, cell_in, page_of};
+ghost use Rattle.hg_words.specs.Paged.{AreInPage, AreWithin, FillsWords, HasPage, PageHasCell, StandsIn, cell_in, page_of};
 ghost use Rattle.hg_words.specs.PagedLaws.{each_within, more_within, never_full};
 
 use crate::run::{Run, run_in};
@@ -22,10 +22,10 @@ const PAGE_BYTES: u64 = 1024;
 const WORDS: u64 = PAGE_WORDS as u64;
 
 /// How many places of pages are remembered.
-const HINTS: usize = 16_384;
+const HINTS: usize = 32_768;
 
-/// How many pages lie in 8 MiB.
-const REGION: u64 = 8_192;
+/// How many pages lie in 16 MiB.
+const REGION: u64 = 16_384;
 
 /// 2^64 over the golden ratio, an odd number: its multiples are spread evenly.
 const SPREAD: u64 = 0x9e37_79b9_7f4a_7c15;
@@ -133,6 +133,24 @@ impl PagedWords {
         }
     }
 
+    /// The cell that words of a page all have, where the page is present and no hint gave it. Its place is noted.
+    #[inline(never)]
+    fn same_found(&mut self, number: u64, from: usize, to: usize) -> Option<Cell>
+        requires in_order { from < to }
+        requires in_page { to ≤ PAGE_WORDS }
+        ensures pages { self.new.pages ≡ self.old.pages }
+        ensures cells { IfSome result (λ cell. PageHasCell self.old number from to cell) }
+    {
+        let place = self.look_up(number)?;
+        if let Some(hint) = self.hints.get_mut(slot(number)) {
+            *hint = u32::try_from(place).unwrap_or(0);
+        }
+        match self.pages.get_index(place) {
+            Some((_, page)) => page.same(from, to),
+            None => None,
+        }
+    }
+
     /// Adds a page, whose words are new, where it is absent.
     fn add(&mut self, number: u64) -> Result<(), AllocError>
         ensures cells { (w : ℕ) → cell_in self.new w ≡ cell_in self.old w }
@@ -237,11 +255,12 @@ impl Words for PagedWords {
         if count == 0 || count > WORDS - from {
             return None;
         }
-        let (key, page) = self.pages.get_index(self.hint(number))?;
-        if *key != number {
-            return None;
+        if let Some((key, page)) = self.pages.get_index(self.hint(number)) {
+            if *key == number {
+                return page.same(from as usize, (from + count) as usize);
+            }
         }
-        page.same(from as usize, (from + count) as usize)
+        self.same_found(number, from as usize, (from + count) as usize)
     }
 
     #[inline]
@@ -310,11 +329,11 @@ fn pages_of(at: u64, len: u16) -> (u64, u64)
     (at / PAGE_BYTES, (at + u64::from(len - 1)) / PAGE_BYTES)
 }
 
-/// Where the hint of a page is. Pages that lie side by side have hints side by side, and each region of 8 MiB begins at a place of its
+/// Where the hint of a page is. Pages that lie side by side have hints side by side, and each region of 16 MiB begins at a place of its
 /// own: stacks of threads often lie as far apart.
 #[inline]
 fn slot(number: u64) -> usize {
     let region = number / REGION;
-    let place = number.wrapping_add(region.wrapping_mul(SPREAD) >> 50);
+    let place = number.wrapping_add(region.wrapping_mul(SPREAD) >> 48);
     place as usize % HINTS
 }

@@ -25,8 +25,8 @@ returns-clause-listed c =
     let put = c.if-not-put_in.ensures in
     let next : c.len-2.result + 1 ≡ length c.args.spans.now.items + 1 = omega arith in
     rw (c.in_ok-extend_from_slice.ensures.items, c.push_reserved.ensures.items, c.reserve.ensures.items)
-    (more_listed c.args.elements.now.items c.args.list.now c.args.spans.now.items c.in-Some.span c.make_slots.new.slots.items c.put_in.new.slots.items c.hash.result before c.requires.few
-    (omega (arith, c.in-Some.ensures.0)) (omega (arith, c.in-Some.ensures.1)) c.hash.ensures put.len (rw (← next) (put.numbers (c.len-2.result + 1) (omega arith) (λ k d lt. omega (arith, before.numbers k d lt)))) (rw (← next) (put.found refl)) put.kept)
+    (more_listed c.args.elements.now.items c.args.list.now c.args.spans.now.items c.in-Some.span c.make_slots.new.slots.items c.put_in.new.slots.items c.args.hash before c.requires.few
+    (omega (arith, c.in-Some.ensures.0)) (omega (arith, c.in-Some.ensures.1)) c.requires.hash put.len (rw (← next) (put.numbers (c.len-2.result + 1) (omega arith) (λ k d lt. omega (arith, before.numbers k d lt)))) (rw (← next) (put.found refl)) put.kept)
 
 pub returns-clause-ok : goal.returns-clause-ok
 returns-clause-ok c =
