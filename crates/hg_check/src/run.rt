@@ -15,7 +15,6 @@ use hg_reading::whole::read_side_by_side;
 use hg_streams::input::Input;
 use hg_streams::output::Output;
 use std::io::{Read, Write};
-use std::sync::Wait;
 use std::thread::Threads;
 
 /// How a run ended: where no line ended it, it came to the end of its input.
@@ -31,7 +30,7 @@ pub fn ended(stop: Option<Ending>) -> Ending
 /// Reads a trace text to its end, or up to the first line that is refused or bad, and offers its events to a detector that has accepted
 /// none. Where reports are printed as they come, all that the detector keeps are printed or held at the end. Up to `jobs` threads read
 /// the lines of large pieces; what comes of them never depends on that.
-pub fn run<T: Threads + Wait + Sync, R: Read, W: Write>(
+pub fn run<T: Threads + Sync, R: Read, W: Write>(
     rt: &T,
     jobs: usize,
     checking: &mut Checking,

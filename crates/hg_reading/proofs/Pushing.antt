@@ -1,12 +1,13 @@
 -- Pieces in parts: what came of the first bytes, and then of the others.
-use Rattle.std.proofs.Common.{◌≡◌, ℕ, ◌+◌, ◌-◌, List, [], ◌++◌, length, drop, Option, None, Some, Result, Ok, Err, sym, ap, ◌∙◌, subst, arith}
-use Rattle.std.proofs.lemmas.List.{append-nil, append_assoc, length-append, length-drop}
+use Rattle.std.proofs.Common.{◌≡◌, ℕ, ◌+◌, ◌-◌, List, [], ◌∷◌, ◌++◌, length, take, drop, set, Option, None, Some, Result, Ok, Err, sym, ap, ◌∙◌, subst, arith}
+use Rattle.std.proofs.lemmas.List.{append-nil, append_assoc, length-append, length-drop, drop_at}
 use Rattle.hg_model.specs.declared.verdict.Refusal.{Refusal}
 use Rattle.hg_streams.specs.declared.call.WriteCall.{WriteCall}
 use Rattle.hg_wire.specs.declared.reader.Reading.{Reading}
 use Rattle.hg_wire.specs.Streams.{LinesRead, between_lines, ended_from, readings_from}
 use Rattle.hg_reading.specs.declared.kept.Kept.{Kept}
-use Rattle.hg_reading.specs.Keeping.{IsKept, IsOffered, readings_kept}
+use Rattle.hg_reading.specs.declared.part.Part.{Part}
+use Rattle.hg_reading.specs.Keeping.{AreHeld, Holds, HoldsAlone, IsKept, IsOffered, readings_kept}
 use Rattle.hg_reading.specs.Taking.{Passes, Pushes, StopsIn, Taking}
 
 module _ {S E : Type 0} (takes : Taking S E) where
@@ -120,3 +121,22 @@ module _ {S E : Type 0} (takes : Taking S E) where
       → (p q : LinesRead) (a b : S) (at_a at_b : List WriteCall) (piece first later : List ℕ) → piece ≡ first ++ later → Passes takes p a at_a first q b at_b [] → may_take a (length piece) → may_take b (length later)
   room_second may_take room fewer p q a b at_a at_b piece first later is h may =
       room_left may_take room fewer p q a b at_a at_b (first ++ later) later (passes_longer p q a b at_a at_b first [] later h) (subst (λ x. may_take a (length x)) is may)
+
+-- ---- texts that parts hold
+
+pub held_both : (front back : List Part) (first later text : List ℕ) → text ≡ first ++ later → HoldsAlone front first → AreHeld back later → AreHeld (front ++ back) text
+held_both [] back first later text is held h = absurd held
+held_both (part ∷ []) back first later text is held h = (first, later, is, held, h)
+held_both (part ∷ other ∷ parts) back first later text is held h = absurd held
+
+pub held_alone : (parts : List Part) (part : Part) (text : List ℕ) → length parts ≡ 1 → Holds part text → HoldsAlone (set parts 0 part) text
+held_alone [] part text one h = absurd (omega (arith, one))
+held_alone (old ∷ []) part text one h = h
+held_alone (old ∷ other ∷ parts) part text one h = absurd (omega (arith, one))
+
+-- what is left behind the text of the next part
+pub held_next : (part : Part) (parts : List Part) (text first later : List ℕ) → AreHeld (part ∷ parts) text → first ≡ take part.given text → later ≡ drop part.given text → AreHeld parts later
+held_next part parts text first later held front back =
+    let size : length held.0 ≡ part.given = sym held.3.given in
+    let rest : later ≡ held.1 = back ∙ (ap (drop part.given) held.2 ∙ drop_at held.0 held.1 part.given size) in
+    subst (AreHeld parts) (sym rest) held.4

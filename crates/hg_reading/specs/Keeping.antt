@@ -4,12 +4,13 @@ use Rattle.hg_model.specs.declared.event.Access.{Access}
 use Rattle.hg_model.specs.declared.event.Event.{Event}
 use Rattle.hg_model.specs.declared.event.Event.TheVariants as events
 use Rattle.hg_model.specs.declared.verdict.Refusal.{Refusal}
+use Rattle.hg_model.specs.Holding.{hold_event}
 use Rattle.hg_streams.specs.declared.call.WriteCall.{WriteCall}
 use Rattle.hg_streams.specs.Shown.{Outgoing}
 use Rattle.hg_wire.specs.declared.reader.Reading.{Reading}
 use Rattle.hg_wire.specs.Streams.{GivesNoReading, GivesReading, LinesRead, between_lines, ended_from, readings_from}
 use Rattle.hg_reading.specs.declared.kept.Kept.{Kept}
-use Rattle.hg_reading.specs.declared.kept.Kept.TheVariants.{Passed, Fork, Join, Lock, RdLock, Unlock, Read, Write, Alloc, Free}
+use Rattle.hg_reading.specs.declared.kept.Kept.TheVariants.{Passed, Fork, Join, Hold, Access as KeptAccess, Alloc, Free}
 use Rattle.hg_reading.specs.declared.part.Next.{Next}
 use Rattle.hg_reading.specs.declared.part.Next.TheVariants.{Bad, End}
 use Rattle.hg_reading.specs.declared.part.Next.TheVariants as next
@@ -38,11 +39,8 @@ abbrev pub reading_kept : ℕ → Kept → List Reading
 reading_kept n (Passed count) = []
 reading_kept n (Fork p c) = one n (events.Fork p c)
 reading_kept n (Join p c) = one n (events.Join p c)
-reading_kept n (Lock t l) = one n (events.Lock t l)
-reading_kept n (RdLock t l) = one n (events.RdLock t l)
-reading_kept n (Unlock t l) = one n (events.Unlock t l)
-reading_kept n (Read len t at) = one n (events.Read (record { t = t; at = at; len = len }))
-reading_kept n (Write len t at) = one n (events.Write (record { t = t; at = at; len = len }))
+reading_kept n (Hold kind t l) = one n (hold_event (record { t = t; l = l; kind = kind }))
+reading_kept n (KeptAccess len is_write t at) = one_access n is_write (record { t = t; at = at; len = len })
 reading_kept n (Alloc t len at) = one n (events.Alloc (record { t = t; at = at; len = len }))
 reading_kept n (Free t len at) = one n (events.Free (record { t = t; at = at; len = len }))
 
@@ -56,9 +54,13 @@ abbrev pub readings_kept : ℕ → List Kept → List Reading
 readings_kept n [] = []
 readings_kept n (it ∷ kept) = reading_kept n it ++ readings_kept (n + lines_by it) kept
 
--- What is kept goes on with an event, behind so many lines that have none.
-abbrev pub KeepsOn : List Kept → ℕ → Event → List Kept → Type 0
-KeepsOn old passed event new = (n : ℕ) → readings_kept n new ≡ readings_kept n old ++ one (n + lines_kept old + passed) event
+-- What is kept is the line of an event.
+abbrev pub IsLineOf : Kept → Event → Type 0
+IsLineOf it event = (n : ℕ) → reading_kept n it ≡ one n event
+
+-- What is kept goes on with the line of an event, behind so many lines that have none.
+abbrev pub KeepsLine : List Kept → ℕ → Kept → List Kept → Type 0
+KeepsLine old passed it new = (event : Event) → IsLineOf it event → (n : ℕ) → readings_kept n new ≡ readings_kept n old ++ one (n + lines_kept old + passed) event
 
 -- Of lines that were offered, these were taken, from the first on: all, where each was passed.
 pub record IsOffered {S E : Type 0} (takes : Taking S E) (before : S) (at_first : List WriteCall) (due : List Reading) (r : Result (Option E) Refusal) (now : S) (at_last : List WriteCall) : Type 0 where
@@ -83,7 +85,7 @@ pub record IsKept (text : List ℕ) (kept : List Kept) (lines bytes : ℕ) : Typ
 
 -- what was taken of the rest of a text
 abbrev pub FindsNext : LinesRead → LinesRead → List ℕ → Next → Type 0
-FindsNext old new rest (next.Event event used) = GivesReading old new rest (record { line = new.lines; event = Ok event }) used
+FindsNext old new rest (next.Line it used) = (event : Event) × IsLineOf it event × (lines_by it ≡ 1) × GivesReading old new rest (record { line = new.lines; event = Ok event }) used
 FindsNext old new rest Bad = ⊤
 FindsNext old new rest End = GivesNoReading old new rest
 
@@ -91,3 +93,14 @@ FindsNext old new rest End = GivesNoReading old new rest
 pub record Holds (part : Part) (text : List ℕ) : Type 0 where
   pub given : part.given ≡ length text
   pub kept : IsKept text part.kept.items part.extent.lines part.extent.bytes
+
+-- The one part holds a text.
+abbrev pub HoldsAlone : List Part → List ℕ → Type 0
+HoldsAlone [] text = ⊥
+HoldsAlone (part ∷ []) text = Holds part text
+HoldsAlone (part ∷ other ∷ parts) text = ⊥
+
+-- The parts hold the first of a text between them, each the next stretch of it.
+abbrev pub AreHeld : List Part → List ℕ → Type 0
+AreHeld [] text = ⊤
+AreHeld (part ∷ parts) text = (given : List ℕ) × (behind : List ℕ) × (text ≡ given ++ behind) × Holds part given × AreHeld parts behind

@@ -3,7 +3,7 @@
 ghost use Rattle.std.specs.Prelude.{◌≡◌, ℕ, ◌+◌, ◌++◌, ◌∷◌, [], ◌<◌, ◌≤◌, ◌^◌, length, vec_capacity, vec_len};
 ghost use Rattle.std.specs.Bool.{OnFalse, OnTrue};
 ghost use Rattle.hg_model.specs.Holding.{hold_event};
-ghost use Rattle.hg_reading.specs.Keeping.{KeepsOn, OffersKept, lines_by, lines_kept, one, one_access, reading_kept, readings_kept};
+ghost use Rattle.hg_reading.specs.Keeping.{KeepsLine, OffersKept, lines_by, lines_kept, one, one_access, reading_kept, readings_kept};
 
 use crate::sink::Sink;
 use hg_model::event::{Access, Block, Event, Hold, HoldKind};
@@ -17,32 +17,88 @@ use hg_wire::reader::Reading;
 pub enum Kept {
     /// So many lines are empty or comments.
     Passed(u64),
-    Fork { p: u16, c: u16 },
-    Join { p: u16, c: u16 },
-    Lock { t: u16, l: u16 },
-    RdLock { t: u16, l: u16 },
-    Unlock { t: u16, l: u16 },
-    Read { len: u8, t: u16, at: u64 },
-    Write { len: u8, t: u16, at: u64 },
-    Alloc { t: u16, len: u16, at: u64 },
-    Free { t: u16, len: u16, at: u64 },
+    Fork {
+        p: u16,
+        c: u16,
+    },
+    Join {
+        p: u16,
+        c: u16,
+    },
+    Hold {
+        kind: HoldKind,
+        t: u16,
+        l: u16,
+    },
+    Access {
+        len: u8,
+        is_write: bool,
+        t: u16,
+        at: u64,
+    },
+    Alloc {
+        t: u16,
+        len: u16,
+        at: u64,
+    },
+    Free {
+        t: u16,
+        len: u16,
+        at: u64,
+    },
 }
 
 impl Kept {
-    /// The line of an event.
+    /// The line of a read or a write.
     #[inline(always)]
-    fn line_of(event: Event) -> Self
+    pub fn of_access(is_write: bool, access: Access) -> Self
+        ensures reading { (n : ℕ) → reading_kept n result ≡ one_access n is_write access }
+        ensures lines { lines_by result ≡ 1 }
+    {
+        let Access { t, at, len } = access;
+        Kept::Access {
+            len,
+            is_write,
+            t,
+            at,
+        }
+    }
+
+    /// The line of an event on a lock.
+    #[inline(always)]
+    pub fn of_hold(hold: Hold) -> Self
+        ensures reading { (n : ℕ) → reading_kept n result ≡ one n (hold_event hold) }
+        ensures lines { lines_by result ≡ 1 }
+    {
+        let Hold { t, l, kind } = hold;
+        Kept::Hold { kind, t, l }
+    }
+
+    /// The line of an event.
+    pub fn of_event(event: Event) -> Self
         ensures reading { (n : ℕ) → reading_kept n result ≡ one n event }
         ensures lines { lines_by result ≡ 1 }
     {
         match event {
             Event::Fork { p, c } => Kept::Fork { p, c },
             Event::Join { p, c } => Kept::Join { p, c },
-            Event::Lock { t, l } => Kept::Lock { t, l },
-            Event::RdLock { t, l } => Kept::RdLock { t, l },
-            Event::Unlock { t, l } => Kept::Unlock { t, l },
-            Event::Read(Access { t, at, len }) => Kept::Read { len, t, at },
-            Event::Write(Access { t, at, len }) => Kept::Write { len, t, at },
+            Event::Lock { t, l } => Kept::Hold {
+                kind: HoldKind::Lock,
+                t,
+                l,
+            },
+            Event::RdLock { t, l } => Kept::Hold {
+                kind: HoldKind::RdLock,
+                t,
+                l,
+            },
+            Event::Unlock { t, l } => Kept::Hold {
+                kind: HoldKind::Unlock,
+                t,
+                l,
+            },
+            Event::Read(access) => Kept::of_access(false, access),
+            Event::Write(access) => Kept::of_access(true, access),
             Event::Alloc(Block { t, at, len }) => Kept::Alloc { t, len, at },
             Event::Free(Block { t, at, len }) => Kept::Free { t, len, at },
         }
@@ -60,10 +116,11 @@ impl Kept {
     }
 }
 
-/// Keeps a line's event, behind lines that have none. `false` says that there is no room, and then nothing is kept.
+/// Keeps a line with its event, behind lines that have none. `false` says that there is no room, and then nothing is kept.
 #[inline(always)]
-pub fn keep(kept: &mut Vec<Kept>, passed: u64, event: Event) -> bool
-    ensures readings { OnTrue result (KeepsOn kept.old.items passed event kept.new.items) }
+pub fn keep(kept: &mut Vec<Kept>, passed: u64, it: Kept) -> bool
+    requires line { lines_by it ≡ 1 }
+    ensures readings { OnTrue result (KeepsLine kept.old.items passed it kept.new.items) }
     ensures lines { OnTrue result (lines_kept kept.new.items ≡ lines_kept kept.old.items + passed + 1) }
     ensures full { OnFalse result (kept.new.items ≡ kept.old.items) }
 {
@@ -71,11 +128,11 @@ pub fn keep(kept: &mut Vec<Kept>, passed: u64, event: Event) -> bool
         return false;
     }
     if passed == 0 {
-        push(kept, Kept::line_of(event));
+        push(kept, it);
         return true;
     }
     push(kept, Kept::Passed(passed));
-    push(kept, Kept::line_of(event));
+    push(kept, it);
     true
 }
 
@@ -127,50 +184,13 @@ fn offer<W, S: Sink<W>>(
         Kept::Passed(_) => Ok(None),
         Kept::Fork { p, c } => offer_event(lines, Event::Fork { p, c }, sink, output),
         Kept::Join { p, c } => offer_event(lines, Event::Join { p, c }, sink, output),
-        Kept::Lock { t, l } => offer_hold(
-            lines,
-            Hold {
-                t,
-                l,
-                kind: HoldKind::Lock,
-            },
-            sink,
-            output,
-        ),
-        Kept::RdLock { t, l } => offer_hold(
-            lines,
-            Hold {
-                t,
-                l,
-                kind: HoldKind::RdLock,
-            },
-            sink,
-            output,
-        ),
-        Kept::Unlock { t, l } => offer_hold(
-            lines,
-            Hold {
-                t,
-                l,
-                kind: HoldKind::Unlock,
-            },
-            sink,
-            output,
-        ),
-        Kept::Read { len, t, at } => offer_access(
-            lines,
-            false,
-            Access { t, at, len },
-            sink,
-            output,
-        ),
-        Kept::Write { len, t, at } => offer_access(
-            lines,
-            true,
-            Access { t, at, len },
-            sink,
-            output,
-        ),
+        Kept::Hold { kind, t, l } => offer_hold(lines, Hold { t, l, kind }, sink, output),
+        Kept::Access {
+            len,
+            is_write,
+            t,
+            at,
+        } => offer_access(lines, is_write, Access { t, at, len }, sink, output),
         Kept::Alloc { t, len, at } => offer_event(
             lines,
             Event::Alloc(Block { t, at, len }),

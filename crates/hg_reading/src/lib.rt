@@ -7,4 +7,3 @@ pub mod pieces;
 mod side_by_side;
 pub mod sink;
 pub mod whole;
-mod worker;

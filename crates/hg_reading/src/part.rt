@@ -5,8 +5,6 @@ ghost use Rattle.hg_wire.specs.Streams.{at_start};
 ghost use Rattle.hg_reading.specs.Keeping.{IsKept, FindsNext};
 
 use crate::kept::{Kept, keep};
-use crate::sink::access_event;
-use hg_model::event::Event;
 use hg_wire::reader::{EventReader, Taken};
 use std::alloc::{AllocError, Global};
 
@@ -21,7 +19,7 @@ pub struct Extent {
 #[derive(Clone, Copy, Debug, PartialEq, Eq, Drop)]
 pub enum Next {
     /// A line that has an event. It ends behind so many bytes.
-    Event { event: Event, used: usize },
+    Line { it: Kept, used: usize },
     /// A line that is bad.
     Bad,
     /// No line more.
@@ -38,6 +36,8 @@ pub struct Part {
     pub given: usize,
     /// How far it was parsed: up to a line that is bad, or for which there is no room.
     pub extent: Extent,
+    /// Keeps parts that lie side by side off one another's cache lines, since each is written by a thread of its own.
+    apart: [u64; 16],
 }
 
 impl Part {
@@ -52,6 +52,7 @@ impl Part {
             kept: Vec::with_capacity(alloc, lines)?,
             given: 0,
             extent: Extent { lines: 0, bytes: 0 },
+            apart: [0; 16],
         })
     }
 
@@ -76,9 +77,9 @@ fn keep_lines(reader: &mut EventReader, kept: &mut Vec<Kept>, text: &[u8]) -> Ex
     let mut rest = text;
     loop {
         match next_line(reader, rest) {
-            Next::Event { event, used } => {
+            Next::Line { it, used } => {
                 let lines = reader.lines();
-                if !keep(kept, lines - extent.lines - 1, event) {
+                if !keep(kept, lines - extent.lines - 1, it) {
                     return extent;
                 }
                 rest = &rest[used..];
@@ -109,20 +110,23 @@ fn next_line(reader: &mut EventReader, rest: &[u8]) -> Next
     ensures { FindsNext reader.old reader.new rest.now result }
 {
     if let Some(found) = reader.take_access(rest) {
-        return Next::Event {
-            event: access_event(&found),
+        return Next::Line {
+            it: Kept::of_access(found.is_write, found.access),
             used: found.used,
         };
     }
     if let Some(held) = reader.take_hold(rest) {
-        return Next::Event {
-            event: held.hold.event(),
+        return Next::Line {
+            it: Kept::of_hold(held.hold),
             used: held.used,
         };
     }
     match reader.take(rest) {
         Taken::Line { reading, used } => match reading.event {
-            Ok(event) => Next::Event { event, used },
+            Ok(event) => Next::Line {
+                it: Kept::of_event(event),
+                used,
+            },
             Err(_) => Next::Bad,
         },
         Taken::More => Next::End,

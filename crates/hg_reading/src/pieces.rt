@@ -1,6 +1,6 @@
 //! The lines of a piece.
 
-ghost use Rattle.std.specs.Prelude.{◌≡◌, ℕ, ◌+◌, ◌<◌, ◌^◌, [], Ok, Err, Some, None, length};
+ghost use Rattle.std.specs.Prelude.{◌≡◌, ℕ, ◌+◌, ◌<◌, ◌^◌, [], Ok, Err, Some, None, ⊤, length};
 ghost use Rattle.hg_reading.specs.Taking.{HasNoneLeft, Offers};
 
 use crate::sink::Sink;
@@ -50,6 +50,9 @@ pub fn push<W, S: Sink<W>>(
 
 /// How the pieces of a trace text are taken.
 pub(crate) trait Pieces<W, S: Sink<W>> {
+    /// What a piece is taken by may be used: by several threads, where it is theirs.
+    ghost may_push: { Self → Type 0 };
+
     /// The same as `push`.
     fn push(
         &mut self,
@@ -58,10 +61,12 @@ pub(crate) trait Pieces<W, S: Sink<W>> {
         piece: &[u8],
         output: &mut Output<W>,
     ) -> Result<Option<S::End>, Refusal>
+        requires may { may_push self.old }
         requires lines { reader.old.lines + length piece.now < 2 ^ 64 }
         requires room { S.may_take sink.old (length piece.now) }
         ensures pushes { Offers S.takes reader.old sink.old output.old piece.now result reader.new sink.new output.new }
-        ensures none_left { result ≡ Ok None → HasNoneLeft reader.new };
+        ensures none_left { result ≡ Ok None → HasNoneLeft reader.new }
+        ensures may { may_push self.new };
 }
 
 /// Each piece is parsed where it is offered.
@@ -69,6 +74,8 @@ pub(crate) trait Pieces<W, S: Sink<W>> {
 pub(crate) struct Alone;
 
 impl<W, S: Sink<W>> Pieces<W, S> for Alone {
+    ghost may_push = { λ pieces. ⊤ };
+
     #[inline(always)]
     fn push(
         &mut self,

@@ -1,36 +1,59 @@
-//! The lines of a piece, parsed by workers while those in front of them are offered.
+//! The lines of a piece, parsed by several threads while those in front of them are offered.
 
-ghost use Rattle.std.specs.Prelude.{◌≡◌, ◌+◌, ◌<◌, ◌≤◌, ◌^◌, Ok, None, length};
-ghost use Rattle.hg_reading.specs.Keeping.{Holds};
+ghost use Rattle.std.specs.Prelude.{◌≡◌, ◌+◌, ◌++◌, ◌<◌, ◌≤◌, ◌^◌, Ok, None, length};
+ghost use denote.Param.Send.{IsSync};
+ghost use Rattle.hg_reading.specs.Keeping.{AreHeld, Holds, HoldsAlone};
 ghost use Rattle.hg_reading.specs.Taking.{HasNoneLeft, Offers};
 
 use crate::kept::offer_all;
 use crate::part::Part;
 use crate::pieces::{Pieces, push};
 use crate::sink::Sink;
-use crate::worker::{Link, Parsed, TEXT, TEXTS_EACH};
 use hg_model::verdict::Refusal;
 use hg_streams::output::Output;
 use hg_wire::cuts::last_line_end;
 use hg_wire::reader::EventReader;
-use std::alloc::Global;
-use std::mem;
-use std::sync::Wait;
+use std::alloc::{AllocError, Global};
+use std::marker::Sync;
+use std::thread::{Threads, join_mut};
 
 /// A piece of fewer bytes is parsed where it is offered: threads would cost more than they save.
-const FEW: usize = 131_072;
+const FEW: usize = 262_144;
 
-/// So many bytes of a piece are parsed here, while the workers begin with those behind them.
-const FIRST: usize = 32_768;
+/// So many bytes of a piece are parsed here, while other threads parse those behind them.
+const FIRST: usize = 65_536;
 
-/// Pieces are parsed by the workers that these links lead to.
+/// At most so many bytes are parsed while others are offered, and held until their turn comes.
+const GROUP: usize = 2_097_152;
+
+/// Parts have room for a line in so many bytes. Where lines are shorter, the rest of a text is parsed where it is offered.
+const BYTES_A_LINE: usize = 8;
+
+/// More threads than so many would wait for the one that offers.
+const MOST_JOBS: usize = 16;
+
+/// Pieces are parsed by threads, as many at a time as half of the parts.
 #[derive(Drop)]
 pub(crate) struct SideBySide<'a, T> {
     rt: &'a T,
-    links: Vec<Link>,
+    parts: Vec<Part>,
 }
 
-impl<'a, T: Wait, W, S: Sink<W>> Pieces<W, S> for SideBySide<'a, T> {
+impl<'a, T: Threads + Sync> SideBySide<'a, T> {
+    /// With so many threads at once, that of the sink among them.
+    pub(crate) fn new(rt: &'a T, jobs: usize, alloc: Global) -> Result<Self, AllocError> {
+        let at_once = jobs.clamp(2, MOST_JOBS) - 1;
+        let mut parts = Vec::new(alloc);
+        for _ in 0..2 * at_once {
+            parts.push(Part::with_room(alloc, GROUP / BYTES_A_LINE / at_once)?)?;
+        }
+        Ok(SideBySide { rt, parts })
+    }
+}
+
+impl<'a, T: Threads + Sync, W, S: Sink<W>> Pieces<W, S> for SideBySide<'a, T> {
+    ghost may_push = { λ pieces. IsSync T.row };
+
     fn push(
         &mut self,
         reader: &mut EventReader,
@@ -38,103 +61,91 @@ impl<'a, T: Wait, W, S: Sink<W>> Pieces<W, S> for SideBySide<'a, T> {
         piece: &[u8],
         output: &mut Output<W>,
     ) -> Result<Option<S::End>, Refusal> {
-        self.push_in_parts(reader, sink, piece, output)
+        push_side_by_side(
+            self.rt,
+            reader,
+            sink,
+            piece,
+            output,
+            self.parts.as_mut_slice(),
+        )
     }
 }
 
-impl<'a, T: Wait> SideBySide<'a, T> {
-    /// By these links, none of which is left to the caller.
-    pub(crate) fn taking(rt: &'a T, links: &mut Vec<Link>, alloc: Global) -> Self {
-        SideBySide {
-            rt,
-            links: mem::replace(links, Vec::new(alloc)),
-        }
+/// Takes a piece of a trace text, as `push` does.
+fn push_side_by_side<T: Threads + Sync, W, S: Sink<W>>(
+    rt: &T,
+    reader: &mut EventReader,
+    sink: &mut S,
+    piece: &[u8],
+    output: &mut Output<W>,
+    parts: &mut [Part],
+) -> Result<Option<S::End>, Refusal>
+    requires lines { reader.old.lines + length piece.now < 2 ^ 64 }
+    requires room { S.may_take sink.old (length piece.now) }
+    ensures pushes { Offers S.takes reader.old sink.old output.old piece.now result reader.new sink.new output.new }
+    ensures none_left { result ≡ Ok None → HasNoneLeft reader.new }
+{
+    if piece.len() < FEW || parts.len() < 2 {
+        return push(reader, sink, piece, output);
     }
-
-    /// Takes a piece of a trace text, as `push` does. Its first part is parsed here, while the workers begin.
-    fn push_in_parts<W, S: Sink<W>>(
-        &mut self,
-        reader: &mut EventReader,
-        sink: &mut S,
-        piece: &[u8],
-        output: &mut Output<W>,
-    ) -> Result<Option<S::End>, Refusal>
-        requires lines { reader.old.lines + length piece.now < 2 ^ 64 }
-        requires room { S.may_take sink.old (length piece.now) }
-        ensures pushes { Offers S.takes reader.old sink.old output.old piece.now result reader.new sink.new output.new }
-        ensures none_left { result ≡ Ok None → HasNoneLeft reader.new }
-    {
-        if piece.len() < FEW || self.links.is_empty() {
-            return push(reader, sink, piece, output);
-        }
-        let (first, rest) = piece.split_at(lines_within(piece, FIRST));
-        send_first(self.rt, whole_lines(rest), self.links.as_mut_slice());
-        if let Some(end) = push(reader, sink, first, output)? {
-            return Ok(Some(end));
-        }
-        self.push_rest(reader, sink, rest, output)
+    let (lines, last) = piece.split_at(last_line_end(piece));
+    if let Some(end) = offer_lines(rt, lines, reader, sink, output, parts)? {
+        return Ok(Some(end));
     }
-
-    /// Takes the rest of a piece, of which the workers have the first parts.
-    fn push_rest<W, S: Sink<W>>(
-        &mut self,
-        reader: &mut EventReader,
-        sink: &mut S,
-        piece: &[u8],
-        output: &mut Output<W>,
-    ) -> Result<Option<S::End>, Refusal>
-        requires some { 0 < length self.old.links.items }
-        requires lines { reader.old.lines + length piece.now < 2 ^ 64 }
-        requires room { S.may_take sink.old (length piece.now) }
-        ensures pushes { Offers S.takes reader.old sink.old output.old piece.now result reader.new sink.new output.new }
-        ensures none_left { result ≡ Ok None → HasNoneLeft reader.new }
-    {
-        let (lines, last) = piece.split_at(last_line_end(piece));
-        if let Some(end) = self.offer_lines(reader, sink, lines, output)? {
-            return Ok(Some(end));
-        }
-        push(reader, sink, last, output)
-    }
-
-    /// Offers the lines of a text, part by part. Behind the part that is offered the next ones are with the workers.
-    fn offer_lines<W, S: Sink<W>>(
-        &mut self,
-        reader: &mut EventReader,
-        sink: &mut S,
-        text: &[u8],
-        output: &mut Output<W>,
-    ) -> Result<Option<S::End>, Refusal>
-        requires some { 0 < length self.old.links.items }
-        requires lines { reader.old.lines + length text.now < 2 ^ 64 }
-        requires room { S.may_take sink.old (length text.now) }
-        ensures { Offers S.takes reader.old sink.old output.old text.now result reader.new sink.new output.new }
-    {
-        let mut unsent = behind_first(text, self.links.len());
-        let mut rest = text;
-        let mut turn = 0;
-        while !rest.is_empty() {
-            let (given, behind) = rest.split_at(lines_within(rest, TEXT));
-            let (next, later) = unsent.split_at(lines_within(unsent, TEXT));
-            let parsed = self.links[turn].take_back(self.rt);
-            let answer = offer_parsed(&parsed, given, reader, sink, output);
-            send_again(self.rt, &mut self.links[turn], parsed, next);
-            if let Some(end) = answer? {
-                return Ok(Some(end));
-            }
-            rest = behind;
-            unsent = later;
-            turn = (turn + 1) % self.links.len();
-        }
-        Ok(None)
-    }
+    push(reader, sink, last, output)
 }
 
-/// What of a text is lines that have come whole.
-fn whole_lines(text: &[u8]) -> &[u8] {
-    &text[..last_line_end(text)]
+/// What is offered in a turn, and what is parsed meanwhile.
+#[derive(Clone, Copy, Drop)]
+struct Turn<'t> {
+    /// The text that is offered.
+    due: &'t [u8],
+    /// What was parsed of it: its first lines, or none.
+    parts: &'t [Part],
+    /// The text that is parsed meanwhile.
+    upcoming: &'t [u8],
 }
 
-/// How many bytes of a text come first, up to a line feed as far as there is one.
+/// What is left of a text.
+#[derive(Clone, Copy, Drop)]
+struct Left<'t> {
+    /// What is offered next.
+    due: &'t [u8],
+    /// What comes behind it.
+    rest: &'t [u8],
+}
+
+/// Offers the lines of a text. The first of them are parsed where they are offered, the others by other threads meanwhile.
+fn offer_lines<T: Threads + Sync, W, S: Sink<W>>(
+    rt: &T,
+    text: &[u8],
+    reader: &mut EventReader,
+    sink: &mut S,
+    output: &mut Output<W>,
+    parts: &mut [Part],
+) -> Result<Option<S::End>, Refusal>
+    requires lines { reader.old.lines + length text.now < 2 ^ 64 }
+    requires room { S.may_take sink.old (length text.now) }
+    ensures { Offers S.takes reader.old sink.old output.old text.now result reader.new sink.new output.new }
+{
+    let half = parts.len() / 2;
+    let (now, next) = parts.split_at_mut(half);
+    let (first, rest) = text.split_at(lines_within(text, FIRST));
+    let (due, rest) = rest.split_at(lines_within(rest, group_behind(first, half)));
+    let turn = Turn {
+        due: first,
+        parts: &[],
+        upcoming: due,
+    };
+    if let Some(end) = offer_beside(rt, turn, reader, sink, output, now)? {
+        return Ok(Some(end));
+    }
+    let left = Left { due, rest };
+    offer_groups(rt, left, reader, sink, output, now, next)
+}
+
+/// How many bytes of a text come next, up to a line feed as far as there is one.
 fn lines_within(text: &[u8], most: usize) -> usize
     requires { 0 < most }
     ensures within { result ≤ length text.now }
@@ -149,58 +160,144 @@ fn lines_within(text: &[u8], most: usize) -> usize
     }
 }
 
-/// Sends each worker its first parts of a text.
-fn send_first<T: Wait>(rt: &T, text: &[u8], links: &mut [Link])
-    ensures { length links.new ≡ length links.old }
+/// How many bytes so many threads parse while a text is offered: more than it has, since to parse takes less time than to offer.
+fn group_behind(offered: &[u8], threads: usize) -> usize
+    ensures { 0 < result }
 {
-    let mut unsent = text;
-    for _ in 0..TEXTS_EACH {
-        for link in &mut *links {
-            let (next, later) = unsent.split_at(lines_within(unsent, TEXT));
-            let parsed = link.take_back(rt);
-            send_again(rt, link, parsed, next);
-            unsent = later;
-        }
-    }
+    let more = (offered.len() / 2).saturating_mul(threads);
+    offered.len().saturating_add(more).clamp(FIRST, GROUP)
 }
 
-/// What of a text comes behind the first parts of so many workers.
-fn behind_first(text: &[u8], workers: usize) -> &[u8] {
-    let mut unsent = text;
-    for _ in 0..TEXTS_EACH {
-        for _ in 0..workers {
-            unsent = &unsent[lines_within(unsent, TEXT)..];
-        }
+/// Offers what is left of a text, of which some parts hold what is due, by turns: while one half of the parts is offered, the other is filled.
+fn offer_groups<T: Threads + Sync, W, S: Sink<W>>(
+    rt: &T,
+    left: Left<'_>,
+    reader: &mut EventReader,
+    sink: &mut S,
+    output: &mut Output<W>,
+    now: &mut [Part],
+    next: &mut [Part],
+) -> Result<Option<S::End>, Refusal>
+    requires held { AreHeld now.old left.due.now }
+    requires lines { reader.old.lines + (length left.due.now + length left.rest.now) < 2 ^ 64 }
+    requires room { S.may_take sink.old (length left.due.now + length left.rest.now) }
+    ensures { Offers S.takes reader.old sink.old output.old (left.entry.due.now ++ left.entry.rest.now) result
+        reader.new sink.new output.new }
+{
+    let Left { due, rest } = left;
+    if rest.is_empty() {
+        return offer_parts(now, due, reader, sink, output);
     }
-    unsent
+    let (upcoming, rest) = rest.split_at(lines_within(rest, group_behind(due, next.len())));
+    let turn = Turn {
+        due,
+        parts: now,
+        upcoming,
+    };
+    if let Some(end) = offer_beside(rt, turn, reader, sink, output, next)? {
+        return Ok(Some(end));
+    }
+    let left = Left {
+        due: upcoming,
+        rest,
+    };
+    offer_groups(rt, left, reader, sink, output, next, now)
 }
 
-/// Sends a worker a text in memory that was taken back from it, where some was.
-fn send_again<T: Wait>(rt: &T, link: &mut Link, memory: Option<Parsed>, text: &[u8]) {
-    if let Some(memory) = memory {
-        link.send(rt, memory, text);
+/// Offers what is due in a turn, while each of the other parts is filled by a thread of its own.
+#[cycle(beside)]
+fn offer_beside<T: Threads + Sync, W, S: Sink<W>>(
+    rt: &T,
+    turn: Turn<'_>,
+    reader: &mut EventReader,
+    sink: &mut S,
+    output: &mut Output<W>,
+    next: &mut [Part],
+) -> Result<Option<S::End>, Refusal>
+    requires held { AreHeld turn.parts.now turn.due.now }
+    requires lines { reader.old.lines + length turn.due.now < 2 ^ 64 }
+    requires room { S.may_take sink.old (length turn.due.now) }
+    ensures pushes { Offers S.takes reader.old sink.old output.old turn.entry.due.now result
+        reader.new sink.new output.new }
+    ensures held { AreHeld next.new turn.entry.upcoming.now }
+{
+    let Turn {
+        due,
+        parts,
+        upcoming,
+    } = turn;
+    if next.is_empty() {
+        return offer_parts(parts, due, reader, sink, output);
     }
+    let (mine, theirs) = upcoming.split_at(share(upcoming, next.len()));
+    let (part, others) = next.split_at_mut(1);
+    let (_, answer) = join_mut(
+        rt,
+        &mut ||
+            requires { length part.now ≡ 1 }
+            ensures { HoldsAlone part.exit.now mine.entry.now }
+        { parse_first(part, mine) },
+        &mut || -> Result<Option<S::End>, Refusal>
+            requires crosses { IsSync T.row }
+            requires held { AreHeld parts.now due.now }
+            requires lines { reader.now.lines + length due.now < 2 ^ 64 }
+            requires room { S.may_take sink.now (length due.now) }
+            ensures pushes { Offers S.takes reader.entry.now sink.entry.now output.entry.now due.entry.now result
+                reader.exit.now sink.exit.now output.exit.now }
+            ensures held { AreHeld others.exit.now theirs.entry.now }
+        {
+            let turn = Turn {
+                due,
+                parts,
+                upcoming: theirs,
+            };
+            offer_beside(rt, turn, reader, sink, output, others)
+        },
+    );
+    answer
 }
 
-/// Offers a text by what was parsed where that is this text, and else parses it here.
-fn offer_parsed<W, S: Sink<W>>(
-    parsed: &Option<Parsed>,
+/// How many bytes of a text one of so many threads is given, up to a line feed.
+fn share(text: &[u8], threads: usize) -> usize
+    requires { 0 < threads }
+    ensures { result ≤ length text.now }
+{
+    if threads == 1 {
+        return text.len();
+    }
+    last_line_end(&text[..text.len() / threads])
+}
+
+/// Fills the one part.
+fn parse_first(parts: &mut [Part], text: &[u8])
+    requires { length parts.old ≡ 1 }
+    ensures { HoldsAlone parts.new text.now }
+{
+    parts[0].parse(text);
+}
+
+/// Offers a text of which parts hold the first lines, one part after another, and then what none holds, up to the first line that is not passed.
+fn offer_parts<W, S: Sink<W>>(
+    parts: &[Part],
     text: &[u8],
     reader: &mut EventReader,
     sink: &mut S,
     output: &mut Output<W>,
 ) -> Result<Option<S::End>, Refusal>
+    requires held { AreHeld parts.now text.now }
     requires lines { reader.old.lines + length text.now < 2 ^ 64 }
     requires room { S.may_take sink.old (length text.now) }
     ensures { Offers S.takes reader.old sink.old output.old text.now result reader.new sink.new output.new }
 {
-    let Some(parsed) = parsed else {
-        return push(reader, sink, text, output);
-    };
-    if parsed.text.as_slice() != text {
-        return push(reader, sink, text, output);
+    let mut rest = text;
+    for part in parts {
+        let (given, behind) = rest.split_at(part.given);
+        if let Some(end) = offer_part(part, given, reader, sink, output)? {
+            return Ok(Some(end));
+        }
+        rest = behind;
     }
-    offer_part(&parsed.part, text, reader, sink, output)
+    push(reader, sink, rest, output)
 }
 
 /// Offers what a part holds of its text, and what it does not hold of it by parsing that here.

@@ -1,14 +1,12 @@
 //! A whole trace text.
 
 ghost use Rattle.std.specs.Prelude.{◌≡◌, ◌+◌, ◌*◌, ◌<◌, ◌≤◌, ◌^◌, [], Ok, None, IfErr, IfOk, length};
-ghost use denote.Param.Send.{IsSync};
 ghost use Rattle.hg_wire.specs.Streams.{at_start, readings_from};
 ghost use Rattle.hg_reading.specs.Taking.{HasNoneLeft, Offers, Reads};
 
 use crate::pieces::{Alone, Pieces};
 use crate::side_by_side::SideBySide;
 use crate::sink::Sink;
-use crate::worker::{Crew, run_all};
 use hg_model::verdict::Refusal;
 use hg_streams::input::Input;
 use hg_streams::output::Output;
@@ -16,14 +14,13 @@ use hg_wire::reader::EventReader;
 use std::alloc::Global;
 use std::io::Read;
 use std::marker::Sync;
-use std::sync::Wait;
-use std::thread::{Threads, join_mut};
+use std::thread::Threads;
 
 /// How many bytes are read at once.
 const PIECE: usize = 65_536;
 
 /// How many bytes are read at once where several threads parse them.
-const LARGE_PIECE: usize = 1_048_576;
+const LARGE_PIECE: usize = 4_194_304;
 
 /// After how many reads an input counts as failed.
 const MOST_READS: u64 = 1 << 32;
@@ -58,10 +55,12 @@ fn take_piece<P: Pieces<W, S>, W, S: Sink<W>>(
     piece: &[u8],
     output: &mut Output<W>,
 ) -> Result<Option<S::End>, Refusal>
+    requires may { P.may_push pieces.old }
     requires lines { reader.old.lines + length piece.now < 2 ^ 64 }
     requires room { S.may_take sink.old (length piece.now) }
     ensures pushes { Offers S.takes reader.old sink.old output.old piece.now result reader.new sink.new output.new }
     ensures none_left { result ≡ Ok None → HasNoneLeft reader.new }
+    ensures may { P.may_push pieces.new }
 {
     if let Some(end) = pieces.push(reader, sink, piece, output)? {
         return Ok(Some(end));
@@ -102,7 +101,7 @@ pub fn read<R: Read, W, S: Sink<W>>(
 }
 
 /// As `read`, with the lines parsed by up to so many threads, the one that calls among them. What the sink takes does not depend on them.
-pub fn read_side_by_side<T: Threads + Wait + Sync, R: Read, W, S: Sink<W>>(
+pub fn read_side_by_side<T: Threads + Sync, R: Read, W, S: Sink<W>>(
     rt: &T,
     jobs: usize,
     alloc: Global,
@@ -116,61 +115,7 @@ pub fn read_side_by_side<T: Threads + Wait + Sync, R: Read, W, S: Sink<W>>(
     if jobs < 2 {
         return read(alloc, input, sink, output);
     }
-    let crew = Crew::new(rt, jobs, alloc)?;
-    read_beside(rt, crew, alloc, input, sink, output)
-}
-
-/// Reads a trace text while the workers run.
-fn read_beside<T: Threads + Wait + Sync, R: Read, W, S: Sink<W>>(
-    rt: &T,
-    crew: Crew,
-    alloc: Global,
-    input: &mut Input<R>,
-    sink: &mut S,
-    output: &mut Output<W>,
-) -> Result<Option<S::End>, Refusal>
-    requires room { S.may_take sink.old (2 ^ 54) }
-    ensures { Reads S.takes input.old.calls input.new.calls sink.old output.old.calls result sink.new output.new.calls }
-{
-    let Crew {
-        mut links,
-        mut workers,
-    } = crew;
-    let workers = workers.as_mut_slice();
-    let links = &mut links;
-    let (_, answer) = join_mut(
-        rt,
-        &mut ||
-            requires { IsSync T.row }
-        { run_all(rt, workers) },
-        &mut || -> Result<Option<S::End>, Refusal>
-            requires { S.may_take sink.now (2 ^ 54) }
-            ensures { Reads S.takes input.entry.now.calls input.exit.now.calls sink.entry.now output.entry.now.calls
-                result sink.exit.now output.exit.now.calls }
-        {
-            read_and_unlink(
-                SideBySide::taking(rt, links, alloc),
-                alloc,
-                input,
-                sink,
-                output,
-            )
-        },
-    );
-    answer
-}
-
-/// Reads a trace text, and lets the links go, so that the workers end.
-fn read_and_unlink<T: Wait, R: Read, W, S: Sink<W>>(
-    mut pieces: SideBySide<'_, T>,
-    alloc: Global,
-    input: &mut Input<R>,
-    sink: &mut S,
-    output: &mut Output<W>,
-) -> Result<Option<S::End>, Refusal>
-    requires room { S.may_take sink.old (2 ^ 54) }
-    ensures { Reads S.takes input.old.calls input.new.calls sink.old output.old.calls result sink.new output.new.calls }
-{
+    let mut pieces = SideBySide::new(rt, jobs, alloc)?;
     let intake = Intake::new(alloc, LARGE_PIECE)?;
     read_pieces(&mut pieces, intake, input, sink, output)
 }
@@ -184,6 +129,7 @@ fn read_pieces<P: Pieces<W, S>, R: Read, W, S: Sink<W>>(
     sink: &mut S,
     output: &mut Output<W>,
 ) -> Result<Option<S::End>, Refusal>
+    requires may { P.may_push pieces.old }
     requires start { intake.reader ≡ at_start }
     requires size { (0 < length intake.buffer.items) × (length intake.buffer.items ≤ 2 ^ 22) }
     requires room { S.may_take sink.old (length intake.buffer.items * 2 ^ 32) }

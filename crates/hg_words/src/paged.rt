@@ -167,7 +167,7 @@ impl PagedWords {
     }
 
     /// Gives the words of a page from one place up to another a cell.
-    #[inline]
+    #[inline(always)]
     fn fill_page(&mut self, number: u64, from: u64, to: u64, cell: Cell)
         requires page { is_some (page_of self.old number) ≡ true }
         requires in_order { from ≤ to }
@@ -278,6 +278,7 @@ impl Words for PagedWords {
         }
     }
 
+    #[inline(always)]
     fn fill(&mut self, first: u64, count: u64, cell: Cell) {
         let from = first % WORDS;
         self.fill_page(first / WORDS, from, from + count, cell);

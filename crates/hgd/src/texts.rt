@@ -12,7 +12,6 @@ use hg_verbose::lines::Lines;
 use hg_verbose::noted::{NotedReader, NotedWriter};
 use std::alloc::Global;
 use std::io::{Read, Write};
-use std::sync::Wait;
 use std::thread::Threads;
 
 /// What is to be printed of a trace.
@@ -25,7 +24,7 @@ pub enum Wanted {
 }
 
 /// Prints what is wanted of a trace, whose lines are read by up to `jobs` threads, and answers the status.
-fn print_wanted<T: Threads + Wait + Sync, R: Read, W: Write, V: Write>(
+fn print_wanted<T: Threads + Sync, R: Read, W: Write, V: Write>(
     threads: &T,
     wanted: Wanted,
     jobs: usize,
@@ -41,7 +40,7 @@ fn print_wanted<T: Threads + Wait + Sync, R: Read, W: Write, V: Write>(
 }
 
 /// The same of the trace on standard input.
-fn print_plainly<T: Threads + Wait + Sync>(
+fn print_plainly<T: Threads + Sync>(
     threads: &T,
     wanted: Wanted,
     jobs: usize,
@@ -56,7 +55,7 @@ fn print_plainly<T: Threads + Wait + Sync>(
 }
 
 /// The same, and where it is asked for tells what the last line means. Where there is no memory for that it is left out.
-pub fn print_of_input<T: Threads + Wait + Sync>(
+pub fn print_of_input<T: Threads + Sync>(
     threads: &T,
     wanted: Wanted,
     jobs: Jobs,

@@ -1,11 +1,11 @@
-use Rattle.std.proofs.Common.{◌≡◌, ℕ, ◌+◌, ◌-◌, ◌^◌, sym, subst, inr, arith}
+use Rattle.std.proofs.Common.{◌≡◌, ℕ, ◌+◌, ◌-◌, ◌^◌, Err, sym, subst, inr, arith}
 use Rattle.std.proofs.lemmas.Result.{err_from_is_err_and}
 use Rattle.hg_reading.specs.Taking.{Reads}
 use Rattle.hg_reading.proofs.Runs.{read_nothing}
 use Rattle.hg_reading.proofs.whole.read_side_by_side.Goals as goal
 
-pub returns-in_err-crew : goal.returns-in_err-crew
-returns-in_err-crew g c =
+pub returns-in_err-pieces : goal.returns-in_err-pieces
+returns-in_err-pieces g c =
     let q = err_from_is_err_and c.from_residual.result c.from_residual.ensures.1 in
     subst (λ x. Reads g.S.Sink.takes c.args.input.now.calls c.args.input.now.calls c.args.sink.now c.args.output.now.calls x c.args.sink.now c.args.output.now.calls) (sym q.1)
     (inr (read_nothing g.S.Sink.takes g.met.S.Sink.on c.args.input.now.calls c.args.sink.now c.args.output.now.calls q.0 (g.met.S.Sink.none c.args.sink.now c.args.output.now.calls) q.2))
@@ -14,3 +14,9 @@ pub read-requires : goal.read-requires
 read-requires g c =
     let split : 2 ^ 54 ≡ 2 ^ 48 + (2 ^ 54 - 2 ^ 48) = omega arith in
     record { room = g.met.S.Sink.fewer c.args.sink.now (2 ^ 48) (2 ^ 54 - 2 ^ 48) (subst (λ (n : ℕ). g.S.Sink.may_take c.args.sink.now n) split c.requires.room) }
+
+pub returns-in_err-intake : goal.returns-in_err-intake
+returns-in_err-intake g c =
+    let same : c.from_residual-in_err-intake.result ≡ Err c.in_err-intake.field-0.0 = grind arith in
+    subst (λ x. Reads g.S.Sink.takes c.args.input.now.calls c.args.input.now.calls c.args.sink.now c.args.output.now.calls x c.args.sink.now c.args.output.now.calls) (sym same)
+    (inr (read_nothing g.S.Sink.takes g.met.S.Sink.on c.args.input.now.calls c.args.sink.now c.args.output.now.calls c.in_err-intake.field-0.0 (g.met.S.Sink.none c.args.sink.now c.args.output.now.calls) c.in_err-intake.ensures.cause))
