@@ -1,7 +1,7 @@
 //! What the lines of a scenario do with a store.
 
 use crate::actions::{Action, Desk, Told, note_and_make, told_of};
-use crate::answers::{put_checkpoint, put_count_of_events, put_ok, put_told};
+use crate::answers::{put_checkpoint, put_count_of_events, put_told};
 use crate::checkpoints::{checkpoint, put_all};
 use crate::device::{Device, read_device};
 use crate::rows::put_events;
@@ -11,7 +11,7 @@ use crate::stops::{NO_PROGRESS, put_images, put_stops};
 use crate::stores::{Disks, OpenStore, Opening, Room, USUAL_ROOM, open};
 use crate::tears::{Tears, tear};
 use crate::telling::{put_answer, put_durable, put_picture};
-use crate::words::{Halt, after, front, number, short_number};
+use crate::words::{Halt, after, front, number};
 use hg_detect::detector::Answer;
 use hg_disk::Tear;
 use hg_model::event::Named;
@@ -23,6 +23,7 @@ use hg_text::Text;
 use std::alloc::{AllocError, Global};
 
 /// A store, if one is open, and its run so far.
+#[derive(Drop)]
 pub struct Bench {
     alloc: Global,
     opened: Option<OpenStore>,
@@ -35,38 +36,14 @@ pub struct Bench {
     desk: Desk,
 }
 
-impl Drop for Bench {
-    fn drop(self) {
-        let Bench {
-            alloc: _,
-            opened: _,
-            run: _,
-            remembered: _,
-            actions: _,
-            desk: _,
-        } = self;
-    }
-}
-
-fn narrow(value: u64) -> Result<u32, Halt> {
-    match u32::try_from(value) {
-        Ok(value) => Ok(value),
-        Err(_) => Err(Halt::Words),
-    }
-}
-
 /// Takes `frames N`, `sets N` or `slots N` in front into account, and gives what follows it.
 fn read_part<'a>(text: &'a str, room: &mut Room) -> Result<&'a str, Halt> {
     let (word, rest) = front(text);
-    if word == "frames" {
-        let (frames, rest) = short_number(rest)?;
-        room.frames = frames;
-        return Ok(rest);
-    }
     let (value, rest) = number(rest)?;
     match word {
-        "sets" => room.sets = narrow(value)?,
-        "slots" => room.slots = narrow(value)?,
+        "frames" => room.frames = u16::try_from(value)?,
+        "sets" => room.sets = u32::try_from(value)?,
+        "slots" => room.slots = u32::try_from(value)?,
         _ => return Err(Halt::Words),
     }
     Ok(rest)
@@ -136,17 +113,22 @@ fn steps_of(
 }
 
 /// Has the store make all steps at once.
-fn drive(
-    alloc: Global,
-    opened: &mut OpenStore,
-    steps: &[Step],
-    out: &mut Text,
-) -> Result<(), Halt> {
+fn drive(alloc: Global, store: &mut OpenStore, steps: &[Step], out: &mut Text) -> Result<(), Halt> {
     let [done @ .., last] = steps else {
         return Err(Halt::Words);
     };
-    let answers = opened.store.drive(alloc, done, last)?;
+    let answers = store.drive(alloc, done, last)?;
     put_answers(&answers, out);
+    Ok(())
+}
+
+/// Notes actions that are done at once. Jobs that are taken meanwhile change nothing, and a run that is made again leaves them out.
+fn note_all(actions: &[Action], made: &mut Vec<Action>) -> Result<(), AllocError> {
+    for action in actions {
+        if !matches!(action, Action::Take) {
+            made.push(*action)?;
+        }
+    }
     Ok(())
 }
 
@@ -200,32 +182,6 @@ fn put_refused(shelf: &mut Shelf, fault: CreateFault, disks: Disks) -> Result<()
     Err(halt_of(fault))
 }
 
-/// Where a run stops: after how many calls of a device, and what becomes of what it has not synced.
-#[derive(Clone, Copy)]
-struct Stop {
-    device: Device,
-    calls: u64,
-    tear: Tear,
-}
-
-/// Makes a run again that stops, and leaves the image on the shelf.
-fn stop_at(
-    alloc: Global,
-    run: &Run,
-    stop: Stop,
-    shelf: &mut Shelf,
-) -> Result<Progress, AllocError> {
-    let Stop {
-        device,
-        calls,
-        tear,
-    } = stop;
-    let mut progress = NO_PROGRESS;
-    let stopped = stop_run(alloc, run, device, calls, &mut progress)?;
-    put_images(&stopped.devices, device, tear, Tear::Kept, &mut shelf.image)?;
-    Ok(progress)
-}
-
 /// `ACKNOWLEDGED`, or `ACKNOWLEDGED or ACCEPTED`
 fn put_progress(progress: Progress, out: &mut Text) -> Result<(), Halt> {
     out.put_decimal(progress.acknowledged);
@@ -239,20 +195,15 @@ fn put_progress(progress: Progress, out: &mut Text) -> Result<(), Halt> {
 fn find(alloc: Global, shelf: &Shelf, room: Room, out: &mut Text) -> Result<(), Halt> {
     let disks = Disks::whole(alloc, &shelf.image)?;
     match open(alloc, disks, Opening::Recover(room)) {
-        Ok(opened) => put_found(opened, out),
+        Ok(store) => {
+            put_count_of_events(store.events().unwrap_or(0), out);
+            Ok(())
+        }
         Err((fault, disks)) => {
             drop(disks);
             Err(halt_of(fault))
         }
     }
-}
-
-/// How many events a store has.
-fn put_found(opened: OpenStore, out: &mut Text) -> Result<(), Halt> {
-    let count = opened.store.events().unwrap_or(0);
-    drop(opened);
-    put_count_of_events(count, out);
-    Ok(())
 }
 
 /// `sets N slots M`: the greatest that a store may have.
@@ -295,16 +246,16 @@ impl Bench {
     /// Puts the disks of the store back, if one is open.
     pub fn close(&mut self, shelf: &mut Shelf) -> Result<(), AllocError> {
         match self.opened.take() {
-            Some(opened) => put_disks(shelf, opened.into_disks()),
+            Some(store) => put_disks(shelf, Disks::of(store)),
             None => Ok(()),
         }
     }
 
     /// Keeps the store that was opened.
-    fn keep(&mut self, opened: OpenStore, out: &mut Text) -> Result<(), Halt> {
-        let base = opened.store.events().unwrap_or(0);
+    fn keep(&mut self, store: OpenStore, out: &mut Text) -> Result<(), Halt> {
+        let base = store.events().unwrap_or(0);
         self.run.base = base;
-        self.put_opened(Some(opened));
+        self.put_opened(Some(store));
         put_count_of_events(base, out);
         Ok(())
     }
@@ -318,25 +269,25 @@ impl Bench {
         self.desk.clear();
         let disks = take_disks(self.alloc, shelf)?;
         match open(self.alloc, disks, opening) {
-            Ok(opened) => self.keep(opened, out),
+            Ok(store) => self.keep(store, out),
             Err((fault, disks)) => put_refused(shelf, fault, disks),
         }
     }
 
     /// What the store tells of itself, where `line` says what of it.
     fn tell(&self, line: &str, out: &mut Text) -> Result<(), Halt> {
-        let Some(opened) = &self.opened else {
+        let Some(store) = &self.opened else {
             return Err(Halt::Closed);
         };
         if line == "unchanged" {
-            return self.compare(opened, out);
+            return self.compare(store, out);
         }
-        put_answer(self.alloc, &opened.store, line, out)
+        put_answer(self.alloc, store, line, out)
     }
 
-    fn compare(&self, opened: &OpenStore, out: &mut Text) -> Result<(), Halt> {
+    fn compare(&self, store: &OpenStore, out: &mut Text) -> Result<(), Halt> {
         let mut picture = Text::new(self.alloc);
-        put_picture(self.alloc, &opened.store, &mut picture)?;
+        put_picture(self.alloc, store, &mut picture)?;
         if picture.bytes() == self.remembered.bytes() {
             out.put(b"unchanged");
         } else {
@@ -345,35 +296,29 @@ impl Bench {
         Ok(())
     }
 
-    fn remember(&mut self, out: &mut Text) -> Result<(), Halt> {
+    fn remember(&mut self) -> Result<(), Halt> {
         self.remembered.clear();
-        let Some(opened) = &self.opened else {
+        let Some(store) = &self.opened else {
             return Err(Halt::Closed);
         };
-        put_picture(self.alloc, &opened.store, &mut self.remembered)?;
-        out.put(b"ok");
-        Ok(())
+        put_picture(self.alloc, store, &mut self.remembered)
     }
 
     fn read(&mut self, rest: &str, out: &mut Text) -> Result<(), Halt> {
-        let Some(opened) = &mut self.opened else {
+        let Some(store) = &mut self.opened else {
             return Err(Halt::Closed);
         };
-        put_durable(self.alloc, &mut opened.store, rest, out)
+        put_durable(self.alloc, store, rest, out)
     }
 
-    /// Does all that was noted at once. Jobs that are taken meanwhile change nothing, and a run that is made again leaves them out.
+    /// Does all that was noted at once.
     fn drive_noted(&mut self, out: &mut Text) -> Result<(), Halt> {
-        let Some(opened) = &mut self.opened else {
+        let Some(store) = &mut self.opened else {
             return Err(Halt::Closed);
         };
         let steps = steps_of(self.alloc, &self.actions, &self.desk, out)?;
-        for action in self.actions.iter() {
-            if !matches!(action, Action::Take) {
-                self.run.actions.push(*action)?;
-            }
-        }
-        drive(self.alloc, opened, &steps, out)
+        note_all(&self.actions, &mut self.run.actions)?;
+        drive(self.alloc, store, &steps, out)
     }
 
     /// The same, and nothing is noted any more.
@@ -387,10 +332,7 @@ impl Bench {
     fn make(&mut self, action: Action) -> Result<Told, Halt> {
         let made = &mut self.run.actions;
         match &mut self.opened {
-            Some(opened) => {
-                let store = &mut opened.store;
-                Ok(note_and_make(self.alloc, store, action, &mut self.desk, made))
-            }
+            Some(store) => Ok(note_and_make(self.alloc, store, action, &mut self.desk, made)),
             None => Err(Halt::Closed),
         }
     }
@@ -404,11 +346,11 @@ impl Bench {
 
     /// All steps of a checkpoint.
     fn checkpoint(&mut self, out: &mut Text) -> Result<(), Halt> {
-        let Some(opened) = &mut self.opened else {
+        let Some(store) = &mut self.opened else {
             return Err(Halt::Closed);
         };
         let made = &mut self.run.actions;
-        match checkpoint(self.alloc, &mut opened.store, &mut self.desk, made) {
+        match checkpoint(self.alloc, store, &mut self.desk, made) {
             Ok(done) => put_checkpoint(done, out),
             Err(told) => put_told(told, out),
         }
@@ -417,11 +359,11 @@ impl Bench {
 
     /// Hands in all pages that wait.
     fn pages(&mut self, out: &mut Text) -> Result<(), Halt> {
-        let Some(opened) = &mut self.opened else {
+        let Some(store) = &mut self.opened else {
             return Err(Halt::Closed);
         };
         let made = &mut self.run.actions;
-        match put_all(self.alloc, &mut opened.store, &mut self.desk, made) {
+        match put_all(self.alloc, store, &mut self.desk, made) {
             Ok(count) => out.put_decimal(count),
             Err(told) => put_told(told, out),
         }
@@ -477,13 +419,10 @@ impl Bench {
         let (Tears::One(tear), _) = tear(rest)? else {
             return Err(Halt::Words);
         };
-        let stop = Stop {
-            device,
-            calls,
-            tear,
-        };
         self.put_opened(None);
-        let progress = stop_at(self.alloc, &self.run, stop, shelf)?;
+        let mut progress = NO_PROGRESS;
+        let stopped = stop_run(self.alloc, &self.run, device, calls, &mut progress)?;
+        put_images(&stopped.devices, device, tear, Tear::Kept, &mut shelf.image)?;
         put_progress(progress, out)
     }
 
@@ -501,10 +440,7 @@ impl Bench {
             "offer" => self.offer(rest, out),
             "pages" => self.pages(out),
             "checkpoint" => self.checkpoint(out),
-            "then" => {
-                self.note(rest)?;
-                put_ok(out)
-            }
+            "then" => self.note(rest),
             "run" => self.drive(out),
             _ => self.step(word, out),
         }
@@ -537,8 +473,8 @@ impl Bench {
         self.stop_at(shelf, Some(device), rest, out)
     }
 
-    /// Does what a line asks for that looks at a store, or at what a stop leaves of it.
-    fn look(
+    /// Does what a line asks for that concerns a store. These words look at one, or at what a stop leaves of it.
+    pub fn perform(
         &mut self,
         shelf: &mut Shelf,
         word: &str,
@@ -548,26 +484,10 @@ impl Bench {
         match word {
             "expect" => self.tell(rest, out),
             "read" => self.read(rest, out),
-            "remember" => self.remember(out),
+            "remember" => self.remember(),
             "found" => find(self.alloc, shelf, self.run.opening.room(), out),
             "stop" => self.stop(shelf, rest, out),
             "profile" => put_profile(out),
-            _ => Err(Halt::Words),
-        }
-    }
-
-    /// Does what a line asks for that concerns a store.
-    pub fn perform(
-        &mut self,
-        shelf: &mut Shelf,
-        word: &str,
-        rest: &str,
-        out: &mut Text,
-    ) -> Result<(), Halt> {
-        match word {
-            "expect" | "read" | "remember" | "found" | "stop" | "profile" => {
-                self.look(shelf, word, rest, out)
-            }
             _ => self.change(shelf, word, rest, out),
         }
     }

@@ -1,6 +1,6 @@
 //! What the lines of a scenario do with a gated file. It stands on the disk of the first root.
 
-use crate::answers::{put_bytes, put_ok};
+use crate::answers::put_bytes;
 use crate::device::Device;
 use crate::shelf::{Held, Shelf};
 use crate::words::{self, Halt, front};
@@ -8,57 +8,22 @@ use hg_gate::Gated;
 use hg_text::Text;
 use std::alloc::{AllocError, Global};
 
-/// A gated file that is open.
-struct OpenGated {
-    file: Gated<Held>,
-}
-
-impl Drop for OpenGated {
-    fn drop(self) {
-        let OpenGated { file } = self;
-        drop(file);
-    }
-}
-
-impl OpenGated {
-    fn into_disk(self) -> Held {
-        let OpenGated { file } = self;
-        file.into_disks()
-    }
-}
-
 /// A gated file, if one is open.
+#[derive(Drop)]
 pub struct GateBench {
-    opened: Option<OpenGated>,
-}
-
-impl Drop for GateBench {
-    fn drop(self) {
-        let GateBench { opened: _ } = self;
-    }
-}
-
-fn close(opened: &mut OpenGated, out: &mut Text) -> Result<(), Halt> {
-    opened.file.close()?;
-    put_ok(out)
-}
-
-fn open(opened: &mut OpenGated, out: &mut Text) -> Result<(), Halt> {
-    opened.file.open_gate()?;
-    put_ok(out)
+    opened: Option<Gated<Held>>,
 }
 
 /// Has the file have other bytes behind its gate.
-fn write(alloc: Global, opened: &mut OpenGated, rest: &str, out: &mut Text) -> Result<(), Halt> {
+fn write(alloc: Global, file: &mut Gated<Held>, rest: &str) -> Result<(), Halt> {
     let mut body = Vec::new(alloc);
     words::put_bytes(rest, &mut body)?;
-    opened.file.write_body(&body)?;
-    put_ok(out)
+    Ok(file.write_body(&body)?)
 }
 
 /// The body, or `closed`.
-fn put_body(alloc: Global, opened: &mut OpenGated, out: &mut Text) -> Result<(), Halt> {
-    match opened.file.read(alloc)? {
+fn put_body(alloc: Global, file: &mut Gated<Held>, out: &mut Text) -> Result<(), Halt> {
+    match file.read(alloc)? {
         Some(body) => put_bytes(&body, out),
         None => out.put(b"closed"),
     }
@@ -70,7 +35,7 @@ impl GateBench {
         GateBench { opened: None }
     }
 
-    fn put_opened(&mut self, opened: Option<OpenGated>) {
+    fn put_opened(&mut self, opened: Option<Gated<Held>>) {
         self.opened = opened;
     }
 
@@ -81,28 +46,28 @@ impl GateBench {
     /// Puts the disk back, if a file is open.
     pub fn close(&mut self, shelf: &mut Shelf) -> Result<(), AllocError> {
         match self.opened.take() {
-            Some(opened) => shelf.put(Device::Root0, opened.into_disk()),
+            Some(file) => shelf.put(Device::Root0, file.into_disks()),
             None => Ok(()),
         }
     }
 
-    fn attach(&mut self, alloc: Global, shelf: &mut Shelf, out: &mut Text) -> Result<(), Halt> {
+    fn attach(&mut self, alloc: Global, shelf: &mut Shelf) -> Result<(), AllocError> {
         self.close(shelf)?;
         let file = Gated::attach(shelf.take(alloc, Device::Root0)?);
-        self.put_opened(Some(OpenGated { file }));
-        put_ok(out)
+        self.put_opened(Some(file));
+        Ok(())
     }
 
     /// Does what a line asks for that concerns a file which is open.
     fn work(&mut self, alloc: Global, word: &str, rest: &str, out: &mut Text) -> Result<(), Halt> {
-        let Some(opened) = &mut self.opened else {
+        let Some(file) = &mut self.opened else {
             return Err(Halt::Closed);
         };
         match word {
-            "close" => close(opened, out),
-            "write" => write(alloc, opened, rest, out),
-            "open" => open(opened, out),
-            "read" => put_body(alloc, opened, out),
+            "close" => Ok(file.close()?),
+            "write" => write(alloc, file, rest),
+            "open" => Ok(file.open_gate()?),
+            "read" => put_body(alloc, file, out),
             _ => Err(Halt::Words),
         }
     }
@@ -117,7 +82,7 @@ impl GateBench {
     ) -> Result<(), Halt> {
         let (word, rest) = front(text);
         match word {
-            "attach" => self.attach(alloc, shelf, out),
+            "attach" => Ok(self.attach(alloc, shelf)?),
             _ => self.work(alloc, word, rest, out),
         }
     }

@@ -1,6 +1,6 @@
 //! What the lines of a scenario do with a journal of events. It stands on the disk of the journal.
 
-use crate::answers::{put_named, put_ok};
+use crate::answers::put_named;
 use crate::device::Device;
 use crate::rows::put_events;
 use crate::shelf::{Held, Shelf};
@@ -34,24 +34,16 @@ impl OpenJournal {
 }
 
 /// A journal, if one is open, and the events that are to be appended to it at once.
+#[derive(Drop)]
 pub struct JournalBench {
     opened: Option<OpenJournal>,
     batch: Vec<Named>,
 }
 
-impl Drop for JournalBench {
-    fn drop(self) {
-        let JournalBench {
-            opened: _,
-            batch: _,
-        } = self;
-    }
-}
-
 /// Goes to the first event.
-fn rewind(opened: &mut OpenJournal, out: &mut Text) -> Result<(), Halt> {
+fn rewind(opened: &mut OpenJournal) -> Result<(), Halt> {
     opened.reader = Some(opened.journal.events()?);
-    put_ok(out)
+    Ok(())
 }
 
 /// The event that is next, or `end`.
@@ -72,8 +64,7 @@ fn append(opened: &mut OpenJournal, batch: &[Named], out: &mut Text) -> Result<(
         out.put(b"no batch");
         return Ok(());
     }
-    opened.journal.append(batch)?;
-    put_ok(out)
+    Ok(opened.journal.append(batch)?)
 }
 
 impl JournalBench {
@@ -106,7 +97,6 @@ impl JournalBench {
         &mut self,
         shelf: &mut Shelf,
         made: Result<Journal<Held>, (Refusal, Held)>,
-        out: &mut Text,
     ) -> Result<(), Halt> {
         match made {
             Ok(journal) => {
@@ -114,7 +104,7 @@ impl JournalBench {
                     journal,
                     reader: None,
                 }));
-                put_ok(out)
+                Ok(())
             }
             Err((refusal, disk)) => {
                 shelf.put(Device::Journal, disk)?;
@@ -123,20 +113,20 @@ impl JournalBench {
         }
     }
 
-    fn create(&mut self, alloc: Global, shelf: &mut Shelf, out: &mut Text) -> Result<(), Halt> {
+    fn create(&mut self, alloc: Global, shelf: &mut Shelf) -> Result<(), Halt> {
         self.close(shelf)?;
         let disk = shelf.take(alloc, Device::Journal)?;
         if disk.len() > 0 {
             shelf.put(Device::Journal, disk)?;
             return Err(Halt::NotEmpty);
         }
-        self.keep(shelf, Journal::create(alloc, disk), out)
+        self.keep(shelf, Journal::create(alloc, disk))
     }
 
-    fn attach(&mut self, alloc: Global, shelf: &mut Shelf, out: &mut Text) -> Result<(), Halt> {
+    fn attach(&mut self, alloc: Global, shelf: &mut Shelf) -> Result<(), Halt> {
         self.close(shelf)?;
         let disk = shelf.take(alloc, Device::Journal)?;
-        self.keep(shelf, Journal::attach(alloc, disk), out)
+        self.keep(shelf, Journal::attach(alloc, disk))
     }
 
     /// Does what a line asks for that concerns a journal which is open.
@@ -150,7 +140,7 @@ impl JournalBench {
                 self.batch.clear();
                 appended
             }
-            "first" => rewind(opened, out),
+            "first" => rewind(opened),
             "next" => put_next(opened, out),
             _ => Err(Halt::Words),
         }
@@ -166,12 +156,9 @@ impl JournalBench {
     ) -> Result<(), Halt> {
         let (word, rest) = front(text);
         match word {
-            "create" => self.create(alloc, shelf, out),
-            "attach" => self.attach(alloc, shelf, out),
-            "event" => {
-                put_events(rest, &mut self.batch)?;
-                put_ok(out)
-            }
+            "create" => self.create(alloc, shelf),
+            "attach" => self.attach(alloc, shelf),
+            "event" => put_events(rest, &mut self.batch),
             _ => self.work(word, out),
         }
     }

@@ -1,6 +1,6 @@
 //! What the lines of a scenario do with a log of batches. It stands on the disk of the journal.
 
-use crate::answers::{put_bytes, put_ok};
+use crate::answers::put_bytes;
 use crate::device::Device;
 use crate::shelf::{Held, Shelf};
 use crate::words::{self, Halt, front};
@@ -30,14 +30,9 @@ impl OpenLog {
 }
 
 /// A log, if one is open.
+#[derive(Drop)]
 pub struct LogBench {
     opened: Option<OpenLog>,
-}
-
-impl Drop for LogBench {
-    fn drop(self) {
-        let LogBench { opened: _ } = self;
-    }
 }
 
 /// The most batches that are read at once.
@@ -78,19 +73,18 @@ fn append(alloc: Global, opened: &mut OpenLog, rest: &str, out: &mut Text) -> Re
     let mut body = Vec::new(alloc);
     words::put_bytes(rest, &mut body)?;
     match Batch::new(body) {
-        Ok(batch) => opened.log.append(&batch)?,
+        Ok(batch) => Ok(opened.log.append(&batch)?),
         Err(_) => {
             out.put(b"no batch");
-            return Ok(());
+            Ok(())
         }
     }
-    put_ok(out)
 }
 
 /// Goes to the first batch.
-fn rewind(opened: &mut OpenLog, out: &mut Text) -> Result<(), Halt> {
+fn rewind(opened: &mut OpenLog) -> Result<(), Halt> {
     opened.place = Some(opened.log.first_place()?);
-    put_ok(out)
+    Ok(())
 }
 
 /// Appends the batch that is next, or `end`.
@@ -131,12 +125,11 @@ impl LogBench {
         &mut self,
         shelf: &mut Shelf,
         made: Result<Log<Held>, (GateFault, Held)>,
-        out: &mut Text,
     ) -> Result<(), Halt> {
         match made {
             Ok(log) => {
                 self.put_opened(Some(OpenLog { log, place: None }));
-                put_ok(out)
+                Ok(())
             }
             Err((fault, disk)) => {
                 shelf.put(Device::Journal, disk)?;
@@ -145,20 +138,20 @@ impl LogBench {
         }
     }
 
-    fn create(&mut self, alloc: Global, shelf: &mut Shelf, out: &mut Text) -> Result<(), Halt> {
+    fn create(&mut self, alloc: Global, shelf: &mut Shelf) -> Result<(), Halt> {
         self.close(shelf)?;
         let disk = shelf.take(alloc, Device::Journal)?;
         if disk.len() > 0 {
             shelf.put(Device::Journal, disk)?;
             return Err(Halt::NotEmpty);
         }
-        self.keep(shelf, Log::create(alloc, disk), out)
+        self.keep(shelf, Log::create(alloc, disk))
     }
 
-    fn attach(&mut self, alloc: Global, shelf: &mut Shelf, out: &mut Text) -> Result<(), Halt> {
+    fn attach(&mut self, alloc: Global, shelf: &mut Shelf) -> Result<(), Halt> {
         self.close(shelf)?;
         let disk = shelf.take(alloc, Device::Journal)?;
-        self.keep(shelf, Log::attach(alloc, disk), out)
+        self.keep(shelf, Log::attach(alloc, disk))
     }
 
     /// Does what a line asks for that concerns a log which is open.
@@ -168,7 +161,7 @@ impl LogBench {
         };
         match word {
             "append" => append(alloc, opened, rest, out),
-            "first" => rewind(opened, out),
+            "first" => rewind(opened),
             "next" => put_next(opened, out),
             "all" => put_batches(&mut opened.log, out),
             _ => Err(Halt::Words),
@@ -185,8 +178,8 @@ impl LogBench {
     ) -> Result<(), Halt> {
         let (word, rest) = front(text);
         match word {
-            "create" => self.create(alloc, shelf, out),
-            "attach" => self.attach(alloc, shelf, out),
+            "create" => self.create(alloc, shelf),
+            "attach" => self.attach(alloc, shelf),
             _ => self.work(alloc, word, rest, out),
         }
     }

@@ -19,7 +19,7 @@ mod telling;
 mod words;
 mod world;
 
-use crate::answers::put_halt;
+use crate::answers::{put_halt, put_ok};
 use crate::words::Halt;
 use crate::world::World;
 use hg_text::Text;
@@ -43,6 +43,7 @@ struct Score {
 }
 
 /// The scenario that is under way.
+#[derive(Drop)]
 struct Current<'a> {
     name: &'a str,
     world: World,
@@ -51,22 +52,11 @@ struct Current<'a> {
     answer: Text,
 }
 
-impl Drop for Current<'_> {
-    fn drop(self) {
-        let Current {
-            name: _,
-            world: _,
-            has_failed: _,
-            answer: _,
-        } = self;
-    }
-}
-
 /// Makes one line, and answers it.
 fn answer(current: &mut Current, order: &str) {
     current.answer.clear();
     match current.world.perform(order, &mut current.answer) {
-        Ok(()) => {}
+        Ok(()) => put_ok(&mut current.answer),
         Err(Halt::Said) => {}
         Err(halt) => {
             current.answer.clear();
@@ -90,15 +80,15 @@ fn end(rt: &impl Print, current: &Current, score: &mut Score) -> io::Result<()> 
 }
 
 /// Whether the last line answered what is wanted.
-fn is_answered(current: &Current, wanted: &str) -> bool {
-    current.answer.is_whole() && current.answer.bytes() == wanted.as_bytes()
+fn is_answered(answer: &Text, wanted: &str) -> bool {
+    answer.is_whole() && answer.bytes() == wanted.as_bytes()
 }
 
 /// Makes one line of a scenario, and compares its answer.
 fn make(rt: &impl Print, current: &mut Current, number: usize, line: &str) -> io::Result<()> {
     let (order, wanted) = split(line);
     answer(current, order);
-    if is_answered(current, wanted) {
+    if is_answered(&current.answer, wanted) {
         return Ok(());
     }
     current.has_failed = true;

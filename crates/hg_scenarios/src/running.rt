@@ -9,6 +9,7 @@ use crate::stores::{Disks, Memories, OpenStore, Opening, open};
 use crate::telling::put_contents;
 use crate::words::Halt;
 use hg_detect::detector::Answer;
+use hg_disk::Tear;
 use hg_model::event::Named;
 use hg_model::verdict::Refusal;
 use hg_store::store::Store;
@@ -16,23 +17,13 @@ use hg_text::Text;
 use std::alloc::{AllocError, Global};
 
 /// How a store came to be, and what was done to it since then.
+#[derive(Drop)]
 pub struct Run {
     pub start: Image,
     pub opening: Opening,
     /// How many events it had as it was opened.
     pub base: u64,
     pub actions: Vec<Action>,
-}
-
-impl Drop for Run {
-    fn drop(self) {
-        let Run {
-            start: _,
-            opening: _,
-            base: _,
-            actions: _,
-        } = self;
-    }
 }
 
 /// How far a run came.
@@ -93,13 +84,13 @@ fn make_all(alloc: Global, store: &mut Store<Held>, actions: &[Action], progress
 /// Does what the actions say, and takes the disks back.
 fn go_and_close(
     alloc: Global,
-    opened: OpenStore,
+    store: OpenStore,
     actions: &[Action],
     progress: &mut Progress,
 ) -> Disks {
-    let mut opened = opened;
-    make_all(alloc, &mut opened.store, actions, progress);
-    opened.into_disks()
+    let mut store = store;
+    make_all(alloc, &mut store, actions, progress);
+    Disks::of(store)
 }
 
 /// Makes a run again, one device of which fails from a call on, and gives its disks.
@@ -120,9 +111,9 @@ pub fn stop_run(
     };
     let disks = Disks::new(alloc, &run.start, &fuses)?;
     match open(alloc, disks, run.opening) {
-        Ok(opened) => {
+        Ok(store) => {
             progress.is_open = true;
-            Ok(go_and_close(alloc, opened, &run.actions, progress).into_memories())
+            Ok(go_and_close(alloc, store, &run.actions, progress).into_memories())
         }
         Err((_, disks)) => Ok(disks.into_memories()),
     }
@@ -173,7 +164,7 @@ pub fn reference_of(alloc: Global, run: &Run) -> Result<Reference, Halt> {
     };
     let disks = Disks::whole(alloc, &run.start)?;
     match open(alloc, disks, run.opening) {
-        Ok(mut opened) => match describe(alloc, &mut opened.store, &run.actions, &mut reference) {
+        Ok(mut store) => match describe(alloc, &mut store, &run.actions, &mut reference) {
             Ok(()) => Ok(reference),
             Err(_) => Err(Halt::Closed),
         },
@@ -187,6 +178,15 @@ fn wrong_at(words: &[u8], number: u64, out: &mut Text) -> Halt {
     Halt::Said
 }
 
+/// Whether an event that is offered again is a duplicate where it was found, and else is accepted.
+fn is_expected(offered: Result<Answer, Refusal>, was_found: bool) -> bool {
+    match offered {
+        Ok(Answer::Accepted) => !was_found,
+        Ok(Answer::Duplicate(_)) => was_found,
+        Err(_) => false,
+    }
+}
+
 /// Offers all events of the run again. Those that were found are duplicates.
 fn offer_all(
     store: &mut Store<Held>,
@@ -196,12 +196,7 @@ fn offer_all(
 ) -> Result<u64, Halt> {
     let mut place = reference.base;
     for event in reference.accepted.iter() {
-        let is_right = match store.offer(event) {
-            Ok(Answer::Accepted) => place >= found,
-            Ok(Answer::Duplicate(_)) => place < found,
-            Err(_) => false,
-        };
-        if !is_right {
+        if !is_expected(store.offer(event), place < found) {
             return Err(wrong_at(b"answers event ", place.wrapping_add(1), out));
         }
         place = place.wrapping_add(1);
@@ -283,17 +278,17 @@ fn find_and_go_on(
 /// Recovers what is synced of a store, and sees that it tells the same.
 fn recover_again(
     alloc: Global,
-    opened: OpenStore,
+    store: OpenStore,
     reference: &Reference,
     out: &mut Text,
 ) -> Result<(), Halt> {
     let mut image = Image::new(alloc);
-    image.take_synced(&opened.into_disks().into_memories())?;
+    image.take(&Disks::of(store).into_memories().devices, Tear::Lost)?;
     let disks = Disks::whole(alloc, &image)?;
     match open(alloc, disks, reference.opening) {
-        Ok(opened) => {
+        Ok(store) => {
             let wrong = b"differs after a checkpoint";
-            compare(alloc, &opened.store, reference, wrong, out)
+            compare(alloc, &store, reference, wrong, out)
         }
         Err(_) => {
             out.put(b"is not recovered after a checkpoint");
@@ -313,11 +308,10 @@ pub fn resume(
 ) -> Result<u64, Halt> {
     let disks = Disks::whole(alloc, image)?;
     match open(alloc, disks, reference.opening) {
-        Ok(mut opened) => {
-            let store = &mut opened.store;
-            let found = find_and_go_on(alloc, store, progress, reference, out)?;
-            save(alloc, store, out)?;
-            recover_again(alloc, opened, reference, out)?;
+        Ok(mut store) => {
+            let found = find_and_go_on(alloc, &mut store, progress, reference, out)?;
+            save(alloc, &mut store, out)?;
+            recover_again(alloc, store, reference, out)?;
             Ok(found)
         }
         Err(_) => {

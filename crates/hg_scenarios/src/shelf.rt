@@ -1,10 +1,9 @@
 //! What the disks of a scenario have while nothing is open over them.
 
-use crate::answers::{put_bytes, put_ok};
+use crate::answers::put_bytes;
 use crate::device::{DEVICES, Device, read_device};
-use crate::stores::Memories;
 use crate::tears::{Tears, tear};
-use crate::words::{Halt, after, number};
+use crate::words::{self, Halt, number_after};
 use hg_disk::{FuseDisk, MemDisk, Tear};
 use hg_store::devices::Devices;
 use hg_text::Text;
@@ -68,18 +67,18 @@ impl Image {
 
     /// Has the bytes of another one.
     pub fn copy(&mut self, other: &Image) -> Result<(), AllocError> {
-        self.clear();
-        self.parts.journal.extend_from_slice(&other.parts.journal)?;
-        self.parts.slots.extend_from_slice(&other.parts.slots)?;
-        self.parts.root0.extend_from_slice(&other.parts.root0)?;
-        self.parts.root1.extend_from_slice(&other.parts.root1)
+        for device in DEVICES {
+            let bytes = device.of_mut(&mut self.parts);
+            bytes.clear();
+            bytes.extend_from_slice(device.of(&other.parts))?;
+        }
+        Ok(())
     }
 
-    /// Has what is synced of disks.
-    pub fn take_synced(&mut self, disks: &Memories) -> Result<(), AllocError> {
+    /// Has what a crash leaves of disks that are torn alike.
+    pub fn take(&mut self, disks: &Devices<MemDisk>, tear: Tear) -> Result<(), AllocError> {
         for device in DEVICES {
-            let disk = device.of(&disks.devices);
-            copy_image(disk, Tear::Lost, device.of_mut(&mut self.parts))?;
+            copy_image(device.of(disks), tear, device.of_mut(&mut self.parts))?;
         }
         Ok(())
     }
@@ -107,6 +106,7 @@ pub fn disk_with(alloc: Global, bytes: &[u8], fuse: Fuse) -> Result<Held, AllocE
 }
 
 /// The disks' bytes, how many calls each had, and when those that are opened next fail.
+#[derive(Drop)]
 pub struct Shelf {
     pub image: Image,
     pub calls: Devices<u64>,
@@ -115,19 +115,8 @@ pub struct Shelf {
     pub tear: Tear,
 }
 
-impl Drop for Shelf {
-    fn drop(self) {
-        let Shelf {
-            image: _,
-            calls: _,
-            fuses: _,
-            tear: _,
-        } = self;
-    }
-}
-
 /// Copies what a crash leaves of a disk.
-fn copy_image(disk: &MemDisk, tear: Tear, bytes: &mut Vec<u8>) -> Result<(), AllocError> {
+pub fn copy_image(disk: &MemDisk, tear: Tear, bytes: &mut Vec<u8>) -> Result<(), AllocError> {
     let image = disk.image(disk.calls().len(), tear)?;
     bytes.clear();
     bytes.extend_from_slice(&image)
@@ -151,8 +140,8 @@ fn put_part(bytes: &[u8], text: &str, out: &mut Text) -> Result<(), Halt> {
         put_bytes(bytes, out);
         return Ok(());
     }
-    let (from, rest) = number(after("from ", text)?)?;
-    let (count, _) = number(after("count ", rest)?)?;
+    let (from, rest) = number_after("from ", text)?;
+    let (count, _) = number_after("count ", rest)?;
     let behind = bytes.split_at(bytes.len().min(from as usize)).1;
     put_bytes(behind.split_at(behind.len().min(count as usize)).0, out);
     Ok(())
@@ -190,9 +179,9 @@ impl Shelf {
     }
 
     /// `DEVICE call K once`, or `.. on`
-    fn fail(&mut self, text: &str) -> Result<(), Halt> {
+    pub fn fail(&mut self, text: &str) -> Result<(), Halt> {
         let (device, rest) = read_device(text)?;
-        let (call, rest) = number(after("call ", rest)?)?;
+        let (call, rest) = number_after("call ", rest)?;
         let before = call.saturating_sub(1);
         let fuse = match rest {
             "once" => Fuse::Once(before),
@@ -204,15 +193,15 @@ impl Shelf {
     }
 
     /// `DEVICE BYTES`
-    fn set(&mut self, text: &str) -> Result<(), Halt> {
+    pub fn set(&mut self, text: &str) -> Result<(), Halt> {
         let (device, rest) = read_device(text)?;
         let bytes = device.of_mut(&mut self.image.parts);
         bytes.clear();
-        crate::words::put_bytes(rest, bytes)
+        words::put_bytes(rest, bytes)
     }
 
     /// What a device that is closed has, or had: its bytes, how many, or how many calls.
-    fn tell(&self, word: &str, rest: &str, out: &mut Text) -> Result<(), Halt> {
+    pub fn tell(&self, word: &str, rest: &str, out: &mut Text) -> Result<(), Halt> {
         let (device, rest) = read_device(rest)?;
         let bytes = device.of(&self.image.parts);
         match word {
@@ -221,16 +210,6 @@ impl Shelf {
             _ => out.put_decimal(*device.of(&self.calls)),
         }
         Ok(())
-    }
-
-    /// Does what a line asks for that concerns the disks alone.
-    pub fn perform(&mut self, word: &str, rest: &str, out: &mut Text) -> Result<(), Halt> {
-        match word {
-            "disk" => self.set(rest)?,
-            "fail" => self.fail(rest)?,
-            _ => return self.tell(word, rest, out),
-        }
-        put_ok(out)
     }
 
     /// Has each disk that is put back be torn as is told, until it is told otherwise.

@@ -3,7 +3,7 @@
 use crate::answers::put_tear;
 use crate::device::{DEVICES, Device};
 use crate::running::{Progress, Reference, Run, reference_of, resume, stop_run};
-use crate::shelf::Image;
+use crate::shelf::{Image, copy_image};
 use crate::stores::{Memories, Opening};
 use crate::tears::{Tears, tears_of};
 use crate::words::Halt;
@@ -59,12 +59,6 @@ fn others_are_synced(devices: &Devices<MemDisk>, torn: Device) -> bool {
     true
 }
 
-fn put_image(disk: &MemDisk, tear: Tear, bytes: &mut Vec<u8>) -> Result<(), AllocError> {
-    let image = disk.image(disk.calls().len(), tear)?;
-    bytes.clear();
-    bytes.extend_from_slice(&image)
-}
-
 /// What a stop leaves of disks: one is torn, and the others are torn alike.
 pub fn put_images(
     devices: &Devices<MemDisk>,
@@ -73,10 +67,8 @@ pub fn put_images(
     others: Tear,
     image: &mut Image,
 ) -> Result<(), AllocError> {
-    for device in DEVICES {
-        put_image(device.of(devices), others, device.of_mut(&mut image.parts))?;
-    }
-    put_image(torn.of(devices), tear, torn.of_mut(&mut image.parts))
+    image.take(devices, others)?;
+    copy_image(torn.of(devices), tear, torn.of_mut(&mut image.parts))
 }
 
 /// A run, what it comes to where nothing stops it, and what becomes of what is not synced where something does.

@@ -1,7 +1,7 @@
 //! Stores over disks in memory.
 //!
-//! A store has many parts, and each exit of a function that owns one lets all of them go. So the owners here have a `drop`
-//! of their own: what lets them go is one call.
+//! Four disks have many parts, and each exit of a function that owns them lets all of them go. So the owners here have a `drop`
+//! of their own, as a store has: what lets them go is one call.
 
 ghost use Rattle.std.specs.Prelude.{◌≤◌};
 
@@ -71,27 +71,8 @@ impl Drop for Memories {
     }
 }
 
-/// A store that is open.
-pub struct OpenStore {
-    pub store: Store<Held>,
-}
-
-impl Drop for OpenStore {
-    fn drop(self) {
-        let OpenStore { store } = self;
-        drop(store);
-    }
-}
-
-impl OpenStore {
-    /// Its devices. What was pending is lost.
-    pub fn into_disks(self) -> Disks {
-        let OpenStore { store } = self;
-        Disks {
-            devices: store.into_devices(),
-        }
-    }
-}
+/// A store over disks in memory.
+pub type OpenStore = Store<Held>;
 
 /// A disk, or one without a byte, and a word that memory was refused.
 fn disk_or_none(alloc: Global, bytes: &[u8], fuse: Fuse, is_whole: &mut bool) -> Held {
@@ -117,6 +98,13 @@ impl Disks {
         };
         let disks = Disks { devices };
         if is_whole { Ok(disks) } else { Err(AllocError) }
+    }
+
+    /// The devices of a store. What was pending is lost.
+    pub fn of(store: OpenStore) -> Disks {
+        Disks {
+            devices: store.into_devices(),
+        }
     }
 
     /// Disks that don't fail.
@@ -167,14 +155,14 @@ fn frames_of(room: Room) -> u16
 
 fn create(alloc: Global, disks: Disks, room: Room) -> Result<OpenStore, (CreateFault, Disks)> {
     match Store::create(alloc, disks.into_devices(), frames_of(room), caps_of(room)) {
-        Ok(store) => Ok(OpenStore { store }),
+        Ok(store) => Ok(store),
         Err((fault, devices)) => Err((fault, Disks { devices })),
     }
 }
 
 fn recover(alloc: Global, disks: Disks, room: Room) -> Result<OpenStore, (CreateFault, Disks)> {
     match Store::recover(alloc, disks.into_devices(), frames_of(room), caps_of(room)) {
-        Ok(store) => Ok(OpenStore { store }),
+        Ok(store) => Ok(store),
         Err((refusal, devices)) => Err((CreateFault::Refused(refusal), Disks { devices })),
     }
 }

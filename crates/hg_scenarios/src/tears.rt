@@ -20,10 +20,7 @@ fn fill(text: &str) -> Result<(Tears, &str), Halt> {
 /// A count in front, and what follows it.
 fn count(text: &str) -> Result<(usize, &str), Halt> {
     let (count, rest) = number(text)?;
-    match usize::try_from(count) {
-        Ok(count) => Ok((count, rest)),
-        Err(_) => Err(Halt::Words),
-    }
+    Ok((usize::try_from(count)?, rest))
 }
 
 fn fronts(text: &str) -> Result<(Tears, &str), Halt> {
@@ -67,7 +64,7 @@ pub fn tears_of(alloc: Global, words: &str) -> Result<Vec<Tears>, Halt> {
             return Ok(tears);
         }
         let (found, behind) = tear(rest)?;
-        tears.extend_from_slice(&[found])?;
+        tears.push(found)?;
         rest = behind;
     }
     Ok(tears)

@@ -5,6 +5,7 @@ ghost use Rattle.std.specs.Prelude.{◌<◌, IfOk};
 use hg_gate::GateFault;
 use hg_model::verdict::Refusal;
 use std::alloc::{AllocError, AllocFailed};
+use std::num::TryFromIntError;
 
 /// Why a line has no other answer.
 #[derive(Clone, Copy)]
@@ -34,6 +35,12 @@ impl From<AllocError> for Halt {
 impl<T: Drop> From<AllocFailed<T>> for Halt {
     fn from(_: AllocFailed<T>) -> Halt {
         Halt::Memory
+    }
+}
+
+impl From<TryFromIntError> for Halt {
+    fn from(_: TryFromIntError) -> Halt {
+        Halt::Words
     }
 }
 
@@ -74,10 +81,7 @@ pub fn number(text: &str) -> Result<(u64, &str), Halt> {
 /// A number below 2^16 in front, and what follows it.
 pub fn short_number(text: &str) -> Result<(u16, &str), Halt> {
     let (value, rest) = number(text)?;
-    match u16::try_from(value) {
-        Ok(value) => Ok((value, rest)),
-        Err(_) => Err(Halt::Words),
-    }
+    Ok((u16::try_from(value)?, rest))
 }
 
 /// What follows a word that has to stand in front.
@@ -86,6 +90,11 @@ pub fn after<'a>(word: &str, text: &'a str) -> Result<&'a str, Halt> {
         Some(rest) => Ok(rest.trim_start()),
         None => Err(Halt::Words),
     }
+}
+
+/// A number behind a word that has to stand in front, and what follows it.
+pub fn number_after<'a>(word: &str, text: &'a str) -> Result<(u64, &'a str), Halt> {
+    number(after(word, text)?)
 }
 
 fn digit(byte: u8) -> Result<u8, Halt>
@@ -119,7 +128,7 @@ pub fn put_bytes(words: &str, bytes: &mut Vec<u8>) -> Result<(), Halt> {
     for word in words.split_whitespace() {
         let (byte, count) = repeated(word)?;
         for _ in 0..count {
-            bytes.extend_from_slice(&[byte])?;
+            bytes.push(byte)?;
         }
     }
     Ok(())

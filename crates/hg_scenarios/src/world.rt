@@ -1,6 +1,5 @@
 //! What the lines of a scenario act on.
 
-use crate::answers::put_ok;
 use crate::bench::Bench;
 use crate::gates::GateBench;
 use crate::journals::JournalBench;
@@ -12,6 +11,7 @@ use hg_text::Text;
 use std::alloc::{AllocError, Global};
 
 /// What there is in a scenario.
+#[derive(Drop)]
 pub struct World {
     alloc: Global,
     shelf: Shelf,
@@ -19,19 +19,6 @@ pub struct World {
     log: LogBench,
     journal: JournalBench,
     gated: GateBench,
-}
-
-impl Drop for World {
-    fn drop(self) {
-        let World {
-            alloc: _,
-            shelf: _,
-            bench: _,
-            log: _,
-            journal: _,
-            gated: _,
-        } = self;
-    }
 }
 
 impl World {
@@ -72,32 +59,21 @@ impl World {
         Ok(closed?)
     }
 
-    /// Does what a line asks for that concerns what is open.
-    fn work(&mut self, word: &str, rest: &str, out: &mut Text) -> Result<(), Halt> {
+    /// Does what a line asks for, and answers it. Where it tells nothing, the answer is `ok`.
+    pub fn perform(&mut self, order: &str, out: &mut Text) -> Result<(), Halt> {
+        let (word, rest) = front(order);
         let alloc = self.alloc;
         let shelf = &mut self.shelf;
         match word {
-            "disk" | "fail" | "bytes" | "length" | "calls" => shelf.perform(word, rest, out),
+            "close" => Ok(self.close()?),
+            "crash" => self.crash(rest),
+            "disk" => shelf.set(rest),
+            "fail" => shelf.fail(rest),
+            "bytes" | "length" | "calls" => shelf.tell(word, rest, out),
             "log" => self.log.perform(alloc, shelf, rest, out),
             "journal" => self.journal.perform(alloc, shelf, rest, out),
             "gated" => self.gated.perform(alloc, shelf, rest, out),
             _ => self.bench.perform(shelf, word, rest, out),
-        }
-    }
-
-    /// Does what a line asks for, and answers it.
-    pub fn perform(&mut self, order: &str, out: &mut Text) -> Result<(), Halt> {
-        let (word, rest) = front(order);
-        match word {
-            "close" => {
-                self.close()?;
-                put_ok(out)
-            }
-            "crash" => {
-                self.crash(rest)?;
-                put_ok(out)
-            }
-            _ => self.work(word, rest, out),
         }
     }
 }
