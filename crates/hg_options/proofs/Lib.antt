@@ -1,3 +1,2 @@
-mod Adding
 mod Numbers
 mod Unasked

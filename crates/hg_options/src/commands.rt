@@ -1,9 +1,9 @@
 //! The commands of `hgd`, their arguments and options.
 
-ghost use Rattle.std.specs.Prelude.{◌≡◌, IfOk, false};
-ghost use Rattle.clap.specs.Words.{app_of, rule_of, shape_of};
+ghost use Rattle.std.specs.Prelude.{◌≡◌, IfOk, Ok, false};
+ghost use Rattle.clap.specs.Words.{app_of, new_app, rule_of};
 ghost use Rattle.hg_options.specs.CommandLine as spec;
-ghost use Rattle.hg_options.specs.Tools.{GainsSubcommand, HasNoGlobals};
+ghost use Rattle.hg_options.specs.Tools.{GainsArgument, GainsSubcommand, HasNoGlobals};
 
 use crate::help::LANGUAGE;
 use clap::builder::ValueParser;
@@ -71,15 +71,38 @@ fn source<'a>(alloc: Global) -> Arg<'a>
         .help("The source whose events these are")
 }
 
+/// A flag.
+fn flag<'a>(alloc: Global, name: &'a str, help: &'a str) -> Arg<'a>
+    ensures rule { rule_of result ≡ spec.flag name.entry.now }
+    ensures local { result.global ≡ false }
+{
+    Arg::new(alloc, name)
+        .long(name)
+        .action(ArgAction::SetTrue)
+        .help(help)
+}
+
+/// An option that has a value.
+fn option<'a>(alloc: Global, name: &'a str, value: &'a str, help: &'a str) -> Arg<'a>
+    ensures rule { rule_of result ≡ spec.option name.entry.now }
+    ensures local { result.global ≡ false }
+{
+    Arg::new(alloc, name)
+        .long(name)
+        .value_name(value)
+        .help(help)
+}
+
 /// That a checkpoint is made.
 fn checkpoint<'a>(alloc: Global) -> Arg<'a>
     ensures rule { rule_of result ≡ spec.checkpoint }
     ensures local { result.global ≡ false }
 {
-    Arg::new(alloc, CHECKPOINT)
-        .long(CHECKPOINT)
-        .action(ArgAction::SetTrue)
-        .help("At the end make a checkpoint, so that the store opens faster")
+    flag(
+        alloc,
+        CHECKPOINT,
+        "At the end make a checkpoint, so that the store opens faster",
+    )
 }
 
 /// How many pages a store may have in memory.
@@ -87,12 +110,14 @@ fn frames<'a>(alloc: Global) -> Arg<'a>
     ensures rule { rule_of result ≡ spec.frames }
     ensures local { result.global ≡ false }
 {
-    Arg::new(alloc, FRAMES)
-        .long(FRAMES)
-        .value_name("F")
-        .value_parser(value_parser!(u16).range(4..=4096))
-        .default_value("64")
-        .help("How many pages of words may be in memory")
+    option(
+        alloc,
+        FRAMES,
+        "F",
+        "How many pages of words may be in memory",
+    )
+    .value_parser(value_parser!(u16).range(4..=4096))
+    .default_value("64")
 }
 
 /// The port that a server listens on.
@@ -111,12 +136,14 @@ fn connections<'a>(alloc: Global) -> Arg<'a>
     ensures rule { rule_of result ≡ spec.connections }
     ensures local { result.global ≡ false }
 {
-    Arg::new(alloc, CONNECTIONS)
-        .long(CONNECTIONS)
-        .value_name("N")
-        .required(true)
-        .value_parser(value_parser!(u16).range(1..=65535))
-        .help("How many connections to take before the end")
+    option(
+        alloc,
+        CONNECTIONS,
+        "N",
+        "How many connections to take before the end",
+    )
+    .required(true)
+    .value_parser(value_parser!(u16).range(1..=65535))
 }
 
 /// How many workers a server has.
@@ -124,12 +151,14 @@ fn workers<'a>(alloc: Global) -> Arg<'a>
     ensures rule { rule_of result ≡ spec.workers }
     ensures local { result.global ≡ false }
 {
-    Arg::new(alloc, WORKERS)
-        .long(WORKERS)
-        .value_name("W")
-        .required(true)
-        .value_parser(value_parser!(u16).range(1..=64))
-        .help("How many conversations are held at once")
+    option(
+        alloc,
+        WORKERS,
+        "W",
+        "How many conversations are held at once",
+    )
+    .required(true)
+    .value_parser(value_parser!(u16).range(1..=64))
 }
 
 /// After how many committed events a checkpoint begins.
@@ -137,12 +166,14 @@ fn every<'a>(alloc: Global) -> Arg<'a>
     ensures rule { rule_of result ≡ spec.every }
     ensures local { result.global ≡ false }
 {
-    Arg::new(alloc, EVERY)
-        .long(EVERY)
-        .value_name("E")
-        .value_parser(value_parser!(u32).range(1..=1048576))
-        .default_value("4096")
-        .help("After how many committed events a checkpoint begins (without effect yet)")
+    option(
+        alloc,
+        EVERY,
+        "E",
+        "After how many committed events a checkpoint begins (without effect yet)",
+    )
+    .value_parser(value_parser!(u32).range(1..=1048576))
+    .default_value("4096")
 }
 
 /// How many seconds a client may be silent.
@@ -150,11 +181,13 @@ fn silence<'a>(alloc: Global) -> Arg<'a>
     ensures rule { rule_of result ≡ spec.silence }
     ensures local { result.global ≡ false }
 {
-    Arg::new(alloc, SILENCE)
-        .long(SILENCE)
-        .value_name("SECONDS")
-        .value_parser(value_parser!(u16).range(1..=65535))
-        .help("How long a client may be silent before its connection ends [default: for ever]")
+    option(
+        alloc,
+        SILENCE,
+        "SECONDS",
+        "How long a client may be silent before its connection ends [default: for ever]",
+    )
+    .value_parser(value_parser!(u16).range(1..=65535))
 }
 
 /// How many threads read a trace.
@@ -162,12 +195,9 @@ fn jobs<'a>(alloc: Global) -> Arg<'a>
     ensures rule { rule_of result ≡ spec.jobs }
     ensures local { result.global ≡ false }
 {
-    Arg::new(alloc, JOBS)
-        .long(JOBS)
-        .value_name("N")
+    option(alloc, JOBS, "N", "How many threads read a large trace")
         .value_parser(value_parser!(u16).range(1..=64))
         .default_value("1")
-        .help("How many threads read a large trace")
 }
 
 /// The address of a word.
@@ -185,10 +215,11 @@ fn all<'a>(alloc: Global) -> Arg<'a>
     ensures rule { rule_of result ≡ spec.all }
     ensures local { result.global ≡ false }
 {
-    Arg::new(alloc, ALL)
-        .long(ALL)
-        .action(ArgAction::SetTrue)
-        .help("Print each access, be it that it changes nothing")
+    flag(
+        alloc,
+        ALL,
+        "Print each access, be it that it changes nothing",
+    )
 }
 
 /// That the last line is told in words.
@@ -196,120 +227,132 @@ fn verbose<'a>(alloc: Global) -> Arg<'a>
     ensures rule { rule_of result ≡ spec.verbose }
     ensures local { result.global ≡ false }
 {
-    Arg::new(alloc, VERBOSE)
-        .long(VERBOSE)
-        .action(ArgAction::SetTrue)
-        .help("Say on standard error what a refused or bad line, or a fault, means")
+    flag(
+        alloc,
+        VERBOSE,
+        "Say on standard error what a refused or bad line, or a fault, means",
+    )
+}
+
+/// A command without arguments.
+fn command<'a>(alloc: Global, name: &'a str, about: &'a str) -> Command<'a>
+    ensures app { app_of result ≡ new_app name.entry.now }
+    ensures local { HasNoGlobals result }
+{
+    Command::new(alloc, name).about(about).after_help(LANGUAGE)
+}
+
+/// A command with one argument more, unless memory was refused for that command or is refused now.
+fn with_argument<'a>(
+    command: Result<Command<'a>, AllocError>,
+    added: Arg<'a>,
+) -> Result<Command<'a>, AllocError>
+    requires local { IfOk command HasNoGlobals }
+    requires added { added.global ≡ false }
+    ensures app { GainsArgument command.entry added.entry result }
+    ensures local { IfOk result HasNoGlobals }
+{
+    command?.arg(added)
 }
 
 /// `check [--jobs N] [--verbose]`.
 fn check<'a>(alloc: Global) -> Result<Command<'a>, AllocError>
-    ensures app { IfOk result (λ c. shape_of c ≡ spec.check) }
+    ensures app { IfOk result (λ c. app_of c ≡ spec.check) }
     ensures local { IfOk result HasNoGlobals }
 {
-    Command::new(alloc, "check")
-        .about("Reads a trace on standard input, and prints its data races")
-        .after_help(LANGUAGE)
-        .arg(jobs(alloc))?
-        .arg(verbose(alloc))
+    let begun = command(
+        alloc,
+        "check",
+        "Reads a trace on standard input, and prints its data races",
+    );
+    let with_jobs = with_argument(Ok(begun), jobs(alloc));
+    with_argument(with_jobs, verbose(alloc))
 }
 
 /// `graph [DIR] [--jobs N] [--verbose]`.
 fn graph<'a>(alloc: Global) -> Result<Command<'a>, AllocError>
-    ensures app { IfOk result (λ c. shape_of c ≡ spec.graph) }
+    ensures app { IfOk result (λ c. app_of c ≡ spec.graph) }
     ensures local { IfOk result HasNoGlobals }
 {
-    let begun = Command::new(alloc, "graph")
-        .about("Prints the thread segments of a store, or of a trace on standard input")
-        .after_help(LANGUAGE);
-    let of_store = begun.arg(directory(alloc, false))?;
-    let with_jobs = of_store.arg(jobs(alloc))?;
-    with_jobs.arg(verbose(alloc))
+    let begun = command(
+        alloc,
+        "graph",
+        "Prints the thread segments of a store, or of a trace on standard input",
+    );
+    let of_store = with_argument(Ok(begun), directory(alloc, false));
+    let with_jobs = with_argument(of_store, jobs(alloc));
+    with_argument(with_jobs, verbose(alloc))
 }
 
 /// `explain ADDRESS [DIR] [--all]`.
 fn explain<'a>(alloc: Global) -> Result<Command<'a>, AllocError>
-    ensures app { IfOk result (λ c. shape_of c ≡ spec.explain) }
+    ensures app { IfOk result (λ c. app_of c ≡ spec.explain) }
     ensures local { IfOk result HasNoGlobals }
 {
-    let begun = Command::new(alloc, "explain")
-        .about("Prints the life of a word of memory in a store, or in a trace on standard input")
-        .after_help(LANGUAGE);
-    let of_word = begun.arg(address(alloc))?;
-    let of_store = of_word.arg(directory(alloc, false))?;
-    of_store.arg(all(alloc))
+    let begun = command(
+        alloc,
+        "explain",
+        "Prints the life of a word of memory in a store, or in a trace on standard input",
+    );
+    let of_word = with_argument(Ok(begun), address(alloc));
+    let of_store = with_argument(of_word, directory(alloc, false));
+    with_argument(of_store, all(alloc))
 }
 
 /// `create DIR`.
 fn create<'a>(alloc: Global) -> Result<Command<'a>, AllocError>
-    ensures app { IfOk result (λ c. shape_of c ≡ spec.create) }
+    ensures app { IfOk result (λ c. app_of c ≡ spec.create) }
     ensures local { IfOk result HasNoGlobals }
 {
-    Command::new(alloc, "create")
-        .about("Makes a store")
-        .after_help(LANGUAGE)
-        .arg(directory(alloc, true))
+    let begun = command(alloc, "create", "Makes a store");
+    with_argument(Ok(begun), directory(alloc, true))
 }
 
 /// `reports DIR [--frames F] [--verbose]`.
 fn reports<'a>(alloc: Global) -> Result<Command<'a>, AllocError>
-    ensures app { IfOk result (λ c. shape_of c ≡ spec.reports) }
+    ensures app { IfOk result (λ c. app_of c ≡ spec.reports) }
     ensures local { IfOk result HasNoGlobals }
 {
-    let begun = Command::new(alloc, "reports")
-        .about("Prints the data races that a store holds")
-        .after_help(LANGUAGE);
-    let of_store = begun.arg(directory(alloc, true))?;
-    let with_frames = of_store.arg(frames(alloc))?;
-    with_frames.arg(verbose(alloc))
+    let begun = command(alloc, "reports", "Prints the data races that a store holds");
+    let of_store = with_argument(Ok(begun), directory(alloc, true));
+    let with_frames = with_argument(of_store, frames(alloc));
+    with_argument(with_frames, verbose(alloc))
 }
 
-/// `feed DIR SOURCE [--checkpoint] [--frames F] [--verbose]`, without its options.
-fn feed_arguments<'a>(alloc: Global) -> Result<Command<'a>, AllocError>
-    ensures app { IfOk result (λ c. app_of c ≡ spec.feed_arguments) }
-    ensures local { IfOk result HasNoGlobals }
-{
-    let begun = Command::new(alloc, "feed")
-        .about("Reads a trace on standard input, and has a store accept its events")
-        .after_help(LANGUAGE);
-    let of_store = begun.arg(directory(alloc, true))?;
-    of_store.arg(source(alloc))
-}
-
-/// `feed`, with its options.
+/// `feed DIR SOURCE [--checkpoint] [--frames F] [--verbose]`.
 fn feed<'a>(alloc: Global) -> Result<Command<'a>, AllocError>
-    ensures app { IfOk result (λ c. shape_of c ≡ spec.feed) }
+    ensures app { IfOk result (λ c. app_of c ≡ spec.feed) }
     ensures local { IfOk result HasNoGlobals }
 {
-    let begun = feed_arguments(alloc)?;
-    let with_checkpoint = begun.arg(checkpoint(alloc))?;
-    let with_frames = with_checkpoint.arg(frames(alloc))?;
-    with_frames.arg(verbose(alloc))
+    let begun = command(
+        alloc,
+        "feed",
+        "Reads a trace on standard input, and has a store accept its events",
+    );
+    let of_store = with_argument(Ok(begun), directory(alloc, true));
+    let from_source = with_argument(of_store, source(alloc));
+    let with_checkpoint = with_argument(from_source, checkpoint(alloc));
+    let with_frames = with_argument(with_checkpoint, frames(alloc));
+    with_argument(with_frames, verbose(alloc))
 }
 
-/// `serve DIR PORT --connections N --workers W [--frames F] [--every E] [--silence SECONDS]`, without its options.
-fn serve_arguments<'a>(alloc: Global) -> Result<Command<'a>, AllocError>
-    ensures app { IfOk result (λ c. app_of c ≡ spec.serve_arguments) }
-    ensures local { IfOk result HasNoGlobals }
-{
-    let begun = Command::new(alloc, "serve")
-        .about("Takes events from clients that connect, and answers them")
-        .after_help(LANGUAGE);
-    let of_store = begun.arg(directory(alloc, true))?;
-    let at_port = of_store.arg(port(alloc))?;
-    at_port.arg(connections(alloc))
-}
-
-/// `serve`, with its options.
+/// `serve DIR PORT --connections N --workers W [--frames F] [--every E] [--silence SECONDS]`.
 fn serve<'a>(alloc: Global) -> Result<Command<'a>, AllocError>
-    ensures app { IfOk result (λ c. shape_of c ≡ spec.serve) }
+    ensures app { IfOk result (λ c. app_of c ≡ spec.serve) }
     ensures local { IfOk result HasNoGlobals }
 {
-    let begun = serve_arguments(alloc)?;
-    let with_workers = begun.arg(workers(alloc))?;
-    let with_frames = with_workers.arg(frames(alloc))?;
-    let with_every = with_frames.arg(every(alloc))?;
-    with_every.arg(silence(alloc))
+    let begun = command(
+        alloc,
+        "serve",
+        "Takes events from clients that connect, and answers them",
+    );
+    let of_store = with_argument(Ok(begun), directory(alloc, true));
+    let at_port = with_argument(of_store, port(alloc));
+    let with_connections = with_argument(at_port, connections(alloc));
+    let with_workers = with_argument(with_connections, workers(alloc));
+    let with_frames = with_argument(with_workers, frames(alloc));
+    let with_every = with_argument(with_frames, every(alloc));
+    with_argument(with_every, silence(alloc))
 }
 
 /// The command line of `hgd`, without its commands.
@@ -317,24 +360,39 @@ fn start<'a>(alloc: Global) -> Command<'a>
     ensures app { app_of result ≡ spec.start }
     ensures local { HasNoGlobals result }
 {
-    Command::new(alloc, "hgd")
-        .about("Finds data races in traces of programs with threads")
-        .after_help(LANGUAGE)
-        .version("0.1.0")
-        .subcommand_required(true)
+    command(
+        alloc,
+        "hgd",
+        "Finds data races in traces of programs with threads",
+    )
+    .version("0.1.0")
+    .subcommand_required(true)
 }
 
-/// A command with one subcommand more, unless memory was refused for that one or is refused now.
+/// A command with one subcommand more, unless memory was refused for that command or is refused now.
+fn with_subcommand<'a>(
+    command: Result<Command<'a>, AllocError>,
+    added: Command<'a>,
+) -> Result<Command<'a>, AllocError>
+    requires local { IfOk command HasNoGlobals }
+    requires added { HasNoGlobals added }
+    ensures app { GainsSubcommand command.entry (Ok added.entry) result }
+    ensures local { IfOk result HasNoGlobals }
+{
+    command?.subcommand(added)
+}
+
+/// The same, unless memory was refused for the subcommand.
 fn with_command<'a>(
-    command: Command<'a>,
+    command: Result<Command<'a>, AllocError>,
     added: Result<Command<'a>, AllocError>,
 ) -> Result<Command<'a>, AllocError>
-    requires local { HasNoGlobals command }
+    requires local { IfOk command HasNoGlobals }
     requires added { IfOk added HasNoGlobals }
     ensures app { GainsSubcommand command.entry added.entry result }
     ensures local { IfOk result HasNoGlobals }
 {
-    command.subcommand(added?)
+    with_subcommand(command, added?)
 }
 
 /// The command line of `hgd`.
@@ -342,11 +400,11 @@ pub fn hgd<'a>(alloc: Global) -> Result<Command<'a>, AllocError>
     ensures app { IfOk result (λ c. app_of c ≡ spec.hgd) }
     ensures local { IfOk result HasNoGlobals }
 {
-    let checking = with_command(start(alloc), check(alloc))?;
-    let graphing = with_command(checking, graph(alloc))?;
-    let explaining = with_command(graphing, explain(alloc))?;
-    let creating = with_command(explaining, create(alloc))?;
-    let feeding = with_command(creating, feed(alloc))?;
-    let reporting = with_command(feeding, reports(alloc))?;
+    let checking = with_command(Ok(start(alloc)), check(alloc));
+    let graphing = with_command(checking, graph(alloc));
+    let explaining = with_command(graphing, explain(alloc));
+    let creating = with_command(explaining, create(alloc));
+    let feeding = with_command(creating, feed(alloc));
+    let reporting = with_command(feeding, reports(alloc));
     with_command(reporting, serve(alloc))
 }

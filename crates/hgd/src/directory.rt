@@ -17,7 +17,7 @@ use std::{env, fs, io};
 const MAX_PAGES_LEN: u64 = 1_048_576 * 3_080;
 
 /// What a command does to a store.
-#[derive(Clone, Copy, Debug, PartialEq, Eq, Drop)]
+#[derive(Clone, Copy, PartialEq, Eq, Drop)]
 pub enum Access {
     /// It makes the store. Files that are missing are made, and no other program may use the store meanwhile.
     Make,
@@ -146,14 +146,19 @@ fn open_journal(rt: &HostRuntime, directory: &str, access: Access) -> Result<Fil
     device("journal", file)
 }
 
-/// A new file without a byte, in the system's folder for temporary files, that no other user may open. Its name is removed at once, so that
-/// nothing of it stays behind when the program ends.
-fn scratch_file(rt: &HostRuntime) -> io::Result<File> {
+/// Where a scratch file is made: a name in the system's folder for temporary files, of a random number.
+fn scratch_path(rt: &HostRuntime) -> io::Result<String> {
     let mut random = [0; 8];
     rt.fill_bytes(&mut random)?;
     let number = u64::from_be_bytes(random);
     let folder = env::temp_dir(rt)?;
-    let path = format!(in rt.alloc(); "{}/hgd-{number:016x}", folder.as_str())?;
+    Ok(format!(in rt.alloc(); "{}/hgd-{number:016x}", folder.as_str())?)
+}
+
+/// A new file without a byte, in the system's folder for temporary files, that no other user may open. Its name is removed at once, so that
+/// nothing of it stays behind when the program ends.
+fn scratch_file(rt: &HostRuntime) -> io::Result<File> {
+    let path = scratch_path(rt)?;
     let file = OpenOptions::new()
         .read(true)
         .write(true)
@@ -265,6 +270,14 @@ fn sync_directory(rt: &HostRuntime, path: &str) -> Result<(), OpenFault>
     }
 }
 
+/// Makes a new store's names durable, and that of its directory in the one above.
+fn sync_names(rt: &HostRuntime, directory: &str, above: &str) -> Result<(), OpenFault>
+    ensures { IfErr result (λ f. f.refusal ≡ Refusal.DeviceFault) }
+{
+    sync_directory(rt, directory)?;
+    sync_directory(rt, above)
+}
+
 /// Makes a directory where there is none, and opens its files as `open_directory` does, made where they are missing. Their
 /// names, and that of the directory, are then durable.
 pub fn make_directory(rt: &HostRuntime, directory: &str) -> Result<Devices<FileDisk>, OpenFault>
@@ -274,7 +287,6 @@ pub fn make_directory(rt: &HostRuntime, directory: &str) -> Result<Devices<FileD
     let _ = fs::create_dir(rt, directory);
     let above = path_of(rt, directory, "..")?;
     let devices = open_directory(rt, directory, Access::Make)?;
-    sync_directory(rt, directory)?;
-    sync_directory(rt, above.as_str())?;
+    sync_names(rt, directory, above.as_str())?;
     Ok(devices)
 }

@@ -23,28 +23,28 @@ pub struct EventText {
     used: usize,
 }
 
-fn put_access(verb: &str, access: Access, text: &mut String) -> Result<(), AllocError> {
-    let Access { t, at, len } = access;
-    write!(text, "{verb} {t} {at} {len}\n")
+/// Appends a line of a verb, a thread, and a thread or a lock.
+fn put_pair(verb: &str, t: u16, other: u16, text: &mut String) -> Result<(), AllocError> {
+    write!(text, "{verb} {t} {other}\n")
 }
 
-fn put_block(verb: &str, block: Block, text: &mut String) -> Result<(), AllocError> {
-    let Block { t, at, len } = block;
+/// Appends a line of a verb, a thread, and where memory begins and how long it is.
+fn put_range(verb: &str, t: u16, at: u64, len: u16, text: &mut String) -> Result<(), AllocError> {
     write!(text, "{verb} {t} {at} {len}\n")
 }
 
 /// Appends the line of an event.
 fn put_event(event: Event, text: &mut String) -> Result<(), AllocError> {
     match event {
-        Event::Fork { p, c } => write!(text, "fork {p} {c}\n"),
-        Event::Join { p, c } => write!(text, "join {p} {c}\n"),
-        Event::Lock { t, l } => write!(text, "lock {t} {l}\n"),
-        Event::RdLock { t, l } => write!(text, "rdlock {t} {l}\n"),
-        Event::Unlock { t, l } => write!(text, "unlock {t} {l}\n"),
-        Event::Read(access) => put_access("read", access, text),
-        Event::Write(access) => put_access("write", access, text),
-        Event::Alloc(block) => put_block("alloc", block, text),
-        Event::Free(block) => put_block("free", block, text),
+        Event::Fork { p, c } => put_pair("fork", p, c, text),
+        Event::Join { p, c } => put_pair("join", p, c, text),
+        Event::Lock { t, l } => put_pair("lock", t, l, text),
+        Event::RdLock { t, l } => put_pair("rdlock", t, l, text),
+        Event::Unlock { t, l } => put_pair("unlock", t, l, text),
+        Event::Read(Access { t, at, len }) => put_range("read", t, at, u16::from(len), text),
+        Event::Write(Access { t, at, len }) => put_range("write", t, at, u16::from(len), text),
+        Event::Alloc(Block { t, at, len }) => put_range("alloc", t, at, len, text),
+        Event::Free(Block { t, at, len }) => put_range("free", t, at, len, text),
     }
 }
 

@@ -4,11 +4,13 @@
 pub mod directory;
 pub mod events;
 pub mod stores;
+pub mod streams;
 pub mod texts;
 pub mod told;
 
 use crate::directory::{Access, open_directory};
-use crate::stores::{create_in, explain_in, feed_in, graph_in, reports_in};
+use crate::stores::{create_in, explain_in, feed_in, print_of_store};
+use crate::streams::plain_outputs;
 use crate::texts::{Wanted, explain_input, print_of_input};
 use crate::told::{FAULT, fail, fail_to_open};
 use hg_check::telling::tell;
@@ -17,11 +19,10 @@ use hg_commands::printing::Outputs;
 use hg_disk::FileDisk;
 use hg_model::verdict::Refusal;
 use hg_options::reading::read;
-use hg_options::task::{Jobs, Misread, Serving, StoreTask, Task};
+use hg_options::task::{Frames, Jobs, Misread, Serving, StoreTask, Task};
 use hg_server::serving::{Door, Plan, serve};
 use hg_server::worker::OpenGate;
 use hg_store::devices::Devices;
-use hg_streams::output::Output;
 use std::alloc::Global;
 use std::env;
 use std::io::{ErrorKind, Write};
@@ -94,8 +95,13 @@ fn perform_on_store<'a>(rt: &HostRuntime, directory: &'a str, task: StoreTask) -
             };
             feed_in(rt, directory, plan, verbose)
         }
-        StoreTask::Reports { frames, verbose } => reports_in(rt, directory, frames, verbose),
-        StoreTask::Graph { verbose } => graph_in(rt, directory, verbose),
+        StoreTask::Reports { frames, verbose } => {
+            print_of_store(rt, directory, Wanted::Reports, frames, verbose)
+        }
+        StoreTask::Graph { verbose } => {
+            let frames = Frames { pages: 64 };
+            print_of_store(rt, directory, Wanted::Segments, frames, verbose)
+        }
         StoreTask::Explain { explaining } => explain_in(rt, directory, explaining),
         StoreTask::Serve { serving } => return Outcome::Serve { directory, serving },
     };
@@ -170,39 +176,57 @@ fn serve_on<
     serve(rt, alloc, devices, &door, outputs).status
 }
 
-fn main(rt: HostRuntime) -> ExitCode {
-    let status = match env::args(&rt) {
-        Ok(words) => {
-            let words: Result<Vec<String>, _> = Vec::from_iter(rt.alloc(), words);
-            match words {
-                Ok(words) => match perform(&rt, words.as_slice()) {
-                    Outcome::Done { status } => status,
-                    Outcome::Text {
-                        wanted,
-                        jobs,
-                        verbose,
-                    } => print_of_input(&rt, wanted, jobs, &rt, verbose),
-                    Outcome::Serve { directory, serving } => {
-                        match open_directory(&rt, directory, Access::Change) {
-                            Ok(devices) => {
-                                let mut outputs = Outputs {
-                                    output: Output::new(rt.stdout()),
-                                    faults: Output::new(rt.stderr()),
-                                };
-                                serve_on(&rt, rt.alloc(), devices, serving, &mut outputs)
-                            }
-                            Err(fault) => fail_to_open(&rt, &fault, false),
-                        }
-                    }
-                },
-                Err(_) => fail(&rt, Refusal::OutOfMemory),
-            }
+/// Serves the store in a directory. Answers the status.
+fn serve_in<R: Threads + Wait + Clock + Net<Listener = TcpListener, Stream = TcpStream> + Sync>(
+    threads: &R,
+    rt: &HostRuntime,
+    directory: &str,
+    serving: Serving,
+) -> u8 {
+    let devices = match open_directory(rt, directory, Access::Change) {
+        Ok(devices) => devices,
+        Err(fault) => return fail_to_open(rt, &fault, false),
+    };
+    serve_on(
+        threads,
+        rt.alloc(),
+        devices,
+        serving,
+        &mut plain_outputs(rt),
+    )
+}
+
+/// The words of the command line; or, where they can't be read, the status, and that is told.
+fn words_of(rt: &HostRuntime) -> Result<Vec<String>, u8> {
+    let words = match env::args(rt) {
+        Ok(words) => words,
+        Err(error) if error.kind() == ErrorKind::OutOfMemory => {
+            return Err(fail(rt, Refusal::OutOfMemory));
         }
-        Err(error) if error.kind() == ErrorKind::OutOfMemory => fail(&rt, Refusal::OutOfMemory),
         Err(_) => {
             let _ = rt.eprint("error: an argument is not valid UTF-8\n");
-            BAD_COMMAND_LINE
+            return Err(BAD_COMMAND_LINE);
         }
+    };
+    match Vec::from_iter(rt.alloc(), words) {
+        Ok(words) => Ok(words),
+        Err(_) => Err(fail(rt, Refusal::OutOfMemory)),
+    }
+}
+
+fn main(rt: HostRuntime) -> ExitCode {
+    let words = match words_of(&rt) {
+        Ok(words) => words,
+        Err(status) => return ExitCode::from(status),
+    };
+    let status = match perform(&rt, words.as_slice()) {
+        Outcome::Done { status } => status,
+        Outcome::Text {
+            wanted,
+            jobs,
+            verbose,
+        } => print_of_input(&rt, wanted, jobs, &rt, verbose),
+        Outcome::Serve { directory, serving } => serve_in(&rt, &rt, directory, serving),
     };
     ExitCode::from(status)
 }

@@ -2,6 +2,8 @@
 
 use crate::directory::{Access, make_directory, open_directory};
 use crate::events::EventText;
+use crate::streams::{noted_outputs, plain_outputs};
+use crate::texts::Wanted;
 use crate::told::{FAULT, fail_to_open, tell_of_feeding, tell_of_listing};
 use hg_check::telling::tell;
 use hg_commands::creating::create_store;
@@ -18,7 +20,9 @@ use hg_store::devices::Devices;
 use hg_streams::input::Input;
 use hg_streams::output::Output;
 use hg_verbose::lines::Lines;
-use hg_verbose::noted::{NotedReader, NotedWriter};
+use hg_verbose::noted::NotedReader;
+use std::alloc::Global;
+use std::io::Write;
 
 /// Makes the store.
 pub fn create_in(rt: &HostRuntime, directory: &str) -> u8 {
@@ -26,33 +30,24 @@ pub fn create_in(rt: &HostRuntime, directory: &str) -> u8 {
         Ok(devices) => devices,
         Err(fault) => return fail_to_open(rt, &fault, false),
     };
-    let mut outputs = Outputs {
-        output: Output::new(rt.stdout()),
-        faults: Output::new(rt.stderr()),
-    };
+    let mut outputs = plain_outputs(rt);
     create_store(rt.alloc(), devices, &mut outputs).status
 }
 
 /// Feeds the trace on standard input to the store on these devices.
 fn feed_plainly(rt: &HostRuntime, devices: Devices<FileDisk>, plan: FeedPlan) -> u8 {
     let mut input = Input::new(rt.stdin());
-    let mut outputs = Outputs {
-        output: Output::new(rt.stdout()),
-        faults: Output::new(rt.stderr()),
-    };
+    let mut outputs = plain_outputs(rt);
     feed(rt.alloc(), devices, plan, &mut input, &mut outputs).status
 }
 
 /// The same, and tells what the last line means.
 fn feed_told(rt: &HostRuntime, devices: Devices<FileDisk>, plan: FeedPlan, lines: Lines) -> u8 {
     let mut input = Input::new(NotedReader::new(rt.stdin(), lines));
-    let mut outputs = Outputs {
-        output: Output::new(NotedWriter::new(rt.alloc(), rt.stdout())),
-        faults: Output::new(NotedWriter::new(rt.alloc(), rt.stderr())),
-    };
+    let mut outputs = noted_outputs(rt);
     let outcome = feed(rt.alloc(), devices, plan, &mut input, &mut outputs);
     let status = outcome.status;
-    tell_of_feeding(rt, input.into_stream(), &outputs, outcome.devices);
+    tell_of_feeding(rt, &mut input.into_stream(), &outputs, outcome.devices);
     status
 }
 
@@ -72,34 +67,34 @@ pub fn feed_in(rt: &HostRuntime, directory: &str, plan: FeedPlan, verbose: bool)
     }
 }
 
-/// Prints the reports of the store.
-pub fn reports_in(rt: &HostRuntime, directory: &str, frames: Frames, verbose: bool) -> u8 {
-    let devices = match open_directory(rt, directory, Access::Look) {
-        Ok(devices) => devices,
-        Err(fault) => return fail_to_open(rt, &fault, verbose),
-    };
-    let mut outputs = Outputs {
-        output: Output::new(NotedWriter::new(rt.alloc(), rt.stdout())),
-        faults: Output::new(NotedWriter::new(rt.alloc(), rt.stderr())),
-    };
-    let (status, devices) = store_reports(rt.alloc(), devices, frames.pages, &mut outputs);
-    if verbose {
-        tell_of_listing(rt, &outputs, devices);
+/// Prints what is wanted of the store on these devices, and answers the status and the devices.
+fn print_wanted<W: Write, V: Write>(
+    alloc: Global,
+    devices: Devices<FileDisk>,
+    wanted: Wanted,
+    frames: Frames,
+    outputs: &mut Outputs<W, V>,
+) -> (u8, Devices<FileDisk>) {
+    match wanted {
+        Wanted::Reports => store_reports(alloc, devices, frames.pages, outputs),
+        Wanted::Segments => store_graph(alloc, devices, frames.pages, outputs),
     }
-    status
 }
 
-/// Prints the segments of the store.
-pub fn graph_in(rt: &HostRuntime, directory: &str, verbose: bool) -> u8 {
+/// Prints what is wanted of the store.
+pub fn print_of_store(
+    rt: &HostRuntime,
+    directory: &str,
+    wanted: Wanted,
+    frames: Frames,
+    verbose: bool,
+) -> u8 {
     let devices = match open_directory(rt, directory, Access::Look) {
         Ok(devices) => devices,
         Err(fault) => return fail_to_open(rt, &fault, verbose),
     };
-    let mut outputs = Outputs {
-        output: Output::new(NotedWriter::new(rt.alloc(), rt.stdout())),
-        faults: Output::new(NotedWriter::new(rt.alloc(), rt.stderr())),
-    };
-    let (status, devices) = store_graph(rt.alloc(), devices, 64, &mut outputs);
+    let mut outputs = noted_outputs(rt);
+    let (status, devices) = print_wanted(rt.alloc(), devices, wanted, frames, &mut outputs);
     if verbose {
         tell_of_listing(rt, &outputs, devices);
     }

@@ -1,5 +1,6 @@
 //! Commands over the trace on standard input.
 
+use crate::streams::{noted_outputs, plain_outputs};
 use crate::told::tell_of_text;
 use hg_check::commands::{check, graph};
 use hg_commands::printing::Outputs;
@@ -9,13 +10,13 @@ use hg_options::task::{Explaining, Jobs};
 use hg_streams::input::Input;
 use hg_streams::output::Output;
 use hg_verbose::lines::Lines;
-use hg_verbose::noted::{NotedReader, NotedWriter};
+use hg_verbose::noted::NotedReader;
 use std::alloc::Global;
 use std::io::{Read, Write};
 use std::thread::Threads;
 
 /// What is to be printed of a trace.
-#[derive(Clone, Copy, Debug, PartialEq, Eq, Drop)]
+#[derive(Clone, Copy, Drop)]
 pub enum Wanted {
     /// The reports of its races.
     Reports,
@@ -47,11 +48,23 @@ fn print_plainly<T: Threads + Sync>(
     rt: &HostRuntime,
 ) -> u8 {
     let mut input = Input::new(rt.stdin());
-    let mut outputs = Outputs {
-        output: Output::new(rt.stdout()),
-        faults: Output::new(rt.stderr()),
-    };
+    let mut outputs = plain_outputs(rt);
     print_wanted(threads, wanted, jobs, rt.alloc(), &mut input, &mut outputs)
+}
+
+/// The same, and tells what the last line means.
+fn print_told<T: Threads + Sync>(
+    threads: &T,
+    wanted: Wanted,
+    jobs: usize,
+    rt: &HostRuntime,
+    lines: Lines,
+) -> u8 {
+    let mut input = Input::new(NotedReader::new(rt.stdin(), lines));
+    let mut outputs = noted_outputs(rt);
+    let status = print_wanted(threads, wanted, jobs, rt.alloc(), &mut input, &mut outputs);
+    tell_of_text(rt, &mut input.into_stream(), &outputs);
+    status
 }
 
 /// The same, and where it is asked for tells what the last line means. Where there is no memory for that it is left out.
@@ -66,17 +79,10 @@ pub fn print_of_input<T: Threads + Sync>(
     if !verbose {
         return print_plainly(threads, wanted, jobs, rt);
     }
-    let Ok(lines) = Lines::new(rt.alloc()) else {
-        return print_plainly(threads, wanted, jobs, rt);
-    };
-    let mut input = Input::new(NotedReader::new(rt.stdin(), lines));
-    let mut outputs = Outputs {
-        output: Output::new(NotedWriter::new(rt.alloc(), rt.stdout())),
-        faults: Output::new(NotedWriter::new(rt.alloc(), rt.stderr())),
-    };
-    let status = print_wanted(threads, wanted, jobs, rt.alloc(), &mut input, &mut outputs);
-    tell_of_text(rt, input.into_stream(), &outputs.output, &outputs.faults);
-    status
+    match Lines::new(rt.alloc()) {
+        Ok(lines) => print_told(threads, wanted, jobs, rt, lines),
+        Err(_) => print_plainly(threads, wanted, jobs, rt),
+    }
 }
 
 /// Explains a word by the trace on standard input.

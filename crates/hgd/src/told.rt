@@ -11,6 +11,7 @@ use hg_store::devices::Devices;
 use hg_streams::output::Output;
 use hg_verbose::fault::{Source, damage, replay};
 use hg_verbose::last::{Last, last_of};
+use hg_verbose::lines::Lines;
 use hg_verbose::meaning::{of_damage, of_fault, of_line};
 use hg_verbose::noted::{NotedReader, NotedWriter};
 use hg_verbose::past::Past;
@@ -52,9 +53,16 @@ fn last_line<W, V>(
     }
 }
 
-/// Prints a meaning on standard error, if there is one and memory for it.
-fn print(rt: &HostRuntime, meaning: Result<Option<String>, AllocError>) {
-    if let Ok(Some(text)) = meaning {
+/// Prints a meaning on standard error, if there is memory for it.
+fn print(rt: &HostRuntime, meaning: Result<String, AllocError>) {
+    if let Ok(text) = meaning {
+        let _ = rt.eprint(text.as_str());
+    }
+}
+
+/// Prints what the last line means, where it is of a line of these and there is memory for it. `past` is what the events before it left.
+fn print_of_line(rt: &HostRuntime, last: Last, lines: &mut Lines, past: Option<&Past>) {
+    if let Ok(Some(text)) = of_line(rt.alloc(), last, lines, past) {
         let _ = rt.eprint(text.as_str());
     }
 }
@@ -65,32 +73,38 @@ fn source(name: &str, error: Option<io::Error>) -> Source<'_> {
 
 /// Tells a fault of the streams and the files.
 fn tell_fault(rt: &HostRuntime, code: u64, sources: &[Source<'_>]) {
-    if let Ok(text) = of_fault(rt.alloc(), code, sources) {
-        let _ = rt.eprint(text.as_str());
-    }
+    print(rt, of_fault(rt.alloc(), code, sources));
 }
 
 /// Tells the last line of a command that read a text, and used no store.
 pub fn tell_of_text<R, W, V>(
     rt: &HostRuntime,
-    mut input: NotedReader<R>,
-    output: &Output<NotedWriter<W>>,
-    faults: &Output<NotedWriter<V>>,
-)
-where
-    R: Drop,
-{
-    match last_line(output, faults) {
+    input: &mut NotedReader<R>,
+    outputs: &Outputs<NotedWriter<W>, NotedWriter<V>>,
+) {
+    match last_line(&outputs.output, &outputs.faults) {
         Some(Last::Fault { code }) => {
             let sources = [
                 source("standard input", input.error()),
-                source("standard output", output.stream().error()),
+                source("standard output", outputs.output.stream().error()),
             ];
             tell_fault(rt, code, &sources);
         }
-        Some(last) => print(rt, of_line(rt.alloc(), last, input.lines(), None)),
+        Some(last) => print_of_line(rt, last, input.lines(), None),
         None => {}
     }
+}
+
+/// Tells which device of a store is not a store's.
+fn tell_damage(rt: &HostRuntime, devices: Devices<FileDisk>) {
+    let Devices {
+        journal,
+        slots: _,
+        root0,
+        root1,
+    } = devices;
+    let place = damage(rt.alloc(), journal, root0, root1);
+    print(rt, of_damage(rt.alloc(), place));
 }
 
 /// Tells a fault of a command on a store, whose input failed so, if at all. `pages` is what the slots of its pages are called.
@@ -110,17 +124,11 @@ fn tell_fault_of_store(
         source("root0", devices.root0.error()),
         source("root1", devices.root1.error()),
     ];
-    if code != 11 {
-        return tell_fault(rt, code, &sources);
+    if code == 11 {
+        tell_damage(rt, devices);
+    } else {
+        tell_fault(rt, code, &sources);
     }
-    let Devices {
-        journal,
-        slots: _,
-        root0,
-        root1,
-    } = devices;
-    let place = damage(rt.alloc(), journal, root0, root1);
-    print(rt, of_damage(rt.alloc(), place).map(Some));
 }
 
 /// Tells the last line of a command that lists a store.
@@ -150,26 +158,26 @@ fn past_of(rt: &HostRuntime, devices: Devices<FileDisk>) -> Option<Past> {
     }
 }
 
+/// Prints what the last line of a command that fed these lines to a store means.
+fn print_of_fed_line(rt: &HostRuntime, last: Last, lines: &mut Lines, devices: Devices<FileDisk>) {
+    if let Some(past) = past_of(rt, devices) {
+        print_of_line(rt, last, lines, Some(&past));
+    }
+}
+
 /// Tells the last line of a command that fed a text to a store.
 pub fn tell_of_feeding<R, W, V>(
     rt: &HostRuntime,
-    mut input: NotedReader<R>,
+    input: &mut NotedReader<R>,
     outputs: &Outputs<NotedWriter<W>, NotedWriter<V>>,
     devices: Devices<FileDisk>,
-)
-where
-    R: Drop,
-{
+) {
     match last_line(&outputs.output, &outputs.faults) {
         Some(Last::Fault { code }) => {
             let (input, output) = (input.error(), outputs.output.stream().error());
             tell_fault_of_store(rt, code, input, output, "pages", devices);
         }
-        Some(last) => {
-            if let Some(past) = past_of(rt, devices) {
-                print(rt, of_line(rt.alloc(), last, input.lines(), Some(&past)));
-            }
-        }
+        Some(last) => print_of_fed_line(rt, last, input.lines(), devices),
         None => {}
     }
 }
