@@ -24,7 +24,7 @@ const FEW: usize = 262_144;
 const FIRST: usize = 65_536;
 
 /// At most so many bytes are parsed while others are offered, and held until their turn comes.
-const GROUP: usize = 2_097_152;
+const GROUP: usize = 1_048_576;
 
 /// Parts have room for a line in so many bytes. Where lines are shorter, the rest of a text is parsed where it is offered.
 const BYTES_A_LINE: usize = 8;

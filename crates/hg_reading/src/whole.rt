@@ -20,7 +20,7 @@ use std::thread::Threads;
 const PIECE: usize = 65_536;
 
 /// How many bytes are read at once where several threads parse them.
-const LARGE_PIECE: usize = 4_194_304;
+const LARGE_PIECE: usize = 2_097_152;
 
 /// After how many reads an input counts as failed.
 const MOST_READS: u64 = 1 << 32;

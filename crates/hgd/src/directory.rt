@@ -1,9 +1,9 @@
 //! The directory of a store.
 
-ghost use Rattle.std.specs.Prelude.{◌≡◌, ◌⊎◌, IfErr};
+ghost use Rattle.std.specs.Prelude.{◌≡◌, IfErr};
 
+use crate::told::Cause;
 use hg_disk::FileDisk;
-use hg_model::verdict::Refusal;
 use hg_store::devices::Devices;
 use std::fs::{File, OpenOptions, TryLockError};
 use std::io::{ErrorKind, Read};
@@ -27,20 +27,20 @@ pub enum Access {
     Look,
 }
 
-/// Why a store's files can't be used: with which refusal that ends, at which of them, and what the system said.
+/// Why a store's files can't be used, at which of them, and what the system said.
 #[derive(Clone, Copy, Drop)]
 pub struct OpenFault {
-    pub refusal: Refusal,
+    pub cause: Cause,
     pub name: &'static str,
     pub error: Option<io::Error>,
 }
 
 /// A fault of a device.
 fn failed(name: &'static str, error: io::Error) -> OpenFault
-    ensures { result.refusal ≡ Refusal.DeviceFault }
+    ensures { result.cause ≡ Cause.DeviceFault }
 {
     OpenFault {
-        refusal: Refusal::DeviceFault,
+        cause: Cause::DeviceFault,
         name,
         error: Some(error),
     }
@@ -48,10 +48,10 @@ fn failed(name: &'static str, error: io::Error) -> OpenFault
 
 /// Want of memory.
 fn out_of_memory(name: &'static str) -> OpenFault
-    ensures { result.refusal ≡ Refusal.OutOfMemory }
+    ensures { result.cause ≡ Cause.OutOfMemory }
 {
     OpenFault {
-        refusal: Refusal::OutOfMemory,
+        cause: Cause::OutOfMemory,
         name,
         error: None,
     }
@@ -59,7 +59,7 @@ fn out_of_memory(name: &'static str) -> OpenFault
 
 /// The file `name` of a directory, as text for the system.
 fn path_of(rt: &HostRuntime, directory: &str, name: &'static str) -> Result<String, OpenFault>
-    ensures { IfErr result (λ f. f.refusal ≡ Refusal.OutOfMemory) }
+    ensures { IfErr result (λ f. f.cause ≡ Cause.OutOfMemory) }
 {
     match format!(in rt.alloc(); "{directory}/{name}") {
         Ok(path) => Ok(path),
@@ -82,7 +82,6 @@ fn open_file(
     name: &'static str,
     access: Access,
 ) -> Result<Option<File>, OpenFault>
-    ensures { IfErr result (λ f. (f.refusal ≡ Refusal.DeviceFault) ⊎ (f.refusal ≡ Refusal.OutOfMemory)) }
 {
     let path = path_of(rt, directory, name)?;
     let mut options = OpenOptions::new();
@@ -106,7 +105,7 @@ fn open_file(
 
 /// Locks a file for what is done to its store, at once or not at all.
 fn lock(file: &File, access: Access) -> Result<(), OpenFault>
-    ensures { IfErr result (λ f. f.refusal ≡ Refusal.DeviceFault) }
+    ensures { IfErr result (λ f. f.cause ≡ Cause.DeviceFault) }
 {
     let locked = match access {
         Access::Look => file.try_lock_shared(),
@@ -124,7 +123,7 @@ fn lock(file: &File, access: Access) -> Result<(), OpenFault>
 
 /// A file as a device. One that is missing has no byte.
 fn device(name: &'static str, file: Option<File>) -> Result<FileDisk, OpenFault>
-    ensures { IfErr result (λ f. f.refusal ≡ Refusal.DeviceFault) }
+    ensures { IfErr result (λ f. f.cause ≡ Cause.DeviceFault) }
 {
     match file {
         Some(file) => match FileDisk::new(file) {
@@ -137,7 +136,6 @@ fn device(name: &'static str, file: Option<File>) -> Result<FileDisk, OpenFault>
 
 /// Opens the journal, and locks it before anything of it is read.
 fn open_journal(rt: &HostRuntime, directory: &str, access: Access) -> Result<FileDisk, OpenFault>
-    ensures { IfErr result (λ f. (f.refusal ≡ Refusal.DeviceFault) ⊎ (f.refusal ≡ Refusal.OutOfMemory)) }
 {
     let file = open_file(rt, directory, "journal", access)?;
     if let Some(file) = &file {
@@ -184,7 +182,7 @@ fn scratch_copy(rt: &HostRuntime, pages: &Option<File>) -> io::Result<File> {
 
 /// Makes a file's bytes durable, or a folder's names.
 fn sync(name: &'static str, file: &File) -> Result<(), OpenFault>
-    ensures { IfErr result (λ f. f.refusal ≡ Refusal.DeviceFault) }
+    ensures { IfErr result (λ f. f.cause ≡ Cause.DeviceFault) }
 {
     match file.sync_all() {
         Ok(()) => Ok(()),
@@ -195,7 +193,6 @@ fn sync(name: &'static str, file: &File) -> Result<(), OpenFault>
 /// Opens `pages`. Who makes a store, which then has no page to write, has the empty file durable. Who only looks gets a scratch copy, since opening
 /// a store may write pages; where none can be made, `pages` itself, which is enough as long as all pages have room in memory.
 fn open_pages(rt: &HostRuntime, directory: &str, access: Access) -> Result<FileDisk, OpenFault>
-    ensures { IfErr result (λ f. (f.refusal ≡ Refusal.DeviceFault) ⊎ (f.refusal ≡ Refusal.OutOfMemory)) }
 {
     let pages = open_file(rt, directory, "pages", access)?;
     if access == Access::Look {
@@ -218,7 +215,6 @@ fn open_root(
     name: &'static str,
     access: Access,
 ) -> Result<FileDisk, OpenFault>
-    ensures { IfErr result (λ f. (f.refusal ≡ Refusal.DeviceFault) ⊎ (f.refusal ≡ Refusal.OutOfMemory)) }
 {
     device(name, open_file(rt, directory, name, access)?)
 }
@@ -229,7 +225,6 @@ fn open_files(
     directory: &str,
     access: Access,
 ) -> Result<Devices<FileDisk>, OpenFault>
-    ensures { IfErr result (λ f. (f.refusal ≡ Refusal.DeviceFault) ⊎ (f.refusal ≡ Refusal.OutOfMemory)) }
 {
     Ok(Devices {
         journal: open_journal(rt, directory, access)?,
@@ -250,7 +245,6 @@ pub fn open_directory(
     directory: &str,
     access: Access,
 ) -> Result<Devices<FileDisk>, OpenFault>
-    ensures { IfErr result (λ f. (f.refusal ≡ Refusal.DeviceFault) ⊎ (f.refusal ≡ Refusal.OutOfMemory)) }
 {
     let first = File::open(rt, "/dev/null");
     let second = File::open(rt, "/dev/null");
@@ -262,7 +256,7 @@ pub fn open_directory(
 
 /// Makes a directory's names durable.
 fn sync_directory(rt: &HostRuntime, path: &str) -> Result<(), OpenFault>
-    ensures { IfErr result (λ f. f.refusal ≡ Refusal.DeviceFault) }
+    ensures { IfErr result (λ f. f.cause ≡ Cause.DeviceFault) }
 {
     match File::open(rt, path) {
         Ok(directory) => sync("the folder", &directory),
@@ -272,7 +266,7 @@ fn sync_directory(rt: &HostRuntime, path: &str) -> Result<(), OpenFault>
 
 /// Makes a new store's names durable, and that of its directory in the one above.
 fn sync_names(rt: &HostRuntime, directory: &str, above: &str) -> Result<(), OpenFault>
-    ensures { IfErr result (λ f. f.refusal ≡ Refusal.DeviceFault) }
+    ensures { IfErr result (λ f. f.cause ≡ Cause.DeviceFault) }
 {
     sync_directory(rt, directory)?;
     sync_directory(rt, above)
@@ -281,7 +275,6 @@ fn sync_names(rt: &HostRuntime, directory: &str, above: &str) -> Result<(), Open
 /// Makes a directory where there is none, and opens its files as `open_directory` does, made where they are missing. Their
 /// names, and that of the directory, are then durable.
 pub fn make_directory(rt: &HostRuntime, directory: &str) -> Result<Devices<FileDisk>, OpenFault>
-    ensures { IfErr result (λ f. (f.refusal ≡ Refusal.DeviceFault) ⊎ (f.refusal ≡ Refusal.OutOfMemory)) }
 {
     // Where it can't be made, its files can't be opened.
     let _ = fs::create_dir(rt, directory);

@@ -12,7 +12,7 @@ use crate::directory::{Access, open_directory};
 use crate::stores::{create_in, explain_in, feed_in, print_of_store};
 use crate::streams::plain_outputs;
 use crate::texts::{Wanted, explain_input, print_of_input};
-use crate::told::{FAULT, fail, fail_to_open};
+use crate::told::{Cause, FAULT, fail, fail_to_open};
 use hg_check::telling::tell;
 use hg_commands::plan::FeedPlan;
 use hg_commands::printing::Outputs;
@@ -50,10 +50,10 @@ fn tell_misread(rt: &HostRuntime, misread: &Misread) -> u8 {
             rt.eprint("error: the command lacks an argument\n"),
             BAD_COMMAND_LINE,
         ),
-        Misread::OutOfMemory => return fail(rt, Refusal::OutOfMemory),
+        Misread::OutOfMemory => return fail(rt, Cause::OutOfMemory),
     };
     if printed.is_err() {
-        return fail(rt, Refusal::DeviceFault);
+        return fail(rt, Cause::DeviceFault);
     }
     status
 }
@@ -201,7 +201,7 @@ fn words_of(rt: &HostRuntime) -> Result<Vec<String>, u8> {
     let words = match env::args(rt) {
         Ok(words) => words,
         Err(error) if error.kind() == ErrorKind::OutOfMemory => {
-            return Err(fail(rt, Refusal::OutOfMemory));
+            return Err(fail(rt, Cause::OutOfMemory));
         }
         Err(_) => {
             let _ = rt.eprint("error: an argument is not valid UTF-8\n");
@@ -210,7 +210,7 @@ fn words_of(rt: &HostRuntime) -> Result<Vec<String>, u8> {
     };
     match Vec::from_iter(rt.alloc(), words) {
         Ok(words) => Ok(words),
-        Err(_) => Err(fail(rt, Refusal::OutOfMemory)),
+        Err(_) => Err(fail(rt, Cause::OutOfMemory)),
     }
 }
 

@@ -1,7 +1,5 @@
 //! Faults, and what the last line means, told on standard error.
 
-ghost use Rattle.std.specs.Prelude.{◌≡◌, ◌⊎◌};
-
 use crate::directory::OpenFault;
 use hg_check::telling::tell;
 use hg_commands::printing::Outputs;
@@ -22,21 +20,34 @@ use std::string::String;
 /// The status of a fault.
 pub const FAULT: u8 = 3;
 
+/// Why the program ends at a stream, a file or want of memory of its own, before a command or without one.
+#[derive(Clone, Copy, Drop)]
+pub enum Cause {
+    DeviceFault,
+    OutOfMemory,
+}
+
+impl Cause {
+    /// What commands call it.
+    fn refusal(self) -> Refusal {
+        match self {
+            Cause::DeviceFault => Refusal::DeviceFault,
+            Cause::OutOfMemory => Refusal::OutOfMemory,
+        }
+    }
+}
+
 /// Tells a fault.
-pub fn fail(rt: &HostRuntime, refusal: Refusal) -> u8
-    requires { (refusal ≡ Refusal.DeviceFault) ⊎ (refusal ≡ Refusal.OutOfMemory) }
-{
-    tell(refusal, &mut Output::new(rt.stderr()));
+pub fn fail(rt: &HostRuntime, cause: Cause) -> u8 {
+    tell(cause.refusal(), &mut Output::new(rt.stderr()));
     FAULT
 }
 
 /// Tells why a store could not be opened, in words too where they are asked for.
-pub fn fail_to_open(rt: &HostRuntime, fault: &OpenFault, verbose: bool) -> u8
-    requires { (fault.now.refusal ≡ Refusal.DeviceFault) ⊎ (fault.now.refusal ≡ Refusal.OutOfMemory) }
-{
-    let status = fail(rt, fault.refusal);
+pub fn fail_to_open(rt: &HostRuntime, fault: &OpenFault, verbose: bool) -> u8 {
+    let status = fail(rt, fault.cause);
     if verbose {
-        let code = u64::from(fault.refusal.code());
+        let code = u64::from(fault.cause.refusal().code());
         tell_fault(rt, code, &[source(fault.name, fault.error)]);
     }
     status

@@ -1,4 +1,4 @@
-use Rattle.std.proofs.Common.{◌≡◌, ℕ, ◌+◌, ◌-◌, ◌^◌, Err, sym, subst, inr, arith}
+use Rattle.std.proofs.Common.{◌≡◌, ℕ, ◌+◌, ◌-◌, ◌*◌, ◌^◌, length, Err, ap, sym, subst, inr, arith}
 use Rattle.std.proofs.lemmas.Result.{err_from_is_err_and}
 use Rattle.hg_reading.specs.Taking.{Reads}
 use Rattle.hg_reading.proofs.Runs.{read_nothing}
@@ -20,3 +20,10 @@ returns-in_err-intake g c =
     let same : c.from_residual-in_err-intake.result ≡ Err c.in_err-intake.field-0.0 = grind arith in
     subst (λ x. Reads g.S.Sink.takes c.args.input.now.calls c.args.input.now.calls c.args.sink.now c.args.output.now.calls x c.args.sink.now c.args.output.now.calls) (sym same)
     (inr (read_nothing g.S.Sink.takes g.met.S.Sink.on c.args.input.now.calls c.args.sink.now c.args.output.now.calls c.in_err-intake.field-0.0 (g.met.S.Sink.none c.args.sink.now c.args.output.now.calls) c.in_err-intake.ensures.cause))
+
+pub read_pieces-requires-clause-room : goal.read_pieces-requires-clause-room
+read_pieces-requires-clause-room g c =
+    let size : length c.in_ok-intake.intake.buffer.items * 2 ^ 32 ≡ 2 ^ 53 = ap (λ (n : ℕ). n * 2 ^ 32) c.in_ok-intake.ensures.size in
+    let split : 2 ^ 54 ≡ 2 ^ 53 + 2 ^ 53 = omega arith in
+    let half = g.met.S.Sink.fewer c.args.sink.now (2 ^ 53) (2 ^ 53) (subst (λ (n : ℕ). g.S.Sink.may_take c.args.sink.now n) split c.requires.room) in
+    subst (λ (n : ℕ). g.S.Sink.may_take c.args.sink.now n) (sym size) half
