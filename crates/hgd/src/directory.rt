@@ -81,8 +81,7 @@ fn open_file(
     directory: &str,
     name: &'static str,
     access: Access,
-) -> Result<Option<File>, OpenFault>
-{
+) -> Result<Option<File>, OpenFault> {
     let path = path_of(rt, directory, name)?;
     let mut options = OpenOptions::new();
     options
@@ -135,8 +134,7 @@ fn device(name: &'static str, file: Option<File>) -> Result<FileDisk, OpenFault>
 }
 
 /// Opens the journal, and locks it before anything of it is read.
-fn open_journal(rt: &HostRuntime, directory: &str, access: Access) -> Result<FileDisk, OpenFault>
-{
+fn open_journal(rt: &HostRuntime, directory: &str, access: Access) -> Result<FileDisk, OpenFault> {
     let file = open_file(rt, directory, "journal", access)?;
     if let Some(file) = &file {
         lock(file, access)?;
@@ -192,8 +190,7 @@ fn sync(name: &'static str, file: &File) -> Result<(), OpenFault>
 
 /// Opens `pages`. Who makes a store, which then has no page to write, has the empty file durable. Who only looks gets a scratch copy, since opening
 /// a store may write pages; where none can be made, `pages` itself, which is enough as long as all pages have room in memory.
-fn open_pages(rt: &HostRuntime, directory: &str, access: Access) -> Result<FileDisk, OpenFault>
-{
+fn open_pages(rt: &HostRuntime, directory: &str, access: Access) -> Result<FileDisk, OpenFault> {
     let pages = open_file(rt, directory, "pages", access)?;
     if access == Access::Look {
         if let Ok(copy) = scratch_copy(rt, &pages) {
@@ -214,8 +211,7 @@ fn open_root(
     directory: &str,
     name: &'static str,
     access: Access,
-) -> Result<FileDisk, OpenFault>
-{
+) -> Result<FileDisk, OpenFault> {
     device(name, open_file(rt, directory, name, access)?)
 }
 
@@ -224,8 +220,7 @@ fn open_files(
     rt: &HostRuntime,
     directory: &str,
     access: Access,
-) -> Result<Devices<FileDisk>, OpenFault>
-{
+) -> Result<Devices<FileDisk>, OpenFault> {
     Ok(Devices {
         journal: open_journal(rt, directory, access)?,
         slots: open_pages(rt, directory, access)?,
@@ -244,8 +239,7 @@ pub fn open_directory(
     rt: &HostRuntime,
     directory: &str,
     access: Access,
-) -> Result<Devices<FileDisk>, OpenFault>
-{
+) -> Result<Devices<FileDisk>, OpenFault> {
     let first = File::open(rt, "/dev/null");
     let second = File::open(rt, "/dev/null");
     let third = File::open(rt, "/dev/null");
@@ -274,8 +268,7 @@ fn sync_names(rt: &HostRuntime, directory: &str, above: &str) -> Result<(), Open
 
 /// Makes a directory where there is none, and opens its files as `open_directory` does, made where they are missing. Their
 /// names, and that of the directory, are then durable.
-pub fn make_directory(rt: &HostRuntime, directory: &str) -> Result<Devices<FileDisk>, OpenFault>
-{
+pub fn make_directory(rt: &HostRuntime, directory: &str) -> Result<Devices<FileDisk>, OpenFault> {
     // Where it can't be made, its files can't be opened.
     let _ = fs::create_dir(rt, directory);
     let above = path_of(rt, directory, "..")?;
