@@ -32,8 +32,8 @@ kept_alone old new it passed event is none reads n =
     let place : n + lines_kept old ≡ n + lines_kept old + passed = omega (arith, none) in
     ap (readings_kept n) is ∙ (readings_more n old it ∙ ap (λ rs. readings_kept n old ++ rs) (reads (n + lines_kept old) ∙ ap (λ (m : ℕ). one m event) place))
 
-pub lines_alone : (old new : List Kept) (it : Kept) (passed : ℕ) → new ≡ old ++ it ∷ [] → passed ≡ 0 → lines_by it ≡ 1 → lines_kept new ≡ lines_kept old + passed + 1
-lines_alone old new it passed is none by = ap lines_kept is ∙ (lines_more old it ∙ omega (arith, none, by))
+pub lines_alone : (old new : List Kept) (it : Kept) (passed : ℕ) → new ≡ old ++ it ∷ [] → passed ≡ 0 → lines_kept new ≡ lines_kept old + passed + lines_by it
+lines_alone old new it passed is none = ap lines_kept is ∙ (lines_more old it ∙ omega (arith, none))
 
 -- a line with its event, behind lines without one
 pub kept_behind : (old mid new : List Kept) (it : Kept) (passed : ℕ) (event : Event) → mid ≡ old ++ Passed passed ∷ [] → new ≡ mid ++ it ∷ [] → ((n : ℕ) → reading_kept n it ≡ one n event)
@@ -45,10 +45,10 @@ kept_behind old mid new it passed event first is reads n =
     ap (readings_kept n) is ∙ (readings_more n mid it ∙ (ap (λ rs. rs ++ reading_kept (n + lines_kept mid) it) before
     ∙ ap (λ rs. readings_kept n old ++ rs) (reads (n + lines_kept mid) ∙ ap (λ (m : ℕ). one m event) place)))
 
-pub lines_behind : (old mid new : List Kept) (it : Kept) (passed : ℕ) → mid ≡ old ++ Passed passed ∷ [] → new ≡ mid ++ it ∷ [] → lines_by it ≡ 1 → lines_kept new ≡ lines_kept old + passed + 1
-lines_behind old mid new it passed first is by =
+pub lines_behind : (old mid new : List Kept) (it : Kept) (passed : ℕ) → mid ≡ old ++ Passed passed ∷ [] → new ≡ mid ++ it ∷ [] → lines_kept new ≡ lines_kept old + passed + lines_by it
+lines_behind old mid new it passed first is =
     let count : lines_kept mid ≡ lines_kept old + passed = ap lines_kept first ∙ lines_more old (Passed passed) in
-    ap lines_kept is ∙ (lines_more mid it ∙ omega (arith, count, by))
+    ap lines_kept is ∙ (lines_more mid it ∙ omega (arith, count))
 
 module _ {S E : Type 0} (takes : Taking S E) where
   -- Behind n lines these were offered and passed, and behind m lines those are still to be offered.

@@ -119,9 +119,8 @@ impl Kept {
 /// Keeps a line with its event, behind lines that have none. `false` says that there is no room, and then nothing is kept.
 #[inline(always)]
 pub fn keep(kept: &mut Vec<Kept>, passed: u64, it: Kept) -> bool
-    requires line { lines_by it ≡ 1 }
     ensures readings { OnTrue result (KeepsLine kept.old.items passed it kept.new.items) }
-    ensures lines { OnTrue result (lines_kept kept.new.items ≡ lines_kept kept.old.items + passed + 1) }
+    ensures lines { OnTrue result (lines_kept kept.new.items ≡ lines_kept kept.old.items + passed + lines_by it) }
     ensures full { OnFalse result (kept.new.items ≡ kept.old.items) }
 {
     if kept.capacity() - kept.len() < 2 {

@@ -7,7 +7,7 @@ returns-then-passed-eq0-clause-readings c event reads =
 
 pub returns-then-passed-eq0-clause-lines : goal.returns-then-passed-eq0-clause-lines
 returns-then-passed-eq0-clause-lines c =
-    lines_alone c.args.kept.now.items c.push.new.kept.items c.args.it c.args.passed c.push.ensures.items c.if-passed-eq0.true c.requires.line
+    lines_alone c.args.kept.now.items c.push.new.kept.items c.args.it c.args.passed c.push.ensures.items c.if-passed-eq0.true
 
 pub returns-clause-readings : goal.returns-clause-readings
 returns-clause-readings c event reads =
@@ -15,4 +15,4 @@ returns-clause-readings c event reads =
 
 pub returns-clause-lines : goal.returns-clause-lines
 returns-clause-lines c =
-    lines_behind c.args.kept.now.items c.push-2.new.kept.items c.push-3.new.kept.items c.args.it c.args.passed c.push-2.ensures.items c.push-3.ensures.items c.requires.line
+    lines_behind c.args.kept.now.items c.push-2.new.kept.items c.push-3.new.kept.items c.args.it c.args.passed c.push-2.ensures.items c.push-3.ensures.items

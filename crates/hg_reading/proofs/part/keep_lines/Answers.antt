@@ -1,5 +1,5 @@
-use Rattle.std.proofs.Common.{ℕ, ◌+◌, ◌-◌, length, drop, sym, ap, subst}
-use Rattle.hg_reading.specs.Keeping.{IsKept}
+use Rattle.std.proofs.Common.{ℕ, ◌+◌, ◌-◌, length, drop, sym, ap, ◌∙◌, subst}
+use Rattle.hg_reading.specs.Keeping.{IsKept, lines_kept}
 use Rattle.hg_reading.proofs.Parsing.{IsParsedTo, parsed_all, parsed_on, rest_is}
 use Rattle.hg_reading.proofs.part.keep_lines.Goals as goal
 
@@ -8,7 +8,7 @@ loop-it-preserved c =
     subst (IsParsedTo c.args.text.now c.keep.new.kept.items c.lines-lines.result (c.loop-it.extent.bytes + c.in-Line.used) c.next_line.new.reader) (sym (rest_is c.in-Line.used c.loop-it.rest.now))
     (subst (λ n. IsParsedTo c.args.text.now c.keep.new.kept.items n (c.loop-it.extent.bytes + c.in-Line.used) c.next_line.new.reader (drop c.in-Line.used c.loop-it.rest.now)) (sym c.lines-lines.ensures)
     (parsed_on c.args.text.now c.loop-it.kept.items c.keep.new.kept.items c.loop-it.extent.lines c.loop-it.extent.bytes c.loop-it.reader c.next_line.new.reader c.loop-it.rest.now c.in-Line.ensures.0 c.in-Line.used (c.lines-lines.result - c.loop-it.extent.lines - 1)
-    c.loop-it.invariant c.in-Line.ensures.3 (ap (λ (n : ℕ). n - c.loop-it.extent.lines - 1) c.lines-lines.ensures) (c.if-not-keep.ensures.readings c.in-Line.ensures.0 c.in-Line.ensures.1) c.if-not-keep.ensures.lines))
+    c.loop-it.invariant c.in-Line.ensures.3 (ap (λ (n : ℕ). n - c.loop-it.extent.lines - 1) c.lines-lines.ensures) (c.if-not-keep.ensures.readings c.in-Line.ensures.0 c.in-Line.ensures.1) (c.if-not-keep.ensures.lines ∙ ap (λ (n : ℕ). lines_kept c.loop-it.kept.items + (c.lines-lines.result - c.loop-it.extent.lines - 1) + n) c.in-Line.ensures.2)))
 
 pub returns-then-is_between_lines : goal.returns-then-is_between_lines
 returns-then-is_between_lines c =
