@@ -15,7 +15,7 @@ use hg_store::create::CreateFault;
 use hg_store::devices::{Caps, Devices};
 use hg_store::store::Store;
 use hg_streams::output::Output;
-use hg_streams::trail::Trail;
+use hg_trail::Trail;
 use std::alloc::Global;
 use std::io::Write;
 

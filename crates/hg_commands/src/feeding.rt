@@ -30,7 +30,7 @@ use hg_store::devices::Devices;
 use hg_store::store::Store;
 use hg_streams::input::Input;
 use hg_streams::output::Output;
-use hg_streams::trail::Trail;
+use hg_trail::Trail;
 use hg_wire::line::AccessLine;
 use hg_wire::reader::Reading;
 use std::alloc::Global;

@@ -18,7 +18,7 @@ use hg_model::event::{Event, Named};
 use hg_model::verdict::Refusal;
 use hg_store::store::Store;
 use hg_streams::output::Output;
-use hg_streams::trail::Trail;
+use hg_trail::Trail;
 use hg_wire::reader::Reading;
 use std::io::Write;
 

@@ -7,7 +7,7 @@ use hg_disk::Disk;
 use hg_store::devices::Devices;
 use hg_store::store::Store;
 use hg_streams::output::Output;
-use hg_streams::trail::Trail;
+use hg_trail::Trail;
 use std::marker::Model;
 use std::snapshot::Snapshot;
 

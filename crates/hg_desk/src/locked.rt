@@ -22,7 +22,7 @@ use hg_frames::reply::Reply;
 use hg_model::verdict::Refusal;
 use hg_store::steps::{Step, StepFault, StepResult};
 use hg_store::store::Store;
-use hg_streams::trail::Trail;
+use hg_trail::Trail;
 use std::alloc::Global;
 use std::marker::Model;
 use std::sync::ledger::{Blank, Book};

@@ -13,7 +13,7 @@ use crate::share::{Column, Opening, Share};
 use crate::tasks::Task;
 use hg_disk::Disk;
 use hg_store::store::Store;
-use hg_streams::trail::Trail;
+use hg_trail::Trail;
 use std::alloc::Global;
 use std::sync::ledger::{Blank, Book, Share as Part};
 use std::sync::{Mutex, Wait};

@@ -15,4 +15,3 @@ pub mod Replay
 pub mod State
 pub mod Tape
 pub mod Tear
-pub mod Trail

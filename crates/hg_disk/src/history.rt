@@ -4,7 +4,7 @@ ghost use Rattle.hg_disk.specs.Event.{event, with_answer, with_refusal};
 
 use crate::DiskFault;
 use crate::call::{Answer, Answered, Call};
-use crate::trail::Trail;
+use hg_trail::Trail;
 
 /// A call with its answer, and of a write that took effect its bytes.
 #[derive(Drop)]

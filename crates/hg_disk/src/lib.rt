@@ -13,7 +13,6 @@ mod overwrite;
 mod replay;
 mod tape;
 mod tear;
-mod trail;
 
 pub use call::{Answer, Answered, Call};
 pub use disk::{Disk, DiskFault, MAX_LEN};

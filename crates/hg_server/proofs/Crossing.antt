@@ -28,7 +28,7 @@ use Rattle.hg_store.specs.contracts.store.Store.TheInside as within
 use Rattle.hg_checkpointer.specs.contracts.checkpointer.Checkpointer as checkpointer
 use Rattle.std.specs.declared.sync.ledger.Ledger as ledger
 use Rattle.std.proofs.sync.ledger.Book.TheSendSync as book
-use Rattle.hg_streams.proofs.trail.Trail.TheLaws.TheKnot as knot
+use Rattle.hg_trail.proofs.trail.Trail.TheLaws.TheKnot as knot
 use Rattle.hg_desk.specs.declared.share.Column as column
 use Rattle.hg_desk.specs.declared.share.Opening as opening
 use Rattle.hg_desk.specs.contracts.locked.Core as core

@@ -24,7 +24,7 @@ use hg_model::verdict::Refusal;
 use hg_store::devices::Devices;
 use hg_store::store::Store;
 use hg_streams::output::Output;
-use hg_streams::trail::Trail;
+use hg_trail::Trail;
 use std::alloc::{AllocError, Global};
 use std::io::{ErrorKind, Write};
 use std::marker::Brand;

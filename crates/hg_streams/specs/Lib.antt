@@ -1,4 +1,3 @@
 pub mod Calls
 pub mod Shown
-pub mod Trail
 pub mod Told

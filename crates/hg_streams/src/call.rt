@@ -1,6 +1,6 @@
 //! The calls of a stream, as it keeps them.
 
-use crate::trail::Trail;
+use hg_trail::Trail;
 use std::io::ErrorKind;
 
 /// A read, and what the reader said to it.

@@ -8,8 +8,8 @@ ghost use Rattle.hg_streams.specs.Shown.{ReadsFrom};
 ghost use Rattle.hg_streams.specs.Told.{told};
 
 use crate::call::ReadCall;
-use crate::trail::Trail;
 use hg_model::verdict::Refusal;
+use hg_trail::Trail;
 use std::io::{ErrorKind, Read};
 use std::marker::Model;
 

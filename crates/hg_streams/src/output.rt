@@ -5,8 +5,8 @@ ghost use Rattle.std.specs.Io.KnownBytes.{Appends, Keeps};
 ghost use Rattle.hg_streams.specs.Calls.{flush_call, write_call};
 
 use crate::call::WriteCall;
-use crate::trail::Trail;
 use hg_model::verdict::Refusal;
+use hg_trail::Trail;
 use std::io::Write;
 use std::marker::Model;
 

@@ -6,7 +6,7 @@ ghost use Rattle.std.specs.List.{filter};
 ghost use Rattle.hg_verbose.specs.Holds.{HoldsFollow, IsHeld};
 
 use hg_model::event::Event;
-use hg_streams::trail::Trail;
+use hg_trail::Trail;
 use std::alloc::Global;
 use std::marker::Model;
 

@@ -1,4 +1,4 @@
-//! A list of which memory holds nothing.
+//! A ghost list: contracts see its items, and at run time it has no bytes.
 ghost use Rattle.std.specs.Prelude.{◌≡◌, ◌∷◌, []};
 
 use std::marker::Model;
@@ -7,13 +7,13 @@ use std::snapshot::Snapshot;
 
 /// A list for contracts alone, the newest item first. It has no bytes, so it grows without taking memory.
 #[derive(Drop)]
-pub(crate) struct Trail<T> {
+pub struct Trail<T> {
     link: Snapshot<Option<(T, Trail<T>)>>,
 }
 
 impl<T> Model for Trail<T> {
     ghost use Rattle.std.specs.Prelude.{List, length};
-    ghost use Rattle.hg_disk.specs.Trail.{items_of};
+    ghost use Rattle.hg_trail.specs.Trail.{items_of};
 
     ghost Value = { List T };
 
