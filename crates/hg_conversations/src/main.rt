@@ -9,7 +9,6 @@ use crate::world::run_store;
 use hg_text::Text;
 use std::alloc::Global;
 use std::io;
-use std::io::Write;
 use std::process::ExitCode;
 
 /// Runs each part of the text over a store of its own. The word `store` begins a part.
@@ -26,12 +25,7 @@ fn run_input(rt: &HostRuntime) -> io::Result<()> {
     let text = io::read_to_string(alloc, rt.stdin())?;
     let mut out = Text::new(alloc);
     run(alloc, text.as_str(), &mut out);
-    if !out.is_whole() {
-        return Err(io::ErrorKind::OutOfMemory.into());
-    }
-    let mut stdout = rt.stdout();
-    stdout.write_all(out.bytes())?;
-    stdout.flush()
+    out.print(&mut rt.stdout())
 }
 
 fn main(rt: HostRuntime) -> ExitCode {

@@ -15,7 +15,6 @@ use crate::stops::{tell_pair, tell_slots, tell_stopped};
 use hg_text::{Text, front};
 use std::alloc::Global;
 use std::io;
-use std::io::Write;
 use std::process::ExitCode;
 
 /// Answers one line.
@@ -42,12 +41,7 @@ fn run_input(rt: &HostRuntime) -> io::Result<()> {
     for line in text.as_str().lines() {
         answer(alloc, line, &mut out);
     }
-    if !out.is_whole() {
-        return Err(io::ErrorKind::OutOfMemory.into());
-    }
-    let mut stdout = rt.stdout();
-    stdout.write_all(out.bytes())?;
-    stdout.flush()
+    out.print(&mut rt.stdout())
 }
 
 fn main(rt: HostRuntime) -> ExitCode {

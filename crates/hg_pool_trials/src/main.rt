@@ -27,7 +27,6 @@ use crate::desk::Desk;
 use hg_text::Text;
 use std::alloc::Global;
 use std::io;
-use std::io::Write;
 use std::process::ExitCode;
 
 /// Answers each line.
@@ -47,12 +46,7 @@ fn run_input(rt: &HostRuntime) -> io::Result<()> {
     let text = io::read_to_string(alloc, rt.stdin())?;
     let mut out = Text::new(alloc);
     answer_all(alloc, text.as_str(), &mut out);
-    if !out.is_whole() {
-        return Err(io::ErrorKind::OutOfMemory.into());
-    }
-    let mut stdout = rt.stdout();
-    stdout.write_all(out.bytes())?;
-    stdout.flush()
+    out.print(&mut rt.stdout())
 }
 
 fn main(rt: HostRuntime) -> ExitCode {

@@ -3,6 +3,7 @@
 use crate::digits::digit;
 use itoa::Buffer;
 use std::alloc::Global;
+use std::io::{ErrorKind, Result, Write};
 
 /// A text that is written piece by piece. Where memory is refused for one, that is noted, and nobody need ask before the end.
 #[derive(Drop)]
@@ -70,5 +71,14 @@ impl Text {
         for byte in bytes {
             self.put(&[digit(*byte / 16), digit(*byte % 16)]);
         }
+    }
+
+    /// Writes the text. Where a piece is missing nothing is written, and want of memory is told.
+    pub fn print<W: Write>(&self, output: &mut W) -> Result<()> {
+        if !self.is_whole {
+            return Err(ErrorKind::OutOfMemory.into());
+        }
+        output.write_all(&self.bytes)?;
+        output.flush()
     }
 }

@@ -61,13 +61,13 @@ fn hexadecimal_digit(value: u8) -> u8
     }
 }
 
-/// The sixteen hexadecimal digits of a word's address.
-fn digits_of_word(word: u64) -> [u8; 16]
-    ensures { result ≡ sixteen_digits word }
+/// The sixteen hexadecimal digits of an address.
+pub fn digits_of_address(address: u64) -> [u8; 16]
+    ensures { result ≡ sixteen_digits address }
 {
     let mut digits = [0u8; 16];
     for i in 0..16 {
-        digits[i] = hexadecimal_digit((word >> (60 - 4 * i) & 15) as u8);
+        digits[i] = hexadecimal_digit((address >> (60 - 4 * i) & 15) as u8);
     }
     digits
 }
@@ -113,7 +113,7 @@ fn put_report_front(k: u64, report: &Report, out: &mut Vec<u8>) -> Result<(), Al
     let mut place = Buffer::new();
     let mut event = Buffer::new();
     let mut thread = Buffer::new();
-    let digits = digits_of_word(report.word);
+    let digits = digits_of_address(report.word);
     let pieces = [
         b"race ".as_slice(),
         place.format(k).as_bytes(),

@@ -4,7 +4,7 @@ use Rattle.std.proofs.lemmas.List.Edits.{fill_by_more}
 use Rattle.std.proofs.lemmas.List.FromFn.{fill_by_all}
 use Rattle.std.specs.Char.{digit_char}
 use Rattle.hg_wire.proofs.PieceLemmas.{digit_of_shifted}
-use Rattle.hg_explain.proofs.address.digits_of.Goals as goal
+use Rattle.hg_wire.proofs.report.digits_of_address.Goals as goal
 
 pub loop-i-preserved : goal.loop-i-preserved
 loop-i-preserved c =
