@@ -85,7 +85,7 @@ impl Page {
         }
     }
 
-    /// Whether they are new. Here and in the next three the kind of the cell is told before the loop, not in it.
+    /// Whether they are new. Here and in the next three, the kind of cell to look for is known before the loop.
     #[inline(always)]
     fn are_new(&self, from: usize, to: usize) -> bool
         requires in_page { to ≤ PAGE_WORDS }

@@ -1,25 +1,25 @@
--- For proofs alone: what is held of the text that is to be printed.
+-- For proofs alone: how much of a text is written, held, and still to come.
 use Rattle.std.specs.Prelude.{◌≡◌, ℕ, List, ◌++◌, Vec, Result, OnErr, OnOk}
 use Rattle.hg_streams.specs.Shown.{Outgoing}
 use Rattle.hg_streams.specs.declared.call.WriteCall.{WriteCall}
 use Rattle.hg_check.specs.Written.{Took, TookFront}
 
--- The goal is what is to be printed in all since the output was as it was at first: some of it was written, some is held, and the rest is to come.
+-- The goal is all text that is due since the calls `first`: some of it was written, some is held, and the rest is to come.
 pub record IsDue (first now : List WriteCall) (held rest goal : List ℕ) : Type 0 where
   pub written : List ℕ
   pub appended : Took first now written
   pub whole : written ++ (held ++ rest) ≡ goal
 
--- What comes next is held, and then less is to come.
+-- The next text is held, so that less is to come.
 abbrev pub HoldsNext : List ℕ → List ℕ → List ℕ → List ℕ → Type 0
 HoldsNext old new more less = (first now : List WriteCall) (rest goal : List ℕ) → IsDue first now old (more ++ rest) goal → IsDue first now new (less ++ rest) goal
 
--- Where a call succeeded, this text, which was to come next, was written behind what was held, or is held.
+-- Where a call succeeded, this text, the next one due, was written or is held.
 abbrev pub HoldsOrWrites : {T E : Type 0} → List ℕ → List WriteCall → List ℕ → Result T E → List WriteCall → List ℕ → Type 0
 HoldsOrWrites text old held r new left =
     (first : List WriteCall) (rest goal : List ℕ) → IsDue first old held (text ++ rest) goal → OnOk r (IsDue first new left rest goal)
 
--- Where it failed, what was written is a front of what was due.
+-- Where it failed, a front of the goal was written.
 abbrev pub WritesFront : {T E : Type 0} → List ℕ → List WriteCall → List ℕ → Result T E → List WriteCall → Type 0
 WritesFront text old held r new =
     (first : List WriteCall) (rest goal : List ℕ) → IsDue first old held (text ++ rest) goal → OnErr r (TookFront first new goal)

@@ -14,7 +14,7 @@ use Rattle.hg_model.specs.declared.verdict.Refusal.TheVariants.{DeviceFault, Out
 abbrev pub WriteFailed : List WriteCall → List WriteCall → Type 0
 WriteFailed old new = failed_writes old < failed_writes new
 
--- A read failed, or 2 ^ 32 reads were made at least.
+-- A read failed, or at least 2 ^ 32 reads were made.
 abbrev pub ReadFailed : List ReadCall → List ReadCall → Type 0
 ReadFailed old new = (failed_reads old < failed_reads new) ⊎ (2 ^ 32 + length old ≤ length new)
 
@@ -30,7 +30,7 @@ IsStreamFault r = (r ≡ OutOfMemory) ⊎ (r ≡ DeviceFault)
 abbrev pub HasWriteCause : List WriteCall → List WriteCall → Refusal → Type 0
 HasWriteCause old new r = (r ≡ OutOfMemory) ⊎ ((r ≡ DeviceFault) × WriteFailed old new)
 
--- The fault was told, or that failed too.
+-- The fault was told, or telling it failed.
 abbrev pub IsTold : List WriteCall → List WriteCall → Refusal → Type 0
 IsTold old new r = WriteFailed old new ⊎ Took old new (fault_text (code_of r))
 

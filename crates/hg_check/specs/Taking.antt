@@ -1,4 +1,4 @@
--- What a detector that checks a trace text takes of it, and prints of it.
+-- What a `Checking` takes of a trace text, and what it prints.
 use Rattle.std.specs.Prelude.{◌≡◌, ◌+◌, ◌<◌, ◌^◌, ℕ, Bool, List, [], length, Option, None, Some, Result, Err}
 use Rattle.hg_model.specs.declared.verdict.Refusal.{Refusal}
 use Rattle.hg_model.specs.Contents.{Content}
@@ -15,7 +15,8 @@ use Rattle.hg_check.specs.Running.{IsStart, ReportsGrow, Steps, live_text}
 use Rattle.hg_check.specs.Streaming.{HasWriteCause}
 use Rattle.hg_check.specs.Written.{TookFront}
 
--- Since the output was as it was at first, the reports of an earlier content were printed or are held, as many as are counted.
+-- The first `printed` reports are those of an earlier content. If reports are printed as they come, they were written since the calls
+-- `first`, or are held.
 pub record IsPrinted (first : List WriteCall) (s : Checking) (now : List WriteCall) : Type 0 where
   pub before : Content
   pub count : s.printed ≡ length before.reports

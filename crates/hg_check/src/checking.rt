@@ -88,7 +88,7 @@ impl<W: Write> Sink<W> for Checking {
         apply_hold(&mut self.detector, line, hold)
     }
 
-    /// Prints the reports that are new since the last time, where they are to be printed.
+    /// Prints the reports that are new since the last time, if reports are printed as they come.
     fn print(&mut self, output: &mut Output<W>) -> Result<(), Refusal>
         ensures takes { Takes self.old output.old.calls [] (as_stop result) self.new output.new.calls }
         ensures detector { self.new.detector ≡ self.old.detector }

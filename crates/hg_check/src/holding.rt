@@ -1,4 +1,4 @@
-//! The lines of what a run prints, held until they are written.
+//! Lines that a run prints, held until they are written.
 
 ghost use Rattle.std.specs.Prelude.{◌≡◌, ◌+◌, ◌<◌, ◌++◌, [], ◌∷◌, length, IfErr, OnOk};
 ghost use Rattle.hg_check.specs.Running.{HoldsReport};
@@ -84,7 +84,7 @@ pub fn hold_last_line(
     end_line(held)
 }
 
-/// Holds the last line of `graph`, which there is where the run didn't come to the end of its input.
+/// Holds the last line of `graph`. A run that came to the end of its input has none.
 pub fn hold_stop(end: Ending, held: &mut Vec<u8>) -> Result<(), Refusal>
     ensures ok { OnOk result (held.new.items ≡ held.old.items ++ stop_text end) }
     ensures cause { IfErr result (λ r. r ≡ Refusal.OutOfMemory) }

@@ -1,4 +1,4 @@
-//! Printing reports and segments: their lines are held, and written as soon as they are much.
+//! Printing reports and segments: their lines are appended to `held`, which is written once it has 64 KiB.
 
 ghost use Rattle.std.specs.Prelude.{◌≡◌, ◌+◌, [], IfErr};
 ghost use Rattle.hg_check.specs.Holding.{HoldsOrPrints, HoldsOrWrites, PrintsFront, WritesFront};
@@ -20,7 +20,7 @@ use std::io::Write;
 /// How many bytes are held before they are written.
 const LARGE: usize = 65_536;
 
-/// Writes what is held, where it is much.
+/// Writes the held text if it has 64 KiB or more.
 pub fn write_if_large<W: Write>(held: &mut Vec<u8>, output: &mut Output<W>) -> Result<(), Refusal>
     ensures printed { HoldsOrWrites [] output.old.calls held.old.items result output.new.calls held.new.items }
     ensures front { WritesFront [] output.old.calls held.old.items result output.new.calls }

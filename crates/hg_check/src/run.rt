@@ -28,8 +28,8 @@ pub fn ended(stop: Option<Ending>) -> Ending
 }
 
 /// Reads a trace text to its end, or up to the first line that is refused or bad, and offers its events to a detector that has accepted
-/// none. Where reports are printed as they come, all that the detector keeps are printed or held at the end. Up to `jobs` threads read
-/// the lines of large pieces; what comes of them never depends on that.
+/// none. Where reports are printed as they come, all kept ones are printed or held at the end. Up to `jobs` threads read the lines of
+/// large pieces; the result never depends on their number.
 pub fn run<T: Threads + Sync, R: Read, W: Write>(
     rt: &T,
     jobs: usize,

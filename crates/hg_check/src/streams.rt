@@ -1,4 +1,4 @@
-//! Writing what is held.
+//! Writing the held text.
 
 ghost use Rattle.std.specs.Prelude.{◌≡◌, ◌+◌, [], IfErr, OnOk};
 ghost use Rattle.hg_streams.specs.Calls.{failed_writes};
@@ -9,7 +9,7 @@ use hg_model::verdict::Refusal;
 use hg_streams::output::Output;
 use std::io::Write;
 
-/// Writes the text that is held. None is held afterwards.
+/// Writes the held text. None is held afterwards.
 pub fn write_out<W: Write>(held: &mut Vec<u8>, output: &mut Output<W>) -> Result<(), Refusal>
     ensures printed { HoldsOrWrites [] output.old.calls held.old.items result output.new.calls held.new.items }
     ensures front { WritesFront [] output.old.calls held.old.items result output.new.calls }

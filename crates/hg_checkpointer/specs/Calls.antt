@@ -1,4 +1,4 @@
--- What the contracts of a checkpoint's calls say.
+-- Definitions for the contracts of a checkpoint's calls.
 use Rattle.std.specs.Prelude.{◌≡◌, ◌⊎◌, ◌++◌, ◌+◌, ℕ, List, [], false, Option, Some, Vec, IsTrue, IsOk, OnOk, IfOk, Result}
 use Rattle.hg_disk.specs.declared.disk.Disk as disk
 use Rattle.hg_disk.specs.Moments.{LeavesOnly}
@@ -24,20 +24,21 @@ use Rattle.hg_checkpointer.specs.declared.phase.Phase.TheVariants.{Flushing}
 abbrev pub IsOfDevice : Cause → Type 0
 IsOfDevice cause = (cause ≡ Broken) ⊎ (cause ≡ DeviceFault)
 
--- A freeze is refused so: a device failed earlier, memory was refused, or fewer slots are free than pages were changed.
+-- The causes of a refused freeze: a device failed earlier, memory was refused, or there are fewer free slots than changed
+-- pages.
 abbrev pub IsOfFreezing : {D : Type 0} → ShownPool D → Cause → Type 0
 IsOfFreezing pool cause = (cause ≡ Broken) ⊎ ((cause ≡ OutOfMemory) ⊎ ((cause ≡ FullSlots) × LacksSlots pool))
 
--- The writing of a root is refused so: memory was refused, or a device failed.
+-- The causes of a refused writing of a root: memory was refused, or a device failed.
 abbrev pub IsOfWriting : Cause → Type 0
 IsOfWriting cause = (cause ≡ OutOfMemory) ⊎ IsOfDevice cause
 
--- Neither the file of slots, nor what is in memory of it, nor the root's table.
+-- The file of slots, the pages in memory and the root's table stay the same.
 abbrev pub KeepsFile : {D : Type 0} → (old new : ShownPool D) → Type 0
 KeepsFile old new = (new.root ≡ old.root) × (new.file ≡ old.file) × (new.frames ≡ old.frames)
 
 module _ {D : Type 0} {g : disk.Ghosts D} where
-  -- Nothing but the phase, the head and the next number.
+  -- Only the phase, the head and the next number may change.
   abbrev pub ChangesHead : (old new : Checkpointer D g) → Type 0
   ChangesHead old new = (new.roots ≡ old.roots) × (new.body ≡ old.body) × (new.number ≡ old.number) × (new.is_broken ≡ old.is_broken)
 
@@ -50,7 +51,7 @@ module _ {D : Type 0} {g : disk.Ghosts D} where
   abbrev pub KeepsHead : (old new : Checkpointer D g) → Type 0
   KeepsHead old new = (new.next ≡ old.next) × (new.number ≡ old.number) × (new.head ≡ old.head)
 
-  -- What the roots have stands for the checkpointer.
+  -- If the roots stand as a pair, they stand for the checkpointer in its phase.
   abbrev pub StandsBy : RootPair D → Checkpointer D g → Type 0
   StandsBy roots c = (root former : Option Parts) → pairs.Stands g roots root former → RootsStand g c.phase c.roots root former c.body.value.items
 
@@ -70,16 +71,16 @@ module _ {D : Type 0} {g : disk.Ghosts D} where
   abbrev pub StaysOrBreaks : Checkpointer D g → ShownPool D → (new : Checkpointer D g) → (new_pool : ShownPool D) → Type 0
   StaysOrBreaks c pool new new_pool = ((new ≡ c) × (new_pool ≡ pool)) ⊎ (IsTrue new.is_broken × IsTrue (is_broken new_pool))
 
-  -- So many calls of the root files failed.
+  -- n calls of the root files failed.
   abbrev pub CountsRoots : (old new : Checkpointer D g) → ℕ → Type 0
   CountsRoots old new n = pairs.failures g new.roots ≡ n + pairs.failures g old.roots
 
-  -- The checkpoint that counts goes on to stand.
+  -- The newest checkpoint still stands.
   abbrev pub StaysStanding : Checkpointer D g → ShownPool D → (new : Checkpointer D g) → (new_pool : ShownPool D) → Type 0
   StaysStanding c pool new new_pool =
       (now : Option Checkpoint) (former : Option Parts) → Stands g c pool now former → Stands g new new_pool now former
 
-  -- Over a whole pool the next checkpoint is a draft: the head that was given, and the live map of before.
+  -- If the pool is whole, the next checkpoint is a draft: the given head, and the live map from before.
   abbrev pub IsDrafted : {T E : Type 0} → Checkpointer D g → (pool new_pool : ShownPool D) → List ℕ → ℕ → Result T E → Type 0
   IsDrafted c pool new_pool head number result =
       (now : Option Checkpoint) (parts : Parts) → IsWhole g pool → IsHead now parts head number → IsKnownTo parts (live g pool)
@@ -90,13 +91,13 @@ module _ {D : Type 0} {g : disk.Ghosts D} where
   SpellsBody c pool result =
       (head : List ℕ) → c.head ≡ Some head → IfOk result (λ body. body.items ≡ head ++ pages_text (pages_of pool.frozen))
 
-  -- The pages are sealed where they are written, nothing was broken, and no call fails.
+  -- The call succeeds if all pages are written, nothing was broken, and no device call fails.
   abbrev pub SealsSurely : {T E : Type 0} → Checkpointer D g → (pool new_pool : ShownPool D) → Result T E → Type 0
   SealsSurely c pool new_pool result =
       c.phase ≡ Flushing → pool.waiting ≡ [] → c.is_broken ≡ false → is_broken pool ≡ false
       → g.failures (disk_of new_pool) ≡ g.failures (disk_of pool) → IsOk result
 
-  -- Each image of the slots meanwhile has those of the checkpoint that counts.
+  -- At each moment each image of the slots has the pages of the newest checkpoint.
   abbrev pub LeavesSlots : Checkpointer D g → (pool new_pool : ShownPool D) → Type 0
   LeavesSlots c pool new_pool =
       (now : Option Checkpoint) (former : Option Parts) → Stands g c pool now former
@@ -114,23 +115,23 @@ module _ {D : Type 0} {g : disk.Ghosts D} where
       (now : Option Checkpoint) (parts : Parts) (cells : ℕ → Cell) → IsDraft g c pool now parts cells
       → OnOk result (IsNewElsewhere (root_with parts new_pool.frozen) cells)
 
-  -- The root files go on to stand.
+  -- The root files still stand.
   abbrev pub RootsStayOnOk : {T E : Type 0} → (old new : Checkpointer D g) → Result T E → Type 0
   RootsStayOnOk old new result =
       (root former : Option Parts) → RootsStand g old.phase old.roots root former old.body.value.items
       → OnOk result (RootsStand g new.phase new.roots root former new.body.value.items)
 
-  -- Each image of the root files meanwhile has the root that counts.
+  -- At each moment each image of the root files has the newest root.
   abbrev pub LeavesRoots : (old new : Checkpointer D g) → Type 0
   LeavesRoots old new =
       (now : Option Checkpoint) (former : Option Parts) → RootsStand g old.phase old.roots (root_of now) former old.body.value.items
       → EachNow g old.roots new.roots now former
 
-  -- The next checkpoint goes on to be that, over any pool.
+  -- The next checkpoint stays the next one, over any pool.
   abbrev pub StaysNext : (old new : Checkpointer D g) → Type 0
   StaysNext old new = (pool : ShownPool D) (now : Option Checkpoint) (next : Checkpoint) → IsNext g old pool now next → IsNext g new pool now next
 
-  -- It does over this pool.
+  -- The same over this pool.
   abbrev pub StaysNextOver : ShownPool D → (old new : Checkpointer D g) → Type 0
   StaysNextOver pool old new = (now : Option Checkpoint) (next : Checkpoint) → IsNext g old pool now next → IsNext g new pool now next
 
@@ -139,13 +140,13 @@ module _ {D : Type 0} {g : disk.Ghosts D} where
   AnswersNumber c pool result =
       (now : Option Checkpoint) (next : Checkpoint) → IsNext g c pool now next → IfOk result (λ n. n ≡ next.root.number)
 
-  -- The next checkpoint is the one that counts.
+  -- The next checkpoint becomes the newest one.
   abbrev pub OpensNext : {T E : Type 0} → Checkpointer D g → ShownPool D → Checkpointer D g → ShownPool D → Result T E → Type 0
   OpensNext c pool new new_pool result =
       (now : Option Checkpoint) (former : Option Parts) (next : Checkpoint) → Stands g c pool now former → IsNext g c pool now next
       → OnOk result (Stands g new new_pool (Some next) (root_of now))
 
-  -- Each image of the root files meanwhile has the root that counts, or the next one.
+  -- At each moment each image of the root files has the newest root or the next one.
   abbrev pub LeavesEither : Checkpointer D g → ShownPool D → Checkpointer D g → Type 0
   LeavesEither c pool new =
       (now : Option Checkpoint) (former : Option Parts) (next : Checkpoint) → Stands g c pool now former → IsNext g c pool now next

@@ -1,4 +1,4 @@
--- What the slots of a pool have of the checkpoints that name them.
+-- The pages of checkpoints in the slots of a pool.
 use Rattle.std.specs.Prelude.{Option}
 use Rattle.hg_disk.specs.declared.disk.Disk as disk
 use Rattle.hg_disk.specs.Moments.{Leaves, LeavesOnly}
@@ -11,14 +11,15 @@ use Rattle.hg_contents.specs.Maps.{IsKnownTo, checkpoint_of}
 use Rattle.hg_checkpointer.specs.Tables.{HasTable, NamesOf}
 
 module _ {D : Type 0} (g : disk.Ghosts D) where
-  -- Once the frozen map is sealed, each image of the slots has the checkpoint that a root with the frozen table makes with it.
+  -- Once the frozen map is sealed, each image of the slots has the pages of the checkpoint of the frozen map and a root
+  -- with the frozen table.
   abbrev pub SealedSlotsHaveTheCheckpoint : Type 0
   SealedSlotsHaveTheCheckpoint =
       (p : ShownPool D) (root : Parts) → IsSealed g p → HasTable root p.frozen → IsKnownTo root (frozen g p)
       → Leaves (λ slots. HasPages slots (checkpoint_of root (frozen g p))) (g.state (disk_of p))
 
-  -- The slots that the root's table names keep the pages of the checkpoint, and those of the former root go on to lie within the file,
-  -- whatever calls come.
+  -- The slots that the root's table names keep the pages of the checkpoint, and those of the former root stay within the
+  -- file, whatever pool calls come (`Went`).
   abbrev pub SlotsStay : Type 0
   SlotsStay =
       (old new : ShownPool D) (now : Option Checkpoint) (former : Option Parts) → Went g old new → NamesOf old.root now

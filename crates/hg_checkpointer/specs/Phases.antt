@@ -6,8 +6,8 @@ use Rattle.hg_checkpointer.specs.declared.phase.Phase.{Phase}
 use Rattle.hg_checkpointer.specs.declared.phase.CheckpointFault.{CheckpointFault}
 use Rattle.hg_checkpointer.specs.declared.phase.CheckpointFault.TheVariants.{Refused, WrongPhase}
 
--- A call that is allowed only so: where a device call failed before it is Broken, else WrongPhase with the phase exactly where it is
--- not allowed.
+-- The answers of a call that is allowed only if `Allowed` holds: Broken if a device call failed before it, else WrongPhase
+-- with the phase exactly if it is not allowed.
 abbrev pub IsAllowed : {T : Type 0} → Bool → Phase → Type 0 → Result T CheckpointFault → Type 0
 IsAllowed broken phase Allowed (Ok value) = (broken ≡ false) × Allowed
 IsAllowed broken phase Allowed (Err (WrongPhase p)) = (broken ≡ false) × (¬ Allowed) × (p ≡ phase)
@@ -19,13 +19,13 @@ IfWrongPhase P (Ok value) = Unit {0}
 IfWrongPhase P (Err (WrongPhase p)) = P
 IfWrongPhase P (Err (Refused r)) = Unit {0}
 
--- After a device call that failed in the call it is broken.
+-- If a device call failed in the call, it is broken from then on.
 abbrev pub BreaksBy : {T : Type 0} → Bool → Result T CheckpointFault → Type 0
 BreaksBy broken (Ok value) = Unit {0}
 BreaksBy broken (Err (WrongPhase p)) = Unit {0}
 BreaksBy broken (Err (Refused r)) = r ≡ cause.DeviceFault → broken ≡ true
 
--- how many device calls failed in a call that is answered so
+-- how many device calls failed in a call with this cause
 abbrev pub failed_in : Cause → ℕ
 failed_in cause.DeviceFault = 1
 failed_in _ = 0
@@ -35,7 +35,7 @@ failed_calls (Ok value) = 0
 failed_calls (Err (WrongPhase p)) = 0
 failed_calls (Err (Refused r)) = failed_in r
 
--- P holds of what it was refused for.
+-- P holds of the cause of a refusal.
 abbrev pub IfRefused : {T : Type 0} → (Cause → Type 0) → Result T CheckpointFault → Type 0
 IfRefused P (Ok value) = Unit {0}
 IfRefused P (Err (WrongPhase p)) = Unit {0}

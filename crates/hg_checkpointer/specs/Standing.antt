@@ -1,4 +1,4 @@
--- What stands between the calls of a checkpoint.
+-- What holds between the calls of a checkpoint.
 use Rattle.std.specs.Prelude.{◌≡◌, ◌⊎◌, ◌++◌, ℕ, List, Option, Some, IsTrue}
 use Rattle.hg_disk.specs.declared.disk.Disk as disk
 use Rattle.hg_disk.specs.Moments.{GoesOn, Leaves, MayLeave}
@@ -21,11 +21,11 @@ use Rattle.hg_checkpointer.specs.declared.phase.Phase.{Phase}
 use Rattle.hg_checkpointer.specs.declared.phase.Phase.TheVariants.{Flushing, Idle, Prepared, Sealed, Written}
 use Rattle.hg_checkpointer.specs.declared.checkpointer.Checkpointer.{Checkpointer}
 
--- the root with these parts, whose pages are those of a table
+-- the root with these parts and the pages of a table
 abbrev pub root_with : Parts → List (ℕ × ℕ) → Parts
 root_with parts table = record parts { pages = pages_of table }
 
--- These bytes are the head of a root of this number, greater than that of the checkpoint that counts.
+-- These bytes are the head of a root with this number, which is greater than that of the newest checkpoint.
 pub record IsHead (now : Option Checkpoint) (parts : Parts) (head : List ℕ) (number : ℕ) : Type 0 where
   pub text : head ≡ head_text parts
   pub lawful : IsLawfulHead parts
@@ -41,7 +41,8 @@ module _ {D : Type 0} (g : disk.Ghosts D) where
   RootsStand Prepared roots root former body = (rest : List ℕ) × IsPrepared g roots root rest
   RootsStand Written roots root former body = IsPrepared g roots root (framed body)
 
-  -- The checkpoint that counts, or none: the root files have its root, each image of the slots its pages, and the pool keeps these.
+  -- The newest checkpoint, or none: the root files have its root, each image of the slots has its pages, and the pool's
+  -- table keeps them.
   pub record Stands (c : Checkpointer D g) (pool : ShownPool D) (now : Option Checkpoint) (former : Option Parts) : Type 0 where
     pub roots : RootsStand c.phase c.roots (root_of now) former c.body.value.items
     pub slots : Leaves (HasSlotsOf now former) (g.state (disk_of pool))
@@ -57,8 +58,8 @@ module _ {D : Type 0} (g : disk.Ghosts D) where
   abbrev pub IsDraft : Checkpointer D g → ShownPool D → Option Checkpoint → Parts → (ℕ → Cell) → Type 0
   IsDraft c pool now parts cells = IsDraftOf c.head c.next pool now parts cells
 
-  -- The next checkpoint once its pages are durable: each image of the slots has them, and the head with the frozen table, which is
-  -- sealed, spells its root. In Written the body spells it.
+  -- The next checkpoint once its pages are durable: the frozen map is sealed, each image of the slots has the pages, and
+  -- the head with the frozen table spells the root. In Written the body spells it too.
   pub record IsNextOf (phase : Phase) (head_in : Option (List ℕ)) (root_body : List ℕ) (next_number : ℕ) (pool : ShownPool D) (now : Option Checkpoint) (next : Checkpoint) : Type 0 where
     pub head : (head : List ℕ) × (head_in ≡ Some head) × IsRoot (head ++ pages_text (pages_of pool.frozen)) next.root
     pub sealed : IsTrue pool.is_sealed
@@ -71,7 +72,7 @@ module _ {D : Type 0} (g : disk.Ghosts D) where
   abbrev pub IsNext : Checkpointer D g → ShownPool D → Option Checkpoint → Checkpoint → Type 0
   IsNext c pool now next = IsNextOf c.phase c.head c.body.value.items c.next pool now next
 
-  -- Each image of two disks from one moment to another, each disk by itself, has P.
+  -- P holds of the images of two disks from one moment to another, each disk on its own.
   pub record EachOf (first later_first second later_second : D) (P : List ℕ → List ℕ → Type 0) : Type 0 where
     pub first_goes : GoesOn g first later_first
     pub second_goes : GoesOn g second later_second
@@ -81,15 +82,15 @@ module _ {D : Type 0} (g : disk.Ghosts D) where
   abbrev pub EachRoots : RootPair D → RootPair D → (List ℕ → List ℕ → Type 0) → Type 0
   EachRoots old new P = EachOf (first_of old) (first_of new) (second_of old) (second_of new) P
 
-  -- Each image of the root files meanwhile has the root of the checkpoint that counts.
+  -- At each moment each image of the root files has the root of the newest checkpoint.
   abbrev pub EachNow : RootPair D → RootPair D → Option Checkpoint → Option Parts → Type 0
   EachNow old new now former = EachRoots old new (IsNewest (root_of now) former)
 
-  -- It has that root or the next one.
+  -- At each moment each image has that root or the next one.
   abbrev pub EachEither : RootPair D → RootPair D → Option Checkpoint → Option Parts → Checkpoint → Type 0
   EachEither old new now former next = EachRoots old new (λ one other. IsNewest (root_of now) former one other ⊎ IsNewest (Some next.root) (root_of now) one other)
 
-  -- What stands goes on to stand, whatever calls of the pool come between.
+  -- What holds between the calls still holds, whatever pool calls come in between.
   pub record KeepsStanding (c : Checkpointer D g) (old new : ShownPool D) : Type 0 where
     pub stands : (now : Option Checkpoint) (former : Option Parts) → Stands c old now former → Stands c new now former
     pub draft : (now : Option Checkpoint) (parts : Parts) (cells : ℕ → Cell) → IsDraft c old now parts cells → IsDraft c new now parts cells

@@ -9,7 +9,7 @@ use Rattle.hg_root.specs.declared.parts.PageSlot.{PageSlot}
 abbrev pub pages_of : List (ℕ × ℕ) → List PageSlot
 pages_of table = map (λ e. record { page = e.0; slot = e.1 }) table
 
--- The root has the pages of the table, which is one.
+-- The root has the pages of the table, and the table is in order.
 pub record HasTable (root : Parts) (table : List (ℕ × ℕ)) : Type 0 where
   pub pages : root.pages ≡ pages_of table
   pub entries : AreEntries table

@@ -1,4 +1,4 @@
--- How the causes of a checkpoint's refusals go together with those of other layers.
+-- The conversions between the causes of a checkpoint's refusals and those of other layers.
 use Rattle.hg_model.specs.declared.verdict.Refusal.{Refusal}
 use Rattle.hg_model.specs.declared.verdict.Refusal.TheVariants as refusal
 use Rattle.hg_pages.specs.declared.fault.WriteFault.{WriteFault}
@@ -10,7 +10,7 @@ use Rattle.hg_root.specs.declared.fault.RootFault.TheVariants as fault
 use Rattle.hg_checkpointer.specs.declared.cause.Cause.{Cause}
 use Rattle.hg_checkpointer.specs.declared.cause.Cause.TheVariants as cause
 
--- what a fault of a root file is told as
+-- the cause that tells a fault of a root file
 abbrev pub of_root : RootFault → Cause
 of_root fault.Broken = cause.Broken
 of_root fault.Damaged = cause.Damaged
@@ -22,7 +22,7 @@ abbrev pub of_freeze : FreezeFault → Cause
 of_freeze freeze.FullSlots = cause.FullSlots
 of_freeze freeze.OutOfMemory = cause.OutOfMemory
 
--- what a fault of a write or a sync of the slots is told as
+-- the cause that tells a fault of a write or a sync of the slots
 abbrev pub of_write : WriteFault → Cause
 of_write write.Broken = cause.Broken
 of_write write.DeviceFault = cause.DeviceFault

@@ -1,4 +1,4 @@
-//! Why a step of a checkpoint was refused, and how causes of other layers become one and one becomes theirs.
+//! Why a step of a checkpoint was refused, and the conversions between such a cause and those of other layers.
 ghost use Rattle.std.specs.Prelude.{◌≡◌};
 
 use hg_model::verdict::Refusal;
@@ -6,12 +6,12 @@ use hg_pages::WriteFault;
 use hg_pool::FreezeFault;
 use hg_root::RootFault;
 
-/// Why a step of a checkpoint was refused that is one of its phase.
+/// Why a step of a checkpoint was refused that its phase allows.
 #[derive(Clone, Copy, Debug, PartialEq, Eq, Drop)]
 pub enum Cause {
     /// A write, a cut or a sync of a device failed earlier.
     Broken,
-    /// What is to be in the root has no spelling, or a file is outside the grammar.
+    /// A part of the root has no spelling, or a file is outside the grammar.
     Damaged,
     /// A device failed in this call.
     DeviceFault,
@@ -37,7 +37,7 @@ impl From<FreezeFault> for Cause {
     }
 }
 
-/// What a fault of a write or a sync of the slots is told as.
+/// The cause that tells a fault of a write or a sync of the slots.
 impl From<WriteFault> for Cause {
     ghost use Rattle.hg_checkpointer.specs.Told.{of_write};
 
@@ -51,7 +51,7 @@ impl From<WriteFault> for Cause {
     }
 }
 
-/// What a fault of a root file is told as.
+/// The cause that tells a fault of a root file.
 impl From<RootFault> for Cause {
     ghost use Rattle.hg_checkpointer.specs.Told.{of_root};
 

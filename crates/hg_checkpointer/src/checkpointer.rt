@@ -18,7 +18,7 @@ use hg_root::{RootHead, RootPair};
 use std::alloc::{AllocError, Global};
 use std::snapshot::Snapshot;
 
-/// Two root files, and how far the next checkpoint is. Its pages are written by the pool's own `take_job` and `put`.
+/// Two root files, and the state of the next checkpoint. Its pages are written by the pool's own `take_job` and `put`.
 pub struct Checkpointer<D: Disk> {
     roots: RootPair<D>,
     phase: Phase,
@@ -27,7 +27,7 @@ pub struct Checkpointer<D: Disk> {
     /// The number of the root in progress.
     next: u64,
     head: Option<RootHead>,
-    /// The body of the root in progress, once it is written. Contracts alone see it: it has no bytes in memory.
+    /// The body of the root in progress, once it is written. A snapshot: only contracts see it, and it takes no memory.
     body: Snapshot<Vec<u8>>,
     /// Whether a device call of a checkpoint failed.
     is_broken: bool,
@@ -78,14 +78,15 @@ impl<D: Disk> Checkpointer<D> {
         self.phase
     }
 
-    /// The number of the newest root, or 0 where there is none.
+    /// The number of the newest root, or 0 if there is none.
     pub fn number(&self) -> u64
         ensures { result ≡ self.now.number }
     {
         self.number
     }
 
-    /// No checkpoint is in progress. The newest root of the pair has this number, or there is none and it is 0.
+    /// A checkpointer without a checkpoint in progress. `number` is that of the newest root of the pair, or 0 if there is
+    /// none.
     pub fn new(alloc: Global, roots: RootPair<D>, number: u64) -> Checkpointer<D>
         ensures roots { result.roots ≡ roots }
         ensures number { result.number ≡ number }
@@ -159,7 +160,7 @@ impl<D: Disk> Checkpointer<D> {
         }
     }
 
-    // The body of the root in progress, which names the pages of the frozen table.
+    // The body of the root in progress. It names the pages of the frozen table.
     fn body_of(&self, alloc: Global, pool: &Pool<D>) -> Result<Vec<u8>, AllocError>
         requires { self.now.phase ≡ Phase.Prepared }
         ensures { SpellsBody self.now pool.now result }
@@ -229,7 +230,8 @@ impl<D: Disk> Checkpointer<D> {
         Ok(())
     }
 
-    /// Closes the file that the next root goes to. It makes two device calls at most, and none where the file is closed already.
+    /// Closes the file that the next root goes to. It makes at most two device calls, and none if the file is closed
+    /// already.
     pub fn prepare_root(&mut self) -> Result<(), CheckpointFault>
         ensures phase { IsAllowed self.old.is_broken self.old.phase (self.old.phase ≡ Phase.Sealed) result }
         ensures unchanged { IfWrongPhase (self.new ≡ self.old) result }
@@ -261,8 +263,8 @@ impl<D: Disk> Checkpointer<D> {
         }
     }
 
-    /// Makes the body of the root, which names the pages of the frozen table, and writes it behind the closed gate of its file. It makes
-    /// four device calls at most. Where memory is refused nothing is changed, and the call can be made again.
+    /// Makes the body of the root, which names the pages of the frozen table, and writes it behind the closed gate of its
+    /// file. It makes four device calls at most. If memory is refused, nothing is changed and the call can be made again.
     pub fn write_root(&mut self, alloc: Global, pool: &Pool<D>) -> Result<(), CheckpointFault>
         ensures phase { IsAllowed self.old.is_broken self.old.phase (self.old.phase ≡ Phase.Prepared) result }
         ensures unchanged { IfWrongPhase (self.new ≡ self.old) result }

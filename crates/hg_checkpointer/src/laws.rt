@@ -4,12 +4,13 @@ ghost use Rattle.hg_checkpointer.specs.Standing.{CallsBetweenKeep};
 
 use hg_disk::Disk;
 
-/// Once the frozen map is sealed, each image of the slots has the checkpoint that a root with the frozen table makes with it.
+/// Once the frozen map is sealed, each image of the slots has the pages of the checkpoint of the frozen map and a root with
+/// the frozen table.
 pub fn sealed_slots_have_the_checkpoint<D: Disk>()
     ensures { SealedSlotsHaveTheCheckpoint ⟦<D as Disk>⟧ }
 {}
 
-/// The slots that the root's table names keep the pages of the checkpoint, whatever calls come.
+/// The slots that the root's table names keep the pages of the checkpoint, whatever pool calls come (`Went`).
 pub fn slots_stay<D: Disk>()
     ensures { SlotsStay ⟦<D as Disk>⟧ }
 {}
@@ -19,8 +20,7 @@ pub fn frozen_slots_stay<D: Disk>()
     ensures { FrozenSlotsStay ⟦<D as Disk>⟧ }
 {}
 
-/// Whatever calls of the pool come between two calls of a checkpoint, but those that freeze and that take over a root: what stands goes on
-/// to stand.
+/// Calls of the pool between two calls of a checkpoint keep what stands, unless they freeze or take over a root.
 pub fn calls_between_keep<D: Disk>()
     ensures { CallsBetweenKeep ⟦<D as Disk>⟧ }
 {}

@@ -20,8 +20,8 @@ pub enum Phase {
 /// Why a call was refused.
 #[derive(Clone, Copy, Debug, PartialEq, Eq, Drop)]
 pub enum CheckpointFault {
-    /// The call is not one of this phase. Nothing was changed.
+    /// This phase does not allow the call. Nothing was changed.
     WrongPhase(Phase),
-    /// The call is one of this phase, and was refused for this cause.
+    /// This phase allows the call, but it was refused for this cause.
     Refused(Cause),
 }

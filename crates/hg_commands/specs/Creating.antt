@@ -21,7 +21,7 @@ use Rattle.hg_commands.specs.Instants.{Instant, instant}
 use Rattle.hg_commands.specs.Printed.{WereGiven}
 use Rattle.hg_commands.specs.Storing.{failed_calls}
 
--- a text that tells of no store that was made
+-- a text that does not say `created`: none, or `not empty`
 abbrev pub IsOfNone : List ℕ → Type 0
 IsOfNone text = (text ≡ []) ⊎ (text ≡ codes "not empty\n")
 
@@ -61,20 +61,21 @@ module _ {D : Type 0} (g : disk.Ghosts D) where
     pub failed : failed_calls g mid after.calls ≡ told_refusal r + failed_calls g old before.calls
     pub left : IsLeftBy old mid new
 
-  -- What was written is a front of the line that is due, which tells whether the devices had a byte.
+  -- A front of the due line was written: `created` for devices without a byte, `not empty` for others.
   abbrev pub WroteAnswer : {V : Type 0} → Devices D → Outgoing V → Outgoing V → Type 0
   WroteAnswer old before after =
       (IsEmpty g old × TookFront before.calls after.calls (codes "created\n")) ⊎ ((¬ IsEmpty g old) × TookFront before.calls after.calls (codes "not empty\n"))
 
-  -- Of a making that began at `start`, from one moment to a later one: `created` has not been written by the later one; or its writing had
-  -- failed by the earlier one, and nothing is written since; or each image of the devices meanwhile has the content of a store of no events.
+  -- From one moment of a making that began at `start` to a later one. Either `created` was not written by the later moment; or a write had
+  -- failed by the earlier one, and nothing was written since; or each image of the devices meanwhile has the content of a store of no events.
   abbrev pub IsMadeBetween : Instant D → Instant D → Instant D → Type 0
   IsMadeBetween start old new =
       WereGiven IsOfNone start.calls new.calls
       ⊎ (((failed_writes start.calls < failed_writes old.calls) × (new.calls ≡ old.calls))
       ⊎ EachImage g old.devices new.devices (λ image. HasContent image empty_content))
 
-  -- At each moment of a making, whatever ends it, `created` is true: so it is between each two neighbours of these moments, the newest first.
+  -- At each moment of a making, whatever ends it, `created` is true: `IsMadeBetween` holds of each two neighbours of these moments, of which
+  -- the newest comes first.
   abbrev pub CreatedIsKept : Instant D → List (Instant D) → Instant D → Type 0
   CreatedIsKept start [] now = IsMadeBetween start start now
   CreatedIsKept start (mid ∷ earlier) now = IsMadeBetween start mid now × CreatedIsKept start earlier mid
@@ -83,7 +84,7 @@ module _ {D : Type 0} (g : disk.Ghosts D) where
   abbrev pub CreatedIsTrue : {V : Type 0} → Devices D → Outgoing V → List (Instant D) → Devices D → Outgoing V → Type 0
   CreatedIsTrue old before moments new after = CreatedIsKept (instant old before.calls) moments (instant new after.calls)
 
--- The same of a command, which has an output for what is asked of it and another one for its faults.
+-- The same for the command, which prints to one output and tells its faults on another.
 module _ {D W V : Type 0} (g : disk.Ghosts D) where
   -- Devices without a byte have an empty store now, and that was told.
   abbrev pub WasCreated : Devices D → Devices D → Outputs W V → Outputs W V → Type 0
@@ -93,7 +94,7 @@ module _ {D W V : Type 0} (g : disk.Ghosts D) where
   abbrev pub HadBytes : Devices D → Devices D → Outputs W V → Outputs W V → Type 0
   HadBytes old new before after = TellsNotEmpty g old new before.output after.output
 
-  -- A making that ended by a fault: it had a cause, it was told, or that failed too, and what was written before is a front of what was due.
+  -- A making ended by a fault. The fault had a cause; it was told, or telling it failed; and before it a front of the due line was written.
   abbrev pub CantCreate : Devices D → Devices D → Outputs W V → Outputs W V → Type 0
   CantCreate old new before after =
       (r : Refusal) × (HasCreateCause g old new before.output after.output r

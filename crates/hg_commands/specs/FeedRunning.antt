@@ -55,7 +55,7 @@ content_at g p = live g p.store
 abbrev pub table_at : {D : Type 0} → Place D → Table
 table_at p = p.store.detector.sets
 
--- The store works, and those of the accepted events are pending that came since the last 256th of them.
+-- The store is not broken. Pending are the events accepted since the last commit.
 pub record IsReady {D : Type 0} (store : ShownStore D) (fed : Fed) : Type 0 where
   pub works : store.is_broken ≡ false
   pub pending : length store.pending ≡ fed.accepted % 256
@@ -69,21 +69,21 @@ IsEventFault r = (r ≡ OutOfMemory) ⊎ ((r ≡ DeviceFault) ⊎ ((r ≡ Damage
 abbrev pub EndsLine : ℕ → Refusal → Result (Option Ending) Refusal → Type 0
 EndsLine line r result = (IsEventFault r × (result ≡ Err r)) ⊎ ((IsEventFault r → ⊥) × (result ≡ Ok (Some (Refused line r))))
 
--- Reads of a source's input lead from a table and a content to the last content and the ending: the last of them met the end of the
--- input, and all that they gave leads there; or what they gave leads there, whatever follows it.
+-- Reads of a source's input lead from a table and a content to the last content and the ending. Either the last read met the end of the
+-- input, and the bytes that all gave lead there; or those bytes lead there whatever follows them.
 abbrev pub FeedEndsBy : ℕ → Table → Content → List ReadCall → Content → Ending → Type 0
 FeedEndsBy source table first reads last end =
     ((earlier : List ReadCall) × (reads ≡ Gave [] ∷ earlier) × FeedsTo source (readings (given earlier)) table first 0 last end)
     ⊎ ((more : List ℕ) → FeedsTo source (readings (given reads ++ more)) table first 0 last end)
 
--- Whatever the whole input may be by the reads that were made, what was written is a front of the text for it, from a table and a content.
+-- For each whole input that the reads allow, the written bytes are a front of the text for it, from a table and a content.
 pub record WroteFrontOfAny (source : ℕ) (table : Table) (start : Content) (reads_old reads_new : List ReadCall) (old new : List WriteCall) : Type 0 where
   pub later : List ReadCall
   pub since : reads_new ≡ later ++ reads_old
   pub front : (input : List ℕ) (last : Content) (checkpoint : Option ℕ) (end : Ending) → HasRoom end → MayBe later input → FeedsTo source (readings input) table start 0 last end
       → TookFront old new (feed_text source start last checkpoint end)
 
--- The reads that were made lead to an end, and what was written is a front of the text for it.
+-- The reads lead to an end, and the written bytes are a front of the text for it.
 pub record WroteFrontOfOne (source : ℕ) (table : Table) (start : Content) (reads_old reads_new : List ReadCall) (old new : List WriteCall) : Type 0 where
   pub later : List ReadCall
   pub since : reads_new ≡ later ++ reads_old
@@ -101,7 +101,7 @@ abbrev pub failed_of : StepFault → ℕ
 failed_of (WrongPhase phase) = 0
 failed_of (step.Refused cause) = failed_in cause
 
--- whether a checkpoint is made at an end, where one is asked for
+-- whether a checkpoint is due: one is asked for, and the input came to its end
 abbrev pub is_due : Bool → Ending → Bool
 is_due asked Ended = asked
 is_due asked (Refused line refusal) = false
@@ -112,12 +112,12 @@ module _ {D : Type 0} (g : disk.Ghosts D) where
   abbrev pub LeadsOn : Place D → List Reading → Content → Ending → Type 0
   LeadsOn p readings last end = FeedsTo p.fed.source readings (table_at p) (content_at g p) p.fed.number last end
 
-  -- what was printed since the output was as it was at first: a front, and the lines of commits
+  -- what was printed since the calls `first`: the text `front`, and the lines of commits
   pub record IsPrinted (first : List WriteCall) (front : List ℕ) (events : ℕ) (p : Place D) : Type 0 where
     pub count : (content_at g p).events ≡ events + p.fed.accepted
     pub printed : Took first p.output (front ++ acks_text events p.fed.accepted)
 
-  -- From one place to another no call of a device or of the output failed, and what held of the output still holds.
+  -- From one place to another no call of a device or of the output failed. What was printed is still what was due, and the store is ready.
   pub record WentWell (old new : Place D) : Type 0 where
     pub source : new.fed.source ≡ old.fed.source
     pub failures : failed_calls g new.store.devices new.output ≡ failed_calls g old.store.devices old.output
@@ -136,7 +136,8 @@ module _ {D : Type 0} (g : disk.Ghosts D) where
     pub goes : WentWell old new
     pub leads : IsTrue g.is_honest → (later : List Reading) → LeadsOn old (reading ∷ later) (content_at g new) end
 
-  -- Each of these reads was needed: before the last of them none had met the end of the input, and each line that had come whole was passed: its event was accepted, or was sent before.
+  -- Each of these reads was needed: none before the last met the end of the input, and each line that was whole by then was passed, since its
+  -- event was accepted or was sent before.
   pub record EachIsNeeded (source : ℕ) (table : Table) (start : Content) (reads : List ReadCall) : Type 0 where
     pub last : ReadCall
     pub earlier : List ReadCall
@@ -144,7 +145,7 @@ module _ {D : Type 0} (g : disk.Ghosts D) where
     pub underway : ends_met earlier ≡ 0
     pub passed : IsTrue g.is_honest → (content : Content) × FeedsTo source (ended_readings (given earlier)) table start 0 content Ended
 
-  -- From the first reads to those of now, none failed, each was needed, and what they gave leads from a table and a content to the last content and the ending.
+  -- No read since `first` failed, each was needed, and their bytes lead from a table and a content to the last content and the ending.
   pub record Feeds (first now : List ReadCall) (source : ℕ) (table : Table) (start last : Content) (end : Ending) : Type 0 where
     pub later : List ReadCall
     pub since : now ≡ later ++ first
@@ -152,15 +153,15 @@ module _ {D : Type 0} (g : disk.Ghosts D) where
     pub needed : EachIsNeeded source table start later
     pub leads : IsTrue g.is_honest → FeedEndsBy source table start later last end
 
-  -- What was written since the output was as it was at first is a front of what is due for this content: a front, and the lines of commits up to it.
+  -- The bytes written since the calls `first` are a front of the text due for this content: `front`, and the lines of commits up to it.
   abbrev pub FrontFor : Place D → List WriteCall → Content → Type 0
   FrontFor old now last = (first : List WriteCall) (front : List ℕ) (events : ℕ) → IsPrinted first front events old → TookFront first now (front ++ acks_text events (last.events - events))
 
-  -- Feeding was broken off at a reading: whatever follows it, what was written is a front of what is due for that.
+  -- Feeding was broken off at a reading. Whatever readings follow, a front of the text due for all of them was written.
   abbrev pub BreaksAt : Place D → Reading → List WriteCall → Type 0
   BreaksAt old reading now = IsTrue g.is_honest → (later : List Reading) (last : Content) (end : Ending) → HasRoom end → LeadsOn old (reading ∷ later) last end → FrontFor old now last
 
-  -- Whatever the whole input may be by the reads that were made, what was written is a front of what is due for it.
+  -- For each whole input that the reads allow, a front of the text due for it was written.
   pub record HasFront (first reads : List ReadCall) (source : ℕ) (table : Table) (start : Content) (old : Place D) (now : List WriteCall) : Type 0 where
     pub later : List ReadCall
     pub since : reads ≡ later ++ first
@@ -173,7 +174,7 @@ module _ {D : Type 0} (g : disk.Ghosts D) where
       ⊎ (IsTrue g.is_honest → (table : Table) × ((first : Content) × (HasContent (read_of g old) first × (HasTable MOST_SETS (read_of g old) first table
       × WroteFrontFrom source table first reads_old reads_new calls_old calls_new))))
 
-  -- A feeding that ended by a fault: it had a cause, it was told, or that failed too, and what was written before is a front of what was due.
+  -- A feeding ended by a fault. The fault had a cause; it was told, or telling it failed; and before it a front of the due text was written.
   abbrev pub EndsByFeedFault : ℕ → Devices D → Devices D → List ReadCall → List ReadCall → List WriteCall → List WriteCall → List WriteCall → List WriteCall → Type 0
   EndsByFeedFault source old new reads_old reads_new calls_old calls_new faults_old faults_new =
       (r : Refusal) × (HasFeedCause g old new reads_old reads_new calls_old calls_new r × (IsTold faults_old faults_new r × WroteFeedFront source old reads_old reads_new calls_old calls_new))
@@ -217,7 +218,7 @@ module _ {D : Type 0} (g : disk.Ghosts D) where
     pub pending : new.pending ≡ old.pending
     pub failures : failures_of g new.devices ≡ told result + failures_of g old.devices
 
-  -- Where a checkpoint was due, each image has it as its newest one, of this number and this content.
+  -- Where a checkpoint was due, it is the newest one of each image, with this number and this content.
   abbrev pub WasMade : Bool → Devices D → Content → Option ℕ → Type 0
   WasMade true devices c (Some number) = IsTrue g.is_honest → HasOpened g devices number c
   WasMade true devices c None = ⊥
@@ -244,10 +245,9 @@ module _ {D : Type 0} (g : disk.Ghosts D) where
     pub durable : IsTrue g.is_honest → saved g new ≡ live g new
     pub backs : IsTrue g.is_honest → Backs g new
 
-  -- What feeding the store on these devices did: the events of what was read led from a table and a content to
-  -- the last content, and that was printed and nothing else. Of honest devices, the first content is what they read, the table has
-  -- the sets of that, and any crash from now on leaves the last content; and where a checkpoint was asked for, and the input came to its end,
-  -- each image has it as its newest one.
+  -- What feeding the store on these devices did. The events that were read led from a table and a content to the last content, and exactly
+  -- the text for it was printed. Of honest devices the first content is the one that they read, the table has its sets, and any crash from
+  -- now on leaves the last content. Where a checkpoint was asked for and the input came to its end, it is the newest one of each image.
   pub record FeedDone (reads later : List ReadCall) (source : ℕ) (asked : Bool) (old new : Devices D) (before after : List WriteCall) (end : Ending) : Type 0 where
     pub table : Table
     pub first : Content

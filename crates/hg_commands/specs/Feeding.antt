@@ -18,13 +18,13 @@ use Rattle.hg_check.specs.declared.checker.Ending.TheVariants.{Ended, Refused, B
 use Rattle.hg_check.specs.Printing.{line_text, stop_text}
 use Rattle.hg_commands.specs.Storing.{number_text, store_end_line}
 
--- the event of the line that follows so many others, as its source sent it
+-- the event of the line behind so many others, as its source sent it
 abbrev pub sent : ℕ → ℕ → Event → Named
 sent source lines e = record { source = source; number = lines + 1; event = e }
 
--- An event that is accepted leads on (`later`) from the table with the sets that it asks for and from the content after it,
--- unless the table has no room for them, or no slot is free for a page, which ends the feeding; one that was sent before is passed
--- over; and one that the rules refuse ends the feeding.
+-- An accepted event leads on (`later`) from the table with the sets that it asks for and the content after it; where the table has no
+-- room for them, or no slot is free for a page, it ends the feeding. An event that was sent before is passed over. An event that the
+-- rules refuse ends the feeding.
 abbrev pub Answers : Verdict → Table → Content → Named → ℕ → (Table → Content → Type 0) → Content → Ending → Type 0
 Answers Accept table c n line later last end =
     ((new : Table) × ((Asks table (sets_asked c n.event) None new × later new (after c n)) ⊎ (Asks table (sets_asked c n.event) (Some Full) new × ((last ≡ c) × (end ≡ Refused line FullSets)))))
@@ -49,7 +49,7 @@ HasRoom end = (line : ℕ) → end ≡ Refused line FullSlots → ⊥
 abbrev pub ack_text : ℕ → List ℕ
 ack_text events = number_text (codes "ack ") events
 
--- while so many events were accepted, of a store that had some: a line after each 256th of them
+-- the lines of commits over so many accepted events: one after each 256th. The store had `events` before.
 abbrev pub acks_text : ℕ → ℕ → List ℕ
 acks_text events zero = []
 acks_text events (suc n) = acks_text events n ++ (if nat_eq (suc n % 256) 0 then ack_text (events + suc n) else [])
@@ -65,7 +65,8 @@ abbrev pub checkpoint_text : Option ℕ → List ℕ
 checkpoint_text None = []
 checkpoint_text (Some number) = number_text (codes "checkpoint ") number
 
--- What `feed` prints from the content that it recovered to its last one: the line of the last number, those of the commits, that of a checkpoint, and the last one.
+-- What `feed` prints between the recovered content and the last one: the line of the last number, the lines of the commits, the line of a
+-- checkpoint, and the last line.
 abbrev pub feed_text : ℕ → Content → Content → Option ℕ → Ending → List ℕ
 feed_text source first last checkpoint end =
     (((number_text (codes "resume ") (first.last source) ++ acks_text first.events (last.events - first.events)) ++ ack_text last.events) ++ checkpoint_text checkpoint) ++ feed_end_text last end

@@ -25,13 +25,13 @@ IsOther text =
 abbrev pub AcksAtMost : ℕ → List ℕ → Type 0
 AcksAtMost n text = ((m : ℕ) × (m ≤ n) × (text ≡ ack_text m)) ⊎ IsOther text
 
--- The image has the content after a front of the events that lead from the first content to the last, with so many of the events at least.
+-- The image has the content after a front of the events that lead from the first content to the last. It has at least n events.
 abbrev pub HasAtLeast : Content → Content → ℕ → Image → Type 0
 HasAtLeast first last n image = (on : IsOn first last image) × (n ≤ on.content.events)
 
 module _ {D : Type 0} (g : disk.Ghosts D) where
-  -- Of a feeding whose output had the calls `start` at first, from one moment to a later one: each image of the devices meanwhile has a
-  -- front of the accepted events, with as many of them at least as each `ack` counts that was written by the later moment.
+  -- From one moment of a feeding to a later one; its output began with the calls `start`. Each image of the devices meanwhile has a front of
+  -- the accepted events, with at least as many of them as any `ack` counts that was written by the later moment.
   pub record IsKeptBetween (first last : Content) (start : List WriteCall) (old new : Instant D) : Type 0 where
     pub later : List WriteCall
     pub since : new.calls ≡ later ++ old.calls
@@ -39,23 +39,23 @@ module _ {D : Type 0} (g : disk.Ghosts D) where
     pub acked : WereGiven (AcksAtMost count) start new.calls
     pub each : EachImage g old.devices new.devices (HasAtLeast first last count)
 
-  -- From the start of a feeding to now, over the moments between, the newest first. Up to the oldest of them, at which the store is open,
-  -- nothing is written, and each image has the content of one that there was at the start; and so it is all along where there is none.
+  -- From the start of a feeding to now, over the moments between, the newest first. At the oldest the store is open. Up to it nothing is
+  -- written, and each image has the content of an image at the start; without a moment this holds up to now.
   abbrev pub IsKeptAlong : Content → Content → Instant D → List (Instant D) → Instant D → Type 0
   IsKeptAlong first last start [] now = Recovers g start.devices now.devices × (now.calls ≡ start.calls)
   IsKeptAlong first last start (mid ∷ earlier) now = IsKeptBetween first last start.calls mid now × IsKeptAlong first last start earlier mid
 
-  -- At each moment of a feeding, whatever ends it, each image of the devices has each event that is counted by an `ack` that was written by then,
-  -- in a front of the accepted events, which lead from the content that the devices read at the start to the last one. Each moment lies between
-  -- two that are neighbours here, and only moments that there were can be listed (`Moment::of`): a list that lacks one asks for more, not for less.
+  -- At each moment of a feeding, whatever ends it, each image of the devices has all events that any `ack` written by then counts. It
+  -- has a front of the accepted events, which lead from the content that the devices read at the start to the last one. Each moment lies
+  -- between two neighbours of this list. Only true moments can be listed (`Moment::of`); a list that lacks one asks for more, not for less.
   pub record EachAckIsKept (start : Instant D) (moments : List (Instant D)) (now : Instant D) : Type 0 where
     pub first : Content
     pub last : Content
     pub opened : (moments ≡ [] → ⊥) → HasContent (read_of g start.devices) first
     pub along : IsKeptAlong first last start moments now
 
-  -- While a store that was opened on devices with the first content is fed: its durable content follows from the first one by
-  -- accepted events and has each acknowledged one; the devices are those of the newest moment; and all is kept so far.
+  -- A store was opened on devices with the first content, and is fed. Its durable content follows from the first one by accepted events, and
+  -- has each acknowledged one. The devices are those of the newest moment, and all is kept so far.
   pub record IsKept (start : Instant D) (first : Content) (moments : List (Instant D)) (s : ShownStore D) (now : List WriteCall) : Type 0 where
     pub backs : Backs g s
     pub front : List Named

@@ -26,12 +26,12 @@ abbrev pub EveryTextFedHasAnOutcome : Type 0
 EveryTextFedHasAnOutcome = (source : ℕ) (bytes : List ℕ) (table : Table) (start : Content) → length table.sets ≤ table.limit
     → (c : Content) × ((end : Ending) × (HasRoom end × FeedsTo source (readings bytes) table start 0 c end))
 
--- The trace, newest event first, with the event of the line that follows so many others of its source. An event that the trace
+-- The trace, newest event first, with the event of the line behind so many others of its source. An event that the trace
 -- has already, by its number, is passed over.
 abbrev pub with_sent : ℕ → List Named → ℕ → Event → List Named
 with_sent source past lines e = if nat_le (lines + 1) (last_of_source past source) then past else sent source lines e ∷ past
 
--- the trace with the events of the lines that follow so many others of their source
+-- the trace with the events of the lines behind so many others of their source
 abbrev pub with_fed : ℕ → List Named → ℕ → List Event → List Named
 with_fed source past lines [] = past
 with_fed source past lines (e ∷ events) = with_fed source (with_sent source past lines e) (lines + 1) events
@@ -48,8 +48,8 @@ abbrev pub EndsWith : ℕ → ℕ → List Reading → Content → Ending → Ty
 EndsWith source lines [] c end = end ≡ Ended
 EndsWith source lines (r ∷ later) c end = StopsAt r.event source lines r.line c end
 
--- After so many lines of a source, the front of its readings are events, each accepted or passed over, and the content is the summary of
--- the trace with those that were accepted.
+-- After so many lines of a source, its first readings are events, each accepted or passed over, and the content is the summary of the
+-- trace with the accepted ones.
 pub record IsOfFed (source : ℕ) (past : List Named) (lines : ℕ) (readings : List Reading) (c : Content) (end : Ending) : Type 0 where
   pub front : List Reading
   pub left : List Reading

@@ -28,7 +28,7 @@ module _ {V Z T E : Type 0} where
   abbrev pub HoldsReports : List Report → Outgoing V → Vec ℕ Z → Result T E → Outgoing V → Vec ℕ Z → Type 0
   HoldsReports reports before old result after new = HoldsOrWrites (reports_text 1 reports) before.calls old.items result after.calls new.items
 
-  -- Where it failed, what was written is a front of what was due.
+  -- Where it failed, a front of the due text was written.
   abbrev pub BreaksReports : List Report → Outgoing V → Vec ℕ Z → Result T E → Outgoing V → Type 0
   BreaksReports reports before old result after = WritesFront (reports_text 1 reports) before.calls old.items result after.calls
 
@@ -37,7 +37,7 @@ module _ {D V : Type 0} (g : disk.Ghosts D) where
   abbrev pub ListsStore : Listing → ShownStore D → Outgoing V → Outgoing V → Type 0
   ListsStore listing s before after = Took before.calls after.calls (listing_text listing (live g s))
 
-  -- It was printed but for what is still held of it.
+  -- It was printed, except the held text.
   abbrev pub ListsButHeld : {Z : Type 0} → Listing → ShownStore D → Outgoing V → Outgoing V → Vec ℕ Z → Type 0
   ListsButHeld listing s before after held = IsDue before.calls after.calls held.items [] (listing_text listing (live g s))
 
@@ -45,12 +45,12 @@ module _ {D V : Type 0} (g : disk.Ghosts D) where
   abbrev pub ListsFront : Listing → ShownStore D → Outgoing V → Outgoing V → Type 0
   ListsFront listing s before after = TookFront before.calls after.calls (listing_text listing (live g s))
 
-  -- Honest devices have a content, of which the listing was printed.
+  -- Honest devices have a content, and its listing was printed.
   abbrev pub ListsContent : Listing → Devices D → Outgoing V → Outgoing V → Type 0
   ListsContent listing devices before after =
       IsTrue g.is_honest → (c : Content) × HasContent (read_of g devices) c × Took before.calls after.calls (listing_text listing c)
 
-  -- What was written is a front of the listing of a content, which honest devices have; or nothing was written.
+  -- A front of the listing of a content was written, or nothing. Honest devices have that content.
   abbrev pub WroteListing : Listing → Devices D → Outgoing V → Outgoing V → Type 0
   WroteListing listing old before after =
       (after.calls ≡ before.calls)
@@ -62,11 +62,11 @@ module _ {D V : Type 0} (g : disk.Ghosts D) where
     pub failed : IsCounted r (failed_calls g old before.calls) (failed_calls g new after.calls)
 
 module _ {D W V : Type 0} (g : disk.Ghosts D) where
-  -- Of a command: honest devices have a content, of which the listing was printed.
+  -- For the command: honest devices have a content, and its listing was printed.
   abbrev pub IsListed : Listing → Devices D → Outputs W V → Outputs W V → Type 0
   IsListed listing devices before after = ListsContent g listing devices before.output after.output
 
-  -- A listing that ended by a fault: it had a cause, it was told, or that failed too, and what was written before is a front of what was due.
+  -- A listing ended by a fault. The fault had a cause; it was told, or telling it failed; and before it a front of the due text was written.
   abbrev pub CantList : Listing → Devices D → Devices D → Outputs W V → Outputs W V → Type 0
   CantList listing old new before after =
       (r : Refusal) × (HasListingCause g old new before.output after.output r

@@ -24,11 +24,11 @@ use Rattle.hg_commands.specs.Storing.{FeedFails, HasFeedCause, failed_calls}
 abbrev pub at : {D W V : Type 0} → Feeding D W → Outgoing V → Place D
 at f output = place f.store f.fed output.calls
 
--- the last line of a feeding that leaves a store so
+-- the last line of a feeding that ends so and leaves this store
 abbrev pub end_of : {D : Type 0} → disk.Ghosts D → ShownStore D → Ending → List ℕ
 end_of g s end = feed_end_text (live g s) end
 
--- what recovering a store and feeding it answers: how it ended, the devices, and the moments since it is open
+-- what recovering a store and feeding it answers: how it ended, the devices, and the moments since its opening
 abbrev pub Recovered : Type 0 → Type 0
 Recovered D = Result Ending Refusal × Devices D × List (Instant D)
 
@@ -86,7 +86,7 @@ module _ {D W : Type 0} (g : disk.Ghosts D) where
   abbrev pub ack_of : Feeding D W → List ℕ
   ack_of f = ack_text (live g f.store).events
 
-  -- the line that is due where one more is accepted: that of a commit, where it is the 256th
+  -- what is due after one more accepted event: the line of a commit if it is a 256th one, else nothing
   abbrev pub ack_due : Feeding D W → List ℕ
   ack_due f = if nat_eq ((f.fed.accepted + 1) % 256) 0 then ack_of f else []
 
@@ -133,20 +133,20 @@ module _ {D R V : Type 0} (g : disk.Ghosts D) where
       IfErr result.0 (λ r. HasFeedCause g devices result.1 first.calls now.calls before.calls after.calls r)
 
 module _ {D V : Type 0} (g : disk.Ghosts D) where
-  -- At each moment of it a crash leaves each event that an `ack` counts that was written by then.
+  -- A crash at any moment of it loses no event that an `ack` written by then counts.
   abbrev pub AcksAreKept : Devices D → Outgoing V → List (Instant D) → Devices D → Outgoing V → Type 0
   AcksAreKept old before moments new after = IsTrue g.is_honest → EachAckIsKept g (instant old before.calls) moments (instant new after.calls)
 
--- Of the command, which has an output for what is asked of it and another one for its faults.
+-- For the command, which prints to one output and tells its faults on another.
 module _ {D R W V : Type 0} (g : disk.Ghosts D) where
-  -- The status is 3; or it tells how the feeding ended, and that did what it is to do.
+  -- The status is 3; or it tells how the feeding ended, and the feeding did what it is to do.
   abbrev pub FedOrFault : FeedPlan → Devices D → Incoming R → Incoming R → Outputs W V → Outputs W V → Outcome D W → Type 0
   FedOrFault plan devices first now before after outcome =
       (outcome.status ≡ 3 → ⊥)
       → (end : Ending) × (outcome.status ≡ status_of end)
       × FeedDone g first.calls now.calls plan.source plan.checkpoint devices outcome.devices before.output.calls after.output.calls end
 
-  -- The status is not 3; or a fault ended the feeding, which was told.
+  -- The status is not 3; or a fault ended the feeding, and was told.
   abbrev pub FaultIsTold : FeedPlan → Devices D → Incoming R → Incoming R → Outputs W V → Outputs W V → Outcome D W → Type 0
   FaultIsTold plan devices first now before after outcome =
       outcome.status ≡ 3

@@ -27,8 +27,8 @@ number_text word number = word ++ decimal number ++ 10 ∷ []
 abbrev pub store_end_line : Content → List ℕ
 store_end_line c = end_line c.events c.total (length c.segments)
 
--- How many calls have failed, of so many before, where this is told: one more for a device fault, and else no more. A device fault is told without
--- a failed call too, where a page that was read before reads otherwise now.
+-- How the count of failed calls goes on where this refusal is told: one more for a device fault, else none. A device fault may come
+-- without a failed call too: a page that was read before reads otherwise now.
 abbrev pub IsCounted : Refusal → ℕ → ℕ → Type 0
 IsCounted r old new = (new ≡ told_refusal r + old) ⊎ ((r ≡ DeviceFault) × (new ≡ old))
 

@@ -22,7 +22,7 @@ use std::snapshot::Snapshot;
 /// The most pages that are written for one checkpoint: as many as there may be slots.
 const MOST_PAGES: u32 = 1 << 20;
 
-/// Why a step of a checkpoint was not made, as what ends feeding. The steps are made in their order, so that none is in a wrong phase.
+/// The refusal that ends feeding where a step of a checkpoint was not made. The steps come in their order, so that no phase is wrong.
 fn refusal_of(fault: StepFault) -> Refusal
     ensures cause { IsFeedFault result }
     ensures counted { told_refusal result ≡ failed_of fault }
@@ -34,7 +34,8 @@ fn refusal_of(fault: StepFault) -> Refusal
 }
 
 impl<D: Disk, W> Feeding<D, W> {
-    /// Keeps the moment behind a step of a checkpoint, which the store began as `began`, and tells why the step was not made.
+    /// Keeps the moment after a step of a checkpoint, and passes the answer on, a fault as what ends feeding. `began` is the store before
+    /// the step.
     fn note_step<T>(
         &mut self,
         began: Snapshot<Store<D>>,
@@ -165,8 +166,8 @@ impl<D: Disk, W> Feeding<D, W> {
         self.note_step(began, done, output)
     }
 
-    /// Makes a checkpoint of the durable events, which are all there are, and answers its number. At `Ok` each image of the devices has it as its
-    /// newest one. No event is lost or added meanwhile, and each image has the same content.
+    /// Makes a checkpoint and answers its number. All events are durable before. At `Ok` it is the newest checkpoint of each image of the
+    /// devices. No event is lost or added meanwhile, and each image has the same content.
     pub fn make_checkpoint(&mut self, alloc: Global, output: &Output<W>) -> Result<u64, Refusal>
         ensures stays { StaysFed ⟦<D as Disk>⟧ self.old.store self.new.store result }
         ensures made { IsTrue D.is_honest → IfOk result (OpensLive ⟦<D as Disk>⟧ self.old self.new) }

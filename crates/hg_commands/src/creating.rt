@@ -40,7 +40,7 @@ fn cleared<D: Disk>(devices: Devices<D>) -> Devices<D>
     devices
 }
 
-/// Makes a store, and prints that. The status is 0, or 2 where a device has bytes.
+/// Makes a store and prints `created`, with status 0. Where a device has bytes it prints `not empty`, with status 2.
 fn make_and_print<D: Disk, W: Write>(
     alloc: Global,
     devices: Devices<D>,
@@ -80,7 +80,7 @@ fn make_and_print<D: Disk, W: Write>(
 /// With status 3, devices that had no byte have none again, as far as they answer, so that the store can be made once the cause
 /// is mended, and other devices are as they were.
 ///
-/// Whatever the status, `created` is written only while a crash leaves such a store, and so it does from then on, unless the
+/// Whatever the status, `created` is written only when any crash leaves such a store. This stays so from then on, unless the
 /// writing failed. The moments in the outcome show it: one comes before `created` is written, and one after that.
 pub fn create_store<D: Disk, W: Write, V: Write>(
     alloc: Global,

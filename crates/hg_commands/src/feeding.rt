@@ -67,7 +67,7 @@ impl<D: Disk, W: Write> Sink<W> for Feeding<D, W> {
         self.feed_reading(&reading, output)
     }
 
-    /// Nothing is held: what is due was printed at each line.
+    /// Prints nothing: each line printed its own text.
     fn print(&mut self, _output: &mut Output<W>) -> Result<(), Refusal> {
         Ok(())
     }
@@ -113,7 +113,7 @@ fn print_end<D: Disk, W: Write>(
     Ok(())
 }
 
-/// Whether a checkpoint is made at this end, where one is asked for.
+/// Whether a checkpoint is due: one is asked for, and the input came to its end.
 fn checkpoint_is_due(asked: bool, end: Ending) -> bool
     ensures { result ≡ is_due asked end }
 {
@@ -193,7 +193,7 @@ impl<D: Disk, W: Write> Feeding<D, W> {
     }
 }
 
-/// Recovers a store, feeds a trace text to it, and hands its devices back, with the moments since it is open.
+/// Recovers a store, feeds a trace text to it, and hands its devices back, with the moments since its opening.
 fn recover_and_feed<D: Disk, R: Read, W: Write>(
     alloc: Global,
     devices: Devices<D>,
@@ -232,18 +232,19 @@ fn recover_and_feed<D: Disk, R: Read, W: Write>(
     }
 }
 
-/// Recovers the store that the devices hold, and feeds it a trace text as the events of a source, each line's numbered by
-/// the count of those before it. Prints the last number that the source had sent, the count of all accepted events at each
-/// commit, which comes after each 256th accepted event and at the end, the number of the checkpoint, where one is asked for and
-/// the input came to its end, and the end line, or the line that was refused or bad, after which nothing is read. Events that were
-/// sent before are passed over.
+/// Recovers the store that the devices hold, and feeds it a trace text as the events of a source. Each event has the number of its
+/// line among the lines with events, from 1 on. Events that were sent before are passed over. A commit comes after each 256th accepted
+/// event and at the end.
+///
+/// Prints the last number that the source had sent; at each commit the count of all accepted events; the number of the checkpoint, if
+/// one is asked for and the input came to its end; and the end line, or the line that was refused or bad. After such a line nothing is
+/// read.
 ///
 /// The status is 0, 2 where a line was refused or bad, or 3 where the devices hold no store, a device or a stream failed, or
 /// memory or room was refused, which is told among the faults. What was printed before that is a front of what was due.
 ///
-/// Whatever the status, at each moment of the call a crash leaves devices with each event that is counted by an `ack` that was
-/// written by then. The moments in the outcome show it: the first is that at which the store is open, and one comes after each step of
-/// the store. A checkpoint changes no content.
+/// Whatever the status, a crash at any moment of the call loses no event that an `ack` written by then counts. The moments in the
+/// outcome show it: the first is the opening of the store, and one comes after each step of the store. A checkpoint changes no content.
 pub fn feed<D: Disk, R: Read, W: Write, V: Write>(
     alloc: Global,
     devices: Devices<D>,

@@ -46,7 +46,7 @@ pub(crate) struct Feeding<D: Disk, W> {
 }
 
 impl<D: Disk, W: Write> Feeding<D, W> {
-    /// Commits, and tells at once how many events are durable.
+    /// Commits, and prints `ack` with the count of durable events at once.
     pub(crate) fn acknowledge(&mut self, output: &mut Output<W>) -> Result<(), Refusal>
         requires works { self.old.store.is_broken ≡ false }
         ensures committed { OnOk result (WasCommitted ⟦<D as Disk>⟧ self.old.store self.new.store) }

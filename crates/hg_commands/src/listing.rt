@@ -35,7 +35,7 @@ pub enum Listing {
     Segments,
 }
 
-/// Holds the end line of a store that works: the counts of its accepted events, its reports and its segments.
+/// Holds the end line of a store that is not broken: the counts of its accepted events, its reports and its segments.
 pub fn hold_end_line<D: Disk>(store: &Store<D>, held: &mut Vec<u8>) -> Result<(), Refusal>
     requires works { store.now.is_broken ≡ false }
     ensures ok { OnOk result (held.new.items ≡ held.old.items ++ end_text ⟦<D as Disk>⟧ store.now) }
@@ -68,7 +68,7 @@ fn print_kept<W: Write>(
     Ok(())
 }
 
-/// Prints a listing of a store. What is little at its end stays held.
+/// Writes a listing of a store in large pieces; what remains below 64 KiB stays in `held`.
 fn print_listing<D: Disk, W: Write>(
     alloc: Global,
     store: &Store<D>,
@@ -93,7 +93,7 @@ fn print_listing<D: Disk, W: Write>(
     }
 }
 
-/// Prints what a store that works holds.
+/// Prints a listing of a store that is not broken.
 fn print_store<D: Disk, W: Write>(
     alloc: Global,
     store: &Store<D>,
@@ -171,8 +171,8 @@ fn list_store<D: Disk, W: Write, V: Write>(
 
 /// Recovers the store that the devices hold, and prints its kept reports and the end line. Answers the status and the
 /// devices: 0, or 3 where they hold no store, a device or the output failed, or memory or room was refused, which is
-/// told among the faults. What was printed before that is a front of what was due. A recovery may write pages: a crash at any moment leaves an
-/// image with the content of one that there was before.
+/// told among the faults. What was printed before that is a front of what was due. A recovery may write pages, but a crash at any
+/// moment leaves an image with the content of an image before.
 pub fn store_reports<D: Disk, W: Write, V: Write>(
     alloc: Global,
     devices: Devices<D>,

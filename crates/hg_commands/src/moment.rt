@@ -11,9 +11,9 @@ use hg_trail::Trail;
 use std::marker::Model;
 use std::snapshot::Snapshot;
 
-/// The devices of a store and an output as they were at one moment. It has no bytes. Nothing but `of` makes one, and that
-/// borrows both at once, so it is a moment that there was. A command over any devices and writers has but one store of `D` and
-/// one output of `W`, so no other can stand in for them.
+/// The devices of a store and an output as they were at one moment. It has no bytes. Only `of` makes one, and borrows both at once,
+/// so each `Moment` is a true one. A command over any devices and writers has but one store of `D` and one output of `W`, so no
+/// other can stand in for them.
 #[derive(Drop)]
 pub struct Moment<D: Disk, W> {
     store: Snapshot<Store<D>>,

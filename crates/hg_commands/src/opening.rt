@@ -14,8 +14,8 @@ use hg_store::devices::{Caps, Devices};
 use hg_store::store::Store;
 use std::alloc::Global;
 
-/// The store that the devices hold, with nothing pending and no checkpoint in progress, at the sizes of the program. A refusal hands them
-/// back, and is a fault with its cause.
+/// The store that the devices hold, at the program's sizes. Nothing is pending and no checkpoint is in progress. A refusal hands the
+/// devices back, and is a fault with its cause.
 pub fn open_store<D: Disk>(
     alloc: Global,
     devices: Devices<D>,

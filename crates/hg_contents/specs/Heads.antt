@@ -23,7 +23,7 @@ pub record FitsARoot {W : Type 0} (cell_of : W → ℕ → Cell) (d : ShownDetec
   pub locks : All (λ t. All LockFits t.held) d.parts.threads
   pub named : All (λ r. r.threads < length d.sets.sets) d.kept
 
--- What such a detector shows is the head of a root, under each number of a checkpoint.
+-- The parts of such a detector are a lawful head, with any number of a checkpoint.
 abbrev pub ADetectorHasALawfulHead : {W : Type 0} → (W → ℕ → Cell) → Type 0
 ADetectorHasALawfulHead {W} cell_of =
     (d : ShownDetector W) (number : ℕ) → FitsARoot cell_of d → 1 ≤ number → number ≤ 2 ^ 58

@@ -24,7 +24,7 @@ pub record Image : Type 0 where
 abbrev pub has_slot : List PageSlot → ℕ → Bool
 has_slot pages page = list_any (λ p. p.page == page) pages
 
--- the cell of a word: that of its page, or a new one where the page has no slot
+-- the cell of a word: that of its page, or a new one if the page has no slot
 abbrev pub cell_of : Checkpoint → ℕ → Cell
 cell_of c w = if has_slot c.root.pages (w / 256) then get_or (c.cells_of (w / 256)) (w % 256) New else New
 
@@ -41,12 +41,13 @@ content_of c =
       last = last_number c.root.sources;
     }
 
--- The content from which a journal's events go on: that of the checkpoint, or the empty one where there is none.
+-- The content from which a journal's events go on: that of the checkpoint, or the empty one without a checkpoint.
 abbrev pub start_of : Option Checkpoint → Content
 start_of None = empty_content
 start_of (Some c) = content_of c
 
--- There are as many events as the first content has, at least, and those behind lead on from it to the last content.
+-- The events are at least as many as the first content counts, and those behind that count lead from it to the last
+-- content.
 pub record LeadFrom (start : Content) (events : List Named) (last : Content) : Type 0 where
   pub enough : start.events ≤ length events
   pub leads : followed start (drop start.events events) ≡ Some last

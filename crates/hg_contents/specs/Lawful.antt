@@ -1,4 +1,4 @@
--- What the content of an accepted trace obeys: the rules of a root's parts, in words of the content.
+-- The rules for the content of an accepted trace: those of a root's parts, said of the content.
 use Rattle.std.specs.Prelude.{◌≡◌, ◌⊎◌, ◌<◌, ◌≤◌, ◌+◌, ◌*◌, ◌%◌, ◌^◌, ℕ, List, length, map, min, slice_get, Some, sum_by, Contains, All}
 use Rattle.std.specs.List.{range_with_len}
 use Rattle.hg_model.specs.declared.event.Named.{Named}

@@ -1,4 +1,4 @@
--- The laws of images and of contents, which empty public functions promise.
+-- The laws of images and of contents, promised by functions without a body.
 use Rattle.std.specs.Prelude.{◌≡◌, ◌<◌, ◌^◌, ◌++◌, ◌↔◌, List, length, Option, Some}
 use Rattle.hg_model.specs.declared.event.Named.{Named}
 use Rattle.hg_model.specs.Contents.{Content}
@@ -16,11 +16,12 @@ ContentIsUnique = (image : Image) (c d : Content) → length image.root0 < 2 ^ 6
 abbrev pub HasEventsAlone : Image → Content → Type 0
 HasEventsAlone image c = (events : List Named) × IsJournal image.journal events × (followed empty_content events ≡ Some c)
 
--- Where both roots are closed, an image has the content of its journal's events, and no other.
+-- If both root files are closed, an image has the content of its journal's events, and no other.
 abbrev pub ClosedRootsAreAsBefore : Type 0
 ClosedRootsAreAsBefore = (image : Image) (c : Content) → IsClosed image.root0 → IsClosed image.root1 → HasContent image c ↔ HasEventsAlone image c
 
--- A checkpoint of the content that the journal's events so far give gives, with any more events, what the former one gives, or none.
+-- If a checkpoint has the content that the journal's events so far give, then with any more events it gives the same as the
+-- former checkpoint or the empty content.
 abbrev pub CheckpointGivesTheSame : Type 0
 CheckpointGivesTheSame =
     (former : Option Checkpoint) (next : Checkpoint) (events more : List Named) (c : Content) → Gives former events (content_of next)

@@ -10,7 +10,7 @@ use Rattle.hg_root.specs.Checkpoints.{Checkpoint, HasPages}
 use Rattle.hg_root.specs.Parts.{Parts}
 use Rattle.hg_contents.specs.Images.{content_of, has_slot}
 
--- the cells of so many words from this one on
+-- the cells of n words from this one on
 unfoldable pub cells_from : (ℕ → Cell) → ℕ → ℕ → List Cell
 cells_from map first zero = []
 cells_from map first (suc n) = map first ∷ cells_from map (first + 1) n
@@ -23,7 +23,7 @@ checkpoint_of root map = record { root = root; cells_of = λ page. cells_from ma
 abbrev pub HasPageOf : (ℕ → Cell) → List ℕ → PageSlot → Type 0
 HasPageOf map slots p = (cells : List Cell) × HasSlot p.slot p.page cells slots × ((i : ℕ) → i < 256 → map (256 * p.page + i) ≡ get_or cells i New)
 
--- What the cells of the map name is in the root.
+-- The cells of the map name only segments and sets of the root.
 abbrev pub IsKnownTo : Parts → (ℕ → Cell) → Type 0
 IsKnownTo root map = (w : ℕ) → IsKnown (length root.segments) root.sets (map w)
 
@@ -31,7 +31,7 @@ IsKnownTo root map = (w : ℕ) → IsKnown (length root.segments) root.sets (map
 abbrev pub IsNewElsewhere : Parts → (ℕ → Cell) → Type 0
 IsNewElsewhere root map = (w : ℕ) → has_slot root.pages (w / 256) ≡ false → map w ≡ New
 
--- A root has the parts of what a detector shows, but its words.
+-- The root has the parts of the detector, except its words.
 pub record HasPartsOf {W : Type 0} (d : ShownDetector W) (root : Parts) : Type 0 where
   pub events : root.events ≡ d.parts.events
   pub segments : root.segments ≡ d.segments
@@ -41,7 +41,7 @@ pub record HasPartsOf {W : Type 0} (d : ShownDetector W) (root : Parts) : Type 0
   pub reports : root.reports ≡ d.kept
   pub last : HaveLast root.sources d.parts.last
 
--- Slots that have the pages of a map are those of its checkpoint.
+-- If each slot of a root has its page of a map, the slots have the checkpoint of the root and the map.
 abbrev pub MapsAreStored : Type 0
 MapsAreStored = (root : Parts) (map : ℕ → Cell) (slots : List ℕ) → IsKnownTo root map → All (HasPageOf map slots) root.pages → HasPages slots (checkpoint_of root map)
 

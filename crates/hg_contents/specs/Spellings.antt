@@ -1,4 +1,4 @@
--- Locks and sets of a content that have a spelling in a root.
+-- Contents whose locks and sets have a spelling in a root.
 use Rattle.std.specs.Prelude.{◌≡◌, ℕ, List, Option, Some, All}
 use Rattle.std.specs.List.{AllByRecursion}
 use Rattle.hg_model.specs.declared.event.Named.{Named}
@@ -15,11 +15,11 @@ pub record HasSpellings (c : Content) : Type 0 where
   pub locks : All (λ t. All LockFits t.held) c.threads
   pub words : (w : ℕ) → All SetFits (sets_in (c.words w))
 
--- A content has them where each of its events has a record.
+-- If each event has a record, the content has spellings.
 abbrev pub ContentsHaveSpellings : Type 0
 ContentsHaveSpellings = (events : List Named) (c : Content) → AllByRecursion RecordFits events → followed empty_content events ≡ Some c → HasSpellings c
 
--- So has a table of sets, also after an event asked for its sets.
+-- A table of sets with spellings keeps them when an event asks for its sets.
 abbrev pub TablesHaveSpellings : Type 0
 TablesHaveSpellings =
     (c : Content) (n : Named) (old new : Table) (refused : Option SetFault) → HasSpellings (after c n) → Asks old (sets_asked c n.event) refused new

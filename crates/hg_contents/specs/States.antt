@@ -1,4 +1,4 @@
--- Contents from which accepted events go on: those of a root, the empty one, and all that events make of these.
+-- Contents from which accepted events go on: the empty one, those of roots, and those after events on these.
 use Rattle.std.specs.Prelude.{◌≡◌, ◌<◌, ◌≤◌, ℕ, List, length, Option, Some, Result, All}
 use Rattle.std.specs.List.{AllByRecursion}
 use Rattle.hg_model.specs.declared.event.Named.{Named}
@@ -26,7 +26,7 @@ use Rattle.hg_contents.specs.Images.{content_of}
 use Rattle.hg_contents.specs.Lawful.{IsLawfulContent}
 use Rattle.hg_contents.specs.Spellings.{HasSpellings}
 
--- The segment that owns a word is below this number; the threads that share one are two at least.
+-- The segment that owns the word is below this number; a shared word has at least two threads.
 abbrev pub IsLawfulWord : ℕ → WordState → Type 0
 IsLawfulWord segments New = Unit {0}
 IsLawfulWord segments (Exclusive s) = s < segments
@@ -48,7 +48,7 @@ EmptyIsLawful = IsLawfulState empty_content
 abbrev pub StatesStayLawful : Type 0
 StatesStayLawful = (c : Content) (n : Named) → IsLawfulState c → RecordFits n → verdict (standing_of c) n ≡ Accept → IsLawfulState (after c n)
 
--- So do events one after another.
+-- So do several events in turn.
 abbrev pub FollowedStayLawful : Type 0
 FollowedStayLawful = (c d : Content) (events : List Named) → IsLawfulState c → AllByRecursion RecordFits events → followed c events ≡ Some d → IsLawfulState d
 
@@ -56,23 +56,23 @@ FollowedStayLawful = (c d : Content) (events : List Named) → IsLawfulState c �
 abbrev pub RootsHaveLawfulStates : Type 0
 RootsHaveLawfulStates = (c : Checkpoint) (slots : List ℕ) → IsLawful c.root → HasPages slots c → IsLawfulState (content_of c)
 
--- What a detector shows goes into a root where its content is a lawful state, its sets have spellings, and its reports name sets that are there.
+-- A detector fits a root if its content is a lawful state, its sets have spellings, and its reports name sets of the table.
 abbrev pub StatesFit : {W : Type 0} → (W → ℕ → Cell) → Type 0
 StatesFit {W} cell_of = (d : ShownDetector W) → IsLawfulState (content cell_of d) → AreSets d.sets → All SetFits d.sets.sets → All (λ r. r.threads < length d.sets.sets) d.kept → FitsARoot cell_of d
 
--- A table of sets keeps to sets that have a spelling where an accepted event asks it for its sets.
+-- A table of sets with spellings keeps them when an accepted event asks for its sets.
 abbrev pub TablesStaySpelled : Type 0
 TablesStaySpelled =
     (c : Content) (n : Named) (old new : Table) (refused : Option SetFault) → IsLawfulState c → RecordFits n → verdict (standing_of c) n ≡ Accept → Asks old (sets_asked c n.event) refused new
     → All SetFits old.sets → All SetFits new.sets
 
--- So it does whatever the answer leaves of it, also where memory ran out.
+-- So it does whatever the answer is, even if memory ran out.
 abbrev pub AnswersStaySpelled : Type 0
 AnswersStaySpelled =
     (c : Content) (n : Named) (old new : Table) (answer : Result (Unit {0}) Refusal) → IsLawfulState c → RecordFits n → verdict (standing_of c) n ≡ Accept → AsksBy old (sets_asked c n.event) answer new
     → All SetFits old.sets → All SetFits new.sets
 
--- A cell that stands for a word of a lawful state may go into a slot, where its numbers are within the segments and the sets.
+-- The cell of a word of a lawful state may go into a slot, if its numbers are within the segments and the sets.
 abbrev pub LiveWordsAreKnown : Type 0
 LiveWordsAreKnown =
     (c : Content) (segments : ℕ) (sets : List (List ℕ)) (cell : Cell) (w : ℕ) → IsLawfulState c → c.words w ≡ meaning sets cell → IsWithin segments (length sets) cell → IsKnown segments sets cell

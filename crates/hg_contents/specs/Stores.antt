@@ -1,4 +1,4 @@
--- What a store stands for, from one fact on each kind of device.
+-- The content that a store stands for, from a fact on each kind of device.
 use Rattle.std.specs.Prelude.{◌≡◌, ℕ, List, Bool, Some}
 use Rattle.hg_model.specs.declared.event.Named.{Named}
 use Rattle.hg_model.specs.Contents.{Content}
@@ -22,8 +22,8 @@ pub record IsLeft (devices : States) (image : Image) : Type 0 where
   pub root0 : IsImage devices.root0 image.root0
   pub root1 : IsImage devices.root1 image.root1
 
--- The devices of a store, the content with all accepted events, those of them that are not committed, the count of the others, and
--- whether a commit failed.
+-- The devices of a store, the content with all accepted events, the accepted events that are not committed, the count of
+-- the committed ones, and whether a commit failed.
 pub record View : Type 0 where
   pub devices : States
   pub live : Content
@@ -31,8 +31,8 @@ pub record View : Type 0 where
   pub durable : ℕ
   pub in_doubt : Bool
 
--- The store stands for the durable content d: the pending events lead from it to the live content, and each image of the devices has
--- it. Where a commit failed, an image may have the live content instead.
+-- The store stands for the durable content d: the pending events lead from d to the live content, and each image of the
+-- devices has d. After a failed commit an image may have the live content instead.
 pub record Backs (s : View) (d : Content) : Type 0 where
   pub live : followed d s.pending ≡ Some s.live
   pub count : s.durable ≡ d.events
@@ -47,6 +47,6 @@ pub record KeepsContent (basis : Basis) (s : View) (d : Content) : Type 0 where
   pub roots : (one other : List ℕ) → IsImage s.devices.root0 one → IsImage s.devices.root1 other → HasEitherRoots basis one other
   pub slots : Leaves (HasBothSlots basis) s.devices.slots
 
--- The facts say what each joint image has.
+-- From the facts follows the content of each joint image.
 abbrev pub FactsBack : Type 0
 FactsBack = (basis : Basis) (s : View) (d : Content) → KeepsContent basis s d → Backs s d

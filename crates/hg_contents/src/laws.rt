@@ -18,41 +18,42 @@ pub fn content_is_unique()
     ensures { ContentIsUnique }
 {}
 
-/// Where both roots are closed, an image has the content that its journal alone gives.
+/// If both root files are closed, an image has the content that its journal alone gives.
 pub fn closed_roots_are_as_before()
     ensures { ClosedRootsAreAsBefore }
 {}
 
-/// A checkpoint of the journal's events so far gives, with any more of them, what the former checkpoint gives, or none.
+/// A new checkpoint of the journal's events so far changes no content: with any more events it gives the same as the former
+/// checkpoint or the empty content.
 pub fn checkpoint_gives_the_same()
     ensures { CheckpointGivesTheSame }
 {}
 
-/// From one fact on each kind of device, each joint image has the durable content or, in doubt, the live one.
+/// If a fact holds for each kind of device, each joint image has the durable content or, in doubt, the live one.
 pub fn joint_images()
     ensures { JointImages }
 {}
 
-/// What a store keeps of each kind of device says what each joint image has.
+/// The facts that a store keeps on its devices (`KeepsContent`) give the content of each joint image (`Backs`).
 pub fn facts_back()
     ensures { FactsBack }
 {}
 
-/// A run that starts from the content of an image and has the remaining events accepted has the content of the run
-/// that was never stopped, and the rules of traces refuse none of them.
+/// Take the content of an image, and then the remaining events of the run: the rules accept each of them, and the result is
+/// the content of the run that was never stopped.
 pub fn remaining_give_the_same()
     ensures { RemainingGiveTheSame }
 {}
 
-/// Of a run from the empty content on, the content of an image is the summary of a prefix of the accepted events that
-/// has each acknowledged one.
+/// If a run starts from the empty content, an image has the summary of a prefix of the accepted events, and this prefix has
+/// each acknowledged event.
 pub fn prefix_is_summed()
     ensures { PrefixIsSummed }
 {
     following_is_the_summary();
 }
 
-/// Where each slot of a root has its page of a map, the slots are those of the checkpoint that the root makes with it.
+/// If each slot of a root has its page of a map, the slots have the checkpoint of the root and the map.
 pub fn maps_are_stored()
     ensures { MapsAreStored }
 {}
@@ -67,7 +68,7 @@ pub fn contents_are_lawful()
     ensures { ContentsAreLawful }
 {}
 
-/// What a detector shows is the head of a root, where its content is lawful.
+/// The parts of a detector are a lawful head of a root, if it fits a root (`FitsARoot`).
 pub fn a_detector_has_a_lawful_head<W: Words>()
     ensures { ADetectorHasALawfulHead W.cell_of }
 {}
@@ -77,17 +78,17 @@ pub fn threads_have_small_numbers()
     ensures { ThreadsHaveSmallNumbers }
 {}
 
-/// The last number of each source is read of a root again.
+/// The root of a lawful content has the last number of each source.
 pub fn roots_have_the_last_numbers()
     ensures { RootsHaveTheLastNumbers }
 {}
 
-/// Where events have records, the locks and the sets of their content have a spelling in a root.
+/// If events have records, the locks and the sets of their content have a spelling in a root.
 pub fn contents_have_spellings()
     ensures { ContentsHaveSpellings }
 {}
 
-/// A table of sets keeps to sets that have a spelling, whatever such a content asks for.
+/// A table of sets with spellings keeps them, whatever sets such a content asks for.
 pub fn tables_have_spellings()
     ensures { TablesHaveSpellings }
 {}
@@ -102,7 +103,7 @@ pub fn states_stay_lawful()
     ensures { StatesStayLawful }
 {}
 
-/// So do events one after another, each accepted after those before it.
+/// So do several events, each accepted after those before it.
 pub fn followed_stay_lawful()
     ensures { FollowedStayLawful }
 {}
@@ -112,22 +113,22 @@ pub fn roots_have_lawful_states()
     ensures { RootsHaveLawfulStates }
 {}
 
-/// A cell that stands for a word of a lawful state may go into a slot, where its numbers are within the segments and the sets.
+/// The cell of a word of a lawful state may go into a slot, if its numbers are within the segments and the sets.
 pub fn live_words_are_known()
     ensures { LiveWordsAreKnown }
 {}
 
-/// A detector whose content is a lawful state goes into a root.
+/// A detector whose content is a lawful state fits a root.
 pub fn states_fit<W: Words>()
     ensures { StatesFit W.cell_of }
 {}
 
-/// A table of sets keeps to sets that have a spelling, whatever an event asks for that a lawful state accepts.
+/// A table of sets with spellings keeps them, whatever sets an event asks for that a lawful state accepts.
 pub fn tables_stay_spelled()
     ensures { TablesStaySpelled }
 {}
 
-/// It does so whatever is answered, also where memory ran out.
+/// It does so whatever the answer is, even if memory ran out.
 pub fn answers_stay_spelled()
     ensures { AnswersStaySpelled }
 {}

@@ -1,4 +1,5 @@
-//! What the devices of a store say together, and what the content of a detector obeys, so that it may go into a root.
+//! The content that the devices of a store have together, and the rules by which the content of a detector fits into a
+//! root.
 #![tactic(auto)]
 
 pub mod laws;

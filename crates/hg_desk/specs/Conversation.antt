@@ -96,7 +96,7 @@ Answers g Greeting old new told told_after frame stage reply = Greets g old new 
 Answers g (Talking source) old new told told_after frame stage reply = Talks g source old new told told_after frame stage reply
 Answers g Over old new told told_after frame stage reply = Still old new told told_after × Leads stage reply Over (Fault 4)
 
--- What a share is told by a frame, whatever the store was: one more where an event was answered Accepted, and of durable events never less.
+-- how many accepted events a reply tells the share of: one for Accepted, else none
 abbrev pub accepted_by : Reply → ℕ
 accepted_by (Accepted number) = 1
 accepted_by (Welcome last) = 0
@@ -108,7 +108,8 @@ accepted_by (Fault code) = 0
 accepted_by (Lines lines) = 0
 accepted_by Nothing = 0
 
--- So a share never counts less than before, and over honest devices each Accepted.
+-- What a frame tells a share, whatever the store was. The share's counts never fall, and it counts only Accepted replies; over honest
+-- devices it counts each of them.
 pub record AskTold (is_honest : Bool) (told new : Told) (reply : Reply) : Type 0 where
   pub accepted : IsTrue is_honest → new.accepted ≡ told.accepted + accepted_by reply
   pub at_most : new.accepted ≤ told.accepted + accepted_by reply

@@ -29,7 +29,7 @@ AreDisputed shares back tally =
     (back ≡ shares) × (tally.accepted_told ≡ accepted_in shares) × (tally.durable_told ≡ durable_in shares)
     × ((tally.accepted_told ≢ tally.accepted_book) ⊎ (tally.durable_told ≢ tally.durable_book))
 
--- The share stays as it was, and as much was counted at least as it was told.
+-- The share stays as it was, and the counts are at least what it was told.
 abbrev pub FindsAtLeast : Told → Told → Counts → Type 0
 FindsAtLeast share share_after counts = (share_after ≡ share) × (share.accepted ≤ counts.accepted) × (share.durable ≤ counts.durable)
 
@@ -38,15 +38,15 @@ module _ {D : Type 0} (g : disk.Ghosts D) where
   abbrev pub events_of : ShownStore D → ℕ
   events_of s = (live g s).events
 
-  -- A store that began with so many events, accepted and durable, has as many more as were counted.
+  -- The store has the events of its opening, accepted and durable, and as many more as were counted.
   abbrev pub AreSince : (opening_events opening_durable : ℕ) → ShownStore D → Counts → Type 0
   AreSince opening_events opening_durable s counts = (events_of s ≡ opening_events + counts.accepted) × (s.durable ≡ opening_durable + counts.durable)
 
-  -- The store that was taken in has accepted as many events more than so many as the shares were told.
+  -- The store that was taken in has its events of the opening, and as many more as the shares were told.
   abbrev pub HasTheirEvents : ℕ → List Told → TakenIn D → Type 0
   HasTheirEvents opening shares taken_in = events_of taken_in.store ≡ opening + accepted_in shares
 
-  -- As many more are durable as the shares were told.
+  -- Durable are the events that were durable at the opening, and as many more as the shares were told.
   abbrev pub HasTheirDurable : ℕ → List Told → TakenIn D → Type 0
   HasTheirDurable opening shares taken_in = taken_in.store.durable ≡ opening + durable_in shares
 
@@ -54,6 +54,6 @@ module _ {D : Type 0} (g : disk.Ghosts D) where
   abbrev pub EachImageHas : ShownStore D → ℕ → Type 0
   EachImageHas s n = (image : Image) → IsLeft (states_of g s.devices) image → (k : Content) × HasContent image k × (n ≤ k.events)
 
-  -- Each image of the devices of the store that was taken in has these at least.
+  -- Each image of the devices of the store that was taken in has at least these durable events.
   abbrev pub ImagesHaveThem : ℕ → List Told → TakenIn D → Type 0
   ImagesHaveThem opening shares taken_in = EachImageHas taken_in.store (opening + durable_in shares)

@@ -13,24 +13,23 @@ use Rattle.hg_store.specs.Shown.{ShownStore, live, saved}
 abbrev pub LeadsTo : Content → Content → Type 0
 LeadsTo first last = (events : List Named) × (followed first events ≡ Some last)
 
--- What is kept of a device at one moment, whatever kind of device it is: its state, those before each call so far, the newest first, and how
--- many calls have failed.
+-- A device of any kind at one moment: its state, the states before each call so far, the newest first, and how many calls have failed.
 pub record Point : Type 0 where
   pub state : DiskState
   pub past : List DiskState
   pub failures : ℕ
 
--- points are seen as the devices that they are of
+-- points, seen as devices
 abbrev pub of_points : Bool → disk.Ghosts Point
 of_points is_honest = record { is_honest = is_honest; state = λ p. p.state; past = λ p. p.past; failures = λ p. p.failures }
 
--- What is kept of a store at the opening of the lock.
+-- A store at the opening of the lock: its devices, its content with all accepted events, and its durable content.
 pub record Began : Type 0 where
   pub devices : Devices Point
   pub live : Content
   pub saved : Content
 
--- the oldest of these, the newest first, where the newest of all is apart
+-- the oldest of `now` and the items of a list, which has the newest first; `now` is the newest of all
 abbrev pub oldest : {X : Type 0} → X → List X → X
 oldest now [] = now
 oldest now (mid ∷ earlier) = oldest mid earlier
@@ -45,9 +44,10 @@ module _ {D : Type 0} (g : disk.Ghosts D) where
   abbrev pub began : ShownStore D → Began
   began s = record { devices = points_of s.devices; live = live g s; saved = saved g s }
 
-  -- A store goes on from what it was at the opening: more events may be accepted, and become durable, and no event is lost, in memory or in an
-  -- image. The devices went through these moments, the newest first, of which the oldest is the opening. Over honest devices each image between each
-  -- two of them has the content after a front of the accepted events, with those at least that were durable at the opening.
+  -- A store goes on from what it was at the opening: more events may be accepted, and become durable, and no event is lost, in memory or
+  -- in an image. The devices went through these moments, the newest first; the oldest is the opening. Over honest devices each image
+  -- between two neighbours of them has the content after a front of the accepted events, with at least those that were durable at the
+  -- opening.
   pub record WentOn (start : Began) (moments : List (Devices D)) (now : ShownStore D) : Type 0 where
     pub follows : IsTrue g.is_honest → LeadsTo start.live (live g now)
     pub durable : IsTrue g.is_honest → LeadsTo start.saved (saved g now)

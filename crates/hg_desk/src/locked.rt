@@ -37,7 +37,7 @@ pub struct Core<D: Disk, A: Opening, B: Column> {
     pub(crate) accepted_count: u64,
     pub(crate) durable_count: u64,
     pub(crate) moments: Trail<Moment<D>>,
-    /// Whether a step was answered that a device failed.
+    /// Whether the answer of a step told a device failure.
     pub(crate) has_failed: bool,
 }
 
@@ -113,7 +113,7 @@ fn accepted_by(answer: &StepResult) -> u64
     }
 }
 
-/// How many events a step made durable, of which so many were before.
+/// How many events a step made durable, if `before` were durable already.
 fn durable_by(before: u64, answer: &StepResult) -> u64
     ensures { result ≡ made_durable before answer.now }
 {
@@ -124,7 +124,7 @@ fn durable_by(before: u64, answer: &StepResult) -> u64
     }
 }
 
-/// Whether a step was answered that a device failed.
+/// Whether the answer of a step tells a device failure.
 fn tells_failure(answer: &StepResult) -> bool
     ensures { IsTrue result → (n : ℕ) → n < fails_by answer.now n }
 {
@@ -207,7 +207,7 @@ impl<D: Disk, A: Opening, B: Column> Core<D, A, B> {
         result
     }
 
-    /// How many events were accepted and made durable since the opening, by whomever: at least as many as this share was told of.
+    /// How many events were accepted and made durable since the opening, through all shares: at least as many as this share was told of.
     pub fn counts(&mut self, share: &mut Share<A, B>) -> Counts
         ensures events { IsTrue D.is_honest → (live ⟦<D as Disk>⟧ self.old).events ≡ A.opening + result.accepted }
         ensures durable { IsTrue D.is_honest → self.old.durable ≡ B.opening + result.durable }
@@ -230,7 +230,7 @@ impl<D: Disk, A: Opening, B: Column> Core<D, A, B> {
         self.store.last(source)
     }
 
-    /// The answer to a Reports. `Damaged` where the devices lie, so that the threads of a report are no set of threads.
+    /// The answer to a Reports frame. It is `Damaged` where the threads of a report are no set of threads, since the devices lie.
     pub fn report_lines(&self, alloc: Global) -> Reply
         ensures answer { ReportsAnswer D.is_honest self.now.is_broken (live ⟦<D as Disk>⟧ self.now) result }
         ensures fits { FitsFrames result }

@@ -30,7 +30,7 @@ pub struct TakenIn<D: Disk> {
     pub store: Store<D>,
     /// The moments at which the steps since the opening began, the newest first, which contracts alone see.
     pub moments: Trail<Moment<D>>,
-    /// Whether a step was answered that a device failed.
+    /// Whether the answer of a step told a device failure.
     pub has_failed: bool,
 }
 
@@ -76,7 +76,7 @@ impl<D: Disk, A: Opening, B: Column> Shared<D, A, B> {
         ))
     }
 
-    /// Takes the store back, where shares are lost that could be held against the books.
+    /// Takes the store back without comparing shares with the books, for where shares are lost.
     pub fn into_store(self) -> TakenIn<D>
         ensures since { WentOnSince ⟦<D as Disk>⟧ A.start result.moments result.store }
         ensures failed { IsTrue result.has_failed → FailedSince ⟦<D as Disk>⟧ A.start result.store }
@@ -100,7 +100,7 @@ fn told<A: Column, B: Column>(shares: &[Share<A, B>]) -> (u128, u128)
 }
 
 impl<D: Disk, A: Opening, B: Column> Core<D, A, B> {
-    /// Holds the books against the shares, and tells what both have.
+    /// Compares the books with the shares, and tells the counts of both.
     fn tally(&mut self, shares: &mut [Share<A, B>]) -> Tally
         ensures accepted_told { result.accepted_told ≡ accepted_in shares.old }
         ensures durable_told { result.durable_told ≡ durable_in shares.old }
@@ -144,7 +144,7 @@ impl<D: Disk, A: Opening, B: Column> Core<D, A, B> {
     }
 }
 
-/// Holds the books against the shares.
+/// Compares the books with the shares: if all shares are here, the totals are what they were told.
 fn audit<A: Column, B: Column>(
     accepted: &mut Book<A>,
     durable: &mut Book<B>,
@@ -164,8 +164,8 @@ fn audit<A: Column, B: Column>(
     audit_durable(durable, shares, &mut seen_durable);
 }
 
-/// Lends the parts of these shares to one, which then stands for all of them, and takes them back. No byte is changed: it is the
-/// books' own law that a share with all parts has the total.
+/// Lends the parts of these shares to `seen`, which then stands for all of them, and takes them back. No byte is changed: it is the
+/// books' own law that whoever has all parts has the total.
 fn audit_accepted<A: Column, B: Column>(
     book: &mut Book<A>,
     shares: &mut [Share<A, B>],
@@ -211,7 +211,7 @@ fn audit_durable<A: Column, B: Column>(
     seen.give(&mut first.durable_part, 1, told);
 }
 
-/// Takes the workers in. An `Err` comes only where what they were told and the books differ, and hands all back.
+/// Takes the store back from all workers. An `Err` comes only where the books differ from what the shares were told, and hands all back.
 pub fn gather<D: Disk, A: Opening, B: Column>(
     shares: Vec<Share<A, B>>,
     shared: Shared<D, A, B>,

@@ -1,4 +1,4 @@
-//! What is run under the lock.
+//! Tasks that run under the lock.
 
 ghost use Rattle.std.specs.Prelude.{◌≡◌, ◌+◌, ◌≤◌, IsTrue};
 ghost use Rattle.hg_frames.specs.Spelling.{FitsFrames};
@@ -16,7 +16,7 @@ use hg_frames::reply::Reply;
 use hg_store::steps::{Step, StepResult};
 use std::alloc::Global;
 
-/// What may be run under the lock.
+/// A task that may run under the lock.
 pub trait Task<D: Disk, A: Opening, B: Column> {
     /// What it answers.
     type Out;

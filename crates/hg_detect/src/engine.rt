@@ -340,7 +340,7 @@ impl<W: Words> Engine<W> {
         self.access_found(named, first, last + 1 - first, found)
     }
 
-    /// Accepts an access, where the map was asked whether its words all have one cell.
+    /// Accepts an access. `found` is the map's answer on whether its words all have one cell.
     #[inline(always)]
     fn access_found(
         &mut self,
@@ -390,8 +390,8 @@ impl<W: Words> Engine<W> {
         Ok(())
     }
 
-    /// Accepts an access to words that have different cells, or that may not be filled. It takes the parts of the access, which go in
-    /// registers: a struct would stand in memory at each access.
+    /// Accepts an access to words that have different cells, or that may not be filled. It takes the access in parts, which go in
+    /// registers. One struct would stand in memory at each access.
     #[inline(never)]
     fn access_unlike(
         &mut self,
@@ -467,7 +467,7 @@ impl<W: Words> Engine<W> {
         self.state.follow_hold(source, number, hold);
     }
 
-    /// Accepts that a block was allocated or freed: its words become new.
+    /// Accepts an alloc or a free of a block: its words become new.
     fn reset(&mut self, named: &Named, block: &Block) -> Result<(), Refusal>
         requires event { (named.now.event ≡ Event.Alloc block.now) ⊎ (named.now.event ≡ Event.Free block.now) }
         requires sound { IsSound self.old }

@@ -14,7 +14,7 @@ pub struct DetectorParts {
     pub graph: Graph,
     /// The sets of threads and of locks by number.
     pub sets: SetTable,
-    /// The kept reports, with their threads by the number of a set.
+    /// The kept reports, each with the number of its thread set.
     pub kept: Vec<KeptReport>,
     /// How many reports there were, kept or not.
     pub total: u64,

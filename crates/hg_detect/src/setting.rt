@@ -1,4 +1,4 @@
-//! The words that an access has planned get their cells.
+//! Giving words their planned cells.
 
 ghost use Rattle.std.specs.Prelude.{◌≡◌, ℕ, ◌+◌, ◌<◌, ◌≤◌, ◌^◌, length};
 ghost use Rattle.hg_detect.specs.Planning.{HaveCellOf, KeepsLawForPlan};
@@ -9,7 +9,7 @@ use crate::plan::Planned;
 use hg_cells::are_same;
 use hg_words::words::Words;
 
-/// Where the words of a plan end that get the same cell as the one at this place.
+/// The end of the run of words in a plan that get the same cell as the word at `from`.
 #[inline]
 fn run_end(plan: &[Planned], from: usize) -> usize
     requires { from < length plan.now }

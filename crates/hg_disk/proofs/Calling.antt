@@ -109,7 +109,7 @@ pub first_kept : (events : List Event) (k : ℕ) → k ≤ length (kept events) 
 first_kept [] k le = refl
 first_kept (e ∷ earlier) k le = first_keep e.told.answer e earlier (kept earlier) k (length-kept_le earlier) (first_kept earlier k) le
 
--- What is read of the kept calls: the call number i, and the next bytes, of which it wrote so many.
+-- What is read from the kept calls: call number i, and as many of the next bytes as it wrote.
 pub record Reads (events : List Event) (written : List ℕ) (i from n : ℕ) (told : Answered) : Type 0 where
   pub within : from + len_written told.call told.answer ≤ length written
   pub next_is : first (i + 1) events ≡ record { told = told; bytes = take n (drop from written) } ∷ first i events

@@ -49,7 +49,7 @@ module _ (s : DiskState) (place byte : ℕ) (written : is_written s.since place 
   }
 
 module _ (s : DiskState) (at : ℕ) (bytes : List ℕ) (each : Leaves (λ image. Holds image at bytes) s) where
-  -- so a place of which each image has the same byte was not written
+  -- so if each image has the same byte at a place, the place was not written
   not_written : (i : ℕ) → i < length bytes → (written : Bool) → is_written s.since (at + i) ≡ written → written ≡ false
   not_written i lt false is = refl
   not_written i lt true is =

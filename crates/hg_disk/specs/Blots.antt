@@ -7,7 +7,7 @@ use Rattle.hg_disk.specs.declared.tear.Tear.TheVariants.{Lost, Kept, Front, Fill
 abbrev pub blotted : List ℕ → ℕ → ℕ → ℕ → List ℕ
 blotted file at len b = take at file ++ (replicate (at + len - min at (length file)) b ++ drop (at + len) file)
 
--- b at those of these places that lie within the file
+-- b at the places of a write, up to the end of the file
 abbrev pub blotted_within : List ℕ → ℕ → ℕ → ℕ → List ℕ
 blotted_within file at len b = take at file ++ (replicate (min (at + len) (length file) - at) b ++ drop (at + len) file)
 
@@ -15,7 +15,7 @@ blotted_within file at len b = take at file ++ (replicate (min (at + len) (lengt
 abbrev pub cut_off : List ℕ → ℕ → ℕ → List ℕ
 cut_off file to b = take to file ++ replicate (length file - to) b
 
--- the number of bytes that a tear gives to `Front`
+-- the limit of `Front`; 0 for the other tears
 abbrev pub limit_of : Tear → ℕ
 limit_of Lost = 0
 limit_of Kept = 0

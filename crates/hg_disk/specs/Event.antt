@@ -14,14 +14,14 @@ abbrev pub answer_of : {T E : Type 0} → Result T E → Answer
 answer_of (Ok value) = Done
 answer_of (Err error) = Failed
 
--- the calls with one more on top, that took effect and wrote the bytes, or failed
+-- the calls with one more on top: it took effect and wrote the bytes, or it failed
 abbrev pub with_answer : {T E : Type 0} → Call → List ℕ → (is_done : Bool) → Result T E → List Event → List Event
 with_answer call bytes is_done result earlier = event call (answer_of result) (if is_done then bytes else []) ∷ earlier
 
--- the calls with one more on top, that was refused
+-- the calls with a refused one on top
 abbrev pub with_refusal : Call → List Event → List Event
 with_refusal call earlier = event call Refused [] ∷ earlier
 
--- the calls with a refused one on top, but where it was made
+-- the calls, with a refused one on top unless the call was made
 abbrev pub refused_unless : (is_made : Bool) → Call → List Event → List Event
 refused_unless is_made call earlier = if is_made then earlier else event call Refused [] ∷ earlier

@@ -22,13 +22,13 @@ is_next None = false
 is_next (Some zero) = true
 is_next (Some (suc n)) = false
 
--- how many calls pass from then on
+-- how many calls still pass after a call
 abbrev pub left_after : Bool → Option ℕ → Option ℕ
 left_after stops None = None
 left_after stops (Some zero) = if stops then Some zero else None
 left_after stops (Some (suc n)) = Some n
 
--- the length of the inner disk, whose states come the newest first
+-- the length of the inner disk; its states come the newest first
 abbrev pub size_now : List DiskState → ℕ
 size_now [] = 0
 size_now (s ∷ past) = length s.contents
@@ -43,8 +43,8 @@ abbrev pub on_top : List Change → (List Change → List Change) → List Chang
 on_top [] earlier = earlier []
 on_top (change ∷ changes) earlier = change ∷ earlier changes
 
--- The changes after a call, given those that the inner disk made, and how those before the call come about where it
--- was refused (`stayed`) and where it was passed on (`earlier`).
+-- The changes after a call. `inner` are the changes of the inner disk. The changes before the call are computed by `stayed`
+-- if the call was refused, and by `earlier` if it was passed on.
 abbrev pub with_call : Call → Answer → ℕ → (List Change → List Change) → (List Change → List Change) → List Change → List Change
 with_call Read Refused size stayed earlier inner = stayed inner
 with_call Read Done size stayed earlier inner = earlier inner
@@ -59,17 +59,17 @@ with_call Sync Refused size stayed earlier inner = stayed inner
 with_call Sync Done size stayed earlier inner = inner
 with_call Sync Failed size stayed earlier inner = earlier inner
 
--- The changes since the sync, those of the refused calls among those that the inner disk made: its states and the
--- calls come the newest first.
+-- The changes since the sync: those of the inner disk, with those of the refused calls in between. The states and the calls
+-- come the newest first.
 abbrev pub with_refused : List Event → List DiskState → List Change → List Change
 with_refused [] states inner = inner
 with_refused (e ∷ calls) states inner = with_call e.told.call e.told.answer (size_now states) (with_refused calls states) (with_refused calls (before states)) inner
 
--- The state after the calls, of which the refused ones count as failed: all but that is the inner disk's state.
+-- The state after the calls: the inner disk's state, but each refused call counts as a failed one.
 abbrev pub shown : List Event → DiskState → List DiskState → DiskState
 shown calls s past = record { contents = s.contents; synced = s.synced; since = with_refused calls (s ∷ past) s.since }
 
--- the states before each call, where `stayed` are those before a refused call, and `earlier` before one passed on
+-- the states before a call: `stayed` if it was refused, `earlier` if it was passed on
 abbrev pub past_by : Answer → List DiskState → List DiskState → List DiskState
 past_by Refused stayed earlier = stayed
 past_by Done stayed earlier = earlier
@@ -80,7 +80,7 @@ abbrev pub at_time : (DiskState → List DiskState → List DiskState) → List 
 at_time show [] = []
 at_time show (s ∷ past) = show s past
 
--- the states before each call, the newest first; only a call that was passed on changed the inner disk's
+-- the states before each call, the newest first; only a call that was passed on changed the inner disk's states
 abbrev pub shown_past : List Event → DiskState → List DiskState → List DiskState
 shown_past [] s past = past
 shown_past (e ∷ calls) s past = past_by e.told.answer (shown calls s past ∷ shown_past calls s past) (at_time (λ (t : DiskState) (earlier : List DiskState). shown calls t earlier ∷ shown_past calls t earlier) past)
@@ -110,7 +110,7 @@ module _ {D : Type 0} (g : disk.Ghosts D) where
   abbrev pub fuse_failures : FuseDisk D → ℕ
   fuse_failures f = g.failures f.inner + refusals_in f.history.events
 
-  -- It refused the call, or it passed it on and answered what the inner disk did.
+  -- It refused the call, or it passed the call on and gave the inner disk's answer.
   pub record Burns {T E : Type 0} (old new : FuseDisk D) (result : Result T E) : Type 0 where
     pub refused : is_next (calls_left old) ≡ true → IsErr result × (inner_of new ≡ inner_of old)
     pub passed : is_next (calls_left old) ≡ false → g.failures (inner_of new) ≡ counted result (g.failures (inner_of old))
@@ -145,6 +145,6 @@ module _ {D : Type 0} (g : disk.Ghosts D) where
   abbrev pub MayBeCut : (to : ℕ) → (old new : FuseDisk D) → Type 0
   MayBeCut to old new = SameImages (after_cut to (fuse_state old)) (fuse_state new)
 
-  -- It has the images that it had.
+  -- Its images stay the same.
   abbrev pub KeepsImages : (old new : FuseDisk D) → Type 0
   KeepsImages old new = SameImages (fuse_state old) (fuse_state new)

@@ -49,6 +49,6 @@ abbrev pub failures_in : List Event → ℕ
 failures_in [] = 0
 failures_in (e ∷ earlier) = if is_failure e.told.answer then failures_in earlier + 1 else failures_in earlier
 
--- there is an error exactly where a call has failed
+-- there is an error exactly if a call has failed
 abbrev pub KeepsError : {E : Type 0} → Option E → List Event → Type 0
 KeepsError error events = is_none error ≡ (failures_in events == 0)

@@ -19,7 +19,7 @@ overwritten_behind file at bytes i le within = grind (arith, places)
 pub length-overwritten : (file : List ℕ) (at : ℕ) (bytes : List ℕ) → length file ≤ length (overwritten file at bytes)
 length-overwritten file at bytes = grind (arith, places)
 
--- a list of one change and more is not empty
+-- a list with a change is not empty
 pub changed : {A : Type 0} {c : Change} {earlier : List Change} → (c ∷ earlier) ≡ [] → A
 changed h = absurd (cc h)
 

@@ -1,4 +1,4 @@
--- What the images of a write keep, in words without places.
+-- What stays in a file and in its images through writes and cuts, and what a crash may leave over several calls.
 use Rattle.std.specs.Prelude.{◌≡◌, ◌≤◌, ◌<◌, ◌+◌, ℕ, Bool, false, IsTrue, List, ◌++◌, length, get_or, take, drop}
 use Rattle.hg_disk.specs.Moments.{GoesOn, Leaves, LeavesLong, LeavesOnly, MayLeave}
 use Rattle.hg_disk.specs.State.{DiskState, IsImage, after_write, is_written, least, overwritten, settled}
@@ -7,7 +7,7 @@ use Rattle.hg_disk.specs.declared.disk.Disk as disk
 abbrev pub Begins : List ℕ → List ℕ → Type 0
 Begins front image = (rest : List ℕ) × (image ≡ front ++ rest)
 
--- the front, n bytes that may be anything, what stood behind them, and more
+-- the front, n bytes of any value, the bytes that stood behind them, and then anything
 pub record Torn (front : List ℕ) (n : ℕ) (behind image : List ℕ) : Type 0 where
   pub torn : List ℕ
   pub extra : List ℕ
@@ -39,11 +39,11 @@ WritesOverLeave front old behind P =
     (at : ℕ) (bytes image : List ℕ) → at ≡ length front → length bytes ≡ length old
     → IsImage (after_write at bytes (settled (front ++ (old ++ behind)))) image → P image
 
--- What a call leaves alone, that makes such a state of each: what is on the disk before the place,
+-- A call, given as a function on states, keeps the bytes on the disk before the place,
 abbrev pub KeepsBefore : (end : ℕ) → (DiskState → DiskState) → Type 0
 KeepsBefore end after = (s : DiskState) (place : ℕ) (bytes : List ℕ) → place + length bytes ≤ end → KeepsBytes s place bytes → KeepsBytes (after s) place bytes
 
--- and what is on the disk from the place on.
+-- or those from the place on.
 abbrev pub KeepsFrom : (from : ℕ) → (DiskState → DiskState) → Type 0
 KeepsFrom from after = (s : DiskState) (place : ℕ) (bytes : List ℕ) → from ≤ place → KeepsBytes s place bytes → KeepsBytes (after s) place bytes
 
@@ -59,7 +59,7 @@ HasItsBytes s = IsImage s s.contents
 abbrev pub LeavesThere : (place : ℕ) → (bytes : List ℕ) → DiskState → Type 0
 LeavesThere place bytes s = Leaves (λ image. Holds image place bytes) s
 
--- What each image has before the place, each image has after the call,
+-- Bytes that each image has before the place stay in each image after the call,
 abbrev pub ImagesKeepBefore : (end : ℕ) → (DiskState → DiskState) → Type 0
 ImagesKeepBefore end after =
     (s : DiskState) (place : ℕ) (bytes : List ℕ) → HasItsBytes s → place + length bytes ≤ end → LeavesThere place bytes s
@@ -70,7 +70,7 @@ abbrev pub ImagesKeepFrom : (from : ℕ) → (DiskState → DiskState) → Type 
 ImagesKeepFrom from after =
     (s : DiskState) (place : ℕ) (bytes : List ℕ) → HasItsBytes s → from ≤ place → LeavesThere place bytes s → LeavesThere place bytes (after s)
 
--- No image is shorter after the call than each was.
+-- If each image has at least n bytes, so has each image after the call.
 abbrev pub ImagesStayLong : (DiskState → DiskState) → Type 0
 ImagesStayLong after = (s : DiskState) (n : ℕ) → LeavesLong n s → LeavesLong n (after s)
 
@@ -78,7 +78,7 @@ ImagesStayLong after = (s : DiskState) (n : ℕ) → LeavesLong n s → LeavesLo
 abbrev pub IsReadAt : (file : List ℕ) → (at : ℕ) → (bytes : List ℕ) → Type 0
 IsReadAt file at bytes = take (length bytes) (drop at file) ≡ bytes
 
--- What the one file has before the place, the other has,
+-- The second file has all bytes that the first one has before the place,
 abbrev pub HoldsBefore : (end : ℕ) → (file after : List ℕ) → Type 0
 HoldsBefore end file after = (place : ℕ) (bytes : List ℕ) → place + length bytes ≤ end → Holds file place bytes → Holds after place bytes
 
@@ -90,11 +90,11 @@ HoldsFrom from file after = (place : ℕ) (bytes : List ℕ) → from ≤ place 
 abbrev pub StaysBeforeWrite : (file : List ℕ) → (at : ℕ) → (written : List ℕ) → Type 0
 StaysBeforeWrite file at written = HoldsBefore at file (overwritten file at written)
 
--- and what stands behind it.
+-- and so does what stands behind it.
 abbrev pub StaysBehindWrite : (file : List ℕ) → (at : ℕ) → (written : List ℕ) → Type 0
 StaysBehindWrite file at written = HoldsFrom (at + length written) file (overwritten file at written)
 
--- A crash after the call may leave what it might have left before.
+-- A crash after the call may leave each image from before it.
 abbrev pub LosesNoImage : (DiskState → DiskState) → Type 0
 LosesNoImage after = (s : DiskState) (image : List ℕ) → IsImage s image → IsImage (after s) image
 
@@ -107,22 +107,22 @@ module _ {D : Type 0} (g : disk.Ghosts D) where
   abbrev pub EachPasses : (old new : D) → (List ℕ → Bool) → Type 0
   EachPasses old new p = LeavesOnly g old new (λ image. IsTrue (p image))
 
-  -- Where each moment of two runs leaves bytes that pass, each of both does.
+  -- If each moment of both runs leaves only bytes that pass, so does each moment of the joined run.
   abbrev pub RunsJoin : (old mid new : D) → (List ℕ → Bool) → Type 0
   RunsJoin old mid new p = EachPasses old mid p → EachPasses mid new p → EachPasses old new p
 
-  -- What some moment may leave passes, where all that each leaves does.
+  -- If each moment leaves only bytes that pass, and some moment may leave these bytes, they pass.
   abbrev pub PassesAsEachDoes : (old new : D) → (List ℕ → Bool) → (bytes : List ℕ) → Type 0
   PassesAsEachDoes old new p bytes = EachPasses old new p → MayLeave g old new bytes → IsTrue (p bytes)
 
-  -- What each moment leaves passes, and so does what the last one leaves.
+  -- If each moment leaves only bytes that pass, so does the last one.
   abbrev pub LastPasses : (old new : D) → (List ℕ → Bool) → Type 0
   LastPasses old new p = EachPasses old new p → Leaves (λ image. IsTrue (p image)) (g.state new)
 
-  -- What the last moment may leave, some moment may.
+  -- If the last moment may leave the bytes, some moment may.
   abbrev pub LastIsAmong : (old new : D) → (bytes : List ℕ) → Type 0
   LastIsAmong old new bytes = GoesOn g old new → IsImage (g.state new) bytes → MayLeave g old new bytes
 
--- Two that have P are one.
+-- At most one value has P.
 abbrev pub AtMostOne : {A : Type 0} → (A → Type 0) → Type 0
 AtMostOne P = (first second : _) → P first → P second → first ≡ second

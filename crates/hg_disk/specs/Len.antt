@@ -14,7 +14,7 @@ len_written Read answer = 0
 len_written (Cut to) answer = 0
 len_written Sync answer = 0
 
--- where the bytes end that it wrote
+-- where the written bytes end
 abbrev pub end_written : Call → Answer → ℕ
 end_written (Write at len) Done = at + len
 end_written (Write at len) Failed = 0

@@ -23,11 +23,11 @@ history_of m = m.tape.history.events
 abbrev pub fails_next : MemDisk → Bool
 fails_next m = m.fails_next
 
--- whether a call found no memory to be kept
+-- whether there was no memory to keep a call
 abbrev pub is_full : MemDisk → Bool
 is_full m = m.tape.is_full
 
--- those that it keeps as data, the oldest first: all up to the first one that found no memory to be kept
+-- the calls that it keeps as data, the oldest first: all before the disk was full
 abbrev pub calls_of : MemDisk → List Answered
 calls_of m = calls_in (kept m.tape.history.events)
 
@@ -43,28 +43,27 @@ past_of m = states_before m.start.items m.tape.history.events
 abbrev pub failures_of : MemDisk → ℕ
 failures_of m = failures_in m.tape.history.events
 
--- Its next calls take no memory: so many of them, that write or add so many bytes.
+-- It has room for this many calls, with this many bytes in sum: they take no memory.
 pub record HasRoom (m : MemDisk) (calls bytes : ℕ) : Type 0 where
   pub sound : m.fails_next ≡ false
   pub tape : TapeHasRoom m.tape calls bytes
   pub bytes_fit : length m.bytes.items + bytes ≤ vec_capacity m.bytes
 
--- the bytes that a write takes of the room: those that it writes, or by which the length grows, if these are more
+-- the bytes of the room that a write uses: those that it writes, or those by which the file grows, if these are more
 abbrev pub room_taken : List ℕ → ℕ → List ℕ → ℕ
 room_taken file at bytes = max (length bytes) (at + length bytes - length file)
 
--- A call that writes nothing succeeds within the room, and takes one call of it,
+-- Within the room, a call that writes nothing succeeds and uses one call of it,
 abbrev pub StaysInRoom : {T E : Type 0} → (old new : MemDisk) → Result T E → Type 0
 StaysInRoom old new result = (n b : ℕ) → HasRoom old (n + 1) b → IsOk result × HasRoom new n b
 
--- and so does a write within the greatest length, which takes its bytes of it too.
+-- and a write within the greatest length succeeds and uses one call and its bytes.
 abbrev pub WritesInRoom : {T E : Type 0} → (at : ℕ) → (bytes : List ℕ) → (old new : MemDisk) → Result T E → Type 0
 WritesInRoom at bytes old new result =
     (n b : ℕ) → HasRoom old (n + 1) (room_taken (state_of old).contents at bytes + b) → at + length bytes ≤ 2 ^ 62
     → IsOk result × HasRoom new n b
 
--- A call is kept as data, but where it failed for want of the memory to keep it, and then the disk is full. A full disk
--- refuses each call.
+-- A call is kept as data. If there is no memory to keep it, it fails and the disk is full. A full disk refuses each call.
 pub record KeepsCall {T E : Type 0} (old new : MemDisk) (call : Call) (result : Result T E) : Type 0 where
   pub done : OnOk result (calls_of new ≡ calls_of old ++ record { call = call; answer = Done } ∷ [])
   pub failed : OnErr result ((calls_of new ≡ calls_of old ++ record { call = call; answer = Failed } ∷ []) ⊎ ((calls_of new ≡ calls_of old) × (is_full new ≡ true)))

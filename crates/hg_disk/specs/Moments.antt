@@ -7,7 +7,7 @@ use Rattle.hg_disk.specs.declared.disk.Disk as disk
 abbrev pub Leaves : (List ℕ → Type 0) → DiskState → Type 0
 Leaves P s = (image : List ℕ) → IsImage s image → P image
 
--- each image of the state is so long
+-- each image of the state has at least n bytes
 abbrev pub LeavesLong : (n : ℕ) → DiskState → Type 0
 LeavesLong n s = Leaves (λ image. n ≤ length image) s
 
@@ -49,11 +49,11 @@ module _ {D : Type 0} (g : disk.Ghosts D) where
   abbrev pub LeavesTorn : (at : ℕ) → (bytes : List ℕ) → (old new : D) → Type 0
   LeavesTorn at bytes old new = LeavesOnly old new (IsImage (after_write at bytes (g.state old)))
 
-  -- Images that were so long are no shorter at any moment from `old` to `new`.
+  -- If each image at `old` has at least n bytes, so has each image at any moment from `old` to `new`.
   abbrev pub IsNeverShorter : (n : ℕ) → (old new : D) → Type 0
   IsNeverShorter n old new = LeavesLong n (g.state old) → LeavesOnly old new (λ image. n ≤ length image)
 
-  -- No moment of the disk lies before its earlier one.
+  -- `new` is the disk `old` after some calls, or after none.
   abbrev pub GoesOn : D → D → Type 0
   GoesOn old new = (later : List DiskState) × HasGone old new later
 

@@ -12,7 +12,7 @@ pub record TapeHasRoom (t : Tape) (calls bytes : ℕ) : Type 0 where
 abbrev pub KeepsRoomFor : (len : ℕ) → (old new : Tape) → Type 0
 KeepsRoomFor len old new = (n b : ℕ) → TapeHasRoom old (n + 1) (len + b) → TapeHasRoom new (n + 1) (len + b)
 
--- A sound write within the greatest length takes effect, where the tape has room for it and the file so much.
+-- A sound write within the greatest length takes effect if the tape has room for it and the file's capacity suffices.
 abbrev pub WritesSurely : Tape → (at : ℕ) → (bytes : List ℕ) → (capacity : ℕ) → (is_sound is_done : Bool) → Type 0
 WritesSurely tape at bytes capacity is_sound is_done =
     (n b : ℕ) → IsTrue is_sound → TapeHasRoom tape (n + 1) (length bytes + b) → at + length bytes ≤ 2 ^ 62

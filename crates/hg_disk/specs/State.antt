@@ -1,19 +1,19 @@
 -- What a disk holds, what each call makes of it, and what a crash may leave.
 use Rattle.std.specs.Prelude.{◌≡◌, ◌<◌, ◌≤◌, ◌+◌, ◌-◌, ℕ, min, nat_lt, nat_le, Bool, false, ◌&&◌, ◌||◌, List, [], ◌∷◌, ◌++◌, length, take, drop, replicate, get_or, Result, is_ok, if◌then◌else◌}
 
--- A call that changes a disk: a write covers the places from `first` up to `end`, that one left out; a cut leaves a length.
+-- A change of a disk. A write covers the places from `first` up to `end`, without `end`. A cut leaves the first `to` bytes.
 pub data Change : Type 0 where
   Written : (first end : ℕ) → Change
   CutTo : (to : ℕ) → Change
 
--- The bytes that a read gives, those at the last sync that succeeded, and the changes called since, the newest first.
--- A disk that is made counts as synced.
+-- The bytes that a read gives, the bytes at the last successful sync, and the changes since then, the newest first. A new
+-- disk counts as synced.
 pub record DiskState : Type 0 where
   pub contents : List ℕ
   pub synced : List ℕ
   pub since : List Change
 
--- the least length since the sync, which left n bytes
+-- the least length since the sync; at the sync it was n
 abbrev pub least : List Change → ℕ → ℕ
 least [] n = n
 least (Written first end ∷ earlier) n = least earlier n
@@ -27,14 +27,14 @@ is_written (CutTo to ∷ earlier) i = is_written earlier i
 
 -- A crash may leave these bytes.
 pub record IsImage (s : DiskState) (image : List ℕ) : Type 0 where
-  -- with no change since the sync, what it left and nothing else
+  -- without a change since the sync: the synced bytes and nothing else
   pub clean : s.since ≡ [] → image ≡ s.synced
-  -- else at least as much as stood there all the time
+  -- in any case: at least as long as the file was at all times since the sync
   pub long : least s.since (length s.synced) ≤ length image
-  -- and in it the bytes of the sync where nothing was written
+  -- within that length: the synced bytes wherever nothing was written
   pub kept : (i : ℕ) → i < least s.since (length s.synced) → is_written s.since i ≡ false → get_or image i 0 ≡ get_or s.synced i 0
 
--- all of it on the disk
+-- all bytes are durable
 abbrev pub settled : List ℕ → DiskState
 settled bytes = record { contents = bytes; synced = bytes; since = [] }
 
@@ -58,12 +58,12 @@ after_cut to s = record { contents = take to s.contents; synced = s.synced; sinc
 abbrev pub after_sync : DiskState → DiskState
 after_sync s = settled s.contents
 
--- The two have the same images. Of a call that failed, what a read gives is left open, but that it is one of them.
+-- The two states have the same images. After a failed call it is open what a read gives; it is one of these images.
 pub record SameImages (s t : DiskState) : Type 0 where
   pub synced : t.synced ≡ s.synced
   pub since : t.since ≡ s.since
 
--- how many calls have failed after this answer
+-- how many calls have failed after a call with this result, of which `before` failed before it
 abbrev pub counted : {T E : Type 0} → Result T E → ℕ → ℕ
 counted result before = if is_ok result then before else before + 1
 

@@ -1,4 +1,4 @@
--- What of a disk's calls is kept as data.
+-- The calls of a disk that are kept as data.
 use Rattle.std.specs.Prelude.{◌≡◌, ◌≤◌, ◌^◌, ℕ, List, [], ◌∷◌, ◌++◌, length}
 use Rattle.std.proofs.Props.{props}
 use Rattle.hg_disk.specs.Event.{Event}
@@ -8,7 +8,7 @@ use Rattle.hg_disk.specs.declared.call.Call.{Call}
 use Rattle.hg_disk.specs.declared.call.Answer.{Answer}
 use Rattle.hg_disk.specs.declared.call.Answer.TheVariants.{Done, Failed, Refused}
 
--- e on top of the calls before it, all of which are kept; a refused call is not
+-- the calls kept after e: e on top of all calls before it; if e was refused, only those kept before it
 abbrev pub keep : Answer → Event → List Event → List Event → List Event
 keep Done e earlier before = e ∷ earlier
 keep Failed e earlier before = e ∷ earlier
@@ -34,7 +34,7 @@ pub record Fits (call : Call) (answer : Answer) (bytes : List ℕ) : Type 0 wher
   pub len : len_written call answer ≡ length bytes
   pub within : end_written call answer ≤ 2 ^ 62
 
--- all of the calls are so
+-- all of the calls fit
 abbrev pub AllFit : List Event → Type 0
 AllFit [] = Unit {0}
 AllFit (e ∷ earlier) = Fits e.told.call e.told.answer e.bytes × AllFit earlier

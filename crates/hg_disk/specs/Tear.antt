@@ -12,7 +12,7 @@ use Rattle.hg_disk.specs.declared.call.Answered.{Answered}
 use Rattle.hg_disk.specs.declared.tear.Tear.{Tear}
 use Rattle.hg_disk.specs.declared.tear.Tear.TheVariants.{Lost, Kept, Front, Fill}
 
--- the first k calls, of calls that come the newest first
+-- the first k calls; the list has the newest call first
 abbrev pub first : ℕ → List Event → List Event
 first k events = drop (length events - k) events
 
@@ -20,7 +20,7 @@ first k events = drop (length events - k) events
 abbrev pub IsCallAt : (i : ℕ) → List Event → Answered → List ℕ → Type 0
 IsCallAt i events told bytes = first (i + 1) events ≡ record { told = told; bytes = bytes } ∷ first i events
 
--- how many bytes are left of n after a call, where n were left after the last sync and `before` before the call
+-- how many bytes `Front` may still write after a call: n after a sync; `before` were left before the call
 abbrev pub left_by : Call → Answer → List ℕ → ℕ → ℕ → ℕ
 left_by (Write at len) Done bytes n before = before - length bytes
 left_by (Write at len) Failed bytes n before = before
@@ -31,12 +31,12 @@ left_by Sync Refused bytes n before = before
 left_by Read answer bytes n before = before
 left_by (Cut to) answer bytes n before = before
 
--- how many of n bytes the writes since the last sync that succeeded have left over
+-- how many of n bytes are left after the writes since the last successful sync
 abbrev pub left_of : ℕ → List Event → ℕ
 left_of n [] = n
 left_of n (e ∷ earlier) = left_by e.told.call e.told.answer e.bytes n (left_of n earlier)
 
--- A call on the file of the calls before it, of which it may write so many bytes. A sync takes what a read gave.
+-- The file of `Front` after a call: a write puts at most `left` bytes. A sync takes what a read gave.
 abbrev pub front_by : Call → Answer → List ℕ → ℕ → List ℕ → List ℕ → List ℕ
 front_by (Write at len) Done bytes left read file = if left == 0 then file else overwritten file at (take left bytes)
 front_by (Write at len) Failed bytes left read file = file
@@ -49,7 +49,7 @@ front_by Sync Failed bytes left read file = file
 front_by Sync Refused bytes left read file = file
 front_by Read answer bytes left read file = file
 
--- the file at the last sync, with the calls since then that took effect, until n bytes were written
+-- the file at the last sync, then the calls since that took effect, up to n written bytes
 abbrev pub front : ℕ → List ℕ → List Event → List ℕ
 front n start [] = start
 front n start (e ∷ earlier) = front_by e.told.call e.told.answer e.bytes (left_of n earlier) (replay start earlier).contents (front n start earlier)
@@ -67,13 +67,13 @@ IsTorn Kept start events image = image ≡ (replay start events).contents
 IsTorn (Front n) start events image = image ≡ front n start events
 IsTorn (Fill b) start events image = IsFilled b (replay start events) image
 
--- An image after any calls becomes the image after one call more: a write, of which `left` bytes are let through,
+-- The image after some calls becomes the image after one more call: a write, with `left` bytes left,
 abbrev pub FollowsWrite : Tear → (left at : ℕ) → (bytes old new : List ℕ) → Type 0
 FollowsWrite tear left at bytes old new =
     (start : List ℕ) (earlier : List Event) (len : ℕ) → left ≡ left_of (limit_of tear) earlier → IsTorn tear start earlier old
     → IsTorn tear start (event (Write at len) Done bytes ∷ earlier) new
 
--- a cut, that is let through if bytes are left,
+-- a cut, with `left` bytes left,
 abbrev pub FollowsCut : Tear → (left to : ℕ) → (old new : List ℕ) → Type 0
 FollowsCut tear left to old new =
     (start : List ℕ) (earlier : List Event) → left ≡ left_of (limit_of tear) earlier → IsTorn tear start earlier old

@@ -14,10 +14,10 @@ pub struct DiskFault;
 
 /// A file as the layers above see it. Offsets and lengths are in bytes, and a length is at most 2^62.
 ///
-/// Each of the four calls that answer a `Result` may fail, moves the disk's clock on by one, and is counted if it
-/// failed. The states say what a crash may leave, whatever the answer: a write that failed counts as a write of its
-/// range, a cut that failed as a cut, and a sync that failed as none. That a read gives the state's bytes is
-/// promised of an honest disk alone.
+/// Each of the four calls that answer a `Result` may fail. Each moves the disk's clock on by one, and a failed one is
+/// counted. The states say what a crash may leave, whatever the call answered: a failed write counts as a write of its
+/// range, a failed cut as a cut, and a failed sync as no sync. Only an honest disk promises that a read gives the state's
+/// bytes.
 pub trait Disk {
     /// A read that answers `Ok` gives the bytes of the state.
     ghost is_honest: { Bool };
@@ -61,7 +61,7 @@ pub trait Disk {
         ensures clock { past self.new ≡ state self.old ∷ past self.old }
         ensures failures { failures self.new ≡ counted result (failures self.old) };
 
-    /// After an `Ok` a crash leaves what a read gives.
+    /// Makes all bytes durable: after an `Ok` a crash leaves what a read gives.
     fn sync(&mut self) -> Result<(), DiskFault>
         ensures ok { OnOk result (state self.new ≡ after_sync (state self.old)) }
         ensures err { OnErr result (SameImages (state self.old) (state self.new)) }

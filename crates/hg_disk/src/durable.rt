@@ -6,9 +6,8 @@ ghost use Rattle.hg_disk.specs.Moments.{LeavesTorn};
 
 use crate::{Disk, DiskFault};
 
-/// Writes the bytes and syncs. A crash at any moment until it has answered leaves what a torn write may leave, and so
-/// does one after it failed. After an `Ok` a crash leaves the file with these bytes, and nothing else. It makes two device
-/// calls at most.
+/// Writes the bytes and syncs. A crash during the call leaves what a torn write may leave, and so does a crash after an
+/// `Err`. After an `Ok` a crash leaves the file with these bytes, and nothing else. It makes at most two device calls.
 pub fn write_through<D: Disk>(disk: &mut D, at: u64, bytes: &[u8]) -> Result<(), DiskFault>
     ensures durable { OnOk result (D.state disk.new ≡ settled (overwritten (D.state disk.old).contents at bytes.now)) }
     ensures any_moment { LeavesTorn ⟦<D as Disk>⟧ at bytes.now disk.old disk.new }

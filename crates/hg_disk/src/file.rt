@@ -12,9 +12,9 @@ use std::fs::File;
 use std::io;
 use std::os::unix::fs::FileExt;
 
-/// It is safe whatever the file does. Nothing is promised of the file's bytes, so it is not honest.
+/// Safe whatever the file does. Nothing is promised about the file's bytes, so this disk is not honest.
 ///
-/// A missing file is a disk without a byte that can't be changed: each write, cut and read fails, and a sync has nothing to do.
+/// A missing file is an empty disk that can't be changed: each write, cut and read fails, and a sync succeeds.
 pub struct FileDisk {
     file: Option<File>,
     opened_len: u64,
@@ -43,7 +43,7 @@ impl Drop for FileDisk {
 impl FileDisk {
     ghost use Rattle.hg_disk.specs.File.{file_state, file_past, file_failures};
 
-    /// A disk of the file's present length, with no call made yet. A file longer than 2^62 bytes is refused.
+    /// A disk over this file, with the file's present length and no calls yet. A file longer than 2^62 bytes is refused.
     pub fn new(file: File) -> io::Result<FileDisk>
         ensures synced { IfOk result (λ f. (file_state f).since ≡ []) }
         ensures past { IfOk result (λ f. file_past f ≡ []) }
@@ -62,7 +62,7 @@ impl FileDisk {
         })
     }
 
-    /// A disk for a file that there is none of, with no call made yet.
+    /// A disk for a missing file, with no calls yet.
     pub fn missing() -> FileDisk
         ensures synced { (file_state result).since ≡ [] }
         ensures past { file_past result ≡ [] }
@@ -78,7 +78,7 @@ impl FileDisk {
         }
     }
 
-    /// What the system said to the first call that failed, if one has.
+    /// The system's error of the first call that failed, or none.
     pub fn error(&self) -> Option<io::Error>
         ensures { IsNone result ↔ (file_failures self.now ≡ 0) }
     {
@@ -86,7 +86,7 @@ impl FileDisk {
     }
 }
 
-/// Notes a call with its answer, and keeps its error, where it is the first one.
+/// Notes a call with its answer. Keeps its error if it is the first one.
 fn note(
     history: &mut History,
     error: &mut Option<io::Error>,
@@ -106,7 +106,7 @@ fn note(
     history.note_answer(call, bytes, answer.is_ok())
 }
 
-/// What is answered of a file that is missing.
+/// The answer of a call to a missing file.
 fn not_found() -> io::Result<()>
     ensures { is_ok result ≡ false }
 {
@@ -169,7 +169,7 @@ impl Disk for FileDisk {
     }
 }
 
-// Writes the bytes, where they lie within the greatest length.
+// Writes the bytes if they end within the greatest length.
 fn written(file: &Option<File>, len: u64, at: u64, bytes: &[u8]) -> io::Result<()>
     ensures { OnOk result (at + length bytes.now ≤ 2 ^ 62) }
 {
@@ -182,7 +182,7 @@ fn written(file: &Option<File>, len: u64, at: u64, bytes: &[u8]) -> io::Result<(
     }
 }
 
-// Writes the bytes. A write of no bytes would leave the gap before it out.
+// Writes the bytes. For no bytes behind the end, it sets the length: the system's write would not fill the gap.
 fn write_there(file: &File, len: u64, at: u64, bytes: &[u8]) -> io::Result<()> {
     if bytes.is_empty() && at > len {
         return file.set_len(at);

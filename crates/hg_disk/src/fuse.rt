@@ -8,8 +8,8 @@ use crate::call::Call;
 use crate::history::History;
 use crate::{Disk, DiskFault};
 
-/// Passes calls on, but for one, or for one and all after it. A call that it refuses changes no byte, and counts as
-/// failed.
+/// Passes calls on to the inner disk, but refuses one chosen call, or this call and all after it. A refused call changes no
+/// byte and counts as failed.
 pub struct FuseDisk<D: Disk> {
     inner: D,
     calls_left: Option<u64>,
@@ -83,7 +83,7 @@ impl<D: Disk> FuseDisk<D> {
     }
 }
 
-// Counts a call, and tells whether it is refused. It is noted then.
+// Counts a call, and tells whether it is refused. A refused call is noted.
 fn refuses(calls_left: &mut Option<u64>, stops: bool, history: &mut History, call: Call) -> bool
     ensures which { result ≡ is_next calls_left.old }
     ensures left { calls_left.new ≡ left_after stops calls_left.old }

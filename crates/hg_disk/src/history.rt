@@ -1,4 +1,4 @@
-//! The calls of a disk with the bytes that they wrote, for clauses alone.
+//! A ghost history for contracts: the calls of a disk with the bytes that they wrote.
 ghost use Rattle.std.specs.Prelude.{◌≡◌, [], ◌∷◌, is_ok};
 ghost use Rattle.hg_disk.specs.Event.{event, with_answer, with_refusal};
 
@@ -6,7 +6,7 @@ use crate::DiskFault;
 use crate::call::{Answer, Answered, Call};
 use hg_trail::Trail;
 
-/// A call with its answer, and of a write that took effect its bytes.
+/// A call with its answer. A write that took effect has its bytes too.
 #[derive(Drop)]
 pub(crate) struct Event {
     pub told: Answered,
@@ -20,7 +20,7 @@ pub(crate) struct History {
 }
 
 impl History {
-    /// Of a disk with no call made yet.
+    /// The history of a new disk: no calls.
     pub(crate) fn new() -> History
         ensures { result.events ≡ [] }
     {
@@ -29,7 +29,7 @@ impl History {
         }
     }
 
-    /// Adds a call that took effect or failed, and if it took effect its bytes.
+    /// Adds a call that took effect or failed. If it took effect, its bytes are added too.
     pub(crate) fn note_answer(
         &mut self,
         call: Call,

@@ -12,17 +12,17 @@ pub fn settled_is_one_image()
     ensures only { (file image : List ℕ) → IsImage (settled file) image → image ≡ file }
 {}
 
-/// A write behind it leaves the front of a file.
+/// In a durable file, a torn write leaves all bytes before it as they are.
 pub fn front_stays()
     ensures { (front rest : List ℕ) → WritesBehindLeave front rest (Begins front) }
 {}
 
-/// A write in the middle tears its own range alone.
+/// A write in the middle of a durable file tears only its own range.
 pub fn middle_is_torn()
     ensures { (front old behind : List ℕ) → WritesOverLeave front old behind (Torn front (length old) behind) }
 {}
 
-/// What is on the disk stays through writes and cuts elsewhere, so each image has it.
+/// Bytes on the disk stay through writes and cuts elsewhere, so each image has them.
 pub fn places_stay()
     ensures synced { (file : List ℕ) (at : ℕ) (bytes : List ℕ) → Holds file at bytes → KeepsBytes (settled file) at bytes }
     ensures write_behind { (at : ℕ) (written : List ℕ) → KeepsBefore at (after_write at written) }
@@ -31,20 +31,20 @@ pub fn places_stay()
     ensures image { (s : DiskState) (at : ℕ) (bytes image : List ℕ) → ShowsKept s at bytes image }
 {}
 
-/// What each image has is on the disk.
+/// Bytes that each image has at a place are on the disk.
 pub fn kept_by_images()
     ensures { (s : DiskState) (at : ℕ) (bytes : List ℕ) → HasItsBytes s → LeavesThere at bytes s → KeepsBytes s at bytes }
 {}
 
-/// What each image has at a place, each image of a write elsewhere has there, also of one that leaves a gap; and none gets
-/// shorter than each was.
+/// Bytes that each image has at a place stay there in each image after a write elsewhere, even a write that leaves a gap.
+/// If each image has at least n bytes before the write, so has each image after it.
 pub fn images_keep_places()
     ensures write_behind { (at : ℕ) (written : List ℕ) → ImagesKeepBefore at (after_write at written) }
     ensures write_before { (at : ℕ) (written : List ℕ) → ImagesKeepFrom (at + length written) (after_write at written) }
     ensures long { (at : ℕ) (written : List ℕ) → ImagesStayLong (after_write at written) }
 {}
 
-/// What stands at a place is read there, and stays through writes and cuts elsewhere.
+/// Bytes at a place of a file are read there, and they stay through writes and cuts elsewhere.
 pub fn places_read()
     ensures read { (file : List ℕ) (at : ℕ) (bytes : List ℕ) → Holds file at bytes → IsReadAt file at bytes }
     ensures written { (file : List ℕ) (at : ℕ) (bytes : List ℕ) → Holds (overwritten file at bytes) at bytes }
@@ -53,7 +53,7 @@ pub fn places_read()
     ensures cut { (file : List ℕ) (to : ℕ) → HoldsBefore to file (take to file) }
 {}
 
-/// A sync, and a call that failed, add no image; a write and a cut lose none.
+/// A sync and a failed call add no image. A write and a cut lose no image.
 pub fn images_of_calls()
     ensures write { (at : ℕ) (bytes : List ℕ) → LosesNoImage (after_write at bytes) }
     ensures cut { (to : ℕ) → LosesNoImage (after_cut to) }
@@ -61,8 +61,8 @@ pub fn images_of_calls()
     ensures failed { (s t : DiskState) (image : List ℕ) → SameImages s t → IsImage t image → IsImage s image }
 {}
 
-/// Two runs of calls of a disk, one after the other: what a crash may leave at any moment of both. `p` is any test of
-/// bytes.
+/// Two runs of calls, one after the other: if a crash at any moment of each leaves only bytes that pass `p`, so does a
+/// crash at any moment of both. `p` is any test of bytes.
 pub fn moments_join<D: Disk>()
     ensures started { (d : D) (p : List ℕ → Bool) → Leaves (Passes p) (D.state d) → EachPasses ⟦<D as Disk>⟧ d d p }
     ensures joined { (old mid new : D) (p : List ℕ → Bool) → RunsJoin ⟦<D as Disk>⟧ old mid new p }

@@ -15,10 +15,10 @@ use crate::{Disk, DiskFault, Tear};
 use std::alloc::{AllocError, Global};
 use std::mem;
 
-/// A disk in memory, that keeps all its calls. It has the crash images of the model at each moment, and no others.
+/// A disk in memory that keeps all its calls. It has the crash images of the model at each moment, and no others.
 ///
-/// A call that is refused memory fails. If it was refused the memory to be kept itself, the disk is full: each call
-/// from then on fails too.
+/// A call fails if there is no memory for it. If there is no memory to keep the call itself, the disk is full: each later
+/// call fails too.
 pub struct MemDisk {
     start: Vec<u8>,
     bytes: Vec<u8>,
@@ -62,8 +62,8 @@ impl MemDisk {
         }
     }
 
-    /// An empty disk with room for so many calls, and for so many bytes that they write or by which they make the
-    /// file longer, whichever are more at each call. Calls within the room take no memory.
+    /// An empty disk with room for `calls` calls and `bytes` bytes. A write uses its bytes, or the bytes by which it makes
+    /// the file longer, if these are more. Calls within the room take no memory.
     pub fn with_room(alloc: Global, calls: usize, bytes: usize) -> Result<MemDisk, AllocError>
         ensures start { IfOk result (λ m. start_of m ≡ []) }
         ensures history { IfOk result (λ m. history_of m ≡ []) }
@@ -93,7 +93,7 @@ impl MemDisk {
         })
     }
 
-    /// Lets the next call fail. It changes no byte, and is kept.
+    /// Makes the next call fail. The failed call changes no byte, and is kept.
     pub fn fail_next(&mut self)
         ensures next { fails_next self.new ≡ true }
         ensures start { start_of self.new ≡ start_of self.old }
@@ -102,14 +102,14 @@ impl MemDisk {
         self.fails_next = true;
     }
 
-    /// Whether a call found no memory to be kept. Each call from then on fails.
+    /// Whether the disk is full: there was no memory to keep a call. Each later call fails.
     pub fn is_full(&self) -> bool
         ensures { result ≡ is_full self.now }
     {
         self.tape.is_full
     }
 
-    /// The calls with their answers, the oldest first: all up to the first one that found no memory to be kept.
+    /// The kept calls with their answers, the oldest first: all calls before the disk was full.
     pub fn calls(&self) -> &[Answered]
         ensures { result.now ≡ calls_of self.now }
     {
@@ -246,8 +246,8 @@ fn cuts(file: &mut Vec<u8>, to: usize, is_sound: bool)
     }
 }
 
-// Writes the bytes, and makes room to keep them, if the call is sound. It tells whether it did; if not, the file has
-// its bytes still.
+// If the call is sound, makes room to keep the bytes and writes them. It tells whether it did; if not, the file is
+// unchanged.
 fn writes(tape: &mut Tape, file: &mut Vec<u8>, at: u64, bytes: &[u8], is_sound: bool) -> bool
     requires { TapeHasRoom tape.old 1 0 }
     ensures sound { IsTrue result → IsTrue is_sound }

@@ -1,4 +1,4 @@
-//! A write into a file that stands in memory.
+//! A write into a file in memory.
 ghost use Rattle.std.specs.Prelude.{◌≡◌, ◌+◌, ◌<◌, ◌≤◌, ◌^◌, length, OnOk, OnErr, IsOk};
 ghost use Rattle.std.specs.Vec.{vec_capacity};
 ghost use Rattle.hg_disk.specs.State.{overwritten, replaced};

@@ -1,4 +1,4 @@
-//! The calls of a disk made again, for an image.
+//! Replays the calls of a disk to compute an image.
 ghost use Rattle.std.specs.Prelude.{◌≡◌, ◌+◌, ◌≤◌, ◌^◌, length, IfOk, OnOk, []};
 ghost use Rattle.hg_disk.specs.Event.{event};
 ghost use Rattle.hg_disk.specs.Tape.{Fits};
@@ -8,7 +8,7 @@ use crate::call::{Answer, Answered, Call};
 use crate::overwrite::overwrite;
 use std::alloc::{AllocError, Global};
 
-/// What a read gives after the calls made so far, and the image of them.
+/// What a read gives after the calls replayed so far, and the image after them.
 #[derive(Drop)]
 pub(crate) struct Replay {
     pub contents: Vec<u8>,
@@ -33,7 +33,7 @@ impl Replay {
         })
     }
 
-    /// Makes the next call, which had this answer and wrote these bytes.
+    /// Replays the next call, with the answer that it had and the bytes that it wrote.
     pub fn step(&mut self, told: Answered, bytes: &[u8]) -> Result<(), AllocError>
         requires { Fits told.call told.answer bytes.now }
         ensures tear { self.new.tear ≡ self.old.tear }

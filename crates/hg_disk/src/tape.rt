@@ -9,8 +9,8 @@ use crate::call::{Answer, Answered, Call};
 use crate::history::History;
 use std::alloc::{AllocError, Global};
 
-/// It keeps each call with its answer, and the bytes of each write that took effect, until a call finds no memory to
-/// be kept. From then on it is full.
+/// Keeps each call with its answer, and the bytes of each write that took effect. Once there is no memory to keep a call,
+/// the tape is full for good.
 #[derive(Drop)]
 pub(crate) struct Tape {
     pub calls: Vec<Answered>,
@@ -38,7 +38,7 @@ impl Tape {
         }
     }
 
-    /// With room for so many calls, and for so many bytes of writes.
+    /// An empty tape with room for this many calls and this many written bytes.
     pub fn with_room(alloc: Global, calls: usize, bytes: usize) -> Result<Tape, AllocError>
         ensures made { IfOk result (λ t. t.history.events ≡ []) }
         ensures room { IfOk result (λ t. TapeHasRoom t calls bytes) }
@@ -51,7 +51,7 @@ impl Tape {
         })
     }
 
-    /// Makes room for one more call. Where it finds none, the tape is full, and the call is noted as refused.
+    /// Makes room for one more call, and tells whether it did. If not, the tape is full and the call is noted as refused.
     pub fn makes_room(&mut self, call: Call) -> bool
         ensures record { self.new.history.events ≡ refused_unless result call self.old.history.events }
         ensures made { IsTrue result → TapeHasRoom self.new 1 0 }
@@ -92,7 +92,7 @@ impl Tape {
         (told, &self.written[from..end])
     }
 
-    /// Keeps a call with its bytes, which took effect or failed.
+    /// Keeps a call that took effect or failed, with its bytes.
     pub fn keep(&mut self, call: Call, bytes: &[u8], is_done: bool) -> Result<(), DiskFault>
         requires room { TapeHasRoom self.old 1 (if is_done then length bytes.now else 0) }
         requires fits { Fits call (if is_done then Answer.Done else Answer.Failed) (if is_done then bytes.now else []) }

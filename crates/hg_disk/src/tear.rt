@@ -1,4 +1,4 @@
-//! Which of its images a disk in memory gives, and how a call changes it.
+//! The choice of one crash image of a disk in memory, and how each call changes this image.
 ghost use Rattle.std.specs.Prelude.{◌≡◌, ◌+◌, ◌-◌, ◌<◌, ◌≤◌, ◌^◌, ◌++◌, length, take, drop, replicate, OnOk};
 ghost use Rattle.hg_disk.specs.State.{overwritten};
 ghost use Rattle.hg_disk.specs.Blots.{blotted, blotted_within, cut_off};
@@ -14,9 +14,9 @@ pub enum Tear {
     Lost,
     /// The file as it reads.
     Kept,
-    /// The file at the last sync, with the calls since then that took effect, until so many bytes were written.
+    /// The file at the last sync, then the calls since that took effect, up to this many written bytes.
     Front(usize),
-    /// A file as long as it reads, with this byte in place of each uncertain one.
+    /// The file as it reads, with this byte in place of each uncertain byte.
     Fill(u8),
 }
 
@@ -24,7 +24,7 @@ impl Tear {
     ghost use Rattle.hg_disk.specs.Tear.{FollowsCut, FollowsFailed, FollowsSync, FollowsWrite};
     ghost use Rattle.hg_disk.specs.Blots.{limit_of};
 
-    /// How many bytes are to be written.
+    /// The limit of `Front`, in bytes; 0 for the other tears.
     pub(crate) fn limit(self) -> usize
         ensures { result ≡ limit_of self }
     {
@@ -36,7 +36,7 @@ impl Tear {
         }
     }
 
-    /// A write that took effect. Of `left` bytes `Front` may still write.
+    /// A write that took effect. `Front` may still write `left` bytes.
     pub(crate) fn write(
         self,
         torn: &mut Vec<u8>,
@@ -94,7 +94,7 @@ impl Tear {
     }
 }
 
-// Cuts the file, if bytes are left.
+// Cuts the file if `left` is not 0.
 fn cut_front(file: &mut Vec<u8>, left: usize, to: usize)
     ensures none { left ≡ 0 → file.new.items ≡ file.old.items }
     ensures some { 0 < left → file.new.items ≡ take to file.old.items }
@@ -104,7 +104,7 @@ fn cut_front(file: &mut Vec<u8>, left: usize, to: usize)
     }
 }
 
-// Puts the byte at the places of a write that lie within the file.
+// Puts the byte at the places of a write, up to the end of the file.
 fn blot_within(file: &mut Vec<u8>, at: usize, len: usize, byte: u8)
     ensures { file.new.items ≡ blotted_within file.old.items at len byte }
 {
@@ -120,7 +120,7 @@ fn blot_from(file: &mut Vec<u8>, to: usize, byte: u8)
     blot(file, to.min(end), end, byte);
 }
 
-// Writes as many of the bytes as are left.
+// Writes the first `left` of the bytes; nothing if `left` is 0.
 fn write_front(file: &mut Vec<u8>, left: usize, at: usize, bytes: &[u8]) -> Result<(), AllocError>
     requires { at + length bytes.now < 2 ^ 64 }
     ensures none { left ≡ 0 → OnOk result (file.new.items ≡ file.old.items) }
@@ -145,7 +145,7 @@ fn blot_write(file: &mut Vec<u8>, at: usize, len: usize, byte: u8) -> Result<(),
     Ok(())
 }
 
-// Puts the byte at each place from the one up to the other.
+// Puts the byte at each place from `from` up to `to`, without `to`.
 fn blot(file: &mut Vec<u8>, from: usize, to: usize, byte: u8)
     requires { (from ≤ to) × (to ≤ length file.old.items) }
     ensures { file.new.items ≡ take from file.old.items ++ (replicate (to - from) byte ++ drop to file.old.items) }

@@ -123,7 +123,7 @@ takes_line old new calls line (Ok None) ready p = takes_passed old new calls lin
 takes_line old new calls line (Ok (Some end)) ready p = takes_stop old new calls line end p.asked p.steps (p.stays end refl)
 takes_line old new calls line (Err y) ready p = takes_broken old new calls line y p.asked p.steps p.fault
 
--- What is held was written.
+-- The held text was written.
 pub takes_printed : {T : Type 0} (old new : Explaining) (before now : List WriteCall) (r : Result T Refusal)
     → new.asked ≡ old.asked → new.detector ≡ old.detector → new.look ≡ old.look → new.more ≡ old.more
     → ((first : List WriteCall) (rest goal : List ℕ) → IsDue first before old.held.items rest goal → OnOk r (IsDue first now new.held.items rest goal))

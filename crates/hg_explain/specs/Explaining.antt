@@ -1,4 +1,4 @@
--- Definition: part of what `explain` promises. What is printed of a trace text, and what stands where that broke off.
+-- Definition: part of what `explain` promises. What is printed of a trace text, and what was written where a run broke off.
 use Rattle.std.specs.Prelude.{◌≡◌, ℕ, ◌*◌, ◌/◌, List, ◌∷◌, ◌++◌, Result, OnErr, codes}
 use Rattle.hg_model.specs.Contents.{Content}
 use Rattle.hg_model.specs.Change.{empty_content}
@@ -24,7 +24,7 @@ word_line w = codes "word 0x" ++ sixteen_digits (4 * w)
 abbrev pub explain_text : ℕ → Form → List ℕ → Content → Ending → List ℕ
 explain_text w form input c end = line_text (word_line w) ++ (life w form empty_content 0 c.events (readings input) ++ line_text (last_line c end))
 
--- The run came to this ending by what was read, and the writer took the text of the word for that input and nothing else, and was flushed.
+-- The run came to this ending by what was read. The writer took exactly the text of the word for that input, and was flushed.
 pub record Explains (w : ℕ) (form : Form) (reads_old reads_new : List ReadCall) (old new : List WriteCall) (end : Ending) : Type 0 where
   pub last : Content
   pub leads : ReadsTo reads_old reads_new last end
@@ -32,13 +32,13 @@ pub record Explains (w : ℕ) (form : Form) (reads_old reads_new : List ReadCall
   pub written : List WriteCall
   pub flushed : new ≡ Flushed ∷ written
 
--- Whatever the whole input may be by the reads that were made, what was written is a front of the text for it.
+-- For each whole input that the reads allow, the written bytes are a front of the text for it.
 pub record WroteFrontOf (w : ℕ) (form : Form) (reads_old reads_new : List ReadCall) (old new : List WriteCall) : Type 0 where
   pub later : List ReadCall
   pub since : reads_new ≡ later ++ reads_old
   pub front : (input : List ℕ) (c : Content) (end : Ending) → MayBe later input → ChecksTo input c end → TookFront old new (explain_text w form input c end)
 
--- The same of what is asked, by the streams.
+-- `Explains` for what is asked, by the streams.
 abbrev pub PrintsLife : {R W : Type 0} → Asked → Incoming R → Incoming R → Outgoing W → Outgoing W → Ending → Type 0
 PrintsLife asked reads later writes now end = Explains asked.word asked.form reads.calls later.calls writes.calls now.calls end
 

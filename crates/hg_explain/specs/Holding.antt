@@ -1,4 +1,4 @@
--- For proofs alone: what the calls that hold a line add to the text that is held.
+-- For proofs alone: what is appended to the held text.
 use Rattle.std.specs.Prelude.{◌≡◌, ℕ, List, ◌++◌, Vec, Result, OnOk}
 use Rattle.hg_model.specs.Contents.{Content}
 use Rattle.hg_sets.specs.Interning.{set_at}
@@ -7,7 +7,7 @@ use Rattle.hg_explain.specs.declared.form.Asked.{Asked}
 use Rattle.hg_explain.specs.declared.telling.Accepted.{Accepted}
 use Rattle.hg_explain.specs.Life.{event_line, sets_text}
 
--- Where the call succeeded, this text is held behind what was held.
+-- Where the call succeeded, it appended this text to the held one.
 abbrev pub HoldsMore : {T E Z : Type 0} → Result T E → Vec ℕ Z → Vec ℕ Z → List ℕ → Type 0
 HoldsMore r old new text = OnOk r (new.items ≡ old.items ++ text)
 

@@ -51,7 +51,8 @@ acts_in past _ = []
 abbrev pub race_in : ℕ → List Event → Event → List ℕ
 race_in w past e = race_text (length (kept_in past) + 1) w (drop (length (kept_in past)) (kept_in (e ∷ past)))
 
--- the line of an event right after the past: its item, the word's state with it, what became of the state that it had, and the number of its report
+-- the line of an event right after the past: its item, the word's state after it, how that state changed, and the number of the word's
+-- report
 abbrev pub line_in : ℕ → Form → List Event → ℕ → Event → List ℕ
 line_in w form past line e =
     (codes "event " ++ decimal (suc (length past)) ++ place_in form line)
@@ -71,7 +72,7 @@ story_line w form past k line (Err fault) later = later past k
 story_line w form past k line (Ok e) later =
     (told_in w form (events_of past) k line e).0 ++ later (next_named (summary past) e ∷ past) (told_in w form (events_of past) k line e).1
 
--- The story of the word w over so many lines of a trace, right after the past, where k accesses were not shown.
+-- The story of the word w over the next n lines of a trace, right after the past; k accesses were not shown so far.
 abbrev pub story : ℕ → Form → List Named → ℕ → ℕ → List Reading → List ℕ
 story w form past k n [] = more_text k
 story w form past k zero (r ∷ later) = more_text k
@@ -82,7 +83,7 @@ abbrev pub LifeIsTheStory : Type 0
 LifeIsTheStory = (w : ℕ) (form : Form) (bytes : List ℕ) (c : Content) (end : Ending) → ChecksTo bytes c end
     → life w form empty_content 0 c.events (readings bytes) ≡ story w form [] 0 c.events (readings bytes)
 
--- A race stands on the line of an event where the word is reported at it, as far as reports are kept, and on no other.
+-- A race stands on the line of an event where the word is reported at it, while all reports are kept, and on no other line.
 pub record RacesAreTheReports : Type 0 where
   pub told : (w : ℕ) (past : List Event) (e : Event) → is_reported (e ∷ past) w ≡ true → length (all_reports (e ∷ past)) ≤ 65536 → (k : ℕ) × (race_in w past e ≡ codes " ; race " ++ decimal k)
   pub others : (w : ℕ) (past : List Event) (e : Event) → is_reported (e ∷ past) w ≡ false → race_in w past e ≡ []

@@ -58,7 +58,7 @@ accesses _ = 0
 abbrev pub place_text : Content → ℕ → List ℕ
 place_text c t = codes " thread " ++ decimal t ++ codes " segment " ++ decimal (present c.segments t)
 
--- an access: its thread, that one's segment, and the locks that count
+-- an access: its thread, the thread's segment, and the locks that count
 abbrev pub access_text : Content → Bool → ℕ → List ℕ
 access_text c write t = access_name write ++ place_text c t ++ (codes " locks " ++ predecessors_text (locks_of c.threads t write))
 
@@ -93,12 +93,12 @@ change_text before after g = []
 abbrev pub bare_text : Look → Look → List ℕ
 bare_text before after = if is_bare after && not (is_bare before) then codes " ; no common lock is left" else []
 
--- the number of the word's report among new ones, the first of which is kept as number k
+-- the number of the word's report among new ones, which are numbered from k on
 abbrev pub race_text : ℕ → ℕ → List Report → List ℕ
 race_text k w [] = []
 race_text k w (r ∷ reports) = if r.word == 4 * w then codes " ; race " ++ decimal k else race_text (k + 1) w reports
 
--- the number of the word's report among those that a content keeps behind so many
+-- the number of the word's report among those that a content keeps behind its first `kept`
 abbrev pub new_race_text : ℕ → ℕ → Content → List ℕ
 new_race_text kept w d = race_text (kept + 1) w (drop kept d.reports)
 
@@ -122,7 +122,7 @@ front_text form c line = codes "event " ++ decimal c.events ++ place_in form lin
 abbrev pub changes_text : Look → WordState → ℕ → List ℕ
 changes_text before after g = change_text before (look_of after) g ++ bare_text before (look_of after)
 
--- the same of the word w, where thread t acts, by the content after that
+-- the same for the word w, where thread t acts, by the content after the event
 abbrev pub changes_of : Look → ℕ → Content → ℕ → List ℕ
 changes_of before w d t = changes_text before (d.words w) (present d.segments t)
 
@@ -136,7 +136,8 @@ abbrev pub more_text : ℕ → List ℕ
 more_text zero = []
 more_text (suc k) = line_text (decimal (suc k) ++ codes " more accesses")
 
--- What an accepted event that concerns the word adds to the text, and how many accesses were not shown since its last line. Shown is one that changes the word's state, and where all are asked for each.
+-- What an accepted event that concerns the word adds to the text, and how many accesses were not shown since the text's last line. An
+-- event is shown if it changes the word's state, or if all are asked for.
 abbrev pub told_by : ℕ → Form → Look → ℕ → Content → ℕ → ℕ → Event → List ℕ × ℕ
 told_by w form before kept d k line e =
     if form.all || differs before (look_of (d.words w)) then (more_text k ++ line_text (event_line w form before kept d line e), 0) else ([], k + accesses e)
@@ -151,7 +152,7 @@ told_line w form c k line (Err fault) later = later c k
 told_line w form c k line (Ok e) later =
     (told_of w form c (after c (next_named c e)) k line e).0 ++ later (after c (next_named c e)) (told_of w form c (after c (next_named c e)) k line e).1
 
--- The life of the word w over so many lines of a trace, all of them accepted, from this content on, where k accesses were not shown.
+-- The life of the word w over the next n lines of a trace, all of them accepted, from this content on; k accesses were not shown so far.
 abbrev pub life : ℕ → Form → Content → ℕ → ℕ → List Reading → List ℕ
 life w form c k n [] = more_text k
 life w form c k zero (r ∷ later) = more_text k

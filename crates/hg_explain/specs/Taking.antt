@@ -24,7 +24,7 @@ use Rattle.hg_explain.specs.Holding.{event_text}
 use Rattle.hg_explain.specs.Life.{life, look_of, more_text, told_by}
 use Rattle.hg_explain.specs.Telling.{HasRun, Stays, Tells}
 
--- It is known how the word looks, and no more accesses are not shown than events came.
+-- `look` is how the word looks now, and `more` counts at most as many accesses as events came.
 pub record IsReady (s : Explaining) : Type 0 where
   pub whole : IsWhole s.detector
   pub word : s.asked.word < 2 ^ 62
@@ -35,20 +35,20 @@ pub record IsReady (s : Explaining) : Type 0 where
 abbrev pub MayTake : Explaining → ℕ → Type 0
 MayTake s n = IsReady s × ((content_of s.detector).last 0 + n < 2 ^ 64)
 
--- What lines added to the life of a word is this text: from a content with so many accesses that are not shown to another.
+-- These lines added this text to the life of a word. They lead from the content c, with k accesses not shown, to the content d, with j.
 pub record Adds (w : ℕ) (form : Form) (c : Content) (k : ℕ) (lines : List Reading) (r : Result (Option Ending) Refusal) (d : Content) (j : ℕ) (text : List ℕ) : Type 0 where
   pub count : ℕ
   pub counted : ((x : Refusal) → r ≡ Err x → ⊥) → d.events ≡ c.events + count
   pub on : r ≡ Ok None → (n : ℕ) (later : List Reading) → life w form c k (count + n) (lines ++ later) ≡ text ++ life w form d j n later
   pub ends : (end : Ending) → r ≡ Ok (Some end) → (later : List Reading) → life w form c k count (lines ++ later) ≡ text ++ more_text j
 
--- What was written is a front of the life that is due, whatever follows these lines.
+-- Whatever follows these lines, a front of the life that is due was written.
 abbrev pub WroteLifeFront : Explaining → List WriteCall → List Reading → List WriteCall → Type 0
 WroteLifeFront s before lines now =
     (first : List WriteCall) (goal : List ℕ) → IsDue first before s.held.items [] goal → (n : ℕ) (later : List Reading) (last : Content) (end : Ending) → LeadsFrom s.detector (lines ++ later) last end
     → last.events ≡ (content_of s.detector).events + n → TookFront first now (goal ++ life s.asked.word s.asked.form (content_of s.detector) s.more n (lines ++ later))
 
--- Lines were offered, or what is held of the life was printed.
+-- Lines were offered, or the held text was printed.
 pub record Takes (old : Explaining) (before : List WriteCall) (lines : List Reading) (r : Result (Option Ending) Refusal) (new : Explaining) (now : List WriteCall) : Type 0 where
   pub asked : new.asked ≡ old.asked
   pub steps : Steps old.detector lines r new.detector
@@ -66,20 +66,20 @@ pub record IsFresh (s : Explaining) : Type 0 where
   pub start : IsStart s.detector
   pub none : s.more ≡ 0
 
--- How the word looks is known.
+-- `look` is how the word looks now.
 abbrev pub Looks : Explaining → Type 0
 Looks s = s.look ≡ look_of ((content_of s.detector).words s.asked.word)
 
--- An accepted line added this to the text that is held.
+-- An accepted line was told: the held text grew by what it adds.
 abbrev pub TellsLine : Explaining → Reading → Explaining → Type 0
 TellsLine old line new =
     Tells old.asked.word old.asked.form (content_of old.detector) old.more line (content_of new.detector) new.more old.held.items new.held.items
 
--- A line that ended the run changed nothing of the content and of the text.
+-- A line that ended the run changed neither the content nor the held text.
 abbrev pub StaysAsTold : Explaining → Explaining → Type 0
 StaysAsTold old new = Stays old.detector old.more old.held.items new.detector new.more new.held.items
 
--- A line was offered: it was accepted, and told where it concerns the word, or it ended the run, or memory was refused.
+-- A line was offered. It was accepted, and told if it concerns the word; or it ended the run; or memory was refused.
 pub record PassesLine (old : Explaining) (line : Reading) (r : Result (Option Ending) Refusal) (new : Explaining) : Type 0 where
   pub asked : new.asked ≡ old.asked
   pub steps : Steps old.detector (line ∷ []) r new.detector
@@ -92,7 +92,8 @@ pub record PassesLine (old : Explaining) (line : Reading) (r : Result (Option En
 abbrev pub shown_text : Explaining → Accepted → List ℕ
 shown_text s x = more_text s.more ++ event_text s.asked x (content_of s.detector)
 
--- An event that concerns the word, and was accepted just now, was told or counted, by how the word looked before it and by how many reports there were.
+-- An event that concerns the word was accepted just now, and was told or counted. Before it the word looked as `old` says, and `from`
+-- reports were kept.
 abbrev pub TellsEvent : Explaining → ℕ → ℕ → Event → Explaining → Type 0
 TellsEvent old from line e new =
     (new.held.items ≡ old.held.items ++ (told_by old.asked.word old.asked.form old.look from (content_of old.detector) old.more line e).0)

@@ -86,7 +86,7 @@ takes_none s calls = record {
   failures = omega arith;
 }
 
--- what is due of the lines behind those that were passed is due of all
+-- a front of what the later lines make due is a front of what all lines make due
 front_on : (a b : Explaining) (at_a at_b at_c : List WriteCall) (first later : List Reading) → (s : Takes a at_a first (Ok None) b at_b) → WroteLifeFront b at_b later at_c → WroteLifeFront a at_a (first ++ later) at_c
 front_on a b at_a at_b at_c first later s t start goal due n more last end leads counted =
     let w = a.asked.word in

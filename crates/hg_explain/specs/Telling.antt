@@ -16,7 +16,7 @@ use Rattle.hg_check.specs.Running.{ReportsGrow}
 use Rattle.hg_explain.specs.declared.form.Form.{Form}
 use Rattle.hg_explain.specs.Life.{life, more_text}
 
--- What an accepted line added: what is held of the text, and how many accesses are not shown.
+-- What an accepted line added to the held text, and to the count of accesses that are not shown.
 pub record Tells (w : ℕ) (form : Form) (c : Content) (k : ℕ) (r : Reading) (d : Content) (j : ℕ) (held kept : List ℕ) : Type 0 where
   pub added : List ℕ
   pub held_on : kept ≡ held ++ added
@@ -24,7 +24,7 @@ pub record Tells (w : ℕ) (form : Form) (c : Content) (k : ℕ) (r : Reading) (
   pub few : k ≤ c.last 0 → j ≤ d.last 0
   pub text : (n : ℕ) (later : List Reading) → life w form c k (suc n) (r ∷ later) ≡ added ++ life w form d j n later
 
--- A line that ends the run changed nothing of the content and of the text.
+-- A line that ended the run changed neither the content nor the held text.
 pub record Stays (before : Detector PagedWords) (k : ℕ) (held : List ℕ) (now : Detector PagedWords) (j : ℕ) (kept : List ℕ) : Type 0 where
   pub content : content_of now ≡ content_of before
   pub more : j ≡ k

@@ -51,7 +51,7 @@ fn run_explain<R: Read, W: Write>(
     Ok(end)
 }
 
-/// Holds how many accesses were not shown at last, and the last line.
+/// Holds the count of accesses that were not shown at the end, and the last line.
 fn hold_end(
     detector: &MemoryDetector,
     more: u64,
@@ -81,9 +81,9 @@ fn print_explain<R: Read, W: Write>(
     run_explain(alloc, &mut explaining, input, output)
 }
 
-/// Explains the word that has an address, by a trace text: prints the word, a line for each event that changes its state (of
-/// each that overlaps it, with `form.all`; with the number of its line, with `form.lines`), and one line at last, which is that
-/// of `check`. After a line that is refused or bad, nothing is read.
+/// Explains the word at an address, by a trace text. Prints the word, a line for each event that changes its state, and the last line
+/// of `check`. With `form.all` each event that overlaps the word has a line; with `form.lines` such a line tells the number of the
+/// text's line. After a line that is refused or bad, nothing is read.
 /// Answers the status: 0, 2 where a line was refused or bad, or 3 where a stream failed or memory was refused, which
 /// is told on `faults`. What was printed before that is a front of what was due.
 pub fn explain<R: Read, W: Write, V: Write>(

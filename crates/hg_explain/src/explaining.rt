@@ -20,7 +20,7 @@ use hg_wire::reader::Reading;
 use std::alloc::Global;
 use std::io::Write;
 
-/// Writes what is held.
+/// Writes the held text.
 fn write_held<W: Write>(held: &mut Vec<u8>, output: &mut Output<W>) -> Result<(), Refusal>
     ensures printed { HoldsOrWrites [] output.old.calls held.old.items result output.new.calls held.new.items }
     ensures front { WritesFront [] output.old.calls held.old.items result output.new.calls }
@@ -93,7 +93,7 @@ impl<W: Write> Sink<W> for Explaining {
         self.pass_access(line, found)
     }
 
-    /// Writes what is held.
+    /// Writes the held text.
     fn print(&mut self, output: &mut Output<W>) -> Result<(), Refusal> {
         write_held(&mut self.held, output)
     }

@@ -30,7 +30,7 @@ fn accesses(event: &Event) -> u64
 }
 
 impl Explaining {
-    /// Shows an event that was accepted just now: behind how many accesses were not shown since the last line.
+    /// Shows an event that was accepted just now: holds the count of accesses that were not shown since the last line, and its line.
     #[inline(never)]
     fn show_event(&mut self, accepted: &Accepted) -> Result<(), Refusal>
         requires whole { IsWhole self.old.detector }
@@ -46,7 +46,7 @@ impl Explaining {
         hold_event(self.asked, &self.detector, accepted, &mut self.held)
     }
 
-    /// Tells an event that was accepted just now, and that concerns the word.
+    /// Shows an event that was accepted just now and concerns the word, or counts it as not shown.
     #[inline(always)]
     fn tell_event(&mut self, kept: usize, line: u64, event: &Event) -> Result<(), Refusal>
         requires whole { IsWhole self.old.detector }
@@ -74,7 +74,7 @@ impl Explaining {
     }
 
     /// Offers the event of a line as the next one of source 0, and tells it where it concerns the word. `None` says that it was
-    /// accepted. How the word looks is carried along, so that it is asked only behind an event that concerns the word.
+    /// accepted. The look of the word is carried along, and looked up again only after an event that concerns the word.
     pub(crate) fn pass(&mut self, reading: &Reading) -> Result<Option<Ending>, Refusal>
         requires ready { IsReady self.old }
         requires fits { (content_of self.old.detector).last 0 + 1 < 2 ^ 64 }

@@ -51,7 +51,7 @@ fn hold_place(
     hold_all(&pieces, held)
 }
 
-/// Holds an access: its thread, that one's segment, and the locks that count.
+/// Holds an access: its thread, the thread's segment, and the locks that count.
 fn hold_access(
     detector: &MemoryDetector,
     write: bool,

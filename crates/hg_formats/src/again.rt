@@ -110,7 +110,7 @@ fn put_again(alloc: Global, root: Root, out: &mut Text)
     }
 }
 
-/// Tells the bytes of the root that these bytes are, written again.
+/// Reads a root from these bytes, and tells its bytes written again.
 pub fn tell_again(alloc: Global, digits: &str, out: &mut Text) {
     let Some(body) = bytes_of(alloc, digits) else {
         out.put(b"no bytes");

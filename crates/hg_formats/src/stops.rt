@@ -114,7 +114,7 @@ pub fn tell_slots(alloc: Global, words: &str, out: &mut Text) {
 
 // ---- roots
 
-/// The call of each file that is refused, with all that follow.
+/// For each file the first call that is refused; all later ones are refused too.
 #[derive(Clone, Copy)]
 struct Stops {
     one: u64,

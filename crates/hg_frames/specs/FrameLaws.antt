@@ -1,4 +1,4 @@
--- A client's frame is settled by its body, which is of 1 to 64 bytes.
+-- A client's frame is determined by its body, which has 1 to 64 bytes.
 use Rattle.std.proofs.Common.{◌≡◌, ℕ, ◌≤◌, ◌<◌, ◌^◌, List, [], ◌∷◌, ◌++◌, length, take, drop, refl, sym, ap, ◌∙◌, arith}
 use Rattle.std.specs.Int.{w16, w64, to_be_bytes, from_be_bytes}
 use Rattle.std.proofs.lemmas.List.{append-nil}

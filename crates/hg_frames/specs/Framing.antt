@@ -15,7 +15,7 @@ framed body = to_be_bytes w16 (length body) ++ body
 abbrev pub length_in_front : List ℕ → ℕ
 length_in_front bytes = from_be_bytes w16 (take 2 bytes)
 
--- the body in front, where its length and all of it are there
+-- the body in front, if its length and all its bytes are there
 abbrev pub body_in_front : List ℕ → List ℕ
 body_in_front bytes = take (length_in_front bytes) (drop 2 bytes)
 
@@ -43,7 +43,7 @@ module _ {M : Type 0} (g : message.Ghosts M) where
   abbrev pub IsBody : List ℕ → Type 0
   IsBody bytes = (m : M) × g.fits m × (bytes ≡ g.body m)
 
-  -- A whole body is there, and it is no message's.
+  -- A whole body is there, and it spells no message.
   pub record HasBadBody (bytes : List ℕ) : Type 0 where
     pub has : HasLength g.MOST_BYTES bytes
     pub whole : 2 + length_in_front bytes ≤ length bytes
@@ -54,7 +54,7 @@ module _ {M : Type 0} (g : message.Ghosts M) where
   HasFault Length bytes = HasBadLength g.MOST_BYTES bytes
   HasFault Body bytes = HasBadBody bytes
 
-  -- A frame stands at the front of the bytes, and takes so many of them.
+  -- A frame of `used` bytes stands at the front of the bytes.
   pub record HasFrame (bytes : List ℕ) (m : M) (used : ℕ) : Type 0 where
     pub fits : g.fits m
     pub within : used ≤ length bytes

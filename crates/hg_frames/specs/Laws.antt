@@ -5,7 +5,7 @@ use Rattle.hg_frames.specs.declared.message.FrameFault.{FrameFault}
 use Rattle.hg_frames.specs.Streams.{IsRead}
 
 module _ {M : Type 0} (g : message.Ghosts M) where
-  -- What is read of some bytes, and then of what they left and more bytes, is what is read of all of them at once.
+  -- Reading some bytes, and then their rest with more bytes, gives the same as reading all bytes at once.
   abbrev pub CutsAreNothing : Type 0
   CutsAreNothing = (bytes more left rest : List ℕ) (front later : List M) (fault : Option FrameFault) → IsRead g bytes front None left → IsRead g (left ++ more) later fault rest
       → IsRead g (bytes ++ more) (front ++ later) fault rest

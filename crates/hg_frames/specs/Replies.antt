@@ -41,7 +41,7 @@ pub record IsLine (line : List ℕ) : Type 0 where
   pub few : length line ≤ 8191
   pub bytes : IsTrue (list_all is_line_byte line)
 
--- a number is expected only where there is a gap
+-- each field is within its width, and only a gap has an expected number
 abbrev pub RefusedFits : ℕ → ℕ → ℕ → Type 0
 RefusedFits number code expected = (number < 2 ^ 64) × (code < 256) × (expected < 2 ^ 64) × ((code ≡ 1) ⊎ (expected ≡ 0))
 
@@ -65,7 +65,7 @@ NumberIs bytes number = (number < 2 ^ 64) × (bytes ≡ to_be_bytes w64 number)
 abbrev pub ReplyIs : List ℕ → Reply → Type 0
 ReplyIs bytes reply = ReplyFits reply × (bytes ≡ reply_body reply)
 
--- it is no line
+-- the reply is not a Line
 abbrev pub IsShort : Reply → Type 0
 IsShort (Welcome last) = Unit {0}
 IsShort (Accepted number) = Unit {0}
@@ -77,6 +77,6 @@ IsShort (Fault code) = Unit {0}
 IsShort (Lines lines) = Unit {0}
 IsShort Nothing = Unit {0}
 
--- the bytes are the body of this reply, which is no line
+-- the bytes are the body of this reply, which is not a Line
 abbrev pub ShortIs : List ℕ → Reply → Type 0
 ShortIs bytes reply = IsShort reply × ReplyIs bytes reply

@@ -1,4 +1,4 @@
--- A reply is settled by its body, which is of 1 to 8,192 bytes.
+-- A reply is determined by its body, which has 1 to 8,192 bytes.
 use Rattle.std.proofs.Common.{◌≡◌, ℕ, ◌≤◌, ◌<◌, ◌^◌, List, [], ◌∷◌, length, take, drop, Option, Some, None, refl, sym, ap, ◌∙◌, cond, nat_eq, slice_index, arith}
 use Rattle.std.specs.Int.{w64, from_be_bytes}
 use Rattle.std.proofs.lemmas.Nat.{from_be_bytes-to_be_bytes_8}
@@ -20,11 +20,11 @@ reply_within (Fault code) fits = (omega arith, omega arith)
 reply_within (Lines lines) fits = absurd fits
 reply_within Nothing fits = absurd fits
 
--- what a body's number is
+-- the number in a body
 abbrev number_in : List ℕ → ℕ
 number_in bytes = from_be_bytes w64 (take 8 bytes)
 
--- the reply that has the body
+-- the reply with this body
 abbrev reply_of : List ℕ → Option Reply
 reply_of [] = None
 reply_of (kind ∷ bytes) =

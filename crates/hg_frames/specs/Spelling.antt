@@ -1,4 +1,4 @@
--- What is sent for a reply, which may be several frames or none.
+-- The bytes sent for a reply: one frame, several or none.
 use Rattle.std.specs.Prelude.{ℕ, ◌+◌, ◌≤◌, List, [], ◌∷◌, ◌++◌, length}
 use Rattle.std.specs.List.{AllByRecursion}
 use Rattle.hg_model.specs.declared.report.Report.{Report}
@@ -19,7 +19,7 @@ report_frames k (report ∷ reports) = framed (line_body (report_line k report))
 abbrev pub lines_text : ReportLines → List ℕ
 lines_text lines = report_frames 1 lines.reports ++ framed (line_body (end_line lines.events lines.races lines.segments))
 
--- What is sent for a reply.
+-- The bytes sent for a reply.
 abbrev pub reply_text : Reply → List ℕ
 reply_text (Welcome last) = framed (reply_body (Welcome last))
 reply_text (Accepted number) = framed (reply_body (Accepted number))

@@ -13,7 +13,7 @@ pub record FramesRead : Type 0 where
 abbrev pub at_start : FramesRead
 at_start = record { left = []; has_failed = false }
 
--- how far it has come behind some frames and the rest
+-- how far the stream has come, by the fault and the rest behind some frames
 abbrev pub IsBehind : Option FrameFault → List ℕ → FramesRead → Type 0
 IsBehind None rest new = new ≡ record { left = rest; has_failed = false }
 IsBehind (Some fault) rest new = new.has_failed ≡ true
@@ -30,7 +30,7 @@ module _ {M : Type 0} (g : message.Ghosts M) where
     pub fits : AllByRecursion g.fits messages
     pub ends : EndsBy fault rest
 
-  -- So many bytes are the frames of the messages that joined the old ones, and the fault begins what stands behind them.
+  -- The first `used` bytes are the frames of the messages added to the old ones, and the fault, if there is one, follows them.
   abbrev pub ReadsFrames : List ℕ → (old new : List M) → ℕ → Option FrameFault → Type 0
   ReadsFrames bytes old new used fault = (used ≤ length bytes) × ((more : List M) × (new ≡ old ++ more) × IsRead bytes more fault (drop used bytes))
 

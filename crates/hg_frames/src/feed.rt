@@ -40,8 +40,8 @@ impl<M> Model for Feed<M> {
     ghost view = { λ f. record { left = f.left.items; has_failed = f.has_failed } };
 }
 
-/// Reads the frames at the front of the bytes. Their messages join those that were read. Answers how many bytes they take, and
-/// the fault that follows them.
+/// Reads the frames at the front of the bytes, and appends their messages. Answers how many bytes they take, and the fault
+/// that follows them, if there is one.
 fn read_frames<M: Message + Drop>(
     alloc: Global,
     bytes: &[u8],

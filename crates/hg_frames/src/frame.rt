@@ -14,7 +14,7 @@ use std::alloc::{AllocError, Global};
 /// What a client says in one frame.
 #[derive(Clone, Copy, Debug, PartialEq, Eq, Drop)]
 pub enum Frame {
-    /// The first one: which source its events are of.
+    /// The first one: it names the source of the events.
     Hello { source: u16 },
     /// The source's event of this number.
     Event { number: u64, event: Event },

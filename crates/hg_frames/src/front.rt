@@ -9,11 +9,11 @@ use std::alloc::{AllocError, Global};
 /// What stands at the front of some bytes.
 #[derive(Drop)]
 pub(crate) enum Front<M> {
-    /// A frame, which takes so many of them.
+    /// A frame of `used` bytes.
     Whole { message: M, used: usize },
     /// Less than a frame.
     Unfinished,
-    /// No frame, however it goes on.
+    /// No frame, whatever bytes follow.
     Faulty { fault: FrameFault },
 }
 

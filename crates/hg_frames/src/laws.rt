@@ -9,7 +9,7 @@ pub fn cuts_are_nothing<M: Message>()
     ensures { CutsAreNothing ⟦<M as Message>⟧ }
 {}
 
-/// The bytes of a stream settle its messages, its fault, and what is left.
+/// The bytes of a stream determine its messages, its fault and its rest.
 pub fn reading_is_unique<M: Message>()
     ensures { ReadingIsUnique ⟦<M as Message>⟧ }
 {}

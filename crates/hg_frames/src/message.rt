@@ -7,9 +7,9 @@ use std::alloc::{AllocError, Global};
 /// Why bytes are no frames.
 #[derive(Clone, Copy, Debug, PartialEq, Eq, Drop)]
 pub enum FrameFault {
-    /// The length of a body is 0, or greater than a body's may be.
+    /// The length of a body is 0, or above `MOST_BYTES`.
     Length,
-    /// A whole body is no message's.
+    /// A whole body spells no message.
     Body,
 }
 
@@ -28,7 +28,7 @@ pub trait Message {
     /// The most bytes that a body has.
     const MOST_BYTES: usize;
 
-    /// Reads a whole body. `None` says that it is no message's.
+    /// Reads a whole body. `None` says that it spells no message.
     fn read(alloc: Global, bytes: &[u8]) -> Result<Option<Self>, AllocError>
         ensures some { IfOk result (λ read. IfSome read (λ message. fits message × (bytes.now ≡ body message))) }
         ensures none { IfOk result (λ read.
@@ -37,9 +37,9 @@ pub trait Message {
     /// The length of a body fits its two bytes.
     ghost narrow: { MOST_BYTES < 2 ^ 16 };
 
-    /// A body has at least one byte, and at most so many.
+    /// A body has 1 to `MOST_BYTES` bytes.
     ghost within: { (message : Self) → fits message → (1 ≤ length (body message)) × (length (body message) ≤ MOST_BYTES) };
 
-    /// A body is that of one message.
+    /// Different messages have different bodies.
     ghost one_message: { (a b : Self) → fits a → fits b → body a ≡ body b → a ≡ b };
 }

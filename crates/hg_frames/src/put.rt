@@ -119,7 +119,7 @@ fn put_line(line: &[u8], out: &mut Vec<u8>) -> Result<(), AllocError>
     put
 }
 
-/// Appends the frame of the report that is kept as number `k`. `line` has no bytes, before and after.
+/// Appends the frame of kept report number `k`. `line` is a buffer, empty before and after.
 fn put_report(
     k: u64,
     report: &Report,
@@ -139,7 +139,7 @@ fn put_report(
     put
 }
 
-/// Appends the frames of the reports. After an `Err` some may stand behind what was there.
+/// Appends the frames of the reports. An `Err` may leave some bytes appended.
 fn put_reports(reports: &[Report], line: &mut Vec<u8>, out: &mut Vec<u8>) -> Result<(), AllocError>
     requires none { line.old.items ≡ [] }
     requires few { AllByRecursion (λ r. IsThreadSet r.threads) reports.now }
@@ -158,7 +158,7 @@ fn put_reports(reports: &[Report], line: &mut Vec<u8>, out: &mut Vec<u8>) -> Res
     Ok(())
 }
 
-/// Appends the frames of the reports, and that of the end line. After an `Err` some may stand behind what was there.
+/// Appends the frames of the reports, and that of the end line. An `Err` may leave some bytes appended.
 fn put_lines(lines: &ReportLines, out: &mut Vec<u8>) -> Result<(), AllocError>
     requires { AllByRecursion (λ r. IsThreadSet r.threads) lines.now.reports }
     ensures ok { OnOk result (out.new.items ≡ out.old.items ++ lines_text lines.now) }
@@ -170,8 +170,8 @@ fn put_lines(lines: &ReportLines, out: &mut Vec<u8>) -> Result<(), AllocError>
     put_line(line.as_slice(), out)
 }
 
-/// Appends the frames of a reply: one, or one for each line of the answer to a Reports, or none for that to a Bye. An `Err` leaves
-/// `out` as it was.
+/// Appends the frames of a reply. The answer to a Reports has one for each line, the answer to a Bye none, any other reply one.
+/// An `Err` leaves `out` as it was.
 pub fn put_reply(reply: &Reply, out: &mut Vec<u8>) -> Result<(), AllocError>
     requires { FitsFrames reply.now }
     ensures ok { OnOk result (out.new.items ≡ out.old.items ++ reply_text reply.now) }

@@ -45,7 +45,7 @@ impl Line {
     }
 }
 
-/// What a client's frame is answered.
+/// The answer to a client's frame.
 #[derive(Drop)]
 pub enum Reply {
     /// To a Hello: the last number that the source has sent.
@@ -60,8 +60,8 @@ pub enum Reply {
     Duplicate {
         last: u64,
     },
-    /// The event of this number was refused, for the cause with this code. Where that is a gap, code 1, `expected` is the number
-    /// that the source has to send next, else 0.
+    /// The event of this number was refused, for the cause with this code. For a gap, code 1, `expected` is the number that the
+    /// source has to send next. Else it is 0.
     Refused {
         number: u64,
         code: u8,
@@ -71,7 +71,7 @@ pub enum Reply {
     Ack {
         number: u64,
     },
-    /// One line of what a Reports is answered.
+    /// One line of the answer to a Reports.
     Line {
         line: Line,
     },
@@ -79,7 +79,7 @@ pub enum Reply {
     Fault {
         code: u8,
     },
-    /// To a Reports: a line for each kept report, and the end line. A feed never gives it, but its lines one by one.
+    /// To a Reports: a line for each kept report, and the end line. A feed never gives this: it gives the lines one by one.
     Lines {
         lines: ReportLines,
     },
@@ -90,7 +90,7 @@ pub enum Reply {
 /// Reads the replies of a stream.
 pub type ReplyFeed = Feed<Reply>;
 
-/// The number that the bytes are.
+/// The number that the bytes spell.
 fn read_number(bytes: &[u8]) -> Option<u64>
     ensures some { IfSome result (NumberIs bytes.now) }
     ensures none { IfNone result ((number : ℕ) → NumberIs bytes.now number → ⊥) }
@@ -116,7 +116,7 @@ fn read_fields(bytes: &[u8]) -> Option<(u64, u8, u64)>
     Some((number_of(front), *code, number_of(back)))
 }
 
-/// The reply of a refusal, without its kind. A number is expected only where there is a gap.
+/// The reply of a refusal, read without its kind. Only a gap has an expected number.
 fn read_refused(bytes: &[u8]) -> Option<Reply>
     ensures some { IfSome result (ReplyIs (132 ∷ bytes.now)) }
     ensures none { IfNone result ((reply : ReplyOf) → ShortIs (132 ∷ bytes.now) reply → ⊥) }
@@ -146,7 +146,7 @@ fn is_line(bytes: &[u8]) -> bool
     true
 }
 
-/// A line of text, copied.
+/// A line of text, copied. `None` says that the bytes are no line.
 fn read_line(alloc: Global, bytes: &[u8]) -> Result<Option<Line>, AllocError>
     ensures some { IfOk result (λ read. IfSome read (λ line. IsLine line × (bytes.now ≡ line))) }
     ensures none { IfOk result (λ read. IfNone read (IsLine bytes.now → ⊥)) }
@@ -159,7 +159,7 @@ fn read_line(alloc: Global, bytes: &[u8]) -> Result<Option<Line>, AllocError>
     Ok(Some(Line::from_vec(copy)))
 }
 
-/// The reply of a body that is no line's.
+/// The reply that a body spells, unless it is a Line.
 fn read_short(body: &[u8]) -> Option<Reply>
     ensures some { IfSome result (ReplyIs body.now) }
     ensures none { IfNone result ((reply : ReplyOf) → ShortIs body.now reply → ⊥) }

@@ -1,4 +1,4 @@
--- The bytes of a log: a header, open batches, the first gate that is closed, and then anything.
+-- The bytes of a log: a header, open batches, the first closed gate, and then anything.
 use Rattle.std.specs.Prelude.{◌≡◌, ◌⊎◌, ◌≢◌, ◌≤◌, ◌+◌, ℕ, List, [], ◌∷◌, ◌++◌, length}
 use Rattle.std.specs.List.{flat_map, AllByRecursion}
 use Rattle.std.specs.Int.{w32, to_be_bytes}
@@ -30,7 +30,7 @@ pub record IsClosed (bytes : List ℕ) : Type 0 where
 abbrev pub IsBodyLength : ℕ → Type 0
 IsBodyLength n = (1 ≤ n) × (n ≤ 23552)
 
--- a body is of such a length
+-- a body has such a length
 abbrev pub IsBody : List ℕ → Type 0
 IsBody body = IsBodyLength (length body)
 
@@ -46,7 +46,7 @@ batch body = open_gate ∷ sized body
 abbrev pub spelled : List (List ℕ) → List ℕ
 spelled bodies = header ++ flat_map batch bodies
 
--- The bytes have these batches, and no others: behind them stands a gate that is closed.
+-- The bytes have these batches, and no others: behind them stands a closed gate.
 pub record IsLog (bytes : List ℕ) (bodies : List (List ℕ)) : Type 0 where
   pub gate : ℕ
   pub rest : List ℕ
@@ -58,7 +58,7 @@ pub record IsLog (bytes : List ℕ) (bodies : List (List ℕ)) : Type 0 where
 abbrev pub IsBeforeOrAfter : List (List ℕ) → List ℕ → List ℕ → Type 0
 IsBeforeOrAfter bodies body bytes = IsLog bytes bodies ⊎ IsLog bytes (bodies ++ body ∷ [])
 
--- The bytes are none of a log.
+-- The bytes are not a log's.
 abbrev pub IsNoLog : List ℕ → Type 0
 IsNoLog bytes = (bodies : List (List ℕ)) → ¬ IsLog bytes bodies
 
@@ -67,6 +67,6 @@ abbrev pub LeavesLog : List (List ℕ) → DiskState → Type 0
 LeavesLog bodies s = Leaves (λ image. IsLog image bodies) s
 
 module _ {D : Type 0} (g : disk.Ghosts D) where
-  -- If the bytes are a log's, the disk was called once a batch and twice more at most.
+  -- If the bytes are a log's, the disk was called at most once per batch and twice more.
   abbrev pub OneCallABatch : (old new : D) → Type 0
   OneCallABatch old new = (bodies : List (List ℕ)) → IsLog (g.state old).contents bodies → CallsAtMost g (length bodies + 2) old new

@@ -3,14 +3,14 @@ use Rattle.std.specs.Prelude.{ℕ, ◌+◌, ◌≡◌, ◌⊎◌, Result, Ok, Er
 use Rattle.hg_gate.specs.declared.fault.GateFault.{GateFault}
 use Rattle.hg_gate.specs.declared.fault.GateFault.TheVariants.{Broken, Damaged, DeviceFault, OutOfMemory}
 
--- how many calls of the disk have failed after this fault, of n before
+-- how many calls of the disk have failed after this fault; n had failed before it
 abbrev pub after_fault : GateFault → ℕ → ℕ
 after_fault DeviceFault n = n + 1
 after_fault Broken n = n
 after_fault Damaged n = n
 after_fault OutOfMemory n = n
 
--- how many calls of the disk have failed after this answer, of n before
+-- how many calls of the disk have failed after this answer; n had failed before it
 abbrev pub failures_after : {T : Type 0} → Result T GateFault → ℕ → ℕ
 failures_after (Ok value) n = n
 failures_after (Err fault) n = after_fault fault n

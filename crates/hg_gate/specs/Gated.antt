@@ -27,11 +27,11 @@ IsClosedOrOpenWith body bytes = IsClosed bytes ⊎ IsOpenWith body bytes
 abbrev pub IsNotGated : List ℕ → Type 0
 IsNotGated bytes = (body : List ℕ) → ¬ IsClosedOrOpenWith body bytes
 
--- It is open with no body.
+-- There is no body that it is open with.
 abbrev pub IsNotOpen : List ℕ → Type 0
 IsNotOpen bytes = (body : List ℕ) → ¬ IsOpenWith body bytes
 
--- What was found is the body of an open file, or none of a closed one.
+-- If a body was found, the file is open with it; if none was found, the file is closed.
 abbrev pub HasBody : List ℕ → Option (Vec ℕ) → Type 0
 HasBody bytes found = MatchOption found (IsClosed bytes) (λ body. IsOpenWith body.items bytes)
 
@@ -43,7 +43,7 @@ TellsGate bytes is_open = IsTrue is_open ↔ (get_or bytes 0 0 ≡ open_gate)
 abbrev pub HasLength : List ℕ → ℕ → Type 0
 HasLength bytes len = take 8 (drop 1 bytes) ≡ to_be_bytes w64 len
 
--- Bytes that are open with both have one body.
+-- If the bytes are open with both bodies, the two are one.
 abbrev pub AreOneBody : (first second bytes : List ℕ) → Type 0
 AreOneBody first second bytes = IsOpenWith first bytes → IsOpenWith second bytes → first ≡ second
 
@@ -65,13 +65,13 @@ abbrev pub disk_after : {D : Type 0} → Result (Gated D) D → D
 disk_after (Ok it) = it.disk
 disk_after (Err disk) = disk
 
--- It can be used, and the bytes of its disk are these and durable.
+-- It can be used, and its disk has these bytes, all of them durable.
 pub record Rests {D : Type 0} (g : disk.Ghosts D) (it : Gated D) (file : List ℕ) : Type 0 where
   pub works : it.is_broken ≡ false
   pub durable : g.state it.disk ≡ settled file
 
 module _ {D : Type 0} (g : disk.Ghosts D) where
-  -- A durable file has its gate closed,
+  -- The gate of a durable file is closed by the call,
   abbrev pub ClosesGate : {T E : Type 0} → (old new : Gated D) → Result T E → Type 0
   ClosesGate old new result = (file : List ℕ) → Rests g old file → OnOk result (Rests g new (closed_gate ∷ drop 1 file))
 
@@ -83,7 +83,7 @@ module _ {D : Type 0} (g : disk.Ghosts D) where
   abbrev pub PutsBody : {T E : Type 0} → (body : List ℕ) → (old new : Gated D) → Result T E → Type 0
   PutsBody body old new result = (gate : ℕ) (rest : List ℕ) → Rests g old (gate ∷ rest) → OnOk result (Rests g new (gate ∷ framed body))
 
-  -- The body that stood behind the gate of a durable file is in each image behind an open one.
+  -- If a body stood behind the gate of a durable file, each image is open with this body.
   abbrev pub OpensDurably : {T E : Type 0} → (old new : Gated D) → Result T E → Type 0
   OpensDurably old new result =
       (gate : ℕ) (body rest : List ℕ) → Rests g old (gate ∷ (framed body ++ rest)) → OnOk result (Leaves (IsOpenWith body) (g.state (disk_of new)))
@@ -93,7 +93,7 @@ module _ {D : Type 0} (g : disk.Ghosts D) where
   LeavesRest old new =
       (gate : ℕ) (rest : List ℕ) → Rests g old (gate ∷ rest) → LeavesOnly g (disk_of old) (disk_of new) (IsBehindGate rest)
 
-  -- or a closed file, where it was closed,
+  -- or a closed file, if it was closed,
   abbrev pub StaysClosed : (old new : Gated D) → Type 0
   StaysClosed old new =
       (gate : ℕ) (rest : List ℕ) → Rests g old (gate ∷ rest) → gate ≢ open_gate → LeavesOnly g (disk_of old) (disk_of new) IsClosed
@@ -104,7 +104,7 @@ module _ {D : Type 0} (g : disk.Ghosts D) where
       (gate : ℕ) (body rest : List ℕ) → Rests g old (gate ∷ (framed body ++ rest))
       → LeavesOnly g (disk_of old) (disk_of new) (IsClosedOrOpenWith body)
 
-  -- An honest disk is told as damaged where its file is neither closed nor open.
+  -- If an honest disk is told as damaged, its file is neither closed nor open.
   abbrev pub TellsTrueDamage : {T : Type 0} → Gated D → Result T GateFault → Type 0
   TellsTrueDamage it result = IsTrue g.is_honest → IsErrOf result Damaged → IsNotGated (g.state (disk_of it)).contents
 
@@ -113,6 +113,6 @@ module _ {D : Type 0} (g : disk.Ghosts D) where
   ReplacesBody body old new result =
       (gate : ℕ) (rest : List ℕ) → g.state old ≡ settled (gate ∷ rest) → OnOk result (g.state new ≡ settled (gate ∷ framed body))
 
-  -- A crash at any moment leaves a durable disk closed, where it was.
+  -- If a durable disk is closed, a crash at any moment leaves it closed.
   abbrev pub LeavesClosed : (old new : D) → Type 0
   LeavesClosed old new = (gate : ℕ) (rest : List ℕ) → g.state old ≡ settled (gate ∷ rest) → gate ≢ open_gate → LeavesOnly g old new IsClosed

@@ -31,29 +31,29 @@ module _ {D : Type 0} {g : disk.Ghosts D} where
     pub reads : Reads log bodies
     pub durable : g.state log.disk ≡ settled (g.state log.disk).contents
 
-  -- It has some batches, if only none.
+  -- It has some list of batches, perhaps the empty one.
   abbrev pub HasSome : Log D g → Type 0
   HasSome log = (bodies : List (List ℕ)) × Has log bodies
 
-  -- The bytes of its disk have some batches, if only none.
+  -- The bytes of its disk have some list of batches, perhaps the empty one.
   abbrev pub ReadsSome : Log D g → Type 0
   ReadsSome log = (bodies : List (List ℕ)) × Reads log bodies
 
-  -- It has no batches, and its disk the header and a closed gate; no call has failed since the disk was this one.
+  -- It has no batches, its disk has the header and a closed gate, and no call failed since the disk was `before`.
   abbrev pub IsEmptyOn : D → Log D g → Type 0
   IsEmptyOn before log =
       Has log [] × (g.state (disk_of log) ≡ settled (header ++ closed_gate ∷ [])) × (g.failures (disk_of log) ≡ g.failures before)
 
-  -- A batch is added, and is durable,
+  -- The log has one more batch, all of them durable,
   abbrev pub AddsBatch : {T E : Type 0} → (body : List ℕ) → (old new : Log D g) → Result T E → Type 0
   AddsBatch body old new result = (bodies : List (List ℕ)) → Has old bodies → OnOk result (Has new (bodies ++ body ∷ []))
 
-  -- in each image.
+  -- and each image has them.
   abbrev pub AddsDurably : {T E : Type 0} → (body : List ℕ) → (old new : Log D g) → Result T E → Type 0
   AddsDurably body old new result =
       (bodies : List (List ℕ)) → Has old bodies → OnOk result (LeavesLog (bodies ++ body ∷ []) (g.state (disk_of new)))
 
-  -- A crash at any moment leaves the batches from before, with the new one or without.
+  -- A crash at any moment leaves the batches from before, with or without the new one.
   abbrev pub LeavesBeforeOrAfter : (body : List ℕ) → (old new : Log D g) → Type 0
   LeavesBeforeOrAfter body old new =
       (bodies : List (List ℕ)) → Has old bodies → LeavesOnly g (disk_of old) (disk_of new) (IsBeforeOrAfter bodies body)
@@ -63,7 +63,7 @@ module _ {D : Type 0} {g : disk.Ghosts D} where
   disk_after (Ok log) = log.disk
   disk_after (Err refused) = refused.1
 
-  -- how many calls of the disk have failed after such a call, of n before
+  -- how many calls of the disk have failed after such a call; n had failed before it
   abbrev pub failures_of_making : Result (Log D g) (GateFault × D) → ℕ → ℕ
   failures_of_making (Ok log) n = n
   failures_of_making (Err refused) n = after_fault refused.0 n
@@ -82,11 +82,11 @@ abbrev pub IsFirst : Option Batch → List (List ℕ) → Type 0
 IsFirst None left = left ≡ []
 IsFirst (Some batch) left = (later : List (List ℕ)) × (left ≡ body_of batch ∷ later)
 
--- Where it was refused as damaged, the bytes are none of a log.
+-- If it was refused as damaged, the bytes are not a log's.
 abbrev pub IsNoLogIfDamaged : {D : Type 0} → List ℕ → (GateFault × D) → Type 0
 IsNoLogIfDamaged bytes refused = refused.0 ≡ Damaged → IsNoLog bytes
 
--- A device call failed, or there was no memory, and the disk was not called.
+-- Either a device call failed, or there was no memory and the disk was not called.
 abbrev pub FailedOrUncalled : {D : Type 0} → D → (GateFault × D) → Type 0
 FailedOrUncalled before refused = (refused.0 ≡ DeviceFault) ⊎ ((refused.0 ≡ OutOfMemory) × (refused.1 ≡ before))
 

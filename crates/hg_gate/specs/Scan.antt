@@ -5,7 +5,7 @@ use Rattle.std.specs.Int.{w32, to_be_bytes}
 use Rattle.hg_disk.specs.State.{DiskState}
 use Rattle.hg_gate.specs.Batches.{open_gate, IsClosed, IsBodyLength, IsBody, batch, spelled, IsLog}
 
--- open batches, a gate that is closed, and then anything
+-- open batches, a closed gate, and then anything
 pub record IsTail (bytes : List ℕ) (bodies : List (List ℕ)) : Type 0 where
   pub gate : ℕ
   pub rest : List ℕ
@@ -13,11 +13,11 @@ pub record IsTail (bytes : List ℕ) (bodies : List (List ℕ)) : Type 0 where
   pub closed : gate ≢ open_gate
   pub each : AllByRecursion IsBody bodies
 
--- The bytes are none of these.
+-- The bytes are no such tail.
 abbrev pub IsNoTail : List ℕ → Type 0
 IsNoTail bytes = (bodies : List (List ℕ)) → ¬ IsTail bytes bodies
 
--- From this place on, what a read gives is none of these.
+-- From this place on, what a read gives is no such tail.
 abbrev pub HasNoTail : (at : ℕ) → DiskState → Type 0
 HasNoTail at s = IsNoTail (drop at s.contents)
 
@@ -33,7 +33,7 @@ abbrev pub IsHead : List ℕ → Option ℕ → Type 0
 IsHead bytes None = IsClosed bytes
 IsHead bytes (Some n) = IsOpen bytes n
 
--- the number of bytes up to the end of the batch, of whose body the length is n
+-- how many bytes the batch has, if there is one and n is the length of its body
 abbrev pub batch_len : Option ℕ → ℕ
 batch_len None = 0
 batch_len (Some n) = 5 + n

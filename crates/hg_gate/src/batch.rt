@@ -1,4 +1,4 @@
-//! What is appended to a log at once.
+//! A batch: the bytes that one `append` adds to a log.
 ghost use Rattle.std.specs.Prelude.{◌≡◌, ◌≤◌, length, IfOk, IfErr};
 ghost use Rattle.hg_gate.specs.Batches.{IsBody};
 
@@ -16,7 +16,7 @@ pub struct Batch {
 impl Batch {
     ghost use Rattle.hg_gate.specs.Batch.{body_of, vec_of};
 
-    /// A batch of these bytes. Hands them back where there are none, or more than 23,552.
+    /// A batch of these bytes. Hands them back if there are none, or more than 23,552.
     pub fn new(body: Vec<u8>) -> Result<Batch, Vec<u8>>
         ensures ok { IfOk result (λ batch. IsBody body.items × (vec_of batch ≡ body)) }
         ensures err { IfErr result (λ refused. ¬ IsBody body.items × (refused ≡ body)) }
@@ -27,7 +27,7 @@ impl Batch {
         Ok(Batch { body })
     }
 
-    // A batch of so many bytes as it may have.
+    // A batch of these bytes, of which there are 1 to 23,552.
     pub(crate) fn of(body: Vec<u8>) -> Batch
         requires { IsBody body.items }
         ensures { body_of result ≡ body.items }

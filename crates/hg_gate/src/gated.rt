@@ -17,8 +17,8 @@ use std::alloc::Global;
 // Where the body begins: behind the gate and its length.
 const BODY_AT: u64 = 9;
 
-/// A file that is closed, or open with a body: a gate, the length of the body in eight bytes, the greatest first, the
-/// body, and then anything.
+/// A file that is closed, or open with a body: a gate, the length of the body in eight bytes (big-endian), the body, and
+/// then anything.
 pub struct Gated<D: Disk> {
     disk: D,
     is_broken: bool,
@@ -45,8 +45,8 @@ impl<D: Disk> Gated<D> {
         }
     }
 
-    /// A closed file, made of a disk without a byte: one closed gate, which is durable. An `Err` hands the disk back, of which
-    /// a call failed. It makes two device calls at most.
+    /// Makes a closed file on an empty disk: one closed gate, durable. An `Err` means that a device call failed, and hands
+    /// the disk back. It makes at most two device calls.
     pub fn create(disk: D) -> Result<Gated<D>, D>
         requires { length (D.state disk).contents ≡ 0 }
         ensures closed { IfOk result (λ it. Rests ⟦<D as Disk>⟧ it (closed_gate ∷ [])) }
@@ -75,8 +75,8 @@ impl<D: Disk> Gated<D> {
     /// Closes the gate. An empty file becomes one closed gate; what stands behind the gate stays. It makes two device calls
     /// at most; after an `Err` each later call but `into_disks` answers `Broken`.
     ///
-    /// The gate is written whatever it was, and a crash may leave any byte of a write. So a crash in the call may leave
-    /// a gate that was closed open: who wants it to stay closed at each moment makes no call.
+    /// The gate is written even if it is closed already, and a torn write may leave any byte. So a crash in the call may
+    /// open a closed gate. To keep a gate closed at each moment, do not call this.
     pub fn close(&mut self) -> Result<(), GateFault>
         ensures closed { ClosesGate ⟦<D as Disk>⟧ self.old self.new result }
 
@@ -100,7 +100,7 @@ impl<D: Disk> Gated<D> {
         Ok(closed?)
     }
 
-    /// Puts a body behind the gate, which is to be closed, and ends the file there. It makes four device calls at most;
+    /// Puts a body behind the gate, and ends the file there. The gate should be closed. It makes at most four device calls;
     /// after an `Err` each later call but `into_disks` answers `Broken`.
     pub fn write_body(&mut self, body: &[u8]) -> Result<(), GateFault>
         ensures written { PutsBody ⟦<D as Disk>⟧ body.now self.old self.new result }
@@ -149,8 +149,8 @@ impl<D: Disk> Gated<D> {
         Ok(opened?)
     }
 
-    /// The body, or none where the gate is closed. `Damaged` where the file is empty, or is open with a length that it
-    /// is too short for. After an `Err` it can be tried again. It makes three device calls at most.
+    /// The body, or none where the gate is closed. `Damaged` if the file is empty, or if it is open and too short for the
+    /// length that it spells. After an `Err` it can be tried again. It makes three device calls at most.
     pub fn read(&mut self, alloc: Global) -> Result<Option<Vec<u8>>, GateFault>
         ensures read { IsTrue D.is_honest → IfOk result (HasBody (D.state (disk_of self.old)).contents) }
         ensures damaged { TellsTrueDamage ⟦<D as Disk>⟧ self.old result }
@@ -214,7 +214,7 @@ fn is_open<D: Disk>(disk: &mut D) -> Result<bool, GateFault>
     Ok(gate[0] == OPEN)
 }
 
-// The length behind the first byte of a file. It is refused where the file is too short for it.
+// The length behind the first byte of a file. `Damaged` if the file is too short for it.
 fn read_length<D: Disk>(disk: &mut D) -> Result<u64, GateFault>
     ensures within { IfOk result (λ len. 9 + len ≤ length (D.state disk.old).contents) }
     ensures bytes { IsTrue D.is_honest → IfOk result (HasLength (D.state disk.old).contents) }
@@ -238,7 +238,7 @@ fn read_length<D: Disk>(disk: &mut D) -> Result<u64, GateFault>
     Ok(len)
 }
 
-// The number that eight bytes spell, the greatest first.
+// The number that eight big-endian bytes spell.
 fn number_of(bytes: &[u8]) -> u64
     requires { length bytes.now ≡ 8 }
     ensures { to_be_bytes w64 result ≡ bytes.now }

@@ -13,7 +13,7 @@ pub fn one_reading()
     ensures { (bytes : List ℕ) → AtMostOne (IsLog bytes) }
 {}
 
-/// A crash leaves a log that can be used with the batches that it has, and no others.
+/// If a log can be used and its batches are durable, a crash leaves exactly these batches.
 pub fn each_image_has_them<D: Disk>(log: &Log<D>)
     ensures { (bodies : List (List ℕ)) → Has log.now bodies → LeavesLog bodies (D.state (disk_of log.now)) }
 {}

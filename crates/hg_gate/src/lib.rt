@@ -1,5 +1,5 @@
-//! Files in which a gate, one byte, says whether what follows counts: a log of batches, which is appended to, and a
-//! gated file, whose body is replaced as a whole.
+//! Files with gates: a gate is one byte that says whether the bytes behind it count. A log takes batches at its end; a
+//! gated file has one body, replaced as a whole.
 #![tactic(auto)]
 
 mod batch;

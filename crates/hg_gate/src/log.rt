@@ -24,9 +24,8 @@ const START: [u8; 9] = *b"HGJRNL1\n\x5A";
 // A length, the longest body, and a gate.
 const MAX_FRAME: usize = 4 + MAX_BODY_LEN + 1;
 
-/// Batches on a disk, each of which is durable once its `append` has answered `Ok`. The file is a header, then the
-/// batches, each a gate that is open, a length in four bytes, the greatest first, and a body; then a gate that is
-/// closed, and then anything.
+/// Batches on a disk. A batch is durable once its `append` has answered `Ok`. The file is a header, the batches, a closed
+/// gate, and then anything. Each batch is an open gate, the length of its body in four bytes (big-endian), and the body.
 pub struct Log<D: Disk> {
     disk: D,
     end: u64,
@@ -81,8 +80,8 @@ impl<D: Disk> Log<D> {
     ghost use Rattle.hg_gate.specs.Batch.{body_of};
     ghost use Rattle.hg_gate.specs.Log.{AddsBatch, AddsDurably, FailedOrUncalled, Has, HasSome, IsBehind, IsEmptyOn, IsNoLogIfDamaged, LeavesBeforeOrAfter, Reads, ReadsNext, ReadsSome, ReadsUndamaged, disk_after, disk_of, failures_of_making, is_broken};
 
-    /// A log of no batches, on an empty disk. A refusal hands the disk back; with `OutOfMemory` it was not called. It makes
-    /// two device calls at most.
+    /// Makes a log without batches on an empty disk. A refusal hands the disk back; after `OutOfMemory` the disk was not
+    /// called. It makes two device calls at most.
     pub fn create(alloc: Global, disk: D) -> Result<Log<D>, (GateFault, D)>
         requires { length (D.state disk).contents ≡ 0 }
         ensures empty { IfOk result (IsEmptyOn disk) }
@@ -96,7 +95,7 @@ impl<D: Disk> Log<D> {
         }
     }
 
-    /// A log of no batches, on an empty disk, in memory that was taken before. `DeviceFault` hands the disk back. It makes
+    /// Makes a log without batches on an empty disk, with memory taken before. `DeviceFault` hands the disk back. It makes
     /// two device calls at most.
     pub fn create_in(room: LogRoom, disk: D) -> Result<Log<D>, (GateFault, D)>
         requires { length (D.state disk).contents ≡ 0 }
@@ -117,16 +116,17 @@ impl<D: Disk> Log<D> {
         })
     }
 
-    /// The log that a disk holds, with the batches that its bytes have. A refusal hands the disk back: `Damaged` where
-    /// the bytes are none of a log, `DeviceFault` or `OutOfMemory`. It changes nothing, and reads five bytes a batch. What
-    /// it reads is durable where the disk was synced before.
+    /// The log that a disk holds, with the batches that its bytes have. A refusal hands the disk back: `Damaged` if the
+    /// bytes are not a log's, `DeviceFault` or `OutOfMemory`. It changes nothing, and reads five bytes per batch. If the
+    /// disk was synced before, the batches are durable.
     pub fn attach(alloc: Global, disk: D) -> Result<Log<D>, (GateFault, D)>
         ensures reads { IsTrue D.is_honest → IfOk result ReadsSome }
         ensures has { IsTrue D.is_honest → IsDurable (D.state disk) → IfOk result HasSome }
         ensures damaged { IsTrue D.is_honest → IfErr result (IsNoLogIfDamaged (D.state disk).contents) }
         ensures works { IfOk result (λ log. is_broken log ≡ false) }
         ensures fault { IfErr result (λ e. IsDamagedOrDevice e.0 ⊎ (e.0 ≡ GateFault.OutOfMemory)) }
-        // As many device calls as the disk has bytes, at most; of an honest one two, and one a batch.
+        // At most as many device calls as the disk has bytes. On an honest disk that holds a log: at most one per batch,
+        // and two more.
         ensures calls { CallsAtMost ⟦<D as Disk>⟧ (length (D.state disk).contents) disk (disk_after result) }
         ensures one_a_batch { IsTrue D.is_honest → OneCallABatch ⟦<D as Disk>⟧ disk (disk_after result) }
 
@@ -163,14 +163,14 @@ impl<D: Disk> Log<D> {
         disk
     }
 
-    /// Adds a batch. After an `Ok` it is durable. After an `Err` the log is broken, and a crash leaves the batches
-    /// from before, with the new one or without; each later call but `into_disks` answers `Broken`. It makes four
-    /// device calls at most.
+    /// Adds a batch. After an `Ok` it is durable. After an `Err` the log is broken: each later call but `into_disks`
+    /// answers `Broken`, and a crash leaves the batches from before, with or without the new one. It makes four device
+    /// calls at most.
     pub fn append(&mut self, batch: &Batch) -> Result<(), GateFault>
         ensures added { AddsBatch (body_of batch.now) self.old self.new result }
         ensures durable { AddsDurably (body_of batch.now) self.old self.new result }
 
-        // A crash at any moment of the call leaves the batches from before it, with the new one or without.
+        // A crash at any moment of the call leaves the batches from before it, with or without the new one.
         ensures any_moment { LeavesBeforeOrAfter (body_of batch.now) self.old self.new }
 
         ensures fault { IfErr result IsBrokenOrDevice }

@@ -19,8 +19,8 @@ pub(crate) const HEADER: [u8; 8] = *b"HGJRNL1\n";
 // A gate, and the length of a body.
 pub(crate) const HEAD_LEN: usize = 5;
 
-// The length of the body of the batch that begins with these bytes, or none at a gate that is closed. They are the
-// first five of the `room` bytes that the file has left, or all of them.
+// Parses the head of a batch: the length of its body, or none at a closed gate. `head` is the first five of the `room`
+// bytes that are left of the file, or all of them if there are fewer.
 fn parse_head(head: &[u8], room: u64) -> Result<Option<u32>, GateFault>
     ensures within { IfOk result (λ found. batch_len found ≤ room) }
     ensures length { IfOk result HasBodyLength }
@@ -44,14 +44,14 @@ fn parse_head(head: &[u8], room: u64) -> Result<Option<u32>, GateFault>
     Ok(Some(len))
 }
 
-// Whether a batch whose body has this length ends before so many bytes, and the length is that of a body.
+// Whether a body may have this length, and its batch is shorter than `room` bytes.
 fn fits(len: u32, room: u64) -> bool
     ensures { IsTrue result ↔ (IsBodyLength len × (5 + len < room)) }
 {
     1 <= len && len as usize <= MAX_BODY_LEN && 5 + (len as u64) < room
 }
 
-// What stands at this place of the file.
+// Reads the head at this place: the length of a batch's body, or none at a closed gate.
 pub(crate) fn read_head<D: Disk>(disk: &mut D, at: u64) -> Result<Option<u32>, GateFault>
     requires { at ≤ length (D.state disk.old).contents }
     ensures within { IfOk result (λ found. at + batch_len found ≤ length (D.state disk.old).contents) }
@@ -92,7 +92,7 @@ pub(crate) fn find_end<D: Disk>(disk: &mut D) -> Result<u64, GateFault>
     Ok(at)
 }
 
-// Tells whether the file begins with the header.
+// `Damaged` if the file does not begin with the header.
 fn read_header<D: Disk>(disk: &mut D) -> Result<(), GateFault>
     ensures found { IsTrue D.is_honest → OnOk result (Walked (D.state disk.old).contents 8) }
     ensures within { OnOk result (8 ≤ length (D.state disk.old).contents) }

@@ -1,4 +1,4 @@
--- What restoring a graph asks of its segments.
+-- What restoring a graph requires of its segments.
 use Rattle.std.specs.Prelude.{◌≡◌, ℕ, Bool, true, false, ◌&&◌, ◌==◌, nat_lt, List, [], ◌∷◌, length, take, slice_get, Option, Some, None, if◌then◌else◌}
 use Rattle.std.specs.List.{list_any}
 use Rattle.hg_model.specs.Segments.{present}
@@ -9,14 +9,14 @@ use Rattle.hg_graph.specs.Graph.{names}
 abbrev pub former : List Segment → ℕ → Option ℕ
 former segments t = if names segments t then Some (present segments t) else None
 
--- The predecessors of segment n: none of segment 0; else one, or two that rise, each below n.
+-- The predecessors of segment n: none for segment 0, else one or two that rise, each below n.
 abbrev pub are_predecessors : ℕ → List ℕ → Bool
 are_predecessors n [] = n == 0
 are_predecessors n (a ∷ []) = nat_lt a n
 are_predecessors n (a ∷ b ∷ []) = nat_lt a b && nat_lt b n
 are_predecessors n _ = false
 
--- the number is among them, where there is one
+-- the former segment, if there is one, is among these
 abbrev pub has_former : Option ℕ → List ℕ → Bool
 has_former None before = true
 has_former (Some s) before = list_any (λ k. k == s) before
@@ -25,10 +25,10 @@ has_former (Some s) before = list_any (λ k. k == s) before
 abbrev pub has_thread : ℕ → ℕ → Bool
 has_thread n t = nat_lt t (if n == 0 then 1 else 1024)
 
--- A segment may stand behind these: its predecessors are among them, and the former one of its thread is among its predecessors.
+-- A segment may come after these: its predecessors are among them, and have the former segment of its thread, if there is one.
 abbrev pub stands_behind : List Segment → Segment → Bool
 stands_behind earlier s = has_thread (length earlier) s.thread && (are_predecessors (length earlier) s.before && has_former (former earlier s.thread) s.before)
 
--- Each segment may stand behind those before it.
+-- Each segment may come after those before it.
 abbrev pub AreSegments : List Segment → Type 0
 AreSegments segments = (k : ℕ) (s : Segment) → slice_get segments k ≡ Some s → stands_behind (take k segments) s ≡ true

@@ -1,4 +1,4 @@
-//! What a graph keeps beside its segments, made of segments that were there before it.
+//! Rebuilding what a graph keeps beside its segments.
 
 ghost use Rattle.std.specs.Prelude.{◌≡◌, ◌<◌, ◌≤◌, ℕ, length, IfOk, slice_index_or};
 ghost use Rattle.hg_model.specs.Segments.{thread_at};

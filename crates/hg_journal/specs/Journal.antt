@@ -22,11 +22,11 @@ pub record IsJournal (bytes : List ℕ) (events : List Named) : Type 0 where
   pub fits : AllByRecursion RecordFits events
   pub whole : events ≡ flat_map (λ batch. batch) batches
 
--- The bytes are none of a journal.
+-- The bytes are not a journal's.
 abbrev pub IsNoJournal : List ℕ → Type 0
 IsNoJournal bytes = (events : List Named) → ¬ IsJournal bytes events
 
--- They are a journal of the events from before, with all the new ones or none.
+-- The bytes are a journal of the events from before, with all the new ones or none.
 abbrev pub IsAllOrNone : (past events : List Named) → List ℕ → Type 0
 IsAllOrNone past events bytes = IsJournal bytes past ⊎ IsJournal bytes (past ++ events)
 
@@ -34,15 +34,15 @@ IsAllOrNone past events bytes = IsJournal bytes past ⊎ IsJournal bytes (past +
 abbrev pub LeavesJournal : List Named → DiskState → Type 0
 LeavesJournal events s = Leaves (λ image. IsJournal image events) s
 
--- Where it was refused as damaged, the bytes are none of a journal.
+-- If it was refused as damaged, the bytes are not a journal's.
 abbrev pub IsNoJournalIfDamaged : {D : Type 0} → List ℕ → (Refusal × D) → Type 0
 IsNoJournalIfDamaged bytes refused = refused.0 ≡ Damaged → IsNoJournal bytes
 
--- A device call failed, or there was no memory, and the disk was not called.
+-- Either a device call failed, or there was no memory and the disk was not called.
 abbrev pub FailedOrUncalled : {D : Type 0} → D → (Refusal × D) → Type 0
 FailedOrUncalled before refused = (refused.0 ≡ DeviceFault) ⊎ ((refused.0 ≡ OutOfMemory) × (refused.1 ≡ before))
 
--- what a log's refusal is told as
+-- the refusal that tells a log's fault
 abbrev pub of_gate : GateFault → Refusal
 of_gate fault.Broken = Broken
 of_gate fault.Damaged = Damaged
@@ -53,16 +53,16 @@ of_gate fault.OutOfMemory = OutOfMemory
 abbrev pub IsBrokenOrDevice : Refusal → Type 0
 IsBrokenOrDevice refusal = (refusal ≡ Broken) ⊎ (refusal ≡ DeviceFault)
 
--- the refusals of a call that reads and takes memory, of a journal that can be used
+-- the refusals of a call that reads and takes memory, if the journal can be used
 abbrev pub IsOfReading : Refusal → Type 0
 IsOfReading refusal = (refusal ≡ Damaged) ⊎ (refusal ≡ DeviceFault) ⊎ (refusal ≡ OutOfMemory)
 
--- how many calls of a disk have failed after this refusal, of n before
+-- how many calls of a disk have failed after this refusal; n had failed before it
 abbrev pub after_refusal : Refusal → ℕ → ℕ
 after_refusal DeviceFault n = n + 1
 after_refusal _ n = n
 
--- how many calls of a disk have failed after this answer, of n before
+-- how many calls of a disk have failed after this answer; n had failed before it
 abbrev pub failed_after : {T : Type 0} → Result T Refusal → ℕ → ℕ
 failed_after (Ok value) n = n
 failed_after (Err refusal) n = after_refusal refusal n

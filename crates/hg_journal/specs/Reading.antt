@@ -1,4 +1,4 @@
--- What a journal shows that can be used, and how far its events were read.
+-- What a journal shows, and how far its events were read.
 use Rattle.std.specs.Global.{Vec}
 use Rattle.std.specs.Prelude.{◌≡◌, ◌≢◌, ℕ, zero, suc, ◌-◌, ◌≤◌, Bool, IsTrue, List, [], ◌∷◌, ◌++◌, length, take, drop, map, Option, MatchBool, MatchOption, Result, Ok, Err, OnOk, OnErr, IfOk, IfErr, IsErrOf}
 use Rattle.std.specs.List.{flat_map, AllByRecursion}
@@ -20,7 +20,7 @@ use Rattle.hg_journal.specs.Journal.{IsAllOrNone, IsJournal, IsNoJournal, Leaves
 abbrev pub rest_of : JournalReader → List ℕ
 rest_of r = drop r.at r.body.items
 
--- So many records lead from the first bytes to those behind them.
+-- The first bytes are n records and then the rest.
 abbrev pub Passes : ℕ → List ℕ → List ℕ → Type 0
 Passes zero first rest = rest ≡ first
 Passes (suc n) first rest = (mid : List ℕ) × Passes n first mid × (named : Named) × BeginsWith mid named rest
@@ -33,11 +33,11 @@ module _ {D : Type 0} {g : disk.Ghosts D} where
   abbrev pub is_broken : Journal D g → Bool
   is_broken j = log.is_broken j.log
 
-  -- The journal can be used, and these are its batches, and they are durable. Whether they are records is not known yet.
+  -- The journal can be used, and these are its batches, durable. It is not known yet whether they are records.
   abbrev pub Opens : Journal D g → List (List ℕ) → Type 0
   Opens j bodies = Has j.log bodies
 
-  -- The journal can be used, and has these events, and they are durable.
+  -- The journal can be used, and has these events, durable.
   pub record KeepsEvents (j : Journal D g) (events : List Named) : Type 0 where
     pub batches : List (List Named)
     pub has : Has j.log (map batch_text batches)
@@ -63,29 +63,29 @@ module _ {D : Type 0} {g : disk.Ghosts D} where
   disk_after (Ok journal) = disk_of journal
   disk_after (Err refused) = refused.1
 
-  -- how many calls of the disk have failed after such a call, of n before
+  -- how many calls of the disk have failed after such a call; n had failed before it
   abbrev pub failures_of_making : Result (Journal D g) (Refusal × D) → ℕ → ℕ
   failures_of_making (Ok journal) n = n
   failures_of_making (Err refused) n = after_refusal refused.0 n
 
-  -- It has no events, and its disk the header and a closed gate; no call has failed since the disk was this one.
+  -- It has no events, its disk has the header and a closed gate, and no call failed since the disk was `before`.
   abbrev pub IsEmptyOn : D → Journal D g → Type 0
   IsEmptyOn before j =
       KeepsEvents j [] × (g.state (disk_of j) ≡ settled (header ++ closed_gate ∷ [])) × (g.failures (disk_of j) ≡ g.failures before)
 
-  -- It has some batches, if only none.
+  -- It has some list of batches, perhaps the empty one.
   abbrev pub OpensSome : Journal D g → Type 0
   OpensSome j = (bodies : List (List ℕ)) × Opens j bodies
 
-  -- It is broken, as it was, and its disk is what it was.
+  -- A broken journal stays broken, and its disk stays as it was.
   abbrev pub StaysBroken : (old new : Journal D g) → Type 0
   StaysBroken old new = IsTrue (is_broken old) → (disk_of new ≡ disk_of old) × IsTrue (is_broken new)
 
-  -- Events are added, and are durable,
+  -- The journal has the new events too, all of them durable,
   abbrev pub AddsEvents : {T E : Type 0} → (events : List Named) → (old new : Journal D g) → Result T E → Type 0
   AddsEvents events old new result = (past : List Named) → KeepsEvents old past → OnOk result (KeepsEvents new (past ++ events))
 
-  -- in each image.
+  -- and each image has them.
   abbrev pub AddsDurably : {T E : Type 0} → (events : List Named) → (old new : Journal D g) → Result T E → Type 0
   AddsDurably events old new result = (past : List Named) → KeepsEvents old past → OnOk result (LeavesJournal (past ++ events) (g.state (disk_of new)))
 
@@ -94,11 +94,11 @@ module _ {D : Type 0} {g : disk.Ghosts D} where
   LeavesAllOrNone events old new =
       (past : List Named) → KeepsEvents old past → LeavesOnly g (disk_of old) (disk_of new) (IsAllOrNone past events)
 
-  -- The reader of a journal that can be used has read nothing.
+  -- If the journal can be used, the reader has read nothing.
   abbrev pub BeginsAtFirst : {E : Type 0} → Journal D g → Result JournalReader E → Type 0
   BeginsAtFirst j result = (bodies : List (List ℕ)) → Opens j bodies → IfOk result (λ reader. IsAt j reader [])
 
-  -- What a reader finds in a journal, of which it had read the events `seen`: bytes of a batch, or that these are all events;
+  -- A reader that had read the events `seen` finds bytes of a batch, or these were all events;
   abbrev pub FindsMore : {E : Type 0} → Journal D g → JournalReader → Journal D g → JournalReader → Result Bool E → Type 0
   FindsMore old before new after result =
       (seen : List Named) → IsTrue g.is_honest → IsAt old before seen
@@ -117,42 +117,42 @@ module _ {D : Type 0} {g : disk.Ghosts D} where
   CanBeTriedAgain old before new after result =
       (seen : List Named) → IsTrue g.is_honest → IsAt old before seen → OnErr result (IsAt new after seen)
 
-  -- The reader has read one event more, or has read all.
+  -- The reader has read one more event, or it had read all.
   abbrev pub ReadsNext : {E : Type 0} → Journal D g → JournalReader → Journal D g → JournalReader → Result (Option Named) E → Type 0
   ReadsNext old before new after result =
       (seen : List Named) → IsTrue g.is_honest → IsAt old before seen
       → IfOk result (λ found. MatchOption found (KeepsEvents new seen) (λ named. IsAt new after (seen ++ named ∷ [])))
 
-  -- It has read so many events more, where that is not 0;
+  -- If the answer is not 0, it has read this many more events;
   abbrev pub ReadsMore : {E : Type 0} → Journal D g → JournalReader → Journal D g → JournalReader → Result ℕ E → Type 0
   ReadsMore old before new after result =
       (seen : List Named) → IsTrue g.is_honest → IsAt old before seen
       → IfOk result (λ count. 1 ≤ count → (more : List Named) × (length more ≡ count) × IsAt new after (seen ++ more))
 
-  -- and where it is 0, it has read all.
+  -- and if the answer is 0, it has read all.
   abbrev pub HasReadAll : {E : Type 0} → Journal D g → JournalReader → Journal D g → Result ℕ E → Type 0
   HasReadAll old before new result =
       (seen : List Named) → IsTrue g.is_honest → IsAt old before seen → IfOk result (λ count. count ≡ 0 → KeepsEvents new seen)
 
-  -- Damage is told where the bytes are none of a journal.
+  -- If damage is told, the bytes are not a journal's.
   abbrev pub TellsTrueDamage : {T : Type 0} → Journal D g → JournalReader → Result T Refusal → Type 0
   TellsTrueDamage old before result =
       (seen : List Named) → IsTrue g.is_honest → IsAt old before seen → IsErrOf result Damaged → IsNoJournal (g.state (disk_of old)).contents
 
-  -- What a read gives is a journal of the events that it keeps,
+  -- The bytes that a read gives are a journal of the events that it keeps,
   abbrev pub ReadsKept : Journal D g → List Named → Type 0
   ReadsKept j events = KeepsEvents j events → IsJournal (g.state (disk_of j)).contents events
 
-  -- and so is what a crash leaves.
+  -- and so are the bytes that a crash leaves.
   abbrev pub LeavesKept : Journal D g → List Named → Type 0
   LeavesKept j events = KeepsEvents j events → LeavesJournal events (g.state (disk_of j))
 
-  -- What a reader has read is the front of the journal's events.
+  -- The events that a reader has read are the front of the journal's events.
   abbrev pub HasReadFront : Journal D g → JournalReader → (seen events : List Named) → Type 0
   HasReadFront j reader seen events =
       IsAt j reader seen → IsJournal (g.state (disk_of j)).contents events → (left : List Named) × (events ≡ seen ++ left)
 
-  -- Of the first `count` events those from number `from` on are found, at most so many,
+  -- Of the first `count` events those from number `from` on are found, at most `most`,
   abbrev pub Collects : {E : Type 0} → Journal D g → (count from most : ℕ) → Result (Vec Named) E → Type 0
   Collects old count from most result =
       (events : List Named) → IsTrue g.is_honest → KeepsEvents old events → length events ≡ count

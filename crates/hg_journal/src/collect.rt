@@ -13,8 +13,8 @@ use hg_model::event::Named;
 use hg_model::verdict::Refusal;
 use std::alloc::Global;
 
-/// Of the first `count` events of a journal, those from number `from` on, at most `max`. It makes two device calls an event
-/// at most.
+/// Of the first `count` events of a journal, those from number `from` on, at most `max`. It makes at most two device calls
+/// per event.
 pub fn collect<D: Disk>(
     journal: &mut Journal<D>,
     alloc: Global,

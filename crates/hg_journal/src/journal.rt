@@ -1,4 +1,4 @@
-//! A journal: events on a disk, in batches, each of which is durable once it was appended.
+//! A journal: events on a disk, in batches. A batch is durable once it was appended.
 ghost use Rattle.std.specs.Prelude.{◌≡◌, ◌+◌, ◌≤◌, length, vec_capacity, IsTrue, IfOk, IfErr, OnOk, OnErr, IsErrOf, Err, false};
 ghost use Rattle.std.specs.List.{AllByRecursion};
 ghost use Rattle.hg_disk.specs.State.{IsDurable};
@@ -17,12 +17,12 @@ use hg_records::record::{MAX_RECORD_LEN, put_record};
 use std::alloc::{AllocError, Global};
 use std::mem;
 
-/// The most events that are appended at once: so many records fit into a batch.
+/// The most events of one append: the records of this many fit into a batch.
 pub const MAX_BATCH_EVENTS: usize = 1_024;
 
 const _: () = prove!(MAX_BATCH_EVENTS * MAX_RECORD_LEN <= MAX_BODY_LEN);
 
-/// The events on a disk. They lie in the batches of a log, of which each is the records of some events.
+/// The events on a disk. They lie in the batches of a log; each batch is the records of some events.
 pub struct Journal<D: Disk> {
     pub(crate) log: Log<D>,
     pub(crate) body: Vec<u8>,
@@ -63,7 +63,7 @@ pub struct JournalReader {
     ghost within: { at ≤ length body.items },
 }
 
-// What a log's refusal is told as.
+// The refusal that tells a log's fault.
 pub(crate) fn refusal_of(fault: GateFault) -> Refusal
     ensures { result ≡ of_gate fault }
 {
@@ -75,7 +75,7 @@ pub(crate) fn refusal_of(fault: GateFault) -> Refusal
     }
 }
 
-// The records of some events in place of what stood there. The room is there, so it can't fail.
+// Fills the buffer with the records of some events. The room is there, so it can't fail.
 fn put_records(events: &[Named], body: &mut Vec<u8>)
     requires few { length events.now ≤ MAX_BATCH_EVENTS }
     requires room { MAX_BODY_LEN ≤ vec_capacity body.old }
@@ -89,7 +89,7 @@ fn put_records(events: &[Named], body: &mut Vec<u8>)
     }
 }
 
-// A batch of so many bytes as it may have.
+// A batch of these bytes, of which there are 1 to 23,552.
 fn batch_of(body: Vec<u8>) -> Batch
     requires { IsBody body.items }
     ensures { vec_of result ≡ body }
@@ -103,8 +103,8 @@ fn batch_of(body: Vec<u8>) -> Batch
 impl<D: Disk> Journal<D> {
     ghost use Rattle.hg_journal.specs.Reading.{AddsDurably, AddsEvents, IsEmptyOn, LeavesAllOrNone, OpensSome, StaysBroken, disk_after, disk_of, failures_of_making, is_broken};
 
-    /// A journal of no events, on an empty disk. A refusal hands the disk back; with `OutOfMemory` it was not called. It
-    /// makes two device calls at most.
+    /// Makes a journal without events on an empty disk. A refusal hands the disk back; after `OutOfMemory` the disk was not
+    /// called. It makes two device calls at most.
     pub fn create(alloc: Global, disk: D) -> Result<Journal<D>, (Refusal, D)>
         requires { length (D.state disk).contents ≡ 0 }
         ensures empty { IfOk result (IsEmptyOn disk) }
@@ -118,8 +118,8 @@ impl<D: Disk> Journal<D> {
         }
     }
 
-    /// A journal of no events, on an empty disk, in memory that was taken before. `DeviceFault` hands the disk back. It makes
-    /// two device calls at most.
+    /// Makes a journal without events on an empty disk, with memory taken before. `DeviceFault` hands the disk back. It
+    /// makes two device calls at most.
     pub fn create_in(room: JournalRoom, disk: D) -> Result<Journal<D>, (Refusal, D)>
         requires { length (D.state disk).contents ≡ 0 }
         ensures empty { IfOk result (IsEmptyOn disk) }
@@ -133,15 +133,15 @@ impl<D: Disk> Journal<D> {
         }
     }
 
-    /// The journal that a disk holds. A refusal hands the disk back: `Damaged` where the bytes are none of a log,
-    /// `DeviceFault` or `OutOfMemory`. It changes nothing, and reads no events. What it has is durable where the disk was
-    /// synced before.
+    /// The journal that a disk holds. A refusal hands the disk back: `Damaged` if the bytes are not a log's, `DeviceFault`
+    /// or `OutOfMemory`. It changes nothing, and reads no events. If the disk was synced before, the batches are durable.
     pub fn attach(alloc: Global, disk: D) -> Result<Journal<D>, (Refusal, D)>
         ensures opens { IsTrue D.is_honest → IsDurable (D.state disk) → IfOk result OpensSome }
         ensures damaged { IsTrue D.is_honest → IfErr result (IsNoJournalIfDamaged (D.state disk).contents) }
         ensures works { IfOk result (λ journal. is_broken journal ≡ false) }
         ensures fault { IfErr result (λ e. IsOfReading e.0) }
-        // As many device calls as the disk has bytes, at most; of an honest one two, and one a batch.
+        // At most as many device calls as the disk has bytes. On an honest disk that holds a log: at most one per batch,
+        // and two more.
         ensures calls { CallsAtMost ⟦<D as Disk>⟧ (length (D.state disk).contents) disk (disk_after result) }
         ensures one_a_batch { IsTrue D.is_honest → OneCallABatch ⟦<D as Disk>⟧ disk (disk_after result) }
 
@@ -167,9 +167,9 @@ impl<D: Disk> Journal<D> {
         log.into_disks()
     }
 
-    /// Adds 1 to 1,024 events, all at once. After an `Ok` they are durable. After an `Err` the journal is broken, and a crash
-    /// leaves the events from before, with all the new ones or none; each later call but `into_disk` answers `Broken`. It
-    /// makes four device calls at most, and takes no memory.
+    /// Adds 1 to 1,024 events, all at once. After an `Ok` they are durable. After an `Err` the journal is broken: each
+    /// later call but `into_disk` answers `Broken`, and a crash leaves the events from before, with all the new ones or
+    /// none. It makes four device calls at most, and takes no memory.
     pub fn append(&mut self, events: &[Named]) -> Result<(), Refusal>
         requires some { 1 ≤ length events.now }
         requires few { length events.now ≤ MAX_BATCH_EVENTS }

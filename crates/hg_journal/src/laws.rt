@@ -1,4 +1,4 @@
-//! Laws of the bytes of a journal, and of what one shows.
+//! Laws of the bytes and of the events of a journal.
 ghost use Rattle.std.specs.Prelude.{◌≡◌, ℕ, List, false};
 ghost use Rattle.hg_model.specs.declared.event.Named.{Named as NamedOf};
 ghost use Rattle.hg_disk.specs.Laws.{AtMostOne};
@@ -13,14 +13,14 @@ pub fn one_reading()
     ensures { (bytes : List ℕ) → AtMostOne (IsJournal bytes) }
 {}
 
-/// A journal that can be used has its events now, and a crash leaves one with the same events.
+/// The bytes of a journal that can be used have its events, and so do the bytes that a crash leaves.
 pub fn each_image_has_them<D: Disk>(journal: &Journal<D>)
     ensures now { (events : List NamedOf) → ReadsKept journal.now events }
     ensures images { (events : List NamedOf) → LeavesKept journal.now events }
     ensures works { (events : List NamedOf) → KeepsEvents journal.now events → is_broken journal.now ≡ false }
 {}
 
-/// What a reader has read is the front of the journal's events.
+/// The events that a reader has read are the front of the journal's events.
 pub fn more<D: Disk>(journal: &Journal<D>, reader: &JournalReader)
     ensures { (seen events : List NamedOf) → HasReadFront journal.now reader.now seen events }
 {}

@@ -15,7 +15,7 @@ use hg_model::verdict::Refusal;
 use hg_records::record::{read_record, record_len};
 
 impl JournalReader {
-    // Takes the record at the front of what is left of the present batch, if there is one.
+    // Takes the next record of the present batch, if there is one.
     fn take(&mut self) -> Option<Named>
         ensures some { IfSome result (λ named. BeginsWith (rest_of self.old) named (rest_of self.new)) }
         ensures none { IfNone result (HasNoRecord (rest_of self.old)) }
@@ -27,7 +27,7 @@ impl JournalReader {
         Some(named)
     }
 
-    // Passes over records at the front of what is left of the present batch, at most so many, and says how many.
+    // Passes over the next records of the present batch, at most `most`, and answers how many it passed.
     fn pass(&mut self, most: u64) -> u64
         ensures few { result ≤ most }
         ensures passed { Passes result (rest_of self.old) (rest_of self.new) }
@@ -63,7 +63,7 @@ impl<D: Disk> Journal<D> {
         }
     }
 
-    // Goes on to a batch of which there are bytes left, and says whether there is one.
+    // Goes on to a batch with unread bytes, and answers whether there is one.
     fn find(&mut self, reader: &mut JournalReader) -> Result<bool, Refusal>
         ensures found { FindsMore self.old reader.old self.new reader.new result }
         ensures whole { FindsUndamaged self.old reader.old result }
@@ -97,8 +97,8 @@ impl<D: Disk> Journal<D> {
         }
     }
 
-    /// Reads the next event, or none behind the last. After an `Err` it can be tried again; `Damaged` says that the
-    /// bytes are none of a journal. It makes two device calls at most, and takes memory for one batch alone.
+    /// Reads the next event, or none behind the last. After an `Err` it can be tried again; `Damaged` says that the bytes
+    /// are not a journal's. It makes at most two device calls, and takes memory for one batch only.
     pub fn next(&mut self, reader: &mut JournalReader) -> Result<Option<Named>, Refusal>
         ensures next { ReadsNext self.old reader.old self.new reader.new result }
         ensures damaged { TellsTrueDamage self.old reader.old result }
@@ -127,9 +127,9 @@ impl<D: Disk> Journal<D> {
     }
 
     /// Passes over events of one batch, and answers how many: `most` of them, or as many as the batch has left. Behind the
-    /// last event, and only there, it answers 0. It makes no events of their bytes, so it is much faster than `next`. After an
-    /// `Err` it can be tried again; `Damaged` says that the bytes are none of a journal. It makes two device calls at most, and
-    /// takes memory for one batch alone.
+    /// last event, and only there, it answers 0. It does not decode the events, so it is much faster than `next`. After an
+    /// `Err` it can be tried again; `Damaged` says that the bytes are not a journal's. It makes at most two device calls,
+    /// and takes memory for one batch only.
     pub fn pass(&mut self, reader: &mut JournalReader, most: u64) -> Result<u64, Refusal>
         requires some { 0 < most }
         ensures few { IfOk result (λ count. count ≤ most) }

@@ -67,7 +67,7 @@ abbrev pub is_racy : WordState → Bool
 is_racy (SharedModified threads locks) = is_empty locks
 is_racy _ = false
 
--- the word w after an access to the words that it overlaps
+-- the word w after an access to len bytes from at on
 abbrev pub word_after_access : Content → ℕ → ℕ → ℕ → Bool → ℕ → WordState
 word_after_access c t at len write w =
     if overlaps at len w then touched c.segments t (present c.segments t) write (locks_of c.threads t write) (c.words w) else c.words w
@@ -121,15 +121,15 @@ is_accept _ = false
 abbrev pub accepts : Parts → Named → Bool
 accepts p n = is_accept (verdict (standing p) n)
 
--- What has the old parts has the new ones after the event.
+-- A content with the old parts has the new ones after the event.
 abbrev pub Follows : Parts → Named → Parts → Type 0
 Follows old n new = (c : Content) → HasParts c old → HasParts (after c n) new
 
--- one offered event: the content after it, and none where it is not accepted
+-- the content after an offered event, or none where it is not accepted
 abbrev pub offered : Named → Content → Option Content
 offered n c = if is_accept (verdict (standing_of c) n) then Some (after c n) else None
 
--- The content after these events, the oldest first, each accepted after those before it; none where one is not.
+-- The content after these events, the oldest first. None where one of them is not accepted.
 abbrev pub followed : Content → List Named → Option Content
 followed c [] = Some c
 followed c (n ∷ trace) = option_and_then (λ d. followed d trace) (offered n c)

@@ -27,7 +27,7 @@ without_lock l hs = filter (λ h. not (h.lock == l)) hs
 abbrev pub without_number : ℕ → List ℕ → List ℕ
 without_number l ns = filter (λ n. not (n == l)) ns
 
--- the numbers with this one, in front of the first that is as great
+-- the numbers with this one, put before the first that is not less
 abbrev pub with_number : ℕ → List ℕ → List ℕ
 with_number l ns = insert ns (position_or_len (λ n. nat_le l n) ns) l
 

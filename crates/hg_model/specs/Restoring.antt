@@ -1,4 +1,4 @@
--- What restoring a trace state asks of its parts.
+-- What restoring a trace state requires of its parts.
 use Rattle.std.specs.Prelude.{◌≡◌, ◌⊎◌, IfErr, ℕ, ◌≤◌, ◌^◌, Bool, true, ◌&&◌, ◌||◌, ◌==◌, not, nat_lt, List, Result, length, take, slice_get, Some, if◌then◌else◌}
 use Rattle.std.specs.List.{list_any, list_all}
 use Rattle.hg_model.specs.declared.held.HeldLock.{HeldLock}
@@ -8,11 +8,11 @@ use Rattle.hg_model.specs.declared.verdict.Refusal.TheVariants.{Damaged, OutOfMe
 use Rattle.hg_model.specs.Locks.{has_lock, has_lock_for_writing}
 use Rattle.hg_model.specs.Parts.{Parts}
 
--- the thread holds the same lock, and not both only read under it
+-- the thread holds the same lock, and at least one of the two holds is for writing
 abbrev pub excludes : HeldLock → ThreadState → Bool
 excludes h x = if h.write then has_lock x.held h.lock else has_lock_for_writing x.held h.lock
 
--- a number that is free, and above those of these threads
+-- a number up to 1023, and above those of these threads
 abbrev pub is_next : List ThreadState → ℕ → Bool
 is_next threads t = nat_lt t 1024 && list_all (λ x. nat_lt x.number t) threads
 
@@ -20,11 +20,11 @@ is_next threads t = nat_lt t 1024 && list_all (λ x. nat_lt x.number t) threads
 abbrev pub holds_alive : ThreadState → Bool
 holds_alive x = x.alive || (length x.held == 0)
 
--- A thread may stand behind these: its number is greater, it holds no lock if it is dead, and no lock that one of them excludes.
+-- A thread may come after these: its number is greater, it holds no lock if it is dead, and none of them excludes its locks.
 abbrev pub fits : List ThreadState → ThreadState → Bool
 fits threads x = is_next threads x.number && (holds_alive x && not (list_any (λ h. list_any (excludes h) threads) x.held))
 
--- Each thread may stand behind those before it.
+-- Each thread may come after those before it.
 abbrev pub AreThreads : List ThreadState → Type 0
 AreThreads threads = (k : ℕ) (x : ThreadState) → slice_get threads k ≡ Some x → fits (take k threads) x ≡ true
 
@@ -39,10 +39,10 @@ pub record AreInRange (p : Parts) : Type 0 where
 abbrev pub parts_of : ℕ → ℕ → List ThreadState → List ℕ → Parts
 parts_of events segments threads last = record { events = events; segments = segments; threads = threads; last = last }
 
--- The refusal tells that P does not hold, or that memory ran out.
+-- The refusal is Damaged, and P does not hold, or it is OutOfMemory.
 abbrev pub RefusesUnless : Type 0 → Refusal → Type 0
 RefusesUnless P r = ((r ≡ Damaged) × (P → ⊥)) ⊎ (r ≡ OutOfMemory)
 
--- The refusal tells that these parts are out of range, or that memory ran out.
+-- A refusal is Damaged, and these parts are out of range, or it is OutOfMemory.
 abbrev pub RefusesParts : {T : Type 0} → Parts → Result T Refusal → Type 0
 RefusesParts parts answer = (p : Parts) → p ≡ parts → IfErr answer (RefusesUnless (AreInRange p))

@@ -8,7 +8,7 @@ use Rattle.hg_model.specs.declared.word.HistoryItem.{HistoryItem}
 use Rattle.hg_model.specs.declared.word.WordState.{WordState}
 use Rattle.hg_model.specs.declared.word.WordState.TheVariants.{New, Exclusive, SharedRead, SharedModified}
 
--- How a word's history is shared: not at all, or from an item on, whose segment the one of the item before it does not reach.
+-- A word is unshared, or shared from the first access that is not ordered after the access before it.
 pub data Sharing : Type 0 where
   Unshared : Sharing
   SharedFrom : (previous first : HistoryItem) (later : List HistoryItem) → Sharing
@@ -23,7 +23,7 @@ sharing segments (x ∷ y ∷ items) = if reaches segments x.segment y.segment t
 abbrev pub segment_at : List HistoryItem → ℕ → ℕ
 segment_at items k = slice_index (map (λ i. i.segment) items) k
 
--- The candidate lockset: what the counted locks of all these items have in common.
+-- The candidate lockset: the locks that count for each of these items.
 abbrev pub lockset : List HistoryItem → List ℕ
 lockset [] = []
 lockset (first ∷ later) = filter (λ l. list_all (λ i. contains i.locks l) later) first.locks
@@ -52,7 +52,7 @@ state segments items = state_by (sharing segments items) items
 abbrev pub is_race : List HistoryItem → Bool
 is_race items = list_any (λ i. i.write) items && is_empty (lockset items)
 
--- the event number of the first of the later items at which the items so far are a race
+-- the event number of the first later item at which all items so far are a race
 abbrev pub first_race : List HistoryItem → List HistoryItem → Option ℕ
 first_race front [] = None
 first_race front (x ∷ later) = if is_race (front ++ x ∷ []) then Some x.event else first_race (front ++ x ∷ []) later
@@ -62,7 +62,8 @@ abbrev pub reported_by : Sharing → Option ℕ
 reported_by Unshared = None
 reported_by (SharedFrom previous first later) = first_race [] (first ∷ later)
 
--- The event number of the reported item: the first from the sharing point on at which a write and no common lock stand behind it.
+-- The event number of the reported item, the first racy one: from the sharing point up to it, some item writes and no lock is
+-- common to all.
 abbrev pub reported_item : List Segment → List HistoryItem → Option ℕ
 reported_item segments items = reported_by (sharing segments items)
 

@@ -21,7 +21,7 @@ pub record HasThreadSets (c : Content) : Type 0 where
   pub words : (w : ℕ) → IsThreadSet (threads_in (c.words w))
   pub reports : AllByRecursion (λ r. IsThreadSet r.threads) c.reports
 
--- It is so at the beginning, accepted events keep it, and no such set has more than 1,024 members.
+-- The empty content has such sets, accepted events keep them so, and no set of threads has more than 1,024 members.
 pub record ThreadSetsAreSmall : Type 0 where
   pub start : HasThreadSets empty_content
   pub kept : (c d : Content) (trace : List Named) → followed c trace ≡ Some d → HasThreadSets c → HasThreadSets d

@@ -44,7 +44,7 @@ actor (Free b) = b.t
 abbrev pub has_thread : List ThreadState → ℕ → (ThreadState → Bool) → Bool
 has_thread threads t test = list_any (λ x. (x.number == t) && test x) threads
 
--- no number of a thread or a source is so great
+-- above the greatest number of a thread or a source
 abbrev pub is_above_limit : ℕ → Bool
 is_above_limit n = nat_lt 1023 n
 
@@ -66,7 +66,7 @@ bad_length _ = false
 abbrev pub passes_end : ℕ → ℕ → Bool
 passes_end at len = nat_lt (2 ^ 64) (at + len)
 
--- the bytes of the event do
+-- the bytes of the event pass the end of the addresses
 abbrev pub past_address_end : Event → Bool
 past_address_end (Read a) = passes_end a.at a.len
 past_address_end (Write a) = passes_end a.at a.len
@@ -104,7 +104,7 @@ already_held threads (Lock t l) = has_thread threads t (λ x. has_lock x.held l)
 already_held threads (RdLock t l) = has_thread threads t (λ x. has_lock x.held l)
 already_held threads _ = false
 
--- a lock needs that nobody holds it, a read lock that nobody writes under it
+-- a lock is busy where some thread holds it, a read lock where some thread holds it for writing
 abbrev pub lock_busy : List ThreadState → Event → Bool
 lock_busy threads (Lock t l) = list_any (λ x. has_lock x.held l) threads
 lock_busy threads (RdLock t l) = list_any (λ x. has_lock_for_writing x.held l) threads
@@ -121,7 +121,7 @@ full_held threads (Lock t l) = has_thread threads t (λ x. nat_le 64 (length x.h
 full_held threads (RdLock t l) = has_thread threads t (λ x. nat_le 64 (length x.held))
 full_held threads _ = false
 
--- a fork opens two segments and a join one
+-- the new segments would pass the limit: a fork opens two and a join one
 abbrev pub full_segments : ℕ → Event → Bool
 full_segments segments (Fork p c) = nat_lt 1048576 (segments + 2)
 full_segments segments (Join p c) = nat_lt 1048576 (segments + 1)
@@ -131,7 +131,7 @@ full_segments segments _ = false
 abbrev pub full_events : ℕ → Bool
 full_events events = nat_le (2 ^ 58) events
 
--- What may stand against an event, in the order of testing: its form, the threads, and then the locks and limits.
+-- Causes for a refusal are tested in this order: the event's form, the threads, the locks and limits. Here the last group.
 abbrev pub lock_causes : Standing → Event → List (Bool × Refusal)
 lock_causes s e =
     (already_held s.threads e, AlreadyHeld) ∷ (lock_busy s.threads e, LockBusy) ∷ (not_held s.threads e, NotHeld)
@@ -154,7 +154,7 @@ abbrev pub first_cause : List (Bool × Refusal) → Verdict
 first_cause [] = Accept
 first_cause (cause ∷ later) = if cause.0 then Refuse cause.1 else first_cause later
 
--- A number at or below the last accepted one of its source is a duplicate, and one that is not the next one a gap.
+-- A number at or below the source's last accepted one is a duplicate, and a number above the next one is a gap.
 abbrev pub verdict : Standing → Named → Verdict
 verdict s n =
     if nat_le n.number (s.last n.source) then Duplicate (s.last n.source)
@@ -170,6 +170,6 @@ abbrev pub IsAccepted : List Named → Type 0
 IsAccepted [] = Unit {0}
 IsAccepted (n ∷ past) = IsAccepted past × (verdict (standing_of (summary past)) n ≡ Accept)
 
--- Where the threads are these, some verdict accepts the event.
+-- In some standing with these threads, the event is accepted.
 abbrev pub MayFollow : List ThreadState → Event → Type 0
 MayFollow threads e = (s : Standing) × (n : Named) × (s.threads ≡ threads) × (n.event ≡ e) × (verdict s n ≡ Accept)

@@ -18,7 +18,7 @@ pub struct HeldLock {
 
 /// The locks that a thread holds, at most 64, by rising lock number. A contract sees the list of them.
 ///
-/// Beside it stand the two lists of lock numbers that count for an access, so that neither is made for it.
+/// Two more lists hold the lock numbers that count for a read and for a write, so an access builds no list.
 #[derive(Drop)]
 pub struct HeldLocks {
     holds: ArrayVec<HeldLock, MOST_HELD>,
@@ -42,7 +42,7 @@ impl Model for HeldLocks {
         × (length h.holds.items ≤ 64) };
 }
 
-// The same items, in memory of their own.
+// A copy of the items.
 fn copy_of<T: Copy + Default>(items: &ArrayVec<T, MOST_HELD>) -> ArrayVec<T, MOST_HELD>
     ensures { result.items ≡ items.now.items }
 {
@@ -63,7 +63,7 @@ impl HeldLocks {
         }
     }
 
-    /// The same locks, in memory of their own.
+    /// A copy of the locks.
     pub fn copy(&self) -> Self
         ensures { result ≡ self.now }
     {
@@ -122,7 +122,7 @@ impl HeldLocks {
         count_writer(&mut self.writing, held);
     }
 
-    /// Gives up a lock, and nothing where it is not held.
+    /// Gives up a lock. Does nothing where it is not held.
     pub fn remove(&mut self, lock: u16)
         ensures { self.new ≡ without_lock lock self.old }
     {
@@ -145,7 +145,7 @@ fn put_at<T: Copy>(items: &mut ArrayVec<T, MOST_HELD>, place: usize, item: T)
     items.push(last);
 }
 
-/// The same, within so many items: answers the one that finds no place.
+/// The same in a slice of fixed length. Answers the last item, for which there is no room.
 fn move_on<T: Copy>(items: &mut [T], place: usize, item: T) -> T
     requires { place ≤ length items.old }
     ensures { items.new ++ result ∷ [] ≡ insert items.old place item }
@@ -169,7 +169,7 @@ fn take_out<T: Copy + Default + Drop>(items: &mut ArrayVec<T, MOST_HELD>, place:
     let _last = items.pop();
 }
 
-/// The same, within so many items, of which the last stays where it was.
+/// The same in a slice of fixed length. Its last item stays where it was.
 fn move_back<T: Copy>(items: &mut [T], place: usize)
     requires { place < length items.old }
     ensures len { length items.new ≡ length items.old }
@@ -180,7 +180,7 @@ fn move_back<T: Copy>(items: &mut [T], place: usize)
     }
 }
 
-/// How many of the locks come before this one, which is the place where it stands or belongs.
+/// The place where the lock stands or belongs: the number of locks before it.
 fn place_of(holds: &[HeldLock], lock: u16) -> usize
     ensures place { result ≡ position_or_len (λ h. nat_le lock h.lock) holds.now }
     ensures within { result ≤ length holds.now }
@@ -207,7 +207,7 @@ fn index_of(holds: &[HeldLock], lock: u16) -> Option<usize>
     }
 }
 
-/// How many of the numbers come before this one, which is the place where it stands or belongs.
+/// The place where the number stands or belongs: how many numbers are before it.
 fn place_among(numbers: &[u16], number: u16) -> usize
     ensures place { result ≡ position_or_len (λ n. nat_le number n) numbers.now }
     ensures within { result ≤ length numbers.now }
@@ -220,7 +220,7 @@ fn place_among(numbers: &[u16], number: u16) -> usize
     numbers.len()
 }
 
-/// Adds a lock that is not held yet to the numbers of those that are held in write mode.
+/// Adds a lock that is not held yet to the numbers of the write-mode locks, if it is one.
 fn count_writer(writing: &mut ArrayVec<u16, MOST_HELD>, held: HeldLock)
     requires { length writing.old.items < 64 }
     ensures { writing.new.items ≡ (if held.write then with_number held.lock writing.old.items else writing.old.items) }
@@ -231,7 +231,7 @@ fn count_writer(writing: &mut ArrayVec<u16, MOST_HELD>, held: HeldLock)
     }
 }
 
-/// Takes a number out, and nothing where it is not there.
+/// Takes a number out. Does nothing where it is absent.
 fn leave_out(numbers: &mut ArrayVec<u16, MOST_HELD>, number: u16)
     requires { IsStrictlyIncreasing numbers.old.items }
     ensures { numbers.new.items ≡ without_number number numbers.old.items }

@@ -19,7 +19,7 @@ impl Model for Predecessors {
 }
 
 impl Predecessors {
-    /// The numbers of a vector. Those who make one see that they rise.
+    /// The numbers of a vector. The caller sees to it that they rise.
     pub fn from_vec(numbers: Vec<u32>) -> Self
         ensures { result ≡ numbers.items }
     {

@@ -14,7 +14,7 @@ pub struct ThreadState {
 }
 
 impl ThreadState {
-    /// The same thread, in memory of its own.
+    /// A copy of the thread.
     pub fn copy(&self) -> Self
         ensures { result ≡ self.now }
     {

@@ -53,7 +53,7 @@ IsFlag id rows flag = (flag ≡ true) ↔ (first_of id rows ≡ Some (codes "tru
 abbrev pub IsAddress : List Row → ℕ → Type 0
 IsAddress rows address = (t : Text) × (first_of (codes "ADDRESS") rows ≡ Some t) × (operand_of 64 t ≡ Some address)
 
--- it is none
+-- the text of ADDRESS is no such number
 abbrev pub HasNoAddress : List Row → Type 0
 HasNoAddress rows = (t : Text) × (first_of (codes "ADDRESS") rows ≡ Some t) × (operand_of 64 t ≡ None)
 
@@ -78,7 +78,7 @@ IsTask (name, rows) (task.Explain explaining) = (name ≡ codes "explain") × (f
 IsTask (name, rows) (task.OnStore directory given) =
     (first_of (codes "DIR") rows ≡ Some directory.now) × IsStoreTask name rows given
 
--- no value is what is asked for
+-- no value is asked for
 abbrev pub AsksForNothing : {T : Type 0} → (T → Type 0) → Type 0
 AsksForNothing {T} is_asked = (it : T) → is_asked it → ⊥
 
@@ -94,7 +94,7 @@ SomeKind P kinds = (k : ErrorKind) × IsAmong k kinds × P k
 abbrev pub HasBadAddress : Text × List Row → Type 0
 HasBadAddress (name, rows) = (name ≡ codes "explain") × HasNoAddress rows
 
--- What is asked for lacks something: no value is what is asked for, and that is not for a bad address.
+-- A command lacks something: it asks for no value, and its address is not bad.
 abbrev pub LacksSome : {T : Type 0} → (T → Type 0) → Text × List Row → Type 0
 LacksSome is_asked given = AsksForNothing is_asked × (HasBadAddress given → ⊥)
 
@@ -116,7 +116,7 @@ IsReading kinds command r = MatchResult r
 abbrev pub IsReadBy : App → List Text → Result Task Misread → Type 0
 IsReadBy app words r = IsReading (fault_of app words) (subcommand_of app words) r
 
--- what is told of an error, by whatever kinds of fault it may be one of, and whatever the command was
+-- what is told of an error, for all kinds of fault that it may have and for every command
 abbrev pub IsToldOf : Error → Misread → Type 0
 IsToldOf error r = (kinds : Kinds) (command : Option (Text × List Row)) → HasKind kinds error → IsMisread kinds command r
 

@@ -1,4 +1,4 @@
--- What the proofs of this crate say of commands and words beside what they are.
+-- Relations of commands and words that the proofs of this crate use.
 use Rattle.std.specs.Prelude.{◌≡◌, ℕ, List, String, Result, IfOk, false, map}
 use Rattle.clap.specs.Words.{App, Rule, app_of, rule_of, with_rule, with_subcommand}
 use Rattle.clap.specs.declared.builder.Command.{Command}

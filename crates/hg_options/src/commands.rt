@@ -10,37 +10,37 @@ use clap::builder::ValueParser;
 use clap::{Arg, ArgAction, Command, value_parser};
 use std::alloc::{AllocError, Global};
 
-/// The name of the argument that is a store's directory.
+/// The name of the argument for a store's directory.
 pub const DIRECTORY: &str = "DIR";
 
-/// The name of the argument that is a source.
+/// The name of the argument for a source.
 pub const SOURCE: &str = "SOURCE";
 
 /// The name of the flag that asks for a checkpoint.
 pub const CHECKPOINT: &str = "checkpoint";
 
-/// The name of the option that is a number of pages in memory.
+/// The name of the option for the number of pages in memory.
 pub const FRAMES: &str = "frames";
 
-/// The name of the argument that is a port.
+/// The name of the argument for a port.
 pub const PORT: &str = "PORT";
 
-/// The name of the option that is how many connections are taken.
+/// The name of the option for the number of connections that are taken.
 pub const CONNECTIONS: &str = "connections";
 
-/// The name of the option that is how many workers hold conversations.
+/// The name of the option for the number of workers.
 pub const WORKERS: &str = "workers";
 
-/// The name of the option that is after how many committed events a checkpoint begins.
+/// The name of the option for the number of committed events after which a checkpoint begins.
 pub const EVERY: &str = "every";
 
-/// The name of the option that is how many seconds a client may be silent.
+/// The name of the option for the number of seconds that a client may be silent.
 pub const SILENCE: &str = "silence";
 
-/// The name of the option that is how many threads read a trace.
+/// The name of the option for the number of threads that read a trace.
 pub const JOBS: &str = "jobs";
 
-/// The name of the argument that is the address of a word.
+/// The name of the argument for the address of a word.
 pub const ADDRESS: &str = "ADDRESS";
 
 /// The name of the flag that asks for each line.
@@ -93,7 +93,7 @@ fn option<'a>(alloc: Global, name: &'a str, value: &'a str, help: &'a str) -> Ar
         .help(help)
 }
 
-/// That a checkpoint is made.
+/// The flag for a checkpoint.
 fn checkpoint<'a>(alloc: Global) -> Arg<'a>
     ensures rule { rule_of result ≡ spec.checkpoint }
     ensures local { result.global ≡ false }
@@ -210,7 +210,7 @@ fn address<'a>(alloc: Global) -> Arg<'a>
     )
 }
 
-/// That each line is printed.
+/// The flag for each line.
 fn all<'a>(alloc: Global) -> Arg<'a>
     ensures rule { rule_of result ≡ spec.all }
     ensures local { result.global ≡ false }
@@ -222,7 +222,7 @@ fn all<'a>(alloc: Global) -> Arg<'a>
     )
 }
 
-/// That the last line is told in words.
+/// The flag for the last line in words.
 fn verbose<'a>(alloc: Global) -> Arg<'a>
     ensures rule { rule_of result ≡ spec.verbose }
     ensures local { result.global ≡ false }

@@ -12,7 +12,7 @@ use crate::task::{Explaining, Frames, Jobs, Misread, Serving, Source, StoreTask,
 use clap::ArgMatches;
 use hg_wire::number::number_of_word;
 
-/// The number that an argument spells, or another where it spells none from `low` to `high`.
+/// The number that an argument spells, or `other` where it spells none from `low` to `high`.
 fn number(given: &ArgMatches<'_>, id: &str, low: u16, high: u16, other: u16) -> u16
     ensures { IsNumber id.now low high other (rows_of (found_of given.now)) result }
 {
@@ -28,7 +28,7 @@ fn number(given: &ArgMatches<'_>, id: &str, low: u16, high: u16, other: u16) -> 
     }
 }
 
-/// The same of a number that may be greater.
+/// The same for a number of 32 bits.
 fn wide_number(given: &ArgMatches<'_>, id: &str, low: u32, high: u32, other: u32) -> u32
     ensures { IsNumber id.now low high other (rows_of (found_of given.now)) result }
 {

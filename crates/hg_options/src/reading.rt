@@ -14,7 +14,7 @@ use clap::{ArgMatches, Error};
 use std::alloc::{AllocError, Global};
 use std::string::String;
 
-/// What the words of a command line, of which the first is the program's name, ask for; or what is to be told instead.
+/// What the words of a command line ask for, or what is to be told instead. The first word is the program's name.
 ///
 /// The commands are those of `specs/CommandLine.antt`.
 pub fn read<'a>(alloc: Global, words: &'a [String]) -> Result<Task<'a>, Misread>

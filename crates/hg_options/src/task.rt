@@ -9,7 +9,7 @@ use std::string::String;
 pub enum Task<'a> {
     /// The races of the trace on standard input; and, where `verbose` is set, its last line in words.
     Check { jobs: Jobs, verbose: bool },
-    /// The segments of the trace on standard input, and the same.
+    /// The segments of the trace on standard input; `verbose` as in `Check`.
     Graph { jobs: Jobs, verbose: bool },
     /// The life of a word in the trace on standard input.
     Explain { explaining: Explaining },
@@ -35,15 +35,15 @@ pub enum StoreTask {
         frames: Frames,
         verbose: bool,
     },
-    /// That it accepts the events of the trace on standard input, as those of a source; and, where `checkpoint` is set, that it makes a
-    /// checkpoint at their end.
+    /// To accept the events of the trace on standard input as those of a source; and, where `checkpoint` is set, to make a checkpoint at
+    /// their end.
     Feed {
         source: Source,
         frames: Frames,
         checkpoint: bool,
         verbose: bool,
     },
-    /// That it accepts the events of clients that connect.
+    /// To accept the events of clients that connect.
     Serve {
         serving: Serving,
     },
@@ -54,7 +54,7 @@ pub enum StoreTask {
 pub struct Explaining {
     /// An address in it.
     pub address: u64,
-    /// Whether each access has a line, be it that it changes nothing.
+    /// Whether each access has a line, even if it changes nothing.
     pub all: bool,
 }
 
@@ -104,7 +104,7 @@ pub enum Misread {
     Help(String),
     /// It is a bad one: the text for standard error.
     Bad(String),
-    /// What it names as an address is no number of 64 bits, as a trace writes them.
+    /// Its address is no number of 64 bits as a trace writes them.
     BadAddress,
     /// It has no fault, and yet its command lacks what it needs. No command line is known that ends here.
     Incomplete,

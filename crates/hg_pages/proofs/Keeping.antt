@@ -89,7 +89,7 @@ module _ {D : Type 0} (g : disk.Ghosts D) where
 pub one_at : (file : List ℕ) (at : ℕ) (a b : List ℕ) → length a ≡ length b → Holds file at a → Holds file at b → a ≡ b
 one_at file at a b same one other = sym (read_held file at a one) ∙ ap (λ (n : ℕ). take n (drop at file)) same ∙ read_held file at b other
 
--- what is decoded of a slot stands in the file, and where nothing is decoded, nothing stands there
+-- cells decoded from a slot stand in the file; if nothing is decoded, no page stands there
 pub has_page : (file bytes : List ℕ) (segments slot page : ℕ) (sets : List (List ℕ)) (cells : List Cell) → HasBytes slot bytes file → IsSlot page cells bytes → AreKnown segments sets cells → HasPage segments sets slot page cells file
 has_page file bytes segments slot page sets cells has is known =
     record { stands = record { page_is = is.page_is; bytes = subst (λ (l : List ℕ). HasBytes slot l file) is.spelling has }; known = known }

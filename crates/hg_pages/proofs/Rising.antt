@@ -4,7 +4,7 @@ use Rattle.std.specs.List.{AllByRecursion}
 use Rattle.hg_pages.specs.Tables.{slot_in}
 use Rattle.hg_pages.specs.Marks.{ArePagesRising, AreSlotsDistinct, is_named}
 
--- what holds of each holds of each, where it implies it
+-- a property of each that implies a second one gives the second one of each
 pub each_weaker : (P Q : (ℕ × ℕ) → Type 0) → ((e : ℕ × ℕ) → P e → Q e) → (es : List (ℕ × ℕ)) → AllByRecursion P es → AllByRecursion Q es
 each_weaker P Q implies [] each = tt
 each_weaker P Q implies (e ∷ es) each = (implies e each.0, each_weaker P Q implies es each.1)

@@ -1,4 +1,4 @@
--- How a table finds a page, and a slot that is named. No promise to a caller rests on this.
+-- How a table finds a page and a named slot. No promise to a caller rests on this.
 use Rattle.std.specs.Prelude.{◌≡◌, ◌<◌, ◌≤◌, ◌+◌, ◌==◌, ◌||◌, ℕ, Bool, true, false, List, [], ◌∷◌, ◌++◌, Option, Some, None, length, take, drop, slice_index_or, slice_set}
 use Rattle.std.specs.List.{AllByRecursion}
 
@@ -52,7 +52,7 @@ pub record Parts (page : ℕ) (slot : Option ℕ) (entries : List (ℕ × ℕ)) 
   pub below : AllByRecursion (λ e. e.0 < page) before
   pub above : AllByRecursion (λ e. page < e.0) behind
 
--- The page has this slot, or none, in place of its former one, or of none.
+-- The page has this slot, or none, instead of its former slot, or of none.
 pub record Puts (page : ℕ) (former slot : Option ℕ) (old new : List (ℕ × ℕ)) : Type 0 where
   pub parts : Parts page former old
   pub whole : new ≡ parts.before ++ (entry_of page slot ++ parts.behind)
@@ -62,6 +62,6 @@ abbrev pub cleared : Option ℕ → List Bool → List Bool
 cleared None marks = marks
 cleared (Some slot) marks = slice_set marks slot false
 
--- with the slot's, and without that of the former one
+-- the marks with the slot's, and without that of the former one
 abbrev pub marked : Option ℕ → ℕ → List Bool → List Bool
 marked former slot marks = slice_set (cleared former marks) slot true

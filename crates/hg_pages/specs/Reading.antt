@@ -1,4 +1,4 @@
--- Bytes as a cell, without a look at whether they spell one.
+-- Bytes taken for a cell, without a check that they spell one.
 use Rattle.std.specs.Prelude.{ℕ, ◌+◌, ◌*◌, ◌==◌, List, take, drop, get_or, if◌then◌else◌}
 use Rattle.std.specs.Int.{w32, from_be_bytes}
 use Rattle.hg_cells.specs.declared.cell.Cell.{Cell}
@@ -8,7 +8,7 @@ use Rattle.hg_cells.specs.declared.cell.Cell.TheVariants.{New, Exclusive, Shared
 abbrev pub number_at : List ℕ → ℕ → ℕ
 number_at bytes at = from_be_bytes w32 (take 4 (drop at bytes))
 
--- the cell that these parts are
+-- the cell with these parts
 abbrev pub cell_with : ℕ → ℕ → ℕ → Cell
 cell_with state first second =
     if state == 1 then Exclusive first else

@@ -11,7 +11,8 @@ use Rattle.hg_disk.specs.Laws.{Holds}
 abbrev pub cell_of_parts : ℕ → ℕ → ℕ → ℕ → List ℕ
 cell_of_parts state reported first second = state ∷ reported ∷ 0 ∷ 0 ∷ (to_be_bytes w32 first ++ to_be_bytes w32 second)
 
--- A cell as twelve bytes. A word that was written to while shared was reported exactly where no lock is left, which is set 0.
+-- A cell as twelve bytes. A word that was modified while shared was reported exactly if no lock is left; the set without
+-- locks is set 0.
 abbrev pub cell_text : Cell → List ℕ
 cell_text New = cell_of_parts 0 0 0 0
 cell_text (Exclusive segment) = cell_of_parts 1 0 segment 0
@@ -40,13 +41,14 @@ pub record IsSlot (page : ℕ) (cells : List Cell) (bytes : List ℕ) : Type 0 w
   pub page_is : IsPage page cells
   pub spelling : bytes ≡ slot_text page cells
 
--- The set has this number in the table, and may be the threads of a shared word: two at least, each with a thread's number.
+-- The table has the set with this number, and the set can be the threads of a shared word: at least two numbers, each at
+-- most 1023.
 pub record IsThreadSet (sets : List (List ℕ)) (id : ℕ) : Type 0 where
   pub known : id < length sets
   pub several : 2 ≤ length (set_at sets id)
   pub threads : All (λ t. t ≤ 1023) (set_at sets id)
 
--- What a cell names is there: a segment below this number, and sets of the table.
+-- A cell names only a known segment, below this number, and known sets, those of the table.
 abbrev pub IsKnown : ℕ → List (List ℕ) → Cell → Type 0
 IsKnown segments sets New = Unit {0}
 IsKnown segments sets (Exclusive segment) = segment < segments
@@ -57,11 +59,11 @@ IsKnown segments sets (SharedModified threads locks) = IsThreadSet sets threads 
 abbrev pub AreKnown : ℕ → List (List ℕ) → List Cell → Type 0
 AreKnown segments sets cells = AllByRecursion (IsKnown segments sets) cells
 
--- The bytes are not the slot of a page that names only what is there.
+-- The bytes are not a slot of the page with known segments and sets only.
 abbrev pub IsNoKnownSlot : (page segments : ℕ) → List (List ℕ) → (bytes : List ℕ) → Type 0
 IsNoKnownSlot page segments sets bytes = (cells : List Cell) → IsSlot page cells bytes → ¬ AreKnown segments sets cells
 
--- The bytes are this cell, and what it names is there.
+-- The bytes are this cell, and it names only known segments and sets.
 abbrev pub IsKnownCell : (segments : ℕ) → List (List ℕ) → (bytes : List ℕ) → Cell → Type 0
 IsKnownCell segments sets bytes cell = CellFits cell × IsKnown segments sets cell × (bytes ≡ cell_text cell)
 
@@ -82,11 +84,11 @@ pub record HasSlot (slot page : ℕ) (cells : List Cell) (file : List ℕ) : Typ
 abbrev pub IsOutside : (slot : ℕ) → (file : List ℕ) → Type 0
 IsOutside slot file = (bytes : List ℕ) → ¬ HasBytes slot bytes file
 
--- The same, and what its cells name is there.
+-- The slot of the file has the page with these cells, and they name only known segments and sets.
 pub record HasPage (segments : ℕ) (sets : List (List ℕ)) (slot page : ℕ) (cells : List Cell) (file : List ℕ) : Type 0 where
   pub stands : HasSlot slot page cells file
   pub known : AreKnown segments sets cells
 
--- P has one page at most, with one list of cells.
+-- P holds for at most one page, with one list of cells.
 abbrev pub HasOnePage : (ℕ → List Cell → Type 0) → Type 0
 HasOnePage P = (page other : ℕ) (cells others : List Cell) → P page cells → P other others → (page ≡ other) × (cells ≡ others)

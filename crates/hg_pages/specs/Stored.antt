@@ -5,10 +5,11 @@ use Rattle.hg_cells.specs.declared.cell.Cell.TheVariants.{New}
 use Rattle.hg_pages.specs.Reading.{cell_bytes, cell_in}
 use Rattle.hg_pages.specs.Slots.{HasSlot}
 
--- The cell that stands for a word in a slot of a file, whatever its bytes are. Where the slot has a page, it is the page's.
+-- The cell that the bytes of a slot give for a word, whatever these bytes are. If the slot has a page, it is the page's
+-- cell.
 abbrev pub cell_in_slot : List ℕ → ℕ → ℕ → Cell
 cell_in_slot file slot word = cell_in (cell_bytes (take 3080 (drop (3080 * slot) file)) word)
 
--- Where the slot has the page, the word's cell that stands there is the page's.
+-- If the slot has the page, the cell that its bytes give for the word is the page's.
 abbrev pub StoresCell : (slot page word : ℕ) → List Cell → (file : List ℕ) → Type 0
 StoresCell slot page word cells file = HasSlot slot page cells file → cell_in_slot file slot word ≡ get_or cells word New

@@ -2,8 +2,8 @@
 use Rattle.std.specs.Prelude.{◌≡◌, ◌≢◌, ◌<◌, ◌≤◌, ◌+◌, ◌==◌, ℕ, List, [], ◌∷◌, Option, Some, None, MatchOption, is_some, length, slice_get, map, AllPairs, if◌then◌else◌}
 use Rattle.std.specs.List.Sorted.{IsStrictlyIncreasing}
 
--- The entries of a table, a page and its slot each; how many entries its memory is for; and the slots below which it has memory to
--- say that they are named.
+-- What contracts see of a table: the entries, each a page and its slot; for how many entries it has memory; and the number
+-- below which slots can be named without new memory.
 pub record ShownTable : Type 0 where
   pub entries : List (ℕ × ℕ)
   pub capacity : ℕ
@@ -18,7 +18,7 @@ slot_in (e ∷ entries) page = if e.0 == page then Some e.1 else slot_in entries
 abbrev pub IsNamed : List (ℕ × ℕ) → ℕ → Type 0
 IsNamed entries slot = (page : ℕ) × (slot_in entries page ≡ Some slot)
 
--- What holds of the entries of each table: pages rise, and no slot has two pages.
+-- The entries of a table: their pages rise, and no slot has two pages.
 pub record AreEntries (entries : List (ℕ × ℕ)) : Type 0 where
   pub rising : IsStrictlyIncreasing (map (λ e. e.0) entries)
   pub distinct : AllPairs ◌≢◌ (map (λ e. e.1) entries)
@@ -27,11 +27,11 @@ pub record AreEntries (entries : List (ℕ × ℕ)) : Type 0 where
 abbrev pub SomeNames : List ShownTable → ℕ → Type 0
 SomeNames tables slot = (i : ℕ) × (table : ShownTable) × (slice_get tables i ≡ Some table) × IsNamed table.entries slot
 
--- each slot from the one on, up to the other, is named
+-- each slot from `from` up to `to`, without `to`, is named
 abbrev pub EachNamed : (ℕ → Type 0) → ℕ → ℕ → Type 0
 EachNamed named from to = (slot : ℕ) → from ≤ slot → slot < to → named slot
 
--- the least slot up to the most that no table names, or none where each is named
+-- the least slot below `most` that no table names, or none if each is named
 abbrev pub IsLeastFree : List ShownTable → (most : ℕ) → Option ℕ → Type 0
 IsLeastFree tables most found =
     MatchOption found (EachNamed (SomeNames tables) 0 most) (λ free. (free < most) × (¬ SomeNames tables free) × EachNamed (SomeNames tables) 0 free)
@@ -42,11 +42,11 @@ IsLeastFreeFrom from tables most found =
     MatchOption found (EachNamed (SomeNames tables) from most)
     (λ free. (from ≤ free) × (free < most) × (¬ SomeNames tables free) × EachNamed (SomeNames tables) from free)
 
--- The page has the slot, and each other page the one that it had.
+-- The page has the slot; each other page keeps its own.
 abbrev pub GivesSlot : (page slot : ℕ) → (old new : List (ℕ × ℕ)) → Type 0
 GivesSlot page slot old new = (other : ℕ) → slot_in new other ≡ (if page == other then Some slot else slot_in old other)
 
--- The page has none, and each other page the one that it had.
+-- The page has no slot; each other page keeps its own.
 abbrev pub LosesPage : (page : ℕ) → (old new : List (ℕ × ℕ)) → Type 0
 LosesPage page old new = (other : ℕ) → slot_in new other ≡ (if page == other then None else slot_in old other)
 
@@ -62,7 +62,7 @@ FindsListed entries place page slot = AreEntries entries → slice_get entries p
 abbrev pub ListsFound : List (ℕ × ℕ) → (page slot : ℕ) → Type 0
 ListsFound entries page slot = slot_in entries page ≡ Some slot → (place : ℕ) × (slice_get entries place ≡ Some (page, slot))
 
--- pages that have the slot are one,
+-- at most one page has the slot,
 abbrev pub AreOneIn : (slot : ℕ) → List (ℕ × ℕ) → (page other : ℕ) → Type 0
 AreOneIn slot entries page other = AreEntries entries → slot_in entries page ≡ Some slot → slot_in entries other ≡ Some slot → page ≡ other
 

@@ -50,7 +50,7 @@ fn number(bytes: &[u8], at: usize) -> u32
     u32::from_be_bytes([part[0], part[1], part[2], part[3]])
 }
 
-// The cell that these parts are; a new word's where the state is none.
+// The cell with these parts; `New` for every state but 1, 2 and 3.
 fn cell_from(state: u8, first: u32, second: u32) -> Cell
     ensures { result ≡ cell_with state first second }
 {
@@ -62,7 +62,8 @@ fn cell_from(state: u8, first: u32, second: u32) -> Cell
     }
 }
 
-/// The cell that twelve bytes spell, or none where they spell none. A cell has one spelling: the bytes are compared with it.
+/// The cell that twelve bytes spell, or none if they spell none. A cell has one spelling, and the bytes are compared with
+/// it.
 pub(crate) fn cell_of(bytes: &[u8]) -> Option<Cell>
     requires { length bytes.now ≡ CELL_LEN }
     ensures some { IfSome result (λ cell. CellFits cell × (bytes.now ≡ cell_text cell)) }
@@ -77,7 +78,7 @@ pub(crate) fn cell_of(bytes: &[u8]) -> Option<Cell>
     }
 }
 
-// Whether the set may be the threads of a shared word.
+// Whether this set can be the set of threads of a shared word.
 fn is_thread_set(sets: &SetTable, id: u32) -> bool
     ensures { IsTrue result ↔ IsThreadSet sets.now.sets id }
 {

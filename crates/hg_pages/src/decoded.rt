@@ -26,9 +26,9 @@ pub(crate) fn page_in(bytes: &[u8]) -> u64
     ])
 }
 
-/// The cells of a page from the bytes of its slot, or none where these bytes are not its slot: another page's number, a cell
-/// that is spelled otherwise, a segment that is not below the number of segments, a set that the table does not have, or a
-/// set of threads with fewer than two members or with one above 1023. Takes no memory.
+/// The cells of a page from the bytes of its slot, or none if these bytes are not its slot. They are not if they have
+/// another page's number, a cell with a wrong spelling, a segment that is not below `segments`, a set that the table does
+/// not have, or a set of threads with fewer than two members or a member above 1023. Takes no memory.
 pub fn decode(bytes: &[u8], page: u64, segments: u32, sets: &SetTable) -> Option<Page>
     requires { length bytes.now ≡ SLOT_LEN }
     ensures some { IfSome result (λ cells. IsSlot page cells bytes.now × AreKnown segments sets.now.sets cells) }
@@ -47,7 +47,7 @@ pub fn decode(bytes: &[u8], page: u64, segments: u32, sets: &SetTable) -> Option
     Some(cells)
 }
 
-// The cell of a word, if it is spelled as it has to be, and what it names is there.
+// The cell of a word, if it is spelled right and names only known segments and sets.
 fn known_cell(bytes: &[u8], word: usize, segments: u32, sets: &SetTable) -> Option<Cell>
     requires word { word < 256 }
     requires length { length bytes.now ≡ SLOT_LEN }

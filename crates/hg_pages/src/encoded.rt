@@ -38,7 +38,7 @@ impl Model for EncodedPage {
 }
 
 impl EncodedPage {
-    /// Bytes that stand for the page of this number. Whether they are its slot is not looked at.
+    /// Takes these bytes for the slot of this page, without a check.
     pub fn of(page: u64, bytes: Vec<u8>) -> EncodedPage
         requires { length bytes.items ≡ SLOT_LEN }
         ensures page { result.page ≡ page }
@@ -103,7 +103,7 @@ fn is_text(bytes: &[u8], page: u64, cells: &Page) -> bool
     true
 }
 
-/// A page as the bytes of its slot. The only error is want of memory, of which it takes 3,080 bytes.
+/// A page as the bytes of its slot. It takes 3,080 bytes of memory; the only error is want of memory.
 pub fn encode(alloc: Global, page: u64, cells: &Page) -> Result<EncodedPage, AllocError>
     ensures page { IfOk result (λ encoded. encoded.page ≡ page) }
     ensures bytes { IfOk result (λ encoded. encoded.bytes ≡ slot_text page cells.now) }

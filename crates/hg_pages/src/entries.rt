@@ -1,4 +1,4 @@
-//! Entries by rising page, found by halving.
+//! Entries by rising page, found by binary search.
 ghost use Rattle.std.specs.Prelude.{◌≡◌, ◌<◌, ◌≤◌, Some, None, length, take, drop, vec_capacity, IsOk, OnErr, IfOk, MatchResult, IsTrue, is_some};
 ghost use Rattle.std.specs.List.{AllByRecursion};
 ghost use Rattle.hg_pages.specs.Marks.{ArePagesRising, BelongsAt, Puts, StandsAt};
@@ -6,7 +6,7 @@ ghost use Rattle.hg_pages.specs.Tables.{slot_in};
 
 use std::alloc::AllocError;
 
-// Where the page stands, or else where it belongs.
+// The place of the page, or else the place where it belongs.
 fn place_of(entries: &[(u64, u32)], page: u64) -> Result<usize, usize>
     requires { ArePagesRising entries.now }
     ensures { MatchResult result (StandsAt page entries.now) (BelongsAt page entries.now) }

@@ -1,4 +1,4 @@
-//! Pages as bytes, the tables that say where they lie, and the file of slots in which they lie.
+//! Pages as bytes, the file of slots that they lie in, and the tables that say which slot a page has.
 #![tactic(auto)]
 
 mod cell;

@@ -48,7 +48,7 @@ fn sync<D: Disk>(disk: &mut D) -> Result<(), DiskFault>
 pub struct SlotFile<D: Disk> {
     disk: D,
     is_broken: bool,
-    // The disk before the last call that was to change it.
+    // The disk before the last write or sync.
     before: Snapshot<D>,
 }
 
@@ -106,15 +106,16 @@ impl<D: Disk> SlotFile<D> {
         end <= self.disk.len()
     }
 
-    /// The least slot that no handed table names, or none where each of the 1,048,576 is named. It makes no device call.
+    /// The least slot that none of the tables names, or none if each of the 1,048,576 slots is named. It makes no device
+    /// call.
     pub fn free_slot(&self, tables: &[&Table]) -> Option<u32>
         ensures { IsLeastFree (map (λ t. t.now) tables.now) MOST_SLOTS result }
     {
         self.free_slot_from(0, tables)
     }
 
-    /// The least slot from this one on that no handed table names. Whoever picks several goes on behind the last one: a search
-    /// looks at no slot twice then, however many pages there are. It makes no device call.
+    /// The least slot from this one on that none of the tables names. To pick several slots, start each search behind the
+    /// last one found: then no slot is looked at twice. It makes no device call.
     pub fn free_slot_from(&self, from: u32, tables: &[&Table]) -> Option<u32>
         ensures { IsLeastFreeFrom from (map (λ t. t.now) tables.now) MOST_SLOTS result }
     {
@@ -126,10 +127,10 @@ impl<D: Disk> SlotFile<D> {
         None
     }
 
-    /// Puts a page into a slot, which a sync makes durable. The file may grow, by slots in between too. It makes one device
-    /// call. After an `Err` each later call but `into_disks` answers `Broken`.
+    /// Puts a page into a slot. A `seal` makes it durable. The file may grow, also by the slots in between. It makes one
+    /// device call. After an `Err` each later call but `into_disks` answers `Broken`.
     ///
-    /// Whatever a crash at any moment leaves in another slot, it leaves there still.
+    /// If each image has the same bytes in another slot, a crash at any moment of the call leaves them there.
     pub fn write(&mut self, slot: u32, page: &EncodedPage) -> Result<(), WriteFault>
         ensures written { OnOk result (HasBytes slot page.now.bytes (known ⟦<D as Disk>⟧ self.new)) }
         ensures others { KeepsOthers ⟦<D as Disk>⟧ slot self.old self.new result }
@@ -137,13 +138,13 @@ impl<D: Disk> SlotFile<D> {
         // The file ends where it ended, or where the slot does.
         ensures length { OnOk result (GrowsToSlot ⟦<D as Disk>⟧ slot self.old self.new) }
 
-        // What a read gives after a failure is left open; what is known is what it gave before.
+        // After a failure it is open what a read gives; `known` is what it gave before.
         ensures lost { OnErr result (known ⟦<D as Disk>⟧ self.new ≡ known ⟦<D as Disk>⟧ self.old) }
 
-        // What each image has in another slot, it has at each moment of the call.
+        // Bytes that each image has in another slot stay there at each moment of the call.
         ensures any_moment { LeavesOthers ⟦<D as Disk>⟧ slot self.old self.new }
 
-        // No image gets shorter than each was.
+        // If each image has at least n bytes, so has each image at each moment of the call.
         ensures long { (n : ℕ) → IsNeverShorter ⟦<D as Disk>⟧ n (disk_of self.old) (disk_of self.new) }
 
         ensures calls { CallsAtMost ⟦<D as Disk>⟧ 1 (disk_of self.old) (disk_of self.new) }
@@ -188,9 +189,9 @@ impl<D: Disk> SlotFile<D> {
         Ok(synced?)
     }
 
-    /// What stands in a slot, under the page's number that it begins with. Whether it is a page's slot is not looked at. `Damaged`
-    /// where the slot does not lie within the file. The file stays as it is, and after an `Err` it can be tried again. It makes
-    /// one device call at most, and takes 3,080 bytes of memory.
+    /// The bytes of a slot, with the page's number that they begin with. There is no check that they are a page's slot.
+    /// `Damaged` if the slot does not lie within the file. The file stays as it is, and after an `Err` it can be tried
+    /// again. It makes one device call at most, and takes 3,080 bytes of memory.
     pub fn read(&mut self, alloc: Global, slot: u32) -> Result<EncodedPage, SlotFault>
         ensures read { IsTrue D.is_honest → IfOk result (StandsIn slot (known ⟦<D as Disk>⟧ self.old)) }
         ensures number { IfOk result (λ found. to_be_bytes w64 found.page ≡ take 8 found.bytes) }
@@ -214,9 +215,9 @@ impl<D: Disk> SlotFile<D> {
         Ok(EncodedPage::of(page, bytes))
     }
 
-    /// The cells of a page from its slot, checked against the number of segments and the table of sets. `Damaged` where the slot
-    /// is not that of this page, as `decode` says, or does not lie within the file. The file stays as it is, and after an `Err`
-    /// it can be tried again. It makes one device call at most, and takes no memory.
+    /// The cells of a page from its slot, checked against the number of segments and the table of sets. `Damaged` if the
+    /// slot is not the slot of this page (`decode`), or does not lie within the file. The file stays as it is, and after an
+    /// `Err` it can be tried again. It makes one device call at most, and takes no memory.
     pub fn read_page(
         &mut self,
         slot: u32,
@@ -227,7 +228,7 @@ impl<D: Disk> SlotFile<D> {
         ensures read { ReadsPage ⟦<D as Disk>⟧ self.old slot page segments sets.now.sets result }
         ensures damaged { TellsTrueDamage ⟦<D as Disk>⟧ self.old slot page segments sets.now.sets result }
 
-        // Also of a disk that lies: what is named is there.
+        // Even on a disk that lies, the cells name only known segments and sets.
         ensures named { IfOk result (AreKnown segments sets.now.sets) }
         ensures memory { ¬ IsErrOf result SlotFault.OutOfMemory }
         ensures known { known ⟦<D as Disk>⟧ self.new ≡ known ⟦<D as Disk>⟧ self.old }

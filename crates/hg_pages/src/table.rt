@@ -10,8 +10,9 @@ use std::marker::Model;
 
 /// A table of pages, each with the slot that it lies in. No slot has two pages.
 ///
-/// Contracts see its entries by rising page, for how many of them it has memory, and up to which slot it has memory to say that
-/// slots are named: an entry takes 16 bytes, and each slot up to the greatest one byte.
+/// Contracts see its entries by rising page, the number of entries that its memory is for (`capacity`), and the number
+/// below which slots can be named without new memory (`slots`). An entry takes 16 bytes, and each slot up to the greatest
+/// takes one byte.
 pub struct Table {
     entries: Vec<(u64, u32)>,
     // Whether each slot is named.
@@ -41,7 +42,7 @@ impl Model for Table {
 }
 
 impl Table {
-    /// A table of no pages. It takes no memory.
+    /// An empty table. It takes no memory.
     pub fn new(alloc: Global) -> Self
         ensures { result.entries ≡ [] }
     {
@@ -51,8 +52,8 @@ impl Table {
         }
     }
 
-    /// A table of these entries, which are in order. The only error is want of memory, of which it takes a byte for each slot up to
-    /// the greatest.
+    /// A table of these entries, which are in order. The only error is want of memory: it takes one byte for each slot up
+    /// to the greatest.
     pub fn from_entries(alloc: Global, entries: Vec<(u64, u32)>) -> Result<Self, AllocError>
         requires { AreEntries entries.items }
         ensures { IfOk result (λ table. table.entries ≡ entries.items) }
@@ -106,7 +107,7 @@ impl Table {
         slot < self.named.len() && self.named[slot]
     }
 
-    /// Makes room for so many entries more, and for slots below this number. An `Err` leaves the entries as they are.
+    /// Makes room for `more` more entries, and for slots below `slots`. An `Err` leaves the entries as they are.
     pub fn reserve(&mut self, more: usize, slots: u32) -> Result<(), AllocError>
         ensures entries { self.new.entries ≡ self.old.entries }
         ensures capacity { OnOk result (length self.old.entries + more ≤ self.new.capacity) }
@@ -117,8 +118,8 @@ impl Table {
         reach(&mut self.named, slots as usize)
     }
 
-    /// Gives a page a slot in which no other page lies, in place of its former one. It takes no memory where there is room for the
-    /// slot, and the page has one already or there is room for its entry.
+    /// Gives a page a slot in which no other page lies, in place of its former one. It takes no memory if there is room for
+    /// the slot, and if the page has an entry already or there is room for a new one.
     pub fn set(&mut self, page: u64, slot: u32) -> Result<(), AllocError>
         requires free { (other : ℕ) → slot_in self.old.entries other ≡ Some slot → other ≡ page }
         ensures ok { OnOk result (GivesSlot page slot self.old.entries self.new.entries) }
@@ -135,7 +136,7 @@ impl Table {
         Ok(())
     }
 
-    /// Takes a page out, and answers the slot that it had. It takes no memory, and leaves the room for its entry.
+    /// Takes a page out, and answers the slot that it had. It takes no memory, and keeps the room of the entry.
     pub fn remove(&mut self, page: u64) -> Option<u32>
         ensures answer { result ≡ slot_in self.old.entries page }
         ensures removed { LosesPage page self.old.entries self.new.entries }
@@ -159,7 +160,7 @@ impl Table {
     }
 }
 
-// Makes marks for so many slots, if there are fewer.
+// Makes marks for `slots` slots, if there are fewer.
 fn reach(named: &mut Vec<bool>, slots: usize) -> Result<(), AllocError>
     ensures reached { OnOk result (slots ≤ length named.new.items) }
     ensures same { (slot : ℕ) → slice_index_or named.new.items slot false ≡ slice_index_or named.old.items slot false }

@@ -6,7 +6,7 @@ use Rattle.hg_model.specs.declared.word.HistoryItem.{HistoryItem}
 use Rattle.hg_model.specs.Sharing.{Sharing, Unshared, SharedFrom}
 use Rattle.hg_model.specs.Verdicts.{past_address_end}
 
--- the sharing that begins with the item before the sharing point, and none where there is no such point
+-- the sharing of items that begin with the one before the sharing point; Unshared for fewer than two items
 abbrev pub sharing_in : List HistoryItem → Sharing
 sharing_in [] = Unshared
 sharing_in (x ∷ []) = Unshared

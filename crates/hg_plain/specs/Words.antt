@@ -1,4 +1,4 @@
--- What the slow program finds of words, by the definitions: their states and their reports.
+-- The states and the reports of words, as the slow program computes them.
 use Rattle.std.specs.Prelude.{ℕ, Bool, List, map, filter}
 use Rattle.std.specs.List.{list_any}
 use Rattle.hg_model.specs.declared.event.Event.{Event}
@@ -11,11 +11,11 @@ use Rattle.hg_model.specs.Segments.{segments_of}
 use Rattle.hg_model.specs.Sets.{set_of}
 use Rattle.hg_model.specs.Sharing.{lockset, shared, state}
 
--- the state of a word that the threads of the users share, where sharing begins with these items
+-- the state of a shared word: `users` give the threads, and `items`, from the sharing point on, the locks and the writes
 abbrev pub shared_state : List HistoryItem → List HistoryItem → WordState
 shared_state users items = shared (list_any (λ i. i.write) items) (set_of (map (λ i. i.thread) users)) (lockset items)
 
--- the reports of those of the words that are reported at the last event, an access by thread t
+-- the reports of these words at the last event, an access by thread t
 abbrev pub reports_among : List Event → ℕ → Bool → List ℕ → List Report
 reports_among trace t write words = map (report trace t write) (filter (is_reported trace) words)
 

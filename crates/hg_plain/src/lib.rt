@@ -22,7 +22,7 @@ use hg_model::sets::NumberSet;
 use hg_model::word::{HistoryItem, WordState};
 use std::alloc::{AllocError, Global};
 
-/// The set with one number more, unless it has it.
+/// The set with this number added, if it is absent.
 pub fn with_member(alloc: Global, set: &[u16], number: u16) -> Result<Vec<u16>, AllocError>
     ensures { IfOk result (λ v. v.items ≡ sets.with_member set.now number) }
 {
@@ -316,7 +316,7 @@ pub fn history_of(alloc: Global, word: u64, past: &[Event]) -> Result<Vec<Histor
     }
 }
 
-/// The items from the one before the sharing point on, and none or one where there is no such point.
+/// The items from the one before the sharing point on. Where there is no such point, at most one item.
 fn shared_from<'a>(segments: &[Segment], items: &'a [HistoryItem]) -> &'a [HistoryItem]
     ensures { sharing.sharing segments.now items.now ≡ sharing_in result.now }
 {
@@ -380,7 +380,8 @@ fn is_race(alloc: Global, first: &HistoryItem, later: &[HistoryItem]) -> Result<
     Ok(writes(first, later) && candidates.is_empty())
 }
 
-/// The event number of the first item at which the items so far are a race, `count` of the later ones being none yet.
+/// The event number of the first item at which the items so far are a race. The search starts behind the first `count` of
+/// the later items.
 fn first_race(
     alloc: Global,
     first: &HistoryItem,
@@ -599,7 +600,7 @@ pub fn all_reports(alloc: Global, trace: &[Event]) -> Result<Vec<Report>, AllocE
     Ok(reports)
 }
 
-/// All reports of a trace that is given in its order.
+/// All reports of a trace that is given oldest event first.
 pub fn reports_of(alloc: Global, events: &[Event]) -> Result<Vec<Report>, AllocError>
     requires few { length events.now < 2 ^ 20 }
     requires space { InSpace (reverse events.now) }
@@ -609,7 +610,7 @@ pub fn reports_of(alloc: Global, events: &[Event]) -> Result<Vec<Report>, AllocE
     all_reports(alloc, &trace)
 }
 
-/// The state of a word after a trace that is given in its order. Word w is the four bytes from the address 4 * w on.
+/// The state of a word after a trace that is given oldest event first. Word w is the four bytes from the address 4 * w on.
 pub fn state_of(alloc: Global, events: &[Event], word: u64) -> Result<WordState, AllocError>
     requires { length events.now < 2 ^ 20 }
     ensures { IfOk result (λ s. s ≡ state_after (reverse events.now) word) }

@@ -11,7 +11,7 @@ use Rattle.hg_pool.specs.declared.frame.Frame.{Frame}
 use Rattle.hg_pool.specs.Maps.{copy_in, frame_in, is_broken}
 use Rattle.hg_pool.specs.Shown.{ShownPool}
 
--- what a refused freeze is told as
+-- the refusal that tells a refused freeze
 abbrev pub refusal_of : FreezeFault → Refusal
 refusal_of fault.FullSlots = refusal.FullSlots
 refusal_of fault.OutOfMemory = refusal.OutOfMemory
@@ -24,7 +24,7 @@ IsTaken p slot = IsNamed p.root slot ⊎ (IsNamed p.frozen slot ⊎ (IsNamed p.l
 abbrev pub IsFull : {D : Type 0} → ShownPool D → Type 0
 IsFull p = (slot : ℕ) → slot < p.slots → IsTaken p slot
 
--- A refusal is told only where its cause holds, as the pool stands then: an eviction may have taken the last slot.
+-- A refusal is told only if its cause holds in the pool as it is then: an eviction may have taken the last slot.
 abbrev pub IsTrueCause : {D : Type 0} → ShownPool D → ShownPool D → Refusal → Type 0
 IsTrueCause old new refusal.Broken = IsTrue (is_broken new)
 IsTrueCause old new refusal.FullSlots = IsFull new
@@ -38,11 +38,12 @@ abbrev pub least_of : List (ℕ × ℕ) → Option ℕ
 least_of [] = None
 least_of (e ∷ rest) = Some e.0
 
--- the pages in memory, that used last first
+-- the pages in memory, the page used last first
 abbrev pub order_of : {D : Type 0} → ShownPool D → List ℕ
 order_of p = map (λ e. e.0) p.frames
 
--- The same after this page was used: it is first. Where it was not in memory and all frames were taken, the last one left.
+-- The pages in memory after this page was used: it is first. If it was not in memory and all frames were taken, the last
+-- page left.
 abbrev pub order_with : {D : Type 0} → ShownPool D → ℕ → List ℕ
 order_with p page = page ∷ (if is_some (frame_in p.frames page) then remove_key (nat_eq page) (order_of p) else take (p.most_frames - 1) (order_of p))
 
@@ -50,6 +51,7 @@ order_with p page = page ∷ (if is_some (frame_in p.frames page) then remove_ke
 abbrev pub IsDirty : {D : Type 0} → ShownPool D → ℕ → Type 0
 IsDirty p page = (f : Frame) × (frame_in p.frames page ≡ Some f) × IsTrue f.is_dirty
 
--- These are the cells of a page that waits: those that were copied, or else those in its frame, which was not changed since.
+-- These are the frozen cells of a waiting page: its copy, or without a copy the cells of its frame, which was not changed
+-- since.
 abbrev pub IsFrozen : {D : Type 0} → ShownPool D → ℕ → List Cell → Type 0
 IsFrozen p page cells = (copy_in p.copies page ≡ Some cells) ⊎ ((copy_in p.copies page ≡ None) × (f : Frame) × (frame_in p.frames page ≡ Some f) × (f.cells ≡ cells))

@@ -1,4 +1,4 @@
--- What the contracts of a pool's calls say.
+-- Definitions for the contracts of a pool's calls.
 use Rattle.std.specs.Prelude.{◌≡◌, ◌≢◌, ◌⊎◌, ◌↔◌, ◌+◌, ◌-◌, ◌/◌, ◌%◌, ◌<◌, ◌≤◌, ◌==◌, ◌&&◌, ◌++◌, ℕ, nat_eq, nat_le, nat_lt, List, [], ◌∷◌, length, take, get_or, Bool, true, false, Option, Some, None, Result, is_some, IsTrue, OnOk, IfOk, IfErr, MatchOption, if◌then◌else◌}
 use Rattle.std.specs.Set.{remove_key}
 use Rattle.hg_model.specs.declared.verdict.Refusal.{Refusal}
@@ -28,11 +28,11 @@ use Rattle.hg_pool.specs.Picking.{HasDirty, IsLeastFree}
 use Rattle.hg_pool.specs.Shown.{ShownPool}
 use Rattle.hg_recency.specs.Entries.{IsFree}
 
--- The table has no slot for this page, and for the others what it had.
+-- The new table has no slot for this page; each other page keeps its own.
 abbrev pub IsWithout : (page : ℕ) → (old new : List (ℕ × ℕ)) → Type 0
 IsWithout page old new = (q : ℕ) → slot_in new q ≡ (if page == q then None else slot_in old q)
 
--- The table has this slot for this page, and for the others what it had.
+-- The new table has this slot for this page; each other page keeps its own.
 abbrev pub IsWith : (page slot : ℕ) → (old new : List (ℕ × ℕ)) → Type 0
 IsWith page slot old new = (q : ℕ) → slot_in new q ≡ (if page == q then Some slot else slot_in old q)
 
@@ -44,46 +44,47 @@ NamesDirty frames table = (q : ℕ) → (is_some (slot_in table q) ≡ true) ↔
 abbrev pub IsClean : List (ℕ × Frame) → (page : ℕ) → Type 0
 IsClean frames page = (f : Frame) → frame_in frames page ≡ Some f → f.is_dirty ≡ false
 
--- What is in memory of the first is in memory of the second.
+-- Each page in the first frames is in the second ones too.
 abbrev pub ArePagesOf : (some all : List (ℕ × Frame)) → Type 0
 ArePagesOf some all = (q : ℕ) → is_some (frame_in some q) ≡ true → is_some (frame_in all q) ≡ true
 
--- What was copied still is.
+-- Each page that had a copy has one still.
 abbrev pub KeepsCopies : (old new : List (ℕ × List Cell)) → Type 0
 KeepsCopies old new = (q : ℕ) → is_some (copy_in old q) ≡ true → is_some (copy_in new q) ≡ true
 
--- What is in memory names only known segments and sets, of so many at least, where it did before.
+-- If the cells in memory named only segments below n and sets below m, they do so still, for n and m not below these
+-- counts.
 abbrev pub StayWithin : (segments sets : ℕ) → (old new : List (ℕ × Frame)) → Type 0
 StayWithin segments sets old new = (n m : ℕ) → segments ≤ n → sets ≤ m → AreWithin old n m → AreWithin new n m
 
--- The frame of the page is as it was, but not changed since, and other pages have theirs.
+-- The frame of the page has its cells but is clean now; each other page keeps its frame.
 abbrev pub CleansFrame : (page : ℕ) → (old new : List (ℕ × Frame)) → Type 0
 CleansFrame page old new =
     (f : Frame) → frame_in old page ≡ Some f
     → (q : ℕ) → frame_in new q ≡ (if page == q then Some (record f { is_dirty = false }) else frame_in old q)
 
--- The frame of the page has a cell from one place up to another, and other pages have theirs.
+-- The frame of the page has the cell from `from` up to `to`, and is dirty; each other page keeps its frame.
 abbrev pub FillsFrame : (page from to : ℕ) → Cell → (old new : List (ℕ × Frame)) → Type 0
 FillsFrame page from to cell old new =
     (f : Frame) → frame_in old page ≡ Some f
     → (q : ℕ) → frame_in new q ≡ (if page == q then Some (record { cells = filled f.cells from to cell; is_dirty = true }) else frame_in old q)
 
--- The same of a frame of 256 cells.
+-- The same, and the frame had 256 cells.
 abbrev pub FillsPage : (page from to : ℕ) → Cell → (old new : List (ℕ × Frame)) → Type 0
 FillsPage page from to cell old new =
     (f : Frame) → frame_in old page ≡ Some f
     → (length f.cells ≡ 256) × ((q : ℕ) → frame_in new q ≡ (if page == q then Some (record { cells = filled f.cells from to cell; is_dirty = true }) else frame_in old q))
 
--- The copies have these cells for this page, and for the others what they had.
+-- The copies have these cells for this page; each other page keeps its own.
 abbrev pub HasCopied : (page : ℕ) → List Cell → (old new : List (ℕ × List Cell)) → Type 0
 HasCopied page cells old new = (q : ℕ) → copy_in new q ≡ (if page == q then Some cells else copy_in old q)
 
--- Of a page that was changed the table has the place; else it is as it was.
+-- If the page was changed, the table has its place; else the table is as it was.
 abbrev pub Notes : (page place : ℕ) → Bool → (old new : List (ℕ × ℕ)) → Type 0
 Notes page place is_dirty old new =
     (q : ℕ) → slot_in new q ≡ (if is_dirty then (if page == q then Some place else slot_in old q) else slot_in old q)
 
--- What is left of a table without these pages.
+-- `left` is the table without these pages.
 abbrev pub AreLeft : (pages table left : List (ℕ × ℕ)) → Type 0
 AreLeft pages table left = (q : ℕ) → slot_in left q ≡ (if is_some (slot_in pages q) then None else slot_in table q)
 
@@ -91,7 +92,7 @@ AreLeft pages table left = (q : ℕ) → slot_in left q ≡ (if is_some (slot_in
 abbrev pub AreOfEither : (first second table : List (ℕ × ℕ)) → Type 0
 AreOfEither first second table = (q s : ℕ) → slot_in table q ≡ Some s → (slot_in first q ≡ Some s) ⊎ (slot_in second q ≡ Some s)
 
--- The table has room for these pages, and for so many slots.
+-- The table has room for these pages, and for slots below this number.
 abbrev pub HasRoomFor : List (ℕ × ℕ) → (slots : ℕ) → tables.ShownTable → Type 0
 HasRoomFor waiting slots table = (length table.entries + length waiting ≤ table.capacity) × (slots ≤ table.slots)
 
@@ -103,7 +104,8 @@ HasRoomForOne waiting table = length table.entries + length waiting < table.capa
 abbrev pub IsSlotOf : (page slot : ℕ) → Option tables.ShownTable → Type 0
 IsSlotOf page slot frozen = (t : tables.ShownTable) → frozen ≡ Some t → (other : ℕ) → slot_in t.entries other ≡ Some slot → other ≡ page
 
--- The slots below the one from which a search begins are not free: they lie below the one that was found, or a table has them.
+-- A search may begin at `from`: each slot below it lies below the found one, and if it is the page's former slot, a table
+-- names it.
 abbrev pub MayBegin : (root frozen : List (ℕ × ℕ)) → (found : ℕ) → (former : Option ℕ) → (from : ℕ) → Type 0
 MayBegin root frozen found former from =
     (slot : ℕ) → slot < from → (slot < found) × (former ≡ Some slot → IsNamed root slot ⊎ IsNamed frozen slot)
@@ -112,15 +114,15 @@ MayBegin root frozen found former from =
 abbrev pub IsFreePlace : (places most : ℕ) → List (ℕ × ℕ) → (place : ℕ) → Type 0
 IsFreePlace places most order place = (place < places) × (place < most) × IsFree place order
 
--- What is encoded of a page in memory is a slot of its cells.
+-- If a page in memory is encoded, the bytes are its slot with these cells.
 abbrev pub EncodesFrame : {E : Type 0} → List (ℕ × Frame) → (page : ℕ) → Result Encoded E → Type 0
 EncodesFrame frames page result = (f : Frame) → frame_in frames page ≡ Some f → IfOk result (λ encoded. IsSlot page f.cells encoded.bytes)
 
--- A page without a copy is not changed any more.
+-- After an `Ok`, a page without a copy is clean.
 abbrev pub IsCleanIfUncopied : {T E : Type 0} → List (ℕ × List Cell) → List (ℕ × Frame) → (page : ℕ) → Result T E → Type 0
 IsCleanIfUncopied copies frames page result = copy_in copies page ≡ None → OnOk result (IsClean frames page)
 
--- a frame of these cells that was not changed
+-- a clean frame of these cells
 abbrev pub clean_frame : List Cell → Frame
 clean_frame cells = record { cells = cells; is_dirty = false }
 
@@ -133,7 +135,7 @@ module _ {D : Type 0} where
   abbrev pub MayChange : ShownPool D → (page : ℕ) → Type 0
   MayChange p page = (slot_in p.waiting page ≡ None) ⊎ (is_some (copy_in p.copies page) ≡ true)
 
-  -- The job is the first of the pages that wait, with its cells at the freeze; there is none where no page waits.
+  -- The job is the first of the waiting pages, with its frozen cells; there is none if no page waits.
   abbrev pub IsNextJob : ShownPool D → Option Job → Type 0
   IsNextJob p found =
       MatchOption found (p.waiting ≡ []) (λ job. (Some job.page ≡ least_of p.waiting) × (is_some (slot_in p.waiting job.page) ≡ true) × IsFrozen p job.page job.cells)
@@ -154,7 +156,7 @@ module _ {D : Type 0} where
       (slot : ℕ) (cells : List Cell) → slot_in p.waiting page.page ≡ Some slot → IsFrozen p page.page cells
       → page.bytes ≡ slot_text page.page cells → ⊥
 
-  -- The page that was used the longest time ago is in memory no more; where none was, there is none.
+  -- The page used least recently has left the memory; none if no page was in memory.
   abbrev pub HasFreed : (old new : ShownPool D) → Option ℕ → Type 0
   HasFreed old new freed = MatchOption freed (old.frames ≡ []) (λ n. order_of old ≡ order_of new ++ n ∷ [])
 
@@ -162,11 +164,11 @@ module _ {D : Type 0} where
   abbrev pub order_with_room : ShownPool D → List ℕ
   order_with_room p = take (p.most_frames - 1) (order_of p)
 
-  -- the pages in memory, of which this one was used
+  -- the pages in memory after this one was used
   abbrev pub order_used : ShownPool D → (page : ℕ) → List ℕ
   order_used p page = page ∷ remove_key (nat_eq page) (order_of p)
 
-  -- Where the page is in memory, it is the first of those.
+  -- If the page is in memory, it is the one used last from then on.
   abbrev pub UsesPage : (old new : ShownPool D) → (page : ℕ) → Type 0
   UsesPage old new page = is_some (frame_in old.frames page) ≡ true → order_of new ≡ order_with old page
 
@@ -183,7 +185,7 @@ module _ {D : Type 0} where
   abbrev pub AreTakenFrom : ShownPool D → (from : ℕ) → Type 0
   AreTakenFrom p from = (slot : ℕ) → from ≤ slot → slot < p.slots → IsTaken p slot
 
-  -- The slot is free, and none between is.
+  -- The slot is free, and no slot from `from` up to it is.
   abbrev pub IsFirstFree : ShownPool D → (from free : ℕ) → Type 0
   IsFirstFree p from free =
       (from ≤ free) × (free < p.slots) × (¬ IsTaken p free) × ((slot : ℕ) → from ≤ slot → slot < free → IsTaken p slot)
@@ -217,7 +219,7 @@ module _ {D : Type 0} where
   KeepsFirst old new = (other : ℕ) (rest : List ℕ) → order_of old ≡ other ∷ rest → is_some (frame_in new.frames other) ≡ true
 
 module _ {D : Type 0} (g : disk.Ghosts D) where
-  -- The count of failed calls is that of before, and the one of an answer DeviceFault.
+  -- The count of failed calls is that from before, and one more after the answer DeviceFault.
   abbrev pub CountsFailures : {T : Type 0} → (old new : ShownPool D) → Result T Refusal → Type 0
   CountsFailures old new result = g.failures (disk_of new) ≡ failed_after result (g.failures (disk_of old))
 
@@ -225,25 +227,25 @@ module _ {D : Type 0} (g : disk.Ghosts D) where
   abbrev pub CountsWrites : {T : Type 0} → (old new : ShownPool D) → Result T WriteFault → Type 0
   CountsWrites old new result = g.failures (disk_of new) ≡ failures_after_write result (g.failures (disk_of old))
 
-  -- Over a whole pool the frozen map is the live one of before.
+  -- If the pool was whole, the frozen map is the former live one.
   abbrev pub FreezesLive : (old new : ShownPool D) → Type 0
   FreezesLive old new = IsWhole g old → SameMap (live g old) (frozen g new)
 
   abbrev pub FreezesOnOk : {T E : Type 0} → (old new : ShownPool D) → Result T E → Type 0
   FreezesOnOk old new result = IsWhole g old → OnOk result (SameMap (live g old) (frozen g new))
 
-  -- A whole pool in which no page waits is sealed after an Ok.
+  -- If the pool was whole and no page waited, it is sealed after an Ok.
   abbrev pub SealsWhole : {T E : Type 0} → (old new : ShownPool D) → Result T E → Type 0
   SealsWhole old new result = IsWhole g old → old.waiting ≡ [] → OnOk result (IsSealed g new)
 
-  -- These are the cells of the page's slot, or new ones where it has none.
+  -- These are the cells of the page's slot, or new ones if it has no slot.
   abbrev pub AreStored : ShownPool D → (page : ℕ) → List Cell → Type 0
   AreStored p page cells = (i : ℕ) → i < 256 → get_or cells i New ≡ in_slot (bytes_of g p) (slot_in p.live page) i
 
   abbrev pub AreStoredIfWhole : ShownPool D → (page : ℕ) → List Cell → Type 0
   AreStoredIfWhole p page cells = IsWhole g p → (i : ℕ) → i < 256 → get_or cells i New ≡ in_slot (bytes_of g p) (slot_in p.live page) i
 
-  -- Of a whole pool the cells that are read are those.
+  -- If the pool is whole, the cells that are read are those of the slot.
   abbrev pub ReadsStored : {E : Type 0} → ShownPool D → (page : ℕ) → Result (List Cell) E → Type 0
   ReadsStored p page result = IsWhole g p → IfOk result (AreStored p page)
 

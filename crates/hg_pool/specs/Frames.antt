@@ -7,7 +7,7 @@ use Rattle.hg_pool.specs.declared.frame.Frame.{Frame}
 use Rattle.hg_pool.specs.declared.frame.Held.{Held}
 use Rattle.hg_pool.specs.Maps.{frame_in}
 
--- what lies beyond the last place
+-- the content of a place beyond the last one
 abbrev pub nothing : Held
 nothing = record { page = 0; frame = record { cells = []; is_dirty = false } }
 
@@ -24,7 +24,7 @@ framed held (e ∷ es) = (e.0, frame_at held e.1) ∷ framed held es
 abbrev pub HasPage : List Held → ℕ × ℕ → Type 0
 HasPage held e = (e.1 < length held) × ((get_or held e.1 nothing).page ≡ e.0)
 
--- Each page is in its place, so no two have one.
+-- Each page is in its place, so no two pages have the same place.
 abbrev pub AreHeld : List Held → List (ℕ × ℕ) → Type 0
 AreHeld held es = AllByRecursion (λ e. HasPage held e) es
 
@@ -36,10 +36,10 @@ HasCell frames page from to cell = (f : Frame) × (frame_in frames page ≡ Some
 abbrev pub with_frame : List Held → ℕ → Frame → List Held
 with_frame held place frame = set held place (record { page = (get_or held place nothing).page; frame = frame })
 
--- the same where the words of the page in the place have a cell from one up to another
+-- the same, with the cell at the words from `from` up to `to` of the page in the place
 abbrev pub with_cell : List Held → ℕ → (from to : ℕ) → Cell → List Held
 with_cell held place from to cell = with_frame held place (record { cells = filled (frame_at held place).cells from to cell; is_dirty = true })
 
--- the same where the page in the place is as it was, and not changed since
+-- the same, with the page in the place clean
 abbrev pub with_clean : List Held → ℕ → List Held
 with_clean held place = with_frame held place (record (frame_at held place) { is_dirty = false })

@@ -24,13 +24,13 @@ abbrev pub HasSome : ℕ → ℕ → List ℕ → Type 0
 HasSome slot page file = (cells : List Cell) × HasSlot slot page cells file
 
 module _ {D : Type 0} (g : disk.Ghosts D) where
-  -- The slots that a page is named in have it, and what is in memory and was not changed is what stands in its slot.
+  -- Each slot that is named for the page has it, and a clean frame has the cells of the slot.
   pub record IsPageWhole (p : ShownPool D) (page : ℕ) : Type 0 where
     pub live_page : (slot : ℕ) → slot_in p.live page ≡ Some slot → HasSome slot page (bytes_of g p)
     pub frozen_page : (slot : ℕ) → slot_in p.frozen page ≡ Some slot → HasSome slot page (bytes_of g p)
     pub clean : (f : Frame) → frame_in p.frames page ≡ Some f → f.is_dirty ≡ false → (i : ℕ) → i < 256 → get_or f.cells i New ≡ in_slot (bytes_of g p) (slot_in p.live page) i
 
-  -- The maps are what was written: reads are honest, and each page is whole.
+  -- The maps have what was written: the disk is honest, and each page is whole.
   pub record IsWhole (p : ShownPool D) : Type 0 where
     pub honest : IsTrue g.is_honest
     pub pages : (page : ℕ) → IsPageWhole p page
@@ -40,21 +40,22 @@ module _ {D : Type 0} (g : disk.Ghosts D) where
     pub whole : IsWhole p
     pub within : (w : ℕ) → IsWithin segments sets (live g p w)
 
-  -- What each image has in a slot that the table names, it has at each moment from the one pool to the other.
+  -- Bytes that each image has in a slot that the table names stay there at each moment from the old pool to the new one.
   abbrev pub KeepsNamed : List (ℕ × ℕ) → ShownPool D → ShownPool D → Type 0
   KeepsNamed table old new = (slot : ℕ) (bytes : List ℕ) → IsNamed table slot → Leaves (HasBytes slot bytes) (g.state (disk_of old)) → LeavesOnly g (disk_of old) (disk_of new) (HasBytes slot bytes)
 
-  -- Where each image of the slots, read by this table, gives these cells, it does at each moment from the one pool to the other.
+  -- If each image of the slots, read by this table, gives these cells, it does so at each moment from the old pool to the
+  -- new one.
   abbrev pub KeepsGiven : List (ℕ × ℕ) → ShownPool D → ShownPool D → Type 0
   KeepsGiven table old new = (cells_of : ℕ → Cell) → Leaves (GivesCells table cells_of) (g.state (disk_of old)) → LeavesOnly g (disk_of old) (disk_of new) (GivesCells table cells_of)
 
-  -- No failure of the device is forgotten, and only a call of it that failed breaks a pool.
+  -- No failure of the device is forgotten, and only a failed device call breaks a pool.
   abbrev pub BreaksByFailure : ShownPool D → ShownPool D → Type 0
   BreaksByFailure old new = (g.failures (disk_of old) ≤ g.failures (disk_of new)) × ((is_broken new ≡ is_broken old) ⊎ (g.failures (disk_of old) < g.failures (disk_of new)))
 
-  -- What a pool keeps of the checkpoint that is being written, and of the one that counts, from one moment to another: nothing but a
-  -- freeze changes the frozen map, and nothing but the opening of a root changes which table the root has. What the two tables
-  -- name stays in each image. Once the frozen map is sealed, nothing waits, so its table stays as it is.
+  -- What each call but `freeze` and `root_opened` keeps, of the checkpoint that is being written and of the newest root:
+  -- the frozen map, and the root's table. The slots that the two tables name stay in each image. Once the frozen map is
+  -- sealed, no page waits, so its table stays as it is.
   pub record Went (old new : ShownPool D) : Type 0 where
     pub goes : GoesOn g (disk_of old) (disk_of new)
     pub works : is_broken new ≡ false → is_broken old ≡ false
@@ -70,15 +71,15 @@ module _ {D : Type 0} (g : disk.Ghosts D) where
     pub sealed_table : IsTrue old.is_sealed → new.frozen ≡ old.frozen
     pub limits : (new.most_frames ≡ old.most_frames) × (new.slots ≡ old.slots)
 
-  -- What each call leaves that changes no word: the live map too, where it is what was written.
+  -- What each call keeps that changes no word: the live map too, if the pool is whole.
   pub record Stays (old new : ShownPool D) : Type 0 where
     pub went : Went old new
     pub live_is : IsWhole old → SameMap (live g old) (live g new)
 
--- What is in memory now was there, with the same cells.
+-- Each page that is in memory now was there before, with the same cells.
 abbrev pub CellsFrom : List (ℕ × Frame) → List (ℕ × Frame) → Type 0
 CellsFrom old new = (q : ℕ) (f : Frame) → frame_in new q ≡ Some f → (e : Frame) × (frame_in old q ≡ Some e) × (f.cells ≡ e.cells)
 
--- What is in memory names only segments and sets below these numbers.
+-- The cells in memory name only segments and sets below these numbers.
 abbrev pub AreWithin : List (ℕ × Frame) → ℕ → ℕ → Type 0
 AreWithin frames segments sets = (q : ℕ) (f : Frame) → frame_in frames q ≡ Some f → (i : ℕ) → IsWithin segments sets (get_or f.cells i New)

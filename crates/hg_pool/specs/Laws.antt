@@ -1,4 +1,4 @@
--- The laws of a pool, which empty public functions promise.
+-- The laws of a pool, promised by functions without a body.
 use Rattle.hg_disk.specs.declared.disk.Disk as disk
 use Rattle.hg_disk.specs.Moments.{LeavesOnly}
 use Rattle.hg_pool.specs.Kept.{KeepsGiven, Went}
@@ -10,7 +10,7 @@ module _ {D : Type 0} (g : disk.Ghosts D) where
   abbrev pub CallsJoin : Type 0
   CallsJoin = (old mid new : ShownPool D) → Went g old mid → Went g mid new → Went g old new
 
-  -- What the root's table gives in each image, it goes on to give.
+  -- The cells that the root's table gives in each image, it gives at each moment.
   abbrev pub RootStays : Type 0
   RootStays = (old new : ShownPool D) → Went g old new → KeepsGiven g old.root old new
 

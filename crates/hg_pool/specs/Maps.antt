@@ -12,15 +12,15 @@ use Rattle.hg_pages.specs.Tables.{slot_in}
 use Rattle.hg_pool.specs.declared.frame.Frame.{Frame}
 use Rattle.hg_pool.specs.Shown.{ShownPool}
 
--- the page in its frame, where it is in memory
+-- the frame of a page, if the page is in memory
 abbrev pub frame_in : List (ℕ × Frame) → ℕ → Option Frame
 frame_in frames page = lookup (nat_eq page) frames
 
--- the frozen cells of a page, where they were copied
+-- the frozen cells of a page, if they were copied
 abbrev pub copy_in : List (ℕ × List Cell) → ℕ → Option (List Cell)
 copy_in copies page = lookup (nat_eq page) copies
 
--- a word of a page in the slot, or a new one where there is none
+-- a word of a page in its slot, or a new one without a slot
 abbrev pub in_slot : List ℕ → Option ℕ → ℕ → Cell
 in_slot file None word = New
 in_slot file (Some slot) word = cell_in_slot file slot word
@@ -30,7 +30,7 @@ abbrev pub in_frame_or : Option Frame → Cell → ℕ → Cell
 in_frame_or (Some frame) stored word = get_or frame.cells word New
 in_frame_or None stored word = stored
 
--- a word of a page that waits in its copy, or else as it is
+-- a word of a waiting page: from its copy, or without a copy as it is
 abbrev pub in_copy_or : Option (List Cell) → Cell → ℕ → Cell
 in_copy_or (Some cells) present word = get_or cells word New
 in_copy_or None present word = present

@@ -15,7 +15,7 @@ use Rattle.hg_pool.specs.Kept.{AreWithin, BreaksByFailure, Extends, IsFaithful, 
 use Rattle.hg_pool.specs.Maps.{copy_in, disk_of, frame_in, is_broken, live}
 use Rattle.hg_pool.specs.Shown.{ShownPool}
 
--- what is in memory names only segments and sets below these numbers
+-- the cells in memory name only segments and sets below these numbers
 abbrev pub MayBring : {D : Type 0} → ShownPool D → ℕ → ℕ → Type 0
 MayBring p segments sets = AreWithin p.frames segments sets
 
@@ -35,7 +35,7 @@ IsKept p w = IsBrought p w × IsSettled p (w / 256)
 abbrev pub MayFill : {D : Type 0} → ShownPool D → ℕ → ℕ → Type 0
 MayFill p first count = IsKept p first × (first % 256 + count ≤ 256)
 
--- what the pool refuses with: want of memory, no free slot, and what the file refuses with
+-- the refusals of a pool: want of memory, no free slot, and those of the file
 abbrev pub MayRefuse : Refusal → Type 0
 MayRefuse refusal.OutOfMemory = Unit {0}
 MayRefuse refusal.FullSlots = Unit {0}

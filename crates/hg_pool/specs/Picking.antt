@@ -20,7 +20,7 @@ pub record AreLeastFree {D : Type 0} (p : ShownPool D) (picks : List (ℕ × ℕ
 abbrev pub IsLeastFree : {D : Type 0} → ShownPool D → ℕ → Type 0
 IsLeastFree p slot = (¬ IsTaken p slot) × ((lesser : ℕ) → lesser < slot → IsTaken p lesser)
 
--- A page that has another slot than before has the one that was picked for it, or the least that nothing named.
+-- A page with a new slot has the one that was picked for it, or the least one that nothing named.
 abbrev pub TakesLeastFree : {D : Type 0} → ShownPool D → ShownPool D → Type 0
 TakesLeastFree old new = (page slot : ℕ) → slot_in new.live page ≡ Some slot → (slot_in old.live page ≡ Some slot) ⊎ ((slot_in old.waiting page ≡ Some slot) ⊎ IsLeastFree old slot)
 
@@ -31,10 +31,10 @@ pub record ArePicks {D : Type 0} (p : ShownPool D) (pages picks : List (ℕ × �
   pub slots : AreLeastFree p picks
   pub few : length picks ≤ length pages
 
--- Fewer slots are free than pages need one: those that nothing names have fewer than so many pages.
+-- Fewer than n slots are free: fewer than n picks name all slots that nothing else names.
 abbrev pub AreTooFew : {D : Type 0} → ShownPool D → ℕ → Type 0
 AreTooFew p n = (picks : List (ℕ × ℕ)) × (length picks < n) × ((slot : ℕ) → slot < p.slots → IsTaken p slot ⊎ IsNamed picks slot)
 
--- Fewer slots are free than pages were changed.
+-- There are fewer free slots than changed pages.
 abbrev pub LacksSlots : {D : Type 0} → ShownPool D → Type 0
 LacksSlots p = (pages : List (ℕ × ℕ)) × AreEntries pages × ((q : ℕ) → (is_some (slot_in pages q) ≡ true) ↔ HasDirty p.frames q) × AreTooFew p (length pages)

@@ -4,10 +4,10 @@ use Rattle.hg_cells.specs.declared.cell.Cell.{Cell}
 use Rattle.hg_pages.specs.declared.slot_file.SlotFile.{SlotFile}
 use Rattle.hg_pool.specs.declared.frame.Frame.{Frame}
 
--- The file of slots. The tables of the newest root, of the frozen map and of the live one: pages and their slots. The pages that
--- wait to be written for the frozen map, each with the slot that was picked for it, and the frozen cells of those that were changed
--- since. The pages in memory, that used last first, and how many there may be. How many slots there may be. Whether the frozen
--- map was sealed.
+-- The file of slots. The tables of the newest root, of the frozen map and of the live one: pages and their slots. The pages
+-- that wait to be written for the frozen map, each with the slot that was picked for it. The frozen cells of waiting pages
+-- that were changed since the freeze. The pages in memory, the page used last first, and the greatest number of them. The
+-- number of slots. Whether the frozen map was sealed.
 pub record ShownPool (D : Type 0) : Type 0 where
   pub file : SlotFile D
   pub root : List (ℕ × ℕ)

@@ -1,4 +1,4 @@
--- What holds of the parts of a pool.
+-- The invariant of a pool.
 use Rattle.std.specs.Prelude.{◌≡◌, ◌+◌, ◌≤◌, ◌<◌, ◌^◌, ℕ, Bool, true, false, List, [], length, Option, Some, None, is_some, IsTrue}
 use Rattle.std.specs.Option.{unwrap_or}
 use Rattle.lru.specs.LruCache.{LruCache}
@@ -11,7 +11,7 @@ use Rattle.hg_pool.specs.Maps.{copy_in, frame_in}
 use Rattle.hg_pool.specs.Shown.{ShownPool}
 use Rattle.hg_pool.specs.Tables.{FindsBelow}
 
--- the frozen table: the root's where there is no other
+-- the frozen table: the root's if there is no other
 abbrev pub frozen_of : {D : Type 0} → Parts D → tables.ShownTable
 frozen_of p = unwrap_or p.frozen p.root
 
@@ -30,11 +30,11 @@ shown_of p = record {
   is_sealed = p.is_sealed;
 }
 
--- A page in memory was written: the file, the live table and the frames have changed alone.
+-- A page in memory was written: only the file, the live table and the frames have changed.
 abbrev pub ChangesFrames : {D : Type 0} → (old new : Parts D) → Type 0
 ChangesFrames old new = new ≡ record old { file = new.file; live = new.live; frames = new.frames }
 
--- A page waits no more: the frozen table, the waiting pages and the copies have changed alone.
+-- A page waits no more: only the frozen table, the waiting pages and the copies have changed.
 abbrev pub ChangesWaiting : {D : Type 0} → (old new : Parts D) → Type 0
 ChangesWaiting old new = new ≡ record old { frozen = new.frozen; waiting = new.waiting; copies = new.copies }
 
@@ -42,13 +42,14 @@ ChangesWaiting old new = new ≡ record old { frozen = new.frozen; waiting = new
 abbrev pub HasBegun : {D : Type 0} → tables.ShownTable → tables.ShownTable → (old new : Parts D) → Type 0
 HasBegun table waiting old new = new ≡ record old { frozen = Some table; waiting = waiting; copies = new.copies; is_sealed = false }
 
--- The two tables, what waits, and where a search for slots begins have changed alone.
+-- Only the frozen and the live table, the waiting pages with their copies, the seal, and the start of the search have
+-- changed.
 abbrev pub ChangesTables : {D : Type 0} → (old new : Parts D) → Type 0
 ChangesTables old new =
     new ≡ record old { frozen = new.frozen; live = new.live; waiting = new.waiting; copies = new.copies; is_sealed = new.is_sealed; search_from = new.search_from }
 
--- What holds of a page that waits for this slot: no table names the slot; the page is not written yet; without a copy, it is in
--- memory as it was frozen; and there is room for its entries.
+-- A page waits for this slot: no table names the slot; the page is not written yet; without a copy, it is in memory as it
+-- was frozen; and there is room for its entries.
 pub record IsPicked (root : tables.ShownTable) (frozen : Option tables.ShownTable) (live waiting : tables.ShownTable) (copies : List (ℕ × List Cell)) (frames : List (ℕ × Frame)) (slots page slot : ℕ) : Type 0 where
   pub not_root : ¬ IsNamed root.entries slot
   pub not_frozen : ¬ IsNamed (unwrap_or frozen root).entries slot

@@ -10,14 +10,15 @@ AreBelow slots table = All (λ e. (e.0 < 2 ^ 54) × (e.1 < slots)) table
 abbrev pub FindsBelow : ℕ → List (ℕ × ℕ) → Type 0
 FindsBelow slots table = (page slot : ℕ) → slot_in table page ≡ Some slot → (page < 2 ^ 54) × (slot < slots)
 
--- A root can name the table: its pages rise, no slot has two, all are of the profile, and there are no more than slots.
+-- A root can name the table: its pages rise, no slot has two pages, all numbers are within the profile, and there are no
+-- more entries than slots.
 pub record IsNameable (slots : ℕ) (table : List (ℕ × ℕ)) : Type 0 where
   pub entries : AreEntries table
   pub below : AreBelow slots table
   pub few : length table ≤ slots
   pub most : slots ≤ 1048576
 
--- The page has the slot, other pages have theirs, and there is no less room.
+-- The page has the slot, other pages keep theirs, and there is no less room.
 pub record IsSetAt (page slot : ℕ) (old new : ShownTable) : Type 0 where
   pub looks : (other : ℕ) → slot_in new.entries other ≡ (if page == other then Some slot else slot_in old.entries other)
   pub size : length new.entries ≡ length old.entries + (if is_some (slot_in old.entries page) then 0 else 1)

@@ -1,4 +1,4 @@
-//! The pages that wait are written, and a root that names them is opened.
+//! A checkpoint: the waiting pages are written, and then a root that names them is opened.
 ghost use Rattle.std.specs.Prelude.{◌≡◌, ◌⊎◌, ◌↔◌, ◌+◌, ◌<◌, ◌≤◌, ◌^◌, ◌==◌, [], true, Some, None, Ok, Err, is_some, IsTrue, OnOk, OnErr, IfOk, IsErrOf, MatchOption, if◌then◌else◌};
 ghost use Rattle.hg_pages.specs.Tables.{slot_in};
 ghost use Rattle.hg_pool.specs.Maps.{is_broken};
@@ -31,7 +31,7 @@ impl<D: Disk> Parts<D> {
         }
     }
 
-    /// The page with the least number of those that wait, and its frozen cells.
+    /// The waiting page with the least number, with its frozen cells.
     pub(crate) fn take_job(&self) -> Option<Job>
         requires sound { IsSound self.now }
         ensures { IsNextJob (shown_of self.now) result }
@@ -51,7 +51,7 @@ impl<D: Disk> Parts<D> {
         }
     }
 
-    // The slot of a page, where it waits and these are the bytes of its frozen cells.
+    // The slot picked for a page, if the page waits and these are the bytes of its frozen cells.
     fn awaits(&self, page: &EncodedPage) -> Option<u32>
         requires sound { IsSound self.now }
         ensures { MatchOption result (IsStale (shown_of self.now) page.now) (WaitsFor (shown_of self.now) page.now) }
@@ -65,7 +65,7 @@ impl<D: Disk> Parts<D> {
         }
     }
 
-    /// Writes a page to the slot that was picked for it, where it waits and the bytes are those of its frozen cells.
+    /// Writes a page to the slot that was picked for it, if it waits and the bytes are those of its frozen cells.
     pub(crate) fn put(&mut self, page: &EncodedPage) -> Result<Put, WriteFault>
         requires sound { IsSound self.old }
         ensures sound { IsSound self.new }

@@ -1,4 +1,4 @@
-//! Pages leave their frames, and those that were changed are written first.
+//! Pages leave their frames. Changed pages are written first.
 ghost use Rattle.std.specs.Prelude.{◌≡◌, ◌≢◌, ◌⊎◌, ◌↔◌, ◌+◌, ◌-◌, ◌<◌, ◌≤◌, ◌^◌, [], ◌∷◌, ◌++◌, length, map, true, false, Some, None, Ok, Err, is_some, IsTrue, OnOk, OnErr, IfOk, IfErr, IsErrOf, ◌==◌, if◌then◌else◌};
 ghost use Rattle.hg_pages.specs.Tables.{IsNamed, slot_in};
 ghost use Rattle.hg_pool.specs.declared.frame.Frame.{Frame as FrameOf};
@@ -30,7 +30,8 @@ impl<D: Disk> Parts<D> {
         }
     }
 
-    // Writes a page that waits to the slot that was picked for it, from where it is frozen, and live if it was not changed since.
+    // Writes a waiting page to the slot that was picked for it. The frozen table names the slot then, and so does the live
+    // one if the page was not changed since the freeze.
     pub(crate) fn write_waiting(
         &mut self,
         slot: u32,
@@ -61,7 +62,7 @@ impl<D: Disk> Parts<D> {
         Ok(())
     }
 
-    // Writes a page that was changed to a free slot, from where it is live.
+    // Writes a changed page to a free slot, which the live table names then.
     fn write_changed(&mut self, page: u64, slot: u32) -> Result<(), Refusal>
         requires sound { IsSound self.old }
         requires present { is_some (frame_in self.old.frames.entries page) ≡ true }
@@ -87,7 +88,7 @@ impl<D: Disk> Parts<D> {
         Ok(())
     }
 
-    // Whether the newest root or the frozen map names a slot, so that it is not free where the live map leaves it.
+    // Whether the newest root or the frozen map names a slot. Such a slot does not become free when the live map leaves it.
     fn is_saved(&self, slot: u32) -> bool
         ensures { IsTrue result → IsNamed self.now.root.entries slot ⊎ IsNamed (frozen_of self.now).entries slot }
     {
@@ -97,7 +98,8 @@ impl<D: Disk> Parts<D> {
         self.frozen_table().names(slot)
     }
 
-    // Where the next search for a free slot begins: at the slot that was found, or at the page's former slot where that is free then.
+    // Where the next search for a free slot begins: at the slot that was found, or at the page's former slot if this
+    // becomes free and is less.
     fn next_search(&self, found: u32, former: Option<u32>) -> u32
         ensures { MayBegin self.now.root.entries (frozen_of self.now).entries found former result }
     {
@@ -113,7 +115,7 @@ impl<D: Disk> Parts<D> {
         }
     }
 
-    // Writes a page that was changed to a free slot that a search found.
+    // Writes a changed page to a free slot that a search found.
     fn write_searched(&mut self, page: u64, slot: u32) -> Result<(), Refusal>
         requires sound { IsSound self.old }
         requires present { is_some (frame_in self.old.frames.entries page) ≡ true }
@@ -136,7 +138,7 @@ impl<D: Disk> Parts<D> {
         self.write_changed(page, slot)
     }
 
-    // Whether a page that is in memory was changed.
+    // Whether a page in memory was changed.
     fn is_dirty(&self, page: u64) -> bool
         ensures { (f : FrameOf) → frame_in self.now.frames.entries page ≡ Some f → result ≡ f.is_dirty }
     {
@@ -146,7 +148,7 @@ impl<D: Disk> Parts<D> {
         }
     }
 
-    // Writes a page that waits, and is as it was frozen, to the slot that was picked for it.
+    // Writes a waiting page that is as it was frozen, to the slot that was picked for it.
     fn clean_waiting(&mut self, page: u64, slot: u32) -> Result<(), Refusal>
         requires sound { IsSound self.old }
         requires waits { slot_in self.old.waiting.entries page ≡ Some slot }
@@ -167,7 +169,7 @@ impl<D: Disk> Parts<D> {
         Ok(self.write_waiting(slot, &encoded)?)
     }
 
-    // Writes a page that was changed since its slot was written.
+    // Writes a page if it was changed.
     fn clean(&mut self, page: u64) -> Result<(), Refusal>
         requires sound { IsSound self.old }
         requires reached { IsReached self.old }
@@ -197,8 +199,8 @@ impl<D: Disk> Parts<D> {
         }
     }
 
-    /// Frees the frame of the page used least recently, which is written first where it was changed, and answers its number; none
-    /// where no page is in memory.
+    /// Frees the frame of the page used least recently, and answers the page's number, or none if no page is in memory. A
+    /// changed page is written first.
     pub(crate) fn evict(&mut self) -> Result<Option<u64>, Refusal>
         requires sound { IsSound self.old }
         requires reached { IsReached self.old }
@@ -225,7 +227,7 @@ impl<D: Disk> Parts<D> {
         Ok(Some(page))
     }
 
-    /// Frees a frame where all are taken.
+    /// Frees a frame if all are taken.
     pub(crate) fn make_room(&mut self) -> Result<(), Refusal>
         requires sound { IsSound self.old }
         requires reached { IsReached self.old }

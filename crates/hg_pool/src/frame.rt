@@ -6,7 +6,7 @@ use hg_cells::Page;
 pub struct Frame {
     /// Its cells.
     pub cells: Page,
-    /// Whether it was changed since it was new without a slot, read from a slot, or written.
+    /// Whether it was changed since it was new, read from its slot or written to it.
     pub is_dirty: bool,
 }
 

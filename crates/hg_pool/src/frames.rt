@@ -20,12 +20,12 @@ use std::num::NonZeroUsize;
 
 /// Pages in frames, in the order of their use.
 ///
-/// Each stands in a place, and the order of use knows the places. So the page used last is read and changed with no search. Contracts
-/// see the pages with their frames, that used last first.
+/// Each page has a place, and the order of use knows the places. So the page used last is read and changed without a
+/// search. Contracts see the pages with their frames, the page used last first.
 pub(crate) struct Frames {
     order: Recency,
     held: Vec<Held>,
-    // Places that pages left. No clause rests on that: a place is taken again where its page is not in it any more.
+    // Places that pages left. No contract rests on this list: a place is taken again only if its page is no longer in it.
     left: Vec<u32>,
 }
 
@@ -51,7 +51,7 @@ impl Model for Frames {
     ghost invariant = { λ f. AreHeld f.held.items f.order.entries };
 }
 
-// A place that a page left, and that no other has.
+// A place that a page left and that no page has now.
 fn free_place(order: &Recency, held: &Vec<Held>, left: &mut Vec<u32>) -> Option<u32>
     requires { AreHeld held.now.items order.now.entries }
     ensures { IfSome result (IsFreePlace (length held.now.items) order.now.cap order.now.entries) }
@@ -70,7 +70,7 @@ fn free_place(order: &Recency, held: &Vec<Held>, left: &mut Vec<u32>) -> Option<
     }
 }
 
-// Puts a page into a place that no other has.
+// Puts a page into a free place.
 fn take_place(
     order: &Recency,
     held: &mut Vec<Held>,
@@ -120,7 +120,7 @@ fn fill_at(held: &mut Vec<Held>, place: u32, from: usize, to: usize, cell: Cell)
     frame.is_dirty = true;
 }
 
-// Marks the page in a place as one that its slot has.
+// Marks the page in a place as clean.
 fn clean_at(held: &mut Vec<Held>, place: u32)
     requires place { place < length held.old.items }
     ensures held { held.new.items ≡ with_clean held.old.items place }
@@ -128,7 +128,7 @@ fn clean_at(held: &mut Vec<Held>, place: u32)
     held[place as usize].frame.is_dirty = false;
 }
 
-// Adds a page that was changed to a table, under its place in the order of use.
+// Adds a page to a table, with its place in the order of use, if the page was changed.
 fn note(table: &mut Table, page: u64, place: u32, frame: &Frame) -> Result<(), AllocError>
     requires { (q slot : ℕ) → slot_in table.old.entries q ≡ Some slot → slot < place }
     ensures looks { OnOk result (Notes page place frame.now.is_dirty table.old.entries table.new.entries) }
@@ -161,7 +161,7 @@ fn changed_pages(alloc: Global, order: &Recency, held: &Vec<Held>) -> Result<Tab
 
 impl Frames {
     ghost use Rattle.lru.specs.LruCache.{lru_cache};
-    /// No pages, and room for so many. All memory for frames is taken here.
+    /// No pages, and room for `most` pages. All memory for frames is taken here.
     pub(crate) fn new(alloc: Global, most: NonZeroUsize) -> Result<Self, AllocError>
         ensures entries { IfOk result (λ f. f.entries ≡ []) }
         ensures cap { IfOk result (λ f. f.cap ≡ non_zero_usize_get most) }
@@ -185,7 +185,7 @@ impl Frames {
         self.order.len() as usize
     }
 
-    /// How many there may be.
+    /// The greatest number of pages.
     pub(crate) fn most(&self) -> usize
         ensures { result ≡ self.now.cap }
     {
@@ -203,7 +203,7 @@ impl Frames {
         }
     }
 
-    /// The frame of a page, where it is the one used last.
+    /// The frame of a page, if the page is the one used last.
     #[inline]
     pub(crate) fn first(&self, page: u64) -> Option<&Frame>
         ensures frame { IfSome result (λ f. frame_in self.now.entries page ≡ Some f.now) }
@@ -240,8 +240,8 @@ impl Frames {
         self.order.promote(page).is_some()
     }
 
-    /// Makes a page the one used last, and answers the cell that its words from one place up to another all have, where they have
-    /// one. `None` where the page is not there.
+    /// Makes a page the one used last, and answers the one cell of all its words from `from` up to `to`, if they have one.
+    /// `None` if the page is not there.
     #[inline(always)]
     pub(crate) fn ask(&mut self, page: u64, from: usize, to: usize) -> Option<Option<Cell>>
         requires in_order { from < to }
@@ -281,7 +281,7 @@ impl Frames {
         }
     }
 
-    /// Marks a page as one that its slot has.
+    /// Marks a page as clean.
     pub(crate) fn mark_clean(&mut self, page: u64)
         requires { is_some (frame_in self.old.entries page) ≡ true }
         ensures frames { CleansFrame page self.old.entries self.new.entries }

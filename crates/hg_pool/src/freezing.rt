@@ -1,4 +1,4 @@
-//! The live map is fixed as the frozen one.
+//! A freeze: the live map becomes the frozen one.
 ghost use Rattle.std.specs.Prelude.{◌≡◌, ◌⊎◌, ◌↔◌, ◌+◌, ◌<◌, ◌≤◌, ◌^◌, ◌==◌, ℕ, [], ◌∷◌, length, true, false, Some, None, Ok, Err, is_some, OnOk, OnErr, IfOk, IsErrOf, MatchOption, if◌then◌else◌};
 ghost use Rattle.hg_pages.specs.Tables.{slot_in};
 ghost use Rattle.hg_pool.specs.Maps.{frozen, live};
@@ -40,7 +40,7 @@ impl<D: Disk> Parts<D> {
         }
     }
 
-    // A slot for each of these pages, in their order: each the least that nothing names.
+    // Picks a slot for each of these pages, in their order: each time the least slot that nothing names.
     fn pick(&self, pages: &Table) -> Result<Table, FreezeFault>
         requires sound { IsSound self.now }
         ensures picks { IfOk result (λ picks. ArePicks (shown_of self.now) pages.now.entries picks.entries) }
@@ -60,7 +60,7 @@ impl<D: Disk> Parts<D> {
         Ok(picks)
     }
 
-    // Takes up these pages as those that wait, and this table as the frozen one.
+    // Begins a checkpoint: these pages wait, and this is the frozen table.
     fn begin(&mut self, waiting: Table, table: Table)
         requires sound { IsSound self.old }
         requires dirty { (q : ℕ) → (is_some (slot_in waiting.entries q) ≡ true) ↔ HasDirty self.old.frames.entries q }
@@ -81,7 +81,7 @@ impl<D: Disk> Parts<D> {
         self.is_sealed = false;
     }
 
-    /// Fixes the live map as the frozen one. The pages that were changed wait from then on.
+    /// Makes the live map the frozen one. The changed pages wait from then on.
     pub(crate) fn freeze(&mut self) -> Result<(), FreezeFault>
         requires sound { IsSound self.old }
         ensures sound { IsSound self.new }

@@ -1,4 +1,4 @@
-//! A page that waits, to encode where the pool is not held.
+//! A page that waits. To encode it takes no access to the pool.
 ghost use Rattle.std.specs.Prelude.{◌≡◌, ◌<◌, ◌^◌, IfOk, IfErr};
 ghost use Rattle.hg_pages.specs.Slots.{IsSlot, slot_text};
 
@@ -6,19 +6,19 @@ use hg_cells::Page;
 use hg_pages::{EncodedPage, encode};
 use std::alloc::Global;
 
-/// How a page that was handed in was taken.
+/// What `put` did with a page.
 #[derive(Clone, Copy, Debug, PartialEq, Eq, Drop)]
 pub enum Put {
     /// It was written to the slot that was picked for it.
     Written,
-    /// It does not wait, or has other cells than the frozen ones. Nothing was changed.
+    /// The page does not wait, or its cells are not the frozen ones. Nothing was changed.
     Stale,
 }
 
 /// A page that waits, with its frozen cells.
 #[derive(Drop)]
 pub struct Job {
-    /// Where its bytes are taken from.
+    /// The allocator for its bytes.
     pub alloc: Global,
     /// The number of the page.
     pub page: u64,
@@ -27,7 +27,7 @@ pub struct Job {
 }
 
 impl Job {
-    /// The page as the bytes of its slot. The job is handed back where memory is refused.
+    /// The page as the bytes of its slot. If there is no memory, the job is handed back.
     pub fn encode(self) -> Result<EncodedPage, Job>
         ensures page { IfOk result (λ encoded. encoded.page ≡ self.page) }
         ensures bytes { IfOk result (λ encoded. encoded.bytes ≡ slot_text self.page self.cells) }

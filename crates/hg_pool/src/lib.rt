@@ -1,4 +1,4 @@
-//! A pool of frames over a file of slots: the map of words as it is, and as it was when it was last frozen.
+//! A pool of frames over a file of slots, with two maps of words: the live one, and the one at the last freeze.
 #![tactic(auto)]
 
 mod checkpoint;

@@ -37,7 +37,8 @@ impl<D: Disk> Parts<D> {
         }
     }
 
-    // Reads a page that is not in memory into a frame. What owns a page's cells stands here, and not in `load`, which mostly needs none.
+    // Reads a page that is not in memory into a frame. The variable with the page's cells is here and not in `load`, which
+    // mostly needs none.
     #[inline(never)]
     fn read_in(&mut self, page: u64, segments: u32, sets: &SetTable) -> Result<(), Refusal>
         requires sound { IsSound self.old }
@@ -58,8 +59,8 @@ impl<D: Disk> Parts<D> {
         self.take_in(page, cells)
     }
 
-    /// Makes a page the one used last, and answers the cell that its words from one place up to another all have, where they have
-    /// one. `None` where the page is not in memory.
+    /// Makes a page the one used last, and answers the one cell of all its words from `from` up to `to`, if they have one.
+    /// `None` if the page is not in memory.
     #[inline(always)]
     pub(crate) fn ask(&mut self, page: u64, from: usize, to: usize) -> Option<Option<Cell>>
         requires sound { IsSound self.old }

@@ -19,7 +19,7 @@ pub(crate) struct Parts<D: Disk> {
     pub(crate) alloc: Global,
     pub(crate) file: SlotFile<D>,
     pub(crate) root: Table,
-    // None where it is the root's.
+    // None if it is the root's.
     pub(crate) frozen: Option<Table>,
     pub(crate) live: Table,
     pub(crate) waiting: Table,
@@ -96,7 +96,7 @@ impl<D: Disk> Parts<D> {
         }
     }
 
-    /// The least slot that no table names and that is not picked, where there is one.
+    /// The least slot that no table names and that is not picked, or none.
     pub(crate) fn free_slot(&self) -> Option<u32>
         requires sound { IsSound self.now }
         requires reached { IsReached self.now }

@@ -73,9 +73,9 @@ fn rooms(
 }
 
 impl<D: Disk> Pool<D> {
-    /// A pool over a file of slots, with no page in memory: both maps are what the table of the newest root gives. There are so
-    /// many frames, at least 2 and at most 4,096, and slots below this number are named, by the table too. An event may lie on two pages, so with
-    /// fewer frames than 2 the file is handed back, as where memory runs out.
+    /// A pool over a file of slots, with no page in memory. Both maps are the one that `table` gives, the table of the
+    /// newest root. `frames` is the number of frames, 2 to 4,096: an event may lie on two pages. The pool, and `table` too,
+    /// names only slots below `slots`. With fewer than 2 frames, or without memory, the file is handed back.
     pub fn new(
         alloc: Global,
         file: SlotFile<D>,
@@ -109,8 +109,9 @@ impl<D: Disk> Pool<D> {
         }
     }
 
-    /// Frees the frame of the page used least recently, and answers its number; none where no page is in memory. The page is
-    /// written first where it was changed: to the slot that was picked for it where it waits unchanged, and else to the least free one.
+    /// Frees the frame of the page used least recently, and answers the page's number, or none if no page is in memory. A
+    /// changed page is written first: to the slot picked for it if it waits and is as it was frozen, else to the least free
+    /// slot.
     pub fn evict(&mut self) -> Result<Option<u64>, Refusal>
         ensures takes { TakesLeastFree self.old self.new }
         ensures stays { Stays ⟦<D as Disk>⟧ self.old self.new }
@@ -124,7 +125,7 @@ impl<D: Disk> Pool<D> {
         self.parts.evict()
     }
 
-    /// Frees a frame where all are taken.
+    /// Frees a frame if all are taken.
     pub fn make_room(&mut self) -> Result<(), Refusal>
         ensures takes { TakesLeastFree self.old self.new }
         ensures stays { Stays ⟦<D as Disk>⟧ self.old self.new }
@@ -137,8 +138,8 @@ impl<D: Disk> Pool<D> {
         self.parts.make_room()
     }
 
-    /// Brings a page into a frame, as the one used last. Where all frames are taken, the page used least recently leaves its
-    /// frame; the page that was used just before stays.
+    /// Brings a page into a frame, as the one used last. If all frames are taken, the page used least recently leaves its
+    /// frame. The page used just before this call stays.
     pub fn load(&mut self, page: u64, segments: u32, sets: &SetTable) -> Result<(), Refusal>
         requires { page < 2 ^ 54 }
         ensures takes { TakesLeastFree self.old self.new }
@@ -154,7 +155,7 @@ impl<D: Disk> Pool<D> {
         self.parts.load(page, segments, sets)
     }
 
-    /// Keeps the frozen cells of a page that waits and has none kept. Then the page may be changed.
+    /// Copies the frozen cells of a page that waits and has no copy yet. Then the page may be changed.
     pub fn keep(&mut self, page: u64) -> Result<(), Refusal>
         ensures stays { Stays ⟦<D as Disk>⟧ self.old self.new }
         ensures rest { self.new ≡ record self.old { copies = self.new.copies } }
@@ -201,8 +202,8 @@ impl<D: Disk> Pool<D> {
         parts.into_file()
     }
 
-    /// Fixes the live map as the frozen one. The pages that were changed since they were new, read or written wait from then on,
-    /// each with a slot that nothing names: the least ones, rising with the pages. A refusal changes nothing.
+    /// Makes the live map the frozen one. The pages that were changed since they were new, read or written wait from then
+    /// on. Each gets a slot that nothing names: the least ones, rising with the pages. A refusal changes nothing.
     pub fn freeze(&mut self) -> Result<(), FreezeFault>
         ensures frozen { FreezesOnOk ⟦<D as Disk>⟧ self.old self.new result }
         ensures live { SameMap (live ⟦<D as Disk>⟧ self.old) (live ⟦<D as Disk>⟧ self.new) }
@@ -219,15 +220,15 @@ impl<D: Disk> Pool<D> {
         self.parts.freeze()
     }
 
-    /// The page with the least number of those that wait, and its frozen cells. Takes no memory.
+    /// The waiting page with the least number, with its frozen cells. Takes no memory.
     pub fn take_job(&self) -> Option<Job>
         ensures { IsNextJob self.now result }
     {
         self.parts.take_job()
     }
 
-    /// Writes a page to the slot that was picked for it: `Written` exactly where it waits and the bytes are those of its frozen
-    /// cells. The pages in memory stay, with their cells. It makes one device call at most and takes no memory.
+    /// Writes a page to the slot that was picked for it: `Written` exactly if it waits and the bytes are those of its
+    /// frozen cells. The pages in memory stay, with their cells. It makes one device call at most and takes no memory.
     pub fn put(&mut self, page: &EncodedPage) -> Result<Put, WriteFault>
         ensures stays { Stays ⟦<D as Disk>⟧ self.old self.new }
         ensures written { IfOk result (λ put. put ≡ Put.Written → HasWaited self.old page.now) }
@@ -273,7 +274,7 @@ impl<D: Disk> Pool<D> {
         self.parts.frames.len()
     }
 
-    /// The table of the frozen map. It names its pages as they are written, and a root can name it.
+    /// The table of the frozen map. A waiting page has its entry once it is written. A root can name the table.
     pub fn frozen_table(&self) -> &Table
         ensures entries { result.now.entries ≡ self.now.frozen }
         ensures nameable { IsNameable self.now.slots self.now.frozen }
@@ -283,8 +284,8 @@ impl<D: Disk> Pool<D> {
         table
     }
 
-    /// Makes what was written durable. After an `Ok` with all written, each image of the slots, read by the frozen table, gives
-    /// the frozen map. It makes one device call and takes no memory.
+    /// Makes the written pages durable. If no page waits, then after an `Ok` each image of the slots, read by the frozen
+    /// table, gives the frozen map. It makes one device call and takes no memory.
     pub fn seal(&mut self) -> Result<(), WriteFault>
         ensures stays { Stays ⟦<D as Disk>⟧ self.old self.new }
         ensures sealed { SealsWhole ⟦<D as Disk>⟧ self.old self.new result }

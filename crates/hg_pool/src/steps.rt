@@ -34,7 +34,7 @@ impl<D: Disk> Parts<D> {
     ghost use Rattle.hg_pool.specs.Reached.{IsReached};
     ghost use Rattle.hg_pool.specs.Sound.{IsSound, frozen_of, shown_of, ChangesWaiting};
 
-    /// Makes room for an entry of the live table beside those that the pages that wait may need, and for this slot.
+    /// Makes room in the live table for one entry, besides those that the waiting pages may need, and for this slot.
     pub(crate) fn reserve_live(&mut self, slot: u32) -> Result<(), Refusal>
         requires sound { IsSound self.old }
         requires within { slot < self.old.slots }
@@ -74,7 +74,7 @@ impl<D: Disk> Parts<D> {
         self.frames.mark_clean(page);
     }
 
-    /// Takes a page that was written from those that wait, and answers whether it is as it was frozen.
+    /// Takes a written page out of the waiting ones, and answers whether it is as it was frozen.
     pub(crate) fn release(&mut self, page: u64, slot: u32) -> bool
         requires sound { IsSound self.old }
         requires waits { slot_in self.old.waiting.entries page ≡ Some slot }
@@ -149,7 +149,7 @@ impl<D: Disk> Parts<D> {
         Ok(self.frames.put(page, frame)?)
     }
 
-    /// Keeps the frozen cells of a page that waits and has none kept, before it is changed.
+    /// Copies the frozen cells of a page that waits and has no copy yet, before it is changed.
     pub(crate) fn keep_page(&mut self, page: u64) -> Result<(), Refusal>
         requires sound { IsSound self.old }
         ensures sound { IsSound self.new }

@@ -36,7 +36,7 @@ fn pages_of(at: u64, len: u16) -> (u64, u64)
 }
 
 impl<D: Disk> Pool<D> {
-    // Brings two pages into frames, which may be one. The first stays in memory where the second is brought.
+    // Brings two pages, which may be the same, into frames. The first stays in memory when the second is brought.
     fn load_both(
         &mut self,
         first: u64,
@@ -60,7 +60,7 @@ impl<D: Disk> Pool<D> {
         self.load(last, segments, sets)
     }
 
-    // Keeps the frozen cells of two pages, which may be one.
+    // Keeps the frozen cells of two pages, which may be the same.
     fn keep_both(&mut self, first: u64, last: u64) -> Result<(), Refusal>
         ensures stays { Stays ⟦<D as Disk>⟧ self.old self.new }
         ensures rest { self.new ≡ record self.old { copies = self.new.copies } }
@@ -75,7 +75,7 @@ impl<D: Disk> Pool<D> {
         self.keep(last)
     }
 
-    // Whether a page may be changed, where some pages wait.
+    // Whether a page may be changed, if some pages wait.
     #[inline(never)]
     fn is_settled_of_some(&self, page: u64) -> bool
         ensures { IsTrue result → IsSettled self.now page }
@@ -97,7 +97,7 @@ impl<D: Disk> Pool<D> {
         self.is_settled_of_some(page)
     }
 
-    // A page in its frame, where it is the one used last.
+    // The frame of a page, if the page is the one used last.
     #[inline]
     fn last_frame(&self, page: u64) -> Option<&Frame>
         ensures { IfSome result (λ f. frame_in self.now.frames page ≡ Some f.now) }
@@ -105,7 +105,8 @@ impl<D: Disk> Pool<D> {
         self.parts.frames.first(page)
     }
 
-    // The words of a page in memory from one place on, up to another at most, that have the first one's cell, by a look-up.
+    // The run of words in a page in memory that have the cell of the word at `from`; it begins there and ends at `to` or
+    // before. This looks the page up.
     #[inline(never)]
     fn run_by_look_up(&self, page: u64, from: usize, to: usize) -> Run
         requires present { is_some (frame_in self.now.frames page) ≡ true }
@@ -124,7 +125,7 @@ impl<D: Disk> Pool<D> {
         }
     }
 
-    // The same, without a look-up where the page is the one used last.
+    // The same, without a look-up if the page is the one used last.
     #[inline]
     fn run_of(&self, page: u64, from: usize, to: usize) -> Run
         requires present { is_some (frame_in self.now.frames page) ≡ true }
@@ -140,8 +141,8 @@ impl<D: Disk> Pool<D> {
         }
     }
 
-    /// The cell that the words of a page from one place up to another all have, where the page is in memory and may be changed. (`None`
-    /// says nothing of them.) The page becomes the one used last.
+    /// The one cell of all words of a page from `from` up to `to`, if the page is in memory and may be changed. `None` says
+    /// nothing about these words. The page becomes the one used last.
     #[inline]
     pub fn ask(&mut self, page: u64, from: usize, to: usize) -> Option<Cell>
         requires in_order { from < to }
@@ -160,7 +161,7 @@ impl<D: Disk> Pool<D> {
         answer
     }
 
-    // Gives the words of a page from one place up to another a cell.
+    // Gives all words of a page from `from` up to `to` a cell.
     #[inline]
     fn fill_page(&mut self, number: u64, from: u64, to: u64, cell: Cell)
         requires present { is_some (frame_in self.old.frames number) ≡ true }

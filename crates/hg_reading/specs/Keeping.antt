@@ -1,4 +1,4 @@
--- For proofs alone: what is kept of lines that were parsed before they are offered.
+-- For proofs alone: parsed lines that are kept until they are offered.
 use Rattle.std.specs.Prelude.{◌≡◌, ℕ, ◌+◌, ◌≤◌, List, [], ◌∷◌, ◌++◌, length, drop, Bool, Option, None, Result, Ok, ⊤, if◌then◌else◌}
 use Rattle.hg_model.specs.declared.event.Access.{Access}
 use Rattle.hg_model.specs.declared.event.Event.{Event}
@@ -29,12 +29,12 @@ access_of is_write access = if is_write then events.Write access else events.Rea
 abbrev pub one_access : ℕ → Bool → Access → List Reading
 one_access n is_write access = one n (access_of is_write access)
 
--- how many lines something kept stands for
+-- how many lines a kept item stands for
 abbrev pub lines_by : Kept → ℕ
 lines_by (Passed count) = count
 lines_by _ = 1
 
--- what was read of them, behind n lines
+-- the readings of a kept item, behind n lines
 abbrev pub reading_kept : ℕ → Kept → List Reading
 reading_kept n (Passed count) = []
 reading_kept n (Fork p c) = one n (events.Fork p c)
@@ -44,25 +44,25 @@ reading_kept n (KeptAccess len is_write t at) = one_access n is_write (record { 
 reading_kept n (Alloc t len at) = one n (events.Alloc (record { t = t; at = at; len = len }))
 reading_kept n (Free t len at) = one n (events.Free (record { t = t; at = at; len = len }))
 
--- how many lines all that is kept stands for
+-- how many lines all kept items stand for
 abbrev pub lines_kept : List Kept → ℕ
 lines_kept [] = 0
 lines_kept (it ∷ kept) = lines_by it + lines_kept kept
 
--- what was read of them, behind n lines
+-- the readings of all kept items, behind n lines
 abbrev pub readings_kept : ℕ → List Kept → List Reading
 readings_kept n [] = []
 readings_kept n (it ∷ kept) = reading_kept n it ++ readings_kept (n + lines_by it) kept
 
--- What is kept is the line of an event.
+-- The kept item is the line of this event.
 abbrev pub IsLineOf : Kept → Event → Type 0
 IsLineOf it event = (n : ℕ) → reading_kept n it ≡ one n event
 
--- What is kept goes on with the line of an event, behind so many lines that have none.
+-- The kept items go on with `passed` lines without an event, and the line of an event behind them.
 abbrev pub KeepsLine : List Kept → ℕ → Kept → List Kept → Type 0
 KeepsLine old passed it new = (event : Event) → IsLineOf it event → (n : ℕ) → readings_kept n new ≡ readings_kept n old ++ one (n + lines_kept old + passed) event
 
--- Of lines that were offered, these were taken, from the first on: all, where each was passed.
+-- Of the lines that were due the sink took a front: all of them, where each was passed.
 pub record IsOffered {S E : Type 0} (takes : Taking S E) (before : S) (at_first : List WriteCall) (due : List Reading) (r : Result (Option E) Refusal) (now : S) (at_last : List WriteCall) : Type 0 where
   pub lines : List Reading
   pub left : List Reading
@@ -70,11 +70,11 @@ pub record IsOffered {S E : Type 0} (takes : Taking S E) (before : S) (at_first 
   pub steps : takes before at_first lines r now at_last
   pub all : r ≡ Ok None → left ≡ []
 
--- The same of what is kept, behind n lines, with the output.
+-- The same for kept items behind n lines, with the output.
 abbrev pub OffersKept : {S E W : Type 0} → Taking S E → ℕ → List Kept → S → Outgoing W → Result (Option E) Refusal → S → Outgoing W → Type 0
 OffersKept takes n kept before output r now printed = IsOffered takes before output.calls (readings_kept n kept) r now printed.calls
 
--- What is kept of a text is all that is read of its first lines, behind however many lines they come.
+-- The kept items are all readings of the first lines of the text, however many lines stand before it.
 pub record IsKept (text : List ℕ) (kept : List Kept) (lines bytes : ℕ) : Type 0 where
   pub within : bytes ≤ length text
   pub counted : lines ≤ bytes
@@ -83,24 +83,24 @@ pub record IsKept (text : List ℕ) (kept : List Kept) (lines bytes : ℕ) : Typ
   pub readings : (n : ℕ) (more : List ℕ) → readings_from (between_lines n) (text ++ more) ≡ readings_kept n kept ++ readings_from (between_lines (n + lines)) (drop bytes text ++ more)
   pub ended : (n : ℕ) (more : List ℕ) → ended_from (between_lines n) (text ++ more) ≡ readings_kept n kept ++ ended_from (between_lines (n + lines)) (drop bytes text ++ more)
 
--- what was taken of the rest of a text
+-- what the reader found next in the rest of a text
 abbrev pub FindsNext : LinesRead → LinesRead → List ℕ → Next → Type 0
 FindsNext old new rest (next.Line it used) = (event : Event) × IsLineOf it event × (lines_by it ≡ 1) × GivesReading old new rest (record { line = new.lines; event = Ok event }) used
 FindsNext old new rest Bad = ⊤
 FindsNext old new rest End = GivesNoReading old new rest
 
--- A part has what is kept of this text.
+-- The part holds the kept lines of this text.
 pub record Holds (part : Part) (text : List ℕ) : Type 0 where
   pub given : part.given ≡ length text
   pub kept : IsKept text part.kept.items part.extent.lines part.extent.bytes
 
--- The one part holds a text.
+-- There is one part, and it holds the text.
 abbrev pub HoldsAlone : List Part → List ℕ → Type 0
 HoldsAlone [] text = ⊥
 HoldsAlone (part ∷ []) text = Holds part text
 HoldsAlone (part ∷ other ∷ parts) text = ⊥
 
--- The parts hold the first of a text between them, each the next stretch of it.
+-- The parts hold stretches of the text that follow one another from its start on.
 abbrev pub AreHeld : List Part → List ℕ → Type 0
 AreHeld [] text = ⊤
 AreHeld (part ∷ parts) text = (given : List ℕ) × (behind : List ℕ) × (text ≡ given ++ behind) × Holds part given × AreHeld parts behind

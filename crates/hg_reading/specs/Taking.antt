@@ -14,12 +14,13 @@ use Rattle.hg_wire.specs.declared.line.AccessLine.{AccessLine}
 use Rattle.hg_wire.specs.declared.reader.Reading.{Reading}
 use Rattle.hg_wire.specs.Streams.{LinesRead, ended_from, ended_readings, readings, readings_from}
 
--- What was printed ends no run, unless that failed.
+-- Printing ends no run, unless it fails.
 abbrev pub as_stop : {T E : Type 0} → Result T Refusal → Result (Option E) Refusal
 as_stop (Ok done) = Ok None
 as_stop (Err r) = Err r
 
--- What comes of lines that are offered to a sink S, which ends a run by an E: from a state and the calls of the output, by these lines, to an answer, a state and calls.
+-- How a sink S takes lines: from its state and the calls of its output, by these lines, to an answer, a state and calls. A line may end
+-- the run with an E.
 abbrev pub Taking : Type 0 → Type 0 → Type 1
 Taking S E = S → List WriteCall → List Reading → Result (Option E) Refusal → S → List WriteCall → Type 0
 
@@ -31,16 +32,16 @@ access_at line found = record { line = line; event = Ok (event_of found) } ∷ [
 abbrev pub hold_at : ℕ → Hold → List Reading
 hold_at line hold = record { line = line; event = Ok (hold_event hold) } ∷ []
 
--- Whatever follows these bytes, what is read of all of them begins with these lines.
+-- Whatever follows these bytes, the readings of the whole text begin with these lines.
 abbrev pub Begins : List ℕ → List Reading → Type 0
 Begins bytes lines = (more : List ℕ) → (rest : List Reading) × (readings (bytes ++ more) ≡ lines ++ rest)
 
--- No line is left that a line feed has ended.
+-- The reader holds back no line that a line feed has ended.
 abbrev pub HasNoneLeft : LinesRead → Type 0
 HasNoneLeft p = ended_from p [] ≡ []
 
 module _ {S E : Type 0} (takes : Taking S E) where
-  -- A piece before the reader was taken up to a rest of it: the lines in front of that were passed.
+  -- The sink passed the lines of a piece up to this rest of it.
   pub record Passes (old : LinesRead) (before : S) (at_first : List WriteCall) (piece : List ℕ) (new : LinesRead) (now : S) (at_last : List WriteCall) (rest : List ℕ) : Type 0 where
     pub lines : List Reading
     pub steps : takes before at_first lines (Ok None) now at_last
@@ -61,11 +62,11 @@ module _ {S E : Type 0} (takes : Taking S E) where
   Pushes old before at_first piece (Ok (Some end)) new now at_last = StopsIn old before at_first piece (Ok (Some end)) now at_last
   Pushes old before at_first piece (Err r) new now at_last = StopsIn old before at_first piece (Err r) now at_last
 
-  -- The same of a piece that was offered, with the output.
+  -- The same with the output in place of its calls.
   abbrev pub Offers : {W : Type 0} → LinesRead → S → Outgoing W → List ℕ → Result (Option E) Refusal → LinesRead → S → Outgoing W → Type 0
   Offers old before output piece r new now printed = Pushes old before output.calls piece r new now printed.calls
 
-  -- From the first reads to those of now none failed and none met the end, and each line that a line feed ended was passed.
+  -- No read since `first` failed or met the end of the input, and each line that a line feed ended was passed.
   pub record HasRead (first now : List ReadCall) (before : S) (at_first : List WriteCall) (p : LinesRead) (here : S) (at_last : List WriteCall) : Type 0 where
     pub later : List ReadCall
     pub since : now ≡ later ++ first
@@ -77,7 +78,7 @@ module _ {S E : Type 0} (takes : Taking S E) where
     pub ended : (more : List ℕ) → ended_readings (given later ++ more) ≡ lines ++ ended_from p more
     pub none_left : HasNoneLeft p
 
-  -- Each of these reads was needed: before the last of them none had met the end of the input, and each line that had come whole was passed.
+  -- Each of these reads was needed: none before the last met the end of the input, and each line that was whole by then was passed.
   pub record EachIsNeeded (before : S) (at_first : List WriteCall) (reads : List ReadCall) : Type 0 where
     pub last : ReadCall
     pub earlier : List ReadCall
@@ -87,7 +88,8 @@ module _ {S E : Type 0} (takes : Taking S E) where
     pub calls : List WriteCall
     pub passed : takes before at_first (ended_readings (given earlier)) (Ok None) now calls
 
-  -- These lines are all of the input, the end of which was met; or one of them ended the run, whatever follows what was read.
+  -- A read met the end of the input, and these are all its lines; or the answer is not `Ok None`, and the input begins with these lines,
+  -- whatever follows what was read.
   abbrev pub AreDue : List ReadCall → List Reading → Result (Option E) Refusal → Type 0
   AreDue reads lines r =
       ((earlier : List ReadCall) × (reads ≡ Gave [] ∷ earlier) × (lines ≡ readings (given earlier)))

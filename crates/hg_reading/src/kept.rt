@@ -1,4 +1,4 @@
-//! What is kept of lines that were parsed before they are offered.
+//! Parsed lines that are kept until they are offered.
 
 ghost use Rattle.std.specs.Prelude.{◌≡◌, ℕ, ◌+◌, ◌++◌, ◌∷◌, [], ◌<◌, ◌≤◌, ◌^◌, length, vec_capacity, vec_len};
 ghost use Rattle.std.specs.Bool.{OnFalse, OnTrue};
@@ -12,7 +12,8 @@ use hg_streams::output::Output;
 use hg_wire::line::AccessLine;
 use hg_wire::reader::Reading;
 
-/// A line with its event, or lines without one. It takes 16 bytes, where a `Reading` takes 48: what was parsed goes through the memory of two processors.
+/// A line with its event, or a number of lines without one. It takes 16 bytes, a `Reading` 48: parsed lines go through the memory of two
+/// processors.
 #[derive(Clone, Copy, Debug, PartialEq, Eq, Drop)]
 pub enum Kept {
     /// So many lines are empty or comments.
@@ -116,7 +117,7 @@ impl Kept {
     }
 }
 
-/// Keeps a line with its event, behind lines that have none. `false` says that there is no room, and then nothing is kept.
+/// Appends `passed` lines without an event, and the line `it`. `false` says that there is no room; nothing is appended then.
 #[inline(always)]
 pub fn keep(kept: &mut Vec<Kept>, passed: u64, it: Kept) -> bool
     ensures readings { OnTrue result (KeepsLine kept.old.items passed it kept.new.items) }
@@ -135,7 +136,7 @@ pub fn keep(kept: &mut Vec<Kept>, passed: u64, it: Kept) -> bool
     true
 }
 
-/// Keeps one more in the room that there is.
+/// Appends one item, for which there is room.
 #[inline(always)]
 fn push(kept: &mut Vec<Kept>, it: Kept)
     requires room { vec_len kept.old < vec_capacity kept.old }
@@ -146,7 +147,7 @@ fn push(kept: &mut Vec<Kept>, it: Kept)
     kept.push(it).unwrap();
 }
 
-/// Offers what is kept behind so many lines, up to the first line that is not passed. `None` says that each was passed.
+/// Offers the kept lines, which stand behind `lines` others, up to the first that is not passed. `None` says that each was passed.
 pub fn offer_all<W, S: Sink<W>>(
     lines: u64,
     kept: &[Kept],
@@ -167,7 +168,7 @@ pub fn offer_all<W, S: Sink<W>>(
     Ok(None)
 }
 
-/// Offers one of them.
+/// Offers one kept item.
 #[inline(always)]
 fn offer<W, S: Sink<W>>(
     lines: u64,

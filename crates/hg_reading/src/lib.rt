@@ -1,4 +1,5 @@
-//! The one loop that reads a trace text: in pieces, each line handed to what takes its events, to the end of the input or up to the line that ends the run.
+//! The one loop that reads a trace text. It reads pieces and hands each line to a sink, up to the end of the input or the line that ends
+//! the run.
 #![tactic(auto)]
 
 pub mod kept;

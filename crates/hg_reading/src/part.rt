@@ -18,7 +18,7 @@ pub struct Extent {
 /// What comes next in a text.
 #[derive(Clone, Copy, Debug, PartialEq, Eq, Drop)]
 pub enum Next {
-    /// A line that has an event. It ends behind so many bytes.
+    /// A line with an event. It ends behind `used` bytes.
     Line { it: Kept, used: usize },
     /// A line that is bad.
     Bad,
@@ -36,7 +36,7 @@ pub struct Part {
     pub given: usize,
     /// How far it was parsed: up to a line that is bad, or for which there is no room.
     pub extent: Extent,
-    /// Keeps parts that lie side by side off one another's cache lines, since each is written by a thread of its own.
+    /// Padding. Each part is written by a thread of its own, so neighbouring parts must share no cache line.
     apart: [u64; 16],
 }
 

@@ -50,7 +50,7 @@ pub fn push<W, S: Sink<W>>(
 
 /// How the pieces of a trace text are taken.
 pub(crate) trait Pieces<W, S: Sink<W>> {
-    /// What a piece is taken by may be used: by several threads, where it is theirs.
+    /// The means of taking a piece may be used. Several threads share the runtime, so it has to be `Sync` for them.
     ghost may_push: { Self → Type 0 };
 
     /// The same as `push`.

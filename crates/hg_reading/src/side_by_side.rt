@@ -40,7 +40,7 @@ pub(crate) struct SideBySide<'a, T> {
 }
 
 impl<'a, T: Threads + Sync> SideBySide<'a, T> {
-    /// With so many threads at once, that of the sink among them.
+    /// For `jobs` threads at once, the sink's among them.
     pub(crate) fn new(rt: &'a T, jobs: usize, alloc: Global) -> Result<Self, AllocError> {
         let at_once = jobs.clamp(2, MOST_JOBS) - 1;
         let mut parts = Vec::new(alloc);
@@ -145,7 +145,8 @@ fn offer_lines<T: Threads + Sync, W, S: Sink<W>>(
     offer_groups(rt, left, reader, sink, output, now, next)
 }
 
-/// How many bytes of a text come next, up to a line feed as far as there is one.
+/// How many bytes of a text come next: all, if there are at most `most`; else up to the last line feed of the first `most`, or `most`
+/// without one.
 fn lines_within(text: &[u8], most: usize) -> usize
     requires { 0 < most }
     ensures within { result ≤ length text.now }
@@ -160,7 +161,7 @@ fn lines_within(text: &[u8], most: usize) -> usize
     }
 }
 
-/// How many bytes so many threads parse while a text is offered: more than it has, since to parse takes less time than to offer.
+/// How many bytes `threads` threads parse while `offered` is offered: more than it has, since parsing is faster than offering.
 fn group_behind(offered: &[u8], threads: usize) -> usize
     ensures { 0 < result }
 {
@@ -168,7 +169,8 @@ fn group_behind(offered: &[u8], threads: usize) -> usize
     offered.len().saturating_add(more).clamp(FIRST, GROUP)
 }
 
-/// Offers what is left of a text, of which some parts hold what is due, by turns: while one half of the parts is offered, the other is filled.
+/// Offers the rest of a text by turns. The parts `now` hold the text that is due. While they are offered, threads fill the parts `next`;
+/// then the two halves change places.
 fn offer_groups<T: Threads + Sync, W, S: Sink<W>>(
     rt: &T,
     left: Left<'_>,
@@ -204,7 +206,7 @@ fn offer_groups<T: Threads + Sync, W, S: Sink<W>>(
     offer_groups(rt, left, reader, sink, output, next, now)
 }
 
-/// Offers what is due in a turn, while each of the other parts is filled by a thread of its own.
+/// Offers the text that is due in a turn. Meanwhile each part of `next` is filled by a thread of its own.
 #[cycle(beside)]
 fn offer_beside<T: Threads + Sync, W, S: Sink<W>>(
     rt: &T,
@@ -257,7 +259,7 @@ fn offer_beside<T: Threads + Sync, W, S: Sink<W>>(
     answer
 }
 
-/// How many bytes of a text one of so many threads is given, up to a line feed.
+/// How many bytes of a text the first of `threads` threads gets: its equal share up to the last line feed, or all as the only thread.
 fn share(text: &[u8], threads: usize) -> usize
     requires { 0 < threads }
     ensures { result ≤ length text.now }
@@ -268,7 +270,7 @@ fn share(text: &[u8], threads: usize) -> usize
     last_line_end(&text[..text.len() / threads])
 }
 
-/// Fills the one part.
+/// Parses the text into the one part.
 fn parse_first(parts: &mut [Part], text: &[u8])
     requires { length parts.old ≡ 1 }
     ensures { HoldsAlone parts.new text.now }
@@ -276,7 +278,7 @@ fn parse_first(parts: &mut [Part], text: &[u8])
     parts[0].parse(text);
 }
 
-/// Offers a text of which parts hold the first lines, one part after another, and then what none holds, up to the first line that is not passed.
+/// Offers a text up to the first line that is not passed. The parts hold its first lines, one part after another; the rest is parsed here.
 fn offer_parts<W, S: Sink<W>>(
     parts: &[Part],
     text: &[u8],
@@ -300,7 +302,8 @@ fn offer_parts<W, S: Sink<W>>(
     push(reader, sink, rest, output)
 }
 
-/// Offers what a part holds of its text, and what it does not hold of it by parsing that here.
+/// Offers the text of a part: first the lines that the part holds, then the rest, which is parsed here. Within a line all of it is parsed
+/// here.
 fn offer_part<W, S: Sink<W>>(
     part: &Part,
     text: &[u8],

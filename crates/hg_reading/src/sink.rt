@@ -1,4 +1,4 @@
-//! What takes the events of a trace text.
+//! Sinks, which take the events of a trace text.
 
 ghost use Rattle.std.specs.Prelude.{◌≡◌, ℕ, ◌+◌, ◌++◌, List, [], ◌∷◌, Option, None, Result, Ok, length};
 ghost use Rattle.hg_model.specs.declared.verdict.Refusal.{Refusal as RefusalOf};
@@ -33,8 +33,8 @@ pub trait Sink<W> {
     /// So many lines may be offered.
     ghost may_take: { Self → ℕ → Type 0 };
 
-    /// What the lines came to that were offered from one state of the sink and of its output to another: `Ok None` where each was passed;
-    /// else the last of them ended the run, or was broken off by a fault.
+    /// From one state of the sink and its output to another these lines were offered, with this answer: `Ok None` where each was passed;
+    /// else the last of them ended the run, or a fault broke it off.
     ghost takes: { Self → List WriteCall → List ReadingOf → Result (Option Self.End) RefusalOf → Self → List WriteCall → Type 0 };
 
     /// Offers a line. `None` says that it was passed.
@@ -74,14 +74,14 @@ pub trait Sink<W> {
         self.offer(&reading, output)
     }
 
-    /// Prints what is to be printed before more is read.
+    /// Prints what is due before the next read.
     fn print(&mut self, output: &mut Output<W>) -> Result<(), Refusal>
         ensures takes { takes self.old output.old.calls [] (as_stop result) self.new output.new.calls };
 
-    /// No line changes nothing.
+    /// Offering no lines changes nothing.
     ghost none: { (s : Self) (calls : List WriteCall) → takes s calls [] (Ok None) s calls };
 
-    /// Where lines were passed, those behind them come to what all of them come to.
+    /// Where the first lines were passed and the later ones gave an answer, all of them together give that answer.
     ghost on: { (a b c : Self) (at_a at_b at_c : List WriteCall) (first later : List ReadingOf) (r : Result (Option Self.End) RefusalOf)
         → takes a at_a first (Ok None) b at_b → takes b at_b later r c at_c → takes a at_a (first ++ later) r c at_c };
 

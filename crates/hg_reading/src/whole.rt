@@ -25,7 +25,7 @@ const LARGE_PIECE: usize = 2_097_152;
 /// After how many reads an input counts as failed.
 const MOST_READS: u64 = 1 << 32;
 
-/// What a reading has of its own: a reader, and room for a piece.
+/// A reader, and the buffer for a piece.
 #[derive(Drop)]
 struct Intake {
     reader: EventReader,
@@ -46,7 +46,7 @@ impl Intake {
     }
 }
 
-/// Offers the lines of a piece, and prints what comes of them where each was passed.
+/// Offers the lines of a piece. Where each was passed, the sink prints.
 #[inline(always)]
 fn take_piece<P: Pieces<W, S>, W, S: Sink<W>>(
     pieces: &mut P,
@@ -85,8 +85,8 @@ fn finish<W, S: Sink<W>>(
     }
 }
 
-/// Reads a trace text to its end, or up to the line that ends the run, behind which nothing is read, and offers its lines to the sink,
-/// which prints after each piece. `None` says that the input came to its end.
+/// Reads a trace text, and offers its lines to the sink, which prints after each piece. The line that ends the run is the last one offered,
+/// and nothing is read after it. `None` says that the input came to its end.
 pub fn read<R: Read, W, S: Sink<W>>(
     alloc: Global,
     input: &mut Input<R>,
@@ -100,7 +100,7 @@ pub fn read<R: Read, W, S: Sink<W>>(
     read_pieces(&mut Alone, intake, input, sink, output)
 }
 
-/// As `read`, with the lines parsed by up to so many threads, the one that calls among them. What the sink takes does not depend on them.
+/// As `read`, but up to `jobs` threads parse the lines, the calling one among them. What the sink takes does not depend on their number.
 pub fn read_side_by_side<T: Threads + Sync, R: Read, W, S: Sink<W>>(
     rt: &T,
     jobs: usize,

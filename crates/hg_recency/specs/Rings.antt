@@ -1,13 +1,13 @@
--- Places in a ring, each of which names its neighbours.
+-- Places in a ring. Each names its neighbours.
 use Rattle.std.specs.Prelude.{◌≡◌, ◌≢◌, ◌+◌, ◌<◌, ℕ, zero, suc, ⊤, Bool, true, false, List, [], ◌∷◌, length, get_or, set}
 use Rattle.std.specs.List.{AllByRecursion}
 use Rattle.hg_recency.specs.declared.node.Node.{Node}
 
--- what lies beyond the last place
+-- the node beyond the last place
 abbrev pub blank : Node
 blank = record { key = 0; newer = 0; older = 0; is_used = false }
 
--- the place whose use was the next after that of a place, and the one whose use was the next before it
+-- the place used just after this one, and the place used just before it
 abbrev pub newer_at : List Node → ℕ → ℕ
 newer_at ns p = (get_or ns p blank).newer
 
@@ -21,7 +21,7 @@ key_at ns p = (get_or ns p blank).key
 abbrev pub is_used_at : List Node → ℕ → Bool
 is_used_at ns p = (get_or ns p blank).is_used
 
--- another neighbour of a place
+-- a place with another neighbour
 abbrev pub with_newer : List Node → ℕ → ℕ → List Node
 with_newer ns p newer = set ns p (record (get_or ns p blank) { newer = newer })
 
@@ -43,7 +43,7 @@ unlinked ns p = with_newer (with_older ns (newer_at ns p) (older_at ns p)) (olde
 abbrev pub linked : List Node → ℕ → ℕ → List Node
 linked ns end p = with_older (with_newer (with_older (with_newer ns p end) p (older_at ns end)) (older_at ns end) p) end p
 
--- From a place by these to another, neighbours name each other.
+-- On the way from `from` by these places to `to`, neighbours name each other.
 abbrev pub AreLinked : List Node → ℕ → List ℕ → ℕ → Type 0
 AreLinked ns from [] to = (older_at ns from ≡ to) × (newer_at ns to ≡ from)
 AreLinked ns from (p ∷ ps) to = (older_at ns from ≡ p) × (newer_at ns p ≡ from) × AreLinked ns p ps to
@@ -52,19 +52,19 @@ AreLinked ns from (p ∷ ps) to = (older_at ns from ≡ p) × (newer_at ns p ≡
 abbrev pub IsApart : ℕ → List ℕ → Type 0
 IsApart p ps = AllByRecursion (λ q. q ≢ p) ps
 
--- no two of these are one place
+-- these places are distinct
 abbrev pub AreApart : List ℕ → Type 0
 AreApart [] = ⊤
 AreApart (p ∷ ps) = IsApart p ps × AreApart ps
 
--- these places, that used last first, in a ring that is closed by the last place of all
+-- these places, the last used first, form a ring; the place `end`, the last of all, closes it
 pub record IsRing (ns : List Node) (end : ℕ) (ps : List ℕ) : Type 0 where
   pub long : length ns ≡ end + 1
   pub within : AllByRecursion (λ p. p < end) ps
   pub apart : AreApart ps
   pub links : AreLinked ns end ps end
 
--- so many places, from the one behind a place on
+-- the n places that follow this one
 abbrev pub followed : List Node → ℕ → ℕ → List ℕ
 followed ns from zero = []
 followed ns from (suc n) = older_at ns from ∷ followed ns (older_at ns from) n

@@ -1,4 +1,4 @@
--- What the parts of keys in the order of their use keep.
+-- The invariant of a `Recency`.
 use Rattle.std.specs.Prelude.{◌≡◌, ◌≤◌, ◌<◌, ◌==◌, ℕ, nat_eq, Bool, true, false, List, [], ◌∷◌, length, if◌then◌else◌}
 use Rattle.std.specs.List.{IsDistinct}
 use Rattle.std.specs.Map.{keys_of, lookup}
@@ -10,7 +10,7 @@ abbrev pub listed : ℕ → List ℕ → Bool
 listed p [] = false
 listed p (q ∷ qs) = if p == q then true else listed p qs
 
--- These places are the ring. The map finds each key in its place, and a place that says that it is used is one of them.
+-- These places are the ring. The map finds each key in its place, and each place that is marked as used is one of them.
 pub record IsSound (ns : List Node) (end : ℕ) (ps : List ℕ) (places : List (ℕ × ℕ)) : Type 0 where
   pub some : 0 < end
   pub small : end < 4294967296

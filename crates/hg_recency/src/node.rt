@@ -1,4 +1,4 @@
-//! Places in a ring: each names the place used next after it and the place used next before it.
+//! Places in a ring: each names the place used just after it and the place used just before it.
 ghost use Rattle.std.specs.Prelude.{◌≡◌, ◌<◌, ℕ, length};
 ghost use Rattle.hg_recency.specs.Rings.{key_at, linked, newer_at, older_at, unlinked, with_key, with_newer, with_older, without_key};
 
@@ -20,7 +20,7 @@ pub(crate) fn key(nodes: &Vec<Node>, place: u32) -> u64
     nodes[place as usize].key
 }
 
-/// The place used next after a place.
+/// The place used just after this one.
 #[inline(always)]
 pub(crate) fn newer(nodes: &Vec<Node>, place: u32) -> u32
     requires { place < length nodes.now.items }
@@ -29,7 +29,7 @@ pub(crate) fn newer(nodes: &Vec<Node>, place: u32) -> u32
     nodes[place as usize].newer
 }
 
-/// The place used next before a place.
+/// The place used just before this one.
 #[inline(always)]
 pub(crate) fn older(nodes: &Vec<Node>, place: u32) -> u32
     requires { place < length nodes.now.items }
@@ -68,7 +68,7 @@ pub(crate) fn set_key(nodes: &mut Vec<Node>, place: u32, key: u64)
     };
 }
 
-/// Takes the key of a place from it.
+/// Removes the key of a place.
 pub(crate) fn clear_key(nodes: &mut Vec<Node>, place: u32)
     requires { place < length nodes.old.items }
     ensures { nodes.new.items ≡ without_key nodes.old.items place }

@@ -12,15 +12,15 @@ use std::marker::Model;
 /// How many hints there are.
 const HINTS: usize = 16_384;
 
-/// Keys in the order of their use, each in a place of its own, which is a small number.
+/// Keys in the order of their use. Each key has a place of its own, a small number.
 ///
-/// A key is found by a hint: a row of places by the last bits of a key. A hint that is wrong costs a look-up in a map, and says nothing
-/// else. Contracts see each key with its place, that used last first.
+/// A key is found by a hint: `hints` has a place for the last bits of each key. A wrong hint only costs a look-up in a map.
+/// Contracts see each key with its place, the last used first.
 #[derive(Drop)]
 pub struct Recency {
     places: HashMap<u64, u32>,
     hints: Vec<u32>,
-    // One for each place, and one that closes the ring.
+    // One node for each place, and one that closes the ring.
     nodes: Vec<Node>,
     count: u32,
     end: u32,
@@ -62,7 +62,7 @@ fn note(hints: &mut Vec<u32>, key: u64, place: u32) {
 }
 
 impl Recency {
-    /// No keys, and room for so many: their places are the numbers below.
+    /// No keys, with room for `most` keys. The places are the numbers below `most`.
     pub fn new(alloc: Global, most: u32) -> Result<Self, AllocError>
         requires some { 0 < most }
         ensures { IfOk result (λ r. r ≡ lru_cache [] most) }
@@ -90,7 +90,7 @@ impl Recency {
         self.count
     }
 
-    /// How many there may be.
+    /// The greatest number of keys.
     pub fn most(&self) -> u32
         ensures { result ≡ self.now.cap }
     {
@@ -137,7 +137,7 @@ impl Recency {
         Some((key(&self.nodes, place), place))
     }
 
-    /// The key used next before the one that has a place, and its place.
+    /// The key used just before the key in this place, and its place.
     pub fn older(&self, place: u32) -> Option<(u64, u32)>
         requires { has_place place self.now.entries ≡ true }
         ensures { result ≡ behind place self.now.entries }
@@ -160,7 +160,7 @@ impl Recency {
         Some(place)
     }
 
-    /// Makes a key the one used last, and answers its place, where it has one. The key used last is asked first.
+    /// Makes a key the one used last, and answers its place, or none. The key used last is tried first.
     #[inline(always)]
     pub fn promote(&mut self, key: u64) -> Option<u32>
         ensures place { result ≡ lookup (nat_eq key) self.old.entries }
@@ -186,7 +186,7 @@ impl Recency {
         Some(place)
     }
 
-    /// Puts a key into a place that no other has, as the one used last.
+    /// Puts a new key into a free place, as the one used last.
     pub fn insert(&mut self, key: u64, place: u32) -> Result<(), AllocError>
         requires absent { lookup (nat_eq key) self.old.entries ≡ None }
         requires room { length self.old.entries < self.old.cap }

@@ -24,7 +24,7 @@ TakesEvent bytes e len = (len ≡ length (event_text e)) × BeginsWithEvent byte
 abbrev pub IsRecordLength : List ℕ → ℕ → Type 0
 IsRecordLength bytes len = (1 ≤ len) × (len ≤ length bytes) × HasRecord bytes (drop len bytes)
 
--- the bytes of a record by the number of its kind, 0 where there is no such kind
+-- the length of a record by the number of its kind, 0 where there is no such kind
 unfoldable pub length_by_kind : ℕ → ℕ
 length_by_kind kind =
     if kind == 1 then 15 else

@@ -31,7 +31,7 @@ block_at t bytes = do
   len ← number_at w16 at.1
   Some (record { t = t; at = at.0; len = len.0 }, len.1)
 
--- the event that a value read makes
+-- the event made of a value that was read
 abbrev pub making : {X : Type 0} → (X → Event) → Option (X × List ℕ) → Option (Event × List ℕ)
 making make read = read >>= λ x. Some (make x.0, x.1)
 
@@ -62,7 +62,7 @@ record_at bytes = do
   event ← event_at number.1
   Some (record { source = source.0; number = number.0; event = event.0 }, event.1)
 
--- What a function returned is what reading gives.
+-- A function returned what the reading gives.
 abbrev pub Gives : {X Y : Type 0} → (X → Y) → Option X → Option Y → Type 0
 Gives view (Some x) read = read ≡ Some (view x)
 Gives view None read = read ≡ None

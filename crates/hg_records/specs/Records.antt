@@ -54,7 +54,7 @@ EventFits (Write a) = AccessFits a
 EventFits (Alloc b) = BlockFits b
 EventFits (Free b) = BlockFits b
 
--- What has a record.
+-- The events that have a record: each field is within its width.
 abbrev pub RecordFits : Named → Type 0
 RecordFits n = (n.source < 2 ^ 16) × ((n.number < 2 ^ 64) × EventFits n.event)
 

@@ -7,7 +7,7 @@ pub fn records_are_unique()
     ensures { RecordsAreUnique }
 {}
 
-/// Bytes that are the records of some events are the records of no others.
+/// Different lists of events have different records.
 pub fn record_lists_are_unique()
     ensures { RecordListsAreUnique }
 {}

@@ -63,7 +63,7 @@ fn block_of(t: u16, bytes: &[u8]) -> Option<(Block, &[u8])>
     Some((Block { t, at, len }, rest))
 }
 
-/// The event of a kind, after its acting thread.
+/// The event of a kind and an acting thread, read from its operands on.
 #[tactic(auto, unfolding(crate::specs::RecordReading::operands_at))]
 fn operands_of(kind: u8, t: u16, bytes: &[u8]) -> Option<(Event, &[u8])>
     ensures { Gives (λ x. (x.0, x.1.now)) result (operands_at kind t bytes.now) }
@@ -167,7 +167,8 @@ fn len_of(kind: u8) -> usize
     }
 }
 
-/// How many bytes the record at the front of the bytes has. `None` says that the bytes begin with no record. It makes no event of them.
+/// The length in bytes of the record at the front of the bytes, without reading its event. `None` says that the bytes begin
+/// with no record.
 #[inline]
 pub fn record_len(bytes: &[u8]) -> Option<usize>
     ensures some { IfSome result (IsRecordLength bytes.now) }
@@ -186,8 +187,8 @@ pub fn record_len(bytes: &[u8]) -> Option<usize>
     Some(len)
 }
 
-/// Reads the event at the front of the bytes, as a record has it after its name, and how many bytes it takes. `None` says
-/// that the bytes begin with no event. Takes no memory.
+/// Reads the event at the front of the bytes, spelled as in a record after its name. Answers the event and its length in bytes.
+/// `None` says that the bytes begin with no event. Takes no memory.
 pub fn read_event(bytes: &[u8]) -> Option<(Event, usize)>
     ensures read { IfSome result (λ r. TakesEvent bytes.now r.0 r.1) }
     ensures none { IfNone result ((e : EventOf) (rest : List ℕ) → BeginsWithEvent bytes.now e rest → ⊥) }

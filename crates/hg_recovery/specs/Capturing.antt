@@ -1,4 +1,4 @@
--- What a detector puts into the head of a root.
+-- The head of a root that is made from a detector.
 use Rattle.std.specs.Prelude.{◌<◌, ◌^◌, All, length, ℕ, List, [], ◌∷◌, nat_lt, slice_index, if◌then◌else◌}
 use Rattle.hg_model.specs.declared.thread.ThreadState.{ThreadState}
 use Rattle.hg_model.specs.declared.segment.Segment.{Segment}
@@ -10,7 +10,7 @@ use Rattle.hg_root.specs.Heads.{head_parts}
 use Rattle.hg_root.specs.Parts.{Parts}
 use Rattle.hg_contents.specs.Heads.{source_counts}
 
--- the parts of a root with this number and these sources, and else what the detector shows, but its words
+-- the parts of a root with this number and these sources, and with all parts of the detector but its words
 abbrev pub head_with : {W : Type 0} → ℕ → ShownDetector W → List SourceCount → Parts
 head_with number d sources = head_parts number d.parts.events d.segments d.parts.threads d.sets d.total d.kept sources
 
@@ -18,7 +18,7 @@ head_with number d sources = head_parts number d.parts.events d.segments d.parts
 abbrev pub parts_with : {W : Type 0} → ℕ → ShownDetector W → Parts
 parts_with number d = head_parts number d.parts.events d.segments d.parts.threads d.sets d.total d.kept (source_counts (slice_index d.parts.last))
 
--- a source with its last number, where it sent something
+-- a source with its last number, if it sent something
 abbrev pub if_sent : ℕ → ℕ → List SourceCount
 if_sent source last = if nat_lt 0 last then record { source = source; last = last } ∷ [] else []
 

@@ -1,4 +1,4 @@
--- What is made of a root, and why it is refused.
+-- The detector that is made from a root, and the refusals.
 use Rattle.std.specs.Prelude.{◌≡◌, IfOk, ◌<◌, ◌≤◌, ℕ, false, List, [], length, All, Result, Ok, Err, IsTrue}
 use Rattle.hg_model.specs.declared.verdict.Refusal.{Refusal}
 use Rattle.hg_model.specs.declared.verdict.Refusal.TheVariants as refusal
@@ -28,7 +28,7 @@ pub record FitsCaps (root : Parts) (caps : Caps) : Type 0 where
   pub sets : length root.sets ≤ caps.sets
   pub slots : All (λ p. p.slot < caps.slots) root.pages
 
--- The pool of these pages over a file: each map is what their table gives, nothing waits, and no page is in memory.
+-- The pool of these pages over a file: both maps are the one that their table gives, no page waits, and none is in memory.
 abbrev pub pool_of : {D : Type 0} → List PageSlot → Caps → SlotFile D → pool.ShownPool D
 pool_of pages caps file =
     record {
@@ -44,7 +44,7 @@ pool_of pages caps file =
       is_sealed = false;
     }
 
--- the detector with the parts of a root and so many sets at most, over a map
+-- the detector with the parts of a root and at most this many sets, over a map
 abbrev pub detector_with : {W : Type 0} → Root → ℕ → W → detect.ShownDetector W
 detector_with root most_sets words =
     record { parts = root.state; segments = root.segments.items; sets = record { limit = most_sets; sets = root.sets.sets }; words = words; kept = root.reports.items; total = root.total }
@@ -58,12 +58,12 @@ abbrev pub file_in : {D : Type 0} → Result (detect.ShownDetector (pool.ShownPo
 file_in (Ok d) = d.words.file
 file_in (Err e) = e.1
 
--- how many calls of the disk have failed after this answer, of n before
+-- how many calls of the disk have failed after this answer; n had failed before it
 abbrev pub failures_after : {A B : Type 0} → Result A (Refusal × B) → ℕ → ℕ
 failures_after (Ok value) n = n
 failures_after (Err e) n = after_refusal e.0 n
 
--- A refusal is told only where its cause holds.
+-- A refusal is told only if its cause holds.
 abbrev pub IsTrueCause : {D : Type 0} → disk.Ghosts D → Parts → Caps → SlotFile D → Refusal → Type 0
 IsTrueCause g root caps file refusal.FullSets = caps.sets < length root.sets
 IsTrueCause g root caps file refusal.FullSlots = ¬ All (λ p. p.slot < caps.slots) root.pages
@@ -73,7 +73,7 @@ IsTrueCause g root caps file refusal.DeviceFault = Unit {0}
 IsTrueCause g root caps file refusal.OutOfMemory = Unit {0}
 IsTrueCause g root caps file _ = ⊥
 
--- The sets of the root are no more than the cap.
+-- The root has at most as many sets as the cap.
 abbrev pub FitsSets : Root → Caps → Type 0
 FitsSets root caps = length root.sets.sets ≤ caps.sets
 

@@ -11,7 +11,7 @@ use Rattle.hg_root.specs.declared.parts.PageSlot.{PageSlot}
 use Rattle.hg_root.specs.Checkpoints.{Checkpoint, HasPages}
 use Rattle.hg_root.specs.Parts.{Parts}
 
--- The slot has the page with some cells, and what they name is there.
+-- The slot has the page with some cells, which name only known segments and sets.
 abbrev pub HasSomePage : ℕ → List (List ℕ) → List ℕ → PageSlot → Type 0
 HasSomePage segments sets slots p = (cells : List Cell) × HasPage segments sets p.slot p.page cells slots
 
@@ -28,10 +28,10 @@ module _ {D : Type 0} (g : disk.Ghosts D) where
   abbrev pub HasPageIn : SlotFile D → ℕ → List (List ℕ) → PageSlot → Type 0
   HasPageIn file segments sets p = HasSomePage segments sets (known g file) p
 
-  -- Damaged is told only where the slot does not have the page.
+  -- Damaged is told only if the slot does not have the page.
   abbrev pub LacksPage : {T : Type 0} → SlotFile D → ℕ → List (List ℕ) → PageSlot → Result T SlotFault → Type 0
   LacksPage file segments sets p result = IsErrOf result Damaged → ¬ HasSomePage segments sets (known g file) p
 
-  -- Damaged is told only where the slots do not have the pages.
+  -- Damaged is told only if the slots do not have the pages.
   abbrev pub LacksPages : {T : Type 0} → SlotFile D → Parts → Result T SlotFault → Type 0
   LacksPages file root result = IsErrOf result Damaged → ¬ HasPagesOf root (known g file)

@@ -1,12 +1,12 @@
-//! How much a detector over a pool may have.
+//! Limits of a detector over a pool.
 
-/// How much a detector may have, and how much memory its pool. It is not stored.
+/// Limits of a detector and of the memory of its pool. They are not stored.
 #[derive(Clone, Copy, Debug, PartialEq, Eq)]
 pub struct Caps {
-    /// How many sets of threads and of locks: at most 262,144.
+    /// The greatest number of sets of threads and of locks: at most 262,144.
     pub sets: u32,
-    /// How many slots of pages: at most 1,048,576.
+    /// The number of slots of pages: at most 1,048,576.
     pub slots: u32,
-    /// How many pages there may be in memory: 2 to 4,096.
+    /// The greatest number of pages in memory: 2 to 4,096.
     pub frames: usize,
 }

@@ -16,7 +16,7 @@ use hg_rules::state::TraceState;
 use hg_words::words::Words;
 use std::alloc::{AllocError, Global};
 
-// Puts a source at the end, where it sent something.
+// Puts a source at the end if it sent something.
 fn push_sent(source: u16, last: u64, counts: &mut Vec<SourceCount>) -> Result<(), AllocError>
     ensures { OnOk result (counts.new.items ≡ counts.old.items ++ if_sent source last) }
 {
@@ -77,7 +77,7 @@ fn has_spelling<W>(detector: &Detector<W>, threads: &[ThreadState], sources: &[S
     sets_have_spellings(detector.sets())
 }
 
-// The head of a root with these lists, where all of it has a spelling.
+// The head of a root with these lists, if all its parts have a spelling.
 fn spelled<W>(
     alloc: Global,
     number: u64,
@@ -105,9 +105,9 @@ fn spelled<W>(
     Ok(RootHead::encode(alloc, &parts)?)
 }
 
-/// The head of a root with this number, 1 to 2^58: everything that a detector has but its words. Where the detector fits a root
-/// (`FitsARoot`), as it does over an honest disk, the head is lawful. `Damaged` says that it does not, as a part of it has no
-/// spelling, and `OutOfMemory` that memory was refused.
+/// The head of a root with this number, 1 to 2^58: everything that a detector has but its words. If the detector fits a
+/// root (`FitsARoot`), as it does over an honest disk, the head is lawful. `Damaged` says that a part has no spelling, so
+/// the detector does not fit a root; `OutOfMemory` says that memory was refused.
 pub fn head_of<W: Words>(
     alloc: Global,
     number: u64,

@@ -13,7 +13,7 @@ use hg_pages::{SlotFault, SlotFile};
 use hg_root::{PageSlot, Root};
 use hg_sets::SetTable;
 
-// Reads one page, whose cells may name segments below this number and sets of the table.
+// Reads one page. Its cells may name segments below this number and sets of the table.
 fn check_page<D: Disk>(
     page: PageSlot,
     segments: u32,
@@ -31,9 +31,9 @@ fn check_page<D: Disk>(
     Ok(())
 }
 
-/// Reads each page that a root names from its slot, and looks at its cells. `Damaged` exactly where the slots have the pages of no
-/// checkpoint with the root's parts. The file stays as it is, and after an `Err` it can be tried again. It makes one device call a
-/// page at most, and takes no memory.
+/// Reads each page that a root names from its slot, and checks its cells. `Damaged` exactly if the slots have the pages of
+/// no checkpoint with the root's parts. The file stays as it is, and after an `Err` it can be tried again. It makes at most
+/// one device call per page, and takes no memory.
 pub fn check_slots<D: Disk>(root: &Root, file: &mut SlotFile<D>) -> Result<(), SlotFault>
     requires { IsLawful (parts_of root.now) }
     ensures stands { IsTrue D.is_honest → OnOk result (HasPagesOf (parts_of root.now) (known ⟦<D as Disk>⟧ file.old)) }
@@ -62,8 +62,8 @@ fn lie_in<D: Disk>(pages: &[PageSlot], file: &SlotFile<D>) -> bool
     true
 }
 
-/// Whether each slot that a root names lies within the file. It makes no device call: of the root that is not the newest one the rules
-/// ask no more.
+/// Whether each slot that a root names lies within the file. It makes no device call. The rules ask no more of the root
+/// that is not the newest one.
 pub fn lies_within<D: Disk>(root: &Root, file: &SlotFile<D>) -> bool
     ensures { IsTrue result ↔ LieWithin (D.state (disk_of file.now)).contents (parts_of root.now) }
 {

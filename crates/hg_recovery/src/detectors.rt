@@ -18,7 +18,8 @@ use hg_sets::MOST_SETS;
 use hg_words::words::Words;
 use std::alloc::Global;
 
-// The detector of a root, over a pool with no page in memory, with so many sets at most. Where memory runs out, the pool is handed back.
+// The detector of a root, over a pool with no page in memory, with room for this many sets. Without memory the pool is
+// handed back.
 fn with_parts<D: Disk>(
     alloc: Global,
     root: Root,
@@ -63,7 +64,7 @@ fn with_parts<D: Disk>(
     }
 }
 
-/// The detector of a root, over the pool of a table of its pages. Where memory runs out, the file is handed back.
+/// The detector of a root, over the pool of a table of its pages. Without memory the file is handed back.
 pub(crate) fn over_pool<D: Disk>(
     alloc: Global,
     root: Root,

@@ -35,7 +35,7 @@ fn read_pages<D: Disk>(root: &Root, file: &mut SlotFile<D>) -> Result<(), Refusa
     Ok(check_slots(root, file)?)
 }
 
-// The table of the pages that a root names, where the root fits the caps and the slots have its pages.
+// The table of the pages that a root names, if the root fits the caps and the slots have its pages.
 fn checked_table<D: Disk>(
     alloc: Global,
     root: &Root,
@@ -63,12 +63,12 @@ fn checked_table<D: Disk>(
     Ok(table_of(alloc, &root.pages)?)
 }
 
-/// The detector of a root, over the pool of its pages, with no page in memory. Over an honest disk its content is that of each
-/// checkpoint with the root's parts whose pages the slots have, and there is one. Each page is read once, one device call a page at
-/// most. What is refused hands the file back, as it was.
+/// The detector of a root, over the pool of its pages, with no page in memory. Over an honest disk the slots have the pages
+/// of a checkpoint with the root's parts, and the detector has the content of each such checkpoint. Each page is read once,
+/// with at most one device call. A refusal hands the file back as it was.
 ///
-/// It refuses with `FullSets` where the root has more sets than the cap, and then with `FullSlots` where it names a slot at the cap or
-/// above, and then reads.
+/// First it refuses with `FullSets` if the root has more sets than the cap, then with `FullSlots` if it names a slot at the
+/// cap or above. Only then it reads.
 pub fn restored<D: Disk>(
     alloc: Global,
     root: Root,

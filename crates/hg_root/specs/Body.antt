@@ -16,7 +16,7 @@ header_number = 5208221994664079626
 abbrev pub header_at : Reader ℕ
 header_at = such_that (λ n. n == header_number) (number_at w64)
 
--- the number of the checkpoint, that of events, and the segments
+-- the number of the checkpoint, the count of events, and the segments
 abbrev pub FrontParts : Type 0
 FrontParts = ℕ × (ℕ × List Segment)
 
@@ -27,13 +27,13 @@ front_at = made (λ p. p.1) (both header_at (both (number_at w64) (both (number_
 abbrev pub middle_at : List Segment → Reader (List ThreadState)
 middle_at segments = listed (number_at w16) (thread_at segments)
 
--- what stands behind the threads
+-- the part behind the threads
 abbrev pub BackParts : Type 0
 BackParts = List (List ℕ) × (ℕ × (List KeptReport × (List SourceCount × List PageSlot)))
 
 abbrev pub back_at : Reader BackParts
 back_at = both (listed (number_at w32) members_at) (both (number_at w64) (both (listed (number_at w32) report_at) (both (listed (number_at w16) source_at) (listed (number_at w32) page_at))))
 
--- what was read, without where it lies in memory
+-- the parts that were read, as plain lists
 abbrev pub seen : Back → BackParts
 seen b = (b.sets.items, (b.total, (b.reports.items, (b.sources.items, b.pages.items))))

@@ -1,4 +1,4 @@
--- What is checked of the parts that were read. (No promise to a reader rests on this file but on HaveLast.)
+-- The checks of the parts that were read. (No promise to a reader rests on this file, except on HaveLast.)
 use Rattle.std.specs.Global.{Vec}
 use Rattle.std.specs.Prelude.{◌≡◌, ℕ, ◌≤◌, ◌*◌, ◌^◌, ◌==◌, List, [], ◌∷◌, length, map, min, slice_index, All, if◌then◌else◌}
 use Rattle.hg_model.specs.Restoring.{AreThreads}
@@ -12,7 +12,7 @@ use Rattle.hg_root.specs.Body.{BackParts, seen}
 use Rattle.hg_root.specs.Lawful.{AreInOrder, HaveSent, HaveSlots, IsReport, named_threads}
 use Rattle.hg_root.specs.Parts.{Parts}
 
--- the last number of a source, 0 where it sent nothing
+-- the last number of a source, 0 if it sent nothing
 abbrev pub last_number : List SourceCount → ℕ → ℕ
 last_number [] source = 0
 last_number (s ∷ sources) source = if s.source == source then s.last else last_number sources source
@@ -32,7 +32,7 @@ abbrev pub made_parts : ℕ → ℕ → List Segment → List ThreadState → Ba
 made_parts number events segments threads b =
     record { number = number; events = events; segments = segments; threads = threads; sets = b.0; total = b.1.0; reports = b.1.1.0; sources = b.1.1.1.0; pages = b.1.1.1.1 }
 
--- what stands before the threads, the threads, and what stands behind them
+-- the parts of a body: the part before the threads, the threads, and the part behind them
 abbrev pub parts_read : ℕ × (ℕ × Vec Segment) → List ThreadState → Back → Parts
 parts_read front threads back = made_parts front.0 front.1.0 front.1.1.items threads (seen back)
 

@@ -1,4 +1,4 @@
--- What two root files and a file of slots have together.
+-- The checkpoint that two root files and a file of slots have together.
 use Rattle.std.specs.Prelude.{◌⊎◌, ◌≤◌, ◌+◌, ◌*◌, ℕ, List, length, Option, Some, None, All, IfSome}
 use Rattle.hg_cells.specs.declared.cell.Cell.{Cell}
 use Rattle.hg_disk.specs.Moments.{LeavesOnly, MayLeave}
@@ -19,7 +19,7 @@ abbrev pub root_of : Option Checkpoint → Option Parts
 root_of None = None
 root_of (Some c) = Some c.root
 
--- Each page of the checkpoint stands in its slot of the file, and what its cells name is in the root.
+-- Each page of the checkpoint stands in its slot of the file, and its cells name only segments and sets of the root.
 abbrev pub HasPages : List ℕ → Checkpoint → Type 0
 HasPages slots c = All (λ p. HasPage (length c.root.segments) c.root.sets p.slot p.page (c.cells_of p.page) slots) c.root.pages
 
@@ -27,7 +27,8 @@ HasPages slots c = All (λ p. HasPage (length c.root.segments) c.root.sets p.slo
 abbrev pub LieWithin : List ℕ → Parts → Type 0
 LieWithin slots root = All (λ p. 3080 * p.slot + 3080 ≤ length slots) root.pages
 
--- The file of slots has what a newest root names, and the slots that a former one names lie within it.
+-- The file of slots has the pages of the newest checkpoint, if there is one, and the slots of the former root lie within
+-- it.
 abbrev pub HasSlotsOf : Option Checkpoint → Option Parts → List ℕ → Type 0
 HasSlotsOf now former slots = IfSome now (HasPages slots) × IfSome former (LieWithin slots)
 
@@ -43,7 +44,8 @@ abbrev pub HasEither : Option Checkpoint → Option Checkpoint → List ℕ → 
 HasEither now next one other slots = HasCheckpoint now one other slots ⊎ HasCheckpoint next one other slots
 
 module _ {D E : Type 0} (g : disk.Ghosts D) (h : disk.Ghosts E) where
-  -- From one fact on the images of two root files, and one on those of a file of slots, each by itself: all images together have one checkpoint.
+  -- From a fact on the images of two root files and a fact on the images of a file of slots: all images together have one
+  -- checkpoint.
   abbrev pub JointImages : Type 0
   JointImages =
       (old new : RootPair D) (from to : E) (now next : Option Checkpoint) (former before : Option Parts)

@@ -12,14 +12,14 @@ of_gate gate.Damaged = Damaged
 of_gate gate.DeviceFault = DeviceFault
 of_gate gate.OutOfMemory = OutOfMemory
 
--- how many calls of the disks have failed after this fault, of n before
+-- how many calls of the disks have failed after this fault; n had failed before it
 abbrev pub after_fault : RootFault → ℕ → ℕ
 after_fault DeviceFault n = n + 1
 after_fault Broken n = n
 after_fault Damaged n = n
 after_fault OutOfMemory n = n
 
--- how many calls of the disks have failed after this answer, of n before
+-- how many calls of the disks have failed after this answer; n had failed before it
 abbrev pub failures_after : {T : Type 0} → Result T RootFault → ℕ → ℕ
 failures_after (Ok value) n = n
 failures_after (Err fault) n = after_fault fault n

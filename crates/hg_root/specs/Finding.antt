@@ -1,4 +1,4 @@
--- What is found of two root files.
+-- The roots that are found in two root files.
 use Rattle.std.specs.Prelude.{◌≡◌, ◌≤◌, ◌⊎◌, ℕ, List, Bool, true, false, IsTrue, Option, Some, None, IfSome, Result, IfOk, IsErrOf}
 use Rattle.hg_disk.specs.Calls.{CallsAtMost}
 use Rattle.hg_disk.specs.Moments.{LeavesOnly}
@@ -21,7 +21,7 @@ abbrev pub root_in : Option Root → Option Parts
 root_in None = None
 root_in (Some root) = Some (parts_of root)
 
--- If there is a root, it is whole and obeys the rules: also where the disk lies.
+-- If there is a root, it is whole and obeys the rules, even if the disk lies.
 abbrev pub IsWholeIn : Option Root → Type 0
 IsWholeIn found = IfSome found (λ r. IsWhole r × IsLawful (parts_of r))
 
@@ -29,27 +29,27 @@ IsWholeIn found = IfSome found (λ r. IsWhole r × IsLawful (parts_of r))
 abbrev pub AreWhole : Newest → Type 0
 AreWhole found = IsWholeIn found.root × IsWholeIn found.former
 
--- Of two files one has the newest root, or none where both are closed, and the other has the lesser one, or is closed.
+-- One of the two files has the newest root and the other the lesser one or is closed; or both are closed.
 pub record AreRootsOf (found : Newest) (one other : List ℕ) : Type 0 where
   pub below : IsBelow (root_in found.former) (root_in found.root)
   pub either : (IsRootFile one (root_in found.former) × IsRootFile other (root_in found.root)) ⊎ (IsRootFile one (root_in found.root) × IsRootFile other (root_in found.former))
 
--- the number of a root, 0 where there is none
+-- the number of a root, 0 if there is none
 abbrev pub number_in : Option Parts → ℕ
 number_in None = 0
 number_in (Some root) = root.number
 
--- The file has what was found: a root, or none where it is closed.
+-- The file has the root that was found; if none was found, the file is closed.
 abbrev pub HasRoot : List ℕ → Option Root → Type 0
 HasRoot bytes found = IsRootFile bytes (root_in found)
 
--- What was found of two files that have these roots, or are closed, is theirs.
+-- If two files have these roots, or are closed, then the roots that are found are theirs.
 abbrev pub ChoosesFrom : {E : Type 0} → (in_older in_newer : Option Root) → Result Newest E → Type 0
 ChoosesFrom in_older in_newer result =
     (one other : List ℕ) → IsRootFile one (root_in in_older) → IsRootFile other (root_in in_newer)
     → IfOk result (λ found. AreRootsOf found one other)
 
--- They are damaged: both are open with one number.
+-- They are damaged: both are open with the same number.
 abbrev pub HaveOneNumber : (in_older in_newer : Option Root) → RootFault → Type 0
 HaveOneNumber in_older in_newer fault =
     (fault ≡ Damaged) × (1 ≤ number_in (root_in in_older)) × (number_in (root_in in_older) ≡ number_in (root_in in_newer))
@@ -60,38 +60,38 @@ IsDue older newer true = newer ≤ older
 IsDue older newer false = older ≤ newer
 
 module _ {D : Type 0} (g : disk.Ghosts D) where
-  -- The disk was read: it is what it was, at each moment too, and was called three times at most.
+  -- The disk was only read: its state is the same, each moment adds no image, and it was called at most three times.
   pub record WasRead (old new : D) : Type 0 where
     pub state : g.state new ≡ g.state old
     pub any_moment : LeavesOnly g old new (IsImage (g.state old))
     pub calls : CallsAtMost g 3 old new
 
-  -- They are the two roots of the files, or as many as are open.
+  -- These are the roots of the two files: two, one or none.
   abbrev pub IsNewestOf : RootPair D → Newest → Type 0
   IsNewestOf p found = AreRootsOf found (first_bytes g p) (second_bytes g p)
 
-  -- No other is the newest, and what else is told as the former one has it.
+  -- No other root is the newest, and if a former root was found, no other is the former one.
   abbrev pub IsOnlyOf : RootPair D → Newest → Type 0
   IsOnlyOf p found = (root former : Option Parts) → IsNewest root former (first_bytes g p) (second_bytes g p) → (root ≡ root_in found.root) × IsFormer (root_in found.former) former
 
-  -- Neither a root is their newest, nor are both closed.
+  -- The two files have no newest root, and they are not both closed.
   abbrev pub HasNoNewest : RootPair D → Type 0
   HasNoNewest p = (root former : Option Parts) → ¬ IsNewest root former (first_bytes g p) (second_bytes g p)
 
-  -- The pair stands with them.
+  -- The pair stands with these roots.
   abbrev pub StandsWith : RootPair D → Newest → Type 0
   StandsWith p found = Stands g p (root_in found.root) (root_in found.former)
 
-  -- An honest disk is told as damaged where its bytes are those of no root file.
+  -- If an honest disk is told as damaged, its bytes are not a root file's.
   abbrev pub TellsTrueDamage : {T : Type 0} → D → Result T RootFault → Type 0
   TellsTrueDamage d result = IsTrue g.is_honest → IsErrOf result Damaged → IsNoRootFile (g.state d).contents
 
-  -- Where both files were durable, the pair stands with what was found.
+  -- If both files were durable, the pair stands with the roots that were found.
   abbrev pub StandsDurably : {E : Type 0} → (old new : RootPair D) → Result Newest E → Type 0
   StandsDurably old new result =
       (one other : List ℕ) → g.state (first_of old) ≡ settled one → g.state (second_of old) ≡ settled other → IfOk result (StandsWith new)
 
-  -- Where both files are durable and have these roots, or are closed, the pair stands with what was found.
+  -- If both files are durable, and have these roots or are closed, the pair stands with the roots that were found.
   abbrev pub StandsByChoice : {E : Type 0} → (old : RootPair D) → (in_older in_newer : Option Root) → (new : RootPair D) → Result Newest E → Type 0
   StandsByChoice old in_older in_newer new result =
       (one other : List ℕ) → Rests g old.older one → Rests g old.newer other

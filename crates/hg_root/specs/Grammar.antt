@@ -15,7 +15,7 @@ use Rattle.hg_root.specs.Parts.{Parts}
 abbrev pub header : List ℕ
 header = 72 ∷ 71 ∷ 82 ∷ 79 ∷ 79 ∷ 84 ∷ 49 ∷ 10 ∷ []
 
--- how many there are, in four bytes, and each
+-- their number in four bytes, and then each
 abbrev pub many_text : {X : Type 0} → (X → List ℕ) → List X → List ℕ
 many_text text items = to_be_bytes w32 (length items) ++ flat_map text items
 
@@ -31,7 +31,7 @@ few_text text items = length items ∷ flat_map text items
 abbrev pub segment_text : Segment → List ℕ
 segment_text s = to_be_bytes w16 s.thread ++ few_text (to_be_bytes w32) s.before
 
--- the lock, and 1 where it is held for writing, 2 where for reading
+-- the lock, and 1 if it is held for writing, 2 if for reading
 abbrev pub lock_text : HeldLock → List ℕ
 lock_text h = to_be_bytes w16 h.lock ++ (if h.write then 1 else 2) ∷ []
 
@@ -71,7 +71,7 @@ head_text p =
 abbrev pub root_text : Parts → List ℕ
 root_text p = head_text p ++ pages_text p.pages
 
--- ---- what has a spelling: each number is within its width, and each count within that of its field
+-- ---- which parts have a spelling: each number and each count fits its field
 
 abbrev pub SegmentFits : Segment → Type 0
 SegmentFits s = (s.thread < 2 ^ 16) × ((length s.before < 2 ^ 8) × AllByRecursion (λ k. k < 2 ^ 32) s.before)

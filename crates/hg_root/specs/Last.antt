@@ -8,14 +8,14 @@ pub record IsLastTable (segments : List Segment) (lasts : List (Option ℕ)) : T
   pub len : length lasts ≡ 1024
   pub each : (t : ℕ) → t < 1024 → slice_index_or lasts t None ≡ former segments t
 
--- Of each list of segments whose last ones are in the table, P holds.
+-- P holds of each list of segments whose last ones are in the table.
 abbrev pub ForTable : List (Option ℕ) → (List Segment → Type 0) → Type 0
 ForTable lasts P = (segments : List Segment) → IsLastTable segments lasts → P segments
 
--- the segment may stand at this place, where its thread has that former one
+-- the segment may stand at this place, if `last` is the former segment of its thread
 abbrev pub may_stand : (place : ℕ) → Segment → Option ℕ → Bool
 may_stand place segment last = has_thread place segment.thread && (are_predecessors place segment.before && has_former last segment.before)
 
--- They are as many as there may be, but one of them may not stand behind those before it.
+-- Their number is allowed, but one of them may not follow those before it.
 abbrev pub AreNoSegments : (most : ℕ) → List Segment → Type 0
 AreNoSegments most segments = 1 ≤ length segments → length segments ≤ most → ¬ AreSegments segments

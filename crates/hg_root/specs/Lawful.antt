@@ -49,7 +49,7 @@ pub record HaveSent (events : ℕ) (sources : List SourceCount) : Type 0 where
   pub each : All (λ s. (s.source ≤ 1023) × (1 ≤ s.last)) sources
   pub sum : sum (map (λ s. s.last) sources) ≡ events
 
--- the pages rise, and no two have one slot
+-- the pages rise, and no two have the same slot
 pub record HaveSlots (pages : List PageSlot) : Type 0 where
   pub rising : IsStrictlyIncreasing (map (λ p. p.page) pages)
   pub each : All (λ p. (p.page < 2 ^ 54) × (p.slot < 1048576)) pages

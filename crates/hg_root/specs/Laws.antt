@@ -8,7 +8,7 @@ use Rattle.hg_root.specs.Parts.{Parts}
 abbrev pub BodiesHaveOneReading : Type 0
 BodiesHaveOneReading = (body : List ℕ) (p q : Parts) → IsRoot body p → IsRoot body q → p ≡ q
 
--- two files have one newest root, or none
+-- two files have at most one newest root
 abbrev pub OneNewest : Type 0
 OneNewest =
     (root former next before : Option Parts) (one other : List ℕ) → length one < 2 ^ 64 → length other < 2 ^ 64

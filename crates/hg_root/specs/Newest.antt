@@ -25,7 +25,8 @@ abbrev pub IsFormer : Option Parts → Option Parts → Type 0
 IsFormer None former = Unit {0}
 IsFormer (Some parts) former = former ≡ Some parts
 
--- Of the two files one has this root, or none where both are closed, and the other has a lesser one, the former, or is closed.
+-- One of the two files has this root, and the other has a lesser one, the former, or is closed. If `root` is none, both are
+-- closed.
 pub record IsNewest (root former : Option Parts) (one other : List ℕ) : Type 0 where
   pub lesser : Option Parts
   pub among : IsFormer lesser former

@@ -1,4 +1,4 @@
--- What a crash may leave of two root files, and how a pair of them stands in each step.
+-- What a crash may leave of two root files, and the state of a pair in each step.
 use Rattle.std.specs.Prelude.{◌≡◌, ◌≢◌, ◌⊎◌, ◌+◌, ℕ, Bool, true, false, IsTrue, not, List, [], ◌∷◌, Option, Some, None, Result, Ok, Err, OnOk, OnErr, if◌then◌else◌}
 use Rattle.hg_disk.specs.Moments.{GoesOn, MayLeave}
 use Rattle.hg_disk.specs.State.{settled}
@@ -23,7 +23,7 @@ older p = gated.disk_of p.older
 abbrev pub newer : {D : Type 0} → RootPair D → D
 newer p = gated.disk_of p.newer
 
--- whether a write, a cut or a sync of the file that is written next failed, and whether one of the other
+-- whether a write, a cut or a sync failed: of the file that is written next, and of the other
 abbrev pub is_broken : {D : Type 0} → RootPair D → Bool
 is_broken p = gated.is_broken p.older
 
@@ -127,7 +127,7 @@ abbrev pub IsEither : Option Parts → Option Parts → List ℕ → List ℕ �
 IsEither root next one other = IsNewest root None one other ⊎ IsNewest next root one other
 
 module _ {D : Type 0} (g : disk.Ghosts D) where
-  -- The disk is one closed gate, which is durable.
+  -- The disk has one closed gate, durable.
   abbrev pub IsGate : D → Type 0
   IsGate d = g.state d ≡ settled (closed_gate ∷ [])
 
@@ -135,11 +135,11 @@ module _ {D : Type 0} (g : disk.Ghosts D) where
   abbrev pub AreGates : RootPair D → Type 0
   AreGates p = IsGate (first_of p) × IsGate (second_of p)
 
-  -- Of the disks that are handed back the second is as it was, or the first is closed.
+  -- If the disks are handed back, the second is as it was, or the first is closed.
   abbrev pub ClosesInTurn : (root1 : D) → (back : D × D) → Type 0
   ClosesInTurn root1 back = (back.1 ≡ root1) ⊎ IsGate back.0
 
-  -- The pair of two durable files that are closed stands with no root.
+  -- If both files are durable and closed, the pair stands with no root.
   abbrev pub StandsClosed : (root0 root1 : D) → RootPair D → Type 0
   StandsClosed root0 root1 p =
       (one other : List ℕ) → g.state root0 ≡ settled one → g.state root1 ≡ settled other → IsClosed one → IsClosed other → Stands g p None None

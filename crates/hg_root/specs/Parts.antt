@@ -1,4 +1,4 @@
--- What a root has.
+-- The content of a root.
 use Rattle.std.specs.Prelude.{ℕ, List}
 use Rattle.hg_model.specs.declared.segment.Segment.{Segment}
 use Rattle.hg_model.specs.declared.thread.ThreadState.{ThreadState}

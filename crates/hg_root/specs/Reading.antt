@@ -31,7 +31,7 @@ byte_at (b ∷ bytes) = Some (b, bytes)
 abbrev pub both : {A B : Type 0} → Reader A → Reader B → Reader (A × B)
 both first second bytes = first bytes >>= λ a. second a.1 >>= λ b. Some ((a.0, b.0), b.1)
 
--- what is made of a value
+-- a function of the value
 abbrev pub made : {A X : Type 0} → (A → X) → Reader A → Reader X
 made make read bytes = read bytes >>= λ a. Some (make a.0, a.1)
 
@@ -39,12 +39,12 @@ made make read bytes = read bytes >>= λ a. Some (make a.0, a.1)
 abbrev pub such_that : {X : Type 0} → (X → Bool) → Reader X → Reader X
 such_that test read bytes = read bytes >>= λ x. if test x.0 then Some x else None
 
--- so many, one after the other
+-- n of them, one after the other
 unfoldable pub times : {X : Type 0} → Reader X → ℕ → Reader (List X)
 times read zero bytes = Some ([], bytes)
 times read (suc n) bytes = read bytes >>= λ first. times read n first.1 >>= λ others. Some (first.0 ∷ others.0, others.1)
 
--- how many, and each
+-- their number, and then each
 abbrev pub listed : {X : Type 0} → Reader ℕ → Reader X → Reader (List X)
 listed count read bytes = count bytes >>= λ n. times read n.0 n.1
 
@@ -93,7 +93,7 @@ is_thread segments p = is_last segments p.0 p.1.1.0 && are_held p.1.1.1
 abbrev pub thread_at : List Segment → Reader ThreadState
 thread_at segments = made (λ p. record { number = p.0; alive = p.1.0; held = p.1.1.1 }) (such_that (is_thread segments) raw_thread_at)
 
--- so many threads
+-- n threads
 abbrev pub threads_at : List Segment → ℕ → Reader (List ThreadState)
 threads_at segments count = times (thread_at segments) count
 

@@ -19,10 +19,10 @@ use std::alloc::Global;
 /// "HGROOT1" and a line feed, as a number.
 pub(crate) const HEADER: u64 = 0x4847_524F_4F54_310A;
 
-/// What stands before the threads: the numbers of the checkpoint and of events, and the segments.
+/// The part before the threads: the number of the checkpoint, the count of events, and the segments.
 pub(crate) type Front = (u64, (u64, Vec<Segment>));
 
-/// What stands behind the threads.
+/// The part behind the threads.
 #[derive(Drop)]
 pub(crate) struct Back {
     pub(crate) sets: Vec<NumberSet>,
@@ -75,7 +75,7 @@ pub(crate) fn middle_of<'a>(
     threads_of(alloc, lasts, count, rest)
 }
 
-/// What stands behind the threads, to the end.
+/// The part behind the threads, to the end.
 pub(crate) fn back_of(alloc: Global, bytes: &[u8]) -> Result<Back, RootFault>
     ensures { Gives seen result (ended back_at bytes.now) }
 {

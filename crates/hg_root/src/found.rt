@@ -1,4 +1,4 @@
-//! What a root file has, and which of two has the newest root.
+//! The root that a file has, and the newest root of two files.
 ghost use Rattle.std.specs.Prelude.{◌≡◌, ◌≤◌, ◌^◌, List, ℕ, Option, length, IsTrue, OnOk, IfOk, IfErr, IsErrOf, Err};
 ghost use Rattle.hg_gate.specs.Gated.{Rests, disk_of, is_broken};
 ghost use Rattle.hg_root.specs.Fault.{failures_after};
@@ -10,7 +10,7 @@ use hg_disk::Disk;
 use hg_gate::Gated;
 use std::alloc::Global;
 
-/// The root that a file has, or none where it is closed.
+/// The root that a file has, or none if it is closed.
 pub(crate) fn root_of<D: Disk>(
     alloc: Global,
     file: &mut Gated<D>,
@@ -33,7 +33,7 @@ pub(crate) fn root_of<D: Disk>(
     }
 }
 
-/// The number of a root, 0 where there is none.
+/// The number of a root, 0 if there is none.
 pub(crate) fn number_of(root: &Option<Root>) -> u64
     ensures { result ≡ number_in (root_in root.now) }
 {
@@ -43,9 +43,9 @@ pub(crate) fn number_of(root: &Option<Root>) -> u64
     }
 }
 
-/// Whether two files are to take turns, of which the one that is written next has the root of the first number and the other that of
-/// the second, 0 for none: the one with the greater number is the newest. Where none is open, the second file is not written next.
-/// `Damaged` where both are open with one number.
+/// Whether two files have to take turns. The numbers are those of the root in the file that is written next, and of the
+/// root in the other; 0 means none. The root with the greater number is the newest. If none is open, the first file is
+/// written next. `Damaged` if both are open with the same number.
 pub(crate) fn are_turns_due(older: u64, newer: u64, is_turned: bool) -> Result<bool, RootFault>
     ensures due { IfOk result (IsDue older newer) }
     ensures apart { OnOk result (older ≡ newer → older ≡ 0) }

@@ -1,4 +1,4 @@
-//! What the head of a root is made of.
+//! The parts of the head of a root.
 
 use crate::parts::SourceCount;
 use hg_cells::KeptReport;
@@ -6,7 +6,7 @@ use hg_graph::Graph;
 use hg_model::thread::ThreadState;
 use hg_sets::SetTable;
 
-/// What the head of a root is made of: everything of a content but the words, and the number of the checkpoint.
+/// The parts of the head of a root: everything of a content but its words, and the number of the checkpoint.
 #[derive(Drop)]
 pub struct HeadParts<'a> {
     /// The number of the checkpoint.

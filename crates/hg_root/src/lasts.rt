@@ -1,4 +1,4 @@
-//! The segments of a body: whether each may stand behind those before it, and which is the last of each thread.
+//! The segments of a body: whether each may follow those before it, and the last one of each thread.
 ghost use Rattle.std.specs.Prelude.{◌≡◌, ◌<◌, ◌≤◌, ◌==◌, ◌&&◌, Option, length, IfErr, IfOk, IsErrOf};
 ghost use Rattle.std.specs.List.{list_any};
 ghost use Rattle.hg_graph.specs.Restoring.{AreSegments, are_predecessors, has_former};
@@ -22,7 +22,7 @@ fn are_predecessors(place: u32, before: &[u32]) -> bool
     }
 }
 
-/// Whether the former segment of the thread is among the predecessors, where there is one.
+/// Whether the former segment of the thread, if there is one, is among the predecessors.
 fn has_former(former: Option<u32>, before: &[u32]) -> bool
     ensures { result ≡ has_former former before.now }
 {
@@ -39,7 +39,7 @@ fn is_among(number: u32, numbers: &[u32]) -> bool
     numbers.iter().any(|x| *x == number)
 }
 
-/// Whether a segment may stand at this place, where its thread has that former one.
+/// Whether a segment may stand at this place, if `former` is the former segment of its thread.
 fn fits(place: u32, segment: &Segment, former: Option<u32>) -> bool
     ensures { result ≡ may_stand place segment.now former }
 {
@@ -50,8 +50,8 @@ fn fits(place: u32, segment: &Segment, former: Option<u32>) -> bool
         && has_former(former, before)
 }
 
-/// The last segment of each of the 1,024 threads, where there is one. Damaged where there are no segments or more than 1,048,576, or where
-/// one of them may not stand behind those before it.
+/// The last segment of each of the 1,024 threads, or none. Damaged if there are no segments or more than 1,048,576, or if
+/// one of them may not follow those before it.
 pub(crate) fn lasts_of(alloc: Global, segments: &[Segment]) -> Result<Vec<Option<u32>>, RootFault>
     ensures table { IfOk result (λ lasts. IsLastTable segments.now lasts.items) }
     ensures lawful { IfOk result (λ lasts. AreSegments segments.now) }

@@ -1,4 +1,4 @@
-//! Roots: what a checkpoint has but its words, in two files that take turns.
+//! Roots: everything of a checkpoint but its words, in two files that take turns.
 #![tactic(auto)]
 
 mod body;

@@ -18,7 +18,7 @@ use std::mem::swap;
 pub struct Newest {
     /// The newest open root, or none where both files are closed.
     pub root: Option<Root>,
-    /// The root of the other file, or none where that is closed.
+    /// The root of the other file, or none if that file is closed.
     pub former: Option<Root>,
 }
 
@@ -40,8 +40,8 @@ impl<D: Disk> RootPair<D> {
     ghost use Rattle.hg_root.specs.Making.{CountsMaking};
     ghost use Rattle.hg_root.specs.Pairs.{AreGates, ClosesInTurn, IsEitherBroken, IsGate, IsWorking, LeavesEither, LeavesRoot, LeavesRoots, OpensNext, Prepares, PutsBody, Stands, StandsClosed, StandsOpened, StaysOnErr, failures, first_after, first_of, is_broken, is_closed, is_other_broken, is_other_closed, is_turned, newer, older, second_after, second_of, turned};
 
-    /// The pair of two files, whatever their bytes are. It makes no device call. Which of them has the newest open root is told by
-    /// `newest`, which comes first.
+    /// The pair of two files, whatever their bytes are. It makes no device call. Call `newest` first: it finds which of
+    /// them has the newest open root.
     pub fn attach(root0: D, root1: D) -> RootPair<D>
         ensures first { first_of result ≡ root0 }
         ensures second { second_of result ≡ root1 }
@@ -57,9 +57,9 @@ impl<D: Disk> RootPair<D> {
         }
     }
 
-    /// The pair of two files that are made of disks without a byte, as a new store has them. Each is one closed gate, which is durable. An
-    /// `Err` hands the disks back: a call of the first one failed, and the second was not called; or the first is closed, and a call of
-    /// the second failed. It makes two device calls of each disk at most.
+    /// Makes the pair of root files of a new store on two empty disks. Each file is one closed gate, durable. An `Err`
+    /// hands the disks back: either a call of the first one failed and the second was not called, or the first is closed
+    /// and a call of the second failed. It makes at most two device calls of each disk.
     pub fn create(root0: D, root1: D) -> Result<RootPair<D>, (D, D)>
         requires first { length (D.state root0).contents ≡ 0 }
         requires second { length (D.state root1).contents ≡ 0 }
@@ -124,10 +124,10 @@ impl<D: Disk> RootPair<D> {
         }
     }
 
-    /// The newest open root, or none where both files are closed, and the root of the other file. From then on the next root is written to
-    /// that one, or to the first one where none is open. `Damaged` exactly where there is no newest root: a file is empty, or is open with a
-    /// length or a body outside the grammar, or both are open with one number. It makes three device calls of each disk at most. After an
-    /// `Err` the pair stands as before, and it can be tried again.
+    /// The newest open root, or none if both files are closed, and the root of the other file. From then on the next root
+    /// is written to this other file, or to the first file if none is open. `Damaged` exactly if there is no newest root: a
+    /// file is empty, or is open with a length or a body outside the grammar, or both are open with the same number. It
+    /// makes at most three device calls of each disk. After an `Err` the pair stands as before, and it can be tried again.
     pub fn newest(&mut self, alloc: Global) -> Result<Newest, RootFault>
         ensures found { IsTrue D.is_honest → IfOk result (IsNewestOf ⟦<D as Disk>⟧ self.old) }
         ensures only { IsTrue D.is_honest → IfOk result (IsOnlyOf ⟦<D as Disk>⟧ self.old) }
@@ -183,8 +183,8 @@ impl<D: Disk> RootPair<D> {
         })
     }
 
-    /// Closes the older file, where it is open. It makes two device calls at most, and none where the file is closed already: a
-    /// byte that a crash tears may be an open gate.
+    /// Closes the older file if it is open. It makes at most two device calls, and none if the file is closed already: a
+    /// torn write of the gate may leave it open.
     pub fn prepare(&mut self) -> Result<(), RootFault>
         ensures prepared { Prepares ⟦<D as Disk>⟧ self.old self.new result }
         ensures any_moment { LeavesRoots ⟦<D as Disk>⟧ self.old self.new }
@@ -200,7 +200,7 @@ impl<D: Disk> RootPair<D> {
         ensures refuses { IsTrue (is_broken self.old) → is_closed self.old ≡ false → result ≡ Err RootFault.Broken }
         ensures same { IsTrue (is_broken self.old) → self.new ≡ self.old }
 
-        // It does nothing where the file is known to be closed.
+        // It does nothing if the file is known to be closed.
         ensures closed { IsTrue (is_closed self.old) → IsOk result × (self.new ≡ self.old) }
     {
         if self.is_closed {
@@ -231,8 +231,8 @@ impl<D: Disk> RootPair<D> {
         Ok(())
     }
 
-    /// Opens the gate of the older file, which has a root of a greater number: from then on that is the newest one. It makes two
-    /// device calls at most. After an `Ok` the files are to take turns (`take_turns`).
+    /// Opens the gate of the older file. Its root has the greater number, so it is the newest one from then on. It makes
+    /// two device calls at most. After an `Ok` the files are to take turns (`take_turns`).
     pub fn open_gate(&mut self) -> Result<(), RootFault>
         ensures any_moment { LeavesEither ⟦<D as Disk>⟧ self.old self.new }
         ensures opened { OpensNext ⟦<D as Disk>⟧ self.old self.new result }

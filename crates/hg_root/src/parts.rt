@@ -1,6 +1,6 @@
 //! The small parts of a root.
 
-/// What a source sent: the number of the source, 0 to 1,023, and the last number that was accepted of it.
+/// A source that sent something: its number, 0 to 1,023, and the last number that was accepted from it.
 #[derive(Clone, Copy, Debug, PartialEq, Eq)]
 pub struct SourceCount {
     /// The source.
@@ -9,7 +9,8 @@ pub struct SourceCount {
     pub last: u64,
 }
 
-/// Where a page stands: page p has the 256 words from the address 1,024 p on, and slot s the 3,080 bytes from byte 3,080 s on.
+/// A page and its slot: page p has the 256 words from the address 1,024 p on, and slot s has the 3,080 bytes from byte
+/// 3,080 s on.
 #[derive(Clone, Copy, Debug, PartialEq, Eq)]
 pub struct PageSlot {
     /// The page.

@@ -1,4 +1,4 @@
-//! The pieces of a body, each with its bytes: read from the front of what is left, and put at the end of what there is.
+//! The pieces of a body. Each is read from the front of the remaining bytes, and written at the end of the bytes so far.
 ghost use Rattle.std.specs.Prelude.{◌≡◌, ◌++◌, ◌<◌, ◌^◌, ℕ, List, Option, All, OnOk};
 ghost use Rattle.std.specs.Int.{w16, w32, w64, to_be_bytes};
 ghost use Rattle.std.specs.List.{flat_map};
@@ -35,7 +35,7 @@ pub(crate) trait Piece: Sized {
         ensures { OnOk result (out.new.items ≡ out.old.items ++ text self.now) };
 }
 
-/// Reads so many pieces, one after the other. Memory grows by what was read, whatever the count says.
+/// Reads `count` pieces, one after the other. Memory grows with the bytes that were read, whatever the count says.
 pub(crate) fn take_times<T: Piece + Drop>(
     alloc: Global,
     count: u32,

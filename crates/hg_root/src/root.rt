@@ -24,10 +24,10 @@ use hg_rules::state::TraceState;
 use hg_sets::{MOST_SETS, SetTable};
 use std::alloc::{AllocError, Global};
 
-/// How many reports are kept at most.
+/// The greatest number of kept reports.
 const MOST_REPORTS: u64 = 65_536;
 
-/// What a root has: everything of a content but the words, and where the pages stand.
+/// A root: everything of a content but its words, and the slots of its pages.
 #[derive(Drop)]
 pub struct Root {
     /// The number of the checkpoint, 1 to 2^58.
@@ -59,7 +59,7 @@ fn numbers_of(alloc: Global, threads: &[ThreadState]) -> Result<Vec<u16>, AllocE
     Ok(numbers)
 }
 
-/// Puts a number at the end where it is wanted.
+/// Puts a number at the end if it is wanted.
 fn push_if(number: u16, is_wanted: bool, numbers: &mut Vec<u16>) -> Result<(), AllocError>
     ensures { OnOk result (numbers.new.items ≡ numbers.old.items ++ (if is_wanted then number ∷ [] else [])) }
 {
@@ -154,7 +154,7 @@ fn state_of(
     }
 }
 
-/// The root with these parts, where they obey the rules.
+/// The root with these parts, if they obey the rules.
 fn checked(
     alloc: Global,
     front: Front,
@@ -207,9 +207,11 @@ fn checked(
 }
 
 impl Root {
-    /// The root whose body these bytes are. `Damaged` exactly where they are no root's body, `OutOfMemory` where memory is refused.
+    /// The root whose body these bytes are. `Damaged` exactly if they are not a root's body, `OutOfMemory` if memory is
+    /// refused.
     ///
-    /// Memory grows by what was read, whatever a count says: the parts themselves, sets and threads twice for a while, and tables of the profile, of 2 MiB.
+    /// Memory grows with the bytes that were read, whatever a count says: the parts themselves, sets and threads twice for
+    /// a while, and 2 MiB for tables of the profile.
     pub fn decode(alloc: Global, body: &[u8]) -> Result<Root, RootFault>
         ensures found { IfOk result (λ r. IsRoot body.now (parts_of r)) }
         ensures known { IfOk result IsWhole }

@@ -31,7 +31,7 @@ fn are_threads_with(members: &[u16], thread: u16) -> bool
     is_member
 }
 
-/// Whether a report is one of such a trace.
+/// Whether a report may be one of a trace with these events and sets.
 fn is_report(report: &KeptReport, events: u64, sets: &SetTable) -> bool
     ensures { IsTrue result ↔ IsReport events sets.now.sets report.now }
 {
@@ -48,7 +48,7 @@ fn is_before(a: &KeptReport, b: &KeptReport) -> bool
     a.event < b.event || a.event == b.event && a.word < b.word
 }
 
-/// Whether each report is one of such a trace.
+/// Whether each report may be one of a trace with these events and sets.
 pub(crate) fn are_reports(reports: &[KeptReport], events: u64, sets: &SetTable) -> bool
     ensures { IsTrue result ↔ All (IsReport events sets.now.sets) reports.now }
 {
@@ -110,7 +110,7 @@ fn add_up(sources: &[SourceCount], events: u64) -> bool
     sent == events
 }
 
-/// Whether these are the sources of so many events.
+/// Whether these are the sources of this many events.
 pub(crate) fn are_sources(sources: &[SourceCount], events: u64) -> bool
     ensures { IsTrue result ↔ HaveSent events sources.now }
 {
@@ -141,7 +141,7 @@ fn each_within(pages: &[PageSlot]) -> bool
     true
 }
 
-/// Whether no two pages have one slot, where slots are below `most`. It takes a byte for each slot.
+/// Whether no two pages have the same slot; slots are below `most`. It takes a byte for each slot.
 fn have_own_slots(alloc: Global, pages: &[PageSlot], most: u32) -> Result<bool, AllocError>
     requires { All (λ p. p.slot < most) pages.now }
     ensures { IfOk result (λ own. IsTrue own ↔ AllPairs ◌≢◌ (map (λ p. p.slot) pages.now)) }

@@ -24,7 +24,7 @@ fn do_rise(locks: &[HeldLock]) -> bool
     true
 }
 
-/// The locks of a thread, where they rise and there are at most 64.
+/// The locks of a thread, if they rise and are at most 64.
 fn held_of(locks: &[HeldLock]) -> Option<HeldLocks>
     ensures { MatchOption result (¬ AreHeld locks.now) (λ held. (held ≡ locks.now) × AreHeld locks.now) }
 {
@@ -47,7 +47,7 @@ fn is_last(lasts: &[Option<u32>], thread: u16, last: u32) -> bool
     place < THREAD_NUMBERS && lasts[place] == Some(last)
 }
 
-/// A thread, whose last segment is that of the table.
+/// A thread. Its last segment has to be the one in the table.
 fn thread_of<'a>(
     alloc: Global,
     lasts: &[Option<u32>],

@@ -11,23 +11,23 @@ started [] = []
 started (None ∷ slots) = started slots
 started (Some x ∷ slots) = x ∷ started slots
 
--- each thread stands at its number, where the first place has the number k
+-- each thread stands at its number, with the places numbered from k on
 abbrev pub IsNumbered : ℕ → List (Option ThreadState) → Type 0
 IsNumbered k [] = Unit {0}
 IsNumbered k (None ∷ slots) = IsNumbered (k + 1) slots
 IsNumbered k (Some x ∷ slots) = (x.number ≡ k) × IsNumbered (k + 1) slots
 
--- a test of what stands at a place
+-- a test of the thread at a place, false where there is none
 abbrev pub test_at : (ThreadState → Bool) → Option ThreadState → Bool
 test_at test None = false
 test_at test (Some x) = test x
 
--- the locks that count for an access by what stands at a place
+-- the locks that count for an access by the thread at a place
 abbrev pub counted_at : Bool → Option ThreadState → List ℕ
 counted_at write None = []
 counted_at write (Some x) = counted write x.held
 
--- how many threads hold a lock, in any mode and in write mode
+-- how many threads hold a lock, in any mode
 abbrev pub holders : List ThreadState → ℕ → ℕ
 holders threads l = count_by (λ x. has_lock x.held l) threads
 
@@ -44,7 +44,7 @@ abbrev pub readers_in : LockUse → ℕ
 readers_in (Reading n) = n
 readers_in Writing = 0
 
--- The tables agree: threads stand at their numbers, each lock has its use, and one that is held for writing has one holder.
+-- The tables agree: threads stand at their numbers, each lock has its use, and a lock that is held for writing has one holder.
 pub record TablesAgree (slots : List (Option ThreadState)) (uses : List LockUse) : Type 0 where
   pub slots_len : length slots ≡ 1024
   pub uses_len : length uses ≡ 65536

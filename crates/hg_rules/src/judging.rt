@@ -16,7 +16,7 @@ use hg_model::limits::{
 };
 use hg_model::verdict::{Refusal, Verdict};
 
-/// Whether the next event of the trace may be this one: the verdict of any content with the parts of this state.
+/// The verdict on `named` as the next event, in any content with the parts of this state.
 #[inline(always)]
 pub fn judge(state: &TraceState, named: &Named) -> Verdict
     ensures { (c : Content) → HasParts c state.now → result ≡ rules.verdict (rules.standing_of c) named.now }
@@ -24,7 +24,7 @@ pub fn judge(state: &TraceState, named: &Named) -> Verdict
     judge_standing(state, named)
 }
 
-/// Whether the next event of the trace may be this one.
+/// Whether the verdict on `named` as the next event is Accept.
 #[inline(always)]
 pub fn admits(state: &TraceState, named: &Named) -> bool
     ensures { result ≡ accepts state.now named.now }
@@ -46,7 +46,7 @@ fn judge_standing(state: &TraceState, named: &Named) -> Verdict
     judge_event(state, named)
 }
 
-/// Whether the next event of the trace may be this access of this source under this number, be it a read or a write.
+/// Whether the verdict on this access of this source under this number is Accept. A read and a write are judged alike.
 #[inline(always)]
 pub fn admits_access(state: &TraceState, source: u16, number: u64, access: &Access) -> bool
     ensures { (write : Bool) → result ≡ accepts state.now (access_named source number write access.now) }
@@ -68,7 +68,7 @@ fn judge_read(state: &TraceState, source: u16, number: u64, access: &Access) -> 
     judge_access(state, source, access)
 }
 
-/// Whether the next event of the trace may be this hold of this source under this number.
+/// Whether the verdict on this hold of this source under this number is Accept.
 #[inline(always)]
 pub fn admits_hold(state: &TraceState, source: u16, number: u64, hold: Hold) -> bool
     ensures { result ≡ accepts state.now (hold_named source number hold) }
@@ -280,7 +280,7 @@ fn judge_block(state: &TraceState, source: u16, block: &Block) -> Verdict
     judge_room(state)
 }
 
-/// What stands against an event that all other causes let pass: that the trace is full.
+/// The last cause, tested once no other applies: the trace is full.
 #[inline(always)]
 fn judge_room(state: &TraceState) -> Verdict
     ensures { result ≡ rules.first_cause ((rules.full_events state.now.events, Refusal.FullEvents) ∷ []) }

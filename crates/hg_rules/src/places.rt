@@ -1,4 +1,4 @@
-//! The places of a table of threads: at each a thread, or none.
+//! The places of a table of threads. Each has a thread or none.
 
 ghost use Rattle.std.specs.Prelude.{◌≡◌, ◌<◌, ◌∷◌, ◌++◌, [], None, false, length, slice_index_or, IfOk, IfSome, OnOk, is_some, not, replicate};
 ghost use Rattle.std.specs.Option.{option_copied, option_map};
@@ -23,7 +23,7 @@ pub(crate) fn empty_slots(alloc: Global) -> Result<Vec<Option<ThreadState>>, All
     Ok(slots)
 }
 
-/// The thread at a number of the table, where it was started.
+/// The thread of that number, if it was started.
 #[inline]
 pub(crate) fn slot(slots: &[Option<ThreadState>], t: u16) -> Option<&ThreadState>
     ensures { option_copied result ≡ slice_index_or slots.now t None }
@@ -41,7 +41,7 @@ pub(crate) fn are_empty(slots: &[Option<ThreadState>]) -> bool
     slots.iter().all(|slot| slot.is_none())
 }
 
-/// Puts the thread of a place at the end, where one stands there.
+/// Appends a copy of the thread of a place, if there is one.
 fn push_started(
     slot: &Option<ThreadState>,
     threads: &mut Vec<ThreadState>,

@@ -1,4 +1,4 @@
-//! A table of threads that is made of the threads that it is to have.
+//! Rebuilding a table from its threads.
 
 ghost use Rattle.std.specs.Prelude.{◌≡◌, ◌++◌, ◌∷◌, [], true, false, length, nat_le, not, IfOk, IfErr};
 ghost use Rattle.std.specs.List.{list_any};
@@ -14,7 +14,7 @@ use hg_model::verdict::Refusal;
 use std::alloc::Global;
 
 impl ThreadTable {
-    /// The table of these threads. Damaged where one of them may not stand behind those before it.
+    /// The table of these threads. Damaged where one of them may not come after those before it.
     pub(crate) fn restore(alloc: Global, threads: &[ThreadState]) -> Result<Self, Refusal>
         ensures value { IfOk result (λ s. (s ≡ threads.now) × AreThreads threads.now) }
         ensures refusal { IfErr result (RefusesUnless (AreThreads threads.now)) }
@@ -28,7 +28,7 @@ impl ThreadTable {
         Ok(table)
     }
 
-    /// Adds a thread with its locks, where it may stand behind the others.
+    /// Adds a thread with its locks, where it may come after the others.
     fn add(&mut self, thread: &ThreadState) -> bool
         ensures answer { result ≡ fits self.old thread.now }
         ensures added { result ≡ true → self.new ≡ self.old ++ thread.now ∷ [] }
@@ -48,7 +48,7 @@ impl ThreadTable {
         true
     }
 
-    /// Gives a thread a lock that it does not hold, where no thread excludes that.
+    /// Gives a thread a lock that it does not hold, unless a thread's hold excludes that.
     fn hold(&mut self, t: u16, hold: HeldLock) -> bool
         requires used { has_thread self.old t (λ x. not (nat_le 64 (length x.held))) ≡ true }
         requires absent { has_thread self.old t (λ x. has_lock x.held hold.lock) ≡ false }

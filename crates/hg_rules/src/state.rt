@@ -23,7 +23,7 @@ use std::marker::Model;
 /// What the verdict on the next event depends on. A contract sees its parts: the counts of events and of
 /// segments, the threads by rising number, and the last accepted number of each source.
 ///
-/// It is made at once, and following an event takes no memory.
+/// It takes all its memory when it is made. Following an event takes none.
 pub struct TraceState {
     events: u64,
     segments: u32,
@@ -125,7 +125,7 @@ impl TraceState {
         }
     }
 
-    /// The threads that were started, by rising number, in memory of their own.
+    /// A copy of the threads that were started, by rising number.
     pub fn threads(&self, alloc: Global) -> Result<Vec<ThreadState>, AllocError>
         ensures { IfOk result (λ threads. threads.items ≡ self.now.threads) }
     {
@@ -154,7 +154,7 @@ impl TraceState {
         self.threads.follow(named.event);
     }
 
-    /// Counts an accepted read or write, which changes nothing else than these counts. It takes no memory.
+    /// Counts an accepted read or write, which changes only the counts. It takes no memory.
     #[inline(always)]
     pub fn follow_access(&mut self, source: u16, number: u64)
         requires { MayAccess self.old source number }
@@ -164,7 +164,7 @@ impl TraceState {
         self.last[usize::from(source)] = number;
     }
 
-    /// Counts an accepted hold, which changes nothing else than the locks that its thread holds. It takes no memory.
+    /// Counts an accepted hold, and changes the locks of its thread. It takes no memory.
     #[inline(always)]
     pub fn follow_hold(&mut self, source: u16, number: u64, hold: Hold)
         requires { MayBeNext self.old (hold_named source number hold) }

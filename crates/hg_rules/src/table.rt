@@ -73,14 +73,14 @@ impl ThreadTable {
         Ok(table)
     }
 
-    /// The threads, in memory of their own.
+    /// A copy of the threads.
     pub(crate) fn list(&self, alloc: Global) -> Result<Vec<ThreadState>, AllocError>
         ensures { IfOk result (λ threads. threads.items ≡ self.now) }
     {
         started_in(alloc, &self.slots)
     }
 
-    /// Whether a thread of that number may stand behind those of the table.
+    /// Whether that number is up to 1,023 and above those of all threads in the table.
     pub(crate) fn is_next(&self, t: u16) -> bool
         ensures { result ≡ is_next self.now t }
     {
@@ -104,7 +104,7 @@ impl ThreadTable {
         }
     }
 
-    /// Changes the locks that a thread holds by a hold that was accepted.
+    /// Changes the locks of a thread by an accepted hold.
     #[inline(always)]
     pub(crate) fn follow_hold(&mut self, hold: Hold)
         requires { MayFollow self.old (hold_event hold) }
@@ -142,7 +142,7 @@ impl ThreadTable {
         self.thread(t).is_some()
     }
 
-    /// Whether the thread holds that lock, in any mode. Where no thread holds it, none is looked at.
+    /// Whether the thread holds that lock, in any mode. Where no thread holds the lock, the thread is not looked at.
     pub(crate) fn holds(&self, t: u16, l: u16) -> bool
         ensures { result ≡ has_thread self.now t (λ x. has_lock x.held l) }
     {

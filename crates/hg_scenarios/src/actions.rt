@@ -173,7 +173,7 @@ impl Desk {
         }
     }
 
-    /// An action as a step. It is none of `Put` where no job was taken.
+    /// An action as a step. `Put` gives none where no job was taken.
     pub fn step(&self, alloc: Global, action: Action) -> Result<Option<Step>, AllocError> {
         match action {
             Action::Put => self.put_step(alloc),

@@ -197,7 +197,7 @@ pub fn put_tear(tear: Tear, out: &mut Text) {
     }
 }
 
-/// What a line answers that was halted.
+/// The answer of a line that was halted.
 pub fn put_halt(halt: Halt, out: &mut Text) {
     match halt {
         Halt::Memory => out.put(b"out of memory"),

@@ -62,7 +62,7 @@ fn room_of(text: &str) -> Result<Room, Halt> {
     Ok(room)
 }
 
-/// Appends the answers of a run: of equal ones that follow each other their number, and one of them.
+/// Appends the answers of a run. Equal ones in a row become their number and one of them.
 fn put_answers(answers: &[StepAnswer<Held>], out: &mut Text) {
     let [first, others @ ..] = answers else {
         return;
@@ -92,7 +92,7 @@ fn put_times(times: u64, told: Told, out: &mut Text) {
     put_told(told, out);
 }
 
-/// Actions as steps, those that hand in a page with the one that lies ready.
+/// Actions as steps. A step that hands in a page gets the one that lies ready.
 fn steps_of(
     alloc: Global,
     actions: &[Action],
@@ -426,7 +426,7 @@ impl Bench {
         put_progress(progress, out)
     }
 
-    /// Does what a line asks for that makes a store, or changes it.
+    /// Does what a line asks for, where it makes or changes a store.
     fn change(
         &mut self,
         shelf: &mut Shelf,
@@ -473,7 +473,7 @@ impl Bench {
         self.stop_at(shelf, Some(device), rest, out)
     }
 
-    /// Does what a line asks for that concerns a store. These words look at one, or at what a stop leaves of it.
+    /// Does what a line asks of a store. These words look at one, or at what a stop leaves of it.
     pub fn perform(
         &mut self,
         shelf: &mut Shelf,

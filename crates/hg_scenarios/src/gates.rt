@@ -58,7 +58,7 @@ impl GateBench {
         Ok(())
     }
 
-    /// Does what a line asks for that concerns a file which is open.
+    /// Does what a line asks of the open file.
     fn work(&mut self, alloc: Global, word: &str, rest: &str, out: &mut Text) -> Result<(), Halt> {
         let Some(file) = &mut self.opened else {
             return Err(Halt::Closed);
@@ -72,7 +72,7 @@ impl GateBench {
         }
     }
 
-    /// Does what a line asks for that concerns a gated file.
+    /// Does what a line asks of a gated file.
     pub fn perform(
         &mut self,
         alloc: Global,

@@ -92,7 +92,7 @@ impl JournalBench {
         }
     }
 
-    /// Keeps a journal, or puts the disk of one back that was refused.
+    /// Keeps a journal, or puts the disk of a refused one back.
     fn keep(
         &mut self,
         shelf: &mut Shelf,
@@ -129,7 +129,7 @@ impl JournalBench {
         self.keep(shelf, Journal::attach(alloc, disk))
     }
 
-    /// Does what a line asks for that concerns a journal which is open.
+    /// Does what a line asks of the open journal.
     fn work(&mut self, word: &str, out: &mut Text) -> Result<(), Halt> {
         let Some(opened) = &mut self.opened else {
             return Err(Halt::Closed);
@@ -146,7 +146,7 @@ impl JournalBench {
         }
     }
 
-    /// Does what a line asks for that concerns a journal.
+    /// Does what a line asks of a journal.
     pub fn perform(
         &mut self,
         alloc: Global,

@@ -120,7 +120,7 @@ impl LogBench {
         }
     }
 
-    /// Keeps a log, or puts the disk of one back that was refused.
+    /// Keeps a log, or puts the disk of a refused one back.
     fn keep(
         &mut self,
         shelf: &mut Shelf,
@@ -154,7 +154,7 @@ impl LogBench {
         self.keep(shelf, Log::attach(alloc, disk))
     }
 
-    /// Does what a line asks for that concerns a log which is open.
+    /// Does what a line asks of the open log.
     fn work(&mut self, alloc: Global, word: &str, rest: &str, out: &mut Text) -> Result<(), Halt> {
         let Some(opened) = &mut self.opened else {
             return Err(Halt::Closed);
@@ -168,7 +168,7 @@ impl LogBench {
         }
     }
 
-    /// Does what a line asks for that concerns a log.
+    /// Does what a line asks of a log.
     pub fn perform(
         &mut self,
         alloc: Global,

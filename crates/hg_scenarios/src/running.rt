@@ -36,9 +36,9 @@ pub struct Progress {
     pub in_doubt: bool,
 }
 
-/// What a run that was never stopped has: the events that were accepted, and all that is told of them in the end.
+/// What a run without a stop comes to: its accepted events, and all that is told of them in the end.
 pub struct Reference {
-    /// How a store is recovered that the run left.
+    /// How the store that the run left is recovered.
     opening: Opening,
     /// How many events the store had as it was opened.
     base: u64,
@@ -93,7 +93,7 @@ fn go_and_close(
     Disks::of(store)
 }
 
-/// Makes a run again, one device of which fails from a call on, and gives its disks.
+/// Makes a run again where one device fails from a call on, and gives its disks.
 pub fn stop_run(
     alloc: Global,
     run: &Run,
@@ -154,7 +154,7 @@ fn describe(
     put_contents(alloc, store, &mut reference.contents)
 }
 
-/// What the run has where it isn't stopped.
+/// What the run comes to without a stop.
 pub fn reference_of(alloc: Global, run: &Run) -> Result<Reference, Halt> {
     let mut reference = Reference {
         opening: Opening::Recover(run.opening.room()),
@@ -204,7 +204,7 @@ fn offer_all(
     Ok(place)
 }
 
-/// Sees that a store tells what the run has that was never stopped.
+/// Checks that a store tells the same as the run without a stop.
 fn compare(
     alloc: Global,
     store: &Store<Held>,

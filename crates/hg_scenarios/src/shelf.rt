@@ -95,7 +95,7 @@ fn memory_with(alloc: Global, bytes: &[u8]) -> Result<MemDisk, AllocError> {
     MemDisk::holding(alloc, Vec::from_slice(alloc, bytes)?)
 }
 
-/// A disk with these bytes that fails as is told.
+/// A disk with these bytes that fails as the fuse says.
 pub fn disk_with(alloc: Global, bytes: &[u8], fuse: Fuse) -> Result<Held, AllocError> {
     let disk = memory_with(alloc, bytes)?;
     Ok(match fuse {

@@ -71,7 +71,7 @@ pub fn put_images(
     copy_image(torn.of(devices), tear, torn.of_mut(&mut image.parts))
 }
 
-/// A run, what it comes to where nothing stops it, and what becomes of what is not synced where something does.
+/// A run, what it comes to without a stop, and what a stop makes of writes that are not synced.
 #[derive(Clone, Copy)]
 struct Trial<'a> {
     alloc: Global,
@@ -151,7 +151,7 @@ fn try_stop(stop: &Stop, count: &mut Count, out: &mut Text) -> Result<(), Halt> 
     Ok(())
 }
 
-/// Goes on from the stop of a device after so many calls. It is none where the run has no more.
+/// Goes on from the stop of a device after so many calls. `false` says that the device has fewer calls.
 fn try_call(
     trial: Trial,
     device: Device,

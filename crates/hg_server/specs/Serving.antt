@@ -26,7 +26,7 @@ use Rattle.hg_server.specs.declared.serving.Plan.{Plan}
 abbrev pub served_text : ℕ → Content → List ℕ
 served_text connections c = number_text (codes "served ") connections ++ line_text (store_end_line c)
 
--- all that a server prints whose store has this content at the end
+-- all that a server prints if its store ends with this content
 abbrev pub serving_text : Plan → Content → List ℕ
 serving_text plan c = number_text (codes "ready ") plan.port ++ served_text plan.connections c
 
@@ -55,18 +55,18 @@ module _ {D : Type 0} (g : disk.Ghosts D) where
   abbrev pub served_by : Plan → ShownStore D → List ℕ
   served_by plan s = served_text plan.connections (live g s)
 
-  -- all that a server prints whose store is this at the end
+  -- all that a server prints if its store ends as this one
   abbrev pub serving_by : Plan → ShownStore D → List ℕ
   serving_by plan s = serving_text plan (live g s)
 
-  -- On success all that is due of a server whose store is this at the end was written, and on an error a front of it.
+  -- On success all of `serving_by` was written, and on an error a front of it.
   abbrev pub PrintsAllOnOk : {W T E : Type 0} → Plan → ShownStore D → (old new : Outgoing W) → Result T E → Type 0
   PrintsAllOnOk plan s old new ended = OnOk ended (Took old.calls new.calls (serving_by plan s))
 
   abbrev pub PrintsFrontOnErr : {W T E : Type 0} → Plan → ShownStore D → (old new : Outgoing W) → Result T E → Type 0
   PrintsFrontOnErr plan s old new ended = OnErr ended (TookFront old.calls new.calls (serving_by plan s))
 
-  -- A store that went on from its opening has still gone on from it.
+  -- If the store `s` went on from its opening, so did the store `t` after it.
   abbrev pub StillWentOn : List (Devices D) → ShownStore D → List (Devices D) → ShownStore D → Type 0
   StillWentOn moments s later t = (start : Began) → WentOn g start moments s → WentOn g start later t
 
@@ -84,9 +84,9 @@ module _ {D : Type 0} (g : disk.Ghosts D) where
     pub backs : Backs g s
     pub durable : saved g s ≡ live g s
 
-  -- What a server leaves whose store has the content `last` at the end, and that went through these moments, the newest first. The store was
-  -- opened with the content that the devices had, and looking for it left each image the content of one that there was before. The events of
-  -- clients lead from it to the last one. Between each two moments since, each image has a front of these events behind that content.
+  -- What a server leaves that went through these moments, the newest first, and whose store ends with the content `last`. The store was
+  -- opened with the content that the devices had; looking for it left each image the content of an image before. The events of clients lead
+  -- from that content to `last`. Since then each image between two neighbouring moments has a front of these events behind that content.
   pub record Served (old : Devices D) (moments : List (Devices D)) (new : Devices D) (last : Content) : Type 0 where
     pub first : Content
     pub had : HasContent (read_of g old) first
@@ -113,7 +113,7 @@ module _ {D : Type 0} (g : disk.Ghosts D) where
       ((calls_new ≡ calls_old) × (IsTrue g.is_honest → Recovers g old new))
       ⊎ ((last : Content) × ((IsTrue g.is_honest → Served old moments new last) × TookFront calls_old calls_new (serving_text plan last)))
 
-  -- A server that ended early: it had a cause, which was told, or that failed too, and what stands and was written is as far as it came.
+  -- A server ended early. There was a cause; it was told, or telling it failed; and what stands and was written is as far as it came.
   abbrev pub EndsEarly : Plan → Devices D → List (Devices D) → Devices D → List WriteCall → List WriteCall → List WriteCall → List WriteCall → Type 0
   EndsEarly plan old moments new calls_old calls_new faults_old faults_new =
       (r : Refusal) × (HasServeCause old new r × (IsTold faults_old faults_new r × WroteServing plan old moments new calls_old calls_new))
@@ -126,7 +126,7 @@ module _ {D : Type 0} (g : disk.Ghosts D) where
   abbrev pub WroteServingOnErr : {W S : Type 0} → Plan → Devices D → List (Devices D) → (old new : Outgoing W) → Result S (Refusal × Devices D) → Type 0
   WroteServingOnErr plan devices moments old new ended = IfErr ended (λ e. WroteServing plan devices moments e.1 old.calls new.calls)
 
--- Of the command, which has an output for what is asked of it and another one for its faults.
+-- For the command, which prints to one output and tells its faults on another.
 module _ {D W V : Type 0} (g : disk.Ghosts D) where
   -- With a store the server came to its end.
   abbrev pub ServesWell : Plan → Devices D → (before after : Outputs W V) → Outcome D → Type 0

@@ -1,11 +1,11 @@
-//! Why serving a store came to no good end.
+//! Why serving a store failed.
 
 ghost use Rattle.std.specs.Prelude.{◌≡◌};
 
 use hg_model::verdict::Refusal;
 use std::alloc::AllocError;
 
-/// Why a store was not served to its end, with all durable.
+/// Why a store was not served to its end with all events durable.
 #[derive(Clone, Copy, Debug, PartialEq, Eq, Drop)]
 pub(crate) enum ServingFault {
     /// A device failed for a client, who was told.

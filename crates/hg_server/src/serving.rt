@@ -74,7 +74,7 @@ fn prepare(stream: &TcpStream, plan: Plan) -> io::Result<()> {
     stream.set_write_timeout(Some(Duration::from_secs(WRITE_SECONDS)))
 }
 
-/// Takes the next connection from the listener. One that ended before it was taken is none, and counts.
+/// Takes the next connection from the listener. `None` says that it ended before it was taken; it counts.
 fn accept<R: Clock>(rt: &R, listener: &TcpListener) -> Result<Option<TcpStream>, Refusal> {
     for _ in 0..MOST_PAUSES {
         match listener.accept() {
@@ -172,7 +172,7 @@ fn take_in<D: Disk, A: Opening, B: Column>(
     }
 }
 
-/// How a commit that failed is told: a device failed, for a client before, who was told, or else for the server.
+/// How a failed commit is told: `Broken` where a device had failed before for a client, who was told; else as a device fault of the server.
 fn commit_fault(refusal: Refusal, has_failed: bool) -> ServingFault
     ensures { result ≡ ServingFault.Broken → IsTrue has_failed }
 {
@@ -426,8 +426,8 @@ pub struct Outcome<D: Disk> {
 /// Recovers the store that the devices hold, prints `ready` and the port, takes the connections, holds their conversations, and prints
 /// `served`, how many were taken, and the end line. All accepted events are durable then. Answers the status, 0 with the store, or 3
 /// with the devices where they hold no store, the listener, a device or the output failed, or memory or room was refused,
-/// which is told among the faults. A connection that fails ends alone. Whatever ends it, no event that was durable is lost, and each image between
-/// each two moments has a front of the accepted events.
+/// which is told among the faults. A connection that fails ends alone. Whatever ends it, no durable event is lost, and each image between two
+/// neighbouring moments has a front of the accepted events.
 ///
 /// It waits until so many connections were served.
 pub fn serve<

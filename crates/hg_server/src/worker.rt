@@ -60,7 +60,7 @@ enum Course {
     Stop,
 }
 
-/// Where a worker sits.
+/// What a worker works with.
 #[derive(Drop)]
 pub struct Seat<'a, D: Disk, A: Opening, B: Column, G, R> {
     pub rt: &'a R,

@@ -4,7 +4,7 @@ use Rattle.hg_sets.specs.Interning.{Table}
 use Rattle.hg_sets.specs.Soundness.{table_of, IsSound}
 use Rattle.hg_sets.specs.Remembered.{AreTrueJoins, AreTrueMeets}
 
--- the remembered answers show in no contract
+-- the table that contracts see, without the remembered answers
 abbrev pub shown : Inside → Table
 shown t = table_of t.interner
 

@@ -1,4 +1,4 @@
--- What a fault of the table refuses an event for.
+-- The refusal of an event for a fault of the table.
 use Rattle.hg_model.specs.declared.verdict.Refusal.{Refusal}
 use Rattle.hg_model.specs.declared.verdict.Refusal.TheVariants as refusal
 use Rattle.hg_sets.specs.declared.fault.SetFault.{SetFault}

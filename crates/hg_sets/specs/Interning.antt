@@ -9,11 +9,11 @@ pub record Table : Type 0 where
   pub limit : ℕ
   pub sets : List (List ℕ)
 
--- the sets before the first is asked for: the empty one, with room for so many
+-- the first table: the empty set alone, with room for `limit` sets
 abbrev pub first_table : ℕ → Table
 first_table limit = record { limit = limit; sets = [] ∷ [] }
 
--- these sets, each under its place, with room for so many
+-- these sets, each numbered by its place, with room for `limit` sets
 abbrev pub table_with : ℕ → List (List ℕ) → Table
 table_with limit sets = record { limit = limit; sets = sets }
 
@@ -30,11 +30,11 @@ pub record AreSets (t : Table) : Type 0 where
   pub rising : All IsStrictlyIncreasing t.sets
   pub distinct : AllPairs ◌≢◌ t.sets
 
--- The table is the one that was asked for, and where there is none no table may be so.
+-- The table is the one that was asked for. There is none only where that one breaks AreSets.
 abbrev pub IsRestored : Table → Option Table → Type 0
 IsRestored asked found = MatchOption found (¬ AreSets asked) (λ table. table ≡ asked)
 
--- Its members rise strictly, and it does not stand among the sets.
+-- The members of the set rise strictly, and it is not among the sets.
 abbrev pub MayBeAdded : List (List ℕ) → List ℕ → Type 0
 MayBeAdded sets set = IsStrictlyIncreasing set × (¬ Contains sets set)
 
@@ -52,7 +52,7 @@ Adds old set (Ok id) new = (length old.sets < old.limit) × (id ≡ length old.s
 Adds old set (Err Full) new = (length old.sets ≡ old.limit) × (new ≡ old)
 Adds old set (Err OutOfMemory) new = (length old.sets < old.limit) × (new ≡ old)
 
--- What asking for the number of a set does: one that stands in the table is found, and the table stays; one that does not is added.
+-- Asking for the number of a set. A set in the table is found, and the table stays. A set that is absent is added.
 abbrev pub Interns : Table → List ℕ → Result ℕ SetFault → Table → Type 0
 Interns old set result new =
     ((id : ℕ) × StandsAt old.sets set id × (result ≡ Ok id) × (new ≡ old)) ⊎ ((¬ Contains old.sets set) × Adds old set result new)

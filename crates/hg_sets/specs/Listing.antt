@@ -21,7 +21,7 @@ hash_behind hash (x ∷ xs) = hash_behind ((((hash + (x + 1)) % 2 ^ 64) * SPREAD
 abbrev pub hash_of : List ℕ → ℕ
 hash_of xs = hash_behind 0 xs
 
--- the slot where a search among so many begins
+-- the slot where a search among `count` slots begins
 abbrev pub first_slot : ℕ → ℕ → ℕ
 first_slot count hash = ((hash / 2 ^ 32) * count) / 2 ^ 32
 
@@ -29,7 +29,7 @@ first_slot count hash = ((hash / 2 ^ 32) * count) / 2 ^ 32
 abbrev pub next_slot : ℕ → ℕ → ℕ
 next_slot count at = if nat_lt (at + 1) count then at + 1 else 0
 
--- From a slot on, this entry is met within so many steps, before a slot that is free.
+-- From a slot on, a search meets this entry within so many steps, and before a free slot.
 abbrev pub IsMet : List ℕ → ℕ → ℕ → ℕ → Type 0
 IsMet slots entry at zero = ⊥
 IsMet slots entry at (suc steps) = (slice_index slots at ≡ entry) ⊎ ((slice_index slots at ≢ 0) × IsMet slots entry (next_slot (length slots) at) steps)
@@ -46,7 +46,7 @@ HoldNumbers count slots = All (λ entry. entry ≤ count) slots
 abbrev pub StillHold : ℕ → List ℕ → List ℕ → Type 0
 StillHold entry old new = (count : ℕ) → entry ≤ count → HoldNumbers count old → HoldNumbers count new
 
--- It is the number of this list, or there is none.
+-- `found` is the number of this list, or None where the list is absent.
 abbrev pub IsNumberOf : List (List ℕ) → List ℕ → Option ℕ → Type 0
 IsNumberOf lists list found = MatchOption found (¬ Contains lists list) (StandsAt lists list)
 

@@ -15,7 +15,7 @@ pub record IsTrueJoin (sets : List (List ℕ)) (known : KnownJoin) : Type 0 wher
   pub below : known.set < length sets
   pub answer : StandsAt sets (with_member (set_at sets known.set) known.member) known.answer
 
--- a remembered meet is of a set that is there, and its answer is what the two have in common
+-- a remembered meet is of a set that is there, and its answer is the intersection of the two
 pub record IsTrueMeet (sets : List (List ℕ)) (known : KnownMeet) : Type 0 where
   pub short : known.count ≤ LONGEST
   pub below : known.set < length sets

@@ -47,7 +47,7 @@ impl Interner {
         self.lists.len()
     }
 
-    /// The same lists, with room for so many.
+    /// The same lists, with room for `limit`.
     pub(crate) fn set_limit(&mut self, limit: u32)
         ensures { self.new ≡ record self.old { limit = limit } }
     {

@@ -1,4 +1,4 @@
-//! Distinct lists of numbers, each under its place.
+//! Distinct lists of numbers, each numbered by its place.
 
 ghost use Rattle.std.specs.Prelude.{◌≡◌, ◌^◌, ◌<◌, ◌≤◌, ◌+◌, ◌++◌, ◌∷◌, ℕ, true, false, [], All, length, IfOk, IfSome, OnOk, OnErr};
 ghost use Rattle.hg_sets.specs.Interning.{set_at};
@@ -7,16 +7,16 @@ ghost use Rattle.hg_sets.specs.Listing.{AreListed, HoldNumbers, IsFoundBy, IsNum
 use std::alloc::{AllocError, Global};
 use std::marker::Model;
 
-/// By which a hash is spread over its bits.
+/// The factor that spreads a hash over its bits.
 const SPREAD: u64 = 0x9E37_79B9_7F4A_7C15;
 
 /// How many slots there are at first.
 const FIRST_SLOTS: usize = 64;
 
-/// There are fewer elements than so many.
+/// A list starts at an element below this, and has fewer elements than this.
 const MOST_ELEMENTS: usize = 4_294_967_296;
 
-/// There are no more slots than four times as many.
+/// The most slots that may be made four times as many.
 const MOST_QUARTER: usize = 1_073_741_824;
 
 /// Where the elements of a list stand.
@@ -28,8 +28,8 @@ pub(crate) struct Span {
 
 /// Lists in the order in which they came, found by their elements.
 ///
-/// The elements of all lists stand one after another. Each list has a slot, which holds its number plus one: the first that was free
-/// from the slot on that the hash of its elements gives. At least half of the slots are free, so a search is short.
+/// The elements of all lists stand one after another. A slot holds the number of a list plus one, or 0 where it is free. Each list
+/// got the first free slot, from the slot of its hash on. At least half of the slots are free, so a search is short.
 #[derive(Drop)]
 pub(crate) struct Lists {
     elements: Vec<u16>,
@@ -77,7 +77,7 @@ impl Lists {
         elements_of(self.elements.as_slice(), self.spans[id as usize])
     }
 
-    /// The number of the list with this hash.
+    /// The number of this list, if it is there. `hash` is its hash.
     pub(crate) fn find(&self, hash: u64, list: &[u16]) -> Option<u32>
         requires hash { hash ≡ hash_of list.now }
         ensures { IsNumberOf self.now list.now result }
@@ -109,7 +109,7 @@ impl Lists {
     }
 }
 
-/// Where so many elements stand behind so many others, if there may be as many.
+/// The span of `len` elements behind `elements` others, if both numbers fit 32 bits.
 fn span_behind(elements: usize, len: usize) -> Option<Span>
     ensures { IfSome result (λ span. (span.start ≡ elements) × (span.len ≡ len)) }
 {
@@ -143,7 +143,7 @@ pub(crate) fn hash(list: &[u16]) -> u64
     hash
 }
 
-/// The slot where a search among so many begins.
+/// The slot where a search among `count` slots begins.
 #[inline]
 fn first_slot(count: usize, hash: u64) -> usize
     requires few { count ≤ 2 ^ 32 }
@@ -163,7 +163,7 @@ fn next_slot(count: usize, at: usize) -> usize
     if at + 1 < count { at + 1 } else { 0 }
 }
 
-/// The number of the list with this hash.
+/// The number of this list, if it is there. `hash` is its hash.
 fn find_among(
     elements: &[u16],
     spans: &[Span],
@@ -189,7 +189,7 @@ fn find_among(
     None
 }
 
-/// Puts an entry into the first slot that is free, from the one on that its hash gives. `false` says that none is free.
+/// Puts an entry into the first free slot, from the slot of its hash on. `false` says that no slot is free.
 fn put_entry(slots: &mut [u32], hash: u64, entry: u32) -> bool
     requires few { length slots.old ≤ 2 ^ 32 }
     requires some { 0 < entry }
@@ -223,7 +223,7 @@ fn put_in(slots: &mut Vec<u32>, hash: u64, entry: u32) -> bool
     put_entry(slots.as_mut_slice(), hash, entry)
 }
 
-/// So many slots, all of them free.
+/// `count` free slots.
 fn free_slots(alloc: Global, count: usize) -> Result<Vec<u32>, AllocError>
     ensures len { IfOk result (λ slots. length slots.items ≡ count) }
     ensures numbers { IfOk result (λ slots. HoldNumbers 0 slots.items) }
@@ -233,7 +233,7 @@ fn free_slots(alloc: Global, count: usize) -> Result<Vec<u32>, AllocError>
     Ok(slots)
 }
 
-/// So many slots, in which each list is found.
+/// `count` slots in which each list is found.
 fn slots_for(
     alloc: Global,
     elements: &[u16],

@@ -27,7 +27,7 @@ pub(crate) fn is_subset(members: &[u16], others: &[u16]) -> bool
     i == members.len()
 }
 
-/// Writes the members that the others have too over what `kept` holds, in room that is there.
+/// Sets `kept` to the members that the others have too. It has the room.
 pub(crate) fn write_common(members: &[u16], others: &[u16], kept: &mut Vec<u16>)
     requires members_rise { IsStrictlyIncreasing members.now }
     requires others_rise { IsStrictlyIncreasing others.now }
@@ -53,7 +53,7 @@ pub(crate) fn write_common(members: &[u16], others: &[u16], kept: &mut Vec<u16>)
     }
 }
 
-/// Writes the members with one more, at this place, over what `joined` holds, in room that is there.
+/// Sets `joined` to the members with one more at this place. It has the room.
 pub(crate) fn write_joined(members: &[u16], at: usize, member: u16, joined: &mut Vec<u16>)
     requires place { at ≤ length members.now }
     requires room { length members.now < vec_capacity joined.old }

@@ -10,8 +10,8 @@ use hg_model::sets::NumberSet;
 use std::alloc::{AllocError, Global};
 
 impl SetTable {
-    /// The table of these sets, each under its place, for at most `limit` sets. `None` where no table has them: the first is to be
-    /// the empty set, the members of each are to rise strictly, none may stand twice, and there may be at most `limit`.
+    /// The table of these sets, each numbered by its place, for at most `limit` sets. `None` where they are not a table's: the
+    /// first has to be the empty set, members have to rise strictly, no set may stand twice, and there may be at most `limit`.
     pub fn restore(
         alloc: Global,
         limit: u32,
@@ -43,7 +43,7 @@ impl SetTable {
         self.interner.set_limit(limit);
     }
 
-    /// Adds a set at the end, where its members rise and it does not stand in the table.
+    /// Adds a set at the end, if its members rise strictly and the table does not have it.
     fn add(&mut self, members: &[u16]) -> Result<bool, AllocError>
         requires room { length self.old.sets < self.old.limit }
         ensures added { IfOk result (λ added. added ≡ true → self.new ≡ with_set self.old members.now) }

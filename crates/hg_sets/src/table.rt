@@ -111,7 +111,7 @@ impl SetTable {
         self.interner.intern(members)
     }
 
-    /// The number of the set `a` with one member more, if it does not have it. Eraser's set of threads grows so.
+    /// The number of the set `a` with this member added, if it is absent. Eraser's thread sets grow so.
     #[inline]
     pub fn join(&mut self, a: u32, member: u16) -> Result<u32, SetFault>
         requires known { a < length self.old.sets }
@@ -130,7 +130,7 @@ impl SetTable {
         self.join_anew(a, member, place)
     }
 
-    /// The number of what the set `a` and these others, which rise strictly, have in common. Eraser's candidate lockset shrinks so.
+    /// The number of the intersection of the set `a` and these others, which rise strictly. Eraser's candidate lockset shrinks so.
     #[inline]
     pub fn meet(&mut self, a: u32, others: &[u16]) -> Result<u32, SetFault>
         requires known { a < length self.old.sets }

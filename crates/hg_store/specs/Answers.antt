@@ -11,12 +11,13 @@ use Rattle.hg_store.specs.Shown.{ShownStore, phase_of}
 use Rattle.hg_store.specs.declared.steps.StepFault.{StepFault}
 use Rattle.hg_store.specs.declared.steps.StepFault.TheVariants.{Refused, WrongPhase}
 
--- what is told where the head of a root was not made
+-- the fault of a step that could not make the head of a root
 abbrev pub of_head : HeadFault → StepFault
 of_head head.Damaged = Refused cause.Damaged
 of_head head.OutOfMemory = Refused cause.OutOfMemory
 
--- A step that is lawful only so: a broken store answers Broken, and else WrongPhase with the phase exactly where it is not lawful.
+-- The answers of a step that is lawful only if `Lawful` holds: a broken store answers Broken, any other one WrongPhase with
+-- the phase exactly if the step is not lawful.
 abbrev pub IsAllowed : {D T : Type 0} → ShownStore D → Type 0 → Result T StepFault → Type 0
 IsAllowed s Lawful (Ok value) = (s.is_broken ≡ false) × Lawful
 IsAllowed s Lawful (Err (WrongPhase p)) = (s.is_broken ≡ false) × (¬ Lawful) × (p ≡ phase_of s)
@@ -28,18 +29,18 @@ IfWrongPhase P (Ok value) = Unit {0}
 IfWrongPhase P (Err (WrongPhase p)) = P
 IfWrongPhase P (Err (Refused r)) = Unit {0}
 
--- P holds of what it was refused for.
+-- P holds of the cause of a refusal.
 abbrev pub IfRefused : {T : Type 0} → (Cause → Type 0) → Result T StepFault → Type 0
 IfRefused P (Ok value) = Unit {0}
 IfRefused P (Err (WrongPhase p)) = Unit {0}
 IfRefused P (Err (Refused r)) = P r
 
--- how many device calls failed in a step that is refused so
+-- how many device calls failed in a step with this refusal
 abbrev pub failed_in : Refusal → ℕ
 failed_in refusal.DeviceFault = 1
 failed_in _ = 0
 
--- and in a step of a checkpoint that is answered so
+-- and in a step of a checkpoint with this answer
 abbrev pub failed_by : {T : Type 0} → Result T StepFault → ℕ
 failed_by (Ok value) = 0
 failed_by (Err (WrongPhase p)) = 0

@@ -22,26 +22,26 @@ use Rattle.hg_store.specs.declared.steps.StepResult.{StepResult}
 use Rattle.hg_store.specs.declared.steps.StepResult.TheVariants as told
 use Rattle.hg_store.specs.declared.steps.StorePhase.TheVariants as store
 
--- The answer is of this kind, and what it tells has P.
+-- The answer is of this kind, and P holds of its value.
 abbrev pub Tells : {X : Type 0} → (X → StepResult) → StepResult → (X → Type 0) → Type 0
 Tells {X} kind result P = (x : X) × (result ≡ kind x) × P x
 
--- The job is the first of the pages that wait, with its cells at the freeze; there is none where no page waits.
+-- The job is the first of the waiting pages, with its cells at the freeze; there is none if no page waits.
 abbrev pub IsFirstWaiting : {D : Type 0} → pool.ShownPool D → Option Job → Type 0
 IsFirstWaiting words found =
     MatchOption found (words.waiting ≡ []) (λ job. (Some job.page ≡ least_of words.waiting) × IsFrozen words job.page job.cells)
 
--- neither the slots nor what is in memory of them
+-- the slots and the detector stay the same
 pub record SameWords {D : Type 0} (old new : ShownStore D) : Type 0 where
   pub slots : new.devices.slots ≡ old.devices.slots
   pub detector : new.detector ≡ old.detector
 
--- neither of the root files
+-- the root files stay the same
 pub record SameRoots {D : Type 0} (old new : ShownStore D) : Type 0 where
   pub root0 : new.devices.root0 ≡ old.devices.root0
   pub root1 : new.devices.root1 ≡ old.devices.root1
 
--- which checkpoint is the newest, and which is in progress
+-- the newest checkpoint and the one in progress stay the same
 pub record SameNumbers {D : Type 0} (old new : ShownStore D) : Type 0 where
   pub number : new.progress.number ≡ old.progress.number
   pub next : new.progress.next ≡ old.progress.next
@@ -57,14 +57,14 @@ pub record FreezeDone {D : Type 0} (old new : ShownStore D) (result : Result (Un
   pub devices : new.devices ≡ old.devices
   pub frozen : OnOk result (new.frozen ≡ old.detector)
 
--- The page is the first of those that wait, with its cells at the freeze. Nothing changes.
+-- The page is the first of the waiting ones, with its cells at the freeze. Nothing changes.
 pub record JobTaken {D : Type 0} (old new : ShownStore D) (result : Result (Option Job) StepFault) : Type 0 where
   pub same : new ≡ old
   pub allowed : IsAllowed old (IsIn phase.Flushing old) result
   pub refusal : IfRefused (λ r. r ≡ cause.Broken) result
   pub job : IfOk result (IsFirstWaiting (words old))
 
--- A page is written where it waits and the bytes are those of its cells at the freeze. The phase stays.
+-- A page is written if it waits and the bytes are those of its cells at the freeze. The phase stays.
 pub record PutDone {D : Type 0} (old new : ShownStore D) (page : Encoded) (result : Result Put StepFault) : Type 0 where
   pub done : CheckpointDone old new (old.is_broken ≡ false) old.progress.phase result
   pub written : IfOk result (λ p. p ≡ put.Written → HasWaited (words old) page)
@@ -114,27 +114,27 @@ StepDone g old new step.PrepareRoot result = Tells told.Prepared result (λ r. P
 StepDone g old new step.WriteRoot result = Tells told.Written result (λ r. WriteDone old new r)
 StepDone g old new step.OpenRoot result = Tells told.Opened result (λ r. OpenDone old new r)
 
--- After the opening of a root that one is the newest, and has the content at the freeze.
+-- After a root was opened, it is the newest one, and has the content at the freeze.
 pub record ContentOpened {D : Type 0} (g : disk.Ghosts D) (old new : ShownStore D) (result : Result ℕ StepFault) : Type 0 where
   pub live : live g new ≡ live g old
   pub checkpoint : IfOk result (HasOpenedFrozen g old new)
 
--- What becomes of the live content over honest devices: an accepted event joins it, and each other step leaves it.
+-- The live content over honest devices: an accepted event joins it, and each other step leaves it as it is.
 abbrev pub ContentDone : {D : Type 0} → disk.Ghosts D → (old new : ShownStore D) → Step → StepResult → Type 0
 ContentDone g old new (step.Offer n) result = Tells told.Offered result (λ r. ContentOffered g old new n r)
 ContentDone g old new step.OpenRoot result = Tells told.Opened result (λ r. ContentOpened g old new r)
 ContentDone g old new _ result = live g new ≡ live g old
 
--- During a commit an image may have either content, and so it may after one that failed.
+-- During a commit, and after a failed one, an image may have either content.
 abbrev pub in_doubt_during : Step → Bool → Bool
 in_doubt_during step.Commit in_doubt = true
 in_doubt_during _ in_doubt = in_doubt
 
--- Each image during a step stands for the durable content of before; where there is a doubt, it may be for the live one.
+-- Each image during a step has the durable content from before or, in doubt, the live one.
 abbrev pub StandDuring : {D : Type 0} → disk.Ghosts D → Step → (old new : ShownStore D) → Type 0
 StandDuring g step old new = StandMeanwhile g old new (in_doubt_during step old.in_doubt)
 
--- how many calls of devices have failed after a step, of n before
+-- how many calls of devices have failed after a step; n had failed before it
 abbrev pub fails_by : StepResult → ℕ → ℕ
 fails_by (told.Offered result) n = failed_after result n
 fails_by (told.Committed result) n = failed_after result n

@@ -15,7 +15,7 @@ module _ {D : Type 0} (g : disk.Ghosts D) where
   abbrev pub states_of : Devices D → States
   states_of devices = record { journal = g.state devices.journal; slots = g.state devices.slots; root0 = g.state devices.root0; root1 = g.state devices.root1 }
 
-  -- what a crash may leave of the devices from one moment of each to another, each device by itself
+  -- what a crash may leave of the devices from one moment to another, each device on its own
   pub record MayLeaveAll (old new : Devices D) (image : Image) : Type 0 where
     pub journal : MayLeave g old.journal new.journal image.journal
     pub slots : MayLeave g old.slots new.slots image.slots
@@ -30,7 +30,7 @@ module _ {D : Type 0} (g : disk.Ghosts D) where
     pub root1 : GoesOn g old.root1 new.root1
     pub each : (image : Image) → MayLeaveAll old new image → P image
 
-  -- Each image of the devices has a checkpoint of this number and this content, and its root is the newest open one.
+  -- Each image of the devices has a checkpoint with this number and this content, and its root is the newest open one.
   pub record HasOpened (devices : Devices D) (number : ℕ) (c : Content) : Type 0 where
     pub checkpoint : Checkpoint
     pub is_number : checkpoint.root.number ≡ number
@@ -51,11 +51,11 @@ module _ {D : Type 0} (g : disk.Ghosts D) where
   abbrev pub failures_of : Devices D → ℕ
   failures_of devices = g.failures devices.journal + g.failures devices.slots + g.failures devices.root0 + g.failures devices.root1
 
-  -- The count of failed calls became this of what it was.
+  -- The count of failed calls changes by this function.
   abbrev pub FailuresBecome : (old new : Devices D) → (ℕ → ℕ) → Type 0
   FailuresBecome old new count = failures_of new ≡ count (failures_of old)
 
-  -- So many calls of the devices failed.
+  -- n calls of the devices failed.
   abbrev pub FailuresGrowBy : (old new : Devices D) → ℕ → Type 0
   FailuresGrowBy old new n = failures_of new ≡ n + failures_of old
 
@@ -67,7 +67,7 @@ module _ {D : Type 0} (g : disk.Ghosts D) where
   abbrev pub LeavesOld : (old new : D) → Type 0
   LeavesOld old new = LeavesOnly g old new (IsImage (g.state old))
 
--- The image has what content another one has, if any.
+-- The image has each content that the image `before` has.
 abbrev pub HasContentOf : Image → Image → Type 0
 HasContentOf before image = (c : Content) → HasContent before c → HasContent image c
 
@@ -80,7 +80,7 @@ module _ {D : Type 0} (g : disk.Ghosts D) where
   abbrev pub KeepContent : (old new : Devices D) → Type 0
   KeepContent old new = EachImage g old new (HasContentOf (read_of g old))
 
-  -- Up to a moment, and from there on, each image of the devices has the content of one that they left at first.
+  -- Up to the moment `synced`, and from there on, each image of the devices has the content of one that they left at first.
   pub record Recovers (old new : Devices D) : Type 0 where
     pub synced : Devices D
     pub before : EachImage g old synced (HasContentOfOne old)

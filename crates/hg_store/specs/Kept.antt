@@ -1,4 +1,4 @@
--- What the parts of a store keep.
+-- The invariant of the parts of a store.
 use Rattle.std.specs.Prelude.{◌≡◌, ◌≤◌, ◌++◌, ℕ, List, Bool, true, false, IsTrue, length, All}
 use Rattle.hg_model.specs.declared.event.Named.{Named}
 use Rattle.hg_model.specs.Contents.{Content}
@@ -41,7 +41,7 @@ pub record Parts (D : Type 0) (g : disk.Ghosts D) : Type 0 where
   pub is_broken : Bool
   pub in_doubt : Bool
 
--- The durable events at the freeze lead to this content, and others may have come since.
+-- The durable events at the freeze lead to this content; more events may have come since.
 pub record IsFront (basis : Basis) (c : Content) : Type 0 where
   pub front : List Named
   pub since : List Named
@@ -79,7 +79,7 @@ module _ {D : Type 0} (g : disk.Ghosts D) where
     in_doubt = s.in_doubt;
   }
 
-  -- A checkpoint is in progress, of what the detector showed at the freeze, with its words as the frozen map has them.
+  -- A checkpoint of the detector at the freeze is in progress; its words are the frozen map.
   pub record IsFreezing (s : Parts D g) (basis : Basis) : Type 0 where
     pub was : detect.ShownDetector (ℕ → Cell)
     pub content : detect.content (λ map. map) was ≡ captured g (shown_of s)
@@ -101,7 +101,7 @@ module _ {D : Type 0} (g : disk.Ghosts D) where
   IsInProgress phase.Prepared s basis = IsRooting s basis
   IsInProgress phase.Written s basis = IsRooting s basis
 
-  -- What a store keeps that is not broken: its journal has the durable events, its roots and slots the checkpoint that counts.
+  -- A store that is not broken: its journal has the durable events, and its roots and slots have the newest checkpoint.
   pub record IsWorking (s : Parts D g) (basis : Basis) : Type 0 where
     pub certain : s.in_doubt ≡ false
     pub one : basis.next ≡ basis.now
@@ -110,7 +110,7 @@ module _ {D : Type 0} (g : disk.Ghosts D) where
     pub number : s.checkpointer.number ≡ number_in (root_of basis.now.checkpoint)
     pub progress : IsInProgress s.checkpointer.phase s basis
 
-  -- One fact on each kind of device, for the durable content.
+  -- A fact on each kind of device, for the durable content.
   pub record Standing (s : Parts D g) (basis : Basis) : Type 0 where
     pub keeps : KeepsContent basis (view_of g (shown_of s)) (saved g (shown_of s))
     pub faithful : AtPresent (IsFaithful g) s.detector
@@ -118,8 +118,8 @@ module _ {D : Type 0} (g : disk.Ghosts D) where
     pub spelled : All SetFits s.detector.sets.sets
     pub works : s.is_broken ≡ false → IsWorking s basis
 
-  -- The detector may be asked, there is room for all that may be pending, a store that works has parts that do; and over honest devices the
-  -- store stands for a durable content.
+  -- The detector is ready for events, there is room for all events that may be pending, and if the store works, so do its
+  -- parts. Over honest devices the store stands for a durable content.
   pub record IsSound (s : Parts D g) (pending_room : ℕ) : Type 0 where
     pub lawful : AtPresent MayBring s.detector
     pub few : length s.pending ≤ 1024

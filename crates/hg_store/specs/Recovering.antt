@@ -1,4 +1,4 @@
--- What making a store and recovering one answer.
+-- The answers when a store is made or recovered.
 use Rattle.std.specs.Prelude.{◌≡◌, ◌≢◌, ◌⊎◌, ◌++◌, ◌+◌, ◌<◌, ℕ, ◌≤◌, List, [], ◌∷◌, All, length, drop, Option, Some, None, IsTrue, Result, Ok, Err, IfOk, IfErr, IfSome, OnOk}
 use Rattle.hg_model.specs.declared.event.Named.{Named}
 use Rattle.hg_model.specs.declared.verdict.Refusal.{Refusal}
@@ -50,7 +50,7 @@ use Rattle.hg_store.specs.declared.devices.Devices.{Devices}
 use Rattle.hg_store.specs.Images.{FailuresBecome, failures_of, read_of}
 use Rattle.hg_store.specs.Store.{IsFresh}
 
--- what the devices of a store read that was just made: the journal's header and a closed gate, no slot, and closed roots
+-- what the devices of a new store read: the journal's header and a closed gate, no slot, and closed roots
 abbrev pub empty_image : Image
 empty_image = record { journal = header ++ closed_gate ∷ []; slots = []; root0 = closed_gate ∷ []; root1 = closed_gate ∷ [] }
 
@@ -61,7 +61,7 @@ pub record IsEmpty {D : Type 0} (g : disk.Ghosts D) (devices : Devices D) : Type
   pub root0 : (g.state devices.root0).contents ≡ []
   pub root1 : (g.state devices.root1).contents ≡ []
 
--- Each device has on it what it read before.
+-- Each device has what it read before, durable.
 pub record Settled {D : Type 0} (g : disk.Ghosts D) (old new : Devices D) : Type 0 where
   pub journal : g.state new.journal ≡ settled (g.state old.journal).contents
   pub slots : g.state new.slots ≡ settled (g.state old.slots).contents
@@ -79,20 +79,21 @@ pub record Stay {D : Type 0} (g : disk.Ghosts D) (old new : Devices D) : Type 0 
 abbrev pub IsAccepted : Content → Named → Type 0
 IsAccepted c n = verdict (standing_of c) n ≡ Accept
 
--- From one content and table of sets on, the events, each accepted after those before it, lead to others.
+-- From a content and a table of sets, the events lead to the last content and table; each is accepted after those before
+-- it.
 abbrev pub Fills : List Named → Content → Table → Content → Table → Type 0
 Fills [] c table last filled = (last ≡ c) × (filled ≡ table)
 Fills (n ∷ events) c table last filled =
     IsAccepted c n × (mid : Table) × Asks table (sets_asked c n.event) None mid × Fills events (after c n) mid last filled
 
--- The table of sets is what it became as the events of a journal behind those that the first content counts were accepted one after another.
+-- The table of sets is the one after the events of a journal behind those that the first content counts.
 pub record HasSets (start : Content) (first : Table) (journal : List ℕ) (c : Content) (table : Table) : Type 0 where
   pub events : List Named
   pub is_journal : IsJournal journal events
   pub fills : Fills (drop start.events events) start first c table
 
--- A table of sets has no room for the sets of a journal: behind as many events as the first content counts, the events `front` fill it so far
--- that `next`, which follows them, asks for a set too many.
+-- A table of sets has no room for the sets of a journal. Behind as many events as the first content counts come the events
+-- `front`, and after these the event `next` asks for a set too many.
 pub record IsTooSmall (start : Content) (first : Table) (journal : List ℕ) : Type 0 where
   pub front : List Named
   pub next : Named
@@ -104,17 +105,17 @@ pub record IsTooSmall (start : Content) (first : Table) (journal : List ℕ) : T
   pub left : Table
   pub full : Asks table (sets_asked c next.event) (Some Full) left
 
--- No room in the sets or the slots is told only where a root has more sets, or names a slot beyond.
+-- FullSets is told only if a root has more than `sets` sets, and FullSlots only if it names a slot beyond `slots`.
 abbrev pub IsTooFew : ℕ → ℕ → Option Parts → Refusal → Type 0
 IsTooFew sets slots None refusal = (refusal ≢ FullSets) × (refusal ≢ FullSlots)
 IsTooFew sets slots (Some root) refusal = (refusal ≡ FullSets → sets < length root.sets) × (refusal ≡ FullSlots → ¬ All (λ p. p.slot < slots) root.pages)
 
--- the table of sets from which a recovery goes on, with room for so many: that of the root, or the first one
+-- the table of sets from which a recovery goes on, with room for `cap` sets: that of the root, or the first one
 abbrev pub table_at : ℕ → Option Parts → Table
 table_at cap None = first_table cap
 table_at cap (Some root) = record { limit = cap; sets = root.sets }
 
--- The table of sets is what that of the newest root became, or the first one, as the events of the journal behind it were accepted.
+-- The table of sets is the one that the events of the journal make from that of the newest root, or from the first one.
 pub record HasTable (cap : ℕ) (image : Image) (c : Content) (table : Table) : Type 0 where
   pub checkpoint : Option Checkpoint
   pub stands : HasCheckpoint checkpoint image.root0 image.root1 image.slots
@@ -127,16 +128,18 @@ pub record HasRootThat (P : Parts → Type 0) (one other : List ℕ) : Type 0 wh
   pub newest : IsNewest (Some root) former one other
   pub has : P root
 
--- It has more sets than so many.
+-- The newest root has more than `cap` sets.
 abbrev pub HasMoreSets : ℕ → List ℕ → List ℕ → Type 0
 HasMoreSets cap one other = HasRootThat (λ root. cap < length root.sets) one other
 
--- Where sets or slots are told to be too few, the newest root has more sets, or names a slot beyond.
+-- If FullSets is told, the newest root has more than `most_sets` sets; if FullSlots is told, it names a slot beyond
+-- `most_slots`.
 pub record HasNoRoom (most_sets most_slots : ℕ) (one other : List ℕ) (refusal : Refusal) : Type 0 where
   pub sets : refusal ≡ FullSets → HasMoreSets most_sets one other
   pub slots : refusal ≡ FullSlots → HasRootThat (λ root. ¬ All (λ p. p.slot < most_slots) root.pages) one other
 
--- A table of so many sets is too small for an image: its newest root has more, or the events behind it ask for one too many.
+-- A table of `cap` sets is too small for an image: its newest root has more sets, or the events behind it ask for one too
+-- many.
 abbrev pub HasFewSets : ℕ → Image → Type 0
 HasFewSets cap image =
     HasMoreSets cap image.root0 image.root1
@@ -146,12 +149,12 @@ HasFewSets cap image =
 abbrev pub IsOfRecovery : Refusal → Type 0
 IsOfRecovery refusal = (refusal ≡ Damaged) ⊎ ((refusal ≡ FullSets) ⊎ ((refusal ≡ FullSlots) ⊎ ((refusal ≡ DeviceFault) ⊎ (refusal ≡ OutOfMemory))))
 
--- The refusals of an event that is followed, of which the rules say that it is accepted.
+-- The refusals when the detector follows an event that the rules accept.
 abbrev pub IsOfFollowing : Refusal → Type 0
 IsOfFollowing refusal = (refusal ≡ FullSets) ⊎ ((refusal ≡ FullSlots) ⊎ ((refusal ≡ DeviceFault) ⊎ (refusal ≡ OutOfMemory)))
 
--- How many calls of devices have failed after this answer, of so many before: with DeviceFault one, or none where a page that was read before
--- reads otherwise now; with any other answer none.
+-- How many calls of devices have failed after this answer; `old` had failed before it. DeviceFault adds one, or none if a
+-- page that was read before reads differently now; any other answer adds none.
 abbrev pub CountedBy : Refusal → ℕ → ℕ → Type 0
 CountedBy refusal old new = (new ≡ failed_in refusal + old) ⊎ ((refusal ≡ DeviceFault) × (new ≡ old))
 
@@ -159,8 +162,8 @@ abbrev pub CountsFailures : {T : Type 0} → Result T Refusal → ℕ → ℕ �
 CountsFailures (Ok value) old new = new ≡ old
 CountsFailures (Err refusal) old new = CountedBy refusal old new
 
--- The parts of a store that has just been made have this basis: the journal its events, the roots and the slots its checkpoint, and the detector
--- the content that they give.
+-- The parts of a new store have this basis: the journal has its events, the roots and the slots have its checkpoint, and
+-- the detector has the content that they give.
 pub record IsBased {D : Type 0} (g : disk.Ghosts D) (journal : Journal D g) (d : detect.ShownDetector (pool.ShownPool D)) (c : Checkpointer D g) (basis : Basis) : Type 0 where
   pub one : basis.next ≡ basis.now
   pub keeps : journals.KeepsEvents journal basis.events
@@ -174,7 +177,8 @@ pub record IsReady {D : Type 0} (g : disk.Ghosts D) (d : detect.ShownDetector (p
   pub state : IsLawfulState (detect.content (pools.live g) d)
   pub spelled : All SetFits d.sets.sets
 
--- A detector stands at a checkpoint, or at none: the roots and the slots have it, and it has the content from which the events go on.
+-- A detector stands at a checkpoint, or at none: the roots and the slots have the checkpoint, and the detector has the
+-- content from which the events go on.
 pub record IsStarted {D : Type 0} (g : disk.Ghosts D) (d : detect.ShownDetector (pool.ShownPool D)) (roots : RootPair D) (number : ℕ) (now : Choice) : Type 0 where
   pub stands : pairs.Stands g roots (root_of now.checkpoint) now.former
   pub is_number : number ≡ number_in (root_of now.checkpoint)
@@ -192,14 +196,14 @@ pub record IsRooted {D : Type 0} (g : disk.Ghosts D) (cap : ℕ) (one other slot
   pub started : IsStarted g d roots number now
   pub sets : d.sets ≡ table_at cap (root_of now.checkpoint)
 
--- A store is made in so many calls of each device, at most: a write and a sync of the journal and of each root, and none of the slots.
+-- The device calls of making a store, at most: a write and a sync of the journal and of each root, and none of the slots.
 pub record MakingCalls {D : Type 0} (g : disk.Ghosts D) (old new : Devices D) : Type 0 where
   pub journal : CallsAtMost g 2 old.journal new.journal
   pub slots : new.slots ≡ old.slots
   pub root0 : CallsAtMost g 2 old.root0 new.root0
   pub root1 : CallsAtMost g 2 old.root1 new.root1
 
--- how many calls of devices have failed after a making with this answer, of n before
+-- how many calls of devices have failed after a making with this fault; n had failed before it
 abbrev pub after_create_fault : CreateFault → ℕ → ℕ
 after_create_fault NotEmpty n = n
 after_create_fault (Refused refusal) n = after_refusal refusal n
@@ -438,7 +442,7 @@ module _ {D : Type 0} (g : disk.Ghosts D) where
   abbrev pub Accepts : detect.ShownDetector (pool.ShownPool D) → Named → Type 0
   Accepts d n = IsAccepted (detect.content (pools.live g) d) n
 
-  -- Over a map that has the words, the detector has the content behind one event more.
+  -- Over a map that has the words, the detector has the content after one more event.
   abbrev pub FollowsIfFaithful : (old new : detect.ShownDetector (pool.ShownPool D)) → Named → Result (Unit {0}) Refusal → Type 0
   FollowsIfFaithful old new n result =
       AtPresent (IsFaithful g) old → OnOk result (detect.content (pools.live g) new ≡ after (detect.content (pools.live g) old) n)
@@ -448,7 +452,7 @@ module _ {D : Type 0} (g : disk.Ghosts D) where
   AsksIfFaithful old new n result =
       AtPresent (IsFaithful g) old → OnOk result (Asks old.sets (sets_asked (detect.content (pools.live g) old) n.event) None new.sets)
 
-  -- Over such a map, a table is told as full only where the event asks for a set too many.
+  -- Over such a map, a table is told as full only if the event asks for a set too many.
   abbrev pub IsFullIfFaithful : (old new : detect.ShownDetector (pool.ShownPool D)) → Named → Result (Unit {0}) Refusal → Type 0
   IsFullIfFaithful old new n result =
       AtPresent (IsFaithful g) old → result ≡ Err FullSets
@@ -472,7 +476,7 @@ module _ {D : Type 0} {g : disk.Ghosts D} where
   abbrev pub IfAtFirst : Journal D g → JournalReader → Type 0 → Type 0
   IfAtFirst journal reader P = IsTrue g.is_honest → journals.IsAt journal reader [] → P
 
-  -- The reader has read so many events.
+  -- The reader has read this many events.
   abbrev pub HasPassed : ℕ → Journal D g → JournalReader → Type 0
   HasPassed count journal reader = (seen : List Named) × (length seen ≡ count) × journals.IsAt journal reader seen
 
@@ -510,7 +514,7 @@ module _ {D : Type 0} {g : disk.Ghosts D} where
   abbrev pub LacksSets : Journal D g → detect.ShownDetector (pool.ShownPool D) → Type 0
   LacksSets journal d = IsTooSmall (detect.content (pools.live g) d) d.sets (g.state (journals.disk_of journal)).contents
 
-  -- Damaged is told behind so many events only where none lead on, and FullSets only where the table is too small.
+  -- Behind this many events Damaged is told only if no events lead on, and FullSets only if the table is too small.
   abbrev pub IsDamagedFrom : Journal D g → detect.ShownDetector (pool.ShownPool D) → Result (Unit {0}) Refusal → List Named → Type 0
   IsDamagedFrom journal d result seen = result ≡ Err Damaged → length seen ≡ (detect.content (pools.live g) d).events → LeadsNowhere journal d
 
@@ -534,13 +538,13 @@ module _ {D : Type 0} {g : disk.Ghosts D} where
       (now : Choice) → IsTrue g.is_honest → IsStarted g d roots number now
       → IfOk result (λ s. (c : Content) × (events : List Named) × IsJournal (g.state (journals.disk_of journal)).contents events × Gives now.checkpoint events c × IsFresh g s c)
 
-  -- A journal is told as damaged only where its events lead nowhere from that checkpoint.
+  -- A journal is told as damaged only if its events lead nowhere from that checkpoint.
   abbrev pub CantCatchUp : Journal D g → detect.ShownDetector (pool.ShownPool D) → RootPair D → ℕ → Caught D g → Type 0
   CantCatchUp journal d roots number result =
       (now : Choice) → IsTrue g.is_honest → IsStarted g d roots number now
       → IfErr result (λ e. e.0 ≡ Damaged → (events : List Named) (c : Content) → IsJournal (g.state (journals.disk_of journal)).contents events → ¬ Gives now.checkpoint events c)
 
-  -- FullSets is told only where the table of sets is too small for the events of the journal.
+  -- FullSets is told only if the table of sets is too small for the events of the journal.
   abbrev pub CantFill : Journal D g → detect.ShownDetector (pool.ShownPool D) → Caught D g → Type 0
   CantFill journal d result = IfErr result (λ e. e.0 ≡ FullSets → LacksSets journal d)
 

@@ -24,14 +24,14 @@ abbrev pub is_device_fault : Refusal → Bool
 is_device_fault DeviceFault = true
 is_device_fault _ = false
 
--- The run with one answer more. The steps of a checkpoint leave it.
+-- The run after one more answer. The steps of a checkpoint do not change it.
 abbrev pub run_after : Run → Step → StepResult → Run
 run_after run (step.Offer n) (told.Offered result) = record { acknowledged = run.acknowledged; pending = run.pending ++ if_accepted n result; in_doubt = run.in_doubt }
 run_after run step.Commit (told.Committed (Ok count)) = record { acknowledged = accepted run; pending = []; in_doubt = run.in_doubt }
 run_after run step.Commit (told.Committed (Err refusal)) = record { acknowledged = run.acknowledged; pending = run.pending; in_doubt = run.in_doubt || is_device_fault refusal }
 run_after run _ _ = run
 
--- of each step, the store as it began, and what it was answered
+-- for each step the store when it began, and its answer
 abbrev pub Told : Type 0 → Type 0
 Told D = List (ShownStore D × StepResult)
 
@@ -40,16 +40,16 @@ run_of run [] told = run
 run_of run (step ∷ steps) [] = run
 run_of run (step ∷ steps) (a ∷ told) = run_of (run_after run step a.1) steps told
 
--- a commit of a run whose accepted events lead to this content, by a store that was broken or not
+-- the answers of a commit, if the accepted events of the run lead to this content, from a broken store or a working one
 abbrev pub CommitAnswers : Content → Bool → Result ℕ Refusal → Type 0
 CommitAnswers c is_broken (Ok count) = (is_broken ≡ false) × (count ≡ c.events)
 CommitAnswers c is_broken (Err refusal) = refusal ≡ cond is_broken Broken DeviceFault
 
--- a broken store refuses so
+-- a broken store refuses with Broken
 abbrev pub IfBroken : {X : Type 0} → Bool → Result X StepFault → Type 0
 IfBroken is_broken result = is_broken ≡ true → result ≡ Err (Refused cause.Broken)
 
--- What a step may be answered after this run, by a store that was broken or not.
+-- The answers that a step may get after this run, from a broken store or a working one.
 abbrev pub Lawful : Content → Run → Bool → Step → StepResult → Type 0
 Lawful start run is_broken (step.Offer n) result = Tells told.Offered result (λ r. (c : Content) × (followed start (accepted run) ≡ Some c) × OfferAnswers c is_broken (length run.pending) n r)
 Lawful start run is_broken step.Commit result = Tells told.Committed result (λ r. (c : Content) × (followed start (accepted run) ≡ Some c) × CommitAnswers c is_broken r)
@@ -61,13 +61,13 @@ Lawful start run is_broken step.PrepareRoot result = Tells told.Prepared result 
 Lawful start run is_broken step.WriteRoot result = Tells told.Written result (IfBroken is_broken)
 Lawful start run is_broken step.OpenRoot result = Tells told.Opened result (IfBroken is_broken)
 
--- the store as the first of these steps began; where there is none, at the end
+-- the store when the first of these steps began; without steps, the store at the end
 abbrev pub begins : {D : Type 0} → Told D → ShownStore D → ShownStore D
 begins [] end = end
 begins (a ∷ told) end = a.0
 
--- Each step has one answer, leads from the store as it began to that as the next one did, or to the end, and a device failed in it
--- just where it was answered so.
+-- Each step has one answer, and leads from the store when it began to the store when the next step began, or to the end.
+-- The failed device calls in it are those that its answer tells.
 abbrev pub LeadsOn : {D : Type 0} → disk.Ghosts D → List Step → Told D → ShownStore D → Type 0
 LeadsOn g [] [] end = Unit {0}
 LeadsOn g (step ∷ steps) (a ∷ told) end =
@@ -75,14 +75,14 @@ LeadsOn g (step ∷ steps) (a ∷ told) end =
 LeadsOn g [] (a ∷ told) end = ⊥
 LeadsOn g (step ∷ steps) [] end = ⊥
 
--- A list of steps was run on the store, whatever its devices are.
+-- A list of steps was run on the store, on any devices.
 pub record StepsDone {D : Type 0} (g : disk.Ghosts D) (old new : ShownStore D) (steps : List Step) (told : Told D) : Type 0 where
   -- the first step began where the list did
   pub first : begins told new ≡ old
   pub each : LeadsOn g steps told new
 
--- Each step is answered as it may be, leads from the store as it began to that as the next one did, or to the end, and each image
--- meanwhile stands for the run so far.
+-- Each step has a lawful answer, and leads from the store when it began to the store when the next step began, or to the
+-- end. Each image during a step stands for the run so far.
 abbrev pub Covered : {D : Type 0} → disk.Ghosts D → Content → Run → List Step → Told D → ShownStore D → Type 0
 Covered g start run [] [] end = Unit {0}
 Covered g start run (step ∷ steps) (a ∷ told) end =
@@ -116,10 +116,10 @@ abbrev pub told_of : {D : Type 0} → List (StepAnswer D) → Told D
 told_of answers = map (λ a. (a.began.value, a.result)) answers
 
 module _ {D : Type 0} (g : disk.Ghosts D) where
-  -- The steps, and then the last one, were answered so.
+  -- The steps, and then the last one, got these answers.
   abbrev pub HasDriven : {Z : Type 0} → (old new : ShownStore D) → List Step → Step → Vec (StepAnswer D) Z → Type 0
   HasDriven old new done last answers = DriveDone g old new (done ++ last ∷ []) (told_of answers.items)
 
-  -- The same, whatever the devices are.
+  -- The same, on any devices.
   abbrev pub HasStepped : {Z : Type 0} → (old new : ShownStore D) → List Step → Step → Vec (StepAnswer D) Z → Type 0
   HasStepped old new done last answers = StepsDone g old new (done ++ last ∷ []) (told_of answers.items)

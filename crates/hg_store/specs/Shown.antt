@@ -14,17 +14,18 @@ use Rattle.hg_store.specs.declared.devices.Devices.{Devices}
 use Rattle.hg_store.specs.declared.steps.StorePhase.{StorePhase}
 use Rattle.hg_store.specs.declared.steps.StorePhase.TheVariants as store
 
--- How far the next checkpoint is: its phase, the number of the newest root, that of the next one, and the head of that.
+-- The state of the next checkpoint: its phase, the number of the newest root, the number of the next root, and the head of
+-- the next root.
 pub record Progress : Type 0 where
   pub phase : Phase
   pub number : ℕ
   pub next : ℕ
   pub head : Option (List ℕ)
 
--- The detector has all accepted events, and its map of words is a pool over the file of slots. `pending` are those of the accepted events that
--- are not committed, `committed` is the detector as it was with the others alone, and `durable` is their count. `frozen` is the detector as it
--- was at the last freeze. `is_broken`: a call of a device failed that was to change it. `in_doubt`: it was one
--- of a commit.
+-- The detector has all accepted events, and its map of words is a pool over the file of slots. `pending` are the accepted
+-- events that are not committed. `committed` is the detector with the committed events only, and `durable` is their count.
+-- `frozen` is the detector at the last freeze. `is_broken`: a write, a cut or a sync of a device failed. `in_doubt`: it
+-- failed in a commit.
 pub record ShownStore (D : Type 0) : Type 0 where
   pub devices : Devices D
   pub detector : detect.ShownDetector (pool.ShownPool D)
@@ -52,7 +53,7 @@ captured g s = detect.content (pools.live g) s.frozen
 abbrev pub words : {D : Type 0} → ShownStore D → pool.ShownPool D
 words s = s.detector.words
 
--- the phase where no checkpoint is in progress
+-- the phase if no checkpoint is in progress
 abbrev pub resting : List Named → StorePhase
 resting [] = store.Idle
 resting (n ∷ pending) = store.Pending
@@ -75,19 +76,19 @@ IsIn phase s = s.progress.phase ≡ phase
 abbrev pub IsFlushed : {D : Type 0} → ShownStore D → Type 0
 IsFlushed s = (s.progress.phase ≡ phase.Flushing) × ((words s).waiting ≡ [])
 
--- The next checkpoint has the number behind that of the newest one, which stays.
+-- The next checkpoint has the number after that of the newest one; the newest one stays.
 abbrev pub HasNextNumber : {D : Type 0} → (old new : ShownStore D) → Type 0
 HasNextNumber old new = (new.progress.number ≡ old.progress.number) × (new.progress.next ≡ old.progress.number + 1)
 
--- The journal alone has moved on.
+-- Only the journal has changed.
 abbrev pub IsSameButJournal : {D : Type 0} → (old new : ShownStore D) → Type 0
 IsSameButJournal old new = new ≡ record old { devices = record old.devices { journal = new.devices.journal } }
 
--- a store that is broken answers so, and any other one this value
+-- a broken store answers Broken, any other one this value
 abbrev pub unless_broken : {D T : Type 0} → ShownStore D → T → Result T Refusal
 unless_broken s value = cond s.is_broken (Err refusal.Broken) (Ok value)
 
--- what a call is refused with that only memory could keep from a store that works
+-- the refusal of a call that, in a working store, can fail only for want of memory
 abbrev pub broken_or_no_memory : {D : Type 0} → ShownStore D → Refusal
 broken_or_no_memory s = cond s.is_broken refusal.Broken refusal.OutOfMemory
 

@@ -20,7 +20,7 @@ use Rattle.hg_store.specs.Answers.{IfRefused, IfWrongPhase, IsAllowed}
 use Rattle.hg_store.specs.Shown.{ShownStore, live}
 use Rattle.hg_store.specs.declared.steps.StepFault.{StepFault}
 
--- what an event that the rules accept may be refused with: no room for its sets, or what its pages are refused with
+-- the refusals of an event that the rules accept: no room for its sets, or a refusal of its pages
 abbrev pub IsOfRoom : Refusal → Type 0
 IsOfRoom r = (r ≡ refusal.FullSets) ⊎ ((r ≡ refusal.OutOfMemory) ⊎ MayRefuse r)
 
@@ -30,7 +30,7 @@ ByVerdict (IsDuplicate last) pending result = result ≡ Ok (Duplicate last)
 ByVerdict (Refuse refusal) pending result = result ≡ Err refusal
 ByVerdict Accept pending result = cond (nat_le 1024 pending) (result ≡ Err refusal.FullPending) ((result ≡ Ok Accepted) ⊎ ((r : Refusal) × (result ≡ Err r) × IsOfRoom r))
 
--- A broken store answers nothing else.
+-- A broken store answers Broken, any other one by the verdict.
 abbrev pub OfferAnswers : Content → Bool → ℕ → Named → Result Answer Refusal → Type 0
 OfferAnswers c is_broken pending n result = cond is_broken (result ≡ Err refusal.Broken) (ByVerdict (verdict (standing_of c) n) pending result)
 
@@ -40,13 +40,13 @@ if_accepted n (Ok Accepted) = n ∷ []
 if_accepted n (Ok (Duplicate last)) = []
 if_accepted n (Err refusal) = []
 
--- The store takes the event up: it works, the rules accept it, and there is room for one more that waits.
+-- The store takes the event: the store works, the rules accept the event, and there is room for one more pending event.
 pub record IsTaken {D : Type 0} (g : disk.Ghosts D) (s : ShownStore D) (n : Named) : Type 0 where
   pub works : s.is_broken ≡ false
   pub accepted : verdict (standing_of (live g s)) n ≡ Accept
   pub room : length s.pending < 1024
 
--- Nothing but the slots and what is in memory of them has changed, and whether the store is broken.
+-- Only the slots, the detector, the pending events and whether the store is broken may have changed.
 pub record SameBut {D : Type 0} (old new : ShownStore D) : Type 0 where
   pub journal : new.devices.journal ≡ old.devices.journal
   pub root0 : new.devices.root0 ≡ old.devices.root0
@@ -57,7 +57,8 @@ pub record SameBut {D : Type 0} (old new : ShownStore D) : Type 0 where
   pub progress : new.progress ≡ old.progress
   pub in_doubt : new.in_doubt ≡ old.in_doubt
 
--- An accepted event joins the pending ones. A store that does not take the event up stays as it is, and only a failed call breaks it.
+-- An accepted event joins the pending ones. A store that does not take the event stays as it is, and only a failed device
+-- call breaks it.
 pub record OfferDone {D : Type 0} (g : disk.Ghosts D) (old new : ShownStore D) (n : Named) (result : Result Answer Refusal) : Type 0 where
   pub answer : OfferAnswers (live g old) old.is_broken (length old.pending) n result
   pub pending : new.pending ≡ old.pending ++ if_accepted n result
@@ -66,7 +67,8 @@ pub record OfferDone {D : Type 0} (g : disk.Ghosts D) (old new : ShownStore D) (
   pub untouched : ¬ IsTaken g old n → new ≡ old
   pub breaks : (result ≡ Err refusal.DeviceFault → ⊥) → new.is_broken ≡ old.is_broken
 
--- Over honest devices: an accepted event joins the live content, which else stays, and the sets that it asks for join the table.
+-- Over honest devices: an accepted event joins the live content, and its sets join the table. Without one the live content
+-- stays.
 pub record ContentOffered {D : Type 0} (g : disk.Ghosts D) (old new : ShownStore D) (n : Named) (result : Result Answer Refusal) : Type 0 where
   pub leads : followed (live g old) (if_accepted n result) ≡ Some (live g new)
   pub sets : IsTaken g old n → AsksBy old.detector.sets (sets_asked (live g old) n.event) (done result) new.detector.sets
@@ -93,7 +95,7 @@ abbrev pub ByCommit : {D : Type 0} → disk.Ghosts D → (old new : ShownStore D
 ByCommit g old new (Ok count) = IsCommitted g old new count
 ByCommit g old new (Err refusal) = IsNotCommitted old new refusal
 
--- A commit changes the journal alone, and with nothing pending no device.
+-- A commit changes no device but the journal, and none at all if no event is pending.
 pub record CommitDone {D : Type 0} (g : disk.Ghosts D) (old new : ShownStore D) (result : Result ℕ Refusal) : Type 0 where
   pub answer : ByCommit g old new result
   pub detector : new.detector ≡ old.detector
@@ -105,8 +107,8 @@ pub record CommitDone {D : Type 0} (g : disk.Ghosts D) (old new : ShownStore D) 
   pub quiet : old.pending ≡ [] → new.devices ≡ old.devices
   pub still : old.is_broken ≡ true → new ≡ old
 
--- What each step of a checkpoint does, that is lawful only so and leads to this phase. It leaves the events, and the journal; a refusal leaves
--- all of the store as it is, or breaks it.
+-- A step of a checkpoint that is lawful only if `Lawful` holds, and leads to the phase `to`. It leaves the events and the
+-- journal as they are. A refusal leaves the whole store as it is, or breaks it.
 pub record CheckpointDone {D T : Type 0} (old new : ShownStore D) (Lawful : Type 0) (to : Phase) (result : Result T StepFault) : Type 0 where
   pub allowed : IsAllowed old Lawful result
   pub phase : OnOk result (new.progress.phase ≡ to)

@@ -1,4 +1,4 @@
--- What a store stands for.
+-- The content that a store stands for.
 use Rattle.std.specs.Prelude.{◌≡◌, ◌-◌, ℕ, Bool, List, [], false, IsTrue, Result, IfOk, Vec, take, drop}
 use Rattle.hg_model.specs.declared.event.Named.{Named}
 use Rattle.hg_model.specs.declared.verdict.Refusal.{Refusal}
@@ -23,23 +23,23 @@ module _ {D : Type 0} (g : disk.Ghosts D) where
   abbrev pub view_of : ShownStore D → stores.View
   view_of s = record { devices = states_of g s.devices; live = live g s; pending = s.pending; durable = s.durable; in_doubt = s.in_doubt }
 
-  -- The pending events lead from the durable content to the live one, and each image of the devices has the durable content. Where a commit
-  -- failed, an image may have the live content instead.
+  -- The pending events lead from the durable content to the live one, and each image of the devices has the durable
+  -- content. After a failed commit an image may have the live content instead.
   abbrev pub Backs : ShownStore D → Type 0
   Backs s = stores.Backs (view_of s) (saved g s)
 
-  -- A store that works, with nothing pending and no checkpoint in progress, of this content.
+  -- A store with this content that works, with nothing pending and no checkpoint in progress.
   pub record IsFresh (s : ShownStore D) (c : Content) : Type 0 where
     pub has : live g s ≡ c
     pub durable : saved g s ≡ c
     pub idle : IsIdle s
     pub backs : Backs s
 
-  -- Each image meanwhile stands for the durable content of before; where there is a doubt, it may be for the live one.
+  -- At each moment each image has the durable content from before or, in doubt, the live one.
   abbrev pub StandMeanwhile : (old new : ShownStore D) → Bool → Type 0
   StandMeanwhile old new in_doubt = EachImage g old.devices new.devices (Stands (saved g old) (live g old) in_doubt)
 
-  -- The journal was called so often at most.
+  -- The journal was called at most this often.
   abbrev pub JournalCallsAtMost : ℕ → (old new : ShownStore D) → Type 0
   JournalCallsAtMost most old new = CallsAtMost g most old.devices.journal new.devices.journal
 
@@ -47,7 +47,7 @@ module _ {D : Type 0} (g : disk.Ghosts D) where
   abbrev pub HasOpenedFrozen : (old new : ShownStore D) → ℕ → Type 0
   HasOpenedFrozen old new n = HasOpened g new.devices n (captured g old)
 
-  -- What was found are the journal's events from the one numbered `from` on, at most so many.
+  -- The events that were found are the journal's from number `from` on, at most `most`.
   abbrev pub HasFoundEvents : {Z : Type 0} → ShownStore D → (from most : ℕ) → Result (Vec Named Z) Refusal → Type 0
   HasFoundEvents s from most result =
       (events : List Named) → IsTrue g.is_honest → IsJournal (g.state s.devices.journal).contents events

@@ -24,7 +24,7 @@ use std::snapshot::Snapshot;
 const LAST_NUMBER: u64 = 1 << 58;
 
 impl<D: Disk> Store<D> {
-    // How far the store is with its events and with its next checkpoint.
+    // The phase of the store: its events and its next checkpoint.
     pub(crate) fn phase_now(&self) -> StorePhase
         ensures { result ≡ phase_of self.now }
     {
@@ -43,8 +43,9 @@ impl<D: Disk> Store<D> {
         }
     }
 
-    /// Begins a checkpoint of the durable events, which are all there are: from now on the frozen map is the live one, and its pages wait
-    /// to be written. `FullEvents` where the newest root has the last number, 2^58; `FullSlots` and `OutOfMemory` else. It calls no device.
+    /// Begins a checkpoint of the durable events; no event may be pending. The live map becomes the frozen one, and its
+    /// changed pages wait to be written. `FullEvents` if the newest root has the last number, 2^58; else `FullSlots` or
+    /// `OutOfMemory`. It calls no device.
     pub fn freeze(&mut self, alloc: Global) -> Result<(), StepFault>
         ensures done { CheckpointDone self.old self.new (phase_of self.old ≡ StorePhase.Idle) phase.Flushing result }
         ensures refused { OnErr result (self.new ≡ self.old) }
@@ -83,7 +84,7 @@ impl<D: Disk> Store<D> {
         }
     }
 
-    /// The page with the least number of those that wait, with its cells at the freeze, or none where no page waits. It calls no device.
+    /// The waiting page with the least number, with its cells at the freeze, or none if no page waits. It calls no device.
     pub fn take_job(&self) -> Result<Option<Job>, StepFault>
         ensures allowed { IsAllowed self.now (IsIn phase.Flushing self.now) result }
         ensures refusal { IfRefused (λ cause. cause ≡ Cause.Broken) result }
@@ -98,8 +99,8 @@ impl<D: Disk> Store<D> {
         Ok(self.detector.words().take_job())
     }
 
-    /// Writes a page to the slot that was picked for it: `Written` where it waits and the bytes are those of its cells at the freeze, else
-    /// `Stale`, and nothing was changed. It makes one device call at most and takes no memory.
+    /// Writes a page to the slot that was picked for it: `Written` if it waits and the bytes are those of its cells at the
+    /// freeze. Else `Stale`: nothing was changed. It makes one device call at most and takes no memory.
     pub fn put(&mut self, page: &EncodedPage) -> Result<Put, StepFault>
         ensures done { CheckpointDone self.old self.new (self.old.is_broken ≡ false) self.old.progress.phase result }
         ensures frozen { self.new.frozen ≡ self.old.frozen }
@@ -147,8 +148,8 @@ impl<D: Disk> Store<D> {
         }
     }
 
-    /// Closes the file that the next root goes to. It makes two device calls at most, none where the file is closed already, and takes no
-    /// memory.
+    /// Closes the file that the next root goes to. It makes at most two device calls, none if the file is closed already,
+    /// and takes no memory.
     pub fn prepare_root(&mut self) -> Result<(), StepFault>
         ensures done { CheckpointDone self.old self.new (IsIn phase.Sealed self.old) phase.Prepared result }
         ensures frozen { self.new.frozen ≡ self.old.frozen }

@@ -62,7 +62,7 @@ fn rooms(alloc: Global) -> Result<(Vec<Named>, JournalRoom), Refusal>
     Ok((pending, journal))
 }
 
-/// The detector of no events, over a file of slots of which none is named. Where memory runs out, the file is handed back.
+/// The detector of no events, over a file of slots; no slot is named. Without memory the file is handed back.
 pub(crate) fn empty_detector<D: Disk>(
     alloc: Global,
     file: SlotFile<D>,
@@ -110,7 +110,7 @@ fn is_empty<D: Disk>(devices: &Devices<D>) -> bool
     devices.root1.len() == 0
 }
 
-/// The journal and the two roots of a store of no events, on devices without a byte. Where one of them fails, they are handed back.
+/// The journal and the two roots of a store of no events, on empty devices. If a device fails, they are handed back.
 fn new_files<D: Disk>(
     room: JournalRoom,
     journal: D,
@@ -203,11 +203,11 @@ fn on_closed_roots<D: Disk>(
 }
 
 impl<D: Disk> Store<D> {
-    /// Makes a store of no events on four devices without a byte. A refusal hands the devices back: `NotEmpty` or
-    /// `OutOfMemory`, with nothing changed, or `DeviceFault`. All memory is taken before the first device is called, and then
-    /// six calls are made at most, none of them of the slots. Of a stop inside it nothing is promised.
+    /// Makes a store of no events on four empty devices. A refusal hands the devices back: `NotEmpty` or `OutOfMemory`,
+    /// with nothing changed, or `DeviceFault`. All memory is taken before the first device call. Then it makes at most six
+    /// device calls, none of them on the slots. Nothing is promised about a crash inside it.
     ///
-    /// `frames` is how many pages stand in memory at most, 4 to 4,096.
+    /// `frames` is the greatest number of pages in memory, 4 to 4,096.
     pub fn create(
         alloc: Global,
         devices: Devices<D>,

@@ -1,4 +1,4 @@
-//! The devices of a store, and how much a store may have.
+//! The devices of a store, and the limits of a store.
 
 ghost use Rattle.std.specs.Prelude.{◌≡◌};
 
@@ -18,12 +18,12 @@ pub struct Devices<D> {
     pub root1: D,
 }
 
-/// How much a store may have. It is not stored.
+/// The limits of a store. They are not stored.
 #[derive(Clone, Copy, Debug, PartialEq, Eq)]
 pub struct Caps {
-    /// How many sets of threads and of locks: 1 to 262,144.
+    /// The greatest number of sets of threads and of locks: 1 to 262,144.
     pub sets: u32,
-    /// How many slots of pages: 1 to 1,048,576.
+    /// The number of slots of pages: 1 to 1,048,576.
     pub slots: u32,
 }
 

@@ -14,7 +14,7 @@ use hg_model::verdict::Refusal;
 use std::alloc::Global;
 use std::snapshot::Snapshot;
 
-/// What a step was answered, and the store as the step began, which contracts alone see.
+/// The answer of a step, and a snapshot of the store when the step began: only contracts see the snapshot.
 #[derive(Drop)]
 pub struct StepAnswer<D: Disk> {
     pub result: StepResult,
@@ -44,7 +44,7 @@ impl<D: Disk> Store<D> {
         }
     }
 
-    // One step, with the store as it began.
+    // Makes one step, and keeps a snapshot of the store when it began.
     fn answered(&mut self, alloc: Global, step: &Step) -> StepAnswer<D>
         ensures began { result.began.value ≡ self.old }
         ensures done { StepDone ⟦<D as Disk>⟧ self.old self.new step.now result.result }
@@ -60,13 +60,13 @@ impl<D: Disk> Store<D> {
         StepAnswer { result, began }
     }
 
-    /// Runs the steps `done` and then `last`, and gives the answer of each. Room for the answers is made first: where it is
+    /// Runs the steps `done` and then `last`, and gives the answer of each. Room for the answers is made first. If it is
     /// refused, or the store is broken, nothing was changed.
     ///
-    /// This is what a store is for. After any steps, those of a checkpoint among them, a crash at any moment, between calls of the
-    /// devices or inside one, leaves devices whose content is that of the acknowledged events: those that were accepted before the last
-    /// commit answered `Ok`. Only during a commit, and after one that a device's fault ended, it may instead be that of all accepted
-    /// events.
+    /// This is what a store is for. Take any steps, also those of a checkpoint, and a crash at any moment, between device
+    /// calls or inside one. The devices then have the content of the acknowledged events: those that were accepted before
+    /// the last commit that answered `Ok`. Only during a commit, and after one that a device fault ended, they may have the
+    /// content of all accepted events instead.
     pub fn drive(
         &mut self,
         alloc: Global,
@@ -75,7 +75,7 @@ impl<D: Disk> Store<D> {
     ) -> Result<Vec<StepAnswer<D>>, Refusal>
         ensures run { IsTrue D.is_honest → IfOk result (HasDriven ⟦<D as Disk>⟧ self.old self.new done.now last.now) }
 
-        // Whatever the devices are, each step has one answer, and leads to where the next one began.
+        // On any devices, each step has one answer, and leaves the store as the next step finds it.
         ensures each { IfOk result (HasStepped ⟦<D as Disk>⟧ self.old self.new done.now last.now) }
 
         ensures err { IfErr result (λ refusal. (self.new ≡ self.old) × (refusal ≡ broken_or_no_memory self.old)) }

@@ -1,7 +1,7 @@
-//! A store of events with checkpoints: what was accepted, what of it is durable, and what it makes of the segments and the words.
+//! A store of events with checkpoints: the accepted events, which of them are durable, and the content that they lead to.
 //!
-//! A store has four devices. Its journal has the events. A checkpoint has what the events up to some point made: its head is in one of two
-//! root files, and its pages are in slots.
+//! A store has four devices. Its journal has the events. A checkpoint has the content of the events up to some point: its
+//! head is in one of two root files, and its pages are in slots.
 #![tactic(auto)]
 
 pub mod checkpoints;

@@ -1,4 +1,4 @@
-//! What a store answers of what it has.
+//! The queries of a store.
 
 ghost use Rattle.std.specs.Prelude.{◌≡◌, ◌≢◌, ◌⊎◌, ◌+◌, ◌-◌, ◌*◌, Ok, Err, false, IsTrue, OnOk, IfOk, IfErr};
 ghost use Rattle.hg_model.specs.ThreadSets.{HasThreadSets};
@@ -18,7 +18,7 @@ use hg_model::verdict::Refusal;
 use std::alloc::Global;
 
 impl<D: Disk> Store<D> {
-    /// What the store stands for, which contracts alone see. It does nothing.
+    /// Does nothing: its contract says what the store stands for.
     pub fn stands(&self)
         ensures backs { IsTrue D.is_honest → Backs ⟦<D as Disk>⟧ self.now }
         ensures count { IsTrue D.is_honest → HasCounted ⟦<D as Disk>⟧ self.now }
@@ -47,7 +47,7 @@ impl<D: Disk> Store<D> {
         Ok(self.durable)
     }
 
-    /// The last accepted number of a source, 0 where it sent nothing.
+    /// The last accepted number of a source, 0 if it sent nothing.
     pub fn last(&self, source: u16) -> Result<u64, Refusal>
         ensures { result ≡ unless_broken self.now ((live ⟦<D as Disk>⟧ self.now).last source) }
     {
@@ -67,7 +67,7 @@ impl<D: Disk> Store<D> {
         Ok(self.detector.total())
     }
 
-    /// How far the store is with its events and with its next checkpoint.
+    /// The phase of the store: its events and its next checkpoint.
     pub fn phase(&self) -> Result<StorePhase, Refusal>
         ensures { result ≡ unless_broken self.now (phase_of self.now) }
     {
@@ -101,9 +101,9 @@ impl<D: Disk> Store<D> {
         Ok(self.detector.segments())
     }
 
-    /// Durable events of the journal, at most `max`, from the one numbered `from` on, where the first is number 1 (and 0 is
-    /// read as 1). It reads the journal from its beginning on, in two device calls an event at most, and takes memory for the
-    /// answer and for one batch.
+    /// Durable events of the journal, at most `max`, from number `from` on; the first event is number 1, and 0 means 1 too.
+    /// It reads the journal from its beginning, with at most two device calls per event, and takes memory for the answer
+    /// and for one batch.
     pub fn durable_events(
         &mut self,
         alloc: Global,

@@ -35,7 +35,7 @@ use hg_root::{Newest, Root, RootFault, RootPair};
 use hg_sets::MOST_SETS;
 use std::alloc::Global;
 
-/// Makes what each device reads durable.
+/// Syncs each device, so that what it reads is durable.
 fn sync_all<D: Disk>(devices: &mut Devices<D>) -> Result<(), DiskFault>
     ensures settled { OnOk result (Settled ⟦<D as Disk>⟧ devices.old devices.new) }
     ensures failures { FailuresBecome ⟦<D as Disk>⟧ devices.old devices.new (counted result) }
@@ -83,7 +83,7 @@ fn lie_within<D: Disk>(root: &Option<Root>, file: &SlotFile<D>) -> bool
     }
 }
 
-/// The newest root of two files, or none, where the slots of the other root lie within the file of slots.
+/// The newest root of two files, or none, if the slots of the other root lie within the file of slots.
 fn standing<D: Disk>(
     alloc: Global,
     roots: &mut RootPair<D>,
@@ -118,7 +118,7 @@ fn caps_of(frames: u16, caps: Caps) -> hg_recovery::Caps
     }
 }
 
-/// The detector of a root, or of no events where there is none.
+/// The detector of a root, or that of no events if there is no root.
 fn detector_of<D: Disk>(
     alloc: Global,
     found: Option<Root>,
@@ -155,8 +155,8 @@ fn detector_of<D: Disk>(
     }
 }
 
-/// The store of a journal and of a detector that stands at the newest root: the events behind it are followed. A refusal hands the
-/// parts back.
+/// The store of a journal and a detector that stands at the newest root. The detector follows the events behind that root.
+/// A refusal hands the parts back.
 fn caught_up<D: Disk>(
     alloc: Global,
     journal: Journal<D>,
@@ -233,7 +233,7 @@ fn rooted<D: Disk>(
     }
 }
 
-/// The number of a root, 0 where there is none.
+/// The number of a root, 0 if there is none.
 fn number_of(root: &Option<Root>) -> u64
     ensures { result ≡ number_in (root_in root.now) }
 {
@@ -256,7 +256,7 @@ fn handed_back<D: Disk>(journal: D, slots: D, roots: RootPair<D>) -> Devices<D>
     }
 }
 
-/// The store that four devices hold of which each has on it what it reads. A refusal hands them back.
+/// The store on four devices whose bytes are all durable. A refusal hands them back.
 fn recovered<D: Disk>(
     alloc: Global,
     devices: Devices<D>,
@@ -307,16 +307,16 @@ fn recovered<D: Disk>(
 }
 
 impl<D: Disk> Store<D> {
-    /// The store that four devices hold, with nothing pending and no checkpoint in progress. First each device is synced, so that what it reads is durable. Then
-    /// the newest open root is read with its pages, and the events of the journal behind it are followed, from the empty trace where no root is
-    /// open.
+    /// Recovers the store on four devices, with no event pending and no checkpoint in progress. First each device is
+    /// synced, so that what it reads is durable. Then the newest open root is read with its pages, and the detector follows
+    /// the events of the journal behind it. If no root is open, it follows all events from the empty trace on.
     ///
-    /// A refusal hands the devices back: `Damaged` where their bytes have no content, `FullSets` where the sets of the root, or with those of the
-    /// events, are more than `caps.sets`, `FullSlots` where the root names a slot at `caps.slots` or above, or more pages were changed than
-    /// there is room for, `DeviceFault` where a device failed, or `OutOfMemory`. A stop inside it leaves images that have the content of one
-    /// that there was before.
+    /// A refusal hands the devices back. `Damaged`: their bytes have no content. `FullSets`: the sets of the root, with
+    /// those of the events, are more than `caps.sets`. `FullSlots`: the root names a slot at `caps.slots` or above, or more
+    /// pages were changed than there is room for. `DeviceFault`: a device failed. Or `OutOfMemory`. A crash inside it
+    /// leaves an image with the content of one that the devices had before.
     ///
-    /// `frames` is how many pages stand in memory at most, 4 to 4,096.
+    /// `frames` is the greatest number of pages in memory, 4 to 4,096.
     pub fn recover(
         alloc: Global,
         devices: Devices<D>,
@@ -334,7 +334,7 @@ impl<D: Disk> Store<D> {
         ensures refusal { IfErr result (λ e. IsOfRecovery e.0) }
         ensures device { CountsRecovery ⟦<D as Disk>⟧ devices result }
 
-        // A crash at any moment leaves an image with the content of one that there was before, and so it does afterwards.
+        // A crash at any moment, also afterwards, leaves an image with the content of one that the devices had before.
         ensures images { IsTrue D.is_honest → Recovers ⟦<D as Disk>⟧ devices (made_of result) }
     {
         let mut devices = devices;

@@ -22,7 +22,8 @@ use hg_model::limits::MOST_EVENTS;
 use hg_model::verdict::{Refusal, Verdict};
 use hg_pool::Pool;
 
-/// What a refusal of an accepted event is told as. A page that was read before and reads otherwise now is a fault of its device.
+/// The refusal that tells why an accepted event was refused. If a page was read before and reads differently now, that is a
+/// fault of its device.
 fn told(refusal: Refusal) -> Refusal
     ensures of_following { IsOfFollowing result }
     ensures sets { result ≡ Refusal.FullSets → refusal ≡ Refusal.FullSets }
@@ -37,7 +38,7 @@ fn told(refusal: Refusal) -> Refusal
     }
 }
 
-/// Has the detector follow an event of the journal. One that the rules do not accept is no journal's.
+/// Has the detector follow an event of the journal. A journal has no event that the rules do not accept.
 fn follow<D: Disk>(detector: &mut Detector<Pool<D>>, named: &Named) -> Result<(), Refusal>
     requires lawful { AtPresent MayBring detector.old }
     ensures accepted { OnOk result (Accepts ⟦<D as Disk>⟧ detector.old named.now) }
@@ -63,7 +64,7 @@ fn follow<D: Disk>(detector: &mut Detector<Pool<D>>, named: &Named) -> Result<()
     }
 }
 
-/// Passes over so many events.
+/// Passes over this many events.
 fn skip<D: Disk>(
     journal: &mut Journal<D>,
     reader: &mut JournalReader,
@@ -89,7 +90,7 @@ fn skip<D: Disk>(
     Ok(())
 }
 
-/// Has the detector follow each event that was not read yet.
+/// Has the detector follow each event that is left.
 fn follow_rest<D: Disk>(
     journal: &mut Journal<D>,
     reader: &mut JournalReader,
@@ -118,7 +119,8 @@ fn follow_rest<D: Disk>(
     Err(Refusal::Damaged)
 }
 
-/// Reads the journal from its first event on, and has the detector follow each behind as many as it counts already.
+/// Reads the journal from its first event on. Passes over as many events as the detector counts already, and has it follow
+/// each further one.
 pub(crate) fn replay<D: Disk>(
     journal: &mut Journal<D>,
     detector: &mut Detector<Pool<D>>,

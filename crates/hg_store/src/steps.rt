@@ -9,7 +9,7 @@ use hg_pages::EncodedPage;
 use hg_pool::{Job, Put};
 use hg_recovery::HeadFault;
 
-/// How far a store is with its events and with its next checkpoint.
+/// The phase of a store: its events and its next checkpoint.
 #[derive(Clone, Copy, Debug, PartialEq, Eq, Drop)]
 pub enum StorePhase {
     /// All accepted events are durable, and no checkpoint is in progress.
@@ -29,13 +29,13 @@ pub enum StorePhase {
 /// Why a step of a checkpoint was not made.
 #[derive(Clone, Copy, Debug, PartialEq, Eq, Drop)]
 pub enum StepFault {
-    /// It is not one of this phase. Nothing was changed.
+    /// This phase does not allow the step. Nothing was changed.
     WrongPhase(StorePhase),
-    /// It is one of this phase, and was refused for this cause.
+    /// This phase allows the step, but it was refused for this cause.
     Refused(Cause),
 }
 
-/// What is told where the head of a root was not made.
+/// The fault of a step that could not make the head of a root.
 impl From<HeadFault> for StepFault {
     ghost use Rattle.hg_store.specs.Answers.{of_head};
 
@@ -72,7 +72,7 @@ pub enum Step {
     OpenRoot,
 }
 
-/// What a step was answered.
+/// The answer of a step.
 #[derive(Drop)]
 pub enum StepResult {
     /// Of an offer.
@@ -81,7 +81,7 @@ pub enum StepResult {
     Committed(Result<u64, Refusal>),
     /// Of a freeze.
     Frozen(Result<(), StepFault>),
-    /// The page with the least number of those that wait, or none.
+    /// The waiting page with the least number, or none.
     Taken(Result<Option<Job>, StepFault>),
     /// Whether the page was written.
     Put(Result<Put, StepFault>),

@@ -22,19 +22,19 @@ use std::alloc::Global;
 use std::marker::Model;
 use std::snapshot::Snapshot;
 
-/// How many accepted events may wait for a commit: as many as a batch of the journal may have.
+/// The most accepted events that may wait for a commit: as many as a batch of the journal may have.
 pub const MOST_PENDING: usize = MAX_BATCH_EVENTS;
 
-/// What was accepted, and what of it is durable.
+/// A store: all accepted events, and which of them are durable.
 ///
-/// After a write, a cut or a sync that failed, each call answers `Broken` until the devices are taken back and the store is recovered.
+/// After a failed write, cut or sync each call answers `Broken`. To go on, take the devices back and recover the store.
 pub struct Store<D: Disk> {
     pub(crate) journal: Journal<D>,
     pub(crate) detector: Detector<Pool<D>>,
     pub(crate) checkpointer: Checkpointer<D>,
-    /// The detector as it was with the durable events alone: contracts see it.
+    /// The detector with the durable events only. A snapshot: only contracts see it.
     pub(crate) committed: Snapshot<Detector<Pool<D>>>,
-    /// The detector as it was at the last freeze: contracts see it.
+    /// The detector at the last freeze. A snapshot: only contracts see it.
     pub(crate) frozen: Snapshot<Detector<Pool<D>>>,
     pub(crate) pending: Vec<Named>,
     pub(crate) durable: u64,
@@ -75,9 +75,10 @@ impl<D: Disk> Model for Store<D> {
 }
 
 impl<D: Disk> Store<D> {
-    /// Offers an event. It is accepted, or it was sent before, or it is refused; the first refusal that applies is
-    /// answered: `Broken`, those of the trace rules, `FullPending` where 1,024 events wait for a commit, and then those of room: of the
-    /// pages of the event's words, of its sets, and of memory. A refusal leaves the content and what is pending as they were.
+    /// Offers an event. It is accepted, or it was sent before, or it is refused. The answer is the first refusal that
+    /// applies: `Broken`; a refusal of the trace rules; `FullPending` if 1,024 events wait for a commit; and then a lack of
+    /// room: for the pages of the event's words, for its sets, or of memory. A refusal leaves the content and the pending
+    /// events as they were.
     pub fn offer(&mut self, named: &Named) -> Result<Answer, Refusal>
         ensures done { OfferDone ⟦<D as Disk>⟧ self.old self.new named.now result }
         ensures content { IsTrue D.is_honest → ContentOffered ⟦<D as Disk>⟧ self.old self.new named.now result }
@@ -108,8 +109,9 @@ impl<D: Disk> Store<D> {
         }
     }
 
-    /// Makes all accepted events durable, and answers their count. It calls the journal four times at most, and with nothing
-    /// pending no device. It takes no memory. A crash during it leaves the events of the last commit, or all accepted ones.
+    /// Makes all accepted events durable, and answers their count. It makes at most four calls of the journal, and calls no
+    /// device if no event is pending. It takes no memory. A crash during it leaves the events of the last commit, or all
+    /// accepted ones.
     pub fn commit(&mut self) -> Result<u64, Refusal>
         ensures done { CommitDone ⟦<D as Disk>⟧ self.old self.new result }
         ensures calls { JournalCallsAtMost ⟦<D as Disk>⟧ 4 self.old self.new }
@@ -140,7 +142,7 @@ impl<D: Disk> Store<D> {
         }
     }
 
-    /// The devices as they are. What was pending is lost.
+    /// The devices as they are. The pending events are lost.
     pub fn into_devices(self) -> Devices<D>
         ensures { result ≡ self.devices }
     {

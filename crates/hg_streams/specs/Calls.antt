@@ -13,7 +13,7 @@ given [] = []
 given (Gave bytes ∷ earlier) = given earlier ++ bytes
 given (Erred kind ∷ earlier) = given earlier
 
--- how many failures an error of a read is: none where a signal interrupted it
+-- how many failures an error of a read counts as: none for an interruption, else one
 abbrev pub failure : ErrorKind → ℕ
 failure Interrupted = 0
 failure _ = 1
@@ -31,7 +31,7 @@ ends_met (Gave [] ∷ earlier) = 1 + ends_met earlier
 ends_met (Gave (byte ∷ bytes) ∷ earlier) = ends_met earlier
 ends_met (Erred kind ∷ earlier) = ends_met earlier
 
--- the bytes that the writes took, the oldest first, but for those that failed
+-- the bytes that the successful writes took, the oldest first
 abbrev pub taken : List WriteCall → List ℕ
 taken [] = []
 taken (Took bytes ∷ earlier) = taken earlier ++ bytes
@@ -47,7 +47,7 @@ failed_writes (Torn bytes ∷ earlier) = 1 + failed_writes earlier
 failed_writes (Flushed ∷ earlier) = failed_writes earlier
 failed_writes (NotFlushed ∷ earlier) = 1 + failed_writes earlier
 
--- the bytes of a write that failed, some of which may have been taken from the front on
+-- the bytes of the failed writes, the oldest first; each write may have taken a front of its bytes
 abbrev pub torn : List WriteCall → List ℕ
 torn [] = []
 torn (Took bytes ∷ earlier) = torn earlier
@@ -60,7 +60,7 @@ abbrev pub read_call : Result ℕ ErrorKind → List ℕ → ReadCall
 read_call (Ok n) buffer = Gave (take n buffer)
 read_call (Err kind) buffer = Erred kind
 
--- a read that did not fail: one that was interrupted gave nothing
+-- a read that did not fail; an interrupted one (`None`) gave nothing
 abbrev pub got_call : Option ℕ → List ℕ → ReadCall
 got_call (Some n) buffer = Gave (take n buffer)
 got_call None buffer = Erred Interrupted
@@ -75,12 +75,12 @@ abbrev pub flush_call : {E : Type 0} → Result ⊤ E → WriteCall
 flush_call (Ok done) = Flushed
 flush_call (Err e) = NotFlushed
 
--- a read as std's clauses have it, which say nothing of why one failed
+-- the answer of a read as std's clauses see it, without the cause of a failure
 abbrev pub as_read : {E : Type 0} → Result ℕ E → Result ℕ ⊤
 as_read (Ok n) = Ok n
 as_read (Err e) = Err tt
 
--- the same, of a read that tells an interruption apart
+-- the same for a read that tells interruptions apart
 abbrev pub as_got : {E : Type 0} → Result (Option ℕ) E → Result ℕ ⊤
 as_got (Ok (Some n)) = Ok n
 as_got (Ok None) = Err tt

@@ -1,9 +1,9 @@
--- How the calls of streams and the faults that are answered go together.
+-- How failed calls of streams and answered faults go together.
 use Rattle.std.specs.Prelude.{ℕ, Result, Ok, Err}
 use Rattle.hg_model.specs.declared.verdict.Refusal.{Refusal}
 use Rattle.hg_model.specs.declared.verdict.Refusal.TheVariants.{DeviceFault}
 
--- how many calls failed, by what was answered: one where it was a device fault
+-- how many failed calls a refusal tells of: one for a device fault, else none
 abbrev pub told_refusal : Refusal → ℕ
 told_refusal DeviceFault = 1
 told_refusal r = 0

@@ -15,9 +15,9 @@ pub enum ReadCall {
 /// A write or a flush, and what it came to.
 #[derive(Drop)]
 pub enum WriteCall {
-    /// It took these bytes, all that it was given.
+    /// It took all bytes that it was given: these.
     Took { bytes: Trail<u8> },
-    /// It failed, and may have taken some of these bytes from the front on.
+    /// It failed, and may have taken a front of these bytes.
     Torn { bytes: Trail<u8> },
     /// A flush.
     Flushed,

@@ -46,7 +46,7 @@ impl<R> Input<R> {
 }
 
 impl<R: Read> Input<R> {
-    /// Of a reader that was not called yet.
+    /// Wraps a reader that was not called yet.
     pub fn new(stream: R) -> Input<R>
         ensures stream { result.stream ≡ stream }
         ensures calls { result.calls ≡ [] }

@@ -35,7 +35,7 @@ impl<W> Output<W> {
 }
 
 impl<W: Write> Output<W> {
-    /// Of a writer that was not called yet.
+    /// Wraps a writer that was not called yet.
     pub fn new(stream: W) -> Output<W>
         ensures stream { result.stream ≡ stream }
         ensures calls { result.calls ≡ [] }
@@ -65,7 +65,7 @@ impl<W: Write> Output<W> {
         }
     }
 
-    /// Hands on what the stream itself may hold.
+    /// Flushes the stream.
     pub fn flush(&mut self) -> Result<(), Refusal>
         ensures calls { self.new.calls ≡ flush_call result ∷ self.old.calls }
         ensures known { Keeps (W.contents self.old.stream) (W.contents self.new.stream) }

@@ -1,4 +1,4 @@
-//! A list for contracts alone, which has no bytes.
+//! A ghost list: contracts see its items, at run time it has no bytes.
 #![tactic(auto)]
 
 mod trail;

@@ -46,7 +46,7 @@ impl<T: Drop> Trail<T> {
 }
 
 impl Trail<u8> {
-    /// The bytes, of which the last one is the oldest item.
+    /// A list of these bytes. The last byte is the oldest item.
     pub fn of(bytes: &[u8]) -> Trail<u8>
         ensures { result ≡ bytes.now }
     {

@@ -85,7 +85,7 @@ fn put_bad_length(event: Event, text: &mut String) -> Result<(), AllocError> {
     }
 }
 
-/// Appends by what a thread was used before.
+/// Appends how the number of a thread was used before.
 fn put_used(past: &Past, thread: u16, text: &mut String) -> Result<(), AllocError> {
     if thread == 0 {
         return text.push_str("thread 0 is there from the start");

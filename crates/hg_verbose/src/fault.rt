@@ -27,7 +27,7 @@ fn put_failure(sources: &[Source<'_>], text: &mut String) -> Result<(), AllocErr
     text.push_str("a stream or a file that is not known")
 }
 
-/// Appends what a fault with this code is of.
+/// Appends what caused a fault with this code.
 pub fn put_fault(code: u64, sources: &[Source<'_>], text: &mut String) -> Result<(), AllocError> {
     match code {
         11 => text.push_str("the store: its files are not a store's"),
@@ -58,7 +58,7 @@ pub fn damage<D: Disk + Drop>(alloc: Global, journal: D, root0: D, root1: D) -> 
     }
 }
 
-/// Goes on by the events of a journal.
+/// Adds the events of a journal to `past`.
 pub fn replay<D: Disk + Drop>(alloc: Global, journal: D, past: &mut Past) -> Result<(), Refusal> {
     let mut journal = match Journal::attach(alloc, journal) {
         Ok(journal) => journal,

@@ -57,7 +57,7 @@ fn let_go(list: &mut Vec<Hold>, thread: u16, lock: u16)
     list.retain(|hold| !(hold.thread == thread && hold.lock == lock));
 }
 
-/// Makes of the holds after some events those after one more, the event of this number, unless memory is refused.
+/// Brings the holds after some events up to the next one, the event numbered `since`. `false` says that memory was refused.
 fn change(list: &mut Vec<Hold>, event: Event, since: u64) -> bool
     ensures changed { OnTrue result (HoldsFollow event since list.old.items list.new.items) }
     ensures refused { OnFalse result (list.new.items ≡ list.old.items) }
@@ -90,7 +90,7 @@ fn change(list: &mut Vec<Hold>, event: Event, since: u64) -> bool
 }
 
 impl Holds {
-    /// After no event.
+    /// The holds before any event.
     pub fn new(alloc: Global) -> Holds
         ensures { result ≡ [] }
     {
@@ -106,7 +106,7 @@ impl Holds {
         self.events
     }
 
-    /// Goes on by an event, and answers whether there was room for it.
+    /// Takes the next event, and answers whether there was room for it.
     pub fn follow(&mut self, event: Event) -> bool
         ensures followed { OnTrue result (self.new ≡ event ∷ self.old) }
         ensures refused { OnFalse result (self.new ≡ self.old) }

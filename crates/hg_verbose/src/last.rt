@@ -13,7 +13,7 @@ pub enum Last {
     Fault { code: u64 },
 }
 
-/// What follows a front, as a number.
+/// The number that follows `front` in a line.
 fn number_after(front: &[u8], line: &[u8]) -> Option<u64> {
     number_of_word(line.strip_prefix(front)?)
 }

@@ -9,7 +9,7 @@ use std::alloc::{AllocError, Global};
 /// How many lines are counted at most.
 const MOST_LINES: u64 = 1 << 62;
 
-/// The lines of a text as it was read, and what its events left, but for the piece that was read last.
+/// The lines of a text up to the piece that was read last, and what the events before that piece left.
 #[derive(Drop)]
 pub struct Lines {
     splitter: Splitter,
@@ -29,7 +29,7 @@ pub fn event_of(line: &[u8]) -> Option<Event> {
 }
 
 impl Lines {
-    /// Of a text of which nothing was read.
+    /// For a text of which nothing was read yet.
     pub fn new(alloc: Global) -> Result<Lines, AllocError> {
         Ok(Lines {
             splitter: Splitter::new(alloc)?,
@@ -81,7 +81,7 @@ impl Lines {
         }
     }
 
-    /// Goes on to a line of the last piece, or to the one that it leaves begun. Answers whether there is one.
+    /// Goes on to a line of the last piece, or to the unfinished line at its end. Answers whether there is one.
     pub fn find(&mut self, line: u64) -> bool {
         for _ in 0..self.piece.len() {
             if !self.next() {

@@ -55,13 +55,13 @@ pub fn of_fault(alloc: Global, code: u64, sources: &[Source<'_>]) -> Result<Stri
     Ok(text)
 }
 
-/// What it means that the files of a store are damaged, where that lies here.
+/// What it means that the files of a store are damaged. `place` says where.
 pub fn of_damage(alloc: Global, place: &str) -> Result<String, AllocError> {
     format!(in alloc; "fault 11 is of {place}\n")
 }
 
-/// What the last line means, where it is of a line of this text. The event of a refused line followed those of `past`; where
-/// that is left out, those of the text before it.
+/// What the last line means, if it tells of a line of this text. The event of a refused line followed the events of `past`; with
+/// `None`, those of the text before it.
 pub fn of_line(
     alloc: Global,
     last: Last,

@@ -1,4 +1,4 @@
-//! Streams that note what a meaning rests on, and are the streams that they stand for.
+//! Streams that note what a meaning rests on, and otherwise act as the streams that they wrap.
 
 use crate::lines::Lines;
 use std::alloc::Global;
@@ -24,7 +24,7 @@ pub struct NotedReader<R> {
 }
 
 impl<R: Read> NotedReader<R> {
-    /// Of a reader that was not called yet, and lines of which none was seen.
+    /// Wraps a reader that was not called yet, and lines of which none was seen.
     pub fn new(stream: R, lines: Lines) -> NotedReader<R> {
         NotedReader {
             stream,
@@ -35,7 +35,7 @@ impl<R: Read> NotedReader<R> {
 }
 
 impl<R> NotedReader<R> {
-    /// What the last read that failed said.
+    /// The error of the last read that failed.
     pub fn error(&self) -> Option<io::Error> {
         self.error
     }
@@ -71,7 +71,7 @@ pub struct NotedWriter<W> {
     error: Option<io::Error>,
 }
 
-/// Appends the end of a text to that of the text before it.
+/// Appends a text to the kept end, of which at most the last 64 bytes stay.
 fn keep_end(end: &mut Vec<u8>, text: &[u8]) {
     let from = text.len().saturating_sub(MOST_KEPT);
     let tail = &text[from..];
@@ -95,7 +95,7 @@ fn drop_front(end: &mut Vec<u8>, count: usize) {
 }
 
 impl<W: Write> NotedWriter<W> {
-    /// Of a writer that was not called yet.
+    /// Wraps a writer that was not called yet.
     pub fn new(alloc: Global, stream: W) -> NotedWriter<W> {
         NotedWriter {
             stream,
@@ -106,7 +106,7 @@ impl<W: Write> NotedWriter<W> {
 }
 
 impl<W> NotedWriter<W> {
-    /// What the last write or flush that failed said.
+    /// The error of the last write or flush that failed.
     pub fn error(&self) -> Option<io::Error> {
         self.error
     }

@@ -32,7 +32,7 @@ fn at(places: &[u64], thread: u16) -> u64 {
 }
 
 impl Past {
-    /// What no event leaves.
+    /// The past before any event.
     pub fn new(alloc: Global) -> Result<Past, AllocError> {
         Ok(Past {
             segments: 1,
@@ -42,7 +42,7 @@ impl Past {
         })
     }
 
-    /// Goes on by an event that was accepted, and answers whether there was room for it.
+    /// Takes the next accepted event, and answers whether there was room for it.
     pub fn follow(&mut self, event: Event) -> bool {
         let is_followed = self.holds.follow(event);
         let number = self.holds.events();

@@ -31,7 +31,7 @@ fn name(verb: Verb) -> &'static str {
     }
 }
 
-/// Appends that a word is none that may stand there.
+/// Appends that a word may not stand at its place.
 fn put_word(place: usize, word: &[u8], text: &mut String) -> Result<(), AllocError> {
     let number = place.saturating_add(1);
     write!(text, "word {number}, ")?;

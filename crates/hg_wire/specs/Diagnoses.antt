@@ -25,12 +25,12 @@ fault_of (says.TooGreat place word bits) = Number
 abbrev pub HasVerb : List ℕ → source.Verb → List (List ℕ) → Type 0
 HasVerb line verb words = words_of line ≡ (row_of verb).text ∷ words
 
--- the first word without a byte
+-- the first empty word stands at this place
 pub record IsFirstEmpty (words : List (List ℕ)) (place : ℕ) : Type 0 where
   pub empty : slice_get words place ≡ Some []
   pub earlier : (k : ℕ) (word : List ℕ) → k < place → slice_get words k ≡ Some word → 0 < length word
 
--- Of operands of these widths in bits, the first word that spells no number, or one that does not fit its width.
+-- The first word that is no operand of its width in bits: it spells no number, or one that does not fit.
 pub record IsFirstMisfit (widths : List ℕ) (words : List (List ℕ)) (place : ℕ) (word : List ℕ) (bits : ℕ) : Type 0 where
   pub is_word : slice_get words place ≡ Some word
   pub is_width : slice_get widths place ≡ Some bits
@@ -50,7 +50,7 @@ pub record HasMisfit (line : List ℕ) (place : ℕ) (word : List ℕ) (bits : �
   pub at : place ≡ operand + 1
   pub first : IsFirstMisfit (row_of verb).widths words operand word bits
 
--- What a diagnosis says of a line, beside which of the faults is its first.
+-- What a diagnosis says of a line, apart from its first fault.
 abbrev pub IsTrueOf : List ℕ → Diagnosis → Type 0
 IsTrueOf line says.TooLong = 256 < length line
 IsTrueOf line (says.NoVerb word) = (rest : List (List ℕ)) × (words_of line ≡ word.now ∷ rest)

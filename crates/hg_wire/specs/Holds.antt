@@ -8,7 +8,7 @@ use Rattle.hg_wire.specs.declared.verb.Verb.{Verb}
 use Rattle.hg_wire.specs.declared.verb.Verb.TheVariants as verb
 use Rattle.hg_wire.specs.Streams.{GivesReading, LinesRead}
 
--- the verb of what is done to a lock
+-- the verb of an operation on a lock
 abbrev pub verb_on : HoldKind → Verb
 verb_on Lock = verb.Lock
 verb_on RdLock = verb.RdLock

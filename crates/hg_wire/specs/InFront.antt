@@ -16,7 +16,7 @@ pub record HasRun (base most : ℕ) (bytes rest : List ℕ) (value : ℕ) : Type
   pub joined : bytes ≡ digits ++ rest
   pub read : length digits ≤ most → value ≡ digits_value base digits
 
--- From one place to another there are digits, at most so many, and the value of 64 bits is theirs.
+-- From one place to another stand digits, at most `most` of them. Their value is `value`, which fits 64 bits.
 pub record HasDigits (base most : ℕ) (bytes : List ℕ) (from end value : ℕ) : Type 0 where
   pub some : from < end
   pub few : end ≤ from + most
@@ -60,7 +60,7 @@ pub record HasEvent (bytes : List ℕ) (event : Event) (rest : List ℕ) : Type 
 abbrev pub EndsLineBefore : List ℕ → List ℕ → Type 0
 EndsLineBefore bytes rest = (bytes ≡ 10 ∷ rest) ⊎ (bytes ≡ 13 ∷ 10 ∷ rest)
 
--- The first so many bytes are a line that spells the event, with its line feed.
+-- The first `used` bytes are a line that spells the event, with its line feed.
 pub record HasEventLine (bytes : List ℕ) (event : Event) (used : ℕ) : Type 0 where
   pub text : List ℕ
   pub spelled : IsLine text event
@@ -70,7 +70,7 @@ pub record HasEventLine (bytes : List ℕ) (event : Event) (used : ℕ) : Type 0
   pub ends : EndsLineBefore middle rest
   pub count : used + length rest ≡ length bytes
 
--- A number that ends at one place goes on to another: whichever digits it has before, it has those between the two places as well.
+-- `more` is `number` with the digits from `at` up to `end` appended, whichever digits `number` has before.
 abbrev pub NumberGoesOn : ℕ → ℕ → List ℕ → ℕ → ℕ → ℕ → ℕ → Type 0
 NumberGoesOn base most bytes at number end more =
     (start : List ℕ) → HasRun base most start (drop at bytes) number → HasRun base most start (drop end bytes) more

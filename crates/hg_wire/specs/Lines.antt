@@ -11,7 +11,7 @@ use Rattle.hg_wire.specs.Numbers.{IsNumber, number_of}
 use Rattle.hg_wire.specs.declared.verb.Verb as source
 use Rattle.hg_wire.specs.Verbs.{row_of, verbs}
 
--- Each word spells the value at its place, which fits the width at its place.
+-- Each word spells the value at its place, and the value fits the width at its place.
 abbrev pub AreOperands : List ℕ → List (List ℕ) → List ℕ → Type 0
 AreOperands [] [] [] = ⊤
 AreOperands (width ∷ widths) (word ∷ words) (value ∷ values) = IsNumber word value × (value < 2 ^ width) × AreOperands widths words values
@@ -95,7 +95,7 @@ of_words (word ∷ words) = of_verb (verb_named word) words
 unfoldable pub line_of : List ℕ → Result Event LineFault
 line_of line = if nat_lt 256 (length line) then Err TooLong else of_words (words_of line)
 
--- the words of what follows a space, where one was found
+-- the words after a space, and none where no space was found
 abbrev pub words_after : Option (Bor (List ℕ)) → List (List ℕ)
 words_after None = []
 words_after (Some line) = words_of line.now

@@ -9,7 +9,7 @@ abbrev pub value_of : ℕ → List ℕ → ℕ
 value_of base [] = 0
 value_of base (c ∷ cs) = digit_value c * base ^ length cs + value_of base cs
 
--- one digit of the base or more, and at most so many
+-- from 1 to `most` digits of the base
 pub record IsNumeral (base most : ℕ) (digits : List ℕ) : Type 0 where
   pub some : 1 ≤ length digits
   pub few : length digits ≤ most

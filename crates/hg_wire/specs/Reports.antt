@@ -19,7 +19,7 @@ report_front k report =
     codes "race " ++ decimal k ++ codes " event " ++ decimal report.event ++ access_name report.write ++ codes " thread " ++ decimal report.thread
     ++ codes " word 0x" ++ sixteen_digits report.word ++ codes " threads "
 
--- The line of the report that is kept as number k.
+-- The line of kept report number k.
 abbrev pub report_line : ℕ → Report → List ℕ
 report_line k report = report_front k report ++ join_with_byte 44 (map decimal report.threads)
 
@@ -27,11 +27,11 @@ report_line k report = report_front k report ++ join_with_byte 44 (map decimal r
 abbrev pub end_line : ℕ → ℕ → ℕ → List ℕ
 end_line events races segments = codes "end events " ++ decimal events ++ codes " races " ++ decimal races ++ codes " segments " ++ decimal segments
 
--- The line of an event that was refused, by the number of its line and the refusal's code.
+-- `refused line N code C`: the number of the event's line, and the refusal's code.
 abbrev pub refused_line : ℕ → ℕ → List ℕ
 refused_line line code = codes "refused line " ++ decimal line ++ codes " code " ++ decimal code
 
--- The line of a line that was not understood.
+-- `bad line N`: the number of a line that was not understood.
 abbrev pub bad_line : ℕ → List ℕ
 bad_line line = codes "bad line " ++ decimal line
 
@@ -44,10 +44,10 @@ abbrev pub predecessors_text : List ℕ → List ℕ
 predecessors_text [] = codes "-"
 predecessors_text (n ∷ numbers) = join_with_byte 44 (map decimal (n ∷ numbers))
 
--- the line of a segment up to those
+-- the line of a segment up to its predecessors
 abbrev pub segment_front : ℕ → ℕ → List ℕ
 segment_front number thread = codes "segment " ++ decimal number ++ codes " thread " ++ decimal thread ++ codes " after "
 
--- The line of the segment that is opened as this number, from 0 on.
+-- The line of the segment with this number. Segments are numbered from 0 in the order of opening.
 abbrev pub segment_line : ℕ → Segment → List ℕ
 segment_line number segment = segment_front number segment.thread ++ predecessors_text segment.before

@@ -8,8 +8,8 @@ use Rattle.hg_wire.specs.declared.reader.Taken.{Taken}
 use Rattle.hg_wire.specs.declared.reader.Taken.TheVariants.{Line, More}
 pub use Rattle.hg_wire.specs.Readings.{ended_readings, is_skipped, lines_among, lines_of, lines_when, reading_of, readings, readings_after, readings_in, readings_when}
 
--- How far a stream has come: how many lines have ended, and what has come of the line that has not.
--- (A line that is too long to be an event is as good as its first 257 bytes and one byte more, so that it may be held as those.)
+-- How far a stream has come: how many lines have ended, and the bytes so far of the next one.
+-- (A line too long for an event may be held as its first 257 bytes and one byte more, since it reads the same.)
 pub record LinesRead : Type 0 where
   pub lines : ℕ
   pub begun : List ℕ
@@ -17,27 +17,27 @@ pub record LinesRead : Type 0 where
 abbrev pub at_start : LinesRead
 at_start = record { lines = 0; begun = [] }
 
--- So many lines have ended, and none has begun since.
+-- n lines have ended, and the stream stands at the beginning of a line.
 abbrev pub between_lines : ℕ → LinesRead
 between_lines n = record { lines = n; begun = [] }
 
--- The reading, of a line that stands so many lines further on.
+-- The reading with k added to its line number.
 abbrev pub numbered_on : ℕ → Reading → Reading
 numbered_on k reading = record { line = k + reading.line; event = reading.event }
 
--- What is read of the rest of a stream.
+-- The readings of the rest of a stream.
 abbrev pub readings_from : LinesRead → List ℕ → List Reading
 readings_from so_far rest = readings_after so_far.lines (so_far.begun ++ rest)
 
--- The same, of the lines that a line feed ends.
+-- The same for the lines that a line feed ends.
 abbrev pub ended_from : LinesRead → List ℕ → List Reading
 ended_from so_far rest = readings_when false so_far.lines (so_far.begun ++ rest)
 
--- The lines that end in the rest of a stream, which is over or may go on, each with its number, and shown by its first 257 bytes at most.
+-- The lines that end in the rest of a stream, which is over or may go on. Each has its number and its first 257 bytes at most.
 abbrev pub lines_from : Bool → LinesRead → List ℕ → List (ℕ × List ℕ)
 lines_from over so_far rest = enumerate_from (so_far.lines + 1) (map (take 257) (lines_when over (so_far.begun ++ rest)))
 
--- what is held of the bytes of a line: its first 257, and a 0 for those after them
+-- the held bytes of a line: its first 257, and one 0 for all those after them
 abbrev pub held : List ℕ → List ℕ
 held bytes = if nat_lt 257 (length bytes) then take 257 bytes ++ 0 ∷ [] else bytes
 
@@ -46,7 +46,7 @@ pub record Splitting : Type 0 where
   pub so_far : LinesRead
   pub last : List ℕ
 
--- So many lines more have ended, and nothing else has changed.
+-- `count` more lines have ended, and nothing else has changed.
 abbrev pub counted_on : ℕ → Splitting → Splitting
 counted_on count s = record { so_far = record { lines = s.so_far.lines + count; begun = s.so_far.begun }; last = s.last }
 
@@ -54,7 +54,7 @@ counted_on count s = record { so_far = record { lines = s.so_far.lines + count; 
 abbrev pub line_ended : Splitting → Splitting
 line_ended s = record { so_far = between_lines (s.so_far.lines + 1); last = take 257 (strip_carriage_return s.so_far.begun) }
 
--- Taking so many bytes of the piece ends one line.
+-- Taking `used` bytes of the piece ends one line.
 pub record EndsLine (old new : Splitting) (piece : List ℕ) (used : ℕ) : Type 0 where
   pub some : 0 < used
   pub within : used ≤ length piece
@@ -74,7 +74,7 @@ pub record EndsLastLine (old new : Splitting) : Type 0 where
   pub begun : new.so_far.begun ≡ []
   pub line : lines_from true old.so_far [] ≡ (new.so_far.lines, new.last) ∷ []
 
--- Taking so many bytes of the piece gives one reading.
+-- Taking `used` bytes of the piece gives one reading.
 pub record GivesReading (old new : LinesRead) (piece : List ℕ) (reading : Reading) (used : ℕ) : Type 0 where
   pub some : 0 < used
   pub within : used ≤ length piece
@@ -85,7 +85,7 @@ pub record GivesReading (old new : LinesRead) (piece : List ℕ) (reading : Read
   pub readings : (more : List ℕ) → readings_from old (piece ++ more) ≡ reading ∷ readings_from new (drop used piece ++ more)
   pub ended : (more : List ℕ) → ended_from old (piece ++ more) ≡ reading ∷ ended_from new (drop used piece ++ more)
 
--- Taking all of the piece gives none, and each line that a line feed ends in it is taken.
+-- Taking all of the piece gives no reading, and takes each line that a line feed ends in it.
 pub record GivesNoReading (old new : LinesRead) (piece : List ℕ) : Type 0 where
   pub counted : new.lines ≤ old.lines + length piece
   pub readings : (more : List ℕ) → readings_from old (piece ++ more) ≡ readings_from new more
@@ -97,6 +97,6 @@ abbrev pub Takes : LinesRead → LinesRead → List ℕ → Taken → Type 0
 Takes old new piece (Line reading used) = GivesReading old new piece reading used
 Takes old new piece More = GivesNoReading old new piece
 
--- So many bytes end with the last line feed of a text, or are none where it has none.
+-- `end` is the place behind the last line feed of a text, or 0 where it has none.
 abbrev pub EndLastLine : List ℕ → ℕ → Type 0
 EndLastLine text end = (IsLastByte (is_byte 10) text None × (end ≡ 0)) ⊎ ((at : ℕ) × IsLastByte (is_byte 10) text (Some at) × (end ≡ at + 1))

@@ -65,6 +65,6 @@ AllFit [] [] = ⊤
 AllFit (width ∷ widths) (value ∷ values) = (value < 2 ^ width) × AllFit widths values
 AllFit _ _ = ⊥
 
--- The values fit the operands of the verb, which makes the event of them.
+-- The values fit the operands of the verb, and the verb makes the event of them.
 abbrev pub Makes : Verb → List ℕ → Event → Type 0
 Makes verb values event = AllFit (row_of verb).widths values × (event ≡ (row_of verb).event values)

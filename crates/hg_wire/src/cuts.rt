@@ -5,7 +5,7 @@ ghost use Rattle.hg_wire.specs.Streams.{EndLastLine};
 
 use memchr::memrchr;
 
-/// How many bytes there are up to and with the last line feed: none where there is none.
+/// The number of bytes up to and including the last line feed, 0 where there is none.
 pub fn last_line_end(text: &[u8]) -> usize
     ensures line { EndLastLine text.now result }
     ensures within { result ≤ length text.now }

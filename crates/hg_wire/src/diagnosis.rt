@@ -22,21 +22,21 @@ pub enum Diagnosis<'a> {
     NoVerb {
         word: &'a [u8],
     },
-    /// This word, the first such one, has no byte: there is a space too many.
+    /// The word at this place is the first empty one: there is a space too many.
     EmptyWord {
         place: usize,
     },
-    /// Behind the verb are so many words, and it takes another number of them.
+    /// The verb has `given` words behind it, and takes another number of them.
     Count {
         verb: Verb,
         given: usize,
     },
-    /// This word, the first that is amiss, spells no number.
+    /// This word is the first bad operand: it spells no number.
     Misspelt {
         place: usize,
         word: &'a [u8],
     },
-    /// This word, the first that is amiss, spells a number that does not fit so many bits.
+    /// This word is the first bad operand: its number does not fit `bits` bits.
     TooGreat {
         place: usize,
         word: &'a [u8],

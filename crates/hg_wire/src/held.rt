@@ -1,4 +1,4 @@
-//! What is held of a line that has not ended.
+//! The held bytes of a line that has not ended.
 
 ghost use Rattle.std.specs.Prelude.{◌≡◌, ◌++◌, [], take, IfOk, IsTrue, ◌↔◌};
 ghost use Rattle.std.specs.Str.Lines.{strip_carriage_return};
@@ -6,14 +6,14 @@ ghost use Rattle.std.specs.Str.Lines.{strip_carriage_return};
 use std::alloc::{AllocError, Global};
 use std::marker::Model;
 
-/// How many bytes of a line are held: as many as an event may have, and a carriage return or one too many.
+/// The most bytes of a line that are held: 256 as for an event, and one more for a carriage return or a byte too many.
 const MOST_HELD_BYTES: usize = 257;
 
 /// The bytes of a line, up to 257 of them, in memory that was reserved for them.
 #[derive(Drop)]
 pub struct HeldLine {
     bytes: Vec<u8>,
-    /// More bytes came than are held.
+    /// More bytes came than fit.
     is_cut: bool,
 }
 

@@ -7,17 +7,17 @@ pub fn events_are_spelled()
     ensures { EventsAreSpelled }
 {}
 
-/// A line gives a fault exactly where that is the first fault that it has.
+/// A line gives a fault exactly where that is its first fault.
 pub fn faults_are_first()
     ensures { FaultsAreFirst }
 {}
 
-/// What is read from the start of a stream on is what is read of all of it.
+/// The readings from the start of a stream on are those of the whole stream.
 pub fn streams_are_whole()
     ensures { StreamsAreWhole }
 {}
 
-/// What is read behind some lines is what is read at the start of a stream, with those lines added to each number.
+/// Bytes behind k lines have the same readings as at the start of a stream, with k added to each line number.
 pub fn lines_are_numbered_on()
     ensures { LinesAreNumberedOn }
 {}

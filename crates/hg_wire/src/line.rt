@@ -13,7 +13,7 @@ use crate::verb::{
 use crate::words::line_by_words;
 use hg_model::event::{Access, Event, Hold};
 
-/// What is wrong with a line of the trace text, in the order in which it is tested (this project's profile).
+/// The faults of a line of the trace text, in the order of testing (this project's profile).
 #[derive(Clone, Copy, Debug, PartialEq, Eq, Drop)]
 pub enum LineFault {
     /// It has more than 256 bytes.
@@ -29,8 +29,8 @@ pub enum LineFault {
 /// The most bytes of a line that is neither empty nor a comment, its line end not counted.
 pub const MOST_LINE_BYTES: usize = 256;
 
-/// So many bytes hold each line that is looked for at the front of a piece: a verb of 6 letters, a thread in 7 bytes with its
-/// space, an address in 20, a length in 7, and a line end of 2. So one test of how many bytes there are serves all that is read of a line.
+/// The most bytes of a line that is looked for at the front of a piece: a verb of 6 letters, a thread in 7 bytes with its
+/// space, an address in 20, a length in 7, and a line end of 2. So one test of the piece's length serves the whole line.
 pub(crate) const WINDOW: usize = 42;
 
 /// The event that a line of the trace text spells, or the first of its faults (this project's profile).
@@ -45,7 +45,7 @@ pub fn read_line(line: &[u8]) -> Result<Event, LineFault>
     line_by_words(line)
 }
 
-/// The event that a line spells which has fewer bytes than the window. (`None` says nothing of the line.)
+/// The event that a line spells, where the line fits the window. (`None` says nothing of the line.)
 #[inline(always)]
 fn event_alone(line: &[u8]) -> Option<Event>
     ensures { IfSome result (λ event. line_of line.now ≡ Ok event) }
@@ -63,7 +63,7 @@ fn event_alone(line: &[u8]) -> Option<Event>
 }
 
 /// The event that the bytes begin with, and where it ends. (`None` says nothing of the bytes.)
-/// It is large, and its callers are slower with it inside them.
+/// The function is large, and inlining it would slow its callers.
 #[inline(never)]
 fn event_in_front(bytes: &[u8]) -> Option<(Event, usize)>
     requires { 42 ≤ length bytes.now }
@@ -101,7 +101,7 @@ pub struct AccessLine {
     pub used: usize,
 }
 
-/// The same where it is a read or a write, in its parts.
+/// The same for a read or a write, in its parts.
 #[inline(always)]
 pub(crate) fn access_line_in_front(bytes: &[u8]) -> Option<AccessLine>
     ensures { IfSome result (λ found. HasEventLine bytes.now (event_of found) found.used) }
@@ -136,7 +136,7 @@ pub struct HoldLine {
     pub used: usize,
 }
 
-/// The same where it is an event on a lock, in its parts.
+/// The same for an event on a lock, in its parts.
 #[inline(always)]
 pub(crate) fn hold_line_in_front(bytes: &[u8]) -> Option<HoldLine>
     ensures { IfSome result (λ found. HasEventLine bytes.now (hold_event found.hold) found.used) }
@@ -152,7 +152,7 @@ pub(crate) fn hold_line_in_front(bytes: &[u8]) -> Option<HoldLine>
     Some(HoldLine { hold, used })
 }
 
-/// Where the line feed at a place ends, perhaps behind one carriage return.
+/// The place behind the line feed at `from`, which may have one carriage return before it.
 #[inline(always)]
 fn line_end_at(bytes: &[u8], from: usize) -> Option<usize>
     requires { from + 2 ≤ length bytes.now }

@@ -9,7 +9,7 @@ use hg_model::segment::Segment;
 use itoa::Buffer;
 use std::alloc::AllocError;
 
-/// Appends the line of an event that was refused: the number of its line, and the refusal's code.
+/// Appends `refused line N code C`: the number of the event's line, and the refusal's code.
 /// An `Err` leaves `out` as it was.
 pub fn put_refused_line(line: u64, code: u8, out: &mut Vec<u8>) -> Result<(), AllocError>
     ensures ok { OnOk result (out.new.items ≡ out.old.items ++ refused_line line code) }
@@ -26,7 +26,7 @@ pub fn put_refused_line(line: u64, code: u8, out: &mut Vec<u8>) -> Result<(), Al
     put_all(&pieces, out)
 }
 
-/// Appends the line of a line that was not understood. An `Err` leaves `out` as it was.
+/// Appends `bad line N`, for a line that was not understood. An `Err` leaves `out` as it was.
 pub fn put_bad_line(line: u64, out: &mut Vec<u8>) -> Result<(), AllocError>
     ensures ok { OnOk result (out.new.items ≡ out.old.items ++ bad_line line) }
     ensures err { OnErr result (out.new.items ≡ out.old.items) }
@@ -34,7 +34,8 @@ pub fn put_bad_line(line: u64, out: &mut Vec<u8>) -> Result<(), AllocError>
     put_number_after(b"bad line ", line, out)
 }
 
-/// Appends the line of the segment that was opened as `number`, from 0 on. An `Err` leaves `out` as it was.
+/// Appends `segment N thread T after P`, where P lists the predecessors. Segments are numbered from 0 in the order of opening.
+/// An `Err` leaves `out` as it was.
 pub fn put_segment_line(number: u64, segment: &Segment, out: &mut Vec<u8>) -> Result<(), AllocError>
     ensures ok { OnOk result (out.new.items ≡ out.old.items ++ segment_line number segment.now) }
     ensures err { OnErr result (out.new.items ≡ out.old.items) }
@@ -65,7 +66,7 @@ fn put_segment_front(number: u64, thread: u16, out: &mut Vec<u8>) -> Result<(), 
     put_all(&pieces, out)
 }
 
-/// Appends the segments in decimal, with a comma between each two, or a hyphen. An `Err` changes nothing.
+/// Appends the segments in decimal, with a comma between each two, or a hyphen for none. An `Err` changes nothing.
 fn put_predecessors(before: &[u32], out: &mut Vec<u8>) -> Result<(), AllocError>
     ensures ok { OnOk result (out.new.items ≡ out.old.items ++ predecessors_text before.now) }
     ensures err { OnErr result (out.new.items ≡ out.old.items) }

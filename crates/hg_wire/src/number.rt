@@ -8,7 +8,7 @@ ghost use Rattle.hg_wire.specs.Numbers.{number_of, numeral};
 ghost use Rattle.hg_wire.specs.InFront.{HasDigits, HasNumber, IsFourDigits, NumberGoesOn};
 ghost use Rattle.hg_wire.specs.Lines.{fitting, operand_of};
 
-/// The value of each byte as a digit of base 36, in either case, and 36 for the bytes that are none.
+/// The value of each byte as a digit of base 36, in either case, and 36 for a byte that is no digit.
 #[rattlefmt::skip]
 static DIGIT_VALUES: [u8; 256] = [
     36, 36, 36, 36, 36, 36, 36, 36, 36, 36, 36, 36, 36, 36, 36, 36,
@@ -36,8 +36,8 @@ fn value_of_digit(byte: u8) -> u8
     DIGIT_VALUES[usize::from(byte)]
 }
 
-/// The value of each byte as a hexadecimal digit, in either case, and 65536 for the bytes that are none: in a sum of four
-/// digits it is seen that one is none.
+/// The value of each byte as a hexadecimal digit, in either case, and 65536 for a byte that is no digit. So the number of four
+/// bytes is above 0xffff where one of them is no digit.
 #[rattlefmt::skip]
 static HEXADECIMAL_VALUES: [u32; 256] = [
     65536, 65536, 65536, 65536, 65536, 65536, 65536, 65536, 65536, 65536, 65536, 65536, 65536, 65536, 65536, 65536,
@@ -74,7 +74,7 @@ fn value_of_decimal_digit(byte: u8) -> u8
     byte.wrapping_sub(b'0')
 }
 
-/// The decimal digits at a place, of which the first 19 count, and where they end.
+/// The number of up to 19 decimal digits at a place, and where they end. More digits may follow.
 #[inline(always)]
 fn decimal_at(bytes: &[u8], from: usize) -> Option<(u64, usize)>
     requires { from + 19 ≤ length bytes.now }
@@ -97,7 +97,7 @@ fn decimal_at(bytes: &[u8], from: usize) -> Option<(u64, usize)>
     Some((value, at))
 }
 
-/// A number with the decimal digit at a place behind its own, where there is one.
+/// The number with the decimal digit at `at` appended, if there is one.
 #[inline(always)]
 fn with_decimal_digit_at(bytes: &[u8], at: usize, number: u64) -> Option<u64>
     requires { at < length bytes.now }
@@ -132,7 +132,7 @@ fn with_decimal_digits_at(bytes: &[u8], at: usize, number: u64) -> (u64, usize)
     (four, at + 4)
 }
 
-/// The decimal digits at a place, of which the first five count, and where they end.
+/// The number of up to five decimal digits at a place, and where they end. More digits may follow.
 #[inline(always)]
 #[tactic(auto, using(crate::proofs::RunLemmas::run_starts))]
 fn few_decimal_digits_at(bytes: &[u8], from: usize) -> Option<(u64, usize)>
@@ -144,7 +144,7 @@ fn few_decimal_digits_at(bytes: &[u8], from: usize) -> Option<(u64, usize)>
     Some(with_decimal_digits_at(bytes, from + 1, one))
 }
 
-/// The number that four hexadecimal digits write, where they are digits.
+/// The number that four bytes write, if they are hexadecimal digits.
 #[inline(always)]
 fn number_of_four(a: u8, b: u8, c: u8, d: u8) -> Option<u64>
     ensures { IfSome result (IsFourDigits a b c d) }
@@ -160,7 +160,7 @@ fn number_of_four(a: u8, b: u8, c: u8, d: u8) -> Option<u64>
     Some(u64::from(value))
 }
 
-/// A number with the four hexadecimal digits at a place behind its own, where there are four.
+/// The number with the four hexadecimal digits at `at` appended, if there are four.
 #[inline(always)]
 fn with_four_digits_at(bytes: &[u8], at: usize, number: u64) -> Option<u64>
     requires { at + 4 ≤ length bytes.now }
@@ -174,7 +174,7 @@ fn with_four_digits_at(bytes: &[u8], at: usize, number: u64) -> Option<u64>
     Some(number.wrapping_mul(65_536).wrapping_add(four))
 }
 
-/// A number with the hexadecimal digit at a place behind its own, where there is one.
+/// The number with the hexadecimal digit at `at` appended, if there is one.
 #[inline(always)]
 fn with_digit_at(bytes: &[u8], at: usize, number: u64) -> Option<u64>
     requires { at < length bytes.now }
@@ -206,7 +206,7 @@ fn with_digits_at(bytes: &[u8], at: usize, number: u64) -> (u64, usize)
     (three, at + 3)
 }
 
-/// The hexadecimal digits at a place, of which the first four count, and where they end.
+/// The number of up to four hexadecimal digits at a place, and where they end. More digits may follow.
 #[inline(always)]
 #[tactic(auto, using(crate::proofs::RunLemmas::run_starts))]
 fn few_digits_at(bytes: &[u8], from: usize) -> Option<(u64, usize)>
@@ -218,7 +218,7 @@ fn few_digits_at(bytes: &[u8], from: usize) -> Option<(u64, usize)>
     Some(with_digits_at(bytes, from + 1, one))
 }
 
-/// A number with the hexadecimal digits at a place behind its own, taken by four and at most twelve of them, and where they end.
+/// The number with up to twelve hexadecimal digits at `at` appended, read by fours, and where they end.
 #[inline(always)]
 fn with_fours_at(bytes: &[u8], at: usize, number: u64) -> (u64, usize)
     requires { at + 12 ≤ length bytes.now }
@@ -237,7 +237,7 @@ fn with_fours_at(bytes: &[u8], at: usize, number: u64) -> (u64, usize)
     (twelve, at + 12)
 }
 
-/// The hexadecimal digits at a place, of which the first 16 count, and where they end.
+/// The number of up to 16 hexadecimal digits at a place, and where they end. More digits may follow.
 #[inline(always)]
 #[tactic(auto, using(crate::proofs::RunLemmas::run_starts))]
 fn digits_at(bytes: &[u8], from: usize) -> Option<(u64, usize)>
@@ -289,7 +289,7 @@ pub(crate) fn short_number_at(bytes: &[u8], from: usize) -> Option<(u64, usize)>
     few_decimal_digits_at(bytes, from)
 }
 
-/// The number that a numeral of at most `most` digits stands for, where it has 64 bits.
+/// The number that a numeral of at most `most` digits spells, if it fits 64 bits.
 fn number_of_numeral(base: u8, most: usize, digits: &[u8]) -> Option<u64>
     requires digits { base ≤ 16 }
     requires few { most ≤ 20 }
@@ -309,7 +309,7 @@ fn number_of_numeral(base: u8, most: usize, digits: &[u8]) -> Option<u64>
     u64::try_from(value).ok()
 }
 
-/// The number that a word spells, where it has 64 bits.
+/// The number that a word spells, if it fits 64 bits.
 pub fn number_of_word(word: &[u8]) -> Option<u64>
     ensures { result ≡ operand_of 64 word.now }
 {
@@ -336,7 +336,7 @@ fn is_numeral(base: u8, most: usize, digits: &[u8]) -> bool
     are_digits(base, digits)
 }
 
-/// Whether a word spells a number, be it too great for 64 bits.
+/// Whether a word spells a number, even one too great for 64 bits.
 pub fn is_number(word: &[u8]) -> bool
     ensures { result ≡ is_some (number_of word.now) }
 {

@@ -25,7 +25,7 @@ pub struct Reading {
 pub enum Taken {
     /// A line was read, and `used` bytes of the piece were taken.
     Line { reading: Reading, used: usize },
-    /// All of the piece was taken, and no line in it was left to read.
+    /// All of the piece was taken, and it has no further line to read.
     More,
 }
 
@@ -58,8 +58,8 @@ impl EventReader {
         })
     }
 
-    /// Takes the next piece of the stream, up to and with the first line in it that is neither empty nor a comment.
-    /// The rest of the piece is taken by further calls. Lines are counted, so that their number is to stay below 2^64.
+    /// Takes the next piece of the stream, up to and including its first line that is neither empty nor a comment.
+    /// Further calls take the rest of the piece. The number of lines has to stay below 2^64.
     #[inline(always)]
     pub fn take(&mut self, piece: &[u8]) -> Taken
         requires { self.old.lines + length piece.now < 2 ^ 64 }
@@ -79,8 +79,8 @@ impl EventReader {
         take_by_lines(&mut self.splitter, piece)
     }
 
-    /// Takes the next line of the stream where it is a read or a write that stands whole in front of the piece. `None`
-    /// takes nothing, and says nothing of the piece: a line is looked for only where 42 bytes are there.
+    /// Takes the next line of the stream, if it is a read or a write and stands whole at the front of the piece. `None`
+    /// takes nothing, and says nothing of the piece: a piece of fewer than 42 bytes is not looked at.
     #[inline(always)]
     pub fn take_access(&mut self, piece: &[u8]) -> Option<AccessLine>
         requires { self.old.lines + length piece.now < 2 ^ 64 }
@@ -95,7 +95,7 @@ impl EventReader {
         Some(found)
     }
 
-    /// The same where it is an event on a lock.
+    /// The same for an event on a lock.
     #[inline(always)]
     pub fn take_hold(&mut self, piece: &[u8]) -> Option<HoldLine>
         requires { self.old.lines + length piece.now < 2 ^ 64 }
@@ -118,7 +118,7 @@ impl EventReader {
         self.splitter.lines()
     }
 
-    /// Whether no line has begun that has not ended.
+    /// Whether the stream stands at the beginning of a line.
     #[inline(always)]
     pub fn is_between_lines(&self) -> bool
         ensures { IsTrue result ↔ (self.now.begun ≡ []) }
@@ -126,7 +126,7 @@ impl EventReader {
         self.splitter.is_between_lines()
     }
 
-    /// Counts lines that were taken from the stream elsewhere, as wholes and between lines.
+    /// Counts whole lines that were taken from the stream elsewhere, from the beginning of a line on.
     pub fn count_lines(&mut self, count: u64)
         requires { self.old.lines + count < 2 ^ 64 }
         ensures { self.new ≡ record { lines = self.old.lines + count; begun = self.old.begun } }
@@ -134,14 +134,14 @@ impl EventReader {
         self.splitter.count_lines(count);
     }
 
-    /// Goes to the start of a stream, in the memory that it has.
+    /// Goes back to the start of a stream, and keeps its memory.
     pub fn reset(&mut self)
         ensures { self.new ≡ at_start }
     {
         self.splitter.reset();
     }
 
-    /// What the last line says, which may lack its line feed, where it is neither empty nor a comment.
+    /// Ends the stream, and reads a last line that lacks its line feed, where it is neither empty nor a comment.
     pub fn finish(mut self) -> Option<Reading>
         requires { self.lines + 1 < 2 ^ 64 }
         ensures { readings_from self [] ≡ option_to_list result }

@@ -135,7 +135,7 @@ fn name_of_access(write: bool) -> &'static [u8]
     if write { b" write" } else { b" read" }
 }
 
-/// Appends the line of the report that is kept as number `k`, from 1 on. An `Err` leaves `out` as it was.
+/// Appends the line of kept report number `k`, counted from 1. An `Err` leaves `out` as it was.
 pub fn put_report_line(k: u64, report: &Report, out: &mut Vec<u8>) -> Result<(), AllocError>
     ensures ok { OnOk result (out.new.items ≡ out.old.items ++ report_line k report.now) }
     ensures err { OnErr result (out.new.items ≡ out.old.items) }

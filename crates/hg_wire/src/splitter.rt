@@ -10,7 +10,7 @@ use std::marker::Model;
 use std::mem;
 
 /// Divides a stream into its lines, however it is cut into pieces (this project's profile).
-/// A line is shown without its line feed and the one carriage return that may stand before it, by at most 257 bytes.
+/// A line is shown by its first 257 bytes at most, without its line feed and without one carriage return before that.
 /// Once it is made, a splitter takes no memory.
 #[derive(Drop)]
 pub struct Splitter {
@@ -62,7 +62,7 @@ impl Splitter {
         self.last.shown()
     }
 
-    /// Whether no line has begun that has not ended.
+    /// Whether the stream stands at the beginning of a line.
     #[inline(always)]
     pub fn is_between_lines(&self) -> bool
         ensures { IsTrue result ↔ (self.now.so_far.begun ≡ []) }
@@ -70,7 +70,7 @@ impl Splitter {
         self.line.is_empty()
     }
 
-    /// Counts a line that was taken from the stream elsewhere, as a whole and between lines.
+    /// Counts a whole line that was taken from the stream elsewhere, from its beginning on.
     #[inline(always)]
     pub fn count_line(&mut self)
         requires { self.old.so_far.lines + 1 < 2 ^ 64 }
@@ -79,7 +79,7 @@ impl Splitter {
         self.lines += 1;
     }
 
-    /// Counts lines that were taken from the stream elsewhere, as wholes and between lines.
+    /// Counts whole lines that were taken from the stream elsewhere, from the beginning of a line on.
     #[inline(always)]
     pub fn count_lines(&mut self, count: u64)
         requires { self.old.so_far.lines + count < 2 ^ 64 }
@@ -88,7 +88,7 @@ impl Splitter {
         self.lines += count;
     }
 
-    /// Goes to the start of a stream, in the memory that it has.
+    /// Goes back to the start of a stream, and keeps its memory.
     pub fn reset(&mut self)
         ensures { self.new.so_far ≡ at_start }
     {
@@ -96,8 +96,8 @@ impl Splitter {
         self.line.clear();
     }
 
-    /// Takes the piece up to and with its first line feed, which ends a line, or all of it where it has none.
-    /// The answer says how many bytes were taken where a line has ended.
+    /// Takes the piece up to and including its first line feed, which ends a line. Takes all of it where it has none.
+    /// Where a line has ended, the answer is the number of bytes that were taken.
     pub fn take(&mut self, piece: &[u8]) -> Option<usize>
         requires { self.old.so_far.lines + length piece.now < 2 ^ 64 }
         ensures line { IfSome result (EndsLine self.old self.new piece.now) }
@@ -116,7 +116,7 @@ impl Splitter {
         }
     }
 
-    /// Ends the line that lacks its line feed, and answers whether there was one: at the end of a stream.
+    /// At the end of a stream, ends a line that lacks its line feed. Answers whether there was one.
     pub fn finish(&mut self) -> bool
         requires { self.old.so_far.lines + 1 < 2 ^ 64 }
         ensures line { OnTrue result (EndsLastLine self.old self.new) }

@@ -107,7 +107,7 @@ const FIRST_OF_FORK: u32 = 0x6b72_6f66;
 
 const FIRST_OF_JOIN: u32 = 0x6e69_6f6a;
 
-/// The number that the first four bytes are.
+/// The first four bytes as a number, low byte first.
 #[inline(always)]
 fn first_letters(bytes: &[u8]) -> u32
     requires { 4 ≤ length bytes.now }
@@ -133,7 +133,7 @@ pub(crate) fn verb_in_front(bytes: &[u8]) -> Option<(VerbKind, usize)>
     Some((VerbKind::Pair { verb }, end))
 }
 
-/// Whether the bytes begin with `write` (or else with `read`), and where it ends.
+/// Whether the bytes begin with `write` (true) or with `read` (false), and where that ends.
 #[inline(always)]
 pub(crate) fn access_verb_in_front(bytes: &[u8]) -> Option<(bool, usize)>
     requires { 6 ≤ length bytes.now }
@@ -150,7 +150,7 @@ pub(crate) fn access_verb_in_front(bytes: &[u8]) -> Option<(bool, usize)>
     None
 }
 
-/// Whether the bytes begin with `alloc` (or else with `free`), and where it ends.
+/// Whether the bytes begin with `alloc` (true) or with `free` (false), and where that ends.
 #[inline(always)]
 fn block_verb_in_front(bytes: &[u8]) -> Option<(bool, usize)>
     requires { 6 ≤ length bytes.now }
@@ -167,7 +167,7 @@ fn block_verb_in_front(bytes: &[u8]) -> Option<(bool, usize)>
     None
 }
 
-/// What the bytes begin with where it is `lock`, `rdlock` or `unlock`, and where it ends.
+/// Which of `lock`, `rdlock` and `unlock` the bytes begin with, if with one, and where it ends.
 #[inline(always)]
 pub(crate) fn hold_verb_in_front(bytes: &[u8]) -> Option<(HoldKind, usize)>
     requires { 6 ≤ length bytes.now }
@@ -187,7 +187,7 @@ pub(crate) fn hold_verb_in_front(bytes: &[u8]) -> Option<(HoldKind, usize)>
     None
 }
 
-/// The verb of what is done to a lock.
+/// The verb of an operation on a lock.
 #[inline(always)]
 fn hold_verb(kind: HoldKind) -> Verb
     ensures { result ≡ verb_on kind }
@@ -199,7 +199,7 @@ fn hold_verb(kind: HoldKind) -> Verb
     }
 }
 
-/// Which of the other verbs the bytes begin with, and where it ends.
+/// Which verb of two operands the bytes begin with, and where it ends.
 #[inline(always)]
 fn pair_verb_in_front(bytes: &[u8]) -> Option<(Verb, usize)>
     requires { 6 ≤ length bytes.now }

@@ -27,7 +27,7 @@ pub(crate) fn split_word(line: &[u8]) -> (&[u8], Option<&[u8]>)
     }
 }
 
-/// The first of some words, which is not empty, and the words after it.
+/// The first of some words, and the words after it. `None` where it is absent or empty.
 fn take_word(words: Option<&[u8]>) -> Option<(&[u8], Option<&[u8]>)>
     ensures { GivesWord (words_after words.entry) result }
 {
@@ -38,7 +38,7 @@ fn take_word(words: Option<&[u8]>) -> Option<(&[u8], Option<&[u8]>)>
     Some((word, rest))
 }
 
-/// Two words, none of them empty, and no more.
+/// Exactly two words, none of them empty.
 fn two_words(words: Option<&[u8]>) -> Option<(&[u8], &[u8])>
     ensures { GivesTwo (words_after words.entry) result }
 {
@@ -50,7 +50,7 @@ fn two_words(words: Option<&[u8]>) -> Option<(&[u8], &[u8])>
     Some((first, second))
 }
 
-/// Three words, none of them empty, and no more.
+/// Exactly three words, none of them empty.
 fn three_words(words: Option<&[u8]>) -> Option<(&[u8], &[u8], &[u8])>
     ensures { GivesThree (words_after words.entry) result }
 {

@@ -7,7 +7,7 @@ use Rattle.hg_cells.specs.Cells.{IsWithin}
 use Rattle.hg_words.specs.declared.paged.PagedWords.{PagedWords}
 use Rattle.hg_words.specs.Paged.{AreWithin, cell_in}
 
--- a cell names no more where there is more
+-- a cell within some counts is within greater ones
 pub within_more : (n m more_n more_m : ℕ) (cell : Cell) → n ≤ more_n → m ≤ more_m → IsWithin n m cell → IsWithin more_n more_m cell
 within_more n m more_n more_m New a b h = tt
 within_more n m more_n more_m (Exclusive s) a b h = omega arith
@@ -22,6 +22,6 @@ more_within words segments sets more_segments more_sets a b h = λ w. within_mor
 pub each_within : (words : PagedWords) (segments sets : ℕ) → AreWithin words segments sets → (w : ℕ) → IsWithin segments sets (cell_in words w)
 each_within words segments sets h = h
 
--- want of memory is no full table
+-- OutOfMemory is not FullSets
 pub never_full : FullSets ≡ OutOfMemory → ⊥
 never_full h = absurd (cc)

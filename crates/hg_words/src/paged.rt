@@ -21,7 +21,7 @@ const PAGE_BYTES: u64 = 1024;
 /// How many words a page has.
 const WORDS: u64 = PAGE_WORDS as u64;
 
-/// How many places of pages are remembered.
+/// How many hints there are.
 const HINTS: usize = 32_768;
 
 /// How many pages lie in 16 MiB.
@@ -32,7 +32,7 @@ const SPREAD: u64 = 0x9e37_79b9_7f4a_7c15;
 
 /// A map of words that grows by the pages that are touched: 3 KiB for each 1,024 bytes.
 ///
-/// A page is found by a hint, one of a row of places of pages. A hint that is wrong costs a look-up, and says nothing else.
+/// A hint is the place in the map where a page may stand. A wrong hint costs a look-up, and nothing else.
 pub struct PagedWords {
     alloc: Global,
     pages: IndexMap<u64, Box<Page>>,
@@ -78,7 +78,7 @@ impl PagedWords {
         self.look_up(number)
     }
 
-    /// The place of a page that no hint gives.
+    /// The place of a page, without its hint.
     #[inline(never)]
     fn look_up(&self, number: u64) -> Option<usize>
         ensures { MatchOption result (get nat_eq self.now.pages number ≡ None) (StandsIn self.now.pages number) }
@@ -86,7 +86,7 @@ impl PagedWords {
         self.pages.get_index_of(&number)
     }
 
-    /// Where the page may be.
+    /// The place where the page may stand, by its hint.
     #[inline]
     fn hint(&self, number: u64) -> usize {
         match self.hints.get(slot(number)) {
@@ -95,7 +95,7 @@ impl PagedWords {
         }
     }
 
-    /// A page that is present.
+    /// The page of that number, if it is present.
     #[inline]
     fn page(&self, number: u64) -> Option<&Page>
         ensures { MatchOption result (page_of self.now number ≡ None) (λ page. page_of self.now number ≡ Some page.now) }
@@ -122,7 +122,7 @@ impl PagedWords {
         }
     }
 
-    /// Notes the place of a page that is present.
+    /// Notes the place of a page as its hint, if the page is present.
     fn note(&mut self, number: u64)
         ensures { self.new.pages ≡ self.old.pages }
     {
@@ -133,7 +133,7 @@ impl PagedWords {
         }
     }
 
-    /// The cell that words of a page all have, where the page is present and no hint gave it. Its place is noted.
+    /// The cell that these words of a page all have, if there is one. The page is looked up, and its place is noted as its hint.
     #[inline(never)]
     fn same_found(&mut self, number: u64, from: usize, to: usize) -> Option<Cell>
         requires in_order { from < to }
@@ -151,7 +151,7 @@ impl PagedWords {
         }
     }
 
-    /// Adds a page, whose words are new, where it is absent.
+    /// Adds a page of new words, where the page is absent.
     fn add(&mut self, number: u64) -> Result<(), AllocError>
         ensures cells { (w : ℕ) → cell_in self.new w ≡ cell_in self.old w }
         ensures pages { (n : ℕ) → is_some (page_of self.old n) ≡ true → is_some (page_of self.new n) ≡ true }
@@ -330,8 +330,8 @@ fn pages_of(at: u64, len: u16) -> (u64, u64)
     (at / PAGE_BYTES, (at + u64::from(len - 1)) / PAGE_BYTES)
 }
 
-/// Where the hint of a page is. Pages that lie side by side have hints side by side, and each region of 16 MiB begins at a place of its
-/// own: stacks of threads often lie as far apart.
+/// Where the hint of a page is kept. Neighbouring pages have neighbouring hints. Each region of 16 MiB begins at a place of its
+/// own, because stacks of threads often lie that far apart.
 #[inline]
 fn slot(number: u64) -> usize {
     let region = number / REGION;

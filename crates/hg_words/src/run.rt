@@ -5,7 +5,7 @@ ghost use Rattle.hg_cells.specs.Pages.{HaveCell};
 
 use hg_cells::{Cell, PAGE_WORDS, Page, are_same};
 
-/// The cell that some words have, one after another, and how many they are.
+/// A run of words: the cell that they all have, and how many they are.
 #[derive(Clone, Copy, Debug, PartialEq, Eq)]
 pub struct Run {
     /// The cell of each of them.
@@ -14,7 +14,7 @@ pub struct Run {
     pub count: u64,
 }
 
-/// The words of a page from one place on, up to another at most, that have the first one's cell.
+/// The run from place `from` of a page on, up to `to` at most: the words that have the cell of the first.
 #[inline]
 pub fn run_in(page: &Page, from: usize, to: usize) -> Run
     requires in_order { from < to }

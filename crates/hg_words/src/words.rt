@@ -22,11 +22,11 @@ pub trait Words {
     /// The cell of each word.
     ghost cell_of: { Self → ℕ → CellOf };
 
-    /// The map may be asked to bring words where there are so many segments and so many sets.
+    /// The map may be asked to bring words, with this many segments and sets.
     ghost may_bring: { Self → ℕ → ℕ → Type 0 };
 
-    /// What the map reads back is what it was given, and each cell names only segments and sets that exist, where
-    /// there are so many of each.
+    /// The map reads back what it was given, and each cell names only segments and sets that exist, with this many
+    /// segments and sets.
     ghost is_faithful: { Self → ℕ → ℕ → Type 0 };
 
     /// The word was brought, and may be read.
@@ -38,18 +38,18 @@ pub trait Words {
     /// So many words from this one on may be given one cell at once.
     ghost may_fill: { Self → ℕ → ℕ → Type 0 };
 
-    /// What `bring` and `keep` may answer in place of Ok.
+    /// The refusals that `bring` and `keep` may answer.
     ghost may_refuse: { RefusalOf → Type 0 };
 
-    /// What a map of words keeps of other things while it is called, from one state of it to another: what a crash may leave of its
-    /// file, say. The detector passes it on.
+    /// What else calls of the map keep, from its state before them to its state after: what a crash may leave of its file, say.
+    /// The detector passes it on.
     ghost went: { Self → Self → Type 0 };
 
     /// How many calls of the map's devices have failed.
     ghost failures: { Self → ℕ };
 
-    /// Makes the words readable that `len` bytes from `at` on overlap, and checks that their cells name only segments
-    /// and sets that exist.
+    /// Makes readable the words that `len` bytes from `at` on overlap. Checks that their cells name only segments and
+    /// sets that exist.
     fn bring(&mut self, at: u64, len: u16, segments: u32, sets: &SetTable) -> Result<(), Refusal>
         requires lawful { may_bring self.old segments (length sets.now.sets) }
         requires some { 0 < len }
@@ -64,7 +64,7 @@ pub trait Words {
         ensures went { went self.old self.new }
         ensures failures { failures self.new ≡ failed_after result (failures self.old) };
 
-    /// Makes the words settable that `len` bytes from `at` on overlap.
+    /// Makes settable the words that `len` bytes from `at` on overlap.
     fn keep(&mut self, at: u64, len: u16) -> Result<(), Refusal>
         requires brought { ForOverlapped at len (is_brought self.old) }
         requires some { 0 < len }
@@ -83,7 +83,7 @@ pub trait Words {
         requires { is_brought self.now word }
         ensures { result ≡ cell_of self.now word };
 
-    /// The words from this one on that have one cell, up to some word before `end`: their cell, and how many they are.
+    /// A run of words from this one on, up to `end` at most: their cell, and how many they are. It need not be the longest.
     fn run(&self, word: u64, end: u64) -> Run
         requires order { word < end }
         requires brought { ForWords word end (is_brought self.now) }
@@ -156,7 +156,7 @@ pub trait Words {
         }
     }
 
-    /// Makes the words new that `len` bytes from `at` on overlap.
+    /// Makes new the words that `len` bytes from `at` on overlap.
     fn reset(&mut self, at: u64, len: u16)
         requires kept { ForOverlapped at len (is_kept self.old) }
         requires some { 0 < len }
@@ -179,12 +179,12 @@ pub trait Words {
     /// Each cell of a faithful map names only segments and sets that exist.
     ghost faithful_within: { (words : Self) (segments sets : ℕ) → is_faithful words segments sets → (w : ℕ) → IsWithin segments sets (cell_of words w) };
 
-    /// A map that was not called has kept all.
+    /// `went` holds from a state to itself.
     ghost went_nowhere: { (words : Self) → went words words };
 
-    /// Calls one after another keep what each of them keeps.
+    /// `went` holds for calls one after another, if it holds for each.
     ghost went_on: { (old mid new : Self) → went old mid → went mid new → went old new };
 
-    /// Whether the table of sets is full is not asked of the map.
+    /// The map never refuses for a full table of sets.
     ghost not_full: { may_refuse FullSets → ⊥ };
 }

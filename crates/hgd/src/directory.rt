@@ -75,7 +75,7 @@ fn beside_streams(file: File) -> io::Result<File> {
     Ok(file)
 }
 
-/// Opens a file. `None` says that there is none, in a directory that there is.
+/// Opens a file. `None` says that the directory exists, and has no such file.
 fn open_file(
     rt: &HostRuntime,
     directory: &str,
@@ -188,8 +188,8 @@ fn sync(name: &'static str, file: &File) -> Result<(), OpenFault>
     }
 }
 
-/// Opens `pages`. Who makes a store, which then has no page to write, has the empty file durable. Who only looks gets a scratch copy, since opening
-/// a store may write pages; where none can be made, `pages` itself, which is enough as long as all pages have room in memory.
+/// Opens `pages`. `Make` makes the empty file durable: a new store has no page to write. `Look` gets a scratch copy, since opening a store
+/// may write pages. Where no copy can be made it gets `pages` itself, which is enough as long as all pages have room in memory.
 fn open_pages(rt: &HostRuntime, directory: &str, access: Access) -> Result<FileDisk, OpenFault> {
     let pages = open_file(rt, directory, "pages", access)?;
     if access == Access::Look {

@@ -49,7 +49,7 @@ fn put_event(event: Event, text: &mut String) -> Result<(), AllocError> {
 }
 
 impl EventText {
-    /// Of a store of which no event was taken.
+    /// For a store of which no event was taken yet.
     pub fn new(alloc: Global, store: Store<FileDisk>) -> EventText {
         EventText {
             alloc,

@@ -35,7 +35,7 @@ use std::time::{Clock, Duration};
 /// The status of a bad command line.
 const BAD_COMMAND_LINE: u8 = 4;
 
-/// Prints what is told of a command line that asks for nothing else, and answers the status.
+/// Prints the text for a command line that asks for no task, and answers the status.
 fn tell_misread(rt: &HostRuntime, misread: &Misread) -> u8 {
     let (printed, status) = match misread {
         Misread::Help(text) => (rt.print(text), 0),
@@ -78,7 +78,7 @@ enum Outcome<'a> {
     },
 }
 
-/// Does what is asked for of the store in a directory, but for serving it.
+/// Does a task on the store in a directory, except serving it.
 fn perform_on_store<'a>(rt: &HostRuntime, directory: &'a str, task: StoreTask) -> Outcome<'a> {
     let status = match task {
         StoreTask::Create => create_in(rt, directory),
@@ -108,7 +108,7 @@ fn perform_on_store<'a>(rt: &HostRuntime, directory: &'a str, task: StoreTask) -
     Outcome::Done { status }
 }
 
-/// Does what the words of the command line ask for, but for what needs threads.
+/// Does what the words of the command line ask for, except what needs threads.
 fn perform<'a>(rt: &HostRuntime, words: &'a [String]) -> Outcome<'a> {
     let task = match read(rt.alloc(), words) {
         Ok(task) => task,
@@ -196,7 +196,7 @@ fn serve_in<R: Threads + Wait + Clock + Net<Listener = TcpListener, Stream = Tcp
     )
 }
 
-/// The words of the command line; or, where they can't be read, the status, and that is told.
+/// The words of the command line. Where they can't be read, that is told, and the status is answered.
 fn words_of(rt: &HostRuntime) -> Result<Vec<String>, u8> {
     let words = match env::args(rt) {
         Ok(words) => words,

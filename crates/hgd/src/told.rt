@@ -28,7 +28,7 @@ pub enum Cause {
 }
 
 impl Cause {
-    /// What commands call it.
+    /// The refusal by which commands name it.
     fn refusal(self) -> Refusal {
         match self {
             Cause::DeviceFault => Refusal::DeviceFault,
@@ -118,7 +118,8 @@ fn tell_damage(rt: &HostRuntime, devices: Devices<FileDisk>) {
     print(rt, of_damage(rt.alloc(), place));
 }
 
-/// Tells a fault of a command on a store, whose input failed so, if at all. `pages` is what the slots of its pages are called.
+/// Tells a fault of a command on a store. `input` and `output` are the errors of its streams, if any; `pages` is the name of the file with
+/// the slots.
 fn tell_fault_of_store(
     rt: &HostRuntime,
     code: u64,
@@ -169,7 +170,7 @@ fn past_of(rt: &HostRuntime, devices: Devices<FileDisk>) -> Option<Past> {
     }
 }
 
-/// Prints what the last line of a command that fed these lines to a store means.
+/// Prints what the last line means, of a command that fed these lines to a store.
 fn print_of_fed_line(rt: &HostRuntime, last: Last, lines: &mut Lines, devices: Devices<FileDisk>) {
     if let Some(past) = past_of(rt, devices) {
         print_of_line(rt, last, lines, Some(&past));

@@ -218,7 +218,7 @@ fn expect_segments(rt: &impl Abort, segments: &[Segment]) {
     }
 }
 
-/// A thread, and the predecessors of a segment of its.
+/// A thread, and the predecessors of one of its segments.
 #[derive(Clone, Copy)]
 struct Opened(u16, &'static [u32]);
 

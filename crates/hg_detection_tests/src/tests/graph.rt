@@ -32,7 +32,7 @@ fn clocks_follow_a_fork_and_a_join(rt: HostRuntime) -> Result<(), Fail> {
     Ok(())
 }
 
-/// A thread, and the predecessors of a segment of its.
+/// A thread, and the predecessors of one of its segments.
 #[derive(Clone, Copy)]
 struct Opened(u16, &'static [u32]);
 

@@ -199,7 +199,7 @@ fn blows_for_good(rt: HostRuntime) -> Result<(), Fail> {
     Ok(())
 }
 
-/// A file that there is none of is empty and can't be changed; a sync of it has nothing to do.
+/// A missing file reads as empty and can't be changed; a sync of it has nothing to do.
 #[test]
 fn a_missing_file_is_empty(rt: HostRuntime) {
     let mut disk = FileDisk::missing();

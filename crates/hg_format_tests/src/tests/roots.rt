@@ -14,8 +14,8 @@ const BODY: [u8; 97] = [
     0, 0, 0, 0, 1, 0, 0, 0, 0,
 ];
 
-/// For each byte whether it leaves a root's body when its last bit is turned (1), its first (2), and its last but one (4): what tests/roots.py
-/// says.
+/// For each byte the turned bits that still leave a root's body: its last bit (1), its first (2), its last but one (4). The values are those
+/// of tests/roots.py.
 const STAYS: [u8; 97] = [
     0, 0, 0, 0, 0, 0, 0, 0, 5, 7, 7, 7, 7, 7, 7, 6, 0, 0, 0, 0, 0, 0, 0, 0, 0, 0, 0, 0, 0, 0, 0, 0,
     0, 0, 0, 0, 0, 0, 0, 0, 0, 0, 0, 0, 0, 0, 0, 0, 0, 1, 0, 0, 0, 0, 0, 0, 0, 1, 0, 0, 0, 0, 0, 0,

@@ -100,7 +100,7 @@ fn writes(alloc: Global) -> Result<Vec<u8>, AllocError> {
     Ok(text)
 }
 
-/// Of how many events a commit was told in what was printed of 600 writes.
+/// How many events were acknowledged by what was printed of 600 writes.
 fn acknowledged(rt: &impl Abort, printed: &[u8]) -> u64 {
     assert!(rt; FED.starts_with(printed));
     let mut events = 0;
@@ -216,7 +216,7 @@ fn whole(devices: Devices<FuseDisk<MemDisk>>) -> Disks {
     }
 }
 
-/// Sees that no event is lost that was told of: all are there, or those of the last commit that was told, or those of one more.
+/// Checks that no acknowledged event is lost: the store has all events, or those of the last told commit, or those of one commit more.
 fn keep_told(rt: &impl Abort, told: u64, events: u64) {
     assert!(rt;
         events == told || events.saturating_sub(told) == 256 || events == 600,
