@@ -15,7 +15,7 @@ ghost use Rattle.hg_cells.specs.Cells.{IsWithin};
 ghost use Rattle.hg_words.specs.Words.{ForWords, HaveCell, KeepsLaw, failed_after};
 ghost use Rattle.hg_detect.specs.Planning.{as_it_is};
 ghost use Rattle.hg_detect.specs.Shown.{HasRoom, IsReportAt, content, shown_with};
-ghost use Rattle.hg_detect.specs.Engine.{Answers, AnswersAccess, AsksForAccess, AsksForCell, AtPresent, HasPlan, HasThread, IsPlannedBy, IsSound, KeepsCells, KeepsLocks, PassesTo, named_of, shown_of};
+ghost use Rattle.hg_detect.specs.Engine.{Answers, AnswersAccess, AsksForAccess, AsksForCell, AtPresent, HasEffect, HasPlan, HasThread, IsPlannedBy, IsQuick, IsSound, KeepsCells, KeepsLocks, PassesTo, named_of, shown_of};
 
 use crate::kept::{add_reports, reserve_reports};
 use crate::parts::DetectorParts;
@@ -42,6 +42,24 @@ pub(crate) struct NamedAccess {
     pub(crate) number: u64,
     pub(crate) access: Access,
     pub(crate) write: bool,
+}
+
+/// What an access does to words that all have one cell, where no set changes and nothing is reported.
+#[derive(Clone, Copy, Debug, PartialEq, Eq)]
+pub(crate) enum Effect {
+    /// They stay as they are.
+    Stay,
+    /// They pass to the acting segment.
+    Pass,
+}
+
+/// Words that an access finds alike, and what it does to them.
+#[derive(Clone, Copy, Debug, PartialEq, Eq)]
+pub(crate) struct Quick {
+    first: u64,
+    count: u64,
+    cell: Cell,
+    effect: Effect,
 }
 
 /// The parts of a detector.
@@ -277,6 +295,66 @@ impl<W: Words> Engine<W> {
                 .is_subset(locks, self.state.counted(access.t, write))
     }
 
+    /// What an access does to words with this cell. `None` says that it may change a set.
+    #[inline(always)]
+    fn effect(&self, access: &Access, write: bool, cell: Cell) -> Option<Effect>
+        requires thread { access.now.t < 1024 }
+        requires within { IsWithin (length self.now.graph) (length self.now.sets.sets) cell }
+        ensures { IfSome result (HasEffect self.now access.now write cell) }
+    {
+        if are_same(cell, Cell::Exclusive(self.graph.present(access.t))) {
+            return Some(Effect::Stay);
+        }
+        if self.passes(access, cell) {
+            return Some(Effect::Pass);
+        }
+        if self.stays_shared(access, write, cell) {
+            return Some(Effect::Stay);
+        }
+        None
+    }
+
+    /// What an access does to its words, where the map has them without a search and they are alike. `None` says nothing of it.
+    #[inline(always)]
+    pub(crate) fn quick(&self, named: &NamedAccess) -> Option<Quick>
+        requires accepted { MayBeNext self.now.state (named_of named.now) }
+        requires lawful { AtPresent W.may_bring (shown_of self.now) }
+        ensures { IfSome result (IsQuick ⟦<W as Words>⟧ self.now named.now.access named.now.write) }
+    {
+        let first = named.access.at / 4;
+        let last = (named.access.at + (u64::from(named.access.len) - 1)) / 4;
+        let count = last + 1 - first;
+        let cell = self.words.peek(first, count)?;
+        let effect = self.effect(&named.access, named.write, cell)?;
+        Some(Quick {
+            first,
+            count,
+            cell,
+            effect,
+        })
+    }
+
+    /// Accepts an access whose effect is known.
+    #[inline(always)]
+    pub(crate) fn access_quickly(&mut self, named: NamedAccess, quick: Quick)
+        requires sound { IsSound self.old }
+        requires accepted { MayBeNext self.old.state (named_of named) }
+        requires lawful { AtPresent W.may_bring (shown_of self.old) }
+        requires quick { IsQuick ⟦<W as Words>⟧ self.old named.access named.write quick }
+        ensures answers { AnswersAccess ⟦<W as Words>⟧ self.old named (Ok tt) self.new }
+        ensures went { W.went self.old.words self.new.words }
+        ensures failures { W.failures self.new.words ≡ W.failures self.old.words }
+    {
+        self.state.follow_access(named.source, named.number);
+        match quick.effect {
+            Effect::Stay => {}
+            Effect::Pass => {
+                let owned = Cell::Exclusive(self.graph.present(named.access.t));
+                self.words.fill(quick.first, quick.count, owned);
+            }
+        }
+    }
+
     /// Accepts an access to `count` words from `first` on, which all have this cell: one plan serves them all.
     #[inline(always)]
     fn access_alike(
@@ -340,6 +418,23 @@ impl<W: Words> Engine<W> {
         self.access_found(named, first, last + 1 - first, found)
     }
 
+    /// Accepts an access of which `quick` said nothing. Words that the map has without a search are not looked up again.
+    pub(crate) fn access_slowly(&mut self, named: NamedAccess) -> Result<(), Refusal>
+        requires sound { IsSound self.old }
+        requires accepted { MayBeNext self.old.state (named_of named) }
+        requires lawful { AtPresent W.may_bring (shown_of self.old) }
+        ensures answers { AnswersAccess ⟦<W as Words>⟧ self.old named result self.new }
+        ensures went { W.went self.old.words self.new.words }
+        ensures failures { W.failures self.new.words ≡ failed_after result (W.failures self.old.words) }
+    {
+        let first = named.access.at / 4;
+        let last = (named.access.at + (u64::from(named.access.len) - 1)) / 4;
+        match self.words.peek(first, last + 1 - first) {
+            Some(cell) => self.access_alike(named, first, last + 1 - first, cell),
+            None => self.access(named),
+        }
+    }
+
     /// Accepts an access. `found` is the map's answer on whether its words all have one cell.
     #[inline(always)]
     fn access_found(
@@ -362,18 +457,14 @@ impl<W: Words> Engine<W> {
         ensures failures { W.failures self.new.words ≡ failed_after result (W.failures self.old.words) }
     {
         if let Some(cell) = found {
-            let owned = Cell::Exclusive(self.graph.present(named.access.t));
-            if are_same(cell, owned) {
-                self.state.follow_access(named.source, named.number);
-                return Ok(());
-            }
-            if self.passes(&named.access, cell) {
-                self.state.follow_access(named.source, named.number);
-                self.words.fill(first, count, owned);
-                return Ok(());
-            }
-            if self.stays_shared(&named.access, named.write, cell) {
-                self.state.follow_access(named.source, named.number);
+            if let Some(effect) = self.effect(&named.access, named.write, cell) {
+                let quick = Quick {
+                    first,
+                    count,
+                    cell,
+                    effect,
+                };
+                self.access_quickly(named, quick);
                 return Ok(());
             }
             // By `?`, here and below, so that the short ways answer in registers.

@@ -263,6 +263,21 @@ impl Words for PagedWords {
         self.same_found(number, from as usize, (from + count) as usize)
     }
 
+    #[inline(always)]
+    fn peek(&self, first: u64, count: u64) -> Option<Cell> {
+        let number = first / WORDS;
+        let from = first % WORDS;
+        if count == 0 || count > WORDS - from {
+            return None;
+        }
+        match self.pages.get_index(self.hint(number)) {
+            Some((key, page)) if *key == number => {
+                page.same(from as usize, (from + count) as usize)
+            }
+            _ => None,
+        }
+    }
+
     #[inline]
     fn are_new_or_owned(&self, first: u64, count: u64, owner: u32) -> bool {
         let number = first / WORDS;

@@ -109,6 +109,16 @@ pub trait Words {
         ensures went { went self.old self.new }
         ensures failures { failures self.new ≡ failures self.old };
 
+    /// The same as `same`, where it is known without a search. (`None` says nothing of the words.) It changes nothing.
+    #[inline(always)]
+    fn peek(&self, first: u64, count: u64) -> Option<Cell>
+        ensures cells { IfSome result (HaveCell (cell_of self.now) first count) }
+        ensures named { IfSome result (IsWithinWhere (may_bring self.now)) }
+        ensures fillable { IfSome result (λ cell. may_fill self.now first count) }
+    {
+        None
+    }
+
     /// Whether `count` words from `first` on are each new or owned by that segment, and may be filled. (`false` says nothing of
     /// them.)
     fn are_new_or_owned(&self, first: u64, count: u64, owner: u32) -> bool
