@@ -22,9 +22,9 @@ use Rattle.hg_check.specs.declared.checker.Ending.{Ending}
 use Rattle.hg_commands.specs.declared.lines.Fed.{Fed}
 use Rattle.hg_commands.specs.Feeding.{ack_text, acks_text, checkpoint_text, feed_end_text, feed_text}
 use Rattle.hg_commands.specs.FeedRunning.{FeedDone, Feeds, IsPrinted, WasCheckpointed, WasCommitted, WasFed, WasMade, WentWell, is_due, place}
-use Rattle.hg_commands.specs.Storing.{number_text}
+use Rattle.hg_listing.specs.Storing.{number_text}
 use Rattle.hg_streams.specs.Calls.{failed_writes}
-use Rattle.hg_commands.specs.Storing.{failed_calls}
+use Rattle.hg_listing.specs.Storing.{failed_calls}
 use Rattle.hg_check.proofs.Printed.{appends_on, failed_on}
 
 -- no call of an output failed that took a text

@@ -13,10 +13,10 @@ use Rattle.hg_check.specs.Written.{TookFront}
 use Rattle.hg_check.proofs.Printed.{appends_on, front_more}
 use Rattle.hg_commands.specs.declared.lines.Fed.{Fed}
 use Rattle.hg_commands.specs.Feeding.{ack_text, acks_text, checkpoint_text, feed_end_text, feed_text}
-use Rattle.hg_commands.specs.Printed.{IsPrintedNow}
-use Rattle.hg_commands.specs.Storing.{number_text}
+use Rattle.hg_listing.specs.Printed.{IsPrintedNow}
+use Rattle.hg_listing.specs.Storing.{number_text}
 use Rattle.hg_commands.specs.FeedRunning.{Feeds, HasFront, IsPrinted, WentWell, WroteFrontFrom, place}
-use Rattle.hg_commands.proofs.Fronts.{printed_front_on}
+use Rattle.hg_listing.proofs.Fronts.{printed_front_on}
 
 -- ---- all that is printed
 

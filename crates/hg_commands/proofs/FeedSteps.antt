@@ -32,13 +32,15 @@ use Rattle.hg_check.specs.declared.checker.Ending.{Ending}
 use Rattle.hg_check.specs.declared.checker.Ending.TheVariants.{Refused, Bad}
 use Rattle.hg_commands.specs.declared.lines.Fed.{Fed}
 use Rattle.hg_commands.specs.Feeding.{Answers, FeedsTo, HasRoom, IsOffered, ack_text, acks_text, sent}
-use Rattle.hg_commands.specs.Storing.{IsFeedFault, failed_calls}
+use Rattle.hg_listing.specs.Storing.{failed_calls}
+use Rattle.hg_commands.specs.FeedFaults.{IsFeedFault}
 use Rattle.hg_commands.specs.FeedRunning.{BreaksAt, EndsAt, EndsLine, IsEventFault, IsPrinted, IsReady, Passes, Place, WasCounted, WasSent, WentWell, content_at, place, table_at}
 use Rattle.hg_streams.specs.Told.{told, told_refusal}
 use Rattle.hg_check.proofs.Printed.{appends_on, front_more}
 use Rattle.hg_check.specs.Written.{TookFront}
-use Rattle.hg_commands.specs.Printed.{IsPrintedNow}
-use Rattle.hg_commands.proofs.Fronts.{acks_front, feeds_grow, printed_front_on, printed_grown}
+use Rattle.hg_listing.specs.Printed.{IsPrintedNow}
+use Rattle.hg_listing.proofs.Fronts.{printed_front_on}
+use Rattle.hg_commands.proofs.Fronts.{acks_front, feeds_grow, printed_grown}
 use Rattle.hg_detect.proofs.Asking.{asks_not_both, asks_same}
 
 -- what an answered offer says of the verdict

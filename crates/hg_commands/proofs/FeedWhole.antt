@@ -21,7 +21,7 @@ use Rattle.hg_commands.specs.Feeding.{FeedsTo}
 use Rattle.hg_commands.specs.FeedRunning.{FeedEndsBy, Feeds, HasFront, LeadsOn, Place, WentWell, content_at, table_at}
 use Rattle.hg_commands.specs.Instants.{Instant}
 use Rattle.hg_commands.specs.Keeping.{KeepsOn}
-use Rattle.hg_commands.specs.Storing.{FeedFails}
+use Rattle.hg_commands.specs.FeedFaults.{FeedFails}
 use Rattle.hg_commands.specs.Taking.{IsFine, IsReadyAt, Takes}
 use Rattle.hg_commands.proofs.Fronts.{feeds_grow, printed_grown}
 

@@ -1,9 +1,8 @@
-mod Causes
 mod Checkpointed
 mod FeedDone
 mod FeedSteps
 mod FeedWhole
-pub mod Fronts
+mod Fronts
 mod FeedFronts
 mod Outcome
 mod Unique

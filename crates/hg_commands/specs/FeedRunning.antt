@@ -36,7 +36,8 @@ use Rattle.hg_check.specs.Streaming.{IsTold}
 use Rattle.hg_check.specs.Written.{TookFront}
 use Rattle.hg_commands.specs.declared.lines.Fed.{Fed}
 use Rattle.hg_commands.specs.Feeding.{FeedsTo, HasRoom, ack_text, acks_text, checkpoint_text, feed_text, sent}
-use Rattle.hg_commands.specs.Storing.{HasFeedCause, failed_calls}
+use Rattle.hg_listing.specs.Storing.{failed_calls}
+use Rattle.hg_commands.specs.FeedFaults.{HasFeedCause}
 
 -- a store, what was fed to it, and the output
 pub record Place (D : Type 0) : Type 0 where

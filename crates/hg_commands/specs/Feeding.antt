@@ -16,7 +16,7 @@ use Rattle.hg_detect.specs.Making.{Asks, sets_asked}
 use Rattle.hg_check.specs.declared.checker.Ending.{Ending}
 use Rattle.hg_check.specs.declared.checker.Ending.TheVariants.{Ended, Refused, Bad}
 use Rattle.hg_check.specs.Printing.{line_text, stop_text}
-use Rattle.hg_commands.specs.Storing.{number_text, store_end_line}
+use Rattle.hg_listing.specs.Storing.{number_text, store_end_line}
 
 -- the event of the line behind so many others, as its source sent it
 abbrev pub sent : ℕ → ℕ → Event → Named

@@ -12,8 +12,8 @@ use Rattle.hg_store.specs.Store.{Backs}
 use Rattle.hg_check.specs.declared.checker.Ending.{Ending}
 use Rattle.hg_commands.specs.Feeding.{ack_text, feed_end_text}
 use Rattle.hg_commands.specs.Instants.{Instant, instant}
-use Rattle.hg_commands.specs.Printed.{WereGiven}
-use Rattle.hg_commands.specs.Storing.{number_text}
+use Rattle.hg_listing.specs.Printed.{WereGiven}
+use Rattle.hg_listing.specs.Storing.{number_text}
 
 -- A text that acknowledges nothing: none, the line of `resume` or of a checkpoint, or the last line.
 abbrev pub IsOther : List ℕ → Type 0

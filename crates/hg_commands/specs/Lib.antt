@@ -1,12 +1,9 @@
 pub mod Creating
 pub mod FeedRunning
 pub mod Feeding
-pub mod Storing
-pub mod Opening
-pub mod Listings
+pub mod FeedFaults
 pub mod Laws
 pub mod Keeping
-pub mod Printed
 pub mod Instants
 pub mod Taking
 pub mod TakingLaws

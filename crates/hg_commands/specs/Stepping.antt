@@ -12,13 +12,14 @@ use Rattle.hg_check.specs.Printing.{status_of}
 use Rattle.hg_commands.specs.declared.lines.Feeding.{Feeding}
 use Rattle.hg_commands.specs.declared.moment.Outcome.{Outcome}
 use Rattle.hg_commands.specs.declared.plan.FeedPlan.{FeedPlan}
-use Rattle.hg_commands.specs.declared.printing.Outputs.{Outputs}
+use Rattle.hg_listing.specs.declared.printing.Outputs.{Outputs}
 use Rattle.hg_commands.specs.Feeding.{ack_text, checkpoint_text, feed_end_text}
 use Rattle.hg_commands.specs.FeedRunning.{BreaksAt, EndsAt, EndsByFeedFault, FeedDone, Feeds, HasFront, Passes, Place, WasCheckpointed, WasCounted, WasFed, WentWell, WroteFeedFront, WroteFrontFrom, place}
 use Rattle.hg_commands.specs.Instants.{Instant, instant}
 use Rattle.hg_commands.specs.Keeping.{EachAckIsKept, KeepsOn}
-use Rattle.hg_commands.specs.Printed.{IsPrintedNow}
-use Rattle.hg_commands.specs.Storing.{FeedFails, HasFeedCause, failed_calls}
+use Rattle.hg_listing.specs.Printed.{IsPrintedNow}
+use Rattle.hg_listing.specs.Storing.{failed_calls}
+use Rattle.hg_commands.specs.FeedFaults.{FeedFails, HasFeedCause}
 
 -- where a store that is fed stands, with its output
 abbrev pub at : {D W V : Type 0} → Feeding D W → Outgoing V → Place D

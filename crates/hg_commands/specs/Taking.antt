@@ -10,7 +10,8 @@ use Rattle.hg_commands.specs.Feeding.{HasRoom}
 use Rattle.hg_commands.specs.FeedRunning.{FrontFor, IsReady, LeadsOn, Place, WentWell, content_at}
 use Rattle.hg_commands.specs.Instants.{Instant}
 use Rattle.hg_commands.specs.Keeping.{KeepsOn}
-use Rattle.hg_commands.specs.Storing.{IsFeedFault, failed_calls}
+use Rattle.hg_listing.specs.Storing.{failed_calls}
+use Rattle.hg_commands.specs.FeedFaults.{IsFeedFault}
 
 -- It is ready for lines that are offered next.
 abbrev pub IsReadyAt : {D : Type 0} → Place D → Type 0

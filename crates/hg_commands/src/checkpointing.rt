@@ -4,7 +4,7 @@ ghost use Rattle.std.specs.Prelude.{◌≡◌, Ok, false, IfErr, IfOk, IsTrue, O
 ghost use Rattle.hg_streams.specs.Told.{told_refusal};
 ghost use Rattle.hg_commands.specs.FeedRunning.{StaysFed, WasStepped, failed_of};
 ghost use Rattle.hg_commands.specs.Stepping.{KeepsStep, OpensFrozen, OpensLive, StaysKept};
-ghost use Rattle.hg_commands.specs.Storing.{IsFeedFault};
+ghost use Rattle.hg_commands.specs.FeedFaults.{IsFeedFault};
 
 use crate::lines::Feeding;
 use crate::moment::Moment;

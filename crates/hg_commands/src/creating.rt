@@ -4,10 +4,10 @@ ghost use Rattle.std.specs.Prelude.{◌≡◌, ◌⊎◌, [], Ok, Err, OnErr, On
 ghost use Rattle.hg_check.specs.Printing.{Took};
 ghost use Rattle.hg_disk.specs.State.{counted, settled};
 ghost use Rattle.hg_commands.specs.Creating.{CantCreate, CreatedIsTrue, HasCreateCause, IsCleared, KeepsCreated, LeavesAnEmptyStore, TellsCreated, TellsNotEmpty, WasCreated, HadBytes, WroteAnswer};
-ghost use Rattle.hg_commands.specs.Storing.{NoCallFailed};
+ghost use Rattle.hg_listing.specs.Storing.{NoCallFailed};
 
 use crate::moment::{Moment, Outcome};
-use crate::printing::{Outputs, print_now};
+use hg_listing::printing::{Outputs, print_now};
 use hg_check::telling::tell;
 use hg_disk::{Disk, DiskFault};
 use hg_model::verdict::Refusal;

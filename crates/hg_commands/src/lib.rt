@@ -1,4 +1,4 @@
-//! The commands over a store: making one, printing what it holds, and feeding it a trace text.
+//! The commands that change a store: making one, and feeding it a trace text.
 #![tactic(auto)]
 
 pub mod checkpointing;
@@ -6,8 +6,5 @@ pub mod creating;
 pub mod feeding;
 pub mod laws;
 pub mod lines;
-pub mod listing;
 pub mod moment;
-pub mod opening;
 pub mod plan;
-pub mod printing;

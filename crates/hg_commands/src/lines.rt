@@ -5,12 +5,12 @@ ghost use Rattle.hg_streams.specs.Told.{told};
 ghost use Rattle.hg_check.specs.Printing.{Took};
 ghost use Rattle.hg_commands.specs.FeedRunning.{EndsLine, IsReady, WasCommitted, WasSent};
 ghost use Rattle.hg_check.specs.Streaming.{IsStreamFault};
-ghost use Rattle.hg_commands.specs.Printed.{IsPrintedNow};
+ghost use Rattle.hg_listing.specs.Printed.{IsPrintedNow};
 ghost use Rattle.hg_commands.specs.Stepping.{BreaksWhere, Counted, EndsWhere, Failed, PassesWhere, StaysKept, ack_due, ack_of};
-ghost use Rattle.hg_commands.specs.Storing.{IsFeedFault};
+ghost use Rattle.hg_commands.specs.FeedFaults.{IsFeedFault};
 
 use crate::moment::Moment;
-use crate::printing::print_number;
+use hg_listing::printing::print_number;
 use hg_check::checker::Ending;
 use hg_detect::detector::Answer;
 use hg_disk::Disk;

@@ -15,8 +15,8 @@ use Rattle.hg_desk.specs.Going.{Began, LeadsTo, WentOn, oldest}
 use Rattle.hg_check.specs.Printing.{Took, line_text}
 use Rattle.hg_check.specs.Streaming.{IsTold}
 use Rattle.hg_check.specs.Written.{TookFront}
-use Rattle.hg_commands.specs.declared.printing.Outputs.{Outputs}
-use Rattle.hg_commands.specs.Storing.{IsCounted, IsTrueOf, number_text, store_end_line}
+use Rattle.hg_listing.specs.declared.printing.Outputs.{Outputs}
+use Rattle.hg_listing.specs.Storing.{IsCounted, IsTrueOf, number_text, store_end_line}
 use Rattle.hg_server.specs.declared.fault.ServingFault.{ServingFault}
 use Rattle.hg_server.specs.declared.fault.ServingFault.TheVariants as fault
 use Rattle.hg_server.specs.declared.serving.Outcome.{Outcome}

@@ -15,7 +15,7 @@ use crate::texts::{Wanted, explain_input, print_of_input};
 use crate::told::{Cause, FAULT, fail, fail_to_open};
 use hg_check::telling::tell;
 use hg_commands::plan::FeedPlan;
-use hg_commands::printing::Outputs;
+use hg_listing::printing::Outputs;
 use hg_disk::FileDisk;
 use hg_model::verdict::Refusal;
 use hg_options::reading::read;

@@ -3,7 +3,7 @@
 use crate::streams::{noted_outputs, plain_outputs};
 use crate::told::tell_of_text;
 use hg_check::commands::{check, graph};
-use hg_commands::printing::Outputs;
+use hg_listing::printing::Outputs;
 use hg_explain::commands::explain;
 use hg_explain::form::Form;
 use hg_options::task::{Explaining, Jobs};

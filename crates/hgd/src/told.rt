@@ -2,7 +2,7 @@
 
 use crate::directory::OpenFault;
 use hg_check::telling::tell;
-use hg_commands::printing::Outputs;
+use hg_listing::printing::Outputs;
 use hg_disk::FileDisk;
 use hg_model::verdict::Refusal;
 use hg_store::devices::Devices;

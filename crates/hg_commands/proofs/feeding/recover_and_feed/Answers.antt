@@ -6,9 +6,9 @@ use Rattle.hg_store.specs.declared.devices.Devices.{Devices}
 use Rattle.hg_store.specs.Images.{read_of}
 use Rattle.hg_store.specs.Shown.{live}
 use Rattle.hg_commands.specs.FeedRunning.{FeedDone, WasFed}
-use Rattle.hg_commands.specs.Storing.{FeedFails, HasFeedCause}
+use Rattle.hg_commands.specs.FeedFaults.{FeedFails, HasFeedCause}
 use Rattle.hg_commands.proofs.FeedDone.{feed_done}
-use Rattle.hg_commands.proofs.Fronts.{on_err_given}
+use Rattle.hg_listing.proofs.Fronts.{on_err_given}
 use Rattle.hg_commands.proofs.Kept.{fed_is_kept, none_is_kept}
 use Rattle.hg_commands.proofs.feeding.recover_and_feed.Goals as goal
 

@@ -3,9 +3,9 @@ use Rattle.hg_streams.specs.declared.call.WriteCall.{WriteCall}
 use Rattle.hg_check.proofs.Printed.{always_err, appends_on, front_more}
 use Rattle.hg_check.specs.Printing.{Took, line_text}
 use Rattle.hg_check.specs.Written.{TookFront}
-use Rattle.hg_commands.proofs.Fronts.{printed_front_on, took_front}
-use Rattle.hg_commands.specs.Printed.{IsPrintedNow}
-use Rattle.hg_commands.specs.Storing.{number_text, store_end_line}
+use Rattle.hg_listing.proofs.Fronts.{printed_front_on, took_front}
+use Rattle.hg_listing.specs.Printed.{IsPrintedNow}
+use Rattle.hg_listing.specs.Storing.{number_text, store_end_line}
 use Rattle.hg_store.specs.Shown.{live}
 use Rattle.hg_server.proofs.serving.print_end.Goals as goal
 

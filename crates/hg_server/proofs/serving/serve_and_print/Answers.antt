@@ -4,9 +4,9 @@ use Rattle.hg_streams.specs.declared.call.WriteCall.{WriteCall}
 use Rattle.hg_store.specs.Shown.{live}
 use Rattle.hg_check.proofs.Printed.{appends_on, front_more}
 use Rattle.hg_check.specs.Printing.{Took}
-use Rattle.hg_commands.proofs.Fronts.{printed_front, took_front}
-use Rattle.hg_commands.specs.Printed.{IsPrintedNow}
-use Rattle.hg_commands.specs.Storing.{number_text}
+use Rattle.hg_listing.proofs.Fronts.{printed_front, took_front}
+use Rattle.hg_listing.specs.Printed.{IsPrintedNow}
+use Rattle.hg_listing.specs.Storing.{number_text}
 use Rattle.hg_desk.specs.Going.{WentOn, began}
 use Rattle.hg_desk.proofs.Going.{went_nowhere}
 use Rattle.hg_server.specs.Serving.{served_text, serving_text}

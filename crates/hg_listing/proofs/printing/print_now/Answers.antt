@@ -1,7 +1,7 @@
 use Rattle.std.proofs.Common.{◌∷◌, [], List, ℕ, refl, sym, ap, subst, ◌∙◌}
 use Rattle.hg_streams.specs.declared.call.WriteCall.{WriteCall}
 use Rattle.hg_check.specs.Printing.{Took}
-use Rattle.hg_commands.proofs.printing.print_now.Goals as goal
+use Rattle.hg_listing.proofs.printing.print_now.Goals as goal
 
 took_now : (old : List WriteCall) (text : List ℕ) → Took old (WriteCall.Flushed ∷ WriteCall.Took text ∷ old) text
 took_now old text = record { later = WriteCall.Flushed ∷ WriteCall.Took text ∷ []; since = refl; whole = refl; all = refl }

@@ -2,8 +2,8 @@ use Rattle.std.proofs.Common.{inr, sym, subst}
 use Rattle.hg_contents.specs.Images.{HasContent}
 use Rattle.hg_store.specs.Images.{Recovers, read_of}
 use Rattle.hg_store.specs.Shown.{live}
-use Rattle.hg_commands.proofs.Fronts.{on_err_weaker}
-use Rattle.hg_commands.proofs.listing.recover_and_print.Goals as goal
+use Rattle.hg_listing.proofs.Fronts.{on_err_weaker}
+use Rattle.hg_listing.proofs.listing.recover_and_print.Goals as goal
 
 pub returns-in-Ok-clause-front : goal.returns-in-Ok-clause-front
 returns-in-Ok-clause-front g c =

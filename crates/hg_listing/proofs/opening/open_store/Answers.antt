@@ -1,6 +1,6 @@
-use Rattle.hg_commands.proofs.Causes.{recovery_is_counted, recovery_is_true}
+use Rattle.hg_listing.proofs.Causes.{recovery_is_counted, recovery_is_true}
 use Rattle.hg_store.specs.Images.{failures_of}
-use Rattle.hg_commands.proofs.opening.open_store.Goals as goal
+use Rattle.hg_listing.proofs.opening.open_store.Goals as goal
 
 pub returns-in-Err-clause-cause : goal.returns-in-Err-clause-cause
 returns-in-Err-clause-cause g c =

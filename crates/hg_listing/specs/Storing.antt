@@ -1,8 +1,8 @@
 -- What commands over a store print, and how they end.
-use Rattle.std.specs.Prelude.{◌≡◌, ◌⊎◌, ℕ, ◌+◌, ◌≤◌, ◌^◌, List, [], ◌∷◌, ◌++◌, length, IsTrue}
+use Rattle.std.specs.Prelude.{◌≡◌, ◌⊎◌, ℕ, ◌+◌, List, [], ◌∷◌, ◌++◌, length, IsTrue}
 use Rattle.std.specs.Fmt.{decimal}
 use Rattle.hg_model.specs.declared.verdict.Refusal.{Refusal}
-use Rattle.hg_model.specs.declared.verdict.Refusal.TheVariants.{Broken, Damaged, FullEvents, FullSets, FullSlots, DeviceFault, OutOfMemory}
+use Rattle.hg_model.specs.declared.verdict.Refusal.TheVariants.{Damaged, FullSets, FullSlots, DeviceFault, OutOfMemory}
 use Rattle.hg_model.specs.Contents.{Content}
 use Rattle.hg_disk.specs.declared.disk.Disk as disk
 use Rattle.hg_contents.specs.Images.{HasContent}
@@ -10,13 +10,11 @@ use Rattle.hg_store.specs.declared.devices.Devices.{Devices}
 use Rattle.hg_store.specs.Images.{failures_of, read_of}
 use Rattle.hg_store.specs.Recovering.{HasFewSets}
 use Rattle.hg_store.specs.Shown.{ShownStore, live}
-use Rattle.hg_streams.specs.declared.call.ReadCall.{ReadCall}
 use Rattle.hg_streams.specs.declared.call.WriteCall.{WriteCall}
-use Rattle.hg_streams.specs.Calls.{failed_reads, failed_writes}
+use Rattle.hg_streams.specs.Calls.{failed_writes}
 use Rattle.hg_streams.specs.Told.{told_refusal}
 use Rattle.hg_wire.specs.Reports.{end_line}
 use Rattle.hg_check.specs.Printing.{line_text}
-use Rattle.hg_check.specs.Streaming.{IsStreamFault}
 use Rattle.hg_sets.specs.declared.table.TheConstants.{MOST_SETS}
 
 -- a line of a word and a number
@@ -31,11 +29,6 @@ store_end_line c = end_line c.events c.total (length c.segments)
 -- without a failed call too: a page that was read before reads otherwise now.
 abbrev pub IsCounted : Refusal → ℕ → ℕ → Type 0
 IsCounted r old new = (new ≡ told_refusal r + old) ⊎ ((r ≡ DeviceFault) × (new ≡ old))
-
--- What ends the feeding of a store that works: a device or a stream failed, or memory was refused; or bytes of a page are outside the formats; or, in a
--- checkpoint, there is no slot for a page, or no number for a root.
-abbrev pub IsFeedFault : Refusal → Type 0
-IsFeedFault r = IsStreamFault r ⊎ ((r ≡ Damaged) ⊎ ((r ≡ Broken) ⊎ ((r ≡ FullSlots) ⊎ (r ≡ FullEvents))))
 
 module _ {D : Type 0} (g : disk.Ghosts D) where
   -- the same of a store, with its line feed
@@ -57,22 +50,3 @@ module _ {D : Type 0} (g : disk.Ghosts D) where
   -- how many calls of the devices and of the output have failed
   abbrev pub failed_calls : Devices D → List WriteCall → ℕ
   failed_calls devices calls = failures_of g devices + failed_writes calls
-
-  -- Why a store was not opened. Nothing was read or written.
-  pub record FailsToOpen (old new : Devices D) (reads_old reads_new : List ReadCall) (calls_old calls_new : List WriteCall) (r : Refusal) : Type 0 where
-    pub is_true : IsTrueOf old r
-    pub failed : IsCounted r (failures_of g old) (failures_of g new)
-    pub unread : reads_new ≡ reads_old
-    pub unwritten : calls_new ≡ calls_old
-
-  -- Why feeding a store ended: one call of a device or a stream failed where that is told, and none where another cause is; or 2^32 reads were made.
-  pub record FeedFails (old new : Devices D) (reads_old reads_new : List ReadCall) (calls_old calls_new : List WriteCall) (r : Refusal) : Type 0 where
-    pub is : IsFeedFault r
-    pub failed : (failed_reads reads_new + failed_calls new calls_new ≡ told_refusal r + (failed_reads reads_old + failed_calls old calls_old))
-        ⊎ ((r ≡ DeviceFault) × (2 ^ 32 + length reads_old ≤ length reads_new))
-
-  -- Why a command that feeds a store ended by a fault: the store was not opened, or feeding it failed then.
-  abbrev pub HasFeedCause : Devices D → Devices D → List ReadCall → List ReadCall → List WriteCall → List WriteCall → Refusal → Type 0
-  HasFeedCause old new reads_old reads_new calls_old calls_new r =
-      FailsToOpen old new reads_old reads_new calls_old calls_new r
-      ⊎ ((opened : Devices D) × ((failures_of g opened ≡ failures_of g old) × FeedFails opened new reads_old reads_new calls_old calls_new r))

@@ -13,10 +13,10 @@ use Rattle.hg_check.specs.Holding.{HoldsOrWrites, WritesFront}
 use Rattle.hg_check.specs.Printing.{IsDue, line_text, reports_text, segments_text}
 use Rattle.hg_check.specs.Streaming.{IsTold}
 use Rattle.hg_check.specs.Written.{Took, TookFront}
-use Rattle.hg_commands.specs.declared.listing.Listing.{Listing}
-use Rattle.hg_commands.specs.declared.listing.Listing.TheVariants.{Reports, Segments}
-use Rattle.hg_commands.specs.declared.printing.Outputs.{Outputs}
-use Rattle.hg_commands.specs.Storing.{IsCounted, IsTrueOf, failed_calls, store_end_line}
+use Rattle.hg_listing.specs.declared.listing.Listing.{Listing}
+use Rattle.hg_listing.specs.declared.listing.Listing.TheVariants.{Reports, Segments}
+use Rattle.hg_listing.specs.declared.printing.Outputs.{Outputs}
+use Rattle.hg_listing.specs.Storing.{IsCounted, IsTrueOf, failed_calls, store_end_line}
 
 -- What is printed of a store's content.
 abbrev pub listing_text : Listing → Content → List ℕ

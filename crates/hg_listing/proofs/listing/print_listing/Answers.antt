@@ -3,13 +3,13 @@ use Rattle.std.proofs.lemmas.List.{append-nil}
 use Rattle.std.proofs.lemmas.Result.{on_ok_weaker}
 use Rattle.hg_store.specs.Shown.{live}
 use Rattle.hg_check.specs.Printing.{IsDue, line_text, reports_text, segments_text}
-use Rattle.hg_commands.specs.declared.listing.Listing.TheVariants.{Reports}
-use Rattle.hg_commands.specs.Listings.{listing_text}
-use Rattle.hg_commands.specs.Storing.{store_end_line}
+use Rattle.hg_listing.specs.declared.listing.Listing.TheVariants.{Reports}
+use Rattle.hg_listing.specs.Listings.{listing_text}
+use Rattle.hg_listing.specs.Storing.{store_end_line}
 use Rattle.hg_check.specs.Written.{TookFront}
 use Rattle.hg_check.proofs.Printed.{always_err, due_at_first, due_line, due_more, front_due, front_more, front_none}
-use Rattle.hg_commands.proofs.Fronts.{on_err_weaker}
-use Rattle.hg_commands.proofs.listing.print_listing.Goals as goal
+use Rattle.hg_listing.proofs.Fronts.{on_err_weaker}
+use Rattle.hg_listing.proofs.listing.print_listing.Goals as goal
 
 pub returns-in_ok-print_kept-in-Reports-clause-printed : goal.returns-in_ok-print_kept-in-Reports-clause-printed
 returns-in_ok-print_kept-in-Reports-clause-printed g c =

@@ -6,9 +6,9 @@ ghost use Rattle.hg_streams.specs.Told.{told};
 ghost use Rattle.hg_store.specs.Images.{Recovers};
 ghost use Rattle.hg_check.specs.Printing.{Took};
 ghost use Rattle.hg_check.specs.Streaming.{IsStreamFault};
-ghost use Rattle.hg_commands.specs.Listings.{BreaksReports, CantList, HasListingCause, HoldsReports, IsListed, ListsButHeld, ListsContent, ListsFront, ListsStore, WroteListing};
-ghost use Rattle.hg_commands.specs.Opening.{IsFrameCount};
-ghost use Rattle.hg_commands.specs.Storing.{NoCallFailed, end_text};
+ghost use Rattle.hg_listing.specs.Listings.{BreaksReports, CantList, HasListingCause, HoldsReports, IsListed, ListsButHeld, ListsContent, ListsFront, ListsStore, WroteListing};
+ghost use Rattle.hg_listing.specs.Opening.{IsFrameCount};
+ghost use Rattle.hg_listing.specs.Storing.{NoCallFailed, end_text};
 
 use crate::opening::open_store;
 use crate::printing::Outputs;

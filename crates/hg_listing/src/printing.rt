@@ -4,8 +4,8 @@ ghost use Rattle.std.specs.Prelude.{◌≡◌, ◌+◌, ◌≤◌, length, OnOk,
 ghost use Rattle.hg_streams.specs.Calls.{failed_writes};
 ghost use Rattle.hg_streams.specs.Told.{told};
 ghost use Rattle.hg_check.specs.Printing.{Took};
-ghost use Rattle.hg_commands.specs.Printed.{IsPrintedNow, WasFlushed};
-ghost use Rattle.hg_commands.specs.Storing.{number_text};
+ghost use Rattle.hg_listing.specs.Printed.{IsPrintedNow, WasFlushed};
+ghost use Rattle.hg_listing.specs.Storing.{number_text};
 
 use arrayvec::ArrayVec;
 use hg_model::verdict::Refusal;

@@ -1,8 +1,8 @@
 use Rattle.std.proofs.Common.{[]}
 use Rattle.hg_store.specs.Shown.{live}
-use Rattle.hg_commands.specs.Listings.{listing_text}
+use Rattle.hg_listing.specs.Listings.{listing_text}
 use Rattle.hg_check.proofs.Printed.{always_err, due_flushed, front_by_flush, took_by_flush}
-use Rattle.hg_commands.proofs.listing.print_store.Goals as goal
+use Rattle.hg_listing.proofs.listing.print_store.Goals as goal
 
 pub returns-clause-printed : goal.returns-clause-printed
 returns-clause-printed g c =

@@ -4,8 +4,8 @@ ghost use Rattle.std.specs.Prelude.{IfOk, IfErr, IsTrue};
 ghost use Rattle.hg_store.specs.Images.{Recovers};
 ghost use Rattle.hg_store.specs.Recovering.{HasItsTable, IsRecovered, made_of};
 ghost use Rattle.hg_store.specs.Store.{IsIdle};
-ghost use Rattle.hg_commands.specs.Opening.{IsFrameCount, TellsFailures};
-ghost use Rattle.hg_commands.specs.Storing.{IsTrueOf, NoCallFailed};
+ghost use Rattle.hg_listing.specs.Opening.{IsFrameCount, TellsFailures};
+ghost use Rattle.hg_listing.specs.Storing.{IsTrueOf, NoCallFailed};
 
 use hg_disk::Disk;
 use hg_model::verdict::Refusal;

@@ -4,7 +4,7 @@ use Rattle.hg_model.specs.declared.verdict.Refusal.{Refusal}
 use Rattle.hg_disk.specs.declared.disk.Disk as disk
 use Rattle.hg_store.specs.declared.devices.Devices.{Devices}
 use Rattle.hg_store.specs.Images.{failures_of}
-use Rattle.hg_commands.specs.Storing.{IsCounted}
+use Rattle.hg_listing.specs.Storing.{IsCounted}
 
 -- So many pages may be in memory.
 abbrev pub IsFrameCount : ℕ → Type 0

@@ -11,7 +11,7 @@ use Rattle.hg_store.specs.Answers.{failed_in}
 use Rattle.hg_store.specs.Images.{read_of}
 use Rattle.hg_store.specs.Recovering.{CountedBy, HasFewSets, IsOfRecovery}
 use Rattle.hg_streams.specs.Told.{told, told_refusal}
-use Rattle.hg_commands.specs.Storing.{IsCounted, IsTrueOf}
+use Rattle.hg_listing.specs.Storing.{IsCounted, IsTrueOf}
 
 module _ {D : Type 0} (g : disk.Ghosts D) where
   pub recovery_is_true : (old : Devices D) (r : Refusal) (sets : ℕ) → IsOfRecovery r → sets ≡ 262144

@@ -5,7 +5,7 @@ use Rattle.hg_wire.specs.Reports.{report_line}
 use Rattle.hg_check.specs.Printing.{line_text, reports_text}
 use Rattle.hg_check.specs.Holding.{HoldsNext}
 use Rattle.hg_check.proofs.Printed.{always_err, front_due, holds_next}
-use Rattle.hg_commands.proofs.listing.print_kept.Goals as goal
+use Rattle.hg_listing.proofs.listing.print_kept.Goals as goal
 
 next_report : (reports : List Report) (index k : ℕ) (r : Report) → index < length reports → r ≡ get_or reports index r
     → reports_text k (drop index reports) ≡ line_text (report_line k r) ++ reports_text (k + 1) (drop (index + 1) reports)

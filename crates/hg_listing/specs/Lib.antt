@@ -1,0 +1,4 @@
+pub mod Storing
+pub mod Opening
+pub mod Listings
+pub mod Printed
