@@ -7,9 +7,9 @@ ghost use Rattle.hg_commands.specs.Creating.{CantCreate, CreatedIsTrue, HasCreat
 ghost use Rattle.hg_listing.specs.Storing.{NoCallFailed};
 
 use crate::moment::{Moment, Outcome};
-use hg_listing::printing::{Outputs, print_now};
 use hg_check::telling::tell;
 use hg_disk::{Disk, DiskFault};
+use hg_listing::printing::{Outputs, print_now};
 use hg_model::verdict::Refusal;
 use hg_store::create::CreateFault;
 use hg_store::devices::{Caps, Devices};

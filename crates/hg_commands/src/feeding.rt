@@ -12,17 +12,17 @@ ghost use Rattle.hg_commands.specs.Stepping.{AcksAreKept, Checkpointed, Done, Fa
 ghost use Rattle.hg_commands.specs.FeedFaults.{IsFeedFault};
 
 use crate::lines::{Fed, Feeding};
-use hg_listing::listing::hold_end_line;
 use crate::moment::{Moment, Outcome};
-use hg_listing::opening::open_store;
 use crate::plan::FeedPlan;
-use hg_listing::printing::{Outputs, print_now, print_number};
 use hg_check::checker::Ending;
 use hg_check::commands::status_of_end;
 use hg_check::holding::hold_stop;
 use hg_check::run::ended;
 use hg_check::telling::tell;
 use hg_disk::Disk;
+use hg_listing::listing::hold_end_line;
+use hg_listing::opening::open_store;
+use hg_listing::printing::{Outputs, print_now, print_number};
 use hg_model::verdict::Refusal;
 use hg_reading::sink::{Sink, access_event};
 use hg_reading::whole::read;

@@ -10,10 +10,10 @@ ghost use Rattle.hg_commands.specs.Stepping.{BreaksWhere, Counted, EndsWhere, Fa
 ghost use Rattle.hg_commands.specs.FeedFaults.{IsFeedFault};
 
 use crate::moment::Moment;
-use hg_listing::printing::print_number;
 use hg_check::checker::Ending;
 use hg_detect::detector::Answer;
 use hg_disk::Disk;
+use hg_listing::printing::print_number;
 use hg_model::event::{Event, Named};
 use hg_model::verdict::Refusal;
 use hg_store::store::Store;

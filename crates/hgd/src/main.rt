@@ -1,22 +1,21 @@
 //! `hgd`: a detector of data races in traces of programs with threads.
 #![tactic(auto)]
 
-pub mod directory;
 pub mod events;
 pub mod stores;
 pub mod streams;
 pub mod texts;
 pub mod told;
 
-use crate::directory::{Access, open_directory};
 use crate::stores::{create_in, explain_in, feed_in, print_of_store};
 use crate::streams::plain_outputs;
 use crate::texts::{Wanted, explain_input, print_of_input};
-use crate::told::{Cause, FAULT, fail, fail_to_open};
+use crate::told::{FAULT, fail, fail_to_open};
 use hg_check::telling::tell;
 use hg_commands::plan::FeedPlan;
-use hg_listing::printing::Outputs;
+use hg_directory::{Access, Cause, open_directory};
 use hg_disk::FileDisk;
+use hg_listing::printing::Outputs;
 use hg_model::verdict::Refusal;
 use hg_options::reading::read;
 use hg_options::task::{Frames, Jobs, Misread, Serving, StoreTask, Task};

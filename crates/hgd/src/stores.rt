@@ -1,6 +1,5 @@
 //! Commands on the store in a directory.
 
-use crate::directory::{Access, make_directory, open_directory};
 use crate::events::EventText;
 use crate::streams::{noted_outputs, plain_outputs};
 use crate::texts::Wanted;
@@ -8,13 +7,14 @@ use crate::told::{FAULT, fail_to_open, tell_of_feeding, tell_of_listing};
 use hg_check::telling::tell;
 use hg_commands::creating::create_store;
 use hg_commands::feeding::feed;
-use hg_listing::listing::{store_graph, store_reports};
-use hg_listing::opening::open_store;
 use hg_commands::plan::FeedPlan;
-use hg_listing::printing::Outputs;
+use hg_directory::{Access, make_directory, open_directory};
 use hg_disk::FileDisk;
 use hg_explain::commands::explain;
 use hg_explain::form::Form;
+use hg_listing::listing::{store_graph, store_reports};
+use hg_listing::opening::open_store;
+use hg_listing::printing::Outputs;
 use hg_options::task::{Explaining, Frames};
 use hg_store::devices::Devices;
 use hg_streams::input::Input;

@@ -3,9 +3,9 @@
 use crate::streams::{noted_outputs, plain_outputs};
 use crate::told::tell_of_text;
 use hg_check::commands::{check, graph};
-use hg_listing::printing::Outputs;
 use hg_explain::commands::explain;
 use hg_explain::form::Form;
+use hg_listing::printing::Outputs;
 use hg_options::task::{Explaining, Jobs};
 use hg_streams::input::Input;
 use hg_streams::output::Output;

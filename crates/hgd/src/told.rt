@@ -1,9 +1,9 @@
 //! Faults, and what the last line means, told on standard error.
 
-use crate::directory::OpenFault;
 use hg_check::telling::tell;
-use hg_listing::printing::Outputs;
+use hg_directory::{Cause, OpenFault};
 use hg_disk::FileDisk;
+use hg_listing::printing::Outputs;
 use hg_model::verdict::Refusal;
 use hg_store::devices::Devices;
 use hg_streams::output::Output;
@@ -20,26 +20,17 @@ use std::string::String;
 /// The status of a fault.
 pub const FAULT: u8 = 3;
 
-/// Why the program ends at a stream, a file or want of memory of its own, before a command or without one.
-#[derive(Clone, Copy, Drop)]
-pub enum Cause {
-    DeviceFault,
-    OutOfMemory,
-}
-
-impl Cause {
-    /// The refusal by which commands name it.
-    fn refusal(self) -> Refusal {
-        match self {
-            Cause::DeviceFault => Refusal::DeviceFault,
-            Cause::OutOfMemory => Refusal::OutOfMemory,
-        }
+/// The refusal by which commands name a cause.
+fn refusal_of(cause: Cause) -> Refusal {
+    match cause {
+        Cause::DeviceFault => Refusal::DeviceFault,
+        Cause::OutOfMemory => Refusal::OutOfMemory,
     }
 }
 
-/// Tells a fault.
+/// Tells why the program ends at a stream, a file or want of memory of its own, before a command or without one.
 pub fn fail(rt: &HostRuntime, cause: Cause) -> u8 {
-    tell(cause.refusal(), &mut Output::new(rt.stderr()));
+    tell(refusal_of(cause), &mut Output::new(rt.stderr()));
     FAULT
 }
 
@@ -47,7 +38,7 @@ pub fn fail(rt: &HostRuntime, cause: Cause) -> u8 {
 pub fn fail_to_open(rt: &HostRuntime, fault: &OpenFault, verbose: bool) -> u8 {
     let status = fail(rt, fault.cause);
     if verbose {
-        let code = u64::from(fault.cause.refusal().code());
+        let code = u64::from(refusal_of(fault.cause).code());
         tell_fault(rt, code, &[source(fault.name, fault.error)]);
     }
     status

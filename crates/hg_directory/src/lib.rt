@@ -1,8 +1,8 @@
-//! The directory of a store.
+//! The files of a store's directory: opened, made, locked and made durable.
+#![tactic(auto)]
 
 ghost use Rattle.std.specs.Prelude.{◌≡◌, IfErr};
 
-use crate::told::Cause;
 use hg_disk::FileDisk;
 use hg_store::devices::Devices;
 use std::fs::{File, OpenOptions, TryLockError};
@@ -15,6 +15,13 @@ use std::{env, fs, io};
 
 /// The greatest length of a store's `pages`: that of 1,048,576 slots.
 const MAX_PAGES_LEN: u64 = 1_048_576 * 3_080;
+
+/// Why a store's files can't be used.
+#[derive(Clone, Copy, Drop)]
+pub enum Cause {
+    DeviceFault,
+    OutOfMemory,
+}
 
 /// What a command does to a store.
 #[derive(Clone, Copy, PartialEq, Eq, Drop)]
