@@ -1,172 +1,185 @@
-//! Runs scenarios of stores, logs, journals and gated files over disks in memory, and prints a line for each.
+//! Runs scenarios of stores over disks in memory, and prints a line for each.
 #![tactic(auto)]
 
 mod actions;
-mod answers;
 mod bench;
 mod checkpoints;
-mod device;
-mod gates;
-mod journals;
-mod logs;
-mod rows;
+mod opening;
+mod play;
 mod running;
-mod shelf;
 mod stops;
-mod stores;
-mod tears;
 mod telling;
-mod words;
-mod world;
 
-use crate::answers::{put_halt, put_ok};
-use crate::words::Halt;
-use crate::world::World;
+use crate::bench::Bench;
+use crate::opening::{NEW, Opening, opening_of};
+use crate::play::Play;
+use crate::running::{NO_PROGRESS, Origin, Progress, Run, stop_run};
+use crate::stops::put_stops;
+use hg_disk::Tear;
+use hg_harness::device::{DEVICES, Device, read_device};
+use hg_harness::run::{World, run_input};
+use hg_harness::shelf::{Image, NO_FUSES, Shelf};
+use hg_harness::tears::{Tears, tear};
+use hg_harness::words::{Halt, after, front, number};
 use hg_text::Text;
-use std::alloc::Global;
-use std::io;
+use std::alloc::{AllocError, Global};
 use std::process::ExitCode;
 
-/// What a line asks for, and what it is to answer: LINE itself of `expect LINE`, else `ok` where nothing is told.
-fn split(line: &str) -> (&str, &str) {
-    match line.split_once(" -> ") {
-        Some((order, wanted)) => (order, wanted),
-        None => (line, line.strip_prefix("expect ").unwrap_or("ok")),
+/// What there is in a scenario.
+#[derive(Drop)]
+struct Place {
+    alloc: Global,
+    shelf: Shelf,
+    bench: Bench,
+    /// How the store that was opened last came to be.
+    origin: Origin,
+}
+
+/// `N events`
+fn put_count_of_events(count: u64, out: &mut Text) {
+    out.put_decimal(count);
+    out.put(b" events");
+}
+
+/// `ACKNOWLEDGED`, or `ACKNOWLEDGED or ACCEPTED`
+fn put_progress(progress: Progress, out: &mut Text) {
+    out.put_decimal(progress.acknowledged);
+    if progress.in_doubt {
+        out.put_number(b" or ", progress.accepted);
     }
 }
 
-/// How the scenarios went.
-#[derive(Clone, Copy)]
-struct Score {
-    passed: u64,
-    failed: u64,
+/// What a recovery from an image finds.
+fn find(alloc: Global, image: &Image, opening: Opening, out: &mut Text) -> Result<(), Halt> {
+    let opening = Opening {
+        is_new: false,
+        ..opening
+    };
+    let mut play = Play::new(alloc);
+    let events = play.open(image, &NO_FUSES, opening)?;
+    put_count_of_events(events, out);
+    Ok(())
 }
 
-/// The scenario that is under way.
-#[derive(Drop)]
-struct Current<'a> {
-    name: &'a str,
-    world: World,
-    has_failed: bool,
-    /// What its last line answered.
-    answer: Text,
+/// `K TEAR`: stops a run after so many calls of a device, and leaves the image.
+fn stop_one(
+    run: Run,
+    device: Device,
+    text: &str,
+    image: &mut Image,
+    out: &mut Text,
+) -> Result<(), Halt> {
+    let (calls, rest) = number(text)?;
+    let (Tears::One(tear), _) = tear(rest)? else {
+        return Err(Halt::Words);
+    };
+    let mut progress = NO_PROGRESS;
+    let memories = stop_run(run, device, calls, &mut progress)?;
+    memories.leave_torn(device, tear, Tear::Kept, image)?;
+    put_progress(progress, out);
+    Ok(())
 }
 
-/// Makes one line, and answers it.
-fn answer(current: &mut Current, order: &str) {
-    current.answer.clear();
-    match current.world.perform(order, &mut current.answer) {
-        Ok(()) => put_ok(&mut current.answer),
-        Err(Halt::Said) => {}
-        Err(halt) => {
-            current.answer.clear();
-            put_halt(halt, &mut current.answer);
+impl Place {
+    /// Four empty disks, and nothing open.
+    fn new(alloc: Global) -> Place {
+        Place {
+            alloc,
+            shelf: Shelf::new(alloc),
+            bench: Bench::new(alloc),
+            origin: Origin {
+                start: Image::new(alloc),
+                opening: NEW,
+                base: 0,
+            },
         }
     }
-}
 
-/// Ends a scenario.
-fn end(rt: &impl Print, current: &Current, score: &mut Score) -> io::Result<()> {
-    if current.has_failed {
-        score.failed = score.failed.wrapping_add(1);
-        return Ok(());
+    /// Puts the disks of the store back, if one is open.
+    fn close(&mut self) -> Result<(), AllocError> {
+        match self.bench.play.close() {
+            Some(disks) => self.shelf.put_all(disks),
+            None => Ok(()),
+        }
     }
-    if current.name.is_empty() {
-        return Ok(());
+
+    /// The same, with what is not synced torn.
+    fn crash(&mut self, text: &str) -> Result<(), Halt> {
+        self.shelf.tear_by(text)?;
+        let closed = self.close();
+        self.shelf.tear = Tear::Kept;
+        Ok(closed?)
     }
-    score.passed = score.passed.wrapping_add(1);
-    let name = current.name;
-    println!(rt; "passed {name}")
-}
 
-/// Whether the last line answered what is wanted.
-fn is_answered(answer: &Text, wanted: &str) -> bool {
-    answer.is_whole() && answer.bytes() == wanted.as_bytes()
-}
-
-/// Makes one line of a scenario, and compares its answer.
-fn make(rt: &impl Print, current: &mut Current, number: usize, line: &str) -> io::Result<()> {
-    let (order, wanted) = split(line);
-    answer(current, order);
-    if is_answered(&current.answer, wanted) {
-        return Ok(());
+    /// Opens a store over the disks as they are.
+    fn open(&mut self, opening: Opening, out: &mut Text) -> Result<(), Halt> {
+        self.close()?;
+        self.origin.start.copy(&self.shelf.image)?;
+        self.origin.opening = opening;
+        let opened = self
+            .bench
+            .play
+            .open(&self.shelf.image, &self.shelf.fuses, opening);
+        self.shelf.fuses = NO_FUSES;
+        match opened {
+            Ok(events) => {
+                self.origin.base = events;
+                put_count_of_events(events, out);
+                Ok(())
+            }
+            Err(halt) => {
+                self.close()?;
+                Err(halt)
+            }
+        }
     }
-    current.has_failed = true;
-    let name = current.name;
-    let seen = str::from_utf8(current.answer.bytes()).unwrap_or("");
-    println!(rt; "FAILED {name}\n  line {number}: {line}\n  seen: {seen}")
-}
 
-/// Begins a scenario.
-fn restart<'a>(current: &mut Current<'a>, name: &'a str) {
-    current.name = name;
-    current.has_failed = false;
-    current.world.clear();
-}
-
-/// Takes one line of the text.
-fn take<'a>(
-    rt: &impl Print,
-    current: &mut Current<'a>,
-    score: &mut Score,
-    number: usize,
-    line: &'a str,
-) -> io::Result<()> {
-    if line.is_empty() || line.starts_with("#") {
-        return Ok(());
+    /// Stops the run since the store was opened: `every device at each call TEARS`, or of a device `at each call TEARS` or `at K TEAR`.
+    fn stop(&mut self, text: &str, out: &mut Text) -> Result<(), Halt> {
+        let run = Run {
+            alloc: self.alloc,
+            origin: &self.origin,
+            actions: self.bench.play.made(),
+        };
+        if let Some(tears) = text.strip_prefix("every device at each call ") {
+            return put_stops(run, &DEVICES, tears, out);
+        }
+        let (device, rest) = read_device(text)?;
+        let rest = after("at ", rest)?;
+        if let Some(tears) = rest.strip_prefix("each call ") {
+            return put_stops(run, &[device], tears, out);
+        }
+        stop_one(run, device, rest, &mut self.shelf.image, out)?;
+        self.bench.play.leave();
+        Ok(())
     }
-    if let Some(name) = line.strip_prefix("scenario ") {
-        end(rt, current, score)?;
-        restart(current, name);
-        return Ok(());
-    }
-    if current.has_failed {
-        return Ok(());
-    }
-    make(rt, current, number, line)
 }
 
-/// Takes all lines of the text.
-fn take_all<'a>(
-    rt: &impl Print,
-    current: &mut Current<'a>,
-    score: &mut Score,
-    text: &'a str,
-) -> io::Result<()> {
-    for (i, line) in text.lines().enumerate() {
-        take(rt, current, score, i.wrapping_add(1), line.trim())?;
+impl World for Place {
+    fn perform(&mut self, order: &str, out: &mut Text) -> Result<(), Halt> {
+        let (word, rest) = front(order);
+        let shelf = &mut self.shelf;
+        match word {
+            "close" => Ok(self.close()?),
+            "crash" => self.crash(rest),
+            "disk" => shelf.set(rest),
+            "fail" => shelf.fail(rest),
+            "bytes" | "length" | "calls" => shelf.tell(word, rest, out),
+            "store" => self.open(opening_of(true, rest)?, out),
+            "recover" => self.open(opening_of(false, rest)?, out),
+            "found" => find(self.alloc, &shelf.image, self.origin.opening, out),
+            "stop" => self.stop(rest, out),
+            _ => self.bench.perform(word, rest, out),
+        }
     }
-    end(rt, current, score)
-}
 
-/// Runs all scenarios of a text.
-fn run(rt: &impl Print, alloc: Global, text: &str, score: &mut Score) -> io::Result<()> {
-    let mut current = Current {
-        name: "",
-        world: World::new(alloc),
-        has_failed: false,
-        answer: Text::new(alloc),
-    };
-    take_all(rt, &mut current, score, text)
-}
-
-/// Runs the scenarios of standard input, and says how many passed and failed.
-fn run_input(rt: &HostRuntime, score: &mut Score) -> io::Result<()> {
-    let alloc = rt.alloc();
-    let text = io::read_to_string(alloc, rt.stdin())?;
-    run(rt, alloc, text.as_str(), score)?;
-    let passed = score.passed;
-    let failed = score.failed;
-    println!(rt; "{passed} passed, {failed} failed")
+    fn clear(&mut self) {
+        self.shelf.clear();
+        self.bench.clear();
+    }
 }
 
 fn main(rt: HostRuntime) -> ExitCode {
-    let mut score = Score {
-        passed: 0,
-        failed: 0,
-    };
-    match run_input(&rt, &mut score) {
-        Ok(()) if score.failed == 0 => ExitCode::SUCCESS,
-        _ => ExitCode::FAILURE,
-    }
+    let mut place = Place::new(rt.alloc());
+    run_input(&rt, &mut place)
 }

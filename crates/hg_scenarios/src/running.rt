@@ -1,29 +1,36 @@
 //! Runs of a store that are made again, and stopped.
 
-use crate::actions::{Action, Desk, Told, make};
-use crate::answers::put_told;
+use crate::actions::{Action, Told, put_told};
 use crate::checkpoints::checkpoint;
-use crate::device::Device;
-use crate::shelf::{Fuse, Held, Image, NO_FUSES};
-use crate::stores::{Disks, Memories, OpenStore, Opening, open};
+use crate::opening::Opening;
+use crate::play::Play;
 use crate::telling::put_contents;
-use crate::words::Halt;
 use hg_detect::detector::Answer;
 use hg_disk::Tear;
+use hg_harness::device::{Device, PerDevice};
+use hg_harness::disks::Memories;
+use hg_harness::shelf::{Fuse, Image, NO_FUSES};
+use hg_harness::words::Halt;
 use hg_model::event::Named;
 use hg_model::verdict::Refusal;
-use hg_store::store::Store;
 use hg_text::Text;
 use std::alloc::{AllocError, Global};
 
-/// How a store came to be, and what was done to it since then.
+/// How a store came to be.
 #[derive(Drop)]
-pub struct Run {
+pub struct Origin {
     pub start: Image,
     pub opening: Opening,
     /// How many events it had as it was opened.
     pub base: u64,
-    pub actions: Vec<Action>,
+}
+
+/// How a store came to be, and what was done to it since then.
+#[derive(Clone, Copy)]
+pub struct Run<'a> {
+    pub alloc: Global,
+    pub origin: &'a Origin,
+    pub actions: &'a [Action],
 }
 
 /// How far a run came.
@@ -36,12 +43,15 @@ pub struct Progress {
     pub in_doubt: bool,
 }
 
+pub const NO_PROGRESS: Progress = Progress {
+    is_open: false,
+    acknowledged: 0,
+    accepted: 0,
+    in_doubt: false,
+};
+
 /// What a run without a stop comes to: its accepted events, and all that is told of them in the end.
 pub struct Reference {
-    /// How the store that the run left is recovered.
-    opening: Opening,
-    /// How many events the store had as it was opened.
-    base: u64,
     accepted: Vec<Named>,
     contents: Text,
 }
@@ -49,171 +59,143 @@ pub struct Reference {
 impl Drop for Reference {
     fn drop(self) {
         let Reference {
-            opening: _,
-            base: _,
             accepted: _,
             contents: _,
         } = self;
     }
 }
 
-/// Counts an action in by its answer.
-fn count(progress: &mut Progress, action: Action, told: Told) {
-    match (action, told) {
-        (_, Told::Offered(Answer::Accepted)) => {
-            progress.accepted = progress.accepted.wrapping_add(1);
-        }
-        (_, Told::Committed(events)) => progress.acknowledged = events,
-        (Action::Commit, Told::Refused(Refusal::DeviceFault)) => progress.in_doubt = true,
-        _ => {}
-    }
-}
-
-/// Does what the actions say, up to the first that a device's fault ends: there the run stops.
-fn make_all(alloc: Global, store: &mut Store<Held>, actions: &[Action], progress: &mut Progress) {
-    let mut desk = Desk::new();
+/// Does what the actions say, up to the first that a device's fault ends: there the run stops. Counts their answers in.
+fn make_all(play: &mut Play, actions: &[Action], progress: &mut Progress) {
     for action in actions {
-        let told = make(alloc, store, *action, &mut desk);
-        count(progress, *action, told);
-        if told == Told::Refused(Refusal::DeviceFault) {
-            return;
+        match play.make(*action) {
+            Told::Offered(Answer::Accepted) => {
+                progress.accepted = progress.accepted.wrapping_add(1);
+            }
+            Told::Committed(events) => progress.acknowledged = events,
+            Told::Refused(Refusal::DeviceFault) => {
+                progress.in_doubt = matches!(action, Action::Commit);
+                return;
+            }
+            _ => {}
         }
     }
-}
-
-/// Does what the actions say, and takes the disks back.
-fn go_and_close(
-    alloc: Global,
-    store: OpenStore,
-    actions: &[Action],
-    progress: &mut Progress,
-) -> Disks {
-    let mut store = store;
-    make_all(alloc, &mut store, actions, progress);
-    Disks::of(store)
 }
 
 /// Makes a run again where one device fails from a call on, and gives its disks.
 pub fn stop_run(
-    alloc: Global,
-    run: &Run,
+    run: Run,
     device: Device,
     after: u64,
     progress: &mut Progress,
 ) -> Result<Memories, AllocError> {
     let mut fuses = NO_FUSES;
-    *device.of_mut(&mut fuses) = Fuse::On(after);
+    *fuses.of_mut(device) = Fuse::On(after);
+    let mut play = Play::new(run.alloc);
+    let opened = play.open(&run.origin.start, &fuses, run.origin.opening);
     *progress = Progress {
-        is_open: false,
-        acknowledged: run.base,
-        accepted: run.base,
+        is_open: opened.is_ok(),
+        acknowledged: run.origin.base,
+        accepted: run.origin.base,
         in_doubt: false,
     };
-    let disks = Disks::new(alloc, &run.start, &fuses)?;
-    match open(alloc, disks, run.opening) {
-        Ok(store) => {
-            progress.is_open = true;
-            Ok(go_and_close(alloc, store, &run.actions, progress).into_memories())
-        }
-        Err((_, disks)) => Ok(disks.into_memories()),
+    if progress.is_open {
+        make_all(&mut play, run.actions, progress);
     }
+    play.memories()
 }
 
-/// Keeps the event of an action that accepted it.
-fn keep_accepted(action: Action, told: Told, accepted: &mut Vec<Named>) -> Result<(), Halt> {
-    match (action, told) {
-        (Action::Offer(named), Told::Offered(Answer::Accepted)) => Ok(accepted.push(named)?),
-        _ => Ok(()),
-    }
-}
-
-/// Does what the actions say and makes a commit, and keeps the events that were accepted.
+/// Does what the actions say, and keeps the events that were accepted.
 fn follow(
-    alloc: Global,
-    store: &mut Store<Held>,
+    play: &mut Play,
     actions: &[Action],
     accepted: &mut Vec<Named>,
-) -> Result<(), Halt> {
-    let mut desk = Desk::new();
+) -> Result<(), AllocError> {
     for action in actions {
-        let told = make(alloc, store, *action, &mut desk);
-        keep_accepted(*action, told, accepted)?;
+        if let (Action::Offer(named), Told::Offered(Answer::Accepted)) = (
+            *action,
+            play.make(*action),
+        ) {
+            accepted.push(named)?;
+        }
     }
-    store.commit()?;
     Ok(())
 }
 
-/// Does what the actions say, and describes the store.
-fn describe(
-    alloc: Global,
-    store: &mut Store<Held>,
-    actions: &[Action],
-    reference: &mut Reference,
-) -> Result<(), Halt> {
-    follow(alloc, store, actions, &mut reference.accepted)?;
-    put_contents(alloc, store, &mut reference.contents)
+/// Makes a run again and then a commit, and describes the store.
+fn describe(run: Run, play: &mut Play, reference: &mut Reference) -> Result<(), Halt> {
+    play.open(&run.origin.start, &NO_FUSES, run.origin.opening)?;
+    follow(play, run.actions, &mut reference.accepted)?;
+    let Told::Committed(_) = play.make(Action::Commit) else {
+        return Err(Halt::Closed);
+    };
+    put_contents(run.alloc, play.store()?, &mut reference.contents)?;
+    Ok(())
 }
 
 /// What the run comes to without a stop.
-pub fn reference_of(alloc: Global, run: &Run) -> Result<Reference, Halt> {
+pub fn reference_of(run: Run) -> Result<Reference, Halt> {
     let mut reference = Reference {
-        opening: Opening::Recover(run.opening.room()),
-        base: run.base,
-        accepted: Vec::new(alloc),
-        contents: Text::new(alloc),
+        accepted: Vec::new(run.alloc),
+        contents: Text::new(run.alloc),
     };
-    let disks = Disks::whole(alloc, &run.start)?;
-    match open(alloc, disks, run.opening) {
-        Ok(mut store) => match describe(alloc, &mut store, &run.actions, &mut reference) {
-            Ok(()) => Ok(reference),
-            Err(_) => Err(Halt::Closed),
-        },
+    let mut play = Play::new(run.alloc);
+    match describe(run, &mut play, &mut reference) {
+        Ok(()) => Ok(reference),
         Err(_) => Err(Halt::Closed),
     }
 }
 
-/// Says what was wrong, with a number.
-fn wrong_at(words: &[u8], number: u64, out: &mut Text) -> Halt {
-    out.put_number(words, number);
-    Halt::Said
-}
-
 /// Whether an event that is offered again is a duplicate where it was found, and else is accepted.
-fn is_expected(offered: Result<Answer, Refusal>, was_found: bool) -> bool {
-    match offered {
-        Ok(Answer::Accepted) => !was_found,
-        Ok(Answer::Duplicate(_)) => was_found,
-        Err(_) => false,
+fn is_expected(told: Told, was_found: bool) -> bool {
+    match told {
+        Told::Offered(Answer::Accepted) => !was_found,
+        Told::Offered(Answer::Duplicate(_)) => was_found,
+        _ => false,
     }
 }
 
-/// Offers all events of the run again. Those that were found are duplicates.
+/// Offers all events of the run again, and counts them. Those that were found are duplicates.
 fn offer_all(
-    store: &mut Store<Held>,
-    reference: &Reference,
+    play: &mut Play,
+    accepted: &[Named],
+    base: u64,
     found: u64,
     out: &mut Text,
 ) -> Result<u64, Halt> {
-    let mut place = reference.base;
-    for event in reference.accepted.iter() {
-        if !is_expected(store.offer(event), place < found) {
-            return Err(wrong_at(b"answers event ", place.wrapping_add(1), out));
+    let mut place = base;
+    for event in accepted {
+        if !is_expected(play.make(Action::Offer(*event)), place < found) {
+            out.put_number(b"answers event ", place.wrapping_add(1));
+            return Err(Halt::Said);
         }
         place = place.wrapping_add(1);
     }
     Ok(place)
 }
 
+/// Commits as many events.
+fn commit(play: &mut Play, count: u64, out: &mut Text) -> Result<(), Halt> {
+    match play.make(Action::Commit) {
+        Told::Committed(committed) if committed == count => Ok(()),
+        told => {
+            out.put(b"commits ");
+            put_told(told, out);
+            Err(Halt::Said)
+        }
+    }
+}
+
 /// Checks that a store tells the same as the run without a stop.
 fn compare(
     alloc: Global,
-    store: &Store<Held>,
+    play: &Play,
     reference: &Reference,
     wrong: &[u8],
     out: &mut Text,
 ) -> Result<(), Halt> {
     let mut contents = Text::new(alloc);
-    put_contents(alloc, store, &mut contents)?;
+    put_contents(alloc, play.store()?, &mut contents)?;
     if contents.bytes() == reference.contents.bytes() {
         return Ok(());
     }
@@ -221,27 +203,9 @@ fn compare(
     Err(Halt::Said)
 }
 
-/// Goes on to the end of the run, and sees that the store then tells what it would have told without a stop.
-fn go_on(
-    alloc: Global,
-    store: &mut Store<Held>,
-    found: u64,
-    reference: &Reference,
-    out: &mut Text,
-) -> Result<(), Halt> {
-    let count = offer_all(store, reference, found, out)?;
-    let committed = store.commit()?;
-    if committed != count {
-        return Err(wrong_at(b"commits ", committed, out));
-    }
-    compare(alloc, store, reference, b"differs in the end", out)
-}
-
 /// Makes a checkpoint.
-fn save(alloc: Global, store: &mut Store<Held>, out: &mut Text) -> Result<(), Halt> {
-    let mut desk = Desk::new();
-    let mut made = Vec::new(alloc);
-    match checkpoint(alloc, store, &mut desk, &mut made) {
+fn save(play: &mut Play, out: &mut Text) -> Result<(), Halt> {
+    match checkpoint(play) {
         Ok(_) => Ok(()),
         Err(told) => {
             out.put(b"a checkpoint answers ");
@@ -251,72 +215,90 @@ fn save(alloc: Global, store: &mut Store<Held>, out: &mut Text) -> Result<(), Ha
     }
 }
 
-/// How many events are found. They are the acknowledged ones or, where a commit is in doubt, the accepted ones.
-fn find(store: &Store<Held>, progress: Progress, out: &mut Text) -> Result<u64, Halt> {
-    let found = store.events()?;
-    if found == progress.acknowledged {
-        return Ok(found);
-    }
-    if progress.in_doubt && found == progress.accepted {
-        return Ok(found);
-    }
-    Err(wrong_at(b"finds events ", found, out))
+/// Whether what is found was acknowledged or, where a commit is in doubt, accepted.
+fn is_lawful(found: u64, progress: Progress) -> bool {
+    found == progress.acknowledged || progress.in_doubt && found == progress.accepted
 }
 
-fn find_and_go_on(
-    alloc: Global,
-    store: &mut Store<Held>,
-    progress: Progress,
-    reference: &Reference,
+/// Recovers a store, and tells how many events are found.
+fn recover(
+    play: &mut Play,
+    image: &Image,
+    origin: &Origin,
+    wrong: &[u8],
     out: &mut Text,
 ) -> Result<u64, Halt> {
-    let found = find(store, progress, out)?;
-    go_on(alloc, store, found, reference, out)?;
-    Ok(found)
-}
-
-/// Recovers what is synced of a store, and sees that it tells the same.
-fn recover_again(
-    alloc: Global,
-    store: OpenStore,
-    reference: &Reference,
-    out: &mut Text,
-) -> Result<(), Halt> {
-    let mut image = Image::new(alloc);
-    image.take(&Disks::of(store).into_memories().devices, Tear::Lost)?;
-    let disks = Disks::whole(alloc, &image)?;
-    match open(alloc, disks, reference.opening) {
-        Ok(store) => {
-            let wrong = b"differs after a checkpoint";
-            compare(alloc, &store, reference, wrong, out)
-        }
+    let opening = Opening {
+        is_new: false,
+        ..origin.opening
+    };
+    match play.open(image, &NO_FUSES, opening) {
+        Ok(found) => Ok(found),
         Err(_) => {
-            out.put(b"is not recovered after a checkpoint");
+            out.put(wrong);
             Err(Halt::Said)
         }
     }
 }
 
-/// Recovers what a stop left, goes on to the end of the run, makes a checkpoint and recovers what is synced then; and tells how many events
-/// were found.
-pub fn resume(
-    alloc: Global,
+/// Recovers what a stop left, goes on to the end of the run, and makes a checkpoint; and tells how many events were found.
+fn go_on(
+    run: Run,
+    play: &mut Play,
     image: &Image,
     progress: Progress,
     reference: &Reference,
     out: &mut Text,
 ) -> Result<u64, Halt> {
-    let disks = Disks::whole(alloc, image)?;
-    match open(alloc, disks, reference.opening) {
-        Ok(mut store) => {
-            let found = find_and_go_on(alloc, &mut store, progress, reference, out)?;
-            save(alloc, &mut store, out)?;
-            recover_again(alloc, store, reference, out)?;
-            Ok(found)
-        }
-        Err(_) => {
-            out.put(b"is not recovered");
-            Err(Halt::Said)
-        }
+    let origin = run.origin;
+    let found = recover(play, image, origin, b"is not recovered", out)?;
+    if !is_lawful(found, progress) {
+        out.put_number(b"finds events ", found);
+        return Err(Halt::Said);
     }
+    let count = offer_all(play, &reference.accepted, origin.base, found, out)?;
+    commit(play, count, out)?;
+    compare(run.alloc, play, reference, b"differs in the end", out)?;
+    save(play, out)?;
+    Ok(found)
+}
+
+/// Recovers what is synced of a store, and sees that it tells the same.
+fn recover_again(
+    run: Run,
+    play: &mut Play,
+    reference: &Reference,
+    out: &mut Text,
+) -> Result<(), Halt> {
+    let mut image = Image::new(run.alloc);
+    play.memories()?.leave(Tear::Lost, &mut image)?;
+    recover(
+        play,
+        &image,
+        run.origin,
+        b"is not recovered after a checkpoint",
+        out,
+    )?;
+    compare(
+        run.alloc,
+        play,
+        reference,
+        b"differs after a checkpoint",
+        out,
+    )
+}
+
+/// Recovers what a stop left, goes on to the end of the run, makes a checkpoint and recovers what is synced then; and tells how many events
+/// were found.
+pub fn resume(
+    run: Run,
+    image: &Image,
+    progress: Progress,
+    reference: &Reference,
+    out: &mut Text,
+) -> Result<u64, Halt> {
+    let mut play = Play::new(run.alloc);
+    let found = go_on(run, &mut play, image, progress, reference, out)?;
+    recover_again(run, &mut play, reference, out)?;
+    Ok(found)
 }

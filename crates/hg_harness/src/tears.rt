@@ -1,7 +1,9 @@
 //! What a crash makes of the writes of a disk that are not synced.
 
+use crate::answers::put_byte;
 use crate::words::{Halt, byte_of, front, number};
 use hg_disk::Tear;
+use hg_text::Text;
 use std::alloc::Global;
 
 /// A tear, or many.
@@ -68,4 +70,17 @@ pub fn tears_of(alloc: Global, words: &str) -> Result<Vec<Tears>, Halt> {
         rest = behind;
     }
     Ok(tears)
+}
+
+/// A tear, as a line names it.
+pub fn put_tear(tear: Tear, out: &mut Text) {
+    match tear {
+        Tear::Lost => out.put(b"lost"),
+        Tear::Kept => out.put(b"kept"),
+        Tear::Front(count) => out.put_number(b"front ", count as u64),
+        Tear::Fill(byte) => {
+            out.put(b"fill ");
+            put_byte(byte, out);
+        }
+    }
 }

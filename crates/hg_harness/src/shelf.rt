@@ -1,11 +1,11 @@
 //! What the disks of a scenario have while nothing is open over them.
 
 use crate::answers::put_bytes;
-use crate::device::{DEVICES, Device, read_device};
+use crate::device::{DEVICES, Device, PerDevice, read_device};
+use crate::disks::Disks;
 use crate::tears::{Tears, tear};
 use crate::words::{self, Halt, number_after};
 use hg_disk::{FuseDisk, MemDisk, Tear};
-use hg_store::devices::Devices;
 use hg_text::Text;
 use std::alloc::{AllocError, Global};
 
@@ -20,14 +20,14 @@ pub enum Fuse {
     On(u64),
 }
 
-pub const NO_FUSES: Devices<Fuse> = Devices {
+pub const NO_FUSES: PerDevice<Fuse> = PerDevice {
     journal: Fuse::Never,
     slots: Fuse::Never,
     root0: Fuse::Never,
     root1: Fuse::Never,
 };
 
-const NO_CALLS: Devices<u64> = Devices {
+const NO_CALLS: PerDevice<u64> = PerDevice {
     journal: 0,
     slots: 0,
     root0: 0,
@@ -36,7 +36,7 @@ const NO_CALLS: Devices<u64> = Devices {
 
 /// The bytes of the four devices.
 pub struct Image {
-    pub parts: Devices<Vec<u8>>,
+    pub parts: PerDevice<Vec<u8>>,
 }
 
 impl Drop for Image {
@@ -49,7 +49,7 @@ impl Image {
     /// Four devices without a byte.
     pub fn new(alloc: Global) -> Image {
         Image {
-            parts: Devices {
+            parts: PerDevice {
                 journal: Vec::new(alloc),
                 slots: Vec::new(alloc),
                 root0: Vec::new(alloc),
@@ -68,17 +68,9 @@ impl Image {
     /// Has the bytes of another one.
     pub fn copy(&mut self, other: &Image) -> Result<(), AllocError> {
         for device in DEVICES {
-            let bytes = device.of_mut(&mut self.parts);
+            let bytes = self.parts.of_mut(device);
             bytes.clear();
-            bytes.extend_from_slice(device.of(&other.parts))?;
-        }
-        Ok(())
-    }
-
-    /// Has what a crash leaves of disks that are torn alike.
-    pub fn take(&mut self, disks: &Devices<MemDisk>, tear: Tear) -> Result<(), AllocError> {
-        for device in DEVICES {
-            copy_image(device.of(disks), tear, device.of_mut(&mut self.parts))?;
+            bytes.extend_from_slice(other.parts.of(device))?;
         }
         Ok(())
     }
@@ -109,8 +101,8 @@ pub fn disk_with(alloc: Global, bytes: &[u8], fuse: Fuse) -> Result<Held, AllocE
 #[derive(Drop)]
 pub struct Shelf {
     pub image: Image,
-    pub calls: Devices<u64>,
-    pub fuses: Devices<Fuse>,
+    pub calls: PerDevice<u64>,
+    pub fuses: PerDevice<Fuse>,
     /// What a crash makes of what is not synced, as a disk is put back.
     pub tear: Tear,
 }
@@ -167,15 +159,30 @@ impl Shelf {
 
     /// A disk of its own for what is to be opened.
     pub fn take(&mut self, alloc: Global, device: Device) -> Result<Held, AllocError> {
-        let fuse = *device.of(&self.fuses);
-        *device.of_mut(&mut self.fuses) = Fuse::Never;
-        disk_with(alloc, device.of(&self.image.parts), fuse)
+        let fuse = *self.fuses.of(device);
+        *self.fuses.of_mut(device) = Fuse::Never;
+        disk_with(alloc, self.image.parts.of(device), fuse)
     }
 
     /// Takes a disk back.
     pub fn put(&mut self, device: Device, disk: Held) -> Result<(), AllocError> {
-        let bytes = device.of_mut(&mut self.image.parts);
-        put_back(disk, self.tear, bytes, device.of_mut(&mut self.calls))
+        let bytes = self.image.parts.of_mut(device);
+        put_back(disk, self.tear, bytes, self.calls.of_mut(device))
+    }
+
+    /// Takes all four back.
+    pub fn put_all(&mut self, disks: Disks) -> Result<(), AllocError> {
+        let PerDevice {
+            journal,
+            slots,
+            root0,
+            root1,
+        } = disks.into_parts();
+        let journal = self.put(Device::Journal, journal);
+        let slots = self.put(Device::Slots, slots);
+        let root0 = self.put(Device::Root0, root0);
+        let root1 = self.put(Device::Root1, root1);
+        journal.and(slots).and(root0).and(root1)
     }
 
     /// `DEVICE call K once`, or `.. on`
@@ -188,14 +195,14 @@ impl Shelf {
             "on" => Fuse::On(before),
             _ => return Err(Halt::Words),
         };
-        *device.of_mut(&mut self.fuses) = fuse;
+        *self.fuses.of_mut(device) = fuse;
         Ok(())
     }
 
     /// `DEVICE BYTES`
     pub fn set(&mut self, text: &str) -> Result<(), Halt> {
         let (device, rest) = read_device(text)?;
-        let bytes = device.of_mut(&mut self.image.parts);
+        let bytes = self.image.parts.of_mut(device);
         bytes.clear();
         words::put_bytes(rest, bytes)
     }
@@ -203,11 +210,11 @@ impl Shelf {
     /// What a device that is closed has, or had: its bytes, how many, or how many calls.
     pub fn tell(&self, word: &str, rest: &str, out: &mut Text) -> Result<(), Halt> {
         let (device, rest) = read_device(rest)?;
-        let bytes = device.of(&self.image.parts);
+        let bytes = self.image.parts.of(device);
         match word {
             "bytes" => return put_part(bytes, rest, out),
             "length" => out.put_decimal(bytes.len() as u64),
-            _ => out.put_decimal(*device.of(&self.calls)),
+            _ => out.put_decimal(*self.calls.of(device)),
         }
         Ok(())
     }

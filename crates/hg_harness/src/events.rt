@@ -1,7 +1,8 @@
-//! Events as a line names them, one or a row of them.
+//! Events as a line names them, one or a row of them, and as an answer does.
 
 use crate::words::{Halt, number, number_of, short_number};
 use hg_model::event::{Access, Block, Event, Named};
+use hg_text::Text;
 use hg_wire::line::read_line;
 
 /// Events under numbers that follow one another: the first, the last number, and by how many bytes each is further on than
@@ -88,4 +89,46 @@ pub fn put_events(text: &str, events: &mut Vec<Named>) -> Result<(), Halt> {
         events.push(named)?;
     }
     Ok(())
+}
+
+fn put_pair(verb: &[u8], first: u16, second: u16, out: &mut Text) {
+    out.put(verb);
+    out.put_number(b" ", u64::from(first));
+    out.put_number(b" ", u64::from(second));
+}
+
+fn put_access(verb: &[u8], access: Access, out: &mut Text) {
+    out.put(verb);
+    out.put_number(b" ", u64::from(access.t));
+    out.put_number(b" ", access.at);
+    out.put_number(b" ", u64::from(access.len));
+}
+
+fn put_block(verb: &[u8], block: Block, out: &mut Text) {
+    out.put(verb);
+    out.put_number(b" ", u64::from(block.t));
+    out.put_number(b" ", block.at);
+    out.put_number(b" ", u64::from(block.len));
+}
+
+fn put_event(event: Event, out: &mut Text) {
+    match event {
+        Event::Fork { p, c } => put_pair(b"fork", p, c, out),
+        Event::Join { p, c } => put_pair(b"join", p, c, out),
+        Event::Lock { t, l } => put_pair(b"lock", t, l, out),
+        Event::RdLock { t, l } => put_pair(b"rdlock", t, l, out),
+        Event::Unlock { t, l } => put_pair(b"unlock", t, l, out),
+        Event::Read(access) => put_access(b"read", access, out),
+        Event::Write(access) => put_access(b"write", access, out),
+        Event::Alloc(block) => put_block(b"alloc", block, out),
+        Event::Free(block) => put_block(b"free", block, out),
+    }
+}
+
+/// `SOURCE NUMBER EVENT`, with all numbers in decimal.
+pub fn put_named(named: &Named, out: &mut Text) {
+    out.put_decimal(u64::from(named.source));
+    out.put_number(b" ", named.number);
+    out.put(b" ");
+    put_event(named.event, out);
 }

@@ -1,7 +1,6 @@
 //! The four devices by name.
 
 use crate::words::{Halt, front};
-use hg_store::devices::Devices;
 
 #[derive(Clone, Copy)]
 pub enum Device {
@@ -12,6 +11,37 @@ pub enum Device {
 }
 
 pub const DEVICES: [Device; 4] = [Device::Journal, Device::Slots, Device::Root0, Device::Root1];
+
+/// What there is of each device.
+#[derive(Drop)]
+pub struct PerDevice<T> {
+    pub journal: T,
+    pub slots: T,
+    pub root0: T,
+    pub root1: T,
+}
+
+impl<T> PerDevice<T> {
+    /// What there is of this device.
+    pub fn of(&self, device: Device) -> &T {
+        match device {
+            Device::Journal => &self.journal,
+            Device::Slots => &self.slots,
+            Device::Root0 => &self.root0,
+            Device::Root1 => &self.root1,
+        }
+    }
+
+    /// The same, to be changed.
+    pub fn of_mut(&mut self, device: Device) -> &mut T {
+        match device {
+            Device::Journal => &mut self.journal,
+            Device::Slots => &mut self.slots,
+            Device::Root0 => &mut self.root0,
+            Device::Root1 => &mut self.root1,
+        }
+    }
+}
 
 impl Device {
     fn named(word: &str) -> Result<Device, Halt> {
@@ -31,26 +61,6 @@ impl Device {
             Device::Slots => b"slots",
             Device::Root0 => b"root0",
             Device::Root1 => b"root1",
-        }
-    }
-
-    /// What there is of this device.
-    pub fn of<T>(self, parts: &Devices<T>) -> &T {
-        match self {
-            Device::Journal => &parts.journal,
-            Device::Slots => &parts.slots,
-            Device::Root0 => &parts.root0,
-            Device::Root1 => &parts.root1,
-        }
-    }
-
-    /// The same, to be changed.
-    pub fn of_mut<T>(self, parts: &mut Devices<T>) -> &mut T {
-        match self {
-            Device::Journal => &mut parts.journal,
-            Device::Slots => &mut parts.slots,
-            Device::Root0 => &mut parts.root0,
-            Device::Root1 => &mut parts.root1,
         }
     }
 }
