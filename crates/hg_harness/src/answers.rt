@@ -47,25 +47,24 @@ pub fn put_refusal(refusal: Refusal, out: &mut Text) {
     }
 }
 
-/// A fault of a log or of a gated file.
-fn put_fault(fault: GateFault, out: &mut Text) {
-    match fault {
-        GateFault::Broken => out.put(b"broken"),
-        GateFault::Damaged => out.put(b"damaged"),
-        GateFault::DeviceFault => out.put(b"device fault"),
-        GateFault::OutOfMemory => out.put(b"out of memory"),
+/// The answer of a line that was halted, where it has no number.
+fn words_of(halt: Halt) -> &'static str {
+    match halt {
+        Halt::Words => "not understood",
+        Halt::Closed => "nothing is open",
+        Halt::NotEmpty => "not empty",
+        Halt::Fault(GateFault::Broken) => "broken",
+        Halt::Fault(GateFault::Damaged) => "damaged",
+        Halt::Fault(GateFault::DeviceFault) => "device fault",
+        Halt::Memory | Halt::Fault(GateFault::OutOfMemory) => "out of memory",
+        Halt::Refused(_) | Halt::Said => "",
     }
 }
 
 /// The answer of a line that was halted.
 pub fn put_halt(halt: Halt, out: &mut Text) {
     match halt {
-        Halt::Memory => out.put(b"out of memory"),
-        Halt::Words => out.put(b"not understood"),
-        Halt::Closed => out.put(b"nothing is open"),
-        Halt::NotEmpty => out.put(b"not empty"),
         Halt::Refused(refusal) => put_refusal(refusal, out),
-        Halt::Fault(fault) => put_fault(fault, out),
-        Halt::Said => {}
+        _ => out.put(words_of(halt).as_bytes()),
     }
 }

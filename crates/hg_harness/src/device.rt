@@ -1,6 +1,6 @@
 //! The four devices by name.
 
-use crate::words::{Halt, front};
+use crate::words::Words;
 
 #[derive(Clone, Copy)]
 pub enum Device {
@@ -44,16 +44,6 @@ impl<T> PerDevice<T> {
 }
 
 impl Device {
-    fn named(word: &str) -> Result<Device, Halt> {
-        match word {
-            "journal" => Ok(Device::Journal),
-            "slots" => Ok(Device::Slots),
-            "root0" => Ok(Device::Root0),
-            "root1" => Ok(Device::Root1),
-            _ => Err(Halt::Words),
-        }
-    }
-
     /// Its name.
     pub fn name(self) -> &'static [u8] {
         match self {
@@ -65,8 +55,16 @@ impl Device {
     }
 }
 
-/// A device in front, and what follows it.
-pub fn read_device(text: &str) -> Result<(Device, &str), Halt> {
-    let (word, rest) = front(text);
-    Ok((Device::named(word)?, rest))
+/// The device in front.
+pub fn read_device(words: &mut Words) -> Device {
+    match words.word() {
+        "journal" => Device::Journal,
+        "slots" => Device::Slots,
+        "root0" => Device::Root0,
+        "root1" => Device::Root1,
+        _ => {
+            words.fail();
+            Device::Journal
+        }
+    }
 }

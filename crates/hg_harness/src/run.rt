@@ -3,7 +3,6 @@
 use crate::answers::{put_halt, put_ok};
 use crate::words::Halt;
 use hg_text::Text;
-use std::alloc::Global;
 use std::io;
 use std::process::ExitCode;
 
@@ -24,20 +23,17 @@ fn split(line: &str) -> (&str, &str) {
     }
 }
 
-/// How the scenarios went.
-#[derive(Clone, Copy)]
-struct Score {
+/// How the scenarios went so far, and the one that is under way.
+#[derive(Drop)]
+struct Course<'a> {
     passed: u64,
     failed: u64,
-}
-
-/// The scenario that is under way.
-#[derive(Drop)]
-struct Current<'a> {
     name: &'a str,
     has_failed: bool,
     /// What its last line answered.
     answer: Text,
+    /// All that is to be printed.
+    printed: Text,
 }
 
 /// Makes one line, and answers it.
@@ -54,112 +50,87 @@ fn answer(world: &mut impl World, order: &str, out: &mut Text) {
 }
 
 /// Ends a scenario.
-fn end(rt: &impl Print, current: &Current, score: &mut Score) -> io::Result<()> {
-    if current.has_failed {
-        score.failed = score.failed.wrapping_add(1);
-        return Ok(());
+fn end(course: &mut Course) {
+    if course.has_failed {
+        course.failed = course.failed.wrapping_add(1);
+    } else if !course.name.is_empty() {
+        course.passed = course.passed.wrapping_add(1);
+        course.printed.put(b"passed ");
+        course.printed.put(course.name.as_bytes());
+        course.printed.put(b"\n");
     }
-    if current.name.is_empty() {
-        return Ok(());
-    }
-    score.passed = score.passed.wrapping_add(1);
-    let name = current.name;
-    println!(rt; "passed {name}")
 }
 
-/// Whether the last line answered what is wanted.
-fn is_answered(answer: &Text, wanted: &str) -> bool {
-    answer.is_whole() && answer.bytes() == wanted.as_bytes()
+/// Begins a scenario.
+fn begin<'a>(world: &mut impl World, course: &mut Course<'a>, name: &'a str) {
+    course.name = name;
+    course.has_failed = false;
+    world.clear();
 }
 
 /// Makes one line of a scenario, and compares its answer.
-fn make(
-    rt: &impl Print,
-    world: &mut impl World,
-    current: &mut Current,
-    number: usize,
-    line: &str,
-) -> io::Result<()> {
+fn make(world: &mut impl World, course: &mut Course, number: u64, line: &str) {
     let (order, wanted) = split(line);
-    answer(world, order, &mut current.answer);
-    if is_answered(&current.answer, wanted) {
-        return Ok(());
+    answer(world, order, &mut course.answer);
+    if course.answer.is_whole() && course.answer.bytes() == wanted.as_bytes() {
+        return;
     }
-    current.has_failed = true;
-    let name = current.name;
-    let seen = str::from_utf8(current.answer.bytes()).unwrap_or("");
-    println!(rt; "FAILED {name}\n  line {number}: {line}\n  seen: {seen}")
+    course.has_failed = true;
+    let printed = &mut course.printed;
+    printed.put(b"FAILED ");
+    printed.put(course.name.as_bytes());
+    printed.put_number(b"\n  line ", number);
+    printed.put(b": ");
+    printed.put(line.as_bytes());
+    printed.put(b"\n  seen: ");
+    printed.put(course.answer.bytes());
+    printed.put(b"\n");
 }
 
 /// Takes one line of the text.
-fn take<'a>(
-    rt: &impl Print,
-    world: &mut impl World,
-    current: &mut Current<'a>,
-    score: &mut Score,
-    number: usize,
-    line: &'a str,
-) -> io::Result<()> {
-    if line.is_empty() || line.starts_with("#") {
-        return Ok(());
-    }
+fn take<'a>(world: &mut impl World, course: &mut Course<'a>, number: u64, line: &'a str) {
     if let Some(name) = line.strip_prefix("scenario ") {
-        end(rt, current, score)?;
-        current.name = name;
-        current.has_failed = false;
-        world.clear();
-        return Ok(());
+        end(course);
+        begin(world, course, name);
+    } else if !course.has_failed && !line.is_empty() && !line.starts_with("#") {
+        make(world, course, number, line);
     }
-    if current.has_failed {
-        return Ok(());
-    }
-    make(rt, world, current, number, line)
 }
 
-/// Runs all scenarios of a text.
-fn run(
-    rt: &impl Print,
-    alloc: Global,
-    world: &mut impl World,
-    text: &str,
-    score: &mut Score,
-) -> io::Result<()> {
-    let mut current = Current {
+/// Takes all lines of a text, and says how many scenarios passed and failed.
+fn take_all<'a>(world: &mut impl World, course: &mut Course<'a>, text: &'a str) {
+    let mut number = 0_u64;
+    for line in text.lines() {
+        number = number.wrapping_add(1);
+        take(world, course, number, line.trim());
+    }
+    end(course);
+    course.printed.put_decimal(course.passed);
+    course.printed.put_number(b" passed, ", course.failed);
+    course.printed.put(b" failed\n");
+}
+
+/// Runs the scenarios of standard input, and tells whether none failed.
+fn run(rt: &HostRuntime, world: &mut impl World) -> io::Result<bool> {
+    let alloc = rt.alloc();
+    let text = io::read_to_string(alloc, rt.stdin())?;
+    let mut course = Course {
+        passed: 0,
+        failed: 0,
         name: "",
         has_failed: false,
         answer: Text::new(alloc),
+        printed: Text::new(alloc),
     };
-    for (i, line) in text.lines().enumerate() {
-        take(
-            rt,
-            world,
-            &mut current,
-            score,
-            i.wrapping_add(1),
-            line.trim(),
-        )?;
-    }
-    end(rt, &current, score)
-}
-
-/// Runs the scenarios of standard input, and says how many passed and failed.
-fn run_all(rt: &HostRuntime, world: &mut impl World, score: &mut Score) -> io::Result<()> {
-    let alloc = rt.alloc();
-    let text = io::read_to_string(alloc, rt.stdin())?;
-    run(rt, alloc, world, text.as_str(), score)?;
-    let passed = score.passed;
-    let failed = score.failed;
-    println!(rt; "{passed} passed, {failed} failed")
+    take_all(world, &mut course, text.as_str());
+    let printed = course.printed.print(&mut rt.stdout());
+    Ok(printed.is_ok() && course.failed == 0)
 }
 
 /// Runs the scenarios of standard input, prints a line for each, and says how many passed and failed. Fails where one did.
 pub fn run_input(rt: &HostRuntime, world: &mut impl World) -> ExitCode {
-    let mut score = Score {
-        passed: 0,
-        failed: 0,
-    };
-    match run_all(rt, world, &mut score) {
-        Ok(()) if score.failed == 0 => ExitCode::SUCCESS,
+    match run(rt, world) {
+        Ok(true) => ExitCode::SUCCESS,
         _ => ExitCode::FAILURE,
     }
 }

@@ -3,8 +3,8 @@
 use crate::answers::put_bytes;
 use crate::device::{DEVICES, Device, PerDevice, read_device};
 use crate::disks::Disks;
-use crate::tears::{Tears, tear};
-use crate::words::{self, Halt, number_after};
+use crate::tears::tear;
+use crate::words::{self, Halt, Words};
 use hg_disk::{FuseDisk, MemDisk, Tear};
 use hg_text::Text;
 use std::alloc::{AllocError, Global};
@@ -12,19 +12,22 @@ use std::alloc::{AllocError, Global};
 /// A disk of a scenario.
 pub type Held = FuseDisk<MemDisk>;
 
-/// When a disk fails: never, at the call after so many, or at all calls after so many.
+/// When a disk fails: at the call after so many, or at all calls after so many.
 #[derive(Clone, Copy)]
 pub enum Fuse {
-    Never,
     Once(u64),
     On(u64),
 }
 
+/// More calls than are made.
+const NEVER: Fuse = Fuse::Once(u64::MAX);
+
+/// No disk fails.
 pub const NO_FUSES: PerDevice<Fuse> = PerDevice {
-    journal: Fuse::Never,
-    slots: Fuse::Never,
-    root0: Fuse::Never,
-    root1: Fuse::Never,
+    journal: NEVER,
+    slots: NEVER,
+    root0: NEVER,
+    root1: NEVER,
 };
 
 const NO_CALLS: PerDevice<u64> = PerDevice {
@@ -91,7 +94,6 @@ fn memory_with(alloc: Global, bytes: &[u8]) -> Result<MemDisk, AllocError> {
 pub fn disk_with(alloc: Global, bytes: &[u8], fuse: Fuse) -> Result<Held, AllocError> {
     let disk = memory_with(alloc, bytes)?;
     Ok(match fuse {
-        Fuse::Never => FuseDisk::once(disk, u64::MAX),
         Fuse::Once(after) => FuseDisk::once(disk, after.saturating_add(1)),
         Fuse::On(after) => FuseDisk::stop(disk, after.saturating_add(1)),
     })
@@ -127,15 +129,18 @@ fn put_back(
 }
 
 /// All bytes, or with `from N count M` those of them.
-fn put_part(bytes: &[u8], text: &str, out: &mut Text) -> Result<(), Halt> {
-    if text.is_empty() {
+fn put_part(bytes: &[u8], words: &mut Words, out: &mut Text) -> Result<(), Halt> {
+    if words.rest().is_empty() {
         put_bytes(bytes, out);
         return Ok(());
     }
-    let (from, rest) = number_after("from ", text)?;
-    let (count, _) = number_after("count ", rest)?;
-    let behind = bytes.split_at(bytes.len().min(from as usize)).1;
-    put_bytes(behind.split_at(behind.len().min(count as usize)).0, out);
+    words.expect("from ");
+    let from = words.number() as usize;
+    words.expect("count ");
+    let count = words.number() as usize;
+    words.check()?;
+    let behind = bytes.split_at(bytes.len().min(from)).1;
+    put_bytes(behind.split_at(behind.len().min(count)).0, out);
     Ok(())
 }
 
@@ -160,7 +165,7 @@ impl Shelf {
     /// A disk of its own for what is to be opened.
     pub fn take(&mut self, alloc: Global, device: Device) -> Result<Held, AllocError> {
         let fuse = *self.fuses.of(device);
-        *self.fuses.of_mut(device) = Fuse::Never;
+        *self.fuses.of_mut(device) = NEVER;
         disk_with(alloc, self.image.parts.of(device), fuse)
     }
 
@@ -187,32 +192,38 @@ impl Shelf {
 
     /// `DEVICE call K once`, or `.. on`
     pub fn fail(&mut self, text: &str) -> Result<(), Halt> {
-        let (device, rest) = read_device(text)?;
-        let (call, rest) = number_after("call ", rest)?;
-        let before = call.saturating_sub(1);
-        let fuse = match rest {
+        let mut words = Words::of(text);
+        let device = read_device(&mut words);
+        words.expect("call ");
+        let before = words.number().saturating_sub(1);
+        let fuse = match words.rest() {
             "once" => Fuse::Once(before),
             "on" => Fuse::On(before),
             _ => return Err(Halt::Words),
         };
+        words.check()?;
         *self.fuses.of_mut(device) = fuse;
         Ok(())
     }
 
     /// `DEVICE BYTES`
     pub fn set(&mut self, text: &str) -> Result<(), Halt> {
-        let (device, rest) = read_device(text)?;
+        let mut words = Words::of(text);
+        let device = read_device(&mut words);
+        words.check()?;
         let bytes = self.image.parts.of_mut(device);
         bytes.clear();
-        words::put_bytes(rest, bytes)
+        words::put_bytes(words.rest(), bytes)
     }
 
     /// What a device that is closed has, or had: its bytes, how many, or how many calls.
     pub fn tell(&self, word: &str, rest: &str, out: &mut Text) -> Result<(), Halt> {
-        let (device, rest) = read_device(rest)?;
+        let mut words = Words::of(rest);
+        let device = read_device(&mut words);
+        words.check()?;
         let bytes = self.image.parts.of(device);
         match word {
-            "bytes" => return put_part(bytes, rest, out),
+            "bytes" => return put_part(bytes, &mut words, out),
             "length" => out.put_decimal(bytes.len() as u64),
             _ => out.put_decimal(*self.calls.of(device)),
         }
@@ -221,11 +232,10 @@ impl Shelf {
 
     /// Has each disk that is put back be torn as is told, until it is told otherwise.
     pub fn tear_by(&mut self, text: &str) -> Result<(), Halt> {
-        let (found, _) = tear(text)?;
-        match found {
-            Tears::One(found) => self.tear = found,
-            Tears::Fronts(_) => return Err(Halt::Words),
-        }
+        let mut words = Words::of(text);
+        let tear = tear(&mut words);
+        words.check()?;
+        self.tear = tear;
         Ok(())
     }
 }

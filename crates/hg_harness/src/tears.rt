@@ -1,7 +1,7 @@
 //! What a crash makes of the writes of a disk that are not synced.
 
 use crate::answers::put_byte;
-use crate::words::{Halt, byte_of, front, number};
+use crate::words::{Halt, Words};
 use hg_disk::Tear;
 use hg_text::Text;
 use std::alloc::Global;
@@ -14,62 +14,58 @@ pub enum Tears {
     Fronts(usize),
 }
 
-fn fill(text: &str) -> Result<(Tears, &str), Halt> {
-    let (digits, rest) = front(text);
-    Ok((Tears::One(Tear::Fill(byte_of(digits)?)), rest))
-}
-
-/// A count in front, and what follows it.
-fn count(text: &str) -> Result<(usize, &str), Halt> {
-    let (count, rest) = number(text)?;
-    Ok((usize::try_from(count)?, rest))
-}
-
-fn fronts(text: &str) -> Result<(Tears, &str), Halt> {
-    let (step, rest) = count(text)?;
-    if step == 0 {
-        return Err(Halt::Words);
+fn fronts(words: &mut Words) -> Tears {
+    if words.skip("*") {
+        return Tears::Fronts(1);
     }
-    Ok((Tears::Fronts(step), rest))
+    if words.skip("every ") {
+        let step = words.number() as usize;
+        if step == 0 {
+            words.fail();
+        }
+        return Tears::Fronts(step);
+    }
+    Tears::One(Tear::Front(words.number() as usize))
 }
 
-fn front_of(text: &str) -> Result<(Tears, &str), Halt> {
-    if let Some(rest) = text.strip_prefix("*") {
-        return Ok((Tears::Fronts(1), rest.trim_start()));
+/// The tears in front: `lost`, `kept`, `fill HH`, `front N`; `front *` is each front, `front every N` those that have a multiple of
+/// N bytes.
+fn next_tears(words: &mut Words) -> Tears {
+    match words.word() {
+        "lost" => Tears::One(Tear::Lost),
+        "kept" => Tears::One(Tear::Kept),
+        "fill" => Tears::One(Tear::Fill(words.byte())),
+        "front" => fronts(words),
+        _ => {
+            words.fail();
+            Tears::One(Tear::Lost)
+        }
     }
-    if let Some(rest) = text.strip_prefix("every ") {
-        return fronts(rest);
-    }
-    let (length, rest) = count(text)?;
-    Ok((Tears::One(Tear::Front(length)), rest))
 }
 
-/// Tears in front, and what follows them: `lost`, `kept`, `fill HH`, `front N`; `front *` is each front, `front every N` those that
-/// have a multiple of N bytes.
-pub fn tear(text: &str) -> Result<(Tears, &str), Halt> {
-    let (word, rest) = front(text);
-    match word {
-        "lost" => Ok((Tears::One(Tear::Lost), rest)),
-        "kept" => Ok((Tears::One(Tear::Kept), rest)),
-        "fill" => fill(rest),
-        "front" => front_of(rest),
-        _ => Err(Halt::Words),
+/// The tear in front, which has to be one.
+pub fn tear(words: &mut Words) -> Tear {
+    match next_tears(words) {
+        Tears::One(tear) => tear,
+        Tears::Fronts(_) => {
+            words.fail();
+            Tear::Lost
+        }
     }
 }
 
 /// The tears that words name.
-pub fn tears_of(alloc: Global, words: &str) -> Result<Vec<Tears>, Halt> {
-    let mut tears = Vec::new(alloc);
-    let mut rest = words;
-    for _ in 0..words.len() {
-        if rest.is_empty() {
-            return Ok(tears);
+pub fn tears_of(alloc: Global, text: &str) -> Result<Vec<Tears>, Halt> {
+    let mut found = Vec::new(alloc);
+    let mut words = Words::of(text);
+    for _ in 0..text.len() {
+        if words.rest().is_empty() {
+            break;
         }
-        let (found, behind) = tear(rest)?;
-        tears.push(found)?;
-        rest = behind;
+        found.push(next_tears(&mut words))?;
     }
-    Ok(tears)
+    words.check()?;
+    Ok(found)
 }
 
 /// A tear, as a line names it.

@@ -5,7 +5,6 @@ ghost use Rattle.std.specs.Prelude.{◌<◌, IfOk};
 use hg_gate::GateFault;
 use hg_model::verdict::Refusal;
 use std::alloc::{AllocError, AllocFailed};
-use std::num::TryFromIntError;
 
 /// Why a line has no other answer.
 #[derive(Clone, Copy)]
@@ -38,12 +37,6 @@ impl<T: Drop> From<AllocFailed<T>> for Halt {
     }
 }
 
-impl From<TryFromIntError> for Halt {
-    fn from(_: TryFromIntError) -> Halt {
-        Halt::Words
-    }
-}
-
 impl From<Refusal> for Halt {
     fn from(refusal: Refusal) -> Halt {
         Halt::Refused(refusal)
@@ -64,37 +57,99 @@ pub fn front(text: &str) -> (&str, &str) {
     }
 }
 
-/// The number that a word spells.
-pub fn number_of(word: &str) -> Result<u64, Halt> {
-    match word.parse::<u64>() {
-        Ok(value) => Ok(value),
-        Err(_) => Err(Halt::Words),
+/// What is left of a line, word by word. Where it is not understood, that is noted, and nobody need ask before the end; what is read
+/// then means nothing.
+#[derive(Clone, Copy)]
+pub struct Words<'a> {
+    rest: &'a str,
+    is_understood: bool,
+}
+
+impl<'a> Words<'a> {
+    /// The words of a text.
+    pub fn of(text: &'a str) -> Words<'a> {
+        Words {
+            rest: text,
+            is_understood: true,
+        }
     }
-}
 
-/// A number in front, and what follows it.
-pub fn number(text: &str) -> Result<(u64, &str), Halt> {
-    let (word, rest) = front(text);
-    Ok((number_of(word)?, rest))
-}
-
-/// A number below 2^16 in front, and what follows it.
-pub fn short_number(text: &str) -> Result<(u16, &str), Halt> {
-    let (value, rest) = number(text)?;
-    Ok((u16::try_from(value)?, rest))
-}
-
-/// What follows a word that has to stand in front.
-pub fn after<'a>(word: &str, text: &'a str) -> Result<&'a str, Halt> {
-    match text.strip_prefix(word) {
-        Some(rest) => Ok(rest.trim_start()),
-        None => Err(Halt::Words),
+    /// What is left.
+    pub fn rest(&self) -> &'a str {
+        self.rest
     }
-}
 
-/// A number behind a word that has to stand in front, and what follows it.
-pub fn number_after<'a>(word: &str, text: &'a str) -> Result<(u64, &'a str), Halt> {
-    number(after(word, text)?)
+    /// Notes that it is not understood.
+    pub fn fail(&mut self) {
+        self.is_understood = false;
+    }
+
+    /// Whether all was understood so far.
+    pub fn check(&self) -> Result<(), Halt> {
+        if self.is_understood {
+            Ok(())
+        } else {
+            Err(Halt::Words)
+        }
+    }
+
+    /// The word in front.
+    pub fn word(&mut self) -> &'a str {
+        let (word, rest) = front(self.rest);
+        self.rest = rest;
+        word
+    }
+
+    /// Whether these words stand in front. They are passed over then.
+    pub fn skip(&mut self, words: &str) -> bool {
+        match self.rest.strip_prefix(words) {
+            Some(rest) => {
+                self.rest = rest.trim_start();
+                true
+            }
+            None => false,
+        }
+    }
+
+    /// Passes over words that have to stand in front.
+    pub fn expect(&mut self, words: &str) {
+        if !self.skip(words) {
+            self.is_understood = false;
+        }
+    }
+
+    /// The number in front.
+    pub fn number(&mut self) -> u64 {
+        match self.word().parse::<u64>() {
+            Ok(value) => value,
+            Err(_) => {
+                self.is_understood = false;
+                0
+            }
+        }
+    }
+
+    /// The number in front, which is below 2^16.
+    pub fn short_number(&mut self) -> u16 {
+        match u16::try_from(self.number()) {
+            Ok(value) => value,
+            Err(_) => {
+                self.is_understood = false;
+                0
+            }
+        }
+    }
+
+    /// The byte in front, two hexadecimal digits.
+    pub fn byte(&mut self) -> u8 {
+        match byte_of(self.word()) {
+            Ok(byte) => byte,
+            Err(_) => {
+                self.is_understood = false;
+                0
+            }
+        }
+    }
 }
 
 fn digit(byte: u8) -> Result<u8, Halt>
@@ -108,28 +163,30 @@ fn digit(byte: u8) -> Result<u8, Halt>
 }
 
 /// The byte that two hexadecimal digits spell.
-pub fn byte_of(digits: &str) -> Result<u8, Halt> {
+fn byte_of(digits: &str) -> Result<u8, Halt> {
     match digits.as_bytes() {
         [high, low] => Ok(16 * digit(*high)? + digit(*low)?),
         _ => Err(Halt::Words),
     }
 }
 
-/// A byte, and how many of them: `07` is one, `07*3` are three.
-fn repeated(word: &str) -> Result<(u8, u64), Halt> {
-    match word.split_once('*') {
-        Some((digits, count)) => Ok((byte_of(digits)?, number_of(count)?)),
-        None => Ok((byte_of(word)?, 1)),
+/// Appends the bytes that a word spells: `07` is one, `07*3` are three.
+fn put_repeated(word: &str, bytes: &mut Vec<u8>) -> Result<(), Halt> {
+    let (digits, count) = word.split_once('*').unwrap_or((word, "1"));
+    let byte = byte_of(digits)?;
+    let mut words = Words::of(count);
+    let count = words.number();
+    words.check()?;
+    for _ in 0..count {
+        bytes.push(byte)?;
     }
+    Ok(())
 }
 
 /// Appends the bytes that words spell.
 pub fn put_bytes(words: &str, bytes: &mut Vec<u8>) -> Result<(), Halt> {
     for word in words.split_whitespace() {
-        let (byte, count) = repeated(word)?;
-        for _ in 0..count {
-            bytes.push(byte)?;
-        }
+        put_repeated(word, bytes)?;
     }
     Ok(())
 }

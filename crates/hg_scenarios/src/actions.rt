@@ -7,7 +7,7 @@ use hg_harness::words::Halt;
 use hg_model::event::Named;
 use hg_model::verdict::Refusal;
 use hg_pool::Put;
-use hg_store::steps::{StepFault, StepResult, StorePhase};
+use hg_store::steps::StorePhase;
 use hg_text::Text;
 use std::alloc::Global;
 
@@ -45,41 +45,6 @@ pub enum Told {
     NoPage,
     /// No store is open.
     Closed,
-}
-
-fn fault_told(fault: StepFault) -> Told {
-    match fault {
-        StepFault::WrongPhase(phase) => Told::WrongPhase(phase),
-        StepFault::Refused(cause) => Told::Refused(Refusal::from(cause)),
-    }
-}
-
-fn done_told(done: &Result<(), StepFault>) -> Told {
-    match done {
-        Ok(()) => Told::Done,
-        Err(fault) => fault_told(*fault),
-    }
-}
-
-/// What a step was answered.
-pub fn told_of(answer: &StepResult) -> Told {
-    match answer {
-        StepResult::Offered(Ok(offered)) => Told::Offered(*offered),
-        StepResult::Offered(Err(refusal)) => Told::Refused(*refusal),
-        StepResult::Committed(Ok(count)) => Told::Committed(*count),
-        StepResult::Committed(Err(refusal)) => Told::Refused(*refusal),
-        StepResult::Frozen(done) => done_told(done),
-        StepResult::Taken(Ok(Some(job))) => Told::Page(job.page),
-        StepResult::Taken(Ok(None)) => Told::NoneWaits,
-        StepResult::Taken(Err(fault)) => fault_told(*fault),
-        StepResult::Put(Ok(put)) => Told::Put(*put),
-        StepResult::Put(Err(fault)) => fault_told(*fault),
-        StepResult::Sealed(done) => done_told(done),
-        StepResult::Prepared(done) => done_told(done),
-        StepResult::Written(done) => done_told(done),
-        StepResult::Opened(Ok(number)) => Told::Root(*number),
-        StepResult::Opened(Err(fault)) => fault_told(*fault),
-    }
 }
 
 /// The name of a phase.

@@ -1,19 +1,148 @@
 //! A store over disks in memory, and what was done to it.
 
-use crate::actions::{Action, Told, put_told, told_of};
-use crate::opening::{OpenStore, Opening, disks_of, open};
+ghost use Rattle.std.specs.Prelude.{◌≤◌};
+
+use crate::actions::{Action, Told, put_told};
+use crate::machine::Machine;
+use crate::opening::Opening;
+use crate::telling::{put_answer, put_contents, put_durable};
 use hg_harness::device::PerDevice;
-use hg_harness::disks::{Disks, Memories};
+use hg_harness::disks::Disks;
 use hg_harness::shelf::{Fuse, Held, Image};
 use hg_harness::words::Halt;
 use hg_model::verdict::Refusal;
-use hg_pages::EncodedPage;
+use hg_pages::{EncodedPage, MOST_SLOTS};
 use hg_pool::Job;
+use hg_sets::MOST_SETS;
 use hg_store::create::CreateFault;
+use hg_store::devices::{Caps, Devices};
 use hg_store::drive::StepAnswer;
-use hg_store::steps::{Step, StepResult};
+use hg_store::steps::{Step, StepFault, StepResult};
+use hg_store::store::Store;
 use hg_text::Text;
 use std::alloc::{AllocError, Global};
+
+/// A store over disks in memory.
+pub type OpenStore = Store<Held>;
+
+/// A store, or why it was refused, with its disks.
+type Opened = Result<OpenStore, (CreateFault, Devices<Held>)>;
+
+fn devices_of(disks: Disks) -> Devices<Held> {
+    let PerDevice {
+        journal,
+        slots,
+        root0,
+        root1,
+    } = disks.into_parts();
+    Devices {
+        journal,
+        slots,
+        root0,
+        root1,
+    }
+}
+
+/// The disks of a store.
+fn disks_of(devices: Devices<Held>) -> Disks {
+    let Devices {
+        journal,
+        slots,
+        root0,
+        root1,
+    } = devices;
+    Disks::of(PerDevice {
+        journal,
+        slots,
+        root0,
+        root1,
+    })
+}
+
+/// A limit of a store, which is at most this one.
+fn limit(wanted: u64, most: u32) -> u32
+    requires { 1 ≤ most }
+    ensures { (1 ≤ result) × (result ≤ most) }
+{
+    u32::try_from(wanted).unwrap_or(most).clamp(1, most)
+}
+
+fn caps_of(opening: Opening) -> Caps
+    ensures sets { (1 ≤ result.sets) × (result.sets ≤ MOST_SETS) }
+    ensures slots { (1 ≤ result.slots) × (result.slots ≤ MOST_SLOTS) }
+{
+    Caps {
+        sets: limit(opening.sets, MOST_SETS),
+        slots: limit(opening.slots, MOST_SLOTS),
+    }
+}
+
+fn frames_of(opening: Opening) -> u16
+    ensures { (4 ≤ result) × (result ≤ 4096) }
+{
+    opening.frames.clamp(4, 4096)
+}
+
+fn recover(alloc: Global, disks: Disks, opening: Opening) -> Opened {
+    match Store::recover(
+        alloc,
+        devices_of(disks),
+        frames_of(opening),
+        caps_of(opening),
+    ) {
+        Ok(store) => Ok(store),
+        Err((refusal, devices)) => Err((CreateFault::Refused(refusal), devices)),
+    }
+}
+
+/// Makes or recovers a store. A refusal hands the disks back.
+fn open(alloc: Global, disks: Disks, opening: Opening) -> Opened {
+    if opening.is_new {
+        Store::create(
+            alloc,
+            devices_of(disks),
+            frames_of(opening),
+            caps_of(opening),
+        )
+    } else {
+        recover(alloc, disks, opening)
+    }
+}
+
+fn fault_told(fault: StepFault) -> Told {
+    match fault {
+        StepFault::WrongPhase(phase) => Told::WrongPhase(phase),
+        StepFault::Refused(cause) => Told::Refused(Refusal::from(cause)),
+    }
+}
+
+fn done_told(done: &Result<(), StepFault>) -> Told {
+    match done {
+        Ok(()) => Told::Done,
+        Err(fault) => fault_told(*fault),
+    }
+}
+
+/// What a step was answered.
+fn told_of(answer: &StepResult) -> Told {
+    match answer {
+        StepResult::Offered(Ok(offered)) => Told::Offered(*offered),
+        StepResult::Offered(Err(refusal)) => Told::Refused(*refusal),
+        StepResult::Committed(Ok(count)) => Told::Committed(*count),
+        StepResult::Committed(Err(refusal)) => Told::Refused(*refusal),
+        StepResult::Frozen(done) => done_told(done),
+        StepResult::Taken(Ok(Some(job))) => Told::Page(job.page),
+        StepResult::Taken(Ok(None)) => Told::NoneWaits,
+        StepResult::Taken(Err(fault)) => fault_told(*fault),
+        StepResult::Put(Ok(put)) => Told::Put(*put),
+        StepResult::Put(Err(fault)) => fault_told(*fault),
+        StepResult::Sealed(done) => done_told(done),
+        StepResult::Prepared(done) => done_told(done),
+        StepResult::Written(done) => done_told(done),
+        StepResult::Opened(Ok(number)) => Told::Root(*number),
+        StepResult::Opened(Err(fault)) => fault_told(*fault),
+    }
+}
 
 /// A store, if one is open, and what was done to it since then.
 pub struct Play {
@@ -180,68 +309,11 @@ impl Play {
         self.page = page;
     }
 
-    /// Lets go of the store, and keeps what was done to it.
-    pub fn leave(&mut self) {
-        self.put_opened(None);
-    }
-
     /// The store, if one is open.
-    pub fn store(&self) -> Result<&OpenStore, Halt> {
+    fn store(&self) -> Result<&OpenStore, Halt> {
         match &self.opened {
             Some(store) => Ok(store),
             None => Err(Halt::Closed),
-        }
-    }
-
-    /// The same, to be changed.
-    pub fn store_mut(&mut self) -> Result<&mut OpenStore, Halt> {
-        match &mut self.opened {
-            Some(store) => Ok(store),
-            None => Err(Halt::Closed),
-        }
-    }
-
-    /// What was done since the store was opened.
-    pub fn made(&self) -> &[Action] {
-        &self.made
-    }
-
-    /// The disks of the store, or of one that was refused.
-    pub fn close(&mut self) -> Option<Disks> {
-        match self.opened.take() {
-            Some(store) => Some(disks_of(store.into_devices())),
-            None => self.left.take(),
-        }
-    }
-
-    /// The same, and what is below their fuses.
-    pub fn memories(&mut self) -> Result<Memories, AllocError> {
-        match self.close() {
-            Some(disks) => Ok(disks.into_memories()),
-            None => Err(AllocError),
-        }
-    }
-
-    /// Opens a store over disks with these bytes, and tells how many events it has.
-    pub fn open(
-        &mut self,
-        image: &Image,
-        fuses: &PerDevice<Fuse>,
-        opening: Opening,
-    ) -> Result<u64, Halt> {
-        self.put_page(None);
-        self.made.clear();
-        let disks = Disks::new(self.alloc, image, fuses)?;
-        match open(self.alloc, disks, opening) {
-            Ok(store) => {
-                let events = store.events().unwrap_or(0);
-                self.put_opened(Some(store));
-                Ok(events)
-            }
-            Err((fault, devices)) => {
-                self.put_left(Some(disks_of(devices)));
-                Err(halt_of(fault))
-            }
         }
     }
 
@@ -264,9 +336,32 @@ impl Play {
             other => told_of(&other),
         }
     }
+}
 
-    /// Does what an action says, and notes it.
-    pub fn make(&mut self, action: Action) -> Told {
+impl Machine for Play {
+    fn open(
+        &mut self,
+        image: &Image,
+        fuses: &PerDevice<Fuse>,
+        opening: Opening,
+    ) -> Result<u64, Halt> {
+        self.leave();
+        self.made.clear();
+        let disks = Disks::new(self.alloc, image, fuses)?;
+        match open(self.alloc, disks, opening) {
+            Ok(store) => {
+                let events = store.events().unwrap_or(0);
+                self.put_opened(Some(store));
+                Ok(events)
+            }
+            Err((fault, devices)) => {
+                self.put_left(Some(disks_of(devices)));
+                Err(halt_of(fault))
+            }
+        }
+    }
+
+    fn make(&mut self, action: Action) -> Told {
         let Some(store) = &mut self.opened else {
             return Told::Closed;
         };
@@ -283,13 +378,46 @@ impl Play {
         }
     }
 
-    /// Has the store make all that actions say at once, and notes it.
-    pub fn drive(&mut self, actions: &[Action], out: &mut Text) -> Result<(), Halt> {
+    fn drive(&mut self, actions: &[Action], out: &mut Text) -> Result<(), Halt> {
         let Some(store) = &mut self.opened else {
             return Err(Halt::Closed);
         };
         let steps = steps_of(self.alloc, actions, &self.page, out)?;
         note_all(actions, &mut self.made)?;
         drive(self.alloc, store, &steps, out)
+    }
+
+    fn made(&self) -> &[Action] {
+        &self.made
+    }
+
+    fn tell(&self, line: &str, out: &mut Text) -> Result<(), Halt> {
+        put_answer(self.alloc, self.store()?, line, out)
+    }
+
+    fn put_contents(&self, out: &mut Text) -> Result<(), Halt> {
+        let store = self.store()?;
+        store.phase()?;
+        Ok(put_contents(self.alloc, store, out)?)
+    }
+
+    fn put_durable(&mut self, text: &str, out: &mut Text) -> Result<(), Halt> {
+        match &mut self.opened {
+            Some(store) => put_durable(self.alloc, store, text, out),
+            None => Err(Halt::Closed),
+        }
+    }
+
+    fn close(&mut self) -> Option<Disks> {
+        match self.opened.take() {
+            Some(store) => Some(disks_of(store.into_devices())),
+            None => self.left.take(),
+        }
+    }
+
+    fn leave(&mut self) {
+        self.put_opened(None);
+        self.put_left(None);
+        self.put_page(None);
     }
 }

@@ -2,9 +2,8 @@
 
 use crate::actions::{Action, Told, put_told};
 use crate::checkpoints::checkpoint;
+use crate::machine::Machine;
 use crate::opening::Opening;
-use crate::play::Play;
-use crate::telling::put_contents;
 use hg_detect::detector::Answer;
 use hg_disk::Tear;
 use hg_harness::device::{Device, PerDevice};
@@ -28,7 +27,6 @@ pub struct Origin {
 /// How a store came to be, and what was done to it since then.
 #[derive(Clone, Copy)]
 pub struct Run<'a> {
-    pub alloc: Global,
     pub origin: &'a Origin,
     pub actions: &'a [Action],
 }
@@ -43,32 +41,36 @@ pub struct Progress {
     pub in_doubt: bool,
 }
 
-pub const NO_PROGRESS: Progress = Progress {
-    is_open: false,
-    acknowledged: 0,
-    accepted: 0,
-    in_doubt: false,
-};
-
-/// What a run without a stop comes to: its accepted events, and all that is told of them in the end.
-pub struct Reference {
+/// What runs are made again with, and what they come to. What lies in it is filled anew, so that nothing is let go of at an exit.
+#[derive(Drop)]
+pub struct Rerun<M> {
+    pub machine: M,
+    /// What a stop leaves.
+    pub image: Image,
+    /// The events that the run without a stop accepted.
     accepted: Vec<Named>,
+    /// All that is told of them in the end.
     contents: Text,
+    /// All that is told after a stop.
+    found: Text,
 }
 
-impl Drop for Reference {
-    fn drop(self) {
-        let Reference {
-            accepted: _,
-            contents: _,
-        } = self;
+impl<M> Rerun<M> {
+    pub fn new(alloc: Global, machine: M) -> Rerun<M> {
+        Rerun {
+            machine,
+            image: Image::new(alloc),
+            accepted: Vec::new(alloc),
+            contents: Text::new(alloc),
+            found: Text::new(alloc),
+        }
     }
 }
 
 /// Does what the actions say, up to the first that a device's fault ends: there the run stops. Counts their answers in.
-fn make_all(play: &mut Play, actions: &[Action], progress: &mut Progress) {
+fn make_all(machine: &mut impl Machine, actions: &[Action], progress: &mut Progress) {
     for action in actions {
-        match play.make(*action) {
+        match machine.make(*action) {
             Told::Offered(Answer::Accepted) => {
                 progress.accepted = progress.accepted.wrapping_add(1);
             }
@@ -82,68 +84,69 @@ fn make_all(play: &mut Play, actions: &[Action], progress: &mut Progress) {
     }
 }
 
-/// Makes a run again where one device fails from a call on, and gives its disks.
-pub fn stop_run(
-    run: Run,
-    device: Device,
-    after: u64,
-    progress: &mut Progress,
-) -> Result<Memories, AllocError> {
-    let mut fuses = NO_FUSES;
-    *fuses.of_mut(device) = Fuse::On(after);
-    let mut play = Play::new(run.alloc);
-    let opened = play.open(&run.origin.start, &fuses, run.origin.opening);
-    *progress = Progress {
-        is_open: opened.is_ok(),
-        acknowledged: run.origin.base,
-        accepted: run.origin.base,
+/// The disks of what is open, below their fuses.
+fn memories_of(machine: &mut impl Machine) -> Result<Memories, AllocError> {
+    match machine.close() {
+        Some(disks) => Ok(disks.into_memories()),
+        None => Err(AllocError),
+    }
+}
+
+/// Makes a run again with disks that fail as is told, and tells how far it came.
+fn run_again(machine: &mut impl Machine, run: Run, fuses: &PerDevice<Fuse>) -> Progress {
+    let origin = run.origin;
+    let mut progress = Progress {
+        is_open: machine.open(&origin.start, fuses, origin.opening).is_ok(),
+        acknowledged: origin.base,
+        accepted: origin.base,
         in_doubt: false,
     };
     if progress.is_open {
-        make_all(&mut play, run.actions, progress);
+        make_all(machine, run.actions, &mut progress);
     }
-    play.memories()
+    progress
+}
+
+/// Makes a run again where one device fails from a call on, and gives how far it came and its disks.
+pub fn stop_run(
+    machine: &mut impl Machine,
+    run: Run,
+    device: Device,
+    after: u64,
+) -> Result<(Progress, Memories), AllocError> {
+    let mut fuses = NO_FUSES;
+    *fuses.of_mut(device) = Fuse::On(after);
+    let progress = run_again(machine, run, &fuses);
+    Ok((progress, memories_of(machine)?))
 }
 
 /// Does what the actions say, and keeps the events that were accepted.
 fn follow(
-    play: &mut Play,
+    machine: &mut impl Machine,
     actions: &[Action],
     accepted: &mut Vec<Named>,
 ) -> Result<(), AllocError> {
+    accepted.clear();
     for action in actions {
-        if let (Action::Offer(named), Told::Offered(Answer::Accepted)) = (
-            *action,
-            play.make(*action),
-        ) {
+        let told = machine.make(*action);
+        if let (Action::Offer(named), Told::Offered(Answer::Accepted)) = (*action, told) {
             accepted.push(named)?;
         }
     }
     Ok(())
 }
 
-/// Makes a run again and then a commit, and describes the store.
-fn describe(run: Run, play: &mut Play, reference: &mut Reference) -> Result<(), Halt> {
-    play.open(&run.origin.start, &NO_FUSES, run.origin.opening)?;
-    follow(play, run.actions, &mut reference.accepted)?;
-    let Told::Committed(_) = play.make(Action::Commit) else {
+/// Makes a run again without a stop and then a commit, and keeps what it comes to.
+pub fn refer<M: Machine>(rerun: &mut Rerun<M>, run: Run) -> Result<(), Halt> {
+    let origin = run.origin;
+    let machine = &mut rerun.machine;
+    machine.open(&origin.start, &NO_FUSES, origin.opening)?;
+    follow(machine, run.actions, &mut rerun.accepted)?;
+    let Told::Committed(_) = machine.make(Action::Commit) else {
         return Err(Halt::Closed);
     };
-    put_contents(run.alloc, play.store()?, &mut reference.contents)?;
-    Ok(())
-}
-
-/// What the run comes to without a stop.
-pub fn reference_of(run: Run) -> Result<Reference, Halt> {
-    let mut reference = Reference {
-        accepted: Vec::new(run.alloc),
-        contents: Text::new(run.alloc),
-    };
-    let mut play = Play::new(run.alloc);
-    match describe(run, &mut play, &mut reference) {
-        Ok(()) => Ok(reference),
-        Err(_) => Err(Halt::Closed),
-    }
+    rerun.contents.clear();
+    machine.put_contents(&mut rerun.contents)
 }
 
 /// Whether an event that is offered again is a duplicate where it was found, and else is accepted.
@@ -157,7 +160,7 @@ fn is_expected(told: Told, was_found: bool) -> bool {
 
 /// Offers all events of the run again, and counts them. Those that were found are duplicates.
 fn offer_all(
-    play: &mut Play,
+    machine: &mut impl Machine,
     accepted: &[Named],
     base: u64,
     found: u64,
@@ -165,7 +168,7 @@ fn offer_all(
 ) -> Result<u64, Halt> {
     let mut place = base;
     for event in accepted {
-        if !is_expected(play.make(Action::Offer(*event)), place < found) {
+        if !is_expected(machine.make(Action::Offer(*event)), place < found) {
             out.put_number(b"answers event ", place.wrapping_add(1));
             return Err(Halt::Said);
         }
@@ -175,8 +178,8 @@ fn offer_all(
 }
 
 /// Commits as many events.
-fn commit(play: &mut Play, count: u64, out: &mut Text) -> Result<(), Halt> {
-    match play.make(Action::Commit) {
+fn commit(machine: &mut impl Machine, count: u64, out: &mut Text) -> Result<(), Halt> {
+    match machine.make(Action::Commit) {
         Told::Committed(committed) if committed == count => Ok(()),
         told => {
             out.put(b"commits ");
@@ -187,16 +190,10 @@ fn commit(play: &mut Play, count: u64, out: &mut Text) -> Result<(), Halt> {
 }
 
 /// Checks that a store tells the same as the run without a stop.
-fn compare(
-    alloc: Global,
-    play: &Play,
-    reference: &Reference,
-    wrong: &[u8],
-    out: &mut Text,
-) -> Result<(), Halt> {
-    let mut contents = Text::new(alloc);
-    put_contents(alloc, play.store()?, &mut contents)?;
-    if contents.bytes() == reference.contents.bytes() {
+fn compare<M: Machine>(rerun: &mut Rerun<M>, wrong: &[u8], out: &mut Text) -> Result<(), Halt> {
+    rerun.found.clear();
+    rerun.machine.put_contents(&mut rerun.found)?;
+    if rerun.found.bytes() == rerun.contents.bytes() {
         return Ok(());
     }
     out.put(wrong);
@@ -204,8 +201,8 @@ fn compare(
 }
 
 /// Makes a checkpoint.
-fn save(play: &mut Play, out: &mut Text) -> Result<(), Halt> {
-    match checkpoint(play) {
+fn save(machine: &mut impl Machine, out: &mut Text) -> Result<(), Halt> {
+    match checkpoint(machine) {
         Ok(_) => Ok(()),
         Err(told) => {
             out.put(b"a checkpoint answers ");
@@ -215,24 +212,15 @@ fn save(play: &mut Play, out: &mut Text) -> Result<(), Halt> {
     }
 }
 
-/// Whether what is found was acknowledged or, where a commit is in doubt, accepted.
-fn is_lawful(found: u64, progress: Progress) -> bool {
-    found == progress.acknowledged || progress.in_doubt && found == progress.accepted
-}
-
-/// Recovers a store, and tells how many events are found.
-fn recover(
-    play: &mut Play,
-    image: &Image,
+/// Recovers a store from the image that a stop left, and tells how many events are found.
+fn recover<M: Machine>(
+    rerun: &mut Rerun<M>,
     origin: &Origin,
     wrong: &[u8],
     out: &mut Text,
 ) -> Result<u64, Halt> {
-    let opening = Opening {
-        is_new: false,
-        ..origin.opening
-    };
-    match play.open(image, &NO_FUSES, opening) {
+    let opening = origin.opening.again();
+    match rerun.machine.open(&rerun.image, &NO_FUSES, opening) {
         Ok(found) => Ok(found),
         Err(_) => {
             out.put(wrong);
@@ -241,64 +229,56 @@ fn recover(
     }
 }
 
-/// Recovers what a stop left, goes on to the end of the run, and makes a checkpoint; and tells how many events were found.
-fn go_on(
-    run: Run,
-    play: &mut Play,
-    image: &Image,
+/// Recovers what a stop left. What is found was acknowledged or, where a commit is in doubt, accepted.
+fn find<M: Machine>(
+    rerun: &mut Rerun<M>,
+    origin: &Origin,
     progress: Progress,
-    reference: &Reference,
     out: &mut Text,
 ) -> Result<u64, Halt> {
-    let origin = run.origin;
-    let found = recover(play, image, origin, b"is not recovered", out)?;
-    if !is_lawful(found, progress) {
-        out.put_number(b"finds events ", found);
-        return Err(Halt::Said);
+    let found = recover(rerun, origin, b"is not recovered", out)?;
+    if found == progress.acknowledged || progress.in_doubt && found == progress.accepted {
+        return Ok(found);
     }
-    let count = offer_all(play, &reference.accepted, origin.base, found, out)?;
-    commit(play, count, out)?;
-    compare(run.alloc, play, reference, b"differs in the end", out)?;
-    save(play, out)?;
-    Ok(found)
+    out.put_number(b"finds events ", found);
+    Err(Halt::Said)
 }
 
-/// Recovers what is synced of a store, and sees that it tells the same.
-fn recover_again(
-    run: Run,
-    play: &mut Play,
-    reference: &Reference,
+/// Goes on to the end of the run, and sees that the store then tells what it would have told without a stop.
+fn go_on<M: Machine>(
+    rerun: &mut Rerun<M>,
+    base: u64,
+    found: u64,
     out: &mut Text,
 ) -> Result<(), Halt> {
-    let mut image = Image::new(run.alloc);
-    play.memories()?.leave(Tear::Lost, &mut image)?;
-    recover(
-        play,
-        &image,
-        run.origin,
-        b"is not recovered after a checkpoint",
-        out,
-    )?;
-    compare(
-        run.alloc,
-        play,
-        reference,
-        b"differs after a checkpoint",
-        out,
-    )
+    let machine = &mut rerun.machine;
+    let count = offer_all(machine, &rerun.accepted, base, found, out)?;
+    commit(machine, count, out)?;
+    compare(rerun, b"differs in the end", out)
+}
+
+/// Makes a checkpoint, recovers what is synced then, and sees that it tells the same.
+fn recover_again<M: Machine>(
+    rerun: &mut Rerun<M>,
+    origin: &Origin,
+    out: &mut Text,
+) -> Result<(), Halt> {
+    save(&mut rerun.machine, out)?;
+    memories_of(&mut rerun.machine)?.leave(Tear::Lost, &mut rerun.image)?;
+    recover(rerun, origin, b"is not recovered after a checkpoint", out)?;
+    compare(rerun, b"differs after a checkpoint", out)
 }
 
 /// Recovers what a stop left, goes on to the end of the run, makes a checkpoint and recovers what is synced then; and tells how many events
 /// were found.
-pub fn resume(
-    run: Run,
-    image: &Image,
+pub fn resume<M: Machine>(
+    rerun: &mut Rerun<M>,
+    origin: &Origin,
     progress: Progress,
-    reference: &Reference,
     out: &mut Text,
 ) -> Result<u64, Halt> {
-    let mut play = Play::new(run.alloc);
-    let found = go_on(run, &mut play, image, progress, reference, out)?;
-    recover_again(run, &mut play, reference, out)?;
+    let found = find(rerun, origin, progress, out)?;
+    go_on(rerun, origin.base, found, out)?;
+    recover_again(rerun, origin, out)?;
     Ok(found)
 }

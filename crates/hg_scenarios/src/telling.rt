@@ -1,10 +1,10 @@
 //! What a store tells of itself, as lines.
 
 use crate::actions::phase_name;
-use crate::opening::OpenStore;
+use crate::play::OpenStore;
 use hg_harness::answers::put_refusal;
 use hg_harness::events::put_named;
-use hg_harness::words::{Halt, front, number, short_number};
+use hg_harness::words::{Halt, Words};
 use hg_model::report::Report;
 use hg_model::segment::Segment;
 use hg_model::verdict::Refusal;
@@ -45,19 +45,19 @@ fn put_phase(store: &OpenStore, out: &mut Text) {
     }
 }
 
-fn put_last(store: &OpenStore, rest: &str, out: &mut Text) -> Result<(), Halt> {
-    let (source, _) = short_number(rest)?;
-    let last = store.last(source)?;
-    out.put_number(b"last ", u64::from(source));
-    out.put_number(b" ", last);
-    Ok(())
+fn put_last(store: &OpenStore, source: u16, out: &mut Text) {
+    match store.last(source) {
+        Ok(last) => {
+            out.put_number(b"last ", u64::from(source));
+            out.put_number(b" ", last);
+        }
+        Err(refusal) => put_refusal(refusal, out),
+    }
 }
 
 /// The line of the k-th race, from 1 on.
-fn put_race(alloc: Global, store: &OpenStore, rest: &str, out: &mut Text) -> Result<(), Halt> {
-    let (k, _) = number(rest)?;
-    let reports = store.reports(alloc)?;
-    match reports.get(k.saturating_sub(1) as usize) {
+fn put_race(alloc: Global, store: &OpenStore, k: u64, out: &mut Text) -> Result<(), Refusal> {
+    match store.reports(alloc)?.get(k.saturating_sub(1) as usize) {
         Some(report) => put_report(k, report, out),
         None => out.put(b"no such race"),
     }
@@ -65,8 +65,7 @@ fn put_race(alloc: Global, store: &OpenStore, rest: &str, out: &mut Text) -> Res
 }
 
 /// The line of a segment, from 0 on.
-fn tell_segment(store: &OpenStore, rest: &str, out: &mut Text) -> Result<(), Halt> {
-    let (k, _) = number(rest)?;
+fn tell_segment(store: &OpenStore, k: u64, out: &mut Text) -> Result<(), Refusal> {
     match store.graph()?.get(k as usize) {
         Some(segment) => put_segment(k, segment, out),
         None => out.put(b"no such segment"),
@@ -85,30 +84,32 @@ pub fn put_answer(
     line: &str,
     out: &mut Text,
 ) -> Result<(), Halt> {
-    let (word, rest) = front(line);
-    match word {
+    let mut words = Words::of(line);
+    match words.word() {
         "events" => put_total(b"events ", store.events(), out),
         "durable" => put_total(b"durable ", store.durable(), out),
         "races" => put_total(b"races ", store.total(), out),
         "segments" => put_total(b"segments ", segments_in(store), out),
         "phase" => put_phase(store, out),
-        "last" => return put_last(store, rest, out),
-        "race" => return put_race(alloc, store, rest, out),
-        "segment" => return tell_segment(store, rest, out),
-        _ => return Err(Halt::Words),
+        "last" => put_last(store, words.short_number(), out),
+        "race" => put_race(alloc, store, words.number(), out)?,
+        "segment" => tell_segment(store, words.number(), out)?,
+        _ => words.fail(),
     }
-    Ok(())
+    words.check()
 }
 
 /// `FROM MAX`: that many of the durable events from there on.
 pub fn put_durable(
     alloc: Global,
     store: &mut OpenStore,
-    rest: &str,
+    text: &str,
     out: &mut Text,
 ) -> Result<(), Halt> {
-    let (from, rest) = number(rest)?;
-    let (max, _) = short_number(rest)?;
+    let mut words = Words::of(text);
+    let from = words.number();
+    let max = words.short_number();
+    words.check()?;
     let events = store.durable_events(alloc, from, usize::from(max))?;
     out.put_decimal(events.len() as u64);
     for named in events.iter() {
@@ -131,25 +132,18 @@ fn put_races(alloc: Global, store: &OpenStore, out: &mut Text) -> Result<(), Ref
     Ok(())
 }
 
-fn put_segments(store: &OpenStore, out: &mut Text) -> Result<(), Refusal> {
-    for segment in store.graph()? {
+fn put_segments(store: &OpenStore, out: &mut Text) {
+    for segment in store.graph().unwrap_or(&[]) {
         put_segment(0, segment, out);
     }
-    Ok(())
 }
 
-/// Appends what a store tells of its events, with the last numbers of the sources 0 to 7.
+/// Appends what a store that is not broken tells of its events, with the last numbers of the sources 0 to 7.
 pub fn put_contents(alloc: Global, store: &OpenStore, out: &mut Text) -> Result<(), Refusal> {
     put_total(b"", store.events(), out);
     put_total(b" ", store.durable(), out);
     put_total(b" ", store.total(), out);
     put_lasts(store, out);
-    put_segments(store, out)?;
+    put_segments(store, out);
     put_races(alloc, store, out)
-}
-
-/// Appends all that a store tells: the same, and how far it is.
-pub fn put_picture(alloc: Global, store: &OpenStore, out: &mut Text) -> Result<(), Refusal> {
-    put_phase(store, out);
-    put_contents(alloc, store, out)
 }
