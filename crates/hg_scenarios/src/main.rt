@@ -4,20 +4,20 @@
 mod actions;
 mod checkpoints;
 mod machine;
+mod memory_store;
 mod opening;
-mod place;
-mod play;
 mod running;
 mod stops;
+mod store_world;
 mod telling;
 
-use crate::place::Place;
-use crate::play::Play;
+use crate::memory_store::MemoryStore;
+use crate::store_world::StoreWorld;
 use hg_harness::run::run_input;
 use std::process::ExitCode;
 
 fn main(rt: HostRuntime) -> ExitCode {
     let alloc = rt.alloc();
-    let mut place = Place::new(alloc, Play::new(alloc), Play::new(alloc));
-    run_input(&rt, &mut place)
+    let mut world = StoreWorld::new(alloc, MemoryStore::new(alloc), MemoryStore::new(alloc));
+    run_input(&rt, &mut world)
 }

@@ -1,7 +1,7 @@
 //! What a store tells of itself, as lines.
 
 use crate::actions::phase_name;
-use crate::play::OpenStore;
+use crate::memory_store::OpenStore;
 use hg_harness::answers::put_refusal;
 use hg_harness::events::put_named;
 use hg_harness::words::{Halt, Words};

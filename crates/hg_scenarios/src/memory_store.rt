@@ -145,7 +145,7 @@ fn told_of(answer: &StepResult) -> Told {
 }
 
 /// A store, if one is open, and what was done to it since then.
-pub struct Play {
+pub struct MemoryStore {
     alloc: Global,
     opened: Option<OpenStore>,
     /// The disks of a store that was refused.
@@ -155,9 +155,9 @@ pub struct Play {
     made: Vec<Action>,
 }
 
-impl Drop for Play {
+impl Drop for MemoryStore {
     fn drop(self) {
-        let Play {
+        let MemoryStore {
             alloc: _,
             opened,
             left,
@@ -284,10 +284,10 @@ fn drive(alloc: Global, store: &mut OpenStore, steps: &[Step], out: &mut Text) -
     Ok(())
 }
 
-impl Play {
+impl MemoryStore {
     /// No store.
-    pub fn new(alloc: Global) -> Play {
-        Play {
+    pub fn new(alloc: Global) -> MemoryStore {
+        MemoryStore {
             alloc,
             opened: None,
             left: None,
@@ -338,7 +338,7 @@ impl Play {
     }
 }
 
-impl Machine for Play {
+impl Machine for MemoryStore {
     fn open(
         &mut self,
         image: &Image,

@@ -19,7 +19,7 @@ use std::alloc::{AllocError, Global};
 
 /// What there is in a scenario.
 #[derive(Drop)]
-pub struct Place<M> {
+pub struct StoreWorld<M> {
     alloc: Global,
     shelf: Shelf,
     machine: M,
@@ -123,10 +123,10 @@ fn stop_one(
     Ok(())
 }
 
-impl<M: Machine> Place<M> {
+impl<M: Machine> StoreWorld<M> {
     /// Four empty disks, and nothing open. One machine is for what lines say, and the other for runs that are made again.
-    pub fn new(alloc: Global, machine: M, other: M) -> Place<M> {
-        Place {
+    pub fn new(alloc: Global, machine: M, other: M) -> StoreWorld<M> {
+        StoreWorld {
             alloc,
             shelf: Shelf::new(alloc),
             machine,
@@ -259,7 +259,7 @@ impl<M: Machine> Place<M> {
     }
 }
 
-impl<M: Machine> World for Place<M> {
+impl<M: Machine> World for StoreWorld<M> {
     fn perform(&mut self, order: &str, out: &mut Text) -> Result<(), Halt> {
         let (word, rest) = front(order);
         let shelf = &mut self.shelf;
