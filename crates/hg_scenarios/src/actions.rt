@@ -1,14 +1,15 @@
-//! What is done to a store, one action after another.
+//! What is done to a store, one action after another, and what it answers.
 
-use crate::shelf::Held;
 use hg_detect::detector::Answer;
+use hg_harness::answers::put_refusal;
+use hg_harness::events::put_events;
+use hg_harness::words::Halt;
 use hg_model::event::Named;
 use hg_model::verdict::Refusal;
-use hg_pages::EncodedPage;
-use hg_pool::{Job, Put};
-use hg_store::steps::{Step, StepFault, StepResult, StorePhase};
-use hg_store::store::Store;
-use std::alloc::{AllocError, Global};
+use hg_pool::Put;
+use hg_store::steps::StorePhase;
+use hg_text::Text;
+use std::alloc::Global;
 
 /// A step of a store. `Put` hands in the page of the job that was taken last.
 #[derive(Clone, Copy)]
@@ -25,7 +26,7 @@ pub enum Action {
 }
 
 /// What an action was answered.
-#[derive(Clone, Copy, PartialEq, Eq)]
+#[derive(Clone, Copy)]
 pub enum Told {
     Offered(Answer),
     /// The count of the events that a commit made durable.
@@ -42,185 +43,79 @@ pub enum Told {
     Refused(Refusal),
     /// No job was taken whose page could be handed in.
     NoPage,
+    /// No store is open.
+    Closed,
 }
 
-fn fault_told(fault: StepFault) -> Told {
-    match fault {
-        StepFault::WrongPhase(phase) => Told::WrongPhase(phase),
-        StepFault::Refused(cause) => Told::Refused(Refusal::from(cause)),
-    }
-}
-
-fn done_told(done: &Result<(), StepFault>) -> Told {
-    match done {
-        Ok(()) => Told::Done,
-        Err(fault) => fault_told(*fault),
-    }
-}
-
-fn offer_told(offered: &Result<Answer, Refusal>) -> Told {
-    match offered {
-        Ok(answer) => Told::Offered(*answer),
-        Err(refusal) => Told::Refused(*refusal),
+/// The name of a phase.
+pub fn phase_name(phase: StorePhase) -> &'static [u8] {
+    match phase {
+        StorePhase::Idle => b"idle",
+        StorePhase::Pending => b"pending",
+        StorePhase::Flushing => b"flushing",
+        StorePhase::Sealed => b"sealed",
+        StorePhase::Prepared => b"prepared",
+        StorePhase::Written => b"written",
     }
 }
 
-fn commit_told(committed: &Result<u64, Refusal>) -> Told {
-    match committed {
-        Ok(count) => Told::Committed(*count),
-        Err(refusal) => Told::Refused(*refusal),
+fn put_wrong_phase(phase: StorePhase, out: &mut Text) {
+    out.put(b"wrong phase ");
+    out.put(phase_name(phase));
+}
+
+/// What an action was answered, as text.
+pub fn put_told(told: Told, out: &mut Text) {
+    match told {
+        Told::Offered(Answer::Accepted) => out.put(b"accepted"),
+        Told::Offered(Answer::Duplicate(last)) => out.put_number(b"duplicate ", last),
+        Told::Committed(count) => out.put_decimal(count),
+        Told::Done => out.put(b"ok"),
+        Told::Page(page) => out.put_number(b"page ", page),
+        Told::NoneWaits => out.put(b"none"),
+        Told::Put(Put::Written) => out.put(b"written"),
+        Told::Put(Put::Stale) => out.put(b"stale"),
+        Told::Root(number) => out.put_number(b"root ", number),
+        Told::WrongPhase(phase) => put_wrong_phase(phase, out),
+        Told::Refused(refusal) => put_refusal(refusal, out),
+        Told::NoPage => out.put(b"no page"),
+        Told::Closed => out.put(b"nothing is open"),
     }
 }
 
-fn job_told(taken: &Result<Option<Job>, StepFault>) -> Told {
-    match taken {
-        Ok(Some(job)) => Told::Page(job.page),
-        Ok(None) => Told::NoneWaits,
-        Err(fault) => fault_told(*fault),
+/// The action of a word that names no event.
+fn action_of(word: &str) -> Result<Action, Halt> {
+    match word {
+        "commit" => Ok(Action::Commit),
+        "freeze" => Ok(Action::Freeze),
+        "take" => Ok(Action::Take),
+        "put" => Ok(Action::Put),
+        "seal" => Ok(Action::Seal),
+        "prepare" => Ok(Action::Prepare),
+        "write-root" => Ok(Action::WriteRoot),
+        "open-root" => Ok(Action::OpenRoot),
+        _ => Err(Halt::Words),
     }
 }
 
-fn handed_told(put: &Result<Put, StepFault>) -> Told {
-    match put {
-        Ok(put) => Told::Put(*put),
-        Err(fault) => fault_told(*fault),
+fn put_offers(alloc: Global, text: &str, actions: &mut Vec<Action>) -> Result<(), Halt> {
+    let mut events = Vec::new(alloc);
+    put_events(text, &mut events)?;
+    for event in events.iter() {
+        actions.push(Action::Offer(*event))?;
     }
+    Ok(())
 }
 
-fn root_told(opened: &Result<u64, StepFault>) -> Told {
-    match opened {
-        Ok(number) => Told::Root(*number),
-        Err(fault) => fault_told(*fault),
-    }
-}
-
-/// What a step was answered.
-pub fn told_of(answer: &StepResult) -> Told {
-    match answer {
-        StepResult::Offered(offered) => offer_told(offered),
-        StepResult::Committed(committed) => commit_told(committed),
-        StepResult::Frozen(done) => done_told(done),
-        StepResult::Taken(taken) => job_told(taken),
-        StepResult::Put(put) => handed_told(put),
-        StepResult::Sealed(done) => done_told(done),
-        StepResult::Prepared(done) => done_told(done),
-        StepResult::Written(done) => done_told(done),
-        StepResult::Opened(opened) => root_told(opened),
-    }
-}
-
-/// An action as a step, where it needs no page.
-fn step_of(action: Action) -> Option<Step> {
-    match action {
-        Action::Offer(named) => Some(Step::Offer(named)),
-        Action::Commit => Some(Step::Commit),
-        Action::Freeze => Some(Step::Freeze),
-        Action::Take => Some(Step::TakeJob),
-        Action::Put => None,
-        Action::Seal => Some(Step::SealPages),
-        Action::Prepare => Some(Step::PrepareRoot),
-        Action::WriteRoot => Some(Step::WriteRoot),
-        Action::OpenRoot => Some(Step::OpenRoot),
-    }
-}
-
-/// The page of the job that was taken last, encoded.
-pub struct Desk {
-    page: Option<EncodedPage>,
-}
-
-impl Drop for Desk {
-    fn drop(self) {
-        let Desk { page } = self;
-        drop(page);
-    }
-}
-
-impl Desk {
-    pub fn new() -> Desk {
-        Desk { page: None }
-    }
-
-    /// Has this page, or none.
-    fn put_page(&mut self, page: Option<EncodedPage>) {
-        self.page = page;
-    }
-
-    pub fn clear(&mut self) {
-        self.put_page(None);
-    }
-
-    /// Encodes the page of a job, and keeps it.
-    fn keep(&mut self, job: Job) -> Told {
-        let page = job.page;
-        match job.encode() {
-            Ok(encoded) => {
-                self.put_page(Some(encoded));
-                Told::Page(page)
-            }
-            Err(_) => Told::Refused(Refusal::OutOfMemory),
-        }
-    }
-
-    /// A step that hands in a copy of the page.
-    fn put_step(&self, alloc: Global) -> Result<Option<Step>, AllocError> {
-        match &self.page {
-            Some(page) => {
-                let bytes = Vec::from_slice(alloc, page.bytes())?;
-                Ok(Some(Step::Put(EncodedPage::of(page.page(), bytes))))
-            }
-            None => Ok(None),
-        }
-    }
-
-    /// An action as a step. `Put` gives none where no job was taken.
-    pub fn step(&self, alloc: Global, action: Action) -> Result<Option<Step>, AllocError> {
-        match action {
-            Action::Put => self.put_step(alloc),
-            _ => Ok(step_of(action)),
-        }
-    }
-
-    /// Hands in the page.
-    fn put(&self, store: &mut Store<Held>) -> Told {
-        match &self.page {
-            Some(page) => handed_told(&store.put(page)),
-            None => Told::NoPage,
-        }
-    }
-
-    /// Takes a job, and encodes its page.
-    fn take(&mut self, store: &Store<Held>) -> Told {
-        match store.take_job() {
-            Ok(Some(job)) => self.keep(job),
-            Ok(None) => Told::NoneWaits,
-            Err(fault) => fault_told(fault),
-        }
-    }
-}
-
-/// Does what an action says.
-pub fn make(alloc: Global, store: &mut Store<Held>, action: Action, desk: &mut Desk) -> Told {
-    match action {
-        Action::Take => desk.take(store),
-        Action::Put => desk.put(store),
-        _ => match step_of(action) {
-            Some(step) => told_of(&store.step(alloc, &step)),
-            None => Told::NoPage,
-        },
-    }
-}
-
-/// Does what an action says, and notes it first.
-pub fn note_and_make(
+/// Appends the actions that a line names: a row of offers, or one step.
+pub fn put_actions(
     alloc: Global,
-    store: &mut Store<Held>,
-    action: Action,
-    desk: &mut Desk,
-    made: &mut Vec<Action>,
-) -> Told {
-    match made.push(action) {
-        Ok(()) => make(alloc, store, action, desk),
-        Err(_) => Told::Refused(Refusal::OutOfMemory),
+    word: &str,
+    rest: &str,
+    actions: &mut Vec<Action>,
+) -> Result<(), Halt> {
+    match word {
+        "offer" => put_offers(alloc, rest, actions),
+        _ => Ok(actions.push(action_of(word)?)?),
     }
 }

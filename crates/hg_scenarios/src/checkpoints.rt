@@ -1,82 +1,77 @@
 //! Checkpoints of a store, all steps of one.
 
-use crate::actions::{Action, Desk, Told, note_and_make};
-use crate::shelf::Held;
+use crate::actions::{Action, Told, put_told};
+use crate::machine::Machine;
+use hg_harness::words::Halt;
 use hg_pool::Put;
-use hg_store::store::Store;
-use std::alloc::Global;
-
-/// The root that a checkpoint opened, and how many pages were handed in for it.
-#[derive(Clone, Copy)]
-pub struct Opened {
-    pub root: u64,
-    pub pages: u64,
-}
+use hg_text::Text;
 
 /// The most pages that are handed in for one checkpoint.
 const MOST_PAGES: u64 = 1_000_000;
 
 /// Makes a step that is to answer `ok`; hands out what it answers else.
-fn make_done(
-    alloc: Global,
-    store: &mut Store<Held>,
-    action: Action,
-    desk: &mut Desk,
-    made: &mut Vec<Action>,
-) -> Result<(), Told> {
-    match note_and_make(alloc, store, action, desk, made) {
+fn make_done(machine: &mut impl Machine, action: Action) -> Result<(), Told> {
+    match machine.make(action) {
         Told::Done => Ok(()),
         other => Err(other),
     }
 }
 
 /// Takes a job and hands in its page, and answers whether there was one.
-fn put_one(
-    alloc: Global,
-    store: &mut Store<Held>,
-    desk: &mut Desk,
-    made: &mut Vec<Action>,
-) -> Result<bool, Told> {
-    match note_and_make(alloc, store, Action::Take, desk, made) {
+fn put_one(machine: &mut impl Machine) -> Result<bool, Told> {
+    match machine.make(Action::Take) {
         Told::Page(_) => {}
         Told::NoneWaits => return Ok(false),
         other => return Err(other),
     }
-    match note_and_make(alloc, store, Action::Put, desk, made) {
+    match machine.make(Action::Put) {
         Told::Put(Put::Written) => Ok(true),
         other => Err(other),
     }
 }
 
 /// Takes all jobs and hands in their pages, and answers how many.
-pub fn put_all(
-    alloc: Global,
-    store: &mut Store<Held>,
-    desk: &mut Desk,
-    made: &mut Vec<Action>,
-) -> Result<u64, Told> {
+fn put_all(machine: &mut impl Machine) -> Result<u64, Told> {
     for count in 0..MOST_PAGES {
-        if !put_one(alloc, store, desk, made)? {
+        if !put_one(machine)? {
             return Ok(count);
         }
     }
     Err(Told::NoPage)
 }
 
-/// Makes a whole checkpoint; hands out the first answer that ends it before its root is open.
-pub fn checkpoint(
-    alloc: Global,
-    store: &mut Store<Held>,
-    desk: &mut Desk,
-    made: &mut Vec<Action>,
-) -> Result<Opened, Told> {
-    make_done(alloc, store, Action::Freeze, desk, made)?;
-    let pages = put_all(alloc, store, desk, made)?;
-    make_done(alloc, store, Action::Seal, desk, made)?;
-    make_done(alloc, store, Action::Prepare, desk, made)?;
-    make_done(alloc, store, Action::WriteRoot, desk, made)?;
-    match note_and_make(alloc, store, Action::OpenRoot, desk, made) {
-        Told::Root(root) => Ok(Opened { root, pages }),
+/// Makes a whole checkpoint, and answers its number and how many pages were handed in; hands out the first answer that ends it before
+/// its root is open.
+pub fn checkpoint(machine: &mut impl Machine) -> Result<(u64, u64), Told> {
+    make_done(machine, Action::Freeze)?;
+    let pages = put_all(machine)?;
+    for action in [Action::Seal, Action::Prepare, Action::WriteRoot] {
+        make_done(machine, action)?;
+    }
+    match machine.make(Action::OpenRoot) {
+        Told::Root(root) => Ok((root, pages)),
         other => Err(other),
     }
+}
+
+/// Makes a whole checkpoint: `root N, M pages`, or the answer that ends it.
+pub fn put_checkpoint(machine: &mut impl Machine, out: &mut Text) -> Result<(), Halt> {
+    match checkpoint(machine) {
+        Ok((root, pages)) => {
+            out.put_number(b"root ", root);
+            out.put_number(b", ", pages);
+            out.put(b" pages");
+        }
+        Err(told) => put_told(told, out),
+    }
+    Ok(())
+}
+
+/// Hands in all pages that wait: how many, or the answer that ends it.
+pub fn put_pages(machine: &mut impl Machine, out: &mut Text) -> Result<(), Halt> {
+    match put_all(machine) {
+        Ok(count) => out.put_decimal(count),
+        Err(told) => put_told(told, out),
+    }
+    Ok(())
 }

@@ -1,29 +1,34 @@
 //! Runs of a store that are made again, and stopped.
 
-use crate::actions::{Action, Desk, Told, make};
-use crate::answers::put_told;
+use crate::actions::{Action, Told, put_told};
 use crate::checkpoints::checkpoint;
-use crate::device::Device;
-use crate::shelf::{Fuse, Held, Image, NO_FUSES};
-use crate::stores::{Disks, Memories, OpenStore, Opening, open};
-use crate::telling::put_contents;
-use crate::words::Halt;
+use crate::machine::Machine;
+use crate::opening::Opening;
 use hg_detect::detector::Answer;
 use hg_disk::Tear;
+use hg_harness::device::{Device, PerDevice};
+use hg_harness::disks::Memories;
+use hg_harness::shelf::{Fuse, Image, NO_FUSES};
+use hg_harness::words::Halt;
 use hg_model::event::Named;
 use hg_model::verdict::Refusal;
-use hg_store::store::Store;
 use hg_text::Text;
 use std::alloc::{AllocError, Global};
 
-/// How a store came to be, and what was done to it since then.
+/// How a store came to be.
 #[derive(Drop)]
-pub struct Run {
+pub struct Origin {
     pub start: Image,
     pub opening: Opening,
     /// How many events it had as it was opened.
     pub base: u64,
-    pub actions: Vec<Action>,
+}
+
+/// How a store came to be, and what was done to it since then.
+#[derive(Clone, Copy)]
+pub struct Run<'a> {
+    pub origin: &'a Origin,
+    pub actions: &'a [Action],
 }
 
 /// How far a run came.
@@ -36,212 +41,168 @@ pub struct Progress {
     pub in_doubt: bool,
 }
 
-/// What a run without a stop comes to: its accepted events, and all that is told of them in the end.
-pub struct Reference {
-    /// How the store that the run left is recovered.
-    opening: Opening,
-    /// How many events the store had as it was opened.
-    base: u64,
+/// What runs are made again with, and what they come to. What lies in it is filled anew, so that nothing is let go of at an exit.
+#[derive(Drop)]
+pub struct Rerun<M> {
+    pub machine: M,
+    /// What a stop leaves.
+    pub image: Image,
+    /// The events that the run without a stop accepted.
     accepted: Vec<Named>,
+    /// All that is told of them in the end.
     contents: Text,
+    /// All that is told after a stop.
+    found: Text,
 }
 
-impl Drop for Reference {
-    fn drop(self) {
-        let Reference {
-            opening: _,
-            base: _,
-            accepted: _,
-            contents: _,
-        } = self;
-    }
-}
-
-/// Counts an action in by its answer.
-fn count(progress: &mut Progress, action: Action, told: Told) {
-    match (action, told) {
-        (_, Told::Offered(Answer::Accepted)) => {
-            progress.accepted = progress.accepted.wrapping_add(1);
+impl<M> Rerun<M> {
+    pub fn new(alloc: Global, machine: M) -> Rerun<M> {
+        Rerun {
+            machine,
+            image: Image::new(alloc),
+            accepted: Vec::new(alloc),
+            contents: Text::new(alloc),
+            found: Text::new(alloc),
         }
-        (_, Told::Committed(events)) => progress.acknowledged = events,
-        (Action::Commit, Told::Refused(Refusal::DeviceFault)) => progress.in_doubt = true,
-        _ => {}
     }
 }
 
-/// Does what the actions say, up to the first that a device's fault ends: there the run stops.
-fn make_all(alloc: Global, store: &mut Store<Held>, actions: &[Action], progress: &mut Progress) {
-    let mut desk = Desk::new();
+/// Does what the actions say, up to the first that a device's fault ends: there the run stops. Counts their answers in.
+fn make_all(machine: &mut impl Machine, actions: &[Action], progress: &mut Progress) {
     for action in actions {
-        let told = make(alloc, store, *action, &mut desk);
-        count(progress, *action, told);
-        if told == Told::Refused(Refusal::DeviceFault) {
-            return;
+        match machine.make(*action) {
+            Told::Offered(Answer::Accepted) => {
+                progress.accepted = progress.accepted.wrapping_add(1);
+            }
+            Told::Committed(events) => progress.acknowledged = events,
+            Told::Refused(Refusal::DeviceFault) => {
+                progress.in_doubt = matches!(action, Action::Commit);
+                return;
+            }
+            _ => {}
         }
     }
 }
 
-/// Does what the actions say, and takes the disks back.
-fn go_and_close(
-    alloc: Global,
-    store: OpenStore,
-    actions: &[Action],
-    progress: &mut Progress,
-) -> Disks {
-    let mut store = store;
-    make_all(alloc, &mut store, actions, progress);
-    Disks::of(store)
+/// The disks of what is open, below their fuses.
+fn memories_of(machine: &mut impl Machine) -> Result<Memories, AllocError> {
+    match machine.close() {
+        Some(disks) => Ok(disks.into_memories()),
+        None => Err(AllocError),
+    }
 }
 
-/// Makes a run again where one device fails from a call on, and gives its disks.
-pub fn stop_run(
-    alloc: Global,
-    run: &Run,
-    device: Device,
-    after: u64,
-    progress: &mut Progress,
-) -> Result<Memories, AllocError> {
-    let mut fuses = NO_FUSES;
-    *device.of_mut(&mut fuses) = Fuse::On(after);
-    *progress = Progress {
-        is_open: false,
-        acknowledged: run.base,
-        accepted: run.base,
+/// Makes a run again with disks that fail as is told, and tells how far it came.
+fn run_again(machine: &mut impl Machine, run: Run, fuses: &PerDevice<Fuse>) -> Progress {
+    let origin = run.origin;
+    let mut progress = Progress {
+        is_open: machine.open(&origin.start, fuses, origin.opening).is_ok(),
+        acknowledged: origin.base,
+        accepted: origin.base,
         in_doubt: false,
     };
-    let disks = Disks::new(alloc, &run.start, &fuses)?;
-    match open(alloc, disks, run.opening) {
-        Ok(store) => {
-            progress.is_open = true;
-            Ok(go_and_close(alloc, store, &run.actions, progress).into_memories())
-        }
-        Err((_, disks)) => Ok(disks.into_memories()),
+    if progress.is_open {
+        make_all(machine, run.actions, &mut progress);
     }
+    progress
 }
 
-/// Keeps the event of an action that accepted it.
-fn keep_accepted(action: Action, told: Told, accepted: &mut Vec<Named>) -> Result<(), Halt> {
-    match (action, told) {
-        (Action::Offer(named), Told::Offered(Answer::Accepted)) => Ok(accepted.push(named)?),
-        _ => Ok(()),
-    }
+/// Makes a run again where one device fails from a call on, and gives how far it came and its disks.
+pub fn stop_run(
+    machine: &mut impl Machine,
+    run: Run,
+    device: Device,
+    after: u64,
+) -> Result<(Progress, Memories), AllocError> {
+    let mut fuses = NO_FUSES;
+    *fuses.of_mut(device) = Fuse::On(after);
+    let progress = run_again(machine, run, &fuses);
+    Ok((progress, memories_of(machine)?))
 }
 
-/// Does what the actions say and makes a commit, and keeps the events that were accepted.
+/// Does what the actions say, and keeps the events that were accepted.
 fn follow(
-    alloc: Global,
-    store: &mut Store<Held>,
+    machine: &mut impl Machine,
     actions: &[Action],
     accepted: &mut Vec<Named>,
-) -> Result<(), Halt> {
-    let mut desk = Desk::new();
+) -> Result<(), AllocError> {
+    accepted.clear();
     for action in actions {
-        let told = make(alloc, store, *action, &mut desk);
-        keep_accepted(*action, told, accepted)?;
+        let told = machine.make(*action);
+        if let (Action::Offer(named), Told::Offered(Answer::Accepted)) = (*action, told) {
+            accepted.push(named)?;
+        }
     }
-    store.commit()?;
     Ok(())
 }
 
-/// Does what the actions say, and describes the store.
-fn describe(
-    alloc: Global,
-    store: &mut Store<Held>,
-    actions: &[Action],
-    reference: &mut Reference,
-) -> Result<(), Halt> {
-    follow(alloc, store, actions, &mut reference.accepted)?;
-    put_contents(alloc, store, &mut reference.contents)
-}
-
-/// What the run comes to without a stop.
-pub fn reference_of(alloc: Global, run: &Run) -> Result<Reference, Halt> {
-    let mut reference = Reference {
-        opening: Opening::Recover(run.opening.room()),
-        base: run.base,
-        accepted: Vec::new(alloc),
-        contents: Text::new(alloc),
+/// Makes a run again without a stop and then a commit, and keeps what it comes to.
+pub fn refer<M: Machine>(rerun: &mut Rerun<M>, run: Run) -> Result<(), Halt> {
+    let origin = run.origin;
+    let machine = &mut rerun.machine;
+    machine.open(&origin.start, &NO_FUSES, origin.opening)?;
+    follow(machine, run.actions, &mut rerun.accepted)?;
+    let Told::Committed(_) = machine.make(Action::Commit) else {
+        return Err(Halt::Closed);
     };
-    let disks = Disks::whole(alloc, &run.start)?;
-    match open(alloc, disks, run.opening) {
-        Ok(mut store) => match describe(alloc, &mut store, &run.actions, &mut reference) {
-            Ok(()) => Ok(reference),
-            Err(_) => Err(Halt::Closed),
-        },
-        Err(_) => Err(Halt::Closed),
-    }
-}
-
-/// Says what was wrong, with a number.
-fn wrong_at(words: &[u8], number: u64, out: &mut Text) -> Halt {
-    out.put_number(words, number);
-    Halt::Said
+    rerun.contents.clear();
+    machine.put_contents(&mut rerun.contents)
 }
 
 /// Whether an event that is offered again is a duplicate where it was found, and else is accepted.
-fn is_expected(offered: Result<Answer, Refusal>, was_found: bool) -> bool {
-    match offered {
-        Ok(Answer::Accepted) => !was_found,
-        Ok(Answer::Duplicate(_)) => was_found,
-        Err(_) => false,
+fn is_expected(told: Told, was_found: bool) -> bool {
+    match told {
+        Told::Offered(Answer::Accepted) => !was_found,
+        Told::Offered(Answer::Duplicate(_)) => was_found,
+        _ => false,
     }
 }
 
-/// Offers all events of the run again. Those that were found are duplicates.
+/// Offers all events of the run again, and counts them. Those that were found are duplicates.
 fn offer_all(
-    store: &mut Store<Held>,
-    reference: &Reference,
+    machine: &mut impl Machine,
+    accepted: &[Named],
+    base: u64,
     found: u64,
     out: &mut Text,
 ) -> Result<u64, Halt> {
-    let mut place = reference.base;
-    for event in reference.accepted.iter() {
-        if !is_expected(store.offer(event), place < found) {
-            return Err(wrong_at(b"answers event ", place.wrapping_add(1), out));
+    let mut place = base;
+    for event in accepted {
+        if !is_expected(machine.make(Action::Offer(*event)), place < found) {
+            out.put_number(b"answers event ", place.wrapping_add(1));
+            return Err(Halt::Said);
         }
         place = place.wrapping_add(1);
     }
     Ok(place)
 }
 
+/// Commits as many events.
+fn commit(machine: &mut impl Machine, count: u64, out: &mut Text) -> Result<(), Halt> {
+    match machine.make(Action::Commit) {
+        Told::Committed(committed) if committed == count => Ok(()),
+        told => {
+            out.put(b"commits ");
+            put_told(told, out);
+            Err(Halt::Said)
+        }
+    }
+}
+
 /// Checks that a store tells the same as the run without a stop.
-fn compare(
-    alloc: Global,
-    store: &Store<Held>,
-    reference: &Reference,
-    wrong: &[u8],
-    out: &mut Text,
-) -> Result<(), Halt> {
-    let mut contents = Text::new(alloc);
-    put_contents(alloc, store, &mut contents)?;
-    if contents.bytes() == reference.contents.bytes() {
+fn compare<M: Machine>(rerun: &mut Rerun<M>, wrong: &[u8], out: &mut Text) -> Result<(), Halt> {
+    rerun.found.clear();
+    rerun.machine.put_contents(&mut rerun.found)?;
+    if rerun.found.bytes() == rerun.contents.bytes() {
         return Ok(());
     }
     out.put(wrong);
     Err(Halt::Said)
 }
 
-/// Goes on to the end of the run, and sees that the store then tells what it would have told without a stop.
-fn go_on(
-    alloc: Global,
-    store: &mut Store<Held>,
-    found: u64,
-    reference: &Reference,
-    out: &mut Text,
-) -> Result<(), Halt> {
-    let count = offer_all(store, reference, found, out)?;
-    let committed = store.commit()?;
-    if committed != count {
-        return Err(wrong_at(b"commits ", committed, out));
-    }
-    compare(alloc, store, reference, b"differs in the end", out)
-}
-
 /// Makes a checkpoint.
-fn save(alloc: Global, store: &mut Store<Held>, out: &mut Text) -> Result<(), Halt> {
-    let mut desk = Desk::new();
-    let mut made = Vec::new(alloc);
-    match checkpoint(alloc, store, &mut desk, &mut made) {
+fn save(machine: &mut impl Machine, out: &mut Text) -> Result<(), Halt> {
+    match checkpoint(machine) {
         Ok(_) => Ok(()),
         Err(told) => {
             out.put(b"a checkpoint answers ");
@@ -251,72 +212,73 @@ fn save(alloc: Global, store: &mut Store<Held>, out: &mut Text) -> Result<(), Ha
     }
 }
 
-/// How many events are found. They are the acknowledged ones or, where a commit is in doubt, the accepted ones.
-fn find(store: &Store<Held>, progress: Progress, out: &mut Text) -> Result<u64, Halt> {
-    let found = store.events()?;
-    if found == progress.acknowledged {
-        return Ok(found);
-    }
-    if progress.in_doubt && found == progress.accepted {
-        return Ok(found);
-    }
-    Err(wrong_at(b"finds events ", found, out))
-}
-
-fn find_and_go_on(
-    alloc: Global,
-    store: &mut Store<Held>,
-    progress: Progress,
-    reference: &Reference,
+/// Recovers a store from the image that a stop left, and tells how many events are found.
+fn recover<M: Machine>(
+    rerun: &mut Rerun<M>,
+    origin: &Origin,
+    wrong: &[u8],
     out: &mut Text,
 ) -> Result<u64, Halt> {
-    let found = find(store, progress, out)?;
-    go_on(alloc, store, found, reference, out)?;
-    Ok(found)
-}
-
-/// Recovers what is synced of a store, and sees that it tells the same.
-fn recover_again(
-    alloc: Global,
-    store: OpenStore,
-    reference: &Reference,
-    out: &mut Text,
-) -> Result<(), Halt> {
-    let mut image = Image::new(alloc);
-    image.take(&Disks::of(store).into_memories().devices, Tear::Lost)?;
-    let disks = Disks::whole(alloc, &image)?;
-    match open(alloc, disks, reference.opening) {
-        Ok(store) => {
-            let wrong = b"differs after a checkpoint";
-            compare(alloc, &store, reference, wrong, out)
-        }
+    let opening = origin.opening.again();
+    match rerun.machine.open(&rerun.image, &NO_FUSES, opening) {
+        Ok(found) => Ok(found),
         Err(_) => {
-            out.put(b"is not recovered after a checkpoint");
+            out.put(wrong);
             Err(Halt::Said)
         }
     }
+}
+
+/// Recovers what a stop left. What is found was acknowledged or, where a commit is in doubt, accepted.
+fn find<M: Machine>(
+    rerun: &mut Rerun<M>,
+    origin: &Origin,
+    progress: Progress,
+    out: &mut Text,
+) -> Result<u64, Halt> {
+    let found = recover(rerun, origin, b"is not recovered", out)?;
+    if found == progress.acknowledged || progress.in_doubt && found == progress.accepted {
+        return Ok(found);
+    }
+    out.put_number(b"finds events ", found);
+    Err(Halt::Said)
+}
+
+/// Goes on to the end of the run, and sees that the store then tells what it would have told without a stop.
+fn go_on<M: Machine>(
+    rerun: &mut Rerun<M>,
+    base: u64,
+    found: u64,
+    out: &mut Text,
+) -> Result<(), Halt> {
+    let machine = &mut rerun.machine;
+    let count = offer_all(machine, &rerun.accepted, base, found, out)?;
+    commit(machine, count, out)?;
+    compare(rerun, b"differs in the end", out)
+}
+
+/// Makes a checkpoint, recovers what is synced then, and sees that it tells the same.
+fn recover_again<M: Machine>(
+    rerun: &mut Rerun<M>,
+    origin: &Origin,
+    out: &mut Text,
+) -> Result<(), Halt> {
+    save(&mut rerun.machine, out)?;
+    memories_of(&mut rerun.machine)?.leave(Tear::Lost, &mut rerun.image)?;
+    recover(rerun, origin, b"is not recovered after a checkpoint", out)?;
+    compare(rerun, b"differs after a checkpoint", out)
 }
 
 /// Recovers what a stop left, goes on to the end of the run, makes a checkpoint and recovers what is synced then; and tells how many events
 /// were found.
-pub fn resume(
-    alloc: Global,
-    image: &Image,
+pub fn resume<M: Machine>(
+    rerun: &mut Rerun<M>,
+    origin: &Origin,
     progress: Progress,
-    reference: &Reference,
     out: &mut Text,
 ) -> Result<u64, Halt> {
-    let disks = Disks::whole(alloc, image)?;
-    match open(alloc, disks, reference.opening) {
-        Ok(mut store) => {
-            let found = find_and_go_on(alloc, &mut store, progress, reference, out)?;
-            save(alloc, &mut store, out)?;
-            recover_again(alloc, store, reference, out)?;
-            Ok(found)
-        }
-        Err(_) => {
-            out.put(b"is not recovered");
-            Err(Halt::Said)
-        }
-    }
+    let found = find(rerun, origin, progress, out)?;
+    go_on(rerun, origin.base, found, out)?;
+    recover_again(rerun, origin, out)?;
+    Ok(found)
 }

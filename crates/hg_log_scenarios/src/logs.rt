@@ -1,38 +1,19 @@
 //! What the lines of a scenario do with a log of batches. It stands on the disk of the journal.
 
-use crate::answers::put_bytes;
-use crate::device::Device;
-use crate::shelf::{Held, Shelf};
-use crate::words::{self, Halt, front};
 use hg_disk::Disk;
-use hg_gate::{Batch, GateFault, Log, LogPlace};
+use hg_gate::{Batch, Log, LogPlace};
+use hg_harness::answers::put_bytes;
+use hg_harness::device::Device;
+use hg_harness::shelf::{Held, Shelf};
+use hg_harness::words::{self, Halt, front};
 use hg_text::Text;
 use std::alloc::{AllocError, Global};
 
-/// A log that is open, and where the batch stands that is read next.
-struct OpenLog {
-    log: Log<Held>,
-    place: Option<LogPlace>,
-}
-
-impl Drop for OpenLog {
-    fn drop(self) {
-        let OpenLog { log, place: _ } = self;
-        drop(log);
-    }
-}
-
-impl OpenLog {
-    fn into_disk(self) -> Held {
-        let OpenLog { log, place: _ } = self;
-        log.into_disks()
-    }
-}
-
-/// A log, if one is open.
+/// A log, if one is open, and where the batch stands that is read next.
 #[derive(Drop)]
 pub struct LogBench {
-    opened: Option<OpenLog>,
+    opened: Option<Log<Held>>,
+    place: Option<LogPlace>,
 }
 
 /// The most batches that are read at once.
@@ -69,11 +50,11 @@ fn put_none(out: &mut Text) {
 }
 
 /// Appends bytes as a batch.
-fn append(alloc: Global, opened: &mut OpenLog, rest: &str, out: &mut Text) -> Result<(), Halt> {
+fn append(alloc: Global, log: &mut Log<Held>, rest: &str, out: &mut Text) -> Result<(), Halt> {
     let mut body = Vec::new(alloc);
     words::put_bytes(rest, &mut body)?;
     match Batch::new(body) {
-        Ok(batch) => Ok(opened.log.append(&batch)?),
+        Ok(batch) => Ok(log.append(&batch)?),
         Err(_) => {
             out.put(b"no batch");
             Ok(())
@@ -81,31 +62,46 @@ fn append(alloc: Global, opened: &mut OpenLog, rest: &str, out: &mut Text) -> Re
     }
 }
 
-/// Goes to the first batch.
-fn rewind(opened: &mut OpenLog) -> Result<(), Halt> {
-    opened.place = Some(opened.log.first_place()?);
-    Ok(())
-}
-
 /// Appends the batch that is next, or `end`.
-fn put_next(opened: &mut OpenLog, out: &mut Text) -> Result<(), Halt> {
-    let Some(place) = &mut opened.place else {
+fn put_next(log: &mut Log<Held>, place: &mut Option<LogPlace>, out: &mut Text) -> Result<(), Halt> {
+    let Some(place) = place else {
         return Err(Halt::Closed);
     };
-    match opened.log.next_batch(place)? {
+    match log.next_batch(place)? {
         Some(batch) => put_bytes(batch.body(), out),
         None => out.put(b"end"),
     }
     Ok(())
 }
 
+/// Makes a log on a disk without a byte, or attaches one. A refusal hands the disk back.
+fn open(alloc: Global, disk: Held, is_new: bool) -> Result<Log<Held>, (Halt, Held)> {
+    let opened = if is_new {
+        if disk.len() > 0 {
+            return Err((Halt::NotEmpty, disk));
+        }
+        Log::create(alloc, disk)
+    } else {
+        Log::attach(alloc, disk)
+    };
+    match opened {
+        Ok(log) => Ok(log),
+        Err((fault, disk)) => Err((Halt::Fault(fault), disk)),
+    }
+}
+
 impl LogBench {
     pub fn new() -> LogBench {
-        LogBench { opened: None }
+        LogBench {
+            opened: None,
+            place: None,
+        }
     }
 
-    fn put_opened(&mut self, opened: Option<OpenLog>) {
+    /// Has this log, or none.
+    fn put_opened(&mut self, opened: Option<Log<Held>>) {
         self.opened = opened;
+        self.place = None;
     }
 
     pub fn clear(&mut self) {
@@ -115,55 +111,39 @@ impl LogBench {
     /// Puts the disk back, if a log is open.
     pub fn close(&mut self, shelf: &mut Shelf) -> Result<(), AllocError> {
         match self.opened.take() {
-            Some(opened) => shelf.put(Device::Journal, opened.into_disk()),
+            Some(log) => shelf.put(Device::Journal, log.into_disks()),
             None => Ok(()),
         }
     }
 
-    /// Keeps a log, or puts the disk of a refused one back.
-    fn keep(
-        &mut self,
-        shelf: &mut Shelf,
-        made: Result<Log<Held>, (GateFault, Held)>,
-    ) -> Result<(), Halt> {
-        match made {
+    /// Makes or attaches a log, or puts the disk of a refused one back.
+    fn open(&mut self, alloc: Global, shelf: &mut Shelf, is_new: bool) -> Result<(), Halt> {
+        self.close(shelf)?;
+        match open(alloc, shelf.take(alloc, Device::Journal)?, is_new) {
             Ok(log) => {
-                self.put_opened(Some(OpenLog { log, place: None }));
+                self.put_opened(Some(log));
                 Ok(())
             }
-            Err((fault, disk)) => {
+            Err((halt, disk)) => {
                 shelf.put(Device::Journal, disk)?;
-                Err(Halt::Fault(fault))
+                Err(halt)
             }
         }
-    }
-
-    fn create(&mut self, alloc: Global, shelf: &mut Shelf) -> Result<(), Halt> {
-        self.close(shelf)?;
-        let disk = shelf.take(alloc, Device::Journal)?;
-        if disk.len() > 0 {
-            shelf.put(Device::Journal, disk)?;
-            return Err(Halt::NotEmpty);
-        }
-        self.keep(shelf, Log::create(alloc, disk))
-    }
-
-    fn attach(&mut self, alloc: Global, shelf: &mut Shelf) -> Result<(), Halt> {
-        self.close(shelf)?;
-        let disk = shelf.take(alloc, Device::Journal)?;
-        self.keep(shelf, Log::attach(alloc, disk))
     }
 
     /// Does what a line asks of the open log.
     fn work(&mut self, alloc: Global, word: &str, rest: &str, out: &mut Text) -> Result<(), Halt> {
-        let Some(opened) = &mut self.opened else {
+        let Some(log) = &mut self.opened else {
             return Err(Halt::Closed);
         };
         match word {
-            "append" => append(alloc, opened, rest, out),
-            "first" => rewind(opened),
-            "next" => put_next(opened, out),
-            "all" => put_batches(&mut opened.log, out),
+            "append" => append(alloc, log, rest, out),
+            "first" => {
+                self.place = Some(log.first_place()?);
+                Ok(())
+            }
+            "next" => put_next(log, &mut self.place, out),
+            "all" => put_batches(log, out),
             _ => Err(Halt::Words),
         }
     }
@@ -178,8 +158,8 @@ impl LogBench {
     ) -> Result<(), Halt> {
         let (word, rest) = front(text);
         match word {
-            "create" => self.create(alloc, shelf),
-            "attach" => self.attach(alloc, shelf),
+            "create" => self.open(alloc, shelf, true),
+            "attach" => self.open(alloc, shelf, false),
             _ => self.work(alloc, word, rest, out),
         }
     }

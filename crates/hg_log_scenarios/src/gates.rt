@@ -1,10 +1,10 @@
 //! What the lines of a scenario do with a gated file. It stands on the disk of the first root.
 
-use crate::answers::put_bytes;
-use crate::device::Device;
-use crate::shelf::{Held, Shelf};
-use crate::words::{self, Halt, front};
 use hg_gate::Gated;
+use hg_harness::answers::put_bytes;
+use hg_harness::device::Device;
+use hg_harness::shelf::{Held, Shelf};
+use hg_harness::words::{self, Halt, front};
 use hg_text::Text;
 use std::alloc::{AllocError, Global};
 

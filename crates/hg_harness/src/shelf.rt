@@ -1,33 +1,36 @@
 //! What the disks of a scenario have while nothing is open over them.
 
 use crate::answers::put_bytes;
-use crate::device::{DEVICES, Device, read_device};
-use crate::tears::{Tears, tear};
-use crate::words::{self, Halt, number_after};
+use crate::device::{DEVICES, Device, PerDevice, read_device};
+use crate::disks::Disks;
+use crate::tears::tear;
+use crate::words::{self, Halt, Words};
 use hg_disk::{FuseDisk, MemDisk, Tear};
-use hg_store::devices::Devices;
 use hg_text::Text;
 use std::alloc::{AllocError, Global};
 
 /// A disk of a scenario.
 pub type Held = FuseDisk<MemDisk>;
 
-/// When a disk fails: never, at the call after so many, or at all calls after so many.
+/// When a disk fails: at the call after so many, or at all calls after so many.
 #[derive(Clone, Copy)]
 pub enum Fuse {
-    Never,
     Once(u64),
     On(u64),
 }
 
-pub const NO_FUSES: Devices<Fuse> = Devices {
-    journal: Fuse::Never,
-    slots: Fuse::Never,
-    root0: Fuse::Never,
-    root1: Fuse::Never,
+/// More calls than are made.
+const NEVER: Fuse = Fuse::Once(u64::MAX);
+
+/// No disk fails.
+pub const NO_FUSES: PerDevice<Fuse> = PerDevice {
+    journal: NEVER,
+    slots: NEVER,
+    root0: NEVER,
+    root1: NEVER,
 };
 
-const NO_CALLS: Devices<u64> = Devices {
+const NO_CALLS: PerDevice<u64> = PerDevice {
     journal: 0,
     slots: 0,
     root0: 0,
@@ -36,7 +39,7 @@ const NO_CALLS: Devices<u64> = Devices {
 
 /// The bytes of the four devices.
 pub struct Image {
-    pub parts: Devices<Vec<u8>>,
+    pub parts: PerDevice<Vec<u8>>,
 }
 
 impl Drop for Image {
@@ -49,7 +52,7 @@ impl Image {
     /// Four devices without a byte.
     pub fn new(alloc: Global) -> Image {
         Image {
-            parts: Devices {
+            parts: PerDevice {
                 journal: Vec::new(alloc),
                 slots: Vec::new(alloc),
                 root0: Vec::new(alloc),
@@ -68,17 +71,9 @@ impl Image {
     /// Has the bytes of another one.
     pub fn copy(&mut self, other: &Image) -> Result<(), AllocError> {
         for device in DEVICES {
-            let bytes = device.of_mut(&mut self.parts);
+            let bytes = self.parts.of_mut(device);
             bytes.clear();
-            bytes.extend_from_slice(device.of(&other.parts))?;
-        }
-        Ok(())
-    }
-
-    /// Has what a crash leaves of disks that are torn alike.
-    pub fn take(&mut self, disks: &Devices<MemDisk>, tear: Tear) -> Result<(), AllocError> {
-        for device in DEVICES {
-            copy_image(device.of(disks), tear, device.of_mut(&mut self.parts))?;
+            bytes.extend_from_slice(other.parts.of(device))?;
         }
         Ok(())
     }
@@ -99,7 +94,6 @@ fn memory_with(alloc: Global, bytes: &[u8]) -> Result<MemDisk, AllocError> {
 pub fn disk_with(alloc: Global, bytes: &[u8], fuse: Fuse) -> Result<Held, AllocError> {
     let disk = memory_with(alloc, bytes)?;
     Ok(match fuse {
-        Fuse::Never => FuseDisk::once(disk, u64::MAX),
         Fuse::Once(after) => FuseDisk::once(disk, after.saturating_add(1)),
         Fuse::On(after) => FuseDisk::stop(disk, after.saturating_add(1)),
     })
@@ -109,8 +103,8 @@ pub fn disk_with(alloc: Global, bytes: &[u8], fuse: Fuse) -> Result<Held, AllocE
 #[derive(Drop)]
 pub struct Shelf {
     pub image: Image,
-    pub calls: Devices<u64>,
-    pub fuses: Devices<Fuse>,
+    pub calls: PerDevice<u64>,
+    pub fuses: PerDevice<Fuse>,
     /// What a crash makes of what is not synced, as a disk is put back.
     pub tear: Tear,
 }
@@ -135,15 +129,18 @@ fn put_back(
 }
 
 /// All bytes, or with `from N count M` those of them.
-fn put_part(bytes: &[u8], text: &str, out: &mut Text) -> Result<(), Halt> {
-    if text.is_empty() {
+fn put_part(bytes: &[u8], words: &mut Words, out: &mut Text) -> Result<(), Halt> {
+    if words.rest().is_empty() {
         put_bytes(bytes, out);
         return Ok(());
     }
-    let (from, rest) = number_after("from ", text)?;
-    let (count, _) = number_after("count ", rest)?;
-    let behind = bytes.split_at(bytes.len().min(from as usize)).1;
-    put_bytes(behind.split_at(behind.len().min(count as usize)).0, out);
+    words.expect("from ");
+    let from = words.number() as usize;
+    words.expect("count ");
+    let count = words.number() as usize;
+    words.check()?;
+    let behind = bytes.split_at(bytes.len().min(from)).1;
+    put_bytes(behind.split_at(behind.len().min(count)).0, out);
     Ok(())
 }
 
@@ -167,58 +164,78 @@ impl Shelf {
 
     /// A disk of its own for what is to be opened.
     pub fn take(&mut self, alloc: Global, device: Device) -> Result<Held, AllocError> {
-        let fuse = *device.of(&self.fuses);
-        *device.of_mut(&mut self.fuses) = Fuse::Never;
-        disk_with(alloc, device.of(&self.image.parts), fuse)
+        let fuse = *self.fuses.of(device);
+        *self.fuses.of_mut(device) = NEVER;
+        disk_with(alloc, self.image.parts.of(device), fuse)
     }
 
     /// Takes a disk back.
     pub fn put(&mut self, device: Device, disk: Held) -> Result<(), AllocError> {
-        let bytes = device.of_mut(&mut self.image.parts);
-        put_back(disk, self.tear, bytes, device.of_mut(&mut self.calls))
+        let bytes = self.image.parts.of_mut(device);
+        put_back(disk, self.tear, bytes, self.calls.of_mut(device))
+    }
+
+    /// Takes all four back.
+    pub fn put_all(&mut self, disks: Disks) -> Result<(), AllocError> {
+        let PerDevice {
+            journal,
+            slots,
+            root0,
+            root1,
+        } = disks.into_parts();
+        let journal = self.put(Device::Journal, journal);
+        let slots = self.put(Device::Slots, slots);
+        let root0 = self.put(Device::Root0, root0);
+        let root1 = self.put(Device::Root1, root1);
+        journal.and(slots).and(root0).and(root1)
     }
 
     /// `DEVICE call K once`, or `.. on`
     pub fn fail(&mut self, text: &str) -> Result<(), Halt> {
-        let (device, rest) = read_device(text)?;
-        let (call, rest) = number_after("call ", rest)?;
-        let before = call.saturating_sub(1);
-        let fuse = match rest {
+        let mut words = Words::of(text);
+        let device = read_device(&mut words);
+        words.expect("call ");
+        let before = words.number().saturating_sub(1);
+        let fuse = match words.rest() {
             "once" => Fuse::Once(before),
             "on" => Fuse::On(before),
             _ => return Err(Halt::Words),
         };
-        *device.of_mut(&mut self.fuses) = fuse;
+        words.check()?;
+        *self.fuses.of_mut(device) = fuse;
         Ok(())
     }
 
     /// `DEVICE BYTES`
     pub fn set(&mut self, text: &str) -> Result<(), Halt> {
-        let (device, rest) = read_device(text)?;
-        let bytes = device.of_mut(&mut self.image.parts);
+        let mut words = Words::of(text);
+        let device = read_device(&mut words);
+        words.check()?;
+        let bytes = self.image.parts.of_mut(device);
         bytes.clear();
-        words::put_bytes(rest, bytes)
+        words::put_bytes(words.rest(), bytes)
     }
 
     /// What a device that is closed has, or had: its bytes, how many, or how many calls.
     pub fn tell(&self, word: &str, rest: &str, out: &mut Text) -> Result<(), Halt> {
-        let (device, rest) = read_device(rest)?;
-        let bytes = device.of(&self.image.parts);
+        let mut words = Words::of(rest);
+        let device = read_device(&mut words);
+        words.check()?;
+        let bytes = self.image.parts.of(device);
         match word {
-            "bytes" => return put_part(bytes, rest, out),
+            "bytes" => return put_part(bytes, &mut words, out),
             "length" => out.put_decimal(bytes.len() as u64),
-            _ => out.put_decimal(*device.of(&self.calls)),
+            _ => out.put_decimal(*self.calls.of(device)),
         }
         Ok(())
     }
 
     /// Has each disk that is put back be torn as is told, until it is told otherwise.
     pub fn tear_by(&mut self, text: &str) -> Result<(), Halt> {
-        let (found, _) = tear(text)?;
-        match found {
-            Tears::One(found) => self.tear = found,
-            Tears::Fronts(_) => return Err(Halt::Words),
-        }
+        let mut words = Words::of(text);
+        let tear = tear(&mut words);
+        words.check()?;
+        self.tear = tear;
         Ok(())
     }
 }

@@ -1,51 +1,45 @@
-//! What the lines of a scenario act on.
+//! Runs scenarios of logs, journals and gated files over disks in memory, and prints a line for each.
+#![tactic(auto)]
 
-use crate::bench::Bench;
+mod gates;
+mod journals;
+mod logs;
+
 use crate::gates::GateBench;
 use crate::journals::JournalBench;
 use crate::logs::LogBench;
-use crate::shelf::Shelf;
-use crate::words::{Halt, front};
 use hg_disk::Tear;
+use hg_harness::run::{World, run_input};
+use hg_harness::shelf::Shelf;
+use hg_harness::words::{Halt, front};
 use hg_text::Text;
 use std::alloc::{AllocError, Global};
+use std::process::ExitCode;
 
 /// What there is in a scenario.
 #[derive(Drop)]
-pub struct World {
+struct Files {
     alloc: Global,
     shelf: Shelf,
-    bench: Bench,
     log: LogBench,
     journal: JournalBench,
     gated: GateBench,
 }
 
-impl World {
+impl Files {
     /// Four empty disks, and nothing open.
-    pub fn new(alloc: Global) -> World {
-        World {
+    fn new(alloc: Global) -> Files {
+        Files {
             alloc,
             shelf: Shelf::new(alloc),
-            bench: Bench::new(alloc),
             log: LogBench::new(),
             journal: JournalBench::new(alloc),
             gated: GateBench::new(),
         }
     }
 
-    /// Is again as a new one.
-    pub fn clear(&mut self) {
-        self.shelf.clear();
-        self.bench.clear();
-        self.log.clear();
-        self.journal.clear();
-        self.gated.clear();
-    }
-
     /// Puts the disks of what is open back.
     fn close(&mut self) -> Result<(), AllocError> {
-        self.bench.close(&mut self.shelf)?;
         self.log.close(&mut self.shelf)?;
         self.journal.close(&mut self.shelf)?;
         self.gated.close(&mut self.shelf)
@@ -58,9 +52,10 @@ impl World {
         self.shelf.tear = Tear::Kept;
         Ok(closed?)
     }
+}
 
-    /// Does what a line asks for, and answers it. Where it tells nothing, the answer is `ok`.
-    pub fn perform(&mut self, order: &str, out: &mut Text) -> Result<(), Halt> {
+impl World for Files {
+    fn perform(&mut self, order: &str, out: &mut Text) -> Result<(), Halt> {
         let (word, rest) = front(order);
         let alloc = self.alloc;
         let shelf = &mut self.shelf;
@@ -73,7 +68,19 @@ impl World {
             "log" => self.log.perform(alloc, shelf, rest, out),
             "journal" => self.journal.perform(alloc, shelf, rest, out),
             "gated" => self.gated.perform(alloc, shelf, rest, out),
-            _ => self.bench.perform(shelf, word, rest, out),
+            _ => Err(Halt::Words),
         }
     }
+
+    fn clear(&mut self) {
+        self.shelf.clear();
+        self.log.clear();
+        self.journal.clear();
+        self.gated.clear();
+    }
+}
+
+fn main(rt: HostRuntime) -> ExitCode {
+    let mut files = Files::new(rt.alloc());
+    run_input(&rt, &mut files)
 }
