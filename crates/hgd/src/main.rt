@@ -1,16 +1,6 @@
 //! `hgd`: a detector of data races in traces of programs with threads.
 #![tactic(auto)]
 
-pub mod events;
-pub mod stores;
-pub mod streams;
-pub mod texts;
-pub mod told;
-
-use crate::stores::{create_in, explain_in, feed_in, print_of_store};
-use crate::streams::plain_outputs;
-use crate::texts::{Wanted, explain_input, print_of_input};
-use crate::told::{FAULT, fail, fail_to_open};
 use hg_check::telling::tell;
 use hg_commands::plan::FeedPlan;
 use hg_directory::{Access, Cause, open_directory};
@@ -22,6 +12,10 @@ use hg_options::task::{Frames, Jobs, Misread, Serving, StoreTask, Task};
 use hg_server::serving::{Door, Plan, serve};
 use hg_server::worker::OpenGate;
 use hg_store::devices::Devices;
+use hg_tasks::stores::{create_in, explain_in, feed_in, print_of_store};
+use hg_tasks::streams::plain_outputs;
+use hg_tasks::texts::{Wanted, explain_input, print_of_input};
+use hg_tasks::told::{FAULT, fail, fail_to_open};
 use std::alloc::Global;
 use std::env;
 use std::io::{ErrorKind, Write};

@@ -1,0 +1,8 @@
+//! What the tasks of a command line do, on the standard streams and on the files of a store's directory. Serving is not among them.
+#![tactic(auto)]
+
+pub mod events;
+pub mod stores;
+pub mod streams;
+pub mod texts;
+pub mod told;
