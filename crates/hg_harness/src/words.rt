@@ -140,6 +140,17 @@ impl<'a> Words<'a> {
         }
     }
 
+    /// The number in front, which is below 2^32.
+    pub fn wide_number(&mut self) -> u32 {
+        match u32::try_from(self.number()) {
+            Ok(value) => value,
+            Err(_) => {
+                self.is_understood = false;
+                0
+            }
+        }
+    }
+
     /// The byte in front, two hexadecimal digits.
     pub fn byte(&mut self) -> u8 {
         match byte_of(self.word()) {

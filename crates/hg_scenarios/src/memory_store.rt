@@ -59,21 +59,13 @@ fn disks_of(devices: Devices<Held>) -> Disks {
     })
 }
 
-/// A limit of a store, which is at most this one.
-fn limit(wanted: u64, most: u32) -> u32
-    requires { 1 ≤ most }
-    ensures { (1 ≤ result) × (result ≤ most) }
-{
-    u32::try_from(wanted).unwrap_or(most).clamp(1, most)
-}
-
 fn caps_of(opening: Opening) -> Caps
     ensures sets { (1 ≤ result.sets) × (result.sets ≤ MOST_SETS) }
     ensures slots { (1 ≤ result.slots) × (result.slots ≤ MOST_SLOTS) }
 {
     Caps {
-        sets: limit(opening.sets, MOST_SETS),
-        slots: limit(opening.slots, MOST_SLOTS),
+        sets: opening.sets.clamp(1, MOST_SETS),
+        slots: opening.slots.clamp(1, MOST_SLOTS),
     }
 }
 

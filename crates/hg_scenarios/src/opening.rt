@@ -8,8 +8,8 @@ pub struct Opening {
     pub is_new: bool,
     /// How many pages stand in memory at most.
     pub frames: u16,
-    pub sets: u64,
-    pub slots: u64,
+    pub sets: u32,
+    pub slots: u32,
 }
 
 impl Opening {
@@ -34,8 +34,8 @@ pub const NEW: Opening = Opening {
 fn read_part(words: &mut Words, opening: &mut Opening) {
     match words.word() {
         "frames" => opening.frames = words.short_number(),
-        "sets" => opening.sets = words.number(),
-        "slots" => opening.slots = words.number(),
+        "sets" => opening.sets = words.wide_number(),
+        "slots" => opening.slots = words.wide_number(),
         _ => words.fail(),
     }
 }
