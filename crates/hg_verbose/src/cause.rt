@@ -145,6 +145,21 @@ fn put_of_threads(
     }
 }
 
+/// Appends that an access passes the end of the addresses.
+fn put_past_the_end(event: Event, text: &mut String) -> Result<(), AllocError> {
+    let (address, length) = place(event);
+    write!(
+        text,
+        "{length} bytes from address {address:#x} on pass the end of the addresses, 2^64"
+    )
+}
+
+/// Appends that there may be no more segments.
+fn put_full_graph(past: &Past, text: &mut String) -> Result<(), AllocError> {
+    let segments = past.segments();
+    write!(text, "there are {segments} segments, and may be 1048576")
+}
+
 /// Appends why an event was refused with this code, after those events.
 pub fn put_cause(
     past: &Past,
@@ -152,16 +167,11 @@ pub fn put_cause(
     code: u64,
     text: &mut String,
 ) -> Result<(), AllocError> {
-    let (address, length) = place(event);
-    let segments = past.segments();
     match code {
         2 => put_bad_number(event, text),
         3 => put_bad_length(event, text),
-        4 => write!(
-            text,
-            "{length} bytes from address {address:#x} on pass the end of the addresses, 2^64"
-        ),
-        16 => write!(text, "there are {segments} segments, and may be 1048576"),
+        4 => put_past_the_end(event, text),
+        16 => put_full_graph(past, text),
         17 => text.push_str("2^58 events were accepted, and there may be no more"),
         19 => text.push_str(
             "262144 sets of threads and of locks are in use, and this event needs another one",

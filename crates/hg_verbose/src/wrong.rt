@@ -38,40 +38,53 @@ fn put_word(place: usize, word: &[u8], text: &mut String) -> Result<(), AllocErr
     put_quoted(word, text)
 }
 
+/// Appends that a line has no verb.
+fn put_no_verb(word: &[u8], text: &mut String) -> Result<(), AllocError> {
+    text.push_str("there is no verb ")?;
+    put_quoted(word, text)
+}
+
+/// Appends that nothing stands where a word should.
+fn put_empty_word(place: usize, text: &mut String) -> Result<(), AllocError> {
+    let number = place.saturating_add(1);
+    write!(
+        text,
+        "word {number} is empty: one space stands before each word, and none at the end"
+    )
+}
+
+/// Appends how many numbers the verb takes.
+fn put_count(verb: Verb, given: usize, text: &mut String) -> Result<(), AllocError> {
+    let verb_name = name(verb);
+    let wanted = verb.widths().len();
+    write!(
+        text,
+        "{verb_name} takes {wanted} numbers, and {given} stand here"
+    )
+}
+
+/// Appends that a word is no number.
+fn put_misspelt(place: usize, word: &[u8], text: &mut String) -> Result<(), AllocError> {
+    put_word(place, word, text)?;
+    text.push_str(", is no number: 1 to 20 decimal digits, or 0x and 1 to 16 hexadecimal digits")
+}
+
+/// Appends that a number has more bits than may stand at its place.
+fn put_too_great(place: usize, word: &[u8], bits: u8, text: &mut String) -> Result<(), AllocError> {
+    put_word(place, word, text)?;
+    let most = greatest(bits);
+    write!(text, ", is too great: at most {most} may stand there")
+}
+
 /// Appends what is wrong with a line. Its words are counted from 1 on, the verb first.
 fn put_diagnosis(found: Diagnosis<'_>, text: &mut String) -> Result<(), AllocError> {
     match found {
         Diagnosis::TooLong => text.push_str("it has more than 256 bytes"),
-        Diagnosis::NoVerb { word } => {
-            text.push_str("there is no verb ")?;
-            put_quoted(word, text)
-        }
-        Diagnosis::EmptyWord { place } => {
-            let number = place.saturating_add(1);
-            write!(
-                text,
-                "word {number} is empty: one space stands before each word, and none at the end"
-            )
-        }
-        Diagnosis::Count { verb, given } => {
-            let verb_name = name(verb);
-            let wanted = verb.widths().len();
-            write!(
-                text,
-                "{verb_name} takes {wanted} numbers, and {given} stand here"
-            )
-        }
-        Diagnosis::Misspelt { place, word } => {
-            put_word(place, word, text)?;
-            text.push_str(
-                ", is no number: 1 to 20 decimal digits, or 0x and 1 to 16 hexadecimal digits",
-            )
-        }
-        Diagnosis::TooGreat { place, word, bits } => {
-            put_word(place, word, text)?;
-            let most = greatest(bits);
-            write!(text, ", is too great: at most {most} may stand there")
-        }
+        Diagnosis::NoVerb { word } => put_no_verb(word, text),
+        Diagnosis::EmptyWord { place } => put_empty_word(place, text),
+        Diagnosis::Count { verb, given } => put_count(verb, given, text),
+        Diagnosis::Misspelt { place, word } => put_misspelt(place, word, text),
+        Diagnosis::TooGreat { place, word, bits } => put_too_great(place, word, bits, text),
     }
 }
 
