@@ -17,7 +17,7 @@ at_last P at len last some is all =
     let page : (at + (len - 1)) / 4 / 256 ≡ last = omega (arith, is) in
     subst P page (all ((at + (len - 1)) / 4) (overlapped at len ((at + (len - 1)) / 4) (omega (arith, some)) (omega (arith, some))))
 
-got : (cells : List Cell) (i : ℕ) (cell : Cell) → slice_get cells i ≡ Some cell → get_or cells i New ≡ cell
+pub got : (cells : List Cell) (i : ℕ) (cell : Cell) → slice_get cells i ≡ Some cell → get_or cells i New ≡ cell
 got [] i cell is = absurd (cc is)
 got (x ∷ xs) zero cell is = cc is
 got (x ∷ xs) (suc i) cell is = got xs i cell is

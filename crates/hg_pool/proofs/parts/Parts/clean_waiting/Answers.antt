@@ -1,4 +1,4 @@
-use Rattle.std.proofs.Common.{◌≡◌, ◌<◌, ◌∙◌, ℕ, List, get_or, sym, ap, subst}
+use Rattle.std.proofs.Common.{◌≡◌, ◌⊎◌, inl, inr, ◌<◌, ◌∙◌, ℕ, List, get_or, sym, ap, subst}
 use Rattle.hg_cells.specs.declared.cell.Cell.{Cell}
 use Rattle.hg_cells.specs.declared.cell.Cell.TheVariants.{New}
 use Rattle.hg_pages.specs.Slots.{IsSlot}
@@ -6,6 +6,10 @@ use Rattle.hg_pool.specs.Maps.{bytes_of, frame_in, frozen_at}
 use Rattle.hg_pool.specs.Sound.{shown_of}
 use Rattle.hg_pool.proofs.Writing.{frozen_plain}
 use Rattle.hg_pool.proofs.parts.Parts.clean_waiting.Goals as goal
+
+first_or_second : {A B C : Type 0} → A ⊎ B → A ⊎ (B ⊎ C)
+first_or_second (inl a) = inl a
+first_or_second (inr b) = inr (inl b)
 
 pub write_waiting-requires-clause-stands : goal.write_waiting-requires-clause-stands
 write_waiting-requires-clause-stands g c =
@@ -18,3 +22,6 @@ write_waiting-requires-clause-stands g c =
 pub write_waiting-requires-clause-as_frozen : goal.write_waiting-requires-clause-as_frozen
 write_waiting-requires-clause-as_frozen g c none f is =
     subst (λ (n : ℕ). IsSlot n f.cells c.in_ok-encoded.encoded.bytes) (sym c.in_ok-encoded.ensures.page) (c.in_ok-encoded.ensures.slot f (ap (λ (n : ℕ). frame_in c.args.self.now.frames.entries n) (sym c.in_ok-encoded.ensures.page) ∙ is))
+
+pub returns-clause-takes : goal.returns-clause-takes
+returns-clause-takes g c q s is = first_or_second (c.write_waiting.ensures.slots q s is)

@@ -7,6 +7,7 @@ use Rattle.hg_pool.specs.Sound.{shown_of}
 use Rattle.hg_pool.proofs.Orders.{front_pages, got_there, last_get, last_of, none_last, removed_last, same_pages}
 use Rattle.hg_pool.proofs.Stepping.{cells_on, stays_on}
 use Rattle.hg_pool.specs.declared.parts.Parts.{Parts}
+use Rattle.hg_pool.specs.Picking.{TakesLeastFree}
 use Rattle.hg_pool.specs.Reached.{IsReached}
 use Rattle.hg_pool.proofs.parts.Parts.evict.Goals as goal
 
@@ -64,3 +65,6 @@ returns-clause-cells g c = cells_on c.args.self.now.frames.entries c.clean.new.s
 
 pub returns-clause-reached : goal.returns-clause-reached
 returns-clause-reached g c = subst (λ (x : Parts g.row.D.Denot). IsReached x) (sym c.let_go.ensures.rest) c.clean.ensures.reached
+
+pub returns-clause-takes : goal.returns-clause-takes
+returns-clause-takes g c = subst (λ (x : Parts g.row.D.Denot). TakesLeastFree (shown_of c.args.self.now) (shown_of x)) (sym c.let_go.ensures.rest) c.clean.ensures.takes

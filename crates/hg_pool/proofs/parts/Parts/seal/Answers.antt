@@ -1,8 +1,12 @@
-use Rattle.std.proofs.Common.{true, refl, sym, ◌∙◌}
+use Rattle.std.proofs.Common.{◌≡◌, ℕ, true, List, [], ◌∷◌, length, refl, sym, ◌∙◌, arith}
 use Rattle.hg_pool.specs.Sound.{shown_of}
 use Rattle.hg_pool.proofs.Breaking.{broke}
 use Rattle.hg_pool.proofs.Sealed.{seal_sealed, stays_sealed, usable}
 use Rattle.hg_pool.proofs.parts.Parts.seal.Goals as goal
+
+none_of : (table : List (ℕ × ℕ)) → length table ≡ 0 → table ≡ []
+none_of [] is = refl
+none_of (e ∷ rest) is = absurd (omega (arith, is))
 
 pub returns-in_err-seal-clause-stays : goal.returns-in_err-seal-clause-stays
 returns-in_err-seal-clause-stays g c =
@@ -21,3 +25,21 @@ returns-else-len-eq0-clause-stays g c =
 
 pub returns-then-len-eq0-clause-sealed : goal.returns-then-len-eq0-clause-sealed
 returns-then-len-eq0-clause-sealed g c h none = seal_sealed g.D.Disk (shown_of c.args.self.now) c.seal.new.self true h none c.seal.ensures.known c.in_ok-seal.ensures.durable
+
+pub returns-then-len-eq0-clause-sound : goal.returns-then-len-eq0-clause-sound
+returns-then-len-eq0-clause-sound g c =
+    let s = c.requires.sound in
+    record {
+      picked = s.picked;
+      copied = s.copied;
+      few = s.few;
+      most = s.most;
+      numbers = s.numbers;
+      sealed = λ _. none_of c.args.self.now.waiting.entries (sym c.len.ensures ∙ c.if-len-eq0.true);
+      most_frames = s.most_frames;
+      least_frames = s.least_frames;
+      most_slots = s.most_slots;
+      root_below = s.root_below;
+      frozen_below = s.frozen_below;
+      live_below = s.live_below;
+    }

@@ -1,11 +1,18 @@
-use Rattle.std.proofs.Common.{◌∙◌, inr, sym, ap, subst}
+use Rattle.std.proofs.Common.{rules, ◌∙◌, inl, inr, Result, Ok, Err, OnErr, sym, ap, subst}
+use Rattle.std.proofs.lemmas.Result.{IfOk-from_err, err_from_is_err_and}
 use Rattle.hg_pages.specs.Tables.{IsNamed}
 use Rattle.hg_pool.specs.declared.parts.Parts.{Parts}
 use Rattle.hg_pool.specs.Maps.{bytes_of, frame_in}
-use Rattle.hg_pool.specs.Sound.{shown_of}
-use Rattle.hg_pool.proofs.Stepping.{cells_on, cells_same, stays_on}
+use Rattle.hg_pool.specs.Sound.{IsSound, shown_of}
+use Rattle.hg_pool.specs.Calls.{MayChange}
+use Rattle.hg_pool.proofs.Stepping.{cells_on, cells_same, stays_nowhere, stays_on}
 use Rattle.hg_pool.proofs.Writing.{stands}
 use Rattle.hg_pool.proofs.parts.Parts.write_changed.Goals as goal
+
+-- what holds after both outcomes
+on_err : {T E : Type 0} (r : Result T E) {P : Type 0} → P → OnErr r P
+on_err (Ok value) is = tt
+on_err (Err error) is = is
 
 pub returns-in_err-write_unnamed-clause-stays : goal.returns-in_err-write_unnamed-clause-stays
 returns-in_err-write_unnamed-clause-stays g c =
@@ -38,3 +45,48 @@ returns-in_err-write_unnamed-clause-cells g c =
 
 pub returns-in_err-reserve_live-clause-cells : goal.returns-in_err-reserve_live-clause-cells
 returns-in_err-reserve_live-clause-cells g c = cells_same c.args.self.now.frames.entries c.reserve_live.new.self.frames.entries (ap (λ (x : Parts g.row.D.Denot). x.frames.entries) c.reserve_live.ensures.rest)
+
+pub write_unnamed-requires-clause-not_live : goal.write_unnamed-requires-clause-not_live
+write_unnamed-requires-clause-not_live g c named = c.requires.free (inr (inr (inl (subst (λ es. IsNamed es c.args.slot) c.reserve_live.ensures.entries named))))
+
+pub move_live-requires-clause-settled : goal.move_live-requires-clause-settled
+move_live-requires-clause-settled g c =
+    subst (λ (x : Parts g.row.D.Denot). MayChange (shown_of x) c.args.page) (sym c.write_unnamed.ensures.rest)
+    (subst (λ (x : Parts g.row.D.Denot). MayChange (shown_of x) c.args.page) (sym c.reserve_live.ensures.rest) c.requires.settled)
+
+pub returns-in_err-encoded-clause-stays : goal.returns-in_err-encoded-clause-stays
+returns-in_err-encoded-clause-stays g c = stays_nowhere g.D.Disk (shown_of c.args.self.now)
+
+pub returns-in_err-reserve_live-clause-clean : goal.returns-in_err-reserve_live-clause-clean
+returns-in_err-reserve_live-clause-clean g c = IfOk-from_err c.from_residual-in_err-reserve_live.result _ c.from_residual-in_err-reserve_live.ensures.0
+
+pub returns-in_err-reserve_live-clause-slots : goal.returns-in_err-reserve_live-clause-slots
+returns-in_err-reserve_live-clause-slots g c = IfOk-from_err c.from_residual-in_err-reserve_live.result _ c.from_residual-in_err-reserve_live.ensures.0
+
+pub returns-in_err-reserve_live-clause-refused : goal.returns-in_err-reserve_live-clause-refused
+returns-in_err-reserve_live-clause-refused g c = on_err c.from_residual-in_err-reserve_live.result c.reserve_live.ensures.entries
+
+pub returns-in_err-encoded-clause-clean : goal.returns-in_err-encoded-clause-clean
+returns-in_err-encoded-clause-clean g c = IfOk-from_err c.from_residual.result _ c.from_residual.ensures.0
+
+pub returns-in_err-encoded-clause-slots : goal.returns-in_err-encoded-clause-slots
+returns-in_err-encoded-clause-slots g c = IfOk-from_err c.from_residual.result _ c.from_residual.ensures.0
+
+pub returns-in_err-reserve_live-clause-refusal : goal.returns-in_err-reserve_live-clause-refusal
+returns-in_err-reserve_live-clause-refusal g c =
+    let p = err_from_is_err_and c.from_residual-in_err-reserve_live.result c.from_residual-in_err-reserve_live.ensures.1 in
+    rw (p.1, p.2, c.in_err-reserve_live.ensures.refusal) tt
+
+pub returns-in_err-encoded-clause-refusal : goal.returns-in_err-encoded-clause-refusal
+returns-in_err-encoded-clause-refusal g c =
+    let p = err_from_is_err_and c.from_residual.result c.from_residual.ensures.1 in
+    rw (p.1, p.2) tt
+
+pub returns-in_err-write_unnamed-clause-sound : goal.returns-in_err-write_unnamed-clause-sound
+returns-in_err-write_unnamed-clause-sound g c = subst (λ (x : Parts g.row.D.Denot). IsSound x) (sym c.write_unnamed.ensures.rest) c.reserve_live.ensures.sound
+
+pub returns-in_err-write_unnamed-clause-refusal : goal.returns-in_err-write_unnamed-clause-refusal
+returns-in_err-write_unnamed-clause-refusal g c = search rules
+
+pub returns-in_err-write_unnamed-clause-device : goal.returns-in_err-write_unnamed-clause-device
+returns-in_err-write_unnamed-clause-device g c = search rules

@@ -4,6 +4,7 @@ use Rattle.hg_pages.specs.Slots.{slot_text}
 use Rattle.hg_pages.specs.Tables.{slot_in}
 use Rattle.hg_pool.specs.declared.job.Put.TheVariants.{Stale}
 use Rattle.hg_pool.specs.Answers.{IsFrozen}
+use Rattle.hg_pool.specs.Kept.{CellsFrom}
 use Rattle.hg_pool.specs.Shown.{ShownPool}
 use Rattle.hg_pool.proofs.pool.Pool.put.Goals as goal
 
@@ -15,3 +16,6 @@ returns-clause-stale g c =
 
 pub invariant_of-self : goal.invariant_of-self
 invariant_of-self g c = (c.put.ensures.sound, c.put.ensures.reached c.self.invariant.1)
+
+pub returns-clause-cells : goal.returns-clause-cells
+returns-clause-cells g c = subst (λ (p : ShownPool g.row.D.Denot). CellsFrom p.frames c.put.new.self.frames.entries) c.self.view_is c.put.ensures.cells
