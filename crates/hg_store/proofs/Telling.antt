@@ -4,7 +4,6 @@ use Rattle.hg_model.specs.declared.verdict.Refusal.{Refusal}
 use Rattle.hg_model.specs.declared.verdict.Refusal.TheVariants as refusal
 use Rattle.hg_journal.specs.Journal.{IsOfReading}
 use Rattle.hg_words.specs.Words as words
-use Rattle.hg_store.specs.Answers.{failed_in}
 use Rattle.hg_store.specs.Recovering.{CountedBy, IsOfFollowing, IsOfRecovery, IsToldAs}
 use Rattle.hg_store.proofs.Replaying.{words_failed}
 
