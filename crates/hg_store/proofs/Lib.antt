@@ -17,3 +17,4 @@ pub mod Replaying
 pub mod Making
 pub mod Telling
 pub mod Phases
+pub mod Untaken
