@@ -15,3 +15,6 @@ pub mod Opening
 pub mod Freezing
 pub mod Replaying
 pub mod Making
+pub mod Telling
+pub mod Phases
+pub mod Untaken

@@ -1,5 +1,10 @@
-use Rattle.std.proofs.Common.{◌≡◌, ℕ, List, codes, refl, sym, subst}
-use Rattle.std.proofs.lemmas.Result.{on_ok_weaker}
+use Rattle.std.proofs.Common.{◌≡◌, ℕ, List, codes, inl, inr, refl, sym, subst}
+use Rattle.std.proofs.lemmas.Result.{IfErr-at_err, on_ok_weaker}
+use Rattle.hg_model.specs.declared.verdict.Refusal.{Refusal}
+use Rattle.hg_disk.specs.declared.disk.Disk as disk
+use Rattle.hg_store.specs.declared.devices.Devices.{Devices}
+use Rattle.hg_server.specs.declared.fault.ServingFault.{ServingFault}
+use Rattle.hg_server.specs.declared.fault.ServingFault.TheVariants as fault
 use Rattle.hg_streams.specs.declared.call.WriteCall.{WriteCall}
 use Rattle.hg_store.specs.Shown.{live}
 use Rattle.hg_check.proofs.Printed.{appends_on, front_more}
@@ -9,8 +14,27 @@ use Rattle.hg_listing.specs.Printed.{IsPrintedNow}
 use Rattle.hg_listing.specs.Storing.{number_text}
 use Rattle.hg_desk.specs.Going.{WentOn, began}
 use Rattle.hg_desk.proofs.Going.{went_nowhere}
-use Rattle.hg_server.specs.Serving.{served_text, serving_text}
+use Rattle.hg_server.specs.Serving.{IsServingFault, IsToldTruly, refusal_of, served_text, serving_text}
 use Rattle.hg_server.proofs.serving.serve_and_print.Goals as goal
+
+-- a fault that is told by the refusal of its name
+of_fault : {D : Type 0} (g : disk.Ghosts D) (old new : Devices D) (f : ServingFault) → IsToldTruly g old new f → IsServingFault g old new (refusal_of f)
+of_fault g old new fault.Broken truly = inl (refl, truly refl)
+of_fault g old new fault.DeviceFault truly = inr (inl refl)
+of_fault g old new fault.OutOfMemory truly = inr (inr refl)
+
+pub returns-in-Err-clause-cause : goal.returns-in-Err-clause-cause
+returns-in-Err-clause-cause g c = inr (inl c.in-Err.ensures.cause)
+
+pub returns-in-Err-ended-clause-cause : goal.returns-in-Err-ended-clause-cause
+returns-in-Err-ended-clause-cause g c =
+    let old = c.args.store.devices in
+    let new = c.serve_over-store.result.store.devices in
+    let truly = IfErr-at_err (IsToldTruly g.D.Disk old new) c.in-Err-ended.is c.serve_over-store.ensures.cause in
+    subst (λ (r : Refusal). IsServingFault g.D.Disk old new r) (sym c.from-in-Err-ended.ensures) (of_fault g.D.Disk old new c.in-Err-ended.fault truly)
+
+pub returns-clause-went : goal.returns-clause-went
+returns-clause-went g c = c.serve_over-store.ensures.went
 
 took_ready : (old new : List WriteCall) (n m : ℕ) → n ≡ m → Took old new (number_text (codes "ready ") n) → Took old new (number_text (codes "ready ") m)
 took_ready old new n m same = subst (λ (k : ℕ). Took old new (number_text (codes "ready ") k)) same

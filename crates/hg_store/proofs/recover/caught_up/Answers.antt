@@ -1,4 +1,4 @@
-use Rattle.std.proofs.Common.{Err, sym, ap, subst}
+use Rattle.std.proofs.Common.{Err, inr, refl, sym, ap, subst}
 use Rattle.hg_model.specs.Contents.{Content}
 use Rattle.hg_model.specs.declared.verdict.Refusal.{Refusal}
 use Rattle.hg_detect.specs.Shown as detect
@@ -9,6 +9,8 @@ use Rattle.hg_journal.proofs.Journaling.{bytes_now}
 use Rattle.hg_contents.specs.Images.{LeadFrom}
 use Rattle.hg_pool.specs.Shown as pool
 use Rattle.hg_store.specs.Recovering.{HasSets}
+use Rattle.hg_root.specs.Pairs.{first_of, second_of}
+use Rattle.hg_root.specs.declared.pair.RootPair.{RootPair}
 use Rattle.hg_store.proofs.Making.{based, basis_of, ready}
 use Rattle.hg_store.proofs.Replaying.{content_in}
 use Rattle.hg_store.proofs.recover.caught_up.Goals as goal
@@ -49,3 +51,24 @@ returns-clause-sets g c honest =
     let start = c.requires.started honest in
     subst (λ (d : detect.ShownDetector (pool.ShownPool g.row.D.Denot)). HasSets (content_in g.D.Disk c.args.detector) c.args.detector.sets (g.D.Disk.state (journals.disk_of c.args.journal)).contents (content_in g.D.Disk d) d.sets) (sym c.made.ensures.detector)
     (c.in-Ok.ensures.sets start.0 honest start.2 start.3.ready.faithful)
+
+pub returns-then-is_broken-clause-device : goal.returns-then-is_broken-clause-device
+returns-then-is_broken-clause-device g c = inr (refl, c.in-Ok.ensures.device)
+
+pub returns-clause-device : goal.returns-clause-device
+returns-clause-device g c = rw (c.made.ensures.devices, c.made.ensures.detector) c.in-Ok.ensures.device
+
+pub returns-clause-journal : goal.returns-clause-journal
+returns-clause-journal g c = rw c.made.ensures.devices c.replay.ensures.any_moment
+
+pub returns-clause-went : goal.returns-clause-went
+returns-clause-went g c = rw c.made.ensures.detector c.replay.ensures.went
+
+pub returns-clause-slots : goal.returns-clause-slots
+returns-clause-slots g c = rw (c.made.ensures.devices, c.made.ensures.detector) refl
+
+pub returns-clause-first : goal.returns-clause-first
+returns-clause-first g c = rw c.made.ensures.devices (ap (λ (r : RootPair g.row.D.Denot). first_of r) c.new-checkpointer.ensures.roots)
+
+pub returns-clause-second : goal.returns-clause-second
+returns-clause-second g c = rw c.made.ensures.devices (ap (λ (r : RootPair g.row.D.Denot). second_of r) c.new-checkpointer.ensures.roots)

@@ -1,9 +1,12 @@
-use Rattle.std.proofs.Common.{◌≡◌, ◌<◌, ◌∙◌, ℕ, All, length, Option, Some, sym, ap, subst, rules}
+use Rattle.std.proofs.Common.{◌≡◌, ◌<◌, ◌∙◌, ℕ, All, length, Option, None, Some, refl, sym, ap, subst, rules}
 use Rattle.std.specs.Prelude.{IfOk, IfSome}
 use Rattle.hg_model.specs.declared.verdict.Refusal.{Refusal}
-use Rattle.hg_model.specs.declared.verdict.Refusal.TheVariants.{Damaged}
+use Rattle.hg_model.specs.declared.verdict.Refusal.TheVariants.{Damaged, OutOfMemory}
 use Rattle.hg_detect.specs.Shown.{content}
-use Rattle.hg_pages.specs.Files.{known}
+use Rattle.hg_disk.proofs.Staying.{same}
+use Rattle.hg_checkpointer.specs.Tables.{NamesOf}
+use Rattle.hg_pages.specs.Files.{disk_of, known}
+use Rattle.hg_pages.specs.declared.slot_file.SlotFile.{SlotFile}
 use Rattle.hg_pool.specs.Maps.{live}
 use Rattle.hg_root.specs.Checkpoints.{Checkpoint, HasPages, root_of}
 use Rattle.hg_root.specs.Finding.{IsWholeIn, root_in}
@@ -11,10 +14,18 @@ use Rattle.hg_root.specs.Parts.{Parts}
 use Rattle.hg_root.specs.Roots.{parts_of}
 use Rattle.hg_contents.specs.Images.{start_of}
 use Rattle.hg_recovery.specs.Restoring.{IsTrueCause}
+use Rattle.hg_store.specs.Images.{LeavesOld}
 use Rattle.hg_store.specs.Recovering.{IsTooFew}
 use Rattle.hg_store.proofs.Making.{each_names, each_ready, first_ready, if_err, some_checkpoint}
 use Rattle.hg_store.proofs.Replaying.{on_ok}
 use Rattle.hg_store.proofs.recover.detector_of.Goals as goal
+
+no_root : (o : Option Checkpoint) → root_of o ≡ None → o ≡ None
+no_root None is = refl
+no_root (Some checkpoint) is = absurd (cc)
+
+memory_is_not_room : (sets slots : ℕ) → IsTooFew sets slots None OutOfMemory
+memory_is_not_room sets slots = (λ told. absurd (cc), λ told. absurd (cc))
 
 pub returns-in-Some-clause-content : goal.returns-in-Some-clause-content
 returns-in-Some-clause-content g c honest o is has =
@@ -61,3 +72,29 @@ returns-in-Ok-clause-ready g c honest = first_ready g.D.Disk c.in-Ok.detector c.
 pub returns-in-Some-clause-names : goal.returns-in-Some-clause-names
 returns-in-Some-clause-names g c o is =
     each_names g.D.Disk c.in-Some.root c.caps_of.result o (subst IsWholeIn c.in-Some.is c.requires.whole).1 (is ∙ ap root_in c.in-Some.is) c.restored.result c.restored.ensures.shown
+
+pub returns-in-Ok-clause-content : goal.returns-in-Ok-clause-content
+returns-in-Ok-clause-content g c honest o is has = c.in-Ok.ensures.content ∙ ap (λ (p : Option Checkpoint). start_of p) (sym (no_root o (is ∙ ap root_in c.in-None.is)))
+
+pub returns-in-Ok-clause-names : goal.returns-in-Ok-clause-names
+returns-in-Ok-clause-names g c o is = subst (λ (p : Option Checkpoint). NamesOf c.in-Ok.detector.words.root p) (sym (no_root o (is ∙ ap root_in c.in-None.is))) tt
+
+pub returns-in-Ok-clause-stands : goal.returns-in-Ok-clause-stands
+returns-in-Ok-clause-stands g c honest = (None, sym (ap root_in c.in-None.is), tt)
+
+pub returns-in-Err-clause-full : goal.returns-in-Err-clause-full
+returns-in-Err-clause-full g c =
+    let sets = c.args.caps.sets in
+    let slots = c.args.caps.slots in
+    subst (λ (o : Option Parts). IsTooFew sets slots o OutOfMemory) (sym (ap root_in c.in-None.is)) (memory_is_not_room sets slots)
+
+pub returns-in-Err-clause-device : goal.returns-in-Err-clause-device
+returns-in-Err-clause-device g c = ap (λ (f : SlotFile g.row.D.Denot). g.D.Disk.failures (disk_of f)) c.in-Err.ensures.handed_back
+
+pub returns-in-Err-clause-any_moment : goal.returns-in-Err-clause-any_moment
+returns-in-Err-clause-any_moment g c =
+    let file = c.args.file in
+    subst (λ (f : SlotFile g.row.D.Denot). LeavesOld g.D.Disk (disk_of file) (disk_of f)) (sym c.in-Err.ensures.handed_back) (same g.D.Disk (disk_of file))
+
+pub returns-in-Some-clause-device : goal.returns-in-Some-clause-device
+returns-in-Some-clause-device g c = c.restored.ensures.device

@@ -1,12 +1,17 @@
-use Rattle.std.proofs.Common.{◌≡◌, ◌∙◌, ℕ, List, Bool, cond, Err, sym, ap, subst}
+use Rattle.std.proofs.Common.{◌≡◌, ◌∙◌, ◌+◌, ℕ, List, Bool, cond, Err, sym, ap, subst}
 use Rattle.std.specs.Prelude.{IfSome}
 use Rattle.hg_model.specs.declared.verdict.Refusal.{Refusal}
 use Rattle.hg_pages.specs.Files as files
 use Rattle.hg_root.specs.Checkpoints.{HasCheckpoint, HasPages, LieWithin, root_of}
 use Rattle.hg_root.specs.Finding.{root_in}
 use Rattle.hg_root.specs.Newest.{IsNewest}
-use Rattle.hg_root.specs.Pairs.{first_bytes, second_bytes}
+use Rattle.hg_root.specs.Pairs.{failures, first_bytes, second_bytes}
+use Rattle.hg_disk.proofs.Staying.{same}
+use Rattle.hg_pool.specs.Maps as pools
+use Rattle.hg_store.specs.Images.{LeavesOld}
+use Rattle.hg_store.specs.Recovering.{CountedBy}
 use Rattle.hg_store.proofs.Rooting.{no_room, rooted_so, settled_reads}
+use Rattle.hg_store.proofs.Telling.{counted_beside}
 use Rattle.hg_store.proofs.recover.rooted.Goals as goal
 
 pub returns-in-Err-clause-damaged : goal.returns-in-Err-clause-damaged
@@ -47,3 +52,30 @@ pub returns-in-Err-detector_of-clause-full : goal.returns-in-Err-detector_of-cla
 returns-in-Err-detector_of-clause-full g c honest =
     let st = c.in-Ok.ensures.found honest in
     no_room c.args.caps.sets c.args.caps.slots (first_bytes g.D.Disk c.args.roots) (second_bytes g.D.Disk c.args.roots) (root_in c.in-Ok.found) st.0 _ st.1 c.in-Err-detector_of.ensures.full
+
+pub returns-in-Err-clause-state : goal.returns-in-Err-clause-state
+returns-in-Err-clause-state g c = ap (λ d. g.D.Disk.state d) (c.into_disks.ensures ∙ c.attach-file.ensures.disk)
+
+pub returns-in-Err-clause-any_moment : goal.returns-in-Err-clause-any_moment
+returns-in-Err-clause-any_moment g c =
+    let slots = c.args.slots in
+    subst (λ d. LeavesOld g.D.Disk slots d) (sym (c.into_disks.ensures ∙ c.attach-file.ensures.disk)) (same g.D.Disk slots)
+
+pub returns-in-Err-clause-device : goal.returns-in-Err-clause-device
+returns-in-Err-clause-device g c =
+    let old = failures g.D.Disk c.args.roots in
+    let new = failures g.D.Disk c.standing.new.roots in
+    let slots = g.D.Disk.failures c.args.slots in
+    subst (λ d. CountedBy c.in-Err.refusal (old + slots) (new + g.D.Disk.failures d)) (sym (c.into_disks.ensures ∙ c.attach-file.ensures.disk)) (counted_beside c.in-Err.refusal old new slots c.in-Err.ensures.device)
+
+pub returns-in-Ok-detector_of-clause-state : goal.returns-in-Ok-detector_of-clause-state
+returns-in-Ok-detector_of-clause-state g c = c.in-Ok-detector_of.ensures.state ∙ ap (λ d. g.D.Disk.state d) c.attach-file.ensures.disk
+
+pub returns-in-Ok-detector_of-clause-any_moment : goal.returns-in-Ok-detector_of-clause-any_moment
+returns-in-Ok-detector_of-clause-any_moment g c =
+    subst (λ d. LeavesOld g.D.Disk d (pools.disk_of c.in-Ok-detector_of.detector.words)) c.attach-file.ensures.disk c.in-Ok-detector_of.ensures.any_moment
+
+pub returns-in-Ok-detector_of-clause-device : goal.returns-in-Ok-detector_of-clause-device
+returns-in-Ok-detector_of-clause-device g c =
+    ap (λ (n : ℕ). n + g.D.Disk.failures (pools.disk_of c.in-Ok-detector_of.detector.words)) c.in-Ok.ensures.device
+    ∙ ap (λ (n : ℕ). failures g.D.Disk c.args.roots + n) (c.in-Ok-detector_of.ensures.device ∙ ap (λ d. g.D.Disk.failures d) c.attach-file.ensures.disk)

@@ -1,7 +1,98 @@
+use Rattle.std.proofs.Common.{◌≡◌, ◌+◌, ◌++◌, ◌∷◌, [], ℕ, List, refl, sym, ap, ◌∙◌, subst, arith}
+use Rattle.hg_disk.specs.declared.disk.Disk as disk
+use Rattle.hg_disk.specs.Calls.{CallsAtMost}
+use Rattle.hg_disk.specs.State.{DiskState}
+use Rattle.hg_gate.specs.Batches.{closed_gate, header}
+use Rattle.hg_contents.specs.Images.{Image}
+use Rattle.hg_pages.specs.Files as files
+use Rattle.hg_pages.specs.declared.slot_file.SlotFile.{SlotFile}
+use Rattle.hg_pool.specs.Shown as pool
+use Rattle.hg_store.specs.Images.{failures_of, read_of}
+use Rattle.hg_store.specs.Recovering.{MakingCalls, empty_image}
+use Rattle.hg_store.specs.declared.devices.Devices.{Devices}
 use Rattle.hg_store.proofs.Making.{first_ready}
 use Rattle.hg_store.proofs.store.Store.create.Goals as goal
+
+module _ {D : Type 0} (g : disk.Ghosts D) where
+  not_called : (d : D) → CallsAtMost g 2 d d
+  not_called d = omega arith
+
+  with_slots : (old : Devices D) (slots : D) → slots ≡ old.slots → ◌≡◌ {A = Devices D} (record { journal = old.journal; slots = slots; root0 = old.root0; root1 = old.root1 }) old
+  with_slots old slots is = ap (λ (d : D). record old { slots = d }) is
+
+-- one more call failed, and none of the slots
+failed_beside : (j s r t nj ns nr nt : ℕ) → ns ≡ s → nj + nr + nt ≡ j + r + t + 1 → nj + ns + nr + nt ≡ j + s + r + t + 1
+failed_beside j s r t nj ns nr nt slots rest = omega arith
+
+none_failed_beside : (j s r t nj ns nr nt : ℕ) → ns ≡ s → nj + nr + nt ≡ j + r + t → nj + ns + nr + nt ≡ j + s + r + t
+none_failed_beside j s r t nj ns nr nt slots rest = omega arith
+
+reads_empty : (j s r t : List ℕ) → j ≡ header ++ closed_gate ∷ [] → s ≡ [] → r ≡ closed_gate ∷ [] → t ≡ closed_gate ∷ [] → ◌≡◌ {A = Image} (record { journal = j; slots = s; root0 = r; root1 = t }) empty_image
+reads_empty j s r t ej es er et = rw (ej, es, er, et) refl
 
 pub on_closed_roots-requires-clause-ready : goal.on_closed_roots-requires-clause-ready
 on_closed_roots-requires-clause-ready g c honest =
     let made = c.in-Ok-empty_detector in
     first_ready g.D.Disk made.detector c.args.caps.sets made.ensures.content made.ensures.sets (made.ensures.faithful honest)
+
+pub returns-in-Err-empty_detector-clause-calls : goal.returns-in-Err-empty_detector-clause-calls
+returns-in-Err-empty_detector-clause-calls g c =
+    let old = c.args.devices in
+    record {
+      journal = not_called g.D.Disk old.journal;
+      slots = c.into_disks.ensures ∙ ap (λ (f : SlotFile g.row.D.Denot). files.disk_of f) c.in-Err-empty_detector.ensures.handed_back ∙ c.attach.ensures.disk;
+      root0 = not_called g.D.Disk old.root0;
+      root1 = not_called g.D.Disk old.root1;
+    }
+
+pub returns-in-Err-empty_detector-clause-device : goal.returns-in-Err-empty_detector-clause-device
+returns-in-Err-empty_detector-clause-device g c =
+    let slots = c.into_disks.ensures ∙ ap (λ (f : SlotFile g.row.D.Denot). files.disk_of f) c.in-Err-empty_detector.ensures.handed_back ∙ c.attach.ensures.disk in
+    ap (λ (d : Devices g.row.D.Denot). failures_of g.D.Disk d) (with_slots g.D.Disk c.args.devices c.into_disks.result slots)
+
+pub returns-in-Err-empty_detector-clause-memory : goal.returns-in-Err-empty_detector-clause-memory
+returns-in-Err-empty_detector-clause-memory g c _ =
+    let slots = c.into_disks.ensures ∙ ap (λ (f : SlotFile g.row.D.Denot). files.disk_of f) c.in-Err-empty_detector.ensures.handed_back ∙ c.attach.ensures.disk in
+    with_slots g.D.Disk c.args.devices c.into_disks.result slots
+
+pub returns-in-Err-new_files-clause-calls : goal.returns-in-Err-new_files-clause-calls
+returns-in-Err-new_files-clause-calls g c =
+    let file = c.into_disks-in-Err-new_files.ensures ∙ ap (λ (p : pool.ShownPool g.row.D.Denot). p.file) c.into_words.ensures ∙ c.in-Ok-empty_detector.ensures.file in
+    record {
+      journal = c.in-Err-new_files.ensures.journal_calls;
+      slots = c.into_disks-in-Err-new_files-2.ensures ∙ ap (λ (f : SlotFile g.row.D.Denot). files.disk_of f) file ∙ c.attach.ensures.disk;
+      root0 = c.in-Err-new_files.ensures.first_calls;
+      root1 = c.in-Err-new_files.ensures.second_calls;
+    }
+
+pub returns-in-Err-new_files-clause-device : goal.returns-in-Err-new_files-clause-device
+returns-in-Err-new_files-clause-device g c =
+    let file = c.into_disks-in-Err-new_files.ensures ∙ ap (λ (p : pool.ShownPool g.row.D.Denot). p.file) c.into_words.ensures ∙ c.in-Ok-empty_detector.ensures.file in
+    let slots = c.into_disks-in-Err-new_files-2.ensures ∙ ap (λ (f : SlotFile g.row.D.Denot). files.disk_of f) file ∙ c.attach.ensures.disk in
+    failed_beside _ _ _ _ _ _ _ _ (ap (λ d. g.D.Disk.failures d) slots) c.in-Err-new_files.ensures.device
+
+pub returns-in-Err-new_files-clause-memory : goal.returns-in-Err-new_files-clause-memory
+returns-in-Err-new_files-clause-memory g c told = absurd (cc)
+
+pub returns-in-Ok-new_files-clause-bytes : goal.returns-in-Ok-new_files-clause-bytes
+returns-in-Ok-new_files-clause-bytes g c =
+    let slots = ap (λ (f : SlotFile g.row.D.Denot). files.disk_of f) c.in-Ok-empty_detector.ensures.file ∙ c.attach.ensures.disk in
+    let gates = c.in-Ok-new_files.ensures.gates in
+    ap (λ (d : Devices g.row.D.Denot). read_of g.D.Disk d) c.on_closed_roots.ensures.devices
+    ∙ reads_empty _ _ _ _ (ap (λ (s : DiskState). s.contents) c.in-Ok-new_files.ensures.empty.1) (ap (λ d. (g.D.Disk.state d).contents) slots ∙ (c.is_empty.ensures.yes c.if-not-is_empty.false).slots)
+    (ap (λ (s : DiskState). s.contents) gates.0) (ap (λ (s : DiskState). s.contents) gates.1)
+
+pub returns-in-Ok-new_files-clause-calls : goal.returns-in-Ok-new_files-clause-calls
+returns-in-Ok-new_files-clause-calls g c =
+    subst (λ (d : Devices g.row.D.Denot). MakingCalls g.D.Disk c.args.devices d) (sym c.on_closed_roots.ensures.devices) (record {
+      journal = c.in-Ok-new_files.ensures.journal_calls;
+      slots = ap (λ (f : SlotFile g.row.D.Denot). files.disk_of f) c.in-Ok-empty_detector.ensures.file ∙ c.attach.ensures.disk;
+      root0 = c.in-Ok-new_files.ensures.first_calls;
+      root1 = c.in-Ok-new_files.ensures.second_calls;
+    })
+
+pub returns-in-Ok-new_files-clause-device : goal.returns-in-Ok-new_files-clause-device
+returns-in-Ok-new_files-clause-device g c =
+    let slots = ap (λ (f : SlotFile g.row.D.Denot). files.disk_of f) c.in-Ok-empty_detector.ensures.file ∙ c.attach.ensures.disk in
+    ap (λ (d : Devices g.row.D.Denot). failures_of g.D.Disk d) c.on_closed_roots.ensures.devices
+    ∙ none_failed_beside _ _ _ _ _ _ _ _ (ap (λ d. g.D.Disk.failures d) slots) c.in-Ok-new_files.ensures.device

@@ -18,7 +18,7 @@ returns-then-self-clause-images g c honest = let k = c.self.invariant.stands hon
 pub returns-in-Ok-clause-images : goal.returns-in-Ok-clause-images
 returns-in-Ok-clause-images g c honest =
     let k = c.self.invariant.stands honest in
-    let works : c.self.inside.is_broken ≡ false = search rules in
+    let works : c.self.inside.is_broken ≡ false = c.if-self.false in
     let w = k.1.works works in
     let r = progress_at g.D.Disk _ k.0 k.1 works phase.Written c.in-Ok.ensures.phase.1 in
     let same = rw c.words_mut.ensures.value at c.in-Ok.ensures.pool in
@@ -28,7 +28,7 @@ returns-in-Ok-clause-images g c honest =
 pub returns-in-Ok-clause-checkpoint : goal.returns-in-Ok-clause-checkpoint
 returns-in-Ok-clause-checkpoint g c honest =
     let k = c.self.invariant.stands honest in
-    let works : c.self.inside.is_broken ≡ false = search rules in
+    let works : c.self.inside.is_broken ≡ false = c.if-self.false in
     let w = k.1.works works in
     let r = progress_at g.D.Disk _ k.0 k.1 works phase.Written c.in-Ok.ensures.phase.1 in
     let same = rw c.words_mut.ensures.value at c.in-Ok.ensures.pool in
@@ -49,7 +49,7 @@ returns-in-Err-WrongPhase-clause-images g c honest =
 pub returns-in-Err-Refused-clause-images : goal.returns-in-Err-Refused-clause-images
 returns-in-Err-Refused-clause-images g c honest =
     let k = c.self.invariant.stands honest in
-    let works : c.self.inside.is_broken ≡ false = search rules in
+    let works : c.self.inside.is_broken ≡ false = c.if-self.false in
     let w = k.1.works works in
     let r = progress_at g.D.Disk _ k.0 k.1 works phase.Written (search rules) in
     let same = c.in-Err-Refused.ensures.same_pool ∙ c.words_mut.ensures.value in
@@ -71,7 +71,7 @@ invariant_of-self g c =
       sealed = λ rooting. absurd (cc (sym (ap (λ (p : Phase). is_rooting p) c.in-Ok.ensures.opened) ∙ rooting));
       stands = λ honest.
           let k = c.self.invariant.stands honest in
-          let works : c.self.inside.is_broken ≡ false = search rules in
+          let works : c.self.inside.is_broken ≡ false = c.if-self.false in
           let w = k.1.works works in
           let r = progress_at g.D.Disk _ k.0 k.1 works phase.Written c.in-Ok.ensures.phase.1 in
           let from = rw c.words_mut.ensures.value at c.in-Ok.ensures.stands in
@@ -92,7 +92,7 @@ invariant_of-self-in-Err-Refused g c =
       sealed = λ rooting. subst (λ (p : Pool g.row.D.Denot). IsTrue p.is_sealed) (sym same) (c.self.invariant.sealed (subst (λ (p : Phase). is_rooting p ≡ true) c.in-Err-Refused.ensures.refused_phase rooting));
       stands = λ honest.
           let k = c.self.invariant.stands honest in
-          let works : c.self.inside.is_broken ≡ false = search rules in
+          let works : c.self.inside.is_broken ≡ false = c.if-self.false in
           let w = k.1.works works in
           let r = progress_at g.D.Disk _ k.0 k.1 works phase.Written (search rules) in
           let each = rw c.words_mut.ensures.value at c.open_root.ensures.any_moment in

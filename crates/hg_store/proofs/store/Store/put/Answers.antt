@@ -1,4 +1,7 @@
-use Rattle.std.proofs.Common.{rules}
+use Rattle.std.proofs.Common.{rules, subst}
+use Rattle.hg_pool.specs.Calls.{IsStale}
+use Rattle.hg_pool.specs.Kept.{CellsFrom, Stays}
+use Rattle.hg_pool.specs.Shown.{ShownPool as Pool}
 use Rattle.hg_store.proofs.Backing.{parts_stand}
 use Rattle.hg_store.proofs.Checkpointing.{put_images, put_standing}
 use Rattle.hg_store.proofs.Staying.{same_content, within_still, works_on}
@@ -10,51 +13,54 @@ returns-then-self-clause-images g c honest = let k = c.self.invariant.stands hon
 pub returns-in-Ok-clause-images : goal.returns-in-Ok-clause-images
 returns-in-Ok-clause-images g c honest =
     let k = c.self.invariant.stands honest in
-    let stays = rw c.words_mut.ensures.value at c.put.ensures.stays in
-    rw (← c.self.view_is) (put_images g.D.Disk _ k.0 k.1 g.met.D.Disk.has_its_bytes c.put.new.self (search rules) stays)
+    let stays = subst (λ (p : Pool g.row.D.Denot). Stays g.D.Disk p c.put.new.self) c.words_mut.ensures.value c.put.ensures.stays in
+    rw (← c.self.view_is) (put_images g.D.Disk _ k.0 k.1 g.met.D.Disk.has_its_bytes c.put.new.self c.if-self.false stays)
 
 pub returns-in-Err-clause-images : goal.returns-in-Err-clause-images
 returns-in-Err-clause-images g c honest =
     let k = c.self.invariant.stands honest in
-    let stays = rw c.words_mut.ensures.value at c.put.ensures.stays in
-    rw (← c.self.view_is) (put_images g.D.Disk _ k.0 k.1 g.met.D.Disk.has_its_bytes c.put.new.self (search rules) stays)
+    let stays = subst (λ (p : Pool g.row.D.Denot). Stays g.D.Disk p c.put.new.self) c.words_mut.ensures.value c.put.ensures.stays in
+    rw (← c.self.view_is) (put_images g.D.Disk _ k.0 k.1 g.met.D.Disk.has_its_bytes c.put.new.self c.if-self.false stays)
 
 pub returns-in-Ok-clause-live : goal.returns-in-Ok-clause-live
 returns-in-Ok-clause-live g c honest =
     let k = c.self.invariant.stands honest in
-    let stays = rw c.words_mut.ensures.value at c.put.ensures.stays in
+    let stays = subst (λ (p : Pool g.row.D.Denot). Stays g.D.Disk p c.put.new.self) c.words_mut.ensures.value c.put.ensures.stays in
     rw (← c.self.view_is) (same_content g.D.Disk c.self.inside.detector c.put.new.self (stays.live_is k.1.faithful.whole))
 
 pub returns-in-Err-clause-live : goal.returns-in-Err-clause-live
 returns-in-Err-clause-live g c honest =
     let k = c.self.invariant.stands honest in
-    let stays = rw c.words_mut.ensures.value at c.put.ensures.stays in
+    let stays = subst (λ (p : Pool g.row.D.Denot). Stays g.D.Disk p c.put.new.self) c.words_mut.ensures.value c.put.ensures.stays in
     rw (← c.self.view_is) (same_content g.D.Disk c.self.inside.detector c.put.new.self (stays.live_is k.1.faithful.whole))
 
 pub invariant_of-self : goal.invariant_of-self
 invariant_of-self g c =
-    let stays = rw c.words_mut.ensures.value at c.put.ensures.stays in
+    let stays = subst (λ (p : Pool g.row.D.Denot). Stays g.D.Disk p c.put.new.self) c.words_mut.ensures.value c.put.ensures.stays in
     record {
-      lawful = within_still _ _ _ _ (rw c.words_mut.ensures.value at c.put.ensures.cells) c.self.invariant.lawful;
+      lawful = within_still _ _ _ _ (subst (λ (p : Pool g.row.D.Denot). CellsFrom p.frames c.put.new.self.frames) c.words_mut.ensures.value c.put.ensures.cells) c.self.invariant.lawful;
       few = c.self.invariant.few;
       room = c.self.invariant.room;
       journal = c.self.invariant.journal;
       words = λ works. works_on g.D.Disk _ _ stays.went (search rules) (c.self.invariant.words works);
       checkpointer = c.self.invariant.checkpointer;
       sealed = λ rooting. stays.went.sealed (c.self.invariant.sealed rooting);
-      stands = λ honest. let k = c.self.invariant.stands honest in (k.0, put_standing g.D.Disk _ k.0 k.1 g.met.D.Disk.has_its_bytes c.put.new.self _ (search rules) stays);
+      stands = λ honest. let k = c.self.invariant.stands honest in (k.0, put_standing g.D.Disk _ k.0 k.1 g.met.D.Disk.has_its_bytes c.put.new.self _ c.if-self.false stays);
     }
 
 pub invariant_of-self-in-Err : goal.invariant_of-self-in-Err
 invariant_of-self-in-Err g c =
-    let stays = rw c.words_mut.ensures.value at c.put.ensures.stays in
+    let stays = subst (λ (p : Pool g.row.D.Denot). Stays g.D.Disk p c.put.new.self) c.words_mut.ensures.value c.put.ensures.stays in
     record {
-      lawful = within_still _ _ _ _ (rw c.words_mut.ensures.value at c.put.ensures.cells) c.self.invariant.lawful;
+      lawful = within_still _ _ _ _ (subst (λ (p : Pool g.row.D.Denot). CellsFrom p.frames c.put.new.self.frames) c.words_mut.ensures.value c.put.ensures.cells) c.self.invariant.lawful;
       few = c.self.invariant.few;
       room = c.self.invariant.room;
       journal = λ no. absurd (cc no);
       words = λ no. absurd (cc no);
       checkpointer = λ no. absurd (cc no);
       sealed = λ rooting. stays.went.sealed (c.self.invariant.sealed rooting);
-      stands = λ honest. let k = c.self.invariant.stands honest in (k.0, put_standing g.D.Disk _ k.0 k.1 g.met.D.Disk.has_its_bytes c.put.new.self _ (search rules) stays);
+      stands = λ honest. let k = c.self.invariant.stands honest in (k.0, put_standing g.D.Disk _ k.0 k.1 g.met.D.Disk.has_its_bytes c.put.new.self _ c.if-self.false stays);
     }
+
+pub returns-in-Ok-clause-stale : goal.returns-in-Ok-clause-stale
+returns-in-Ok-clause-stale g c told = rw (← c.self.view_is) (subst (λ (p : Pool g.row.D.Denot). IsStale p c.args.page.now) c.words_mut.ensures.value (c.in-Ok.ensures.stale told))

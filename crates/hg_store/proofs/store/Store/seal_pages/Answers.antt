@@ -2,7 +2,7 @@ use Rattle.std.proofs.Common.{◌≡◌, ◌∙◌, false, true, length, rules, 
 use Rattle.hg_checkpointer.specs.declared.phase.Phase.{Phase}
 use Rattle.hg_checkpointer.specs.declared.phase.Phase.TheVariants as phase
 use Rattle.hg_store.proofs.Going.{progress_at}
-use Rattle.hg_pool.specs.Kept.{AreWithin}
+use Rattle.hg_pool.specs.Kept.{AreWithin, Stays}
 use Rattle.hg_pool.specs.Shown.{ShownPool as Pool}
 use Rattle.hg_pool.specs.declared.frame.Frame.{Frame}
 use Rattle.hg_store.specs.Kept.{is_rooting}
@@ -17,42 +17,42 @@ returns-then-self-clause-images g c honest = let k = c.self.invariant.stands hon
 pub returns-in-Ok-clause-images : goal.returns-in-Ok-clause-images
 returns-in-Ok-clause-images g c honest =
     let k = c.self.invariant.stands honest in
-    let stays = rw c.words_mut.ensures.value at c.seal_pages.ensures.stays in
-    rw (← c.self.view_is) (seal_images g.D.Disk _ k.0 k.1 g.met.D.Disk.has_its_bytes c.seal_pages.new.self c.seal_pages.new.pool (search rules) stays c.seal_pages.ensures.rest.0)
+    let stays = subst (λ (p : Pool g.row.D.Denot). Stays g.D.Disk p c.seal_pages.new.pool) c.words_mut.ensures.value c.seal_pages.ensures.stays in
+    rw (← c.self.view_is) (seal_images g.D.Disk _ k.0 k.1 g.met.D.Disk.has_its_bytes c.seal_pages.new.self c.seal_pages.new.pool c.if-self.false stays c.seal_pages.ensures.rest.0)
 
 pub returns-in-Ok-clause-live : goal.returns-in-Ok-clause-live
 returns-in-Ok-clause-live g c honest =
     let k = c.self.invariant.stands honest in
-    let stays = rw c.words_mut.ensures.value at c.seal_pages.ensures.stays in
+    let stays = subst (λ (p : Pool g.row.D.Denot). Stays g.D.Disk p c.seal_pages.new.pool) c.words_mut.ensures.value c.seal_pages.ensures.stays in
     rw (← c.self.view_is) (same_content g.D.Disk c.self.inside.detector c.seal_pages.new.pool (stays.live_is k.1.faithful.whole))
 
 pub returns-in-Err-WrongPhase-clause-images : goal.returns-in-Err-WrongPhase-clause-images
 returns-in-Err-WrongPhase-clause-images g c honest =
     let k = c.self.invariant.stands honest in
-    let stays = rw c.words_mut.ensures.value at c.seal_pages.ensures.stays in
-    rw (← c.self.view_is) (seal_images g.D.Disk _ k.0 k.1 g.met.D.Disk.has_its_bytes c.seal_pages.new.self c.seal_pages.new.pool (search rules) stays c.seal_pages.ensures.rest.0)
+    let stays = subst (λ (p : Pool g.row.D.Denot). Stays g.D.Disk p c.seal_pages.new.pool) c.words_mut.ensures.value c.seal_pages.ensures.stays in
+    rw (← c.self.view_is) (seal_images g.D.Disk _ k.0 k.1 g.met.D.Disk.has_its_bytes c.seal_pages.new.self c.seal_pages.new.pool c.if-self.false stays c.seal_pages.ensures.rest.0)
 
 pub returns-in-Err-WrongPhase-clause-live : goal.returns-in-Err-WrongPhase-clause-live
 returns-in-Err-WrongPhase-clause-live g c honest =
     let k = c.self.invariant.stands honest in
-    let stays = rw c.words_mut.ensures.value at c.seal_pages.ensures.stays in
+    let stays = subst (λ (p : Pool g.row.D.Denot). Stays g.D.Disk p c.seal_pages.new.pool) c.words_mut.ensures.value c.seal_pages.ensures.stays in
     rw (← c.self.view_is) (same_content g.D.Disk c.self.inside.detector c.seal_pages.new.pool (stays.live_is k.1.faithful.whole))
 
 pub returns-in-Err-Refused-clause-images : goal.returns-in-Err-Refused-clause-images
 returns-in-Err-Refused-clause-images g c honest =
     let k = c.self.invariant.stands honest in
-    let stays = rw c.words_mut.ensures.value at c.seal_pages.ensures.stays in
-    rw (← c.self.view_is) (seal_images g.D.Disk _ k.0 k.1 g.met.D.Disk.has_its_bytes c.seal_pages.new.self c.seal_pages.new.pool (search rules) stays c.seal_pages.ensures.rest.0)
+    let stays = subst (λ (p : Pool g.row.D.Denot). Stays g.D.Disk p c.seal_pages.new.pool) c.words_mut.ensures.value c.seal_pages.ensures.stays in
+    rw (← c.self.view_is) (seal_images g.D.Disk _ k.0 k.1 g.met.D.Disk.has_its_bytes c.seal_pages.new.self c.seal_pages.new.pool c.if-self.false stays c.seal_pages.ensures.rest.0)
 
 pub returns-in-Err-Refused-clause-live : goal.returns-in-Err-Refused-clause-live
 returns-in-Err-Refused-clause-live g c honest =
     let k = c.self.invariant.stands honest in
-    let stays = rw c.words_mut.ensures.value at c.seal_pages.ensures.stays in
+    let stays = subst (λ (p : Pool g.row.D.Denot). Stays g.D.Disk p c.seal_pages.new.pool) c.words_mut.ensures.value c.seal_pages.ensures.stays in
     rw (← c.self.view_is) (same_content g.D.Disk c.self.inside.detector c.seal_pages.new.pool (stays.live_is k.1.faithful.whole))
 
 pub invariant_of-self : goal.invariant_of-self
 invariant_of-self g c =
-    let stays = rw c.words_mut.ensures.value at c.seal_pages.ensures.stays in
+    let stays = subst (λ (p : Pool g.row.D.Denot). Stays g.D.Disk p c.seal_pages.new.pool) c.words_mut.ensures.value c.seal_pages.ensures.stays in
     let frames : c.seal_pages.new.pool.frames ≡ c.self.inside.detector.words.frames = ap (λ (p : Pool _). p.frames) c.seal_pages.ensures.pool ∙ ap (λ (p : Pool _). p.frames) c.words_mut.ensures.value in
     record {
       lawful = subst (λ (f : List (ℕ × Frame)). AreWithin f (length c.self.inside.detector.segments) (length c.self.inside.detector.sets.sets)) (sym frames) c.self.invariant.lawful;
@@ -64,7 +64,7 @@ invariant_of-self g c =
       sealed = λ _. c.in-Ok.ensures.sealed.1;
       stands = λ honest.
           let k = c.self.invariant.stands honest in
-          let works : c.self.inside.is_broken ≡ false = search rules in
+          let works : c.self.inside.is_broken ≡ false = c.if-self.false in
           let w = k.1.works works in
           let at = c.in-Ok.ensures.phase.1.0 in
           let f = progress_at g.D.Disk _ k.0 k.1 works phase.Flushing at in
@@ -80,7 +80,7 @@ invariant_of-self g c =
 
 pub invariant_of-self-in-Err-Refused : goal.invariant_of-self-in-Err-Refused
 invariant_of-self-in-Err-Refused g c =
-    let stays = rw c.words_mut.ensures.value at c.seal_pages.ensures.stays in
+    let stays = subst (λ (p : Pool g.row.D.Denot). Stays g.D.Disk p c.seal_pages.new.pool) c.words_mut.ensures.value c.seal_pages.ensures.stays in
     let frames : c.seal_pages.new.pool.frames ≡ c.self.inside.detector.words.frames = ap (λ (p : Pool _). p.frames) c.seal_pages.ensures.pool ∙ ap (λ (p : Pool _). p.frames) c.words_mut.ensures.value in
     record {
       lawful = subst (λ (f : List (ℕ × Frame)). AreWithin f (length c.self.inside.detector.segments) (length c.self.inside.detector.sets.sets)) (sym frames) c.self.invariant.lawful;
@@ -90,5 +90,5 @@ invariant_of-self-in-Err-Refused g c =
       words = λ no. absurd (cc no);
       checkpointer = λ no. absurd (cc no);
       sealed = λ rooting. stays.went.sealed (c.self.invariant.sealed (subst (λ (p : Phase). is_rooting p ≡ true) c.in-Err-Refused.ensures.refused_phase rooting));
-      stands = λ honest. let k = c.self.invariant.stands honest in (k.0, sealing_failed g.D.Disk _ k.0 k.1 g.met.D.Disk.has_its_bytes c.seal_pages.new.self c.seal_pages.new.pool (search rules) stays c.seal_pages.ensures.rest.0);
+      stands = λ honest. let k = c.self.invariant.stands honest in (k.0, sealing_failed g.D.Disk _ k.0 k.1 g.met.D.Disk.has_its_bytes c.seal_pages.new.self c.seal_pages.new.pool c.if-self.false stays c.seal_pages.ensures.rest.0);
     }

@@ -15,25 +15,25 @@ returns-then-self-clause-images g c honest = let k = c.self.invariant.stands hon
 pub returns-in-Ok-clause-images : goal.returns-in-Ok-clause-images
 returns-in-Ok-clause-images g c honest =
     let k = c.self.invariant.stands honest in
-    let w = k.1.works (search rules) in
+    let w = k.1.works c.if-self.false in
     rw (← c.self.view_is) (roots_images g.D.Disk _ k.0 k.1 g.met.D.Disk.has_its_bytes c.write_root.new.self (c.write_root.ensures.any_moment k.0.now.checkpoint k.0.now.former w.stands.roots))
 
 pub returns-in-Err-WrongPhase-clause-images : goal.returns-in-Err-WrongPhase-clause-images
 returns-in-Err-WrongPhase-clause-images g c honest =
     let k = c.self.invariant.stands honest in
-    let w = k.1.works (search rules) in
+    let w = k.1.works c.if-self.false in
     rw (← c.self.view_is) (roots_images g.D.Disk _ k.0 k.1 g.met.D.Disk.has_its_bytes c.write_root.new.self (c.write_root.ensures.any_moment k.0.now.checkpoint k.0.now.former w.stands.roots))
 
 pub returns-in-Err-Refused-clause-images : goal.returns-in-Err-Refused-clause-images
 returns-in-Err-Refused-clause-images g c honest =
     let k = c.self.invariant.stands honest in
-    let w = k.1.works (search rules) in
+    let w = k.1.works c.if-self.false in
     rw (← c.self.view_is) (roots_images g.D.Disk _ k.0 k.1 g.met.D.Disk.has_its_bytes c.write_root.new.self (c.write_root.ensures.any_moment k.0.now.checkpoint k.0.now.former w.stands.roots))
 
 pub returns-in-Err-Refused-OutOfMemory-clause-images : goal.returns-in-Err-Refused-OutOfMemory-clause-images
 returns-in-Err-Refused-OutOfMemory-clause-images g c honest =
     let k = c.self.invariant.stands honest in
-    let w = k.1.works (search rules) in
+    let w = k.1.works c.if-self.false in
     rw (← c.self.view_is) (roots_images g.D.Disk _ k.0 k.1 g.met.D.Disk.has_its_bytes c.write_root.new.self (c.write_root.ensures.any_moment k.0.now.checkpoint k.0.now.former w.stands.roots))
 
 pub invariant_of-self : goal.invariant_of-self
@@ -47,7 +47,7 @@ invariant_of-self g c = record {
   sealed = λ _. c.self.invariant.sealed (search rules);
   stands = λ honest.
       let k = c.self.invariant.stands honest in
-      let works : c.self.inside.is_broken ≡ false = search rules in
+      let works : c.self.inside.is_broken ≡ false = c.if-self.false in
       let w = k.1.works works in
       let r = progress_at g.D.Disk _ k.0 k.1 works phase.Prepared c.in-Ok.ensures.phase.1 in
       let rest = c.write_root.ensures.rest in (
@@ -70,7 +70,7 @@ invariant_of-self-in-Err-Refused g c = record {
   sealed = λ rooting. c.self.invariant.sealed (subst (λ (p : Phase). is_rooting p ≡ true) c.in-Err-Refused.ensures.refused_phase rooting);
   stands = λ honest.
       let k = c.self.invariant.stands honest in
-      let works : c.self.inside.is_broken ≡ false = search rules in
+      let works : c.self.inside.is_broken ≡ false = c.if-self.false in
       let w = k.1.works works in
       (k.0, rooting_failed g.D.Disk _ k.0 k.1 g.met.D.Disk.has_its_bytes c.write_root.new.self (c.write_root.ensures.any_moment k.0.now.checkpoint k.0.now.former w.stands.roots));
 }
