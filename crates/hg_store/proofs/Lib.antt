@@ -16,5 +16,3 @@ pub mod Freezing
 pub mod Replaying
 pub mod Making
 pub mod Telling
-pub mod Phases
-pub mod Untaken

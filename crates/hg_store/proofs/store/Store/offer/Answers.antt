@@ -1,4 +1,4 @@
-use Rattle.std.proofs.Common.{rules, refl, Some, ap, sym, ◌∙◌}
+use Rattle.std.proofs.Common.{rules, Some, ap, sym, ◌∙◌}
 use Rattle.hg_model.specs.Contents.{Content}
 use Rattle.hg_model.specs.Verdicts.{standing_of}
 use Rattle.hg_detect.specs.Shown.{content}
@@ -8,23 +8,7 @@ use Rattle.hg_store.proofs.Going.{images}
 use Rattle.hg_store.proofs.Offering.{accepted, followed_one, refused}
 use Rattle.hg_store.proofs.Staying.{works_on}
 use Rattle.hg_store.proofs.Refusing.{rules_call_nothing}
-use Rattle.hg_store.proofs.Untaken.{keeps_content, was_broken, was_refused, was_sent}
 use Rattle.hg_store.proofs.store.Store.offer.Goals as goal
-
-pub returns-then-self-clause-done : goal.returns-then-self-clause-done
-returns-then-self-clause-done g c = rw (← c.self.view_is) (was_broken g.D.Disk _ c.args.named.now c.if-self.true)
-
-pub returns-in-Duplicate-clause-done : goal.returns-in-Duplicate-clause-done
-returns-in-Duplicate-clause-done g c = rw (← c.self.view_is) (was_sent g.D.Disk _ c.args.named.now c.in-Duplicate.last c.if-self.false (sym c.verdict.ensures ∙ c.in-Duplicate.is))
-
-pub returns-in-Refuse-clause-done : goal.returns-in-Refuse-clause-done
-returns-in-Refuse-clause-done g c = rw (← c.self.view_is) (was_refused g.D.Disk _ c.args.named.now c.in-Refuse.refusal c.if-self.false (sym c.verdict.ensures ∙ c.in-Refuse.is))
-
-pub returns-in-Duplicate-clause-content : goal.returns-in-Duplicate-clause-content
-returns-in-Duplicate-clause-content g c honest = rw (← c.self.view_is) (keeps_content g.D.Disk _ c.args.named.now _ _ refl (sym c.verdict.ensures ∙ c.in-Duplicate.is) (λ accepts. cc))
-
-pub returns-in-Refuse-clause-content : goal.returns-in-Refuse-clause-content
-returns-in-Refuse-clause-content g c honest = rw (← c.self.view_is) (keeps_content g.D.Disk _ c.args.named.now _ _ refl (sym c.verdict.ensures ∙ c.in-Refuse.is) (λ accepts. cc))
 
 pub returns-then-self-clause-images : goal.returns-then-self-clause-images
 returns-then-self-clause-images g c honest = let k = c.self.invariant.stands honest in rw (← c.self.view_is) (parts_stand g.D.Disk _ k.0 _ k.1 (λ doubt. doubt))
