@@ -5,6 +5,7 @@ use Rattle.hg_disk.specs.State.{DiskState, settled}
 use Rattle.hg_disk.specs.declared.disk.Disk as disk
 use Rattle.hg_gate.specs.Batches.{IsClosed}
 use Rattle.hg_gate.specs.Gated.{IsClosedOrOpenWith, IsOpenWith, Rests}
+use Rattle.hg_gate.specs.declared.gated.Gated.{Gated}
 use Rattle.hg_gate.proofs.Opening.{not_closed, one_body}
 use Rattle.hg_gate.specs.declared.fault.GateFault.{GateFault}
 use Rattle.hg_gate.specs.declared.fault.GateFault.TheVariants as gate
@@ -31,6 +32,10 @@ if_ok (Err e) f is = is
 pub on_err : {T E : Type 0} {A B : Type 0} (result : Result T E) → (A → B) → OnErr result A → OnErr result B
 on_err (Ok x) f is = is
 on_err (Err e) f is = f is
+
+pub in_err : {T E : Type 0} {A : Type 0} (result : Result T E) → A → OnErr result A
+in_err (Ok x) is = tt
+in_err (Err e) is = is
 
 pub not_so : (b : Bool) → (b ≡ true → ⊥) → b ≡ false
 not_so true none = absurd (none refl)
@@ -168,6 +173,21 @@ module _ {D : Type 0} (g : disk.Ghosts D) where
     newer_has = has_other;
     known = known;
     newer_known = other_known;
+  }
+
+  -- A pair whose files were only read stands as before.
+  pub stands_still : (p : RootPair D) (one other : Gated D) → ((file : List ℕ) → Rests g p.older file → Rests g one file) → ((file : List ℕ) → Rests g p.newer file → Rests g other file)
+      → (root former : Option Parts) → Stands g p root former → Stands g (record p { older = one; newer = other }) root former
+  stands_still p one other rests other_rests root former stands = record {
+    older_file = stands.older_file;
+    newer_file = stands.newer_file;
+    older_rests = rests stands.older_file stands.older_rests;
+    newer_rests = other_rests stands.newer_file stands.newer_rests;
+    below = stands.below;
+    older_has = stands.older_has;
+    newer_has = stands.newer_has;
+    known = stands.known;
+    newer_known = stands.newer_known;
   }
 
   abbrev bytes : D → List ℕ

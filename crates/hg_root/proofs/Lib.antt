@@ -7,6 +7,8 @@ pub mod Each
 pub mod Naming
 pub mod BodyFormats
 pub mod Bodies
+pub mod Appending
+pub mod Refusing
 pub mod HeadChain
 pub mod Pairs
 pub mod Choosing

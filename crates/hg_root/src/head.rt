@@ -37,15 +37,7 @@ impl RootHead {
         ensures { IfOk result (λ head. head ≡ head_text (parts_in parts.now)) }
     {
         let mut bytes = Vec::new(alloc);
-        bytes.extend_from_slice(&HEADER.to_be_bytes())?;
-        bytes.extend_from_slice(&parts.number.to_be_bytes())?;
-        bytes.extend_from_slice(&parts.events.to_be_bytes())?;
-        put_many(parts.graph.segments(), &mut bytes)?;
-        put_threads(parts.graph, parts.threads, &mut bytes)?;
-        put_sets(parts.sets, &mut bytes)?;
-        bytes.extend_from_slice(&parts.total.to_be_bytes())?;
-        put_many(parts.reports, &mut bytes)?;
-        put_some(parts.sources, &mut bytes)?;
+        put_head(parts, &mut bytes)?;
         Ok(RootHead { bytes })
     }
 
@@ -59,6 +51,23 @@ impl RootHead {
         put_many(pages, &mut body)?;
         Ok(body)
     }
+}
+
+/// All parts but the page table.
+fn put_head(parts: &HeadParts, out: &mut Vec<u8>) -> Result<(), AllocError>
+    requires fits { HeadFits (parts_in parts.now) }
+    requires threads { All (λ t. t.number < THREAD_NUMBERS) parts.now.threads.now }
+    ensures { OnOk result (out.new.items ≡ out.old.items ++ head_text (parts_in parts.now)) }
+{
+    out.extend_from_slice(&HEADER.to_be_bytes())?;
+    out.extend_from_slice(&parts.number.to_be_bytes())?;
+    out.extend_from_slice(&parts.events.to_be_bytes())?;
+    put_many(parts.graph.segments(), out)?;
+    put_threads(parts.graph, parts.threads, out)?;
+    put_sets(parts.sets, out)?;
+    out.extend_from_slice(&parts.total.to_be_bytes())?;
+    put_many(parts.reports, out)?;
+    put_some(parts.sources, out)
 }
 
 /// How many there are, in four bytes, and each.

@@ -2,11 +2,12 @@
 ghost use Rattle.std.specs.Prelude.{◌≡◌, ◌↔◌, ◌≤◌, ◌^◌, ◌++◌, ◌∷◌, [], All, OnOk, if◌then◌else◌, IsTrue, IsErrOf, length, map, IfErr, IfOk};
 ghost use Rattle.hg_model.specs.Restoring.{AreThreads};
 ghost use Rattle.hg_sets.specs.Interning.{AreSets};
+ghost use Rattle.hg_root.specs.Body.{seen};
 ghost use Rattle.hg_root.specs.Checking.{AreCounts, HaveLast, IsChecked, parts_read};
 ghost use Rattle.hg_root.specs.Roots.{IsWhole, parts_of};
 ghost use Rattle.hg_root.specs.Fault.{IsDamagedOrMemory};
 ghost use Rattle.hg_root.specs.Last.{ForTable, IsLastTable};
-ghost use Rattle.hg_root.specs.Lawful.{HaveSent, IsRoot, named_threads};
+ghost use Rattle.hg_root.specs.Lawful.{AreInOrder, HaveSent, HaveSlots, IsReport, IsRoot, named_threads};
 ghost use Rattle.hg_root.specs.Parts.{Parts};
 
 use crate::body::{Back, Front, back_of, front_of, middle_of};
@@ -154,6 +155,97 @@ fn state_of(
     }
 }
 
+/// Whether these are the lists of a trace with this many events.
+fn are_lists(
+    alloc: Global,
+    events: u64,
+    sources: &[SourceCount],
+    reports: &[KeptReport],
+    pages: &[PageSlot],
+) -> Result<bool, AllocError>
+    ensures { IfOk result (λ are. IsTrue are ↔ (HaveSent events sources.now × AreInOrder reports.now × HaveSlots pages.now)) }
+{
+    if !are_sources(sources, events) || !are_in_order(reports) {
+        return Ok(false);
+    }
+    are_pages(alloc, pages)
+}
+
+/// Whether the threads are those that have a last segment.
+fn are_named(
+    alloc: Global,
+    lasts: &[Option<u32>],
+    threads: &[ThreadState],
+) -> Result<bool, AllocError>
+    requires { length lasts.now ≡ THREAD_NUMBERS }
+    ensures { ForTable lasts.now (λ segments.
+        IfOk result (λ are. IsTrue are ↔ (map (λ t. t.number) threads.now ≡ named_threads segments))) }
+{
+    let named = named_of(alloc, lasts)?;
+    are_numbers(alloc, threads, &named)
+}
+
+/// The table of these sets, if the reports may be those of a trace with them and with this many events.
+fn sets_with(
+    alloc: Global,
+    sets: &[NumberSet],
+    reports: &[KeptReport],
+    events: u64,
+) -> Result<SetTable, RootFault>
+    ensures table { IfOk result (λ table. table ≡ record { limit = MOST_SETS; sets = sets.now }) }
+    ensures sets { IfOk result AreSets }
+    ensures reports { IfOk result (λ table. All (IsReport events sets.now) reports.now) }
+    ensures damaged { IsErrOf result RootFault.Damaged → AreSets (record { limit = MOST_SETS; sets = sets.now }) → ¬ All (IsReport events sets.now) reports.now }
+    ensures fault { IfErr result IsDamagedOrMemory }
+{
+    let table = sets_of(alloc, sets)?;
+    if !are_reports(reports, events, &table) {
+        return Err(RootFault::Damaged);
+    }
+    Ok(table)
+}
+
+/// The table of the sets and the trace state of a root with these parts, if they obey the rules.
+fn tables_of(
+    alloc: Global,
+    front: &Front,
+    lasts: &[Option<u32>],
+    threads: &[ThreadState],
+    back: &Back,
+) -> Result<(SetTable, TraceState), RootFault>
+    requires lasts { length lasts.now ≡ THREAD_NUMBERS }
+    requires table { IsLastTable front.now.1.1.items lasts.now }
+    requires few_segments { length front.now.1.1.items ≤ MOST_SEGMENTS }
+    ensures sets { IfOk result (λ x. x.0 ≡ record { limit = MOST_SETS; sets = (seen back.now).0 }) }
+    ensures events { IfOk result (λ x. x.1.events ≡ front.now.1.0) }
+    ensures segments { IfOk result (λ x. x.1.segments ≡ length front.now.1.1.items) }
+    ensures threads { IfOk result (λ x. x.1.threads ≡ threads.now) }
+    ensures last { IfOk result (λ x. HaveLast back.now.sources.items x.1.last) }
+    ensures checked { IfOk result (λ x. IsChecked (parts_read front.now threads.now back.now)) }
+    ensures damaged { IsErrOf result RootFault.Damaged → ¬ IsChecked (parts_read front.now threads.now back.now) }
+    ensures fault { IfErr result IsDamagedOrMemory }
+{
+    let (number, (events, segments)) = front;
+    if !are_counts(*number, *events, back.total, back.reports.len()) {
+        return Err(RootFault::Damaged);
+    }
+    if !are_lists(alloc, *events, &back.sources, &back.reports, &back.pages)? {
+        return Err(RootFault::Damaged);
+    }
+    if !are_named(alloc, lasts, threads)? {
+        return Err(RootFault::Damaged);
+    }
+    let sets = sets_with(alloc, &back.sets, &back.reports, *events)?;
+    let state = state_of(
+        alloc,
+        *events,
+        segments.len() as u32,
+        threads,
+        &back.sources,
+    )?;
+    Ok((sets, state))
+}
+
 /// The root with these parts, if they obey the rules.
 fn checked(
     alloc: Global,
@@ -171,29 +263,15 @@ fn checked(
     ensures damaged { IsErrOf result RootFault.Damaged → ¬ IsChecked (parts_read front threads.now back) }
     ensures fault { IfErr result IsDamagedOrMemory }
 {
-    let (number, (events, segments)) = front;
+    let (sets, state) = tables_of(alloc, &front, lasts, threads, &back)?;
+    let (number, (_, segments)) = front;
     let Back {
-        sets,
         total,
         reports,
         sources,
         pages,
+        ..
     } = back;
-    if !are_counts(number, events, total, reports.len()) {
-        return Err(RootFault::Damaged);
-    }
-    if !are_sources(&sources, events) || !are_in_order(&reports) || !are_pages(alloc, &pages)? {
-        return Err(RootFault::Damaged);
-    }
-    let named = named_of(alloc, lasts)?;
-    if !are_numbers(alloc, threads, &named)? {
-        return Err(RootFault::Damaged);
-    }
-    let sets = sets_of(alloc, &sets)?;
-    if !are_reports(&reports, events, &sets) {
-        return Err(RootFault::Damaged);
-    }
-    let state = state_of(alloc, events, segments.len() as u32, threads, &sources)?;
     Ok(Root {
         number,
         state,

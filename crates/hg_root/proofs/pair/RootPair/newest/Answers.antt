@@ -1,17 +1,38 @@
-use Rattle.std.proofs.Common.{◌≡◌, ◌≤◌, ◌<◌, ◌^◌, Err, cond, false, length, sym, subst, arith}
+use Rattle.std.proofs.Common.{◌≡◌, ◌≤◌, ◌<◌, ◌^◌, cond, false, length, sym, subst, arith}
 use Rattle.hg_gate.specs.Gated.{Rests}
 use Rattle.hg_root.specs.Finding.{number_in, root_in}
 use Rattle.hg_root.specs.Pairs.{Stands}
 use Rattle.hg_root.specs.declared.fault.RootFault.TheVariants.{Damaged}
-use Rattle.hg_root.proofs.Choosing.{durable_in, file_is, first_read, if_ok, no_newest, none_newest, not_so, of_first, on_err, only_roots, second_read, swapped, to_first}
+use Rattle.hg_root.proofs.Choosing.{durable_in, file_is, first_read, if_ok, in_err, no_newest, none_newest, not_read, not_so, of_first, on_err, only_roots, second_read, stands_still, swapped, to_first}
+use Rattle.hg_root.proofs.Refusing.{passed_on}
 use Rattle.hg_root.proofs.pair.RootPair.newest.Goals as goal
+
+pub returns-in_err-older-clause-damaged : goal.returns-in_err-older-clause-damaged
+returns-in_err-older-clause-damaged g c honest is root former newest =
+    let one = (g.D.Disk.state c.args.self.now.older.disk).contents in
+    let other = (g.D.Disk.state c.args.self.now.newer.disk).contents in
+    no_newest one other (c.in_err-older.ensures.damaged honest (passed_on c.from_residual.result c.in_err-older.field-0.0 c.from_residual.ensures.1 is)) root former (of_first g.D.Disk c.args.self.now root former newest)
+
+pub returns-in_err-older-clause-stays : goal.returns-in_err-older-clause-stays
+returns-in_err-older-clause-stays g c root former stands =
+    in_err c.from_residual.result (stands_still g.D.Disk c.args.self.now c.root_of.new.file c.args.self.now.newer c.root_of.ensures.rests (λ _ rests. rests) root former stands)
+
+pub returns-in_err-older-clause-first : goal.returns-in_err-older-clause-first
+returns-in_err-older-clause-first g c = first_read g.D.Disk c.args.self.now c.root_of.new.file.disk c.args.self.now.newer.disk c.root_of.ensures.read (not_read g.D.Disk c.args.self.now.newer.disk)
+
+pub returns-in_err-older-clause-second : goal.returns-in_err-older-clause-second
+returns-in_err-older-clause-second g c = second_read g.D.Disk c.args.self.now c.root_of.new.file.disk c.args.self.now.newer.disk c.root_of.ensures.read (not_read g.D.Disk c.args.self.now.newer.disk)
 
 pub returns-in_err-newer-clause-damaged : goal.returns-in_err-newer-clause-damaged
 returns-in_err-newer-clause-damaged g c honest is root former newest =
     let one = (g.D.Disk.state c.args.self.now.older.disk).contents in
     let other = (g.D.Disk.state c.args.self.now.newer.disk).contents in
-    let same : c.in_err-newer.field-0.0 ≡ Damaged = grind arith in
-    no_newest other one (c.in_err-newer.ensures.damaged honest (λ i. Err (same i))) root former (swapped root former one other (of_first g.D.Disk c.args.self.now root former newest))
+    no_newest other one (c.in_err-newer.ensures.damaged honest (passed_on c.from_residual-in_err-newer.result c.in_err-newer.field-0.0 c.from_residual-in_err-newer.ensures.1 is)) root former
+    (swapped root former one other (of_first g.D.Disk c.args.self.now root former newest))
+
+pub returns-in_err-newer-clause-stays : goal.returns-in_err-newer-clause-stays
+returns-in_err-newer-clause-stays g c root former stands =
+    in_err c.from_residual-in_err-newer.result (stands_still g.D.Disk c.args.self.now c.root_of.new.file c.root_of-2.new.file c.root_of.ensures.rests c.root_of-2.ensures.rests root former stands)
 
 pub returns-in_err-newer-clause-first : goal.returns-in_err-newer-clause-first
 returns-in_err-newer-clause-first g c = first_read g.D.Disk c.args.self.now c.root_of.new.file.disk c.root_of-2.new.file.disk c.root_of.ensures.read c.root_of-2.ensures.read
@@ -61,16 +82,5 @@ returns-clause-damaged g c honest is root former newest =
 
 pub returns-clause-stays : goal.returns-clause-stays
 returns-clause-stays g c root former stands =
-    let read = record c.args.self.now { older = c.root_of.new.file; newer = c.root_of-2.new.file } in
-    let still : Stands g.D.Disk read root former = record {
-      older_file = stands.older_file;
-      newer_file = stands.newer_file;
-      older_rests = c.root_of.ensures.rests stands.older_file stands.older_rests;
-      newer_rests = c.root_of-2.ensures.rests stands.newer_file stands.newer_rests;
-      below = stands.below;
-      older_has = stands.older_has;
-      newer_has = stands.newer_has;
-      known = stands.known;
-      newer_known = stands.newer_known;
-    } in
+    let still = stands_still g.D.Disk c.args.self.now c.root_of.new.file c.root_of-2.new.file c.root_of.ensures.rests c.root_of-2.ensures.rests root former stands in
     on_err c.choose.result (λ same. subst (λ p. Stands g.D.Disk p root former) (sym same) still) c.choose.ensures.same
