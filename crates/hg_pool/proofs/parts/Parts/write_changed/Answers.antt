@@ -90,3 +90,13 @@ returns-in_err-write_unnamed-clause-refusal g c = search rules
 
 pub returns-in_err-write_unnamed-clause-device : goal.returns-in_err-write_unnamed-clause-device
 returns-in_err-write_unnamed-clause-device g c = search rules
+
+pub move_live-requires-clause-sound : goal.move_live-requires-clause-sound
+move_live-requires-clause-sound g c = subst (λ (x : Parts g.row.D.Denot). IsSound x) (sym c.write_unnamed.ensures.rest) c.reserve_live.ensures.sound
+
+pub returns-clause-rest : goal.returns-clause-rest
+returns-clause-rest g c =
+    let m = c.move_live.new.self in
+    (λ i. record (c.move_live.ensures.rest i) { file = m.file; live = m.live; frames = m.frames })
+    ∙ (λ i. record (c.write_unnamed.ensures.rest i) { file = m.file; live = m.live; frames = m.frames })
+    ∙ (λ i. record (c.reserve_live.ensures.rest i) { file = m.file; live = m.live; frames = m.frames })
