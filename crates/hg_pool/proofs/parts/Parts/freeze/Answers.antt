@@ -1,4 +1,4 @@
-use Rattle.std.proofs.Common.{◌≡◌, ◌∙◌, ℕ, ◌+◌, List, Bool, true, false, None, is_some, length, if◌then◌else◌, refl, sym, ap, subst, arith}
+use Rattle.std.proofs.Common.{◌≡◌, ◌∙◌, ℕ, ◌+◌, List, Bool, true, false, None, Ok, Err, is_some, length, if◌then◌else◌, refl, sym, ap, subst, arith}
 use Rattle.hg_pages.specs.Tables.{slot_in}
 use Rattle.hg_pool.specs.Calls.{AreLeft, NamesDirty}
 use Rattle.hg_pool.specs.Kept.{IsWhole}
@@ -26,6 +26,10 @@ left_by_picks p pages picks table left old new h is new_is old_is q =
     let same = same_test (is_some (slot_in pages q)) (is_some (slot_in picks q)) (h.each q) (h.among q) in
     ap (λ (es : List (ℕ × ℕ)). slot_in es q) new_is
     ∙ (is q ∙ (ap (λ (b : Bool). if b then None else slot_in table q) same ∙ ap (λ (es : List (ℕ × ℕ)). if is_some (slot_in picks q) then None else slot_in es q) (sym old_is)))
+
+-- an `Ok` is no error
+no_error : {T E : Type 0} (x : T) (d : E) → Ok x ≡ Err d → ⊥
+no_error x d e = cc
 
 pub changed-requires : goal.changed-requires
 changed-requires g c = omega (arith, c.len-count.ensures.valid.1, c.requires.sound.most_frames)
@@ -97,3 +101,6 @@ pub returns-clause-reached : goal.returns-clause-reached
 returns-clause-reached g c slot below =
     let start : c.begin.new.self.search_from ≡ 0 = ap (λ (x : Parts g.row.D.Denot). x.search_from) c.begin.ensures.rest in
     absurd (omega (arith, start, below))
+
+pub returns-clause-full : goal.returns-clause-full
+returns-clause-full g c full = absurd (no_error _ _ full)
