@@ -16,10 +16,10 @@ returns-clause-ok c =
 
 pub loop-number-preserved : goal.loop-number-preserved
 loop-number-preserved c = (
-      one_more (λ n. 44 ∷ decimal n) (between 1 (length c.args.before.now) c.args.before.now) c.loop-number.number-index _ c.put_number_after.new.out.items _ _ (omega (arith, c.loop-number-test.true)) c.loop-number.invariant.0
+  one_more (λ n. 44 ∷ decimal n) (between 1 (length c.args.before.now) c.args.before.now) c.loop-number.number-index _ c.put_number_after.new.out.items _ _ (omega (arith, c.loop-number-test.true)) c.loop-number.invariant.0
       (c.in_default-put_number_after.ensures.ok ∙ ap (λ n. c.loop-number.out.items ++ (44 ∷ decimal n)) c.from-in-loop-number.ensures),
-      c.loop-number.invariant.1,
-    )
+  c.loop-number.invariant.1,
+)
 
 pub returns-in-Err-clause-err : goal.returns-in-Err-clause-err
 returns-in-Err-clause-err c =

@@ -10,10 +10,10 @@ returns-clause-ok c =
 
 pub loop-thread-preserved : goal.loop-thread-preserved
 loop-thread-preserved c = (
-      one_more (λ n. 44 ∷ decimal n) (between 1 (length c.args.threads.now) c.args.threads.now) c.loop-thread.thread-index _ c.put_number_after.new.out.items _ _ (omega (arith, c.loop-thread-test.true)) c.loop-thread.invariant.0
+  one_more (λ n. 44 ∷ decimal n) (between 1 (length c.args.threads.now) c.args.threads.now) c.loop-thread.thread-index _ c.put_number_after.new.out.items _ _ (omega (arith, c.loop-thread-test.true)) c.loop-thread.invariant.0
       (c.in_default-put_number_after.ensures.ok ∙ ap (λ n. c.loop-thread.out.items ++ (44 ∷ decimal n)) c.from-in-loop-thread.ensures),
-      c.loop-thread.invariant.1,
-    )
+  c.loop-thread.invariant.1,
+)
 
 pub returns-in-Err-clause-err : goal.returns-in-Err-clause-err
 returns-in-Err-clause-err c =
