@@ -1,4 +1,4 @@
-use Rattle.std.proofs.Common.{◌≡◌, ◌∙◌, ℕ, ◌+◌, List, Bool, true, false, None, Ok, Err, is_some, length, if◌then◌else◌, refl, sym, ap, subst, arith}
+use Rattle.std.proofs.Common.{◌≡◌, ◌∙◌, ℕ, List, Bool, true, false, None, Ok, Err, is_some, length, if◌then◌else◌, refl, sym, ap, subst, arith}
 use Rattle.hg_pages.specs.Tables.{slot_in}
 use Rattle.hg_pool.specs.Calls.{AreLeft, NamesDirty}
 use Rattle.hg_pool.specs.Kept.{IsWhole}
