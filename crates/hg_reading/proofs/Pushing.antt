@@ -1,5 +1,6 @@
 -- Pieces in parts: what came of the first bytes, and then of the others.
-use Rattle.std.proofs.Common.{◌≡◌, ℕ, ◌+◌, ◌-◌, List, [], ◌∷◌, ◌++◌, length, take, drop, set, Option, None, Some, Result, Ok, Err, sym, ap, ◌∙◌, subst, arith}
+use Rattle.std.proofs.Common.{◌≡◌, ℕ, ◌+◌, ◌-◌, List, [], ◌∷◌, ◌++◌, length, take, drop, set, Option, None, Some, Result, Ok, Err, true, eqb, sym, ap, ◌∙◌, subst, arith}
+use Rattle.std.proofs.lemmas.Bool.{eqb-true}
 use Rattle.std.proofs.lemmas.List.{append-nil, append_assoc, length-append, length-drop, drop_at}
 use Rattle.hg_model.specs.declared.verdict.Refusal.{Refusal}
 use Rattle.hg_streams.specs.declared.call.WriteCall.{WriteCall}
@@ -140,3 +141,8 @@ held_next part parts text first later held front back =
     let size : length held.0 ≡ part.given = sym held.3.given in
     let rest : later ≡ held.1 = back ∙ (ap (drop part.given) held.2 ∙ drop_at held.0 held.1 part.given size) in
     subst (AreHeld parts) (sym rest) held.4
+
+-- nothing stands behind a text
+pub none_behind : (first later : List ℕ) → eqb (length later) 0 ≡ true → first ≡ first ++ later
+none_behind first [] e = sym (append-nil first)
+none_behind first (x ∷ later) e = absurd (let none : length (x ∷ later) ≡ 0 = eqb-true _ _ e in omega arith)

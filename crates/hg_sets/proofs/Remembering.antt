@@ -1,5 +1,5 @@
 -- Old numbers keep their sets, so what is remembered stays true.
-use Rattle.std.proofs.Common.{◌≡◌, ℕ, ◌<◌, ◌≤◌, Bool, true, List, [], ◌∷◌, ◌++◌, length, set, filter, Option, Some, None, IfSome, Result, Ok, Err, ◌⊎◌, inl, inr, replicate, refl, sym, ap, ◌∙◌, subst, arith, length-append, length-set}
+use Rattle.std.proofs.Common.{◌≡◌, ℕ, ◌<◌, ◌≤◌, Bool, true, List, [], ◌∷◌, ◌++◌, length, set, filter, Option, Some, None, IfOk, IfSome, Result, Ok, Err, ◌⊎◌, inl, inr, replicate, refl, sym, ap, ◌∙◌, subst, arith, length-append, length-set}
 use Rattle.std.specs.List.{list_all}
 use Rattle.std.proofs.lemmas.Bool.{and_parts}
 use Rattle.std.proofs.lemmas.List.{get_or_append_left, get_or_push, length-replicate, nil_from_length}
@@ -107,6 +107,10 @@ answered old new xs id (inl there) =
     subst (λ (t : Table). StandsAt t.sets xs id) (sym there.3) (subst (StandsAt old.sets xs) (sym same) there.1)
 answered old new xs id (inr added) =
     subst (λ (t : Table). StandsAt t.sets xs id) (sym added.1.2) (subst (StandsAt (old.sets ++ xs ∷ []) xs) (sym added.1.1) (omega (arith, length-append old.sets (xs ∷ [])), get_or_push old.sets xs [] (length old.sets) refl))
+
+pub answered_ok : (old new : Table) (xs : List ℕ) (r : Result ℕ SetFault) → Interns old xs r new → IfOk r (StandsAt new.sets xs)
+answered_ok old new xs (Ok id) h = answered old new xs id h
+answered_ok old new xs (Err fault) h = tt
 
 -- a new answer is one to remember
 pub new_join : (old new : Table) (a member id : ℕ) → a < length old.sets → Interns old (with_member (set_at old.sets a) member) (Ok id) new →

@@ -5,6 +5,7 @@ pub mod Offering
 pub mod Refusing
 pub mod Committing
 pub mod Staying
+pub mod Unchanged
 pub mod Checkpointing
 pub mod Reading
 pub mod Rooting

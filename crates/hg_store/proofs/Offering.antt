@@ -1,5 +1,5 @@
 -- A store goes on by an offer.
-use Rattle.std.proofs.Common.{◌≡◌, ◌∙◌, List, [], ◌∷◌, ◌++◌, Bool, false, Ok, Err, Some, None, sym, ap, subst, if◌then◌else◌}
+use Rattle.std.proofs.Common.{◌≡◌, ◌∙◌, List, [], ◌∷◌, ◌++◌, Bool, false, Result, Ok, Err, Some, None, sym, ap, subst, if◌then◌else◌}
 use Rattle.std.specs.Option.{option_and_then}
 use Rattle.hg_model.specs.declared.event.Named.{Named}
 use Rattle.hg_model.specs.declared.verdict.Refusal.{Refusal}
@@ -12,6 +12,7 @@ use Rattle.hg_records.specs.Records.{RecordFits}
 use Rattle.hg_detect.specs.Engine.{AtPresent}
 use Rattle.hg_detect.specs.Making.{AsksBy, sets_asked}
 use Rattle.hg_detect.specs.Shown as detect
+use Rattle.hg_detect.specs.declared.detector.Answer.{Answer}
 use Rattle.hg_disk.specs.State.{IsImage}
 use Rattle.hg_disk.specs.declared.disk.Disk as disk
 use Rattle.hg_pool.specs.Kept.{IsFaithful, Went}
@@ -23,12 +24,20 @@ use Rattle.hg_contents.proofs.Following.{followed_append}
 use Rattle.hg_contents.proofs.lawful.Staying.{one_stays}
 use Rattle.hg_contents.proofs.lawful.Tables.{answered}
 use Rattle.hg_store.specs.Kept.{Parts, Standing, shown_of}
-use Rattle.hg_store.specs.Shown.{live, saved}
+use Rattle.hg_store.specs.Shown.{ShownStore, live, saved}
+use Rattle.hg_store.specs.Steps.{ContentOffered, if_accepted}
 use Rattle.hg_store.proofs.Going.{standing, with_detector}
 
 -- one event that is accepted
 pub followed_one : (c : Content) (n : Named) → verdict (standing_of c) n ≡ Accept → followed c (n ∷ []) ≡ Some (after c n)
 followed_one c n is = ap (λ (v : Verdict). option_and_then (λ (d : Content). Some d) (if is_accept v then Some (after c n) else None)) is
+
+-- the content where the rules do not accept the event
+pub content_kept : {D : Type 0} (g : disk.Ghosts D) (s old : ShownStore D) (n : Named) (v : Verdict) (result : Result Answer Refusal) → s ≡ old → verdict (standing_of (live g s)) n ≡ v → ¬ (v ≡ Accept) → if_accepted n result ≡ [] → ContentOffered g old old n result
+content_kept {D} g s old n v result same is never none = subst (λ (x : ShownStore D). ContentOffered g x x n result) same (record {
+  leads = ap (λ (l : List Named). followed (live g s) l) none;
+  sets = λ taken. absurd (never (sym is ∙ taken.accepted));
+})
 
 module _ {D : Type 0} (g : disk.Ghosts D) (bytes : (d : D) → IsImage (g.state d) (g.state d).contents) (s : Parts D g) (basis : Basis) (is : Standing g s basis) (works : s.is_broken ≡ false)
     (d : detect.ShownDetector (pool.ShownPool D)) (n : Named) (broken : Bool) (accepts : verdict (standing_of (live g (shown_of g s))) n ≡ Accept) (fits : RecordFits n) (went : Went g s.detector.words d.words) (faithful : AtPresent (IsFaithful g) d) where

@@ -178,3 +178,8 @@ none_of (Some n) e = absurd (true≢false e)
 
 pub counted_behind : (line : List ℕ) (verb : source.Verb) (rest : List (List ℕ)) (count : ℕ) → Begins line verb rest → count ≡ length (words_of line) → count - 1 ≡ length rest
 counted_behind line verb rest count b is = let e : length (words_of line) ≡ length (b.first ∷ rest) = ap length b.split in omega (arith, e, is)
+
+pub misfit_at : (all_widths : List ℕ) (all_words : List (List ℕ)) (width : ℕ) (widths word : List ℕ) (words : List (List ℕ)) → all_widths ≡ width ∷ widths → all_words ≡ word ∷ words
+    → is_some (operand_of width word) ≡ false → IsFirstMisfit all_widths all_words 0 word width
+misfit_at all_widths all_words width widths word words widths_are words_are none =
+    rw (widths_are, words_are) (misfit_here width widths word words (none_of _ none))

@@ -2,7 +2,12 @@ use Rattle.std.proofs.Common.{◌≡◌, Some, None, codes, ◌∙◌, sym, ap}
 use Rattle.clap.specs.Words.{first_of, found_of, rows_of}
 use Rattle.clap.proofs.WalkLemmas.{first_value-rows}
 use Rattle.std.proofs.lemmas.Slice.Eq.{bytes_eq-Decides}
+use Rattle.std.proofs.lemmas.Bool.{false≢true}
 use Rattle.hg_options.proofs.matches.is_set.Goals as goal
+
+-- no text is none of them
+no_text : {X : Type 0} (text : X) → None ≡ Some text → ⊥
+no_text text e = cc
 
 pub returns-in-Some : goal.returns-in-Some
 returns-in-Some c =
@@ -15,4 +20,4 @@ returns-in-Some c =
 pub returns-in-None : goal.returns-in-None
 returns-in-None c =
     let is : None ≡ first_of c.args.id.now (rows_of (found_of c.args.given.now)) = c.in-None.ensures ∙ first_value-rows (found_of c.args.given.now) c.args.id.now in
-    (λ e. absurd (cc e), λ e. absurd (let bad : None ≡ Some (codes "true") = is ∙ e in cc))
+    (λ e. absurd (false≢true e), λ e. absurd (no_text _ (is ∙ e)))

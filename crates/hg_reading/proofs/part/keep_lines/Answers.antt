@@ -1,4 +1,5 @@
-use Rattle.std.proofs.Common.{ℕ, ◌+◌, ◌-◌, length, drop, sym, ap, ◌∙◌, subst}
+use Rattle.std.proofs.Common.{ℕ, ◌+◌, ◌-◌, ◌≤◌, length, drop, sym, ap, ◌∙◌, subst, arith}
+use Rattle.std.proofs.lemmas.List.{length-drop}
 use Rattle.hg_reading.specs.Keeping.{IsKept, lines_kept}
 use Rattle.hg_reading.proofs.Parsing.{IsParsedTo, parsed_all, parsed_on, rest_is}
 use Rattle.hg_reading.proofs.part.keep_lines.Goals as goal
@@ -15,3 +16,14 @@ returns-then-is_between_lines c =
     subst (λ n. IsKept c.args.text.now c.loop-it.kept.items n (length c.args.text.now)) (sym c.lines.ensures)
     (parsed_all c.args.text.now c.loop-it.kept.items c.loop-it.extent.lines c.loop-it.extent.bytes c.loop-it.reader c.next_line.new.reader c.loop-it.rest.now c.loop-it.invariant c.in-End.ensures
     (c.is_between_lines.ensures.0 c.if-is_between_lines.true))
+
+pub overflow_add-extent : goal.overflow_add-extent
+overflow_add-extent c =
+    let front = c.loop-it.invariant.front in
+    let size = ap length c.loop-it.invariant.left ∙ length-drop c.loop-it.extent.bytes c.args.text.now in
+    let within : c.loop-it.extent.bytes + c.in-Line.used ≤ length c.args.text.now = omega (arith, front.within, c.in-Line.ensures.3.within, size) in
+    omega arith
+
+pub returns-then-not-keep : goal.returns-then-not-keep
+returns-then-not-keep c =
+    subst (λ kept. IsKept c.args.text.now kept c.loop-it.extent.lines c.loop-it.extent.bytes) (sym c.if-not-keep.ensures.full) c.loop-it.invariant.front

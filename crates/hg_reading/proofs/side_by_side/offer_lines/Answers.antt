@@ -36,3 +36,17 @@ returns g c =
     c.args.output.now.calls c.offer_beside.new.output.calls c.offer_groups.new.output.calls c.args.text.now c.split_at.result.0.now c.split_at.result.1.now c.offer_groups.result c.split_at.ensures.by_index.0 passed
     (subst (λ x. Pushes g.S.Sink.takes c.offer_beside.new.reader c.offer_beside.new.sink c.offer_beside.new.output.calls x c.offer_groups.result c.offer_groups.new.reader c.offer_groups.new.sink c.offer_groups.new.output.calls)
     (sym c.split_at-2.ensures.by_index.0) c.offer_groups.ensures)
+
+pub offer_beside-requires-clause-room : goal.offer_beside-requires-clause-room
+offer_beside-requires-clause-room g c κs within =
+    let first = length c.split_at.result.0.now in
+    let later = length c.split_at.result.1.now in
+    let split : length c.args.text.now ≡ first + later = omega (arith, c.split_at.ensures.front_len, c.split_at.ensures.back_len) in
+    g.met.S.Sink.fewer c.args.sink.now first later (subst (λ (k : ℕ). g.S.Sink.may_take c.args.sink.now k) split c.requires.room)
+
+pub offer_groups-requires-clause-lines : goal.offer_groups-requires-clause-lines
+offer_groups-requires-clause-lines g c κs within =
+    let none : c.in_ok-end.field-0 ≡ None = grind arith in
+    let passed = pushes_pass g.S.Sink.takes c.args.reader.now c.args.sink.now c.args.output.now.calls c.split_at.result.0.now (Ok c.in_ok-end.field-0) c.offer_beside.new.reader c.offer_beside.new.sink
+    c.offer_beside.new.output.calls (ap Ok none) c.in_ok-end.ensures.pushes in
+    omega (arith, passed.counted, c.requires.lines, c.split_at.ensures.front_len, c.split_at.ensures.back_len, c.split_at-2.ensures.front_len, c.split_at-2.ensures.back_len)

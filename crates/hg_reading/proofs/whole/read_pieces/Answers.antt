@@ -1,4 +1,4 @@
-use Rattle.std.proofs.Common.{◌≡◌, ℕ, suc, ◌+◌, ◌-◌, ◌*◌, ◌^◌, ◌<◌, ◌≤◌, List, ◌∷◌, IfSome, None, Some, Ok, Err, length, take, sym, ap, ◌∙◌, subst, inl, inr, arith}
+use Rattle.std.proofs.Common.{◌≡◌, ℕ, suc, ◌+◌, ◌-◌, ◌*◌, ◌^◌, ◌<◌, ◌≤◌, List, ◌∷◌, IfSome, Option, None, Some, Result, Ok, Err, length, take, refl, sym, ap, ◌∙◌, subst, inl, inr, arith}
 use Rattle.std.proofs.Math.Nat.{mul-suc}
 use Rattle.std.proofs.lemmas.List.{length-take}
 use Rattle.hg_streams.specs.Calls.{failed_reads, got_call}
@@ -9,6 +9,13 @@ use Rattle.hg_reading.specs.Taking.{Pushes, Reads}
 use Rattle.hg_reading.proofs.Pushing.{pushes_pass}
 use Rattle.hg_reading.proofs.Runs.{has_read_again, has_read_first, has_read_on, read_end, read_failed, read_stop, read_too_often, reads_all, room_behind}
 use Rattle.hg_reading.proofs.whole.read_pieces.Goals as goal
+
+-- an error is no answer, and an end is not the answer without one
+no_answer : {X E : Type 0} (d : E) (x : X) → Err d ≡ Ok x → ⊥
+no_answer d x e = cc
+
+no_end : {X E : Type 0} (r : Result (Option X) E) (x : X) → r ≡ Ok (Some x) → r ≡ Ok None → ⊥
+no_end r x some none = cc
 
 -- one read more takes the room of a piece
 a_piece_left : (size reads : ℕ) → reads < 2 ^ 32 → size * (2 ^ 32 - reads) ≡ size + size * (2 ^ 32 - (reads + 1))
@@ -100,7 +107,7 @@ returns-in_err-end g c =
     subst (λ x. Reads g.S.Sink.takes c.args.input.now.calls c.read.new.self.calls c.args.sink.now c.args.output.now.calls x c.take_piece.new.sink c.take_piece.new.output.calls) (sym same)
     (inl (read_stop g.S.Sink.takes g.met.S.Sink.on c.args.input.now.calls c.loop-reads.input.calls c.read.new.self.calls c.args.sink.now c.args.output.now.calls c.loop-reads.reader c.loop-reads.sink c.take_piece.new.sink
     c.loop-reads.output.calls c.take_piece.new.output.calls (take c.in-Some.count c.read.new.buffer) (Err c.in_err-end.field-0.0)
-    (c.in_ok-count.ensures.calls ∙ ap (λ x. got_call x c.read.new.buffer ∷ c.loop-reads.input.calls) c.in-Some.is) (λ e. absurd (cc)) c.in_err-end.ensures.pushes c.loop-reads.invariant.run))
+    (c.in_ok-count.ensures.calls ∙ ap (λ x. got_call x c.read.new.buffer ∷ c.loop-reads.input.calls) c.in-Some.is) (no_answer _ _) c.in_err-end.ensures.pushes c.loop-reads.invariant.run))
 
 pub returns-in-Some-2 : goal.returns-in-Some-2
 returns-in-Some-2 g c =
@@ -108,7 +115,7 @@ returns-in-Some-2 g c =
     c.take_piece.new.output.calls) c.in-Some-2.is c.in_ok-end.ensures.pushes in
     read_stop g.S.Sink.takes g.met.S.Sink.on c.args.input.now.calls c.loop-reads.input.calls c.read.new.self.calls c.args.sink.now c.args.output.now.calls c.loop-reads.reader c.loop-reads.sink c.take_piece.new.sink
     c.loop-reads.output.calls c.take_piece.new.output.calls (take c.in-Some.count c.read.new.buffer) (Ok (Some c.in-Some-2.end))
-    (c.in_ok-count.ensures.calls ∙ ap (λ x. got_call x c.read.new.buffer ∷ c.loop-reads.input.calls) c.in-Some.is) (λ e. absurd (cc)) stopped c.loop-reads.invariant.run
+    (c.in_ok-count.ensures.calls ∙ ap (λ x. got_call x c.read.new.buffer ∷ c.loop-reads.input.calls) c.in-Some.is) (no_end (Ok (Some c.in-Some-2.end)) _ refl) stopped c.loop-reads.invariant.run
 
 pub loop-reads-preserved : goal.loop-reads-preserved
 loop-reads-preserved g c =

@@ -1,21 +1,26 @@
-use Rattle.std.proofs.Common.{◌≡◌, ◌<◌, ◌∙◌, ℕ, All, length, Option, None, Some, refl, sym, ap, subst, rules}
+use Rattle.std.proofs.Common.{◌≡◌, ◌<◌, ◌∙◌, inl, inr, ℕ, false, All, length, Option, None, Some, Result, Ok, Err, refl, sym, ap, subst, rules}
 use Rattle.std.specs.Prelude.{IfOk, IfSome}
 use Rattle.hg_model.specs.declared.verdict.Refusal.{Refusal}
 use Rattle.hg_model.specs.declared.verdict.Refusal.TheVariants.{Damaged, OutOfMemory}
+use Rattle.hg_model.specs.declared.verdict.Refusal.TheVariants as refusal
+use Rattle.hg_detect.specs.Shown as detect
 use Rattle.hg_detect.specs.Shown.{content}
+use Rattle.hg_disk.specs.declared.disk.Disk as disk
 use Rattle.hg_disk.proofs.Staying.{same}
 use Rattle.hg_checkpointer.specs.Tables.{NamesOf}
-use Rattle.hg_pages.specs.Files.{disk_of, known}
+use Rattle.hg_pages.specs.Files.{disk_of, is_broken, known}
 use Rattle.hg_pages.specs.declared.slot_file.SlotFile.{SlotFile}
 use Rattle.hg_pool.specs.Maps.{live}
+use Rattle.hg_pool.specs.Shown as pool
 use Rattle.hg_root.specs.Checkpoints.{Checkpoint, HasPages, root_of}
 use Rattle.hg_root.specs.Finding.{IsWholeIn, root_in}
 use Rattle.hg_root.specs.Parts.{Parts}
 use Rattle.hg_root.specs.Roots.{parts_of}
 use Rattle.hg_contents.specs.Images.{start_of}
-use Rattle.hg_recovery.specs.Restoring.{IsTrueCause}
+use Rattle.hg_recovery.specs.Restoring.{IsTrueCause, detector_of}
+use Rattle.hg_recovery.specs.declared.caps.Caps.{Caps}
 use Rattle.hg_store.specs.Images.{LeavesOld}
-use Rattle.hg_store.specs.Recovering.{IsTooFew}
+use Rattle.hg_store.specs.Recovering.{IsOfRecovery, IsTooFew, table_at}
 use Rattle.hg_store.proofs.Making.{each_names, each_ready, first_ready, if_err, some_checkpoint}
 use Rattle.hg_store.proofs.Replaying.{on_ok}
 use Rattle.hg_store.proofs.recover.detector_of.Goals as goal
@@ -26,6 +31,49 @@ no_root (Some checkpoint) is = absurd (cc)
 
 memory_is_not_room : (sets slots : ℕ) → IsTooFew sets slots None OutOfMemory
 memory_is_not_room sets slots = (λ told. absurd (cc), λ told. absurd (cc))
+
+if_ok : {T E : Type 0} (P Q : T → Type 0) (result : Result T E) → ((value : T) → P value → Q value) → IfOk result P → IfOk result Q
+if_ok P Q (Ok value) from holds = from value holds
+if_ok P Q (Err error) from holds = tt
+
+-- the causes of a restoring over a file that works
+of_cause : {D : Type 0} (g : disk.Ghosts D) (root : Parts) (caps : Caps) (file : SlotFile D) → is_broken file ≡ false → (r : Refusal) → IsTrueCause g root caps file r → IsOfRecovery r
+of_cause g root caps file works (refusal.Gap number) cause = absurd cause
+of_cause g root caps file works refusal.BadNumber cause = absurd cause
+of_cause g root caps file works refusal.BadLength cause = absurd cause
+of_cause g root caps file works refusal.AddressEnd cause = absurd cause
+of_cause g root caps file works refusal.NoThread cause = absurd cause
+of_cause g root caps file works refusal.ChildUsed cause = absurd cause
+of_cause g root caps file works refusal.SelfJoin cause = absurd cause
+of_cause g root caps file works refusal.ChildNotAlive cause = absurd cause
+of_cause g root caps file works refusal.ChildHoldsLocks cause = absurd cause
+of_cause g root caps file works refusal.Broken cause = absurd (cc (cause, works))
+of_cause g root caps file works refusal.Damaged cause = inl refl
+of_cause g root caps file works refusal.AlreadyHeld cause = absurd cause
+of_cause g root caps file works refusal.LockBusy cause = absurd cause
+of_cause g root caps file works refusal.NotHeld cause = absurd cause
+of_cause g root caps file works refusal.FullHeld cause = absurd cause
+of_cause g root caps file works refusal.FullSegments cause = absurd cause
+of_cause g root caps file works refusal.FullEvents cause = absurd cause
+of_cause g root caps file works refusal.FullPending cause = absurd cause
+of_cause g root caps file works refusal.FullSets cause = inr (inl refl)
+of_cause g root caps file works refusal.FullSlots cause = inr (inr (inl refl))
+of_cause g root caps file works refusal.DeviceFault cause = inr (inr (inr (inl refl)))
+of_cause g root caps file works refusal.OutOfMemory cause = inr (inr (inr (inr refl)))
+
+pub returns-in-Some-clause-sets : goal.returns-in-Some-clause-sets
+returns-in-Some-clause-sets g c =
+    let root = c.in-Some.root in
+    let caps = c.caps_of.result in
+    let sets = c.args.caps.sets in
+    if_ok (λ d. d ≡ detector_of root caps d.words.file) (λ d. d.sets ≡ table_at sets (root_in c.args.found)) c.restored.result
+    (λ d is. ap (λ (x : detect.ShownDetector (pool.ShownPool g.row.D.Denot)). x.sets) is ∙ ap (λ (n : ℕ). table_at n (Some (parts_of root))) c.caps_of.ensures.0 ∙ sym (ap (λ (o : Option Parts). table_at sets o) (ap root_in c.in-Some.is)))
+    c.restored.ensures.shown
+
+pub returns-in-Some-clause-refusal : goal.returns-in-Some-clause-refusal
+returns-in-Some-clause-refusal g c =
+    let root = parts_of c.in-Some.root in
+    if_err (λ e. IsTrueCause g.D.Disk root c.caps_of.result c.args.file e.0) (λ e. IsOfRecovery e.0) c.restored.result (λ e cause. of_cause g.D.Disk root c.caps_of.result c.args.file c.requires.works e.0 cause) c.restored.ensures.refusal
 
 pub returns-in-Some-clause-content : goal.returns-in-Some-clause-content
 returns-in-Some-clause-content g c honest o is has =

@@ -10,13 +10,51 @@ use Rattle.hg_detect.specs.Planning.{IsPlanned, touched_by}
 use Rattle.hg_detect.specs.Shown.{found}
 use Rattle.hg_detect.proofs.Accesses.{asked_from}
 use Rattle.hg_detect.proofs.Alike.{alike_planned, alike_given, alike_found, alike_asked, alike_refused, alike_within, quiet}
-use Rattle.hg_detect.proofs.Passing.{access_passes}
+use Rattle.hg_detect.proofs.Passing.{access_passes, few_events, few_words}
 use Rattle.hg_detect.proofs.Answering.{KeepsEngine, access_answers, refused_answers, sets_changed}
 use Rattle.hg_detect.proofs.Reports.{found_few}
 use Rattle.hg_detect.proofs.engine.Engine.access_alike.Goals as goal
 
 pub follow_access-requires : goal.follow_access-requires
 follow_access-requires g c = (c.args.named.write, c.args.named.access, ap (λ e. verdict (standing e.state) (named_of c.args.named)) c.plan_for.ensures.others ∙ c.requires.accepted)
+
+pub follow_access-requires-2 : goal.follow_access-requires-2
+follow_access-requires-2 g c = (c.args.named.write, c.args.named.access, ap (λ e. verdict (standing e.state) (named_of c.args.named)) c.plan_for.ensures.others ∙ c.requires.accepted)
+
+pub fill-requires : goal.fill-requires
+fill-requires g c = subst (λ e. g.W.Words.may_fill e.words c.args.first c.args.count) (sym c.plan_for.ensures.others) c.requires.fillable
+
+pub fill-requires-2 : goal.fill-requires-2
+fill-requires-2 g c = subst (λ e. g.W.Words.may_fill e.words c.args.first c.args.count) (sym c.plan_for.ensures.others) c.requires.fillable
+
+pub plan_alike-requires-clause-few : goal.plan_alike-requires-clause-few
+plan_alike-requires-clause-few g c = few_words (standing c.args.self.now.state) c.args.named c.args.first c.args.count c.requires.accepted c.requires.first c.requires.count
+
+pub reserve_reports-requires-clause-few : goal.reserve_reports-requires-clause-few
+reserve_reports-requires-clause-few g c =
+    let few = few_words (standing c.args.self.now.state) c.args.named c.args.first c.args.count c.requires.accepted c.requires.first c.requires.count in
+    let len = ap length (c.as_slice.ensures.value ∙ c.plan_alike.ensures.items) ∙ length-replicate c.args.count c.in_ok-planned.planned in
+    omega (arith, few, len)
+
+pub add_reports-reports-requires-clause-few : goal.add_reports-reports-requires-clause-few
+add_reports-reports-requires-clause-few g c =
+    let few = few_words (standing c.args.self.now.state) c.args.named c.args.first c.args.count c.requires.accepted c.requires.first c.requires.count in
+    let len = ap length (c.as_slice-2.ensures.value ∙ c.plan_alike.ensures.items) ∙ length-replicate c.args.count c.in_ok-planned.planned in
+    omega (arith, few, len)
+
+pub overflow_add-next : goal.overflow_add-next
+overflow_add-next g c =
+    let few = few_events (standing c.args.self.now.state) (named_of c.args.named) c.requires.accepted in
+    omega (arith, few, c.events-next.ensures, ap (λ e. e.state.events) c.plan_for.ensures.others)
+
+pub returns-in_err-planned-clause-went : goal.returns-in_err-planned-clause-went
+returns-in_err-planned-clause-went g c = subst (λ e. g.W.Words.went c.args.self.now.words e.words) (sym c.plan_for.ensures.others) (g.met.W.Words.went_nowhere c.args.self.now.words)
+
+pub returns-then-are_same-clause-went : goal.returns-then-are_same-clause-went
+returns-then-are_same-clause-went g c = subst (λ e. g.W.Words.went c.args.self.now.words e.words) (sym c.plan_for.ensures.others) (g.met.W.Words.went_nowhere c.args.self.now.words)
+
+pub returns-in_err-reserve_reports-clause-went : goal.returns-in_err-reserve_reports-clause-went
+returns-in_err-reserve_reports-clause-went g c = subst (λ e. g.W.Words.went c.args.self.now.words e.words) (sym c.plan_for.ensures.others) (g.met.W.Words.went_nowhere c.args.self.now.words)
 
 pub returns-in_err-planned-clause-answers : goal.returns-in_err-planned-clause-answers
 returns-in_err-planned-clause-answers g c =

@@ -1,8 +1,9 @@
-use Rattle.std.proofs.Common.{◌≡◌, ◌+◌, ◌/◌, ℕ, Ok, Err, refl, ap, ◌∙◌, subst, arith, length, take, ◌++◌, All}
+use Rattle.std.proofs.Common.{◌≡◌, ◌+◌, ◌/◌, ℕ, Ok, Err, refl, sym, ap, ◌∙◌, subst, arith, length, take, ◌++◌, All}
+use Rattle.std.specs.Prelude.{vec_capacity}
 use Rattle.hg_model.specs.Accessing.{access_event, access_named}
 use Rattle.hg_model.specs.Verdicts.{standing}
 use Rattle.hg_detect.specs.Engine.{actor_of, shown_of}
-use Rattle.hg_detect.specs.Shown.{found, given}
+use Rattle.hg_detect.specs.Shown.{HasRoom, found, given}
 use Rattle.hg_cells.specs.Cells.{IsWithin}
 use Rattle.hg_detect.proofs.Accesses.{asked_from, last_word}
 use Rattle.hg_detect.proofs.Passing.{access_passes}
@@ -86,3 +87,11 @@ returns-clause-answers g c =
     (c.follow_access.ensures c.args.write c.args.access) refl refl refl ends done.planned done.len cells lawful faithful
     (ap (λ (x : ℕ). x + 1) c.events-event.ensures) items count refl
     (λ h. asked_from words.cell_of (shown_of old) (access_event c.args.write c.args.access) c.args.write a (actor_of old a c.args.write) _ (Ok tt) c.prepare.result mid.sets refl passed.some refl ends ok (p.asked (length old.graph) (length old.sets.sets) h))
+
+pub add_reports-requires-clause-room : goal.add_reports-requires-clause-room
+add_reports-requires-clause-room g c =
+    let mid = c.prepare.new.self in
+    subst (λ xs. HasRoom mid.kept.items (vec_capacity mid.kept) xs) (sym c.as_slice-2.ensures.value) c.in_ok-prepare.ensures.room
+
+pub returns-clause-went : goal.returns-clause-went
+returns-clause-went g c = g.met.W.Words.went_on c.args.self.now.words c.prepare.new.self.words c.set_words.new.words c.prepare.ensures.went c.set_words.ensures.went

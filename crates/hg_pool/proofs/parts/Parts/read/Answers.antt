@@ -8,7 +8,7 @@ use Rattle.hg_pages.specs.Tables.{slot_in}
 use Rattle.hg_pool.specs.Maps.{bytes_of, disk_of, in_slot}
 use Rattle.hg_pool.specs.Sound.{shown_of}
 use Rattle.hg_pool.proofs.Breaking.{more_after}
-use Rattle.hg_pool.proofs.FromSlots.{new_cells, new_within, no_damage, read_there, stands_there, stays_read, whole_before}
+use Rattle.hg_pool.proofs.FromSlots.{cells_within, new_cells, new_within, no_damage, read_there, stands_there, stays_read, whole_before}
 use Rattle.hg_pool.proofs.parts.Parts.read.Goals as goal
 
 pub returns-in-None-clause-cells : goal.returns-in-None-clause-cells
@@ -41,3 +41,7 @@ returns-in_err-read_page-in-Some-clause-whole g c h known =
     let some : slot_in p.live.entries c.args.page ≡ Some c.in-Some.slot = search rules in
     rw (refused.1, refused.2)
     (no_damage _ (λ damaged. stands_there g.D.Disk (shown_of p) c.args.page c.in-Some.slot c.args.segments c.args.sets.now.sets h some known (c.read_page.ensures.damaged h.honest (c.in_err-read_page-in-Some.was ∙ ap Err damaged))))
+
+pub returns-in_ok-read_page-in-Some-clause-named : goal.returns-in_ok-read_page-in-Some-clause-named
+returns-in_ok-read_page-in-Some-clause-named g c =
+    cells_within c.args.segments c.args.sets.now.sets c.in_ok-read_page-in-Some.field-0 c.in_ok-read_page-in-Some.ensures.named

@@ -1,4 +1,4 @@
-use Rattle.std.proofs.Common.{◌≡◌, ◌==◌, ◌∙◌, ℕ, List, Option, Some, is_some, if◌then◌else◌, arith, sym, ap, subst}
+use Rattle.std.proofs.Common.{◌≡◌, ◌==◌, ◌∙◌, ℕ, ◌+◌, ◌<◌, ◌≤◌, List, [], ◌∷◌, length, Option, Some, None, is_some, if◌then◌else◌, arith, sym, ap, subst}
 use Rattle.std.specs.Option.{unwrap_or}
 use Rattle.lru.specs.LruCache.{LruCache}
 use Rattle.hg_cells.specs.declared.cell.Cell.{Cell}
@@ -12,6 +12,17 @@ use Rattle.hg_pool.proofs.Lookups.{itself, looked_removed}
 use Rattle.hg_pool.proofs.Moving.{no_page_left, sound_released, stays_released}
 use Rattle.hg_pool.proofs.Stepping.{the_some}
 use Rattle.hg_pool.proofs.parts.Parts.release.Goals as goal
+
+-- where one page waits, there is room for it
+one_waits : (waiting : List (ℕ × ℕ)) (page slot : ℕ) → slot_in waiting page ≡ Some slot → 1 ≤ length waiting
+one_waits [] page slot is = absurd (let bad : None ≡ Some slot = is in cc)
+one_waits (entry ∷ waiting) page slot is = omega arith
+
+room_for_one : (root t : tables.ShownTable) (frozen : Option tables.ShownTable) (waiting : List (ℕ × ℕ)) (page slot : ℕ) → frozen ≡ Some t → slot_in waiting page ≡ Some slot
+    → length (unwrap_or frozen root).entries + length waiting ≤ (unwrap_or frozen root).capacity → slot < (unwrap_or frozen root).slots → (length t.entries < t.capacity) × (slot < t.slots)
+room_for_one root t frozen waiting page slot is waits room within =
+    let here : length t.entries + length waiting ≤ t.capacity = subst (λ (o : Option tables.ShownTable). length (unwrap_or o root).entries + length waiting ≤ (unwrap_or o root).capacity) is room in
+    (omega (arith, here, one_waits waiting page slot waits), subst (λ (o : Option tables.ShownTable). slot < (unwrap_or o root).slots) is within)
 
 pub returns-clause-unpicked : goal.returns-clause-unpicked
 returns-clause-unpicked g c named =
@@ -54,3 +65,9 @@ returns-clause-stays g c =
     c.requires.waits was.unwritten c.remove.ensures.removed
     (λ q. ap (λ (x : LruCache ℕ (List Cell)). copy_in x.entries q) c.pop.ensures.entries ∙ looked_removed page q p.copies.entries c.len-count.ensures.valid.0)
     c.requires.stands c.requires.sound.sealed
+
+pub name_frozen-requires-clause-room : goal.name_frozen-requires-clause-room
+name_frozen-requires-clause-room g c t is =
+    let p = c.args.self.now in
+    let was = c.requires.sound.picked c.args.page c.args.slot c.requires.waits in
+    room_for_one p.root t p.frozen p.waiting.entries c.args.page c.args.slot is c.requires.waits was.frozen_room was.frozen_slots

@@ -1,5 +1,9 @@
-use Rattle.std.proofs.Common.{rules, ◌∙◌, inl, inr, Result, Ok, Err, OnErr, sym, ap, subst}
+use Rattle.std.proofs.Common.{rules, ◌≢◌, ◌∙◌, inl, inr, Result, Ok, Err, OnErr, sym, ap, subst}
 use Rattle.std.proofs.lemmas.Result.{IfOk-from_err, err_from_is_err_and}
+use Rattle.hg_model.specs.declared.verdict.Refusal.TheVariants.{Damaged}
+use Rattle.hg_pages.specs.declared.fault.WriteFault.{WriteFault}
+use Rattle.hg_pages.specs.declared.fault.WriteFault.TheVariants as of_write
+use Rattle.hg_pages.specs.Fault.{write_refusal}
 use Rattle.hg_pages.specs.Tables.{IsNamed}
 use Rattle.hg_pool.specs.declared.parts.Parts.{Parts}
 use Rattle.hg_pool.specs.Maps.{bytes_of, frame_in}
@@ -13,6 +17,11 @@ use Rattle.hg_pool.proofs.parts.Parts.write_changed.Goals as goal
 on_err : {T E : Type 0} (r : Result T E) {P : Type 0} → P → OnErr r P
 on_err (Ok value) is = tt
 on_err (Err error) is = is
+
+-- no write finds damage
+write_undamaged : (fault : WriteFault) → write_refusal fault ≢ Damaged
+write_undamaged of_write.DeviceFault e = cc
+write_undamaged of_write.Broken e = cc
 
 pub returns-in_err-write_unnamed-clause-stays : goal.returns-in_err-write_unnamed-clause-stays
 returns-in_err-write_unnamed-clause-stays g c =
@@ -90,3 +99,18 @@ returns-in_err-write_unnamed-clause-refusal g c = search rules
 
 pub returns-in_err-write_unnamed-clause-device : goal.returns-in_err-write_unnamed-clause-device
 returns-in_err-write_unnamed-clause-device g c = search rules
+
+pub move_live-requires-clause-sound : goal.move_live-requires-clause-sound
+move_live-requires-clause-sound g c = subst (λ (x : Parts g.row.D.Denot). IsSound x) (sym c.write_unnamed.ensures.rest) c.reserve_live.ensures.sound
+
+pub returns-clause-rest : goal.returns-clause-rest
+returns-clause-rest g c =
+    let m = c.move_live.new.self in
+    (λ i. record (c.move_live.ensures.rest i) { file = m.file; live = m.live; frames = m.frames })
+    ∙ (λ i. record (c.write_unnamed.ensures.rest i) { file = m.file; live = m.live; frames = m.frames })
+    ∙ (λ i. record (c.reserve_live.ensures.rest i) { file = m.file; live = m.live; frames = m.frames })
+
+pub returns-in_err-write_unnamed-clause-undamaged : goal.returns-in_err-write_unnamed-clause-undamaged
+returns-in_err-write_unnamed-clause-undamaged g c =
+    let p = err_from_is_err_and c.from_residual-in_err-write_unnamed.result c.from_residual-in_err-write_unnamed.ensures.1 in
+    rw (p.1, p.2) (write_undamaged c.in_err-write_unnamed.field-0.0)

@@ -1,5 +1,5 @@
-use Rattle.std.proofs.Common.{◌≡◌, ℕ, ◌+◌, ◌≤◌, false, [], length, refl, sym, ap, ◌∙◌, arith, length-set}
-use Rattle.std.proofs.lemmas.Bool.{ltb-false}
+use Rattle.std.proofs.Common.{◌≡◌, ℕ, ◌+◌, ◌≤◌, ◌^◌, false, [], length, refl, sym, ap, ◌∙◌, arith, length-set}
+use Rattle.std.proofs.lemmas.Bool.{leb-false, ltb-false}
 use Rattle.hg_model.specs.declared.event.Event.{Event}
 use Rattle.hg_model.specs.declared.event.Event.TheVariants.{Fork, Join, Lock, RdLock, Unlock, Read, Write, Alloc, Free}
 use Rattle.hg_model.specs.Parts.{Parts}
@@ -18,6 +18,11 @@ opened_fits segments (Read a) h lt = omega arith
 opened_fits segments (Write a) h lt = omega arith
 opened_fits segments (Alloc b) h lt = omega arith
 opened_fits segments (Free b) h lt = omega arith
+
+pub overflow_add-self : goal.overflow_add-self
+overflow_add-self c =
+    let few = leb-false (2 ^ 58) c.args.self.now.events (no_cause (standing c.args.self.now) c.args.named.now c.requires).1.1.1.1.1.1.1.1.1.1.1.1.1.0 in
+    omega (arith, few, ap (λ (p : Parts). p.events) c.self.view_is)
 
 pub overflow_add-self-2 : goal.overflow_add-self-2
 overflow_add-self-2 c =

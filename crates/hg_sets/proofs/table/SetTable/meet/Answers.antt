@@ -1,7 +1,7 @@
 use Rattle.std.proofs.Common.{◌≡◌, ◌⊎◌, inl, inr, length, sym, ap, ◌∙◌, subst, eqb-true}
 use Rattle.hg_model.specs.Sets.{common}
 use Rattle.hg_sets.specs.Interning.{Table, AreSets, StandsAt, set_at}
-use Rattle.hg_sets.proofs.Remembering.{common_empty, common-subset, found}
+use Rattle.hg_sets.proofs.Remembering.{answered_ok, keeps, common_empty, common-subset, found}
 use Rattle.hg_sets.proofs.table.SetTable.meet.Goals as goal
 use Rattle.hg_sets.proofs.table.SetTable.meet.Goals.{Joined-then-a-eq0, Then-is_subset, then-a-eq0-via-then-a-eq0, then-a-eq0-via-else-a-eq0+then-is_empty}
 
@@ -29,3 +29,9 @@ returns-then-is_subset-clause-exact c = found c.args.self.now _ c.args.a (everyt
 
 pub returns-then-is_subset-clause-number : goal.returns-then-is_subset-clause-number
 returns-then-is_subset-clause-number c = everything c
+
+pub returns-clause-number : goal.returns-clause-number
+returns-clause-number c = answered_ok c.args.self.now c.meet_fewer.new.self _ _ c.meet_fewer.ensures.exact
+
+pub returns-clause-kept : goal.returns-clause-kept
+returns-clause-kept c = keeps c.args.self.now c.meet_fewer.new.self _ _ c.meet_fewer.ensures.exact

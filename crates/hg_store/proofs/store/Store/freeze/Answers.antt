@@ -3,7 +3,7 @@ use Rattle.hg_checkpointer.specs.declared.phase.Phase.{Phase}
 use Rattle.hg_pages.specs.Files as files
 use Rattle.hg_pages.specs.declared.slot_file.SlotFile.{SlotFile}
 use Rattle.hg_recovery.specs.Capturing.{parts_with}
-use Rattle.hg_store.specs.Shown.{phase_by}
+use Rattle.hg_store.specs.Shown.{ShownStore, live as of_store, phase_by}
 use Rattle.hg_store.specs.declared.steps.StorePhase.TheVariants as store
 use Rattle.hg_store.specs.Kept.{is_rooting}
 use Rattle.hg_pool.specs.Kept.{AreWithin}
@@ -12,6 +12,7 @@ use Rattle.hg_pool.specs.declared.frame.Frame.{Frame}
 use Rattle.hg_contents.proofs.lawful.Staying.{fits_a_root}
 use Rattle.hg_store.proofs.Freezing.{draft_of, frozen_as, head, idle_phase, known, now}
 use Rattle.hg_store.proofs.Staying.{same_content}
+use Rattle.hg_store.proofs.Unchanged.{nothing_done, same_shown, same_sound}
 use Rattle.hg_store.proofs.store.Store.freeze.Goals as goal
 
 pub returns-in-Ok-clause-live : goal.returns-in-Ok-clause-live
@@ -49,3 +50,35 @@ invariant_of-self g c =
                 (on k.0.now.checkpoint k.0.now.former w.stands) (draft_of g.D.Disk c.freeze.new.self c.freeze.new.pool k.0.now.checkpoint (now g.D.Disk _ k.0 k.1 works) number c.in-Ok.ensures.head.1 drafted),
           );
     }
+
+pub invariant_of-self-in-Err-WrongPhase : goal.invariant_of-self-in-Err-WrongPhase
+invariant_of-self-in-Err-WrongPhase g c =
+    same_sound g.D.Disk _ c.freeze.new.self c.freeze.new.pool c.in-Err-WrongPhase.ensures.refused.0 (c.in-Err-WrongPhase.ensures.refused.1 ∙ c.words_mut.ensures.value) _ c.self.invariant
+
+pub returns-in-Err-WrongPhase-clause-refused : goal.returns-in-Err-WrongPhase-clause-refused
+returns-in-Err-WrongPhase-clause-refused g c = same_shown g.D.Disk _ c.freeze.new.self c.freeze.new.pool c.in-Err-WrongPhase.ensures.refused.0 (c.in-Err-WrongPhase.ensures.refused.1 ∙ c.words_mut.ensures.value) _ c.self.invariant _ c.self.view_is
+
+pub returns-in-Err-WrongPhase-clause-devices : goal.returns-in-Err-WrongPhase-clause-devices
+returns-in-Err-WrongPhase-clause-devices g c = ap (λ (s : ShownStore g.row.D.Denot). s.devices) (same_shown g.D.Disk _ c.freeze.new.self c.freeze.new.pool c.in-Err-WrongPhase.ensures.refused.0 (c.in-Err-WrongPhase.ensures.refused.1 ∙ c.words_mut.ensures.value) _ c.self.invariant _ c.self.view_is)
+
+pub returns-in-Err-WrongPhase-clause-live : goal.returns-in-Err-WrongPhase-clause-live
+returns-in-Err-WrongPhase-clause-live g c honest = ap (λ (s : ShownStore g.row.D.Denot). of_store g.D.Disk s) (same_shown g.D.Disk _ c.freeze.new.self c.freeze.new.pool c.in-Err-WrongPhase.ensures.refused.0 (c.in-Err-WrongPhase.ensures.refused.1 ∙ c.words_mut.ensures.value) _ c.self.invariant _ c.self.view_is)
+
+pub returns-in-Err-WrongPhase-clause-done : goal.returns-in-Err-WrongPhase-clause-done
+returns-in-Err-WrongPhase-clause-done g c = nothing_done _ _ _ _ _ (same_shown g.D.Disk _ c.freeze.new.self c.freeze.new.pool c.in-Err-WrongPhase.ensures.refused.0 (c.in-Err-WrongPhase.ensures.refused.1 ∙ c.words_mut.ensures.value) _ c.self.invariant _ c.self.view_is) (search rules)
+
+pub invariant_of-self-in-Err-Refused : goal.invariant_of-self-in-Err-Refused
+invariant_of-self-in-Err-Refused g c =
+    same_sound g.D.Disk _ c.freeze.new.self c.freeze.new.pool c.in-Err-Refused.ensures.refused.0 (c.in-Err-Refused.ensures.refused.1 ∙ c.words_mut.ensures.value) _ c.self.invariant
+
+pub returns-clause-refused : goal.returns-clause-refused
+returns-clause-refused g c = same_shown g.D.Disk _ c.freeze.new.self c.freeze.new.pool c.in-Err-Refused.ensures.refused.0 (c.in-Err-Refused.ensures.refused.1 ∙ c.words_mut.ensures.value) _ c.self.invariant _ c.self.view_is
+
+pub returns-clause-devices : goal.returns-clause-devices
+returns-clause-devices g c = ap (λ (s : ShownStore g.row.D.Denot). s.devices) (same_shown g.D.Disk _ c.freeze.new.self c.freeze.new.pool c.in-Err-Refused.ensures.refused.0 (c.in-Err-Refused.ensures.refused.1 ∙ c.words_mut.ensures.value) _ c.self.invariant _ c.self.view_is)
+
+pub returns-clause-live : goal.returns-clause-live
+returns-clause-live g c honest = ap (λ (s : ShownStore g.row.D.Denot). of_store g.D.Disk s) (same_shown g.D.Disk _ c.freeze.new.self c.freeze.new.pool c.in-Err-Refused.ensures.refused.0 (c.in-Err-Refused.ensures.refused.1 ∙ c.words_mut.ensures.value) _ c.self.invariant _ c.self.view_is)
+
+pub returns-clause-done : goal.returns-clause-done
+returns-clause-done g c = nothing_done _ _ _ _ _ (same_shown g.D.Disk _ c.freeze.new.self c.freeze.new.pool c.in-Err-Refused.ensures.refused.0 (c.in-Err-Refused.ensures.refused.1 ∙ c.words_mut.ensures.value) _ c.self.invariant _ c.self.view_is) (search rules)

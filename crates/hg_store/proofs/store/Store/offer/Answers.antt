@@ -1,11 +1,11 @@
-use Rattle.std.proofs.Common.{rules, Some, ap, sym, ◌∙◌}
+use Rattle.std.proofs.Common.{rules, refl, Some, ap, sym, ◌∙◌}
 use Rattle.hg_model.specs.Contents.{Content}
 use Rattle.hg_model.specs.Verdicts.{standing_of}
 use Rattle.hg_detect.specs.Shown.{content}
 use Rattle.hg_pool.specs.Maps as pools
 use Rattle.hg_store.proofs.Backing.{parts_stand}
 use Rattle.hg_store.proofs.Going.{images}
-use Rattle.hg_store.proofs.Offering.{accepted, followed_one, refused}
+use Rattle.hg_store.proofs.Offering.{accepted, content_kept, followed_one, refused}
 use Rattle.hg_store.proofs.Staying.{works_on}
 use Rattle.hg_store.proofs.Refusing.{rules_call_nothing}
 use Rattle.hg_store.proofs.store.Store.offer.Goals as goal
@@ -80,3 +80,19 @@ returns-in-Err-clause-content g c honest =
 
 pub returns-in-Refuse-clause-device : goal.returns-in-Refuse-clause-device
 returns-in-Refuse-clause-device g c = sym (rules_call_nothing (standing_of (content (pools.live g.D.Disk) c.self.inside.detector)) c.args.named.now c.in-Refuse.refusal _ (search rules))
+
+pub returns-in-Duplicate-clause-content : goal.returns-in-Duplicate-clause-content
+returns-in-Duplicate-clause-content g c honest = content_kept g.D.Disk _ _ c.args.named.now _ _ c.self.view_is (sym c.verdict.ensures ∙ c.in-Duplicate.is) (λ other. absurd (cc other)) refl
+
+pub returns-in-Refuse-clause-content : goal.returns-in-Refuse-clause-content
+returns-in-Refuse-clause-content g c honest = content_kept g.D.Disk _ _ c.args.named.now _ _ c.self.view_is (sym c.verdict.ensures ∙ c.in-Refuse.is) (λ other. absurd (cc other)) refl
+
+pub returns-in-Ok-clause-done : goal.returns-in-Ok-clause-done
+returns-in-Ok-clause-done g c = record {
+  answer = search rules;
+  pending = search rules;
+  same = search rules;
+  works = search rules;
+  untouched = λ never. absurd (never (record { works = search rules; accepted = search rules; room = search rules }));
+  breaks = search rules;
+}
