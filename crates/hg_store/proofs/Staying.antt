@@ -1,5 +1,5 @@
 -- A store goes on while its pool is called and its roots are not, or its roots and not its pool.
-use Rattle.std.proofs.Common.{◌≡◌, inl, ◌∙◌, ℕ, List, Bool, false, All, get_or, length, map, Some, ⊎_elim, arith, sym, ap, subst}
+use Rattle.std.proofs.Common.{◌≡◌, inl, ◌∙◌, ℕ, List, Bool, false, All, get_or, length, map, Some, ⊎_elim, arith, rules, sym, ap, subst}
 use Rattle.hg_model.specs.Contents.{Content}
 use Rattle.hg_cells.specs.declared.cell.Cell.{Cell}
 use Rattle.hg_cells.specs.declared.cell.Cell.TheVariants.{New}
@@ -39,6 +39,10 @@ module _ {D : Type 0} (g : disk.Ghosts D) where
   -- a pool none of whose calls failed works on
   pub works_on : (old new : pool.ShownPool D) → Went g old new → g.failures (pools.disk_of new) ≡ g.failures (pools.disk_of old) → pools.is_broken old ≡ false → pools.is_broken new ≡ false
   works_on old new went none works = ⊎_elim (λ same. same ∙ works) (λ more. absurd (omega (arith, more, none))) went.breaks.1
+
+  -- a pool that nothing called
+  pub went_nowhere : (p : pool.ShownPool D) → Went g p p
+  went_nowhere p = search rules
 
   -- the detector over another pool
   abbrev pub over : detect.ShownDetector (pool.ShownPool D) → pool.ShownPool D → detect.ShownDetector (pool.ShownPool D)

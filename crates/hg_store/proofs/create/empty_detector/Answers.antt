@@ -1,4 +1,4 @@
-use Rattle.std.proofs.Common.{◌∙◌, length, sym, subst}
+use Rattle.std.proofs.Common.{◌∙◌, length, sym, ap, subst}
 use Rattle.hg_pool.specs.Kept.{IsFaithful}
 use Rattle.hg_pool.specs.Shown as pool
 use Rattle.hg_store.proofs.Making.{empty_faithful}
@@ -11,3 +11,6 @@ returns-in-Ok-clause-faithful g c honest =
     let m = length d.sets.sets in
     subst (λ (p : pool.ShownPool g.row.D.Denot). IsFaithful g.D.Disk p n m) (sym (c.in-Ok.ensures.words ∙ c.in_ok-pool.ensures.pool))
     (empty_faithful g.D.Disk c.args.file c.new.result.entries _ c.args.caps.slots c.new.ensures honest n m)
+
+pub returns-in-Err-clause-handed_back : goal.returns-in-Err-clause-handed_back
+returns-in-Err-clause-handed_back g c = c.into_disks.ensures ∙ ap (λ (p : pool.ShownPool g.row.D.Denot). p.file) (c.in-Err.ensures.handed_back ∙ c.in_ok-pool.ensures.pool)

@@ -1,5 +1,6 @@
 use Rattle.std.proofs.Common.{rules, ◌≡◌, Result, Err, ◌+◌, ◌++◌, ◌≤◌, ℕ, List, length, sym, ◌∙◌, ap, subst}
 use Rattle.std.specs.Prelude.{IfErr}
+use Rattle.std.proofs.lemmas.Bool.{true≢false}
 use Rattle.hg_model.specs.declared.event.Named.{Named}
 use Rattle.hg_model.specs.declared.verdict.Refusal.{Refusal}
 use Rattle.hg_disk.specs.State.{DiskState}
@@ -12,11 +13,12 @@ use Rattle.hg_pool.specs.Maps as pools
 use Rattle.hg_store.specs.Recovering.{CountsFailures, CountsReplay, Fills, IsOfRecovery, IsTooSmall, failures_in}
 use Rattle.hg_store.proofs.Replaying.{all_led, behind_seen, content_in, on_ok}
 use Rattle.hg_store.proofs.Telling.{counted_beside, of_reading}
+use Rattle.hg_store.proofs.Staying.{went_nowhere}
 use Rattle.hg_store.proofs.replay.replay.Goals as goal
 
 -- a journal that works can be read
 pub returns-in_err-reader : goal.returns-in_err-reader
-returns-in_err-reader g c = let fault = c.in_err-reader.ensures.fault in absurd (cc (fault.1, c.requires.works))
+returns-in_err-reader g c = absurd (true≢false (sym c.in_err-reader.ensures.fault.1 ∙ c.requires.works))
 
 pub returns-in_err-skip-clause-damaged : goal.returns-in_err-skip-clause-damaged
 returns-in_err-skip-clause-damaged g c bodies honest opens faithful told events d is lead =
@@ -78,3 +80,6 @@ pub returns-clause-device : goal.returns-clause-device
 returns-clause-device g c =
     let slots = g.D.Disk.failures (pools.disk_of c.args.detector.now.words) in
     subst (λ (n : ℕ). CountsFailures c.follow_rest.result (n + slots) (failures_in c.follow_rest.new.journal c.follow_rest.new.detector)) c.in_ok-skip.ensures.device c.follow_rest.ensures.device
+
+pub returns-in_err-skip-clause-went : goal.returns-in_err-skip-clause-went
+returns-in_err-skip-clause-went g c = went_nowhere g.D.Disk c.args.detector.now.words

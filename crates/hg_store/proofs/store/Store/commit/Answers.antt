@@ -1,4 +1,5 @@
 use Rattle.std.proofs.Common.{◌≡◌, [], refl, rules}
+use Rattle.std.proofs.lemmas.Bool.{true≢false}
 use Rattle.std.proofs.lemmas.List.{nil_from_length}
 use Rattle.hg_store.proofs.Backing.{parts_stand}
 use Rattle.hg_store.proofs.Committing.{failed, grown, images, nothing_waited, succeeded, succeeded_as}
@@ -27,9 +28,9 @@ invariant_of-self-in-Err g c = record {
   lawful = c.self.invariant.lawful;
   few = c.self.invariant.few;
   room = c.self.invariant.room;
-  journal = λ no. absurd (cc no);
-  words = λ no. absurd (cc no);
-  checkpointer = λ no. absurd (cc no);
+  journal = λ no. absurd (true≢false no);
+  words = λ no. absurd (true≢false no);
+  checkpointer = λ no. absurd (true≢false no);
   sealed = c.self.invariant.sealed;
   stands = λ honest.
       let k = c.self.invariant.stands honest in

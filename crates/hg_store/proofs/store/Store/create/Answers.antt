@@ -9,6 +9,8 @@ use Rattle.hg_pages.specs.declared.slot_file.SlotFile.{SlotFile}
 use Rattle.hg_pool.specs.Shown as pool
 use Rattle.hg_store.specs.Images.{failures_of, read_of}
 use Rattle.hg_store.specs.Recovering.{MakingCalls, empty_image}
+use Rattle.hg_model.specs.declared.verdict.Refusal.TheVariants.{DeviceFault, OutOfMemory}
+use Rattle.hg_store.specs.declared.create.CreateFault.TheVariants.{Refused}
 use Rattle.hg_store.specs.declared.devices.Devices.{Devices}
 use Rattle.hg_store.proofs.Making.{first_ready}
 use Rattle.hg_store.proofs.store.Store.create.Goals as goal
@@ -19,6 +21,9 @@ module _ {D : Type 0} (g : disk.Ghosts D) where
 
   with_slots : (old : Devices D) (slots : D) → slots ≡ old.slots → ◌≡◌ {A = Devices D} (record { journal = old.journal; slots = slots; root0 = old.root0; root1 = old.root1 }) old
   with_slots old slots is = ap (λ (d : D). record old { slots = d }) is
+
+fault_is_not_memory : {A : Type 0} → Refused DeviceFault ≡ Refused OutOfMemory → A
+fault_is_not_memory told = absurd (cc told)
 
 -- one more call failed, and none of the slots
 failed_beside : (j s r t nj ns nr nt : ℕ) → ns ≡ s → nj + nr + nt ≡ j + r + t + 1 → nj + ns + nr + nt ≡ j + s + r + t + 1
@@ -72,7 +77,7 @@ returns-in-Err-new_files-clause-device g c =
     failed_beside _ _ _ _ _ _ _ _ (ap (λ d. g.D.Disk.failures d) slots) c.in-Err-new_files.ensures.device
 
 pub returns-in-Err-new_files-clause-memory : goal.returns-in-Err-new_files-clause-memory
-returns-in-Err-new_files-clause-memory g c told = absurd (cc)
+returns-in-Err-new_files-clause-memory g c told = fault_is_not_memory told
 
 pub returns-in-Ok-new_files-clause-bytes : goal.returns-in-Ok-new_files-clause-bytes
 returns-in-Ok-new_files-clause-bytes g c =

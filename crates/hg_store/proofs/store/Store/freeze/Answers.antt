@@ -1,4 +1,5 @@
 use Rattle.std.proofs.Common.{◌≡◌, ◌∙◌, ◌+◌, false, length, ℕ, List, rules, subst, sym, ap}
+use Rattle.std.proofs.lemmas.Bool.{true≢false}
 use Rattle.hg_checkpointer.specs.declared.phase.Phase.{Phase}
 use Rattle.hg_pages.specs.Files as files
 use Rattle.hg_pages.specs.declared.slot_file.SlotFile.{SlotFile}
@@ -32,7 +33,7 @@ invariant_of-self g c =
       journal = c.self.invariant.journal;
       words = λ works. ap (λ (f : SlotFile g.row.D.Denot). files.is_broken f) pool.1 ∙ c.self.invariant.words works;
       checkpointer = λ works. c.freeze.ensures.rest.3 ∙ c.self.invariant.checkpointer works;
-      sealed = λ rooting. absurd (cc (sym (ap (λ (p : Phase). is_rooting p) c.in-Ok.ensures.frozen) ∙ rooting));
+      sealed = λ rooting. absurd (true≢false (sym rooting ∙ ap (λ (p : Phase). is_rooting p) c.in-Ok.ensures.frozen));
       stands = λ honest.
           let k = c.self.invariant.stands honest in
           let works : c.self.inside.is_broken ≡ false = search rules in
@@ -82,3 +83,17 @@ returns-clause-live g c honest = ap (λ (s : ShownStore g.row.D.Denot). of_store
 
 pub returns-clause-done : goal.returns-clause-done
 returns-clause-done g c = nothing_done _ _ _ _ _ (same_shown g.D.Disk _ c.freeze.new.self c.freeze.new.pool c.in-Err-Refused.ensures.refused.0 (c.in-Err-Refused.ensures.refused.1 ∙ c.words_mut.ensures.value) _ c.self.invariant _ c.self.view_is) (search rules)
+
+pub returns-in-Ok-clause-done : goal.returns-in-Ok-clause-done
+returns-in-Ok-clause-done g c = record {
+  allowed = search rules;
+  phase = c.in-Ok.ensures.frozen;
+  works = search rules;
+  unchanged = tt;
+  refused = tt;
+  pending = ap (λ (s : ShownStore g.row.D.Denot). s.pending) c.self.view_is;
+  committed = ap (λ (s : ShownStore g.row.D.Denot). s.committed) c.self.view_is;
+  durable = ap (λ (s : ShownStore g.row.D.Denot). s.durable) c.self.view_is;
+  in_doubt = ap (λ (s : ShownStore g.row.D.Denot). s.in_doubt) c.self.view_is;
+  journal = ap (λ (s : ShownStore g.row.D.Denot). s.devices.journal) c.self.view_is;
+}

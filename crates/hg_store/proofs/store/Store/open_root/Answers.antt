@@ -1,4 +1,5 @@
 use Rattle.std.proofs.Common.{◌≡◌, ◌∙◌, false, true, length, ℕ, List, IsTrue, rules, subst, sym, ap}
+use Rattle.std.proofs.lemmas.Bool.{true≢false}
 use Rattle.hg_checkpointer.specs.declared.phase.Phase.{Phase}
 use Rattle.hg_checkpointer.specs.declared.phase.Phase.TheVariants as phase
 use Rattle.hg_pool.specs.Kept.{AreWithin}
@@ -68,7 +69,7 @@ invariant_of-self g c =
       journal = c.self.invariant.journal;
       words = λ works. broken ∙ c.self.invariant.words works;
       checkpointer = λ _. c.in-Ok.ensures.works;
-      sealed = λ rooting. absurd (cc (sym (ap (λ (p : Phase). is_rooting p) c.in-Ok.ensures.opened) ∙ rooting));
+      sealed = λ rooting. absurd (true≢false (sym rooting ∙ ap (λ (p : Phase). is_rooting p) c.in-Ok.ensures.opened));
       stands = λ honest.
           let k = c.self.invariant.stands honest in
           let works : c.self.inside.is_broken ≡ false = c.if-self.false in
@@ -86,9 +87,9 @@ invariant_of-self-in-Err-Refused g c =
       lawful = subst (λ (f : List (ℕ × Frame)). AreWithin f (length c.self.inside.detector.segments) (length c.self.inside.detector.sets.sets)) (sym frames) c.self.invariant.lawful;
       few = c.self.invariant.few;
       room = c.self.invariant.room;
-      journal = λ no. absurd (cc no);
-      words = λ no. absurd (cc no);
-      checkpointer = λ no. absurd (cc no);
+      journal = λ no. absurd (true≢false no);
+      words = λ no. absurd (true≢false no);
+      checkpointer = λ no. absurd (true≢false no);
       sealed = λ rooting. subst (λ (p : Pool g.row.D.Denot). IsTrue p.is_sealed) (sym same) (c.self.invariant.sealed (subst (λ (p : Phase). is_rooting p ≡ true) c.in-Err-Refused.ensures.refused_phase rooting));
       stands = λ honest.
           let k = c.self.invariant.stands honest in

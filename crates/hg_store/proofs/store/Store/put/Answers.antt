@@ -1,4 +1,5 @@
 use Rattle.std.proofs.Common.{rules, subst}
+use Rattle.std.proofs.lemmas.Bool.{true≢false}
 use Rattle.hg_pool.specs.Calls.{IsStale}
 use Rattle.hg_pool.specs.Kept.{CellsFrom, Stays}
 use Rattle.hg_pool.specs.Shown.{ShownPool as Pool}
@@ -55,9 +56,9 @@ invariant_of-self-in-Err g c =
       lawful = within_still _ _ _ _ (subst (λ (p : Pool g.row.D.Denot). CellsFrom p.frames c.put.new.self.frames) c.words_mut.ensures.value c.put.ensures.cells) c.self.invariant.lawful;
       few = c.self.invariant.few;
       room = c.self.invariant.room;
-      journal = λ no. absurd (cc no);
-      words = λ no. absurd (cc no);
-      checkpointer = λ no. absurd (cc no);
+      journal = λ no. absurd (true≢false no);
+      words = λ no. absurd (true≢false no);
+      checkpointer = λ no. absurd (true≢false no);
       sealed = λ rooting. stays.went.sealed (c.self.invariant.sealed rooting);
       stands = λ honest. let k = c.self.invariant.stands honest in (k.0, put_standing g.D.Disk _ k.0 k.1 g.met.D.Disk.has_its_bytes c.put.new.self _ c.if-self.false stays);
     }

@@ -1,4 +1,5 @@
 use Rattle.std.proofs.Common.{◌≡◌, ◌∙◌, false, true, length, rules, subst, sym, ap, List, ℕ}
+use Rattle.std.proofs.lemmas.Bool.{true≢false}
 use Rattle.hg_checkpointer.specs.declared.phase.Phase.{Phase}
 use Rattle.hg_checkpointer.specs.declared.phase.Phase.TheVariants as phase
 use Rattle.hg_store.proofs.Going.{progress_at}
@@ -86,9 +87,9 @@ invariant_of-self-in-Err-Refused g c =
       lawful = subst (λ (f : List (ℕ × Frame)). AreWithin f (length c.self.inside.detector.segments) (length c.self.inside.detector.sets.sets)) (sym frames) c.self.invariant.lawful;
       few = c.self.invariant.few;
       room = c.self.invariant.room;
-      journal = λ no. absurd (cc no);
-      words = λ no. absurd (cc no);
-      checkpointer = λ no. absurd (cc no);
+      journal = λ no. absurd (true≢false no);
+      words = λ no. absurd (true≢false no);
+      checkpointer = λ no. absurd (true≢false no);
       sealed = λ rooting. stays.went.sealed (c.self.invariant.sealed (subst (λ (p : Phase). is_rooting p ≡ true) c.in-Err-Refused.ensures.refused_phase rooting));
       stands = λ honest. let k = c.self.invariant.stands honest in (k.0, sealing_failed g.D.Disk _ k.0 k.1 g.met.D.Disk.has_its_bytes c.seal_pages.new.self c.seal_pages.new.pool c.if-self.false stays c.seal_pages.ensures.rest.0);
     }

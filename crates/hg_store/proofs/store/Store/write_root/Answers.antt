@@ -1,4 +1,5 @@
 use Rattle.std.proofs.Common.{◌≡◌, false, true, rules, subst, inr}
+use Rattle.std.proofs.lemmas.Bool.{true≢false}
 use Rattle.hg_checkpointer.specs.declared.phase.Phase.{Phase}
 use Rattle.hg_checkpointer.specs.declared.phase.Phase.TheVariants as phase
 use Rattle.hg_store.proofs.Going.{progress_at}
@@ -64,9 +65,9 @@ invariant_of-self-in-Err-Refused g c = record {
   lawful = c.self.invariant.lawful;
   few = c.self.invariant.few;
   room = c.self.invariant.room;
-  journal = λ no. absurd (cc no);
-  words = λ no. absurd (cc no);
-  checkpointer = λ no. absurd (cc no);
+  journal = λ no. absurd (true≢false no);
+  words = λ no. absurd (true≢false no);
+  checkpointer = λ no. absurd (true≢false no);
   sealed = λ rooting. c.self.invariant.sealed (subst (λ (p : Phase). is_rooting p ≡ true) c.in-Err-Refused.ensures.refused_phase rooting);
   stands = λ honest.
       let k = c.self.invariant.stands honest in
