@@ -18,3 +18,7 @@ of_memory (Err fault) refused damaged = absurd cc
 pub passed_on : {T U : Type 0} (r : Result T RootFault) (fault : RootFault) → IsErrAnd r (λ last. last ≡ fault) → IsErrOf r Damaged → IsErrOf {T = U} (Err fault) Damaged
 passed_on (Ok x) fault same damaged = absurd same
 passed_on (Err last) fault same damaged = let e : fault ≡ Damaged = cc in ap Err e
+
+-- What answered has not failed.
+pub ok_is_no_err : {T E A : Type 0} {x : T} {error : E} → Ok x ≡ Err error → A
+ok_is_no_err is = absurd (cc is)

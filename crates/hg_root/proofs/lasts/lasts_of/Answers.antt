@@ -1,6 +1,7 @@
-use Rattle.std.proofs.Common.{◌∙◌, sym, arith}
+use Rattle.std.proofs.Common.{◌≡◌, ◌∙◌, ℕ, List, Option, None, get_or, length, replicate, sym, ap, arith, rules}
+use Rattle.std.proofs.lemmas.List.{get_or-replicate, length-replicate}
 use Rattle.std.proofs.lemmas.Bool.{false≢true}
-use Rattle.hg_root.proofs.LastSegments.{done_lawful, no_such_thread, refused, step, told}
+use Rattle.hg_root.proofs.LastSegments.{begun, done_lawful, done_table, no_such_thread, refused, step, told}
 use Rattle.hg_root.proofs.lasts.lasts_of.Goals as goal
 
 pub loop-k-preserved : goal.loop-k-preserved
@@ -24,3 +25,11 @@ returns-then-thread-ge-THREAD_NUMBERS-clause-damaged c = λ _ some few.
 
 pub returns-clause-lawful : goal.returns-clause-lawful
 returns-clause-lawful c = done_lawful c.args.segments.now c.loop-k.k c.loop-k.lasts.items c.loop-k.invariant c.loop-k-test.false
+
+pub loop-k-init : goal.loop-k-init
+loop-k-init c =
+    let none : c.in_ok-lasts.lasts.items ≡ replicate 1024 None = c.in_ok-lasts.ensures.items_if_clones_equal (search rules) in
+    begun c.args.segments.now c.in_ok-lasts.lasts.items (ap length none ∙ length-replicate {A = Option ℕ} 1024 None) (λ t lt. ap (λ (l : List (Option ℕ)). get_or l t None) none ∙ get_or-replicate 1024 t None None lt)
+
+pub returns-clause-table : goal.returns-clause-table
+returns-clause-table c = done_table c.args.segments.now c.loop-k.k c.loop-k.lasts.items c.loop-k.invariant c.loop-k-test.false

@@ -1,5 +1,8 @@
-use Rattle.std.proofs.Common.{rules, subst}
-use Rattle.hg_root.specs.Lawful.{AreInOrder}
+use Rattle.std.proofs.Common.{◌≡◌, ℕ, List, length, rules, subst}
+use Rattle.hg_sets.specs.Interning.{AreSets}
+use Rattle.hg_root.specs.Checking.{AreCounts}
+use Rattle.hg_root.specs.Lawful.{AreInOrder, HaveSent, HaveSlots}
+use Rattle.hg_root.specs.declared.parts.SourceCount.{SourceCount}
 use Rattle.hg_root.proofs.Refusing.{of_memory, passed_on, refuted}
 use Rattle.hg_root.proofs.root.tables_of.Goals as goal
 
@@ -26,13 +29,19 @@ pub returns-in_err-state-clause-damaged : goal.returns-in_err-state-clause-damag
 returns-in_err-state-clause-damaged c damaged p = c.in_err-state.ensures.damaged (passed_on c.from_residual-in_err-state.result c.in_err-state.field-0.0 c.from_residual-in_err-state.ensures.1 damaged) p.threads
 
 pub returns-clause-checked : goal.returns-clause-checked
-returns-clause-checked c = record {
-  counts = search rules;
-  threads = c.in_ok-state.ensures.lawful;
-  named = (c.in_ok-are_named.ensures c.args.front.now.1.1.items c.requires.table).0 c.if-not-branch-2.false;
-  sets = search rules;
-  reports = search rules;
-  order = subst AreInOrder c.deref-2.ensures.value (c.in_ok-are_lists.ensures.0 c.if-not-branch.false).1;
-  sources = search rules;
-  pages = search rules;
-}
+returns-clause-checked c =
+    let lists = c.in_ok-are_lists.ensures.0 c.if-not-branch.false in
+    let kept : c.len.result ≡ length c.args.back.now.reports.items = search rules in
+    record {
+      counts = subst (λ (n : ℕ). AreCounts c.args.front.now.0 c.args.front.now.1.0 c.args.back.now.total n) kept (c.are_counts.ensures.0 c.if-not-are_counts.false);
+      threads = c.in_ok-state.ensures.lawful;
+      named = (c.in_ok-are_named.ensures c.args.front.now.1.1.items c.requires.table).0 c.if-not-branch-2.false;
+      sets = rw c.deref-4.ensures.value at (subst AreSets c.in_ok-sets.ensures.table c.in_ok-sets.ensures.sets);
+      reports = rw (c.deref-4.ensures.value, c.deref-5.ensures.value) at c.in_ok-sets.ensures.reports;
+      order = subst AreInOrder c.deref-2.ensures.value lists.1;
+      sources = subst (λ (sources : List SourceCount). HaveSent c.args.front.now.1.0 sources) c.deref.ensures.value lists.0;
+      pages = subst HaveSlots c.deref-3.ensures.value lists.2;
+    }
+
+pub returns-clause-last : goal.returns-clause-last
+returns-clause-last c = rw c.deref-6.ensures.value at c.in_ok-state.ensures.last

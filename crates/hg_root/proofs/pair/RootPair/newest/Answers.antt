@@ -4,7 +4,7 @@ use Rattle.hg_root.specs.Finding.{number_in, root_in}
 use Rattle.hg_root.specs.Pairs.{Stands}
 use Rattle.hg_root.specs.declared.fault.RootFault.TheVariants.{Damaged}
 use Rattle.hg_root.proofs.Choosing.{durable_in, file_is, first_read, if_ok, in_err, no_newest, none_newest, not_read, not_so, of_first, on_err, only_roots, second_read, stands_still, swapped, to_first}
-use Rattle.hg_root.proofs.Refusing.{passed_on}
+use Rattle.hg_root.proofs.Refusing.{ok_is_no_err, passed_on}
 use Rattle.hg_root.proofs.pair.RootPair.newest.Goals as goal
 
 pub returns-in_err-older-clause-damaged : goal.returns-in_err-older-clause-damaged
@@ -61,8 +61,8 @@ returns-clause-stands g c honest one other first second =
     let older_file = cond p.is_turned other one in
     let newer_file = cond p.is_turned one other in
     let durable = durable_in g.D.Disk p one other first second in
-    let works : p.older.is_broken ≡ false = not_so p.older.is_broken (λ t. let e = c.in_ok-older.ensures.refuses t in absurd cc) in
-    let other_works : p.newer.is_broken ≡ false = not_so p.newer.is_broken (λ t. let e = c.in_ok-newer.ensures.refuses t in absurd cc) in
+    let works : p.older.is_broken ≡ false = not_so p.older.is_broken (λ t. ok_is_no_err (c.in_ok-older.ensures.refuses t)) in
+    let other_works : p.newer.is_broken ≡ false = not_so p.newer.is_broken (λ t. ok_is_no_err (c.in_ok-newer.ensures.refuses t)) in
     let rests : Rests g.D.Disk p.older older_file = record { works = works; durable = durable.0 } in
     let rests_other : Rests g.D.Disk p.newer newer_file = record { works = other_works; durable = durable.1 } in
     c.choose.ensures.stands older_file newer_file (c.root_of.ensures.rests older_file rests) (c.root_of-2.ensures.rests newer_file rests_other)
