@@ -1,4 +1,5 @@
-use Rattle.std.proofs.Common.{arith}
+use Rattle.std.proofs.Common.{◌∙◌, arith, sym}
+use Rattle.std.proofs.lemmas.Bool.{false≢true}
 use Rattle.hg_gate.proofs.Scanning.{not_short, length_fits, head_is, four_bytes}
 use Rattle.hg_gate.proofs.scan.parse_head.Goals as goal
 
@@ -10,7 +11,7 @@ pub returns-then-not-fits-clause-damaged : goal.returns-then-not-fits-clause-dam
 returns-then-not-fits-clause-damaged c tail front room bodies is =
     let fits = length_fits c.args.head.now tail bodies c.from_be_bytes-len.result front c.if-head.false c.from_be_bytes-len.ensures is in
     let true_too = c.fits.ensures.1 (fits.0, omega (arith, fits.1, room)) in
-    cc (true_too, c.if-not-fits.true)
+    false≢true (sym c.if-not-fits.true ∙ true_too)
 
 pub returns-clause-head : goal.returns-clause-head
 returns-clause-head c tail front room =
