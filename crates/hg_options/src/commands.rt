@@ -1,13 +1,14 @@
 //! The commands of `hgd`, their arguments and options.
 
-ghost use Rattle.std.specs.Prelude.{◌≡◌, IfOk, Ok, false};
-ghost use Rattle.clap.specs.Words.{app_of, new_app, rule_of};
+ghost use Rattle.std.specs.Prelude.{◌≡◌, IfOk, Ok, Some, map, true, false};
+ghost use Rattle.clap.specs.Words.{app_of, new_app, new_rule, rule_of};
+ghost use Rattle.clap.specs.declared.builder.value_parser.ValueParser.TheVariants as parser;
 ghost use Rattle.hg_options.specs.CommandLine as spec;
 ghost use Rattle.hg_options.specs.Tools.{GainsArgument, GainsSubcommand, HasNoGlobals};
 
 use crate::help::LANGUAGE;
 use clap::builder::ValueParser;
-use clap::{Arg, ArgAction, Command, value_parser};
+use clap::{Arg, ArgAction, Command};
 use std::alloc::{AllocError, Global};
 
 /// The name of the argument for a store's directory.
@@ -49,6 +50,110 @@ pub const ALL: &str = "all";
 /// The name of the flag that asks for words.
 pub const VERBOSE: &str = "verbose";
 
+/// A flag as data.
+#[derive(Clone, Copy, Drop)]
+struct Switch {
+    name: &'static str,
+    help: &'static str,
+}
+
+/// An option whose value is a number, as data.
+#[derive(Clone, Copy, Drop)]
+struct NumberOption {
+    name: &'static str,
+    value: &'static str,
+    help: &'static str,
+    required: bool,
+    least: i64,
+    most: i64,
+    /// What it is where nothing is said: no text, or one.
+    otherwise: &'static [&'static str],
+}
+
+/// The flag for a checkpoint.
+const CHECKPOINT_FLAG: Switch = Switch {
+    name: CHECKPOINT,
+    help: "At the end make a checkpoint, so that the store opens faster",
+};
+
+/// The flag for each line.
+const ALL_FLAG: Switch = Switch {
+    name: ALL,
+    help: "Print each access, be it that it changes nothing",
+};
+
+/// The flag for the last line in words.
+const VERBOSE_FLAG: Switch = Switch {
+    name: VERBOSE,
+    help: "Say on standard error what a refused or bad line, or a fault, means",
+};
+
+/// How many pages a store may have in memory.
+const FRAMES_OPTION: NumberOption = NumberOption {
+    name: FRAMES,
+    value: "F",
+    help: "How many pages of words may be in memory",
+    required: false,
+    least: 4,
+    most: 4096,
+    otherwise: &["64"],
+};
+
+/// How many connections a server takes.
+const CONNECTIONS_OPTION: NumberOption = NumberOption {
+    name: CONNECTIONS,
+    value: "N",
+    help: "How many connections to take before the end",
+    required: true,
+    least: 1,
+    most: 65535,
+    otherwise: &[],
+};
+
+/// How many workers a server has.
+const WORKERS_OPTION: NumberOption = NumberOption {
+    name: WORKERS,
+    value: "W",
+    help: "How many conversations are held at once",
+    required: true,
+    least: 1,
+    most: 64,
+    otherwise: &[],
+};
+
+/// After how many committed events a checkpoint begins.
+const EVERY_OPTION: NumberOption = NumberOption {
+    name: EVERY,
+    value: "E",
+    help: "After how many committed events a checkpoint begins (without effect yet)",
+    required: false,
+    least: 1,
+    most: 1048576,
+    otherwise: &["4096"],
+};
+
+/// How many seconds a client may be silent.
+const SILENCE_OPTION: NumberOption = NumberOption {
+    name: SILENCE,
+    value: "SECONDS",
+    help: "How long a client may be silent before its connection ends [default: for ever]",
+    required: false,
+    least: 1,
+    most: 65535,
+    otherwise: &[],
+};
+
+/// How many threads read a trace.
+const JOBS_OPTION: NumberOption = NumberOption {
+    name: JOBS,
+    value: "N",
+    help: "How many threads read a large trace",
+    required: false,
+    least: 1,
+    most: 64,
+    otherwise: &["1"],
+};
+
 /// The directory of a store.
 fn directory<'a>(alloc: Global, required: bool) -> Arg<'a>
     ensures rule { rule_of result ≡ spec.directory required }
@@ -60,144 +165,15 @@ fn directory<'a>(alloc: Global, required: bool) -> Arg<'a>
         .help("The directory of a store")
 }
 
-/// The source whose events a trace has.
-fn source<'a>(alloc: Global) -> Arg<'a>
-    ensures rule { rule_of result ≡ spec.source }
-    ensures local { result.global ≡ false }
-{
-    Arg::new(alloc, SOURCE)
-        .required(true)
-        .value_parser(value_parser!(u16).range(0..=1023))
-        .help("The source whose events these are")
-}
-
-/// A flag.
-fn flag<'a>(alloc: Global, name: &'a str, help: &'a str) -> Arg<'a>
-    ensures rule { rule_of result ≡ spec.flag name.entry.now }
+/// A number that stands without a name.
+fn number<'a>(alloc: Global, name: &'a str, least: i64, most: i64, help: &'a str) -> Arg<'a>
+    ensures rule { rule_of result ≡ record (new_rule name.entry.now) { required = true; parser = Some (parser.Signed least most) } }
     ensures local { result.global ≡ false }
 {
     Arg::new(alloc, name)
-        .long(name)
-        .action(ArgAction::SetTrue)
-        .help(help)
-}
-
-/// An option that has a value.
-fn option<'a>(alloc: Global, name: &'a str, value: &'a str, help: &'a str) -> Arg<'a>
-    ensures rule { rule_of result ≡ spec.option name.entry.now }
-    ensures local { result.global ≡ false }
-{
-    Arg::new(alloc, name)
-        .long(name)
-        .value_name(value)
-        .help(help)
-}
-
-/// The flag for a checkpoint.
-fn checkpoint<'a>(alloc: Global) -> Arg<'a>
-    ensures rule { rule_of result ≡ spec.checkpoint }
-    ensures local { result.global ≡ false }
-{
-    flag(
-        alloc,
-        CHECKPOINT,
-        "At the end make a checkpoint, so that the store opens faster",
-    )
-}
-
-/// How many pages a store may have in memory.
-fn frames<'a>(alloc: Global) -> Arg<'a>
-    ensures rule { rule_of result ≡ spec.frames }
-    ensures local { result.global ≡ false }
-{
-    option(
-        alloc,
-        FRAMES,
-        "F",
-        "How many pages of words may be in memory",
-    )
-    .value_parser(value_parser!(u16).range(4..=4096))
-    .default_value("64")
-}
-
-/// The port that a server listens on.
-fn port<'a>(alloc: Global) -> Arg<'a>
-    ensures rule { rule_of result ≡ spec.port }
-    ensures local { result.global ≡ false }
-{
-    Arg::new(alloc, PORT)
         .required(true)
-        .value_parser(value_parser!(u16).range(1..=65535))
-        .help("The port of 127.0.0.1 to listen on")
-}
-
-/// How many connections a server takes.
-fn connections<'a>(alloc: Global) -> Arg<'a>
-    ensures rule { rule_of result ≡ spec.connections }
-    ensures local { result.global ≡ false }
-{
-    option(
-        alloc,
-        CONNECTIONS,
-        "N",
-        "How many connections to take before the end",
-    )
-    .required(true)
-    .value_parser(value_parser!(u16).range(1..=65535))
-}
-
-/// How many workers a server has.
-fn workers<'a>(alloc: Global) -> Arg<'a>
-    ensures rule { rule_of result ≡ spec.workers }
-    ensures local { result.global ≡ false }
-{
-    option(
-        alloc,
-        WORKERS,
-        "W",
-        "How many conversations are held at once",
-    )
-    .required(true)
-    .value_parser(value_parser!(u16).range(1..=64))
-}
-
-/// After how many committed events a checkpoint begins.
-fn every<'a>(alloc: Global) -> Arg<'a>
-    ensures rule { rule_of result ≡ spec.every }
-    ensures local { result.global ≡ false }
-{
-    option(
-        alloc,
-        EVERY,
-        "E",
-        "After how many committed events a checkpoint begins (without effect yet)",
-    )
-    .value_parser(value_parser!(u32).range(1..=1048576))
-    .default_value("4096")
-}
-
-/// How many seconds a client may be silent.
-fn silence<'a>(alloc: Global) -> Arg<'a>
-    ensures rule { rule_of result ≡ spec.silence }
-    ensures local { result.global ≡ false }
-{
-    option(
-        alloc,
-        SILENCE,
-        "SECONDS",
-        "How long a client may be silent before its connection ends [default: for ever]",
-    )
-    .value_parser(value_parser!(u16).range(1..=65535))
-}
-
-/// How many threads read a trace.
-fn jobs<'a>(alloc: Global) -> Arg<'a>
-    ensures rule { rule_of result ≡ spec.jobs }
-    ensures local { result.global ≡ false }
-{
-    option(alloc, JOBS, "N", "How many threads read a large trace")
-        .value_parser(value_parser!(u16).range(1..=64))
-        .default_value("1")
+        .value_parser(ValueParser::Signed(least, most))
+        .help(help)
 }
 
 /// The address of a word.
@@ -210,28 +186,33 @@ fn address<'a>(alloc: Global) -> Arg<'a>
     )
 }
 
-/// The flag for each line.
-fn all<'a>(alloc: Global) -> Arg<'a>
-    ensures rule { rule_of result ≡ spec.all }
+/// A flag.
+fn flag<'a>(alloc: Global, given: Switch) -> Arg<'a>
+    ensures rule { rule_of result ≡ spec.flag given.name.now }
     ensures local { result.global ≡ false }
 {
-    flag(
-        alloc,
-        ALL,
-        "Print each access, be it that it changes nothing",
-    )
+    Arg::new(alloc, given.name)
+        .long(given.name)
+        .action(ArgAction::SetTrue)
+        .help(given.help)
 }
 
-/// The flag for the last line in words.
-fn verbose<'a>(alloc: Global) -> Arg<'a>
-    ensures rule { rule_of result ≡ spec.verbose }
+/// An option whose value is a number.
+fn option<'a>(alloc: Global, given: NumberOption) -> Arg<'a>
+    ensures rule { rule_of result ≡ record (spec.option given.name.now) {
+      required = given.required;
+      parser = Some (parser.Signed given.least given.most);
+      defaults = map (λ t. t.now) given.otherwise.now;
+    } }
     ensures local { result.global ≡ false }
 {
-    flag(
-        alloc,
-        VERBOSE,
-        "Say on standard error what a refused or bad line, or a fault, means",
-    )
+    Arg::new(alloc, given.name)
+        .long(given.name)
+        .value_name(given.value)
+        .required(given.required)
+        .value_parser(ValueParser::Signed(given.least, given.most))
+        .default_values(given.otherwise)
+        .help(given.help)
 }
 
 /// A command without arguments.
@@ -247,12 +228,13 @@ fn with_argument<'a>(
     command: Result<Command<'a>, AllocError>,
     added: Arg<'a>,
 ) -> Result<Command<'a>, AllocError>
-    requires local { IfOk command HasNoGlobals }
-    requires added { added.global ≡ false }
-    ensures app { GainsArgument command.entry added.entry result }
-    ensures local { IfOk result HasNoGlobals }
+    ensures app { added.entry.global ≡ false → GainsArgument command.entry added.entry result }
+    ensures local { IfOk command.entry HasNoGlobals → added.entry.global ≡ false → IfOk result HasNoGlobals }
 {
-    command?.arg(added)
+    match command {
+        Ok(command) => command.arg(added),
+        Err(error) => Err(error),
+    }
 }
 
 /// `check [--jobs N] [--verbose]`.
@@ -265,8 +247,8 @@ fn check<'a>(alloc: Global) -> Result<Command<'a>, AllocError>
         "check",
         "Reads a trace on standard input, and prints its data races",
     );
-    let with_jobs = with_argument(Ok(begun), jobs(alloc));
-    with_argument(with_jobs, verbose(alloc))
+    let with_jobs = with_argument(Ok(begun), option(alloc, JOBS_OPTION));
+    with_argument(with_jobs, flag(alloc, VERBOSE_FLAG))
 }
 
 /// `graph [DIR] [--jobs N] [--verbose]`.
@@ -280,8 +262,8 @@ fn graph<'a>(alloc: Global) -> Result<Command<'a>, AllocError>
         "Prints the thread segments of a store, or of a trace on standard input",
     );
     let of_store = with_argument(Ok(begun), directory(alloc, false));
-    let with_jobs = with_argument(of_store, jobs(alloc));
-    with_argument(with_jobs, verbose(alloc))
+    let with_jobs = with_argument(of_store, option(alloc, JOBS_OPTION));
+    with_argument(with_jobs, flag(alloc, VERBOSE_FLAG))
 }
 
 /// `explain ADDRESS [DIR] [--all]`.
@@ -296,7 +278,7 @@ fn explain<'a>(alloc: Global) -> Result<Command<'a>, AllocError>
     );
     let of_word = with_argument(Ok(begun), address(alloc));
     let of_store = with_argument(of_word, directory(alloc, false));
-    with_argument(of_store, all(alloc))
+    with_argument(of_store, flag(alloc, ALL_FLAG))
 }
 
 /// `create DIR`.
@@ -315,8 +297,8 @@ fn reports<'a>(alloc: Global) -> Result<Command<'a>, AllocError>
 {
     let begun = command(alloc, "reports", "Prints the data races that a store holds");
     let of_store = with_argument(Ok(begun), directory(alloc, true));
-    let with_frames = with_argument(of_store, frames(alloc));
-    with_argument(with_frames, verbose(alloc))
+    let with_frames = with_argument(of_store, option(alloc, FRAMES_OPTION));
+    with_argument(with_frames, flag(alloc, VERBOSE_FLAG))
 }
 
 /// `feed DIR SOURCE [--checkpoint] [--frames F] [--verbose]`.
@@ -330,10 +312,11 @@ fn feed<'a>(alloc: Global) -> Result<Command<'a>, AllocError>
         "Reads a trace on standard input, and has a store accept its events",
     );
     let of_store = with_argument(Ok(begun), directory(alloc, true));
-    let from_source = with_argument(of_store, source(alloc));
-    let with_checkpoint = with_argument(from_source, checkpoint(alloc));
-    let with_frames = with_argument(with_checkpoint, frames(alloc));
-    with_argument(with_frames, verbose(alloc))
+    let source = number(alloc, SOURCE, 0, 1023, "The source whose events these are");
+    let from_source = with_argument(of_store, source);
+    let with_checkpoint = with_argument(from_source, flag(alloc, CHECKPOINT_FLAG));
+    let with_frames = with_argument(with_checkpoint, option(alloc, FRAMES_OPTION));
+    with_argument(with_frames, flag(alloc, VERBOSE_FLAG))
 }
 
 /// `serve DIR PORT --connections N --workers W [--frames F] [--every E] [--silence SECONDS]`.
@@ -347,12 +330,13 @@ fn serve<'a>(alloc: Global) -> Result<Command<'a>, AllocError>
         "Takes events from clients that connect, and answers them",
     );
     let of_store = with_argument(Ok(begun), directory(alloc, true));
-    let at_port = with_argument(of_store, port(alloc));
-    let with_connections = with_argument(at_port, connections(alloc));
-    let with_workers = with_argument(with_connections, workers(alloc));
-    let with_frames = with_argument(with_workers, frames(alloc));
-    let with_every = with_argument(with_frames, every(alloc));
-    with_argument(with_every, silence(alloc))
+    let port = number(alloc, PORT, 1, 65535, "The port of 127.0.0.1 to listen on");
+    let at_port = with_argument(of_store, port);
+    let with_connections = with_argument(at_port, option(alloc, CONNECTIONS_OPTION));
+    let with_workers = with_argument(with_connections, option(alloc, WORKERS_OPTION));
+    let with_frames = with_argument(with_workers, option(alloc, FRAMES_OPTION));
+    let with_every = with_argument(with_frames, option(alloc, EVERY_OPTION));
+    with_argument(with_every, option(alloc, SILENCE_OPTION))
 }
 
 /// The command line of `hgd`, without its commands.
@@ -374,12 +358,13 @@ fn with_subcommand<'a>(
     command: Result<Command<'a>, AllocError>,
     added: Command<'a>,
 ) -> Result<Command<'a>, AllocError>
-    requires local { IfOk command HasNoGlobals }
-    requires added { HasNoGlobals added }
-    ensures app { GainsSubcommand command.entry (Ok added.entry) result }
-    ensures local { IfOk result HasNoGlobals }
+    ensures app { HasNoGlobals added.entry → GainsSubcommand command.entry (Ok added.entry) result }
+    ensures local { IfOk command.entry HasNoGlobals → HasNoGlobals added.entry → IfOk result HasNoGlobals }
 {
-    command?.subcommand(added)
+    match command {
+        Ok(command) => command.subcommand(added),
+        Err(error) => Err(error),
+    }
 }
 
 /// The same, unless memory was refused for the subcommand.
@@ -387,12 +372,13 @@ fn with_command<'a>(
     command: Result<Command<'a>, AllocError>,
     added: Result<Command<'a>, AllocError>,
 ) -> Result<Command<'a>, AllocError>
-    requires local { IfOk command HasNoGlobals }
-    requires added { IfOk added HasNoGlobals }
-    ensures app { GainsSubcommand command.entry added.entry result }
-    ensures local { IfOk result HasNoGlobals }
+    ensures app { IfOk added.entry HasNoGlobals → GainsSubcommand command.entry added.entry result }
+    ensures local { IfOk command.entry HasNoGlobals → IfOk added.entry HasNoGlobals → IfOk result HasNoGlobals }
 {
-    with_subcommand(command, added?)
+    match added {
+        Ok(added) => with_subcommand(command, added),
+        Err(error) => Err(error),
+    }
 }
 
 /// The command line of `hgd`.

@@ -2,6 +2,7 @@
 
 use crate::holds::Hold;
 use crate::past::Past;
+use crate::quoting::{put_number, put_numbers};
 use hg_model::event::Event;
 use std::alloc::AllocError;
 use std::fmt::Write;
@@ -35,12 +36,14 @@ fn place(event: Event) -> (u64, u16) {
 
 /// Appends that a thread holds a lock, and since when.
 fn put_hold(hold: Hold, text: &mut String) -> Result<(), AllocError> {
-    let mode = if hold.write { "write" } else { "read" };
-    let (thread, lock, since) = (hold.thread, hold.lock, hold.since);
-    write!(
-        text,
-        "thread {thread} holds lock {lock} in {mode} mode since event {since}"
-    )
+    let mode = if hold.write {
+        " in write mode since event "
+    } else {
+        " in read mode since event "
+    };
+    let (thread, lock) = (u64::from(hold.thread), u64::from(hold.lock));
+    put_numbers("thread ", thread, " holds lock ", lock, text)?;
+    put_number(mode, hold.since, "", text)
 }
 
 /// Appends the first of some locks that are held, and how many there are more.
@@ -53,8 +56,8 @@ fn put_first(first: Option<Hold>, count: usize, text: &mut String) -> Result<(),
         0 | 1 => Ok(()),
         2 => text.push_str(", and there is one hold more"),
         _ => {
-            let more = count.saturating_sub(1);
-            write!(text, ", and there are {more} holds more")
+            let more = count.saturating_sub(1) as u64;
+            put_number(", and there are ", more, " holds more", text)
         }
     }
 }
@@ -62,27 +65,32 @@ fn put_first(first: Option<Hold>, count: usize, text: &mut String) -> Result<(),
 /// Appends that a thread is not alive.
 fn put_not_alive(past: &Past, thread: u16, text: &mut String) -> Result<(), AllocError> {
     let joined = past.joined(thread);
+    let thread = u64::from(thread);
     if joined == 0 {
-        return write!(text, "thread {thread} was never forked");
+        return put_number("thread ", thread, " was never forked", text);
     }
-    write!(text, "thread {thread} was joined by event {joined}")
+    put_numbers("thread ", thread, " was joined by event ", joined, text)
 }
 
 /// Appends which number is above the limit.
 fn put_bad_number(event: Event, text: &mut String) -> Result<(), AllocError> {
     let (actor, other) = parties(event);
-    let thread = if actor > 1023 { actor } else { other };
-    write!(text, "there is no thread {thread}: threads are 0 to 1023")
+    let thread = u64::from(if actor > 1023 { actor } else { other });
+    put_number(
+        "there is no thread ",
+        thread,
+        ": threads are 0 to 1023",
+        text,
+    )
 }
 
 fn put_bad_length(event: Event, text: &mut String) -> Result<(), AllocError> {
     let (_, length) = place(event);
-    match event {
-        Event::Read(_) | Event::Write(_) => {
-            write!(text, "{length} bytes are not 1 to 64, as an access has")
-        }
-        _ => write!(text, "{length} bytes are not 1 to 1024, as a block has"),
-    }
+    let why = match event {
+        Event::Read(_) | Event::Write(_) => " bytes are not 1 to 64, as an access has",
+        _ => " bytes are not 1 to 1024, as a block has",
+    };
+    put_number("", u64::from(length), why, text)
 }
 
 /// Appends how the number of a thread was used before.
@@ -91,10 +99,14 @@ fn put_used(past: &Past, thread: u16, text: &mut String) -> Result<(), AllocErro
         return text.push_str("thread 0 is there from the start");
     }
     let forked = past.forked(thread);
-    write!(
+    put_numbers(
+        "thread ",
+        u64::from(thread),
+        " was forked by event ",
+        forked,
         text,
-        "thread {thread} was forked by event {forked}, and no number is used twice"
-    )
+    )?;
+    text.push_str(", and no number is used twice")
 }
 
 /// Appends which locks the joined thread holds.
@@ -116,7 +128,8 @@ fn put_held(past: &Past, thread: u16, lock: u16, text: &mut String) -> Result<()
 
 /// Appends that a thread doesn't hold a lock, and who does.
 fn put_not_held(past: &Past, thread: u16, lock: u16, text: &mut String) -> Result<(), AllocError> {
-    write!(text, "thread {thread} does not hold lock {lock}")?;
+    let (actor, wanted) = (u64::from(thread), u64::from(lock));
+    put_numbers("thread ", actor, " does not hold lock ", wanted, text)?;
     let Some(hold) = past.holds().of_lock(lock).0 else {
         return text.push_str(", and no thread does");
     };
@@ -135,13 +148,18 @@ fn put_of_threads(
     match code {
         5 => put_not_alive(past, actor, text),
         6 => put_used(past, other, text),
-        7 => write!(text, "thread {actor} joins itself"),
+        7 => put_number("thread ", u64::from(actor), " joins itself", text),
         8 => put_not_alive(past, other, text),
         9 => put_holds_of(past, other, text),
         12 => put_held(past, actor, other, text),
         13 => put_holders(past, other, text),
         14 => put_not_held(past, actor, other, text),
-        _ => write!(text, "thread {actor} holds 64 locks, and may hold no more"),
+        _ => put_number(
+            "thread ",
+            u64::from(actor),
+            " holds 64 locks, and may hold no more",
+            text,
+        ),
     }
 }
 
@@ -156,8 +174,12 @@ fn put_past_the_end(event: Event, text: &mut String) -> Result<(), AllocError> {
 
 /// Appends that there may be no more segments.
 fn put_full_graph(past: &Past, text: &mut String) -> Result<(), AllocError> {
-    let segments = past.segments();
-    write!(text, "there are {segments} segments, and may be 1048576")
+    put_number(
+        "there are ",
+        past.segments(),
+        " segments, and may be 1048576",
+        text,
+    )
 }
 
 /// Appends why an event was refused with this code, after those events.

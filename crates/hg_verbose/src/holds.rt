@@ -11,7 +11,7 @@ use std::alloc::Global;
 use std::marker::Model;
 
 /// A lock that a thread holds.
-#[derive(Clone, Copy, Debug, PartialEq, Eq, Drop)]
+#[derive(Clone, Copy, Drop)]
 pub struct Hold {
     pub thread: u16,
     pub lock: u16,
@@ -48,6 +48,21 @@ fn add(list: &mut Vec<Hold>, hold: Hold) -> bool
     ensures refused { OnFalse result (list.new.items ≡ list.old.items) }
 {
     list.push(hold).is_ok()
+}
+
+/// Whether a hold is one of a thread and of a lock, each where it is given.
+fn is_of(hold: &Hold, thread: Option<u16>, lock: Option<u16>) -> bool
+    ensures { OnTrue result (IfSome thread (λ t. hold.now.thread ≡ t) × IfSome lock (λ l. hold.now.lock ≡ l)) }
+{
+    if let Some(thread) = thread {
+        if hold.thread != thread {
+            return false;
+        }
+    }
+    match lock {
+        Some(lock) => hold.lock == lock,
+        None => true,
+    }
 }
 
 /// Lets a lock go.
@@ -123,35 +138,41 @@ impl Holds {
         true
     }
 
+    /// The first hold of a thread, of a lock, or of both, and how many there are.
+    fn held(&self, thread: Option<u16>, lock: Option<u16>) -> (Option<Hold>, usize)
+        ensures held { IfSome result.0 (λ h. IsHeld self.now h × (IfSome thread (λ t. h.thread ≡ t) × IfSome lock (λ l. h.lock ≡ l))) }
+    {
+        let first = self
+            .list
+            .iter()
+            .copied()
+            .find(|hold| is_of(hold, thread, lock));
+        let count = self
+            .list
+            .iter()
+            .filter(|hold| is_of(hold, thread, lock))
+            .count();
+        (first, count)
+    }
+
     /// The first lock that a thread holds, and how many it holds.
     pub fn of_thread(&self, thread: u16) -> (Option<Hold>, usize)
         ensures held { IfSome result.0 (λ h. IsHeld self.now h × (h.thread ≡ thread)) }
     {
-        let first = self.list.iter().copied().find(|hold| hold.thread == thread);
-        let count = self
-            .list
-            .iter()
-            .filter(|hold| hold.thread == thread)
-            .count();
-        (first, count)
+        self.held(Some(thread), None)
     }
 
     /// The first hold of a lock, and how many there are.
     pub fn of_lock(&self, lock: u16) -> (Option<Hold>, usize)
         ensures held { IfSome result.0 (λ h. IsHeld self.now h × (h.lock ≡ lock)) }
     {
-        let first = self.list.iter().copied().find(|hold| hold.lock == lock);
-        let count = self.list.iter().filter(|hold| hold.lock == lock).count();
-        (first, count)
+        self.held(None, Some(lock))
     }
 
     /// A thread's hold of a lock.
     pub fn of_both(&self, thread: u16, lock: u16) -> Option<Hold>
         ensures held { IfSome result (λ h. IsHeld self.now h × ((h.thread ≡ thread) × (h.lock ≡ lock))) }
     {
-        self.list
-            .iter()
-            .copied()
-            .find(|hold| hold.thread == thread && hold.lock == lock)
+        self.held(Some(thread), Some(lock)).0
     }
 }

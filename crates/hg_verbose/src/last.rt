@@ -3,7 +3,7 @@
 use hg_wire::number::number_of_word;
 
 /// What the last line tells.
-#[derive(Clone, Copy, Debug, PartialEq, Eq, Drop)]
+#[derive(Clone, Copy, Drop)]
 pub enum Last {
     /// The event of this line was refused, with this code.
     Refused { line: u64, code: u64 },

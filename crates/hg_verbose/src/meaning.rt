@@ -5,59 +5,69 @@ use crate::fault::{Source, put_fault};
 use crate::last::Last;
 use crate::lines::{Lines, event_of};
 use crate::past::Past;
-use crate::quoting::put_quoted;
+use crate::quoting::{put_number, put_quoted};
 use crate::wrong::put_wrong;
 use std::alloc::{AllocError, Global};
-use std::fmt::Write;
 use std::string::String;
 
 /// Appends a line, by its number and its text.
 fn put_line(number: u64, line: &[u8], text: &mut String) -> Result<(), AllocError> {
-    write!(text, "line {number}, ")?;
+    put_number("line ", number, ", ", text)?;
     put_quoted(line, text)
 }
 
-/// What it means that a line is bad.
-fn of_bad(alloc: Global, number: u64, line: &[u8]) -> Result<String, AllocError> {
-    let mut text = String::new(alloc);
-    put_line(number, line, &mut text)?;
+/// Appends that a line is bad, and why.
+fn put_bad(line: &[u8], text: &mut String) -> Result<(), AllocError> {
     text.push_str(", is bad: ")?;
-    put_wrong(line, &mut text)?;
-    text.push('\n')?;
-    Ok(text)
+    put_wrong(line, text)
 }
 
-/// What it means that the event of a line was refused with this code, after those events.
-fn of_refused(
-    alloc: Global,
-    number: u64,
-    code: u64,
-    line: &[u8],
-    past: &Past,
-) -> Result<String, AllocError> {
-    let mut text = String::new(alloc);
-    put_line(number, line, &mut text)?;
+/// Appends that the event of a line was refused with this code, after those events, and why.
+fn put_refused(code: u64, line: &[u8], past: &Past, text: &mut String) -> Result<(), AllocError> {
     text.push_str(", is refused: ")?;
     match event_of(line) {
-        Some(event) => put_cause(past, event, code, &mut text)?,
-        None => text.push_str("it is no event")?,
+        Some(event) => put_cause(past, event, code, text),
+        None => text.push_str("it is no event"),
     }
-    text.push('\n')?;
-    Ok(text)
+}
+
+/// Appends what a fault with this code means.
+fn put_meaning_of_fault(
+    code: u64,
+    sources: &[Source<'_>],
+    text: &mut String,
+) -> Result<(), AllocError> {
+    put_number("fault ", code, " is of ", text)?;
+    put_fault(code, sources, text)?;
+    text.push('\n')
 }
 
 /// What a fault with this code means, where these streams and files took part.
 pub fn of_fault(alloc: Global, code: u64, sources: &[Source<'_>]) -> Result<String, AllocError> {
     let mut text = String::new(alloc);
-    write!(text, "fault {code} is of ")?;
-    put_fault(code, sources, &mut text)?;
-    text.push('\n')?;
+    put_meaning_of_fault(code, sources, &mut text)?;
     Ok(text)
 }
 
 /// What it means that the files of a store are damaged. `place` says where.
 pub fn of_damage(alloc: Global, place: &str) -> Result<String, AllocError> {
     format!(in alloc; "fault 11 is of {place}\n")
+}
+
+/// Appends what it means that a line is bad, or, where there is a code, that its event was refused with it after those events.
+fn put_meaning(
+    number: u64,
+    line: &[u8],
+    code: Option<u64>,
+    past: &Past,
+    text: &mut String,
+) -> Result<(), AllocError> {
+    put_line(number, line, text)?;
+    match code {
+        Some(code) => put_refused(code, line, past, text)?,
+        None => put_bad(line, text)?,
+    }
+    text.push('\n')
 }
 
 /// What the last line means, if it tells of a line of this text. The event of a refused line followed the events of `past`; with
@@ -68,20 +78,16 @@ pub fn of_line(
     lines: &mut Lines,
     past: Option<&Past>,
 ) -> Result<Option<String>, AllocError> {
-    let number = match last {
-        Last::Refused { line, code: _ } => line,
-        Last::Bad { line } => line,
+    let (number, code) = match last {
+        Last::Refused { line, code } => (line, Some(code)),
+        Last::Bad { line } => (line, None),
         Last::Fault { .. } => return Ok(None),
     };
     if !lines.find(number) {
         return Ok(None);
     }
-    let line = lines.line();
-    match last {
-        Last::Refused { line: _, code } => {
-            let past = past.unwrap_or(lines.past());
-            Ok(Some(of_refused(alloc, number, code, line, past)?))
-        }
-        _ => Ok(Some(of_bad(alloc, number, line)?)),
-    }
+    let mut text = String::new(alloc);
+    let past = past.unwrap_or(lines.past());
+    put_meaning(number, lines.line(), code, past, &mut text)?;
+    Ok(Some(text))
 }

@@ -1,4 +1,4 @@
-//! Bytes as a text that any terminal can show.
+//! Bytes as a text that any terminal can show, and numbers between texts.
 
 use std::alloc::AllocError;
 use std::fmt::Write;
@@ -6,6 +6,27 @@ use std::string::String;
 
 /// How many bytes are shown at most.
 const MOST_SHOWN: usize = 60;
+
+/// Appends a number between two texts.
+pub fn put_number(
+    before: &str,
+    number: u64,
+    after: &str,
+    text: &mut String,
+) -> Result<(), AllocError> {
+    write!(text, "{before}{number}{after}")
+}
+
+/// Appends two numbers, each behind a text.
+pub fn put_numbers(
+    before: &str,
+    first: u64,
+    between: &str,
+    second: u64,
+    text: &mut String,
+) -> Result<(), AllocError> {
+    write!(text, "{before}{first}{between}{second}")
+}
 
 /// Appends a byte: itself where it is a printable one of ASCII, else its number in hexadecimal.
 fn put_byte(byte: u8, text: &mut String) -> Result<(), AllocError> {
@@ -20,7 +41,8 @@ fn put_byte(byte: u8, text: &mut String) -> Result<(), AllocError> {
 /// Appends bytes between quotation marks, the first of them where they are many.
 pub fn put_quoted(bytes: &[u8], text: &mut String) -> Result<(), AllocError> {
     text.push('"')?;
-    for byte in bytes.iter().take(MOST_SHOWN) {
+    let shown = bytes.len().min(MOST_SHOWN);
+    for byte in &bytes[..shown] {
         put_byte(*byte, text)?;
     }
     if bytes.len() > MOST_SHOWN {

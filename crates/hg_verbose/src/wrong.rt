@@ -1,10 +1,9 @@
 //! What is wrong with a bad line, in words.
 
-use crate::quoting::put_quoted;
+use crate::quoting::{put_number, put_numbers, put_quoted};
 use hg_wire::diagnosis::{Diagnosis, diagnose};
 use hg_wire::verb::Verb;
 use std::alloc::AllocError;
-use std::fmt::Write;
 use std::string::String;
 
 /// What a word of some bits may be at most.
@@ -33,8 +32,7 @@ fn name(verb: Verb) -> &'static str {
 
 /// Appends that a word may not stand at its place.
 fn put_word(place: usize, word: &[u8], text: &mut String) -> Result<(), AllocError> {
-    let number = place.saturating_add(1);
-    write!(text, "word {number}, ")?;
+    put_number("word ", place.saturating_add(1) as u64, ", ", text)?;
     put_quoted(word, text)
 }
 
@@ -46,21 +44,16 @@ fn put_no_verb(word: &[u8], text: &mut String) -> Result<(), AllocError> {
 
 /// Appends that nothing stands where a word should.
 fn put_empty_word(place: usize, text: &mut String) -> Result<(), AllocError> {
-    let number = place.saturating_add(1);
-    write!(
-        text,
-        "word {number} is empty: one space stands before each word, and none at the end"
-    )
+    let why = " is empty: one space stands before each word, and none at the end";
+    put_number("word ", place.saturating_add(1) as u64, why, text)
 }
 
 /// Appends how many numbers the verb takes.
 fn put_count(verb: Verb, given: usize, text: &mut String) -> Result<(), AllocError> {
-    let verb_name = name(verb);
-    let wanted = verb.widths().len();
-    write!(
-        text,
-        "{verb_name} takes {wanted} numbers, and {given} stand here"
-    )
+    let (wanted, given) = (verb.widths().len() as u64, given as u64);
+    text.push_str(name(verb))?;
+    put_numbers(" takes ", wanted, " numbers, and ", given, text)?;
+    text.push_str(" stand here")
 }
 
 /// Appends that a word is no number.
@@ -73,7 +66,7 @@ fn put_misspelt(place: usize, word: &[u8], text: &mut String) -> Result<(), Allo
 fn put_too_great(place: usize, word: &[u8], bits: u8, text: &mut String) -> Result<(), AllocError> {
     put_word(place, word, text)?;
     let most = greatest(bits);
-    write!(text, ", is too great: at most {most} may stand there")
+    put_number(", is too great: at most ", most, " may stand there", text)
 }
 
 /// Appends what is wrong with a line. Its words are counted from 1 on, the verb first.
