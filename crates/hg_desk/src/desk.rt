@@ -1,9 +1,12 @@
 //! One conversation with a client.
 
-ghost use Rattle.std.specs.Prelude.{◌≡◌, IfOk, OnErr};
+ghost use Rattle.std.specs.Prelude.{◌≡◌, IfOk, OnErr, Result};
+ghost use Rattle.hg_model.specs.declared.verdict.Refusal.{Refusal};
+ghost use Rattle.hg_detect.specs.declared.detector.Answer.{Answer};
+ghost use Rattle.hg_store.specs.declared.steps.StepResult.TheVariants.{Offered};
 ghost use Rattle.hg_frames.specs.Spelling.{FitsFrames};
 ghost use Rattle.hg_store.specs.Shown.{live};
-ghost use Rattle.hg_desk.specs.Conversation.{Answers, Commits, ConversesOnOk, Greets, Offers, Talks, expected_of, hello_reply, refused as refused_reply, stage_after_hello};
+ghost use Rattle.hg_desk.specs.Conversation.{Answers, Commits, ConversesOnOk, Greets, Offers, Talks, expected_of, hello_reply, offer_reply, refused as refused_reply, stage_after_hello};
 ghost use Rattle.hg_desk.specs.Told.{Told};
 
 use crate::locked::Core;
@@ -191,12 +194,20 @@ fn offer<D: Disk, A: Opening, B: Column>(
     ensures answer { Offers ⟦<D as Disk>⟧ named.now core.old core.new share.old share.new result }
     ensures fits { FitsFrames result }
 {
-    match core.step(alloc, share, &Step::Offer(*named)) {
-        StepResult::Offered(Ok(Answer::Accepted)) => Reply::Accepted {
-            number: named.number,
-        },
+    let answer = core.step(alloc, share, &Step::Offer(*named));
+    offered(named.number, answer)
+}
+
+/// The reply to an offer.
+fn offered(number: u64, answer: StepResult) -> Reply
+    requires { (told : Result Answer Refusal) × (answer ≡ Offered told) }
+    ensures answer { (told : Result Answer Refusal) → answer ≡ Offered told → result ≡ offer_reply number told }
+    ensures fits { FitsFrames result }
+{
+    match answer {
+        StepResult::Offered(Ok(Answer::Accepted)) => Reply::Accepted { number },
         StepResult::Offered(Ok(Answer::Duplicate(last))) => Reply::Duplicate { last },
-        StepResult::Offered(Err(refusal)) => refused(named.number, refusal),
+        StepResult::Offered(Err(refusal)) => refused(number, refusal),
         _ => unreachable!(),
     }
 }

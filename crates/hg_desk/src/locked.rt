@@ -235,6 +235,11 @@ impl<D: Disk, A: Opening, B: Column> Core<D, A, B> {
         ensures answer { ReportsAnswer D.is_honest self.now.is_broken (live ⟦<D as Disk>⟧ self.now) result }
         ensures fits { FitsFrames result }
     {
+        let Ok(segments) = self.store.graph() else {
+            return refused(0, Refusal::Broken);
+        };
+        let events = self.store.events().unwrap_or(0);
+        let races = self.store.total().unwrap_or(0);
         let reports = match self.store.reports(alloc) {
             Ok(reports) => reports,
             Err(refusal) => return refused(0, refusal),
@@ -243,13 +248,6 @@ impl<D: Disk, A: Opening, B: Column> Core<D, A, B> {
         if !are_thread_sets(reports.as_slice()) {
             return refused(0, Refusal::Damaged);
         }
-        let (Ok(events), Ok(races), Ok(segments)) = (
-            self.store.events(),
-            self.store.total(),
-            self.store.graph(),
-        ) else {
-            return refused(0, Refusal::Broken);
-        };
         Reply::Lines {
             lines: ReportLines {
                 reports: ReportList::from_vec(reports),

@@ -6,7 +6,7 @@ use hg_model::verdict::Refusal;
 use std::alloc::AllocError;
 
 /// Why a store was not served to its end with all events durable.
-#[derive(Clone, Copy, Debug, PartialEq, Eq, Drop)]
+#[derive(Clone, Copy, Drop)]
 pub(crate) enum ServingFault {
     /// A device failed for a client, who was told.
     Broken,

@@ -50,7 +50,7 @@ impl Gate for OpenGate {
 const PIECE_BYTES: usize = 65_536;
 
 /// What becomes of a connection, and of its worker.
-#[derive(Clone, Copy, Debug, PartialEq, Eq, Drop)]
+#[derive(Clone, Copy, PartialEq, Eq, Drop)]
 enum Course {
     /// It is read on.
     ReadOn,

@@ -1,13 +1,22 @@
 use Rattle.std.proofs.Common.{◌≡◌, false, inl, inr, sym, subst, OnErr, OnOk, IsTrue}
+use Rattle.std.proofs.lemmas.Result.{IfErr-at_err}
 use Rattle.hg_store.specs.Shown.{live}
 use Rattle.hg_check.specs.Printing.{Took}
 use Rattle.hg_check.specs.Written.{TookFront}
-use Rattle.hg_server.specs.Serving.{IsSettled, WroteServing, serving_text}
-use Rattle.hg_server.proofs.Leaving.{served}
+use Rattle.hg_server.specs.Serving.{HasServeCause, IsServingFault, IsSettled, WroteServing, serving_text}
+use Rattle.hg_server.proofs.Leaving.{serve_cause, served}
 use Rattle.hg_server.proofs.serving.recover_and_serve.Goals as goal
 
 pub returns-in-Err-clause-cause : goal.returns-in-Err-clause-cause
 returns-in-Err-clause-cause g c = inl (c.in-Err.ensures.cause, c.in-Err.ensures.fault)
+
+pub returns-in-Err-ended-clause-cause : goal.returns-in-Err-ended-clause-cause
+returns-in-Err-ended-clause-cause g c =
+    let start = c.in-Ok.store in
+    let now = c.serve_and_print-store.result.store in
+    let told = IfErr-at_err (IsServingFault g.D.Disk start.devices now.devices) c.in-Err-ended.is c.serve_and_print-store.ensures.cause in
+    subst (λ d. HasServeCause g.D.Disk c.args.devices d c.in-Err-ended.refusal) (sym c.into_devices.ensures)
+    (serve_cause g.D.Disk c.args.devices start.devices now.devices c.in-Err-ended.refusal c.in-Ok.ensures.device told)
 
 pub returns-in-Ok-ended-clause-well : goal.returns-in-Ok-ended-clause-well
 returns-in-Ok-ended-clause-well g c =

@@ -9,12 +9,14 @@ use Rattle.hg_streams.specs.declared.call.WriteCall.{WriteCall}
 use Rattle.hg_store.specs.Shown.{live}
 use Rattle.hg_check.proofs.Printed.{appends_on, front_more}
 use Rattle.hg_check.specs.Printing.{Took}
+use Rattle.hg_check.specs.Streaming.{IsStreamFault}
 use Rattle.hg_listing.proofs.Fronts.{printed_front, took_front}
 use Rattle.hg_listing.specs.Printed.{IsPrintedNow}
 use Rattle.hg_listing.specs.Storing.{number_text}
 use Rattle.hg_desk.specs.Going.{WentOn, began}
 use Rattle.hg_desk.proofs.Going.{went_nowhere}
 use Rattle.hg_server.specs.Serving.{IsServingFault, IsToldTruly, refusal_of, served_text, serving_text}
+use Rattle.hg_server.proofs.Leaving.{if_err_weaker}
 use Rattle.hg_server.proofs.serving.serve_and_print.Goals as goal
 
 -- a fault that is told by the refusal of its name
@@ -32,6 +34,13 @@ returns-in-Err-ended-clause-cause g c =
     let new = c.serve_over-store.result.store.devices in
     let truly = IfErr-at_err (IsToldTruly g.D.Disk old new) c.in-Err-ended.is c.serve_over-store.ensures.cause in
     subst (λ (r : Refusal). IsServingFault g.D.Disk old new r) (sym c.from-in-Err-ended.ensures) (of_fault g.D.Disk old new c.in-Err-ended.fault truly)
+
+pub returns-clause-cause : goal.returns-clause-cause
+returns-clause-cause g c =
+    if_err_weaker IsStreamFault (IsServingFault g.D.Disk c.args.store.devices c.serve_over-store.result.store.devices) c.print_end-ended.result told c.print_end-ended.ensures.cause where
+      told : (r : Refusal) → IsStreamFault r → IsServingFault g.D.Disk c.args.store.devices c.serve_over-store.result.store.devices r
+      told r (inl is) = inr (inr is)
+      told r (inr is) = inr (inl is)
 
 pub returns-clause-went : goal.returns-clause-went
 returns-clause-went g c = c.serve_over-store.ensures.went

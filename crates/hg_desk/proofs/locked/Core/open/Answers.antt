@@ -1,4 +1,5 @@
 use Rattle.std.proofs.Common.{rules, ◌≡◌, [], ◌∷◌, Option, IfSome, sym, subst, arith}
+use Rattle.std.proofs.lemmas.Bool.{false≢true}
 use Rattle.std.proofs.lemmas.List.Elements.{All-append, All-cons}
 use Rattle.hg_desk.specs.Told.{Told, nothing_told}
 use Rattle.hg_desk.specs.Going.{Began, WentOn, began}
@@ -21,13 +22,13 @@ loop-i-preserved g c = record {
 
 pub invariant_of-core : goal.invariant_of-core
 invariant_of-core g c = record {
-  events = λ honest. search rules;
-  durable_is = λ honest. search rules;
-  accepted_counted = search rules;
-  durable_counted = search rules;
+  events = λ honest. let is = c.requires.opening.0 in let none = c.loop-i.invariant.books.0 in omega (arith, is, none);
+  durable_is = λ honest. let is = c.requires.opening.1 in let none = c.loop-i.invariant.books.1 in omega (arith, is, none);
+  accepted_counted = sym c.loop-i.invariant.books.0;
+  durable_counted = sym c.loop-i.invariant.books.1;
   since = λ start is.
       let same : start ≡ began g.D.Disk c.args.store = subst (λ (o : Option Began). IfSome o (λ s. s ≡ began g.D.Disk c.args.store)) is c.requires.start in
       let here : WentOn g.D.Disk (began g.D.Disk c.args.store) [] c.args.store = went_nowhere g.D.Disk c.args.store c.stands.ensures.backs in
       subst (λ s. WentOn g.D.Disk s c.new.result c.args.store) (sym same) (subst (λ ms. WentOn g.D.Disk (began g.D.Disk c.args.store) ms c.args.store) (sym c.new.ensures) here);
-  failed = λ no. absurd (cc no);
+  failed = λ no. absurd (false≢true no);
 }
