@@ -20,22 +20,22 @@ fn three_keys(alloc: Global) -> Result<Own<Recency>, AllocError>
 
 /// Whether so many keys are in order from one to another.
 fn is(rt: &impl Abort, order: &Recency, count: u32, newest: (u64, u32), oldest: (u64, u32)) {
-    assert_eq!(rt; order.len(), count);
-    assert_eq!(rt; order.newest(), Some(newest));
-    assert_eq!(rt; order.oldest(), Some(oldest));
+    assert!(rt; order.len() == count);
+    assert!(rt; order.newest() == Some(newest));
+    assert!(rt; order.oldest() == Some(oldest));
 }
 
 /// Whether a place was answered so.
 fn answers(rt: &impl Abort, found: Option<u32>, wanted: Option<u32>) {
-    assert_eq!(rt; found, wanted);
+    assert!(rt; found == wanted);
 }
 
 #[test]
 fn keeps_keys_in_the_order_of_their_use(rt: HostRuntime) -> Result<(), Fail> {
     let mut own = three_keys(rt.alloc())?;
     let order = &mut own.it;
-    assert_eq!(rt; order.older(2), Some((16_394, 1)));
-    assert_eq!(rt; order.most(), 4);
+    assert!(rt; order.older(2) == Some((16_394, 1)));
+    assert!(rt; order.most() == 4);
     is(&rt, order, 3, (30, 2), (10, 0));
     answers(&rt, order.place(10), Some(0));
     answers(&rt, order.place(16_394), Some(1));
