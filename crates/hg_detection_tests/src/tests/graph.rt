@@ -100,8 +100,9 @@ const SEGMENTS: [Opened; 7] = [
 /// Whether these are the segments of the forks and joins below.
 fn expect_segments(rt: &impl Abort, segments: &[Segment]) {
     assert!(rt; segments.len() == SEGMENTS.len());
-    for (segment, wanted) in segments.iter().zip(SEGMENTS.iter()) {
-        assert!(rt; segment.thread == wanted.0 && segment.before.as_slice() == wanted.1);
+    for i in 0..SEGMENTS.len() {
+        assert!(rt; segments[i].thread == SEGMENTS[i].0, "{i}");
+        assert!(rt; segments[i].before.as_slice() == SEGMENTS[i].1, "{i}");
     }
 }
 

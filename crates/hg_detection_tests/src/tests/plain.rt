@@ -111,16 +111,18 @@ fn unordered_writes_race(rt: HostRuntime) -> Result<(), Fail> {
 
     // A fork passes ownership on.
     let forked = [write(0, 0x1000, 4), fork(0, 1), write(1, 0x1000, 4)];
-    expect(&rt, alloc, &forked, &[])?;
+    expect(&rt, alloc, &forked, &[])
+}
 
-    // A join passes ownership on.
-    let joined = [
+#[test]
+fn a_join_passes_ownership_on(rt: HostRuntime) -> Result<(), Fail> {
+    let events = [
         fork(0, 1),
         write(1, 0x1000, 4),
         join(0, 1),
         write(0, 0x1000, 4),
     ];
-    expect(&rt, alloc, &joined, &[])
+    expect(&rt, rt.alloc(), &events, &[])
 }
 
 /// And the state has the threads and the common lock.
@@ -141,28 +143,33 @@ fn a_common_lock_is_no_race(rt: HostRuntime) -> Result<(), Fail> {
 
 #[test]
 fn a_read_lock_does_not_count_for_a_write(rt: HostRuntime) -> Result<(), Fail> {
-    let alloc = rt.alloc();
-    let read_lock = [
+    let events = [
         fork(0, 1),
         write(0, 0x1000, 4),
         rdlock(1, 5),
         write(1, 0x1000, 4),
     ];
-    expect(&rt, alloc, &read_lock, &[Race(4, true, 1, 0x1000, &[0, 1])])?;
+    expect(
+        &rt,
+        rt.alloc(),
+        &events,
+        &[Race(4, true, 1, 0x1000, &[0, 1])],
+    )
+}
 
-    // The lockset begins at the sharing point.
-    let sharing = [
+#[test]
+fn the_lockset_begins_at_the_sharing_point(rt: HostRuntime) -> Result<(), Fail> {
+    let events = [
         fork(0, 1),
         write(0, 0x1000, 4),
         lock(1, 7),
         write(1, 0x1000, 4),
     ];
-    expect(&rt, alloc, &sharing, &[])
+    expect(&rt, rt.alloc(), &events, &[])
 }
 
 #[test]
 fn shared_reads_and_then_a_write(rt: HostRuntime) -> Result<(), Fail> {
-    let alloc = rt.alloc();
     let events = [
         write(0, 0x1000, 4),
         fork(0, 1),
@@ -171,9 +178,16 @@ fn shared_reads_and_then_a_write(rt: HostRuntime) -> Result<(), Fail> {
         read(2, 0x1000, 4),
         write(2, 0x1000, 4),
     ];
-    expect(&rt, alloc, &events, &[Race(6, true, 2, 0x1000, &[1, 2])])?;
+    expect(
+        &rt,
+        rt.alloc(),
+        &events,
+        &[Race(6, true, 2, 0x1000, &[1, 2])],
+    )
+}
 
-    // A read is reported once a word was written.
+#[test]
+fn a_read_is_reported_once_a_word_was_written(rt: HostRuntime) -> Result<(), Fail> {
     let events = [
         fork(0, 1),
         lock(1, 7),
@@ -181,7 +195,12 @@ fn shared_reads_and_then_a_write(rt: HostRuntime) -> Result<(), Fail> {
         write(1, 0x1000, 4),
         read(0, 0x1000, 4),
     ];
-    expect(&rt, alloc, &events, &[Race(5, false, 0, 0x1000, &[0, 1])])
+    expect(
+        &rt,
+        rt.alloc(),
+        &events,
+        &[Race(5, false, 0, 0x1000, &[0, 1])],
+    )
 }
 
 #[test]

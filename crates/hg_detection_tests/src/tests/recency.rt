@@ -7,15 +7,25 @@ use std::alloc::{AllocError, Global};
 use std::process::Abort;
 use std::test::Fail;
 
-/// Three keys, that of the greatest place used last. The first two have one hint.
+/// Inserts three keys into an order that is empty, that of the greatest place last. The first two have one hint.
+fn insert_three(order: &mut Recency) -> Result<(), AllocError>
+    requires { order.old ≡ lru_cache [] 4 }
+    ensures { IfOk result (λ done. order.new ≡ lru_cache ((30, 2) ∷ (16394, 1) ∷ (10, 0) ∷ []) 4) }
+{
+    order.insert(10, 0)?;
+    order.insert(16_394, 1)?;
+    order.insert(30, 2)
+}
+
+/// An order of those keys.
 fn three_keys(alloc: Global) -> Result<Own<Recency>, AllocError>
     ensures { IfOk result (λ made. made.it ≡ lru_cache ((30, 2) ∷ (16394, 1) ∷ (10, 0) ∷ []) 4) }
 {
-    let mut order = Recency::new(alloc, 4)?;
-    order.insert(10, 0)?;
-    order.insert(16_394, 1)?;
-    order.insert(30, 2)?;
-    Ok(Own { it: order })
+    let mut own = Own {
+        it: Recency::new(alloc, 4)?,
+    };
+    insert_three(&mut own.it)?;
+    Ok(own)
 }
 
 /// Whether so many keys are in order from one to another.

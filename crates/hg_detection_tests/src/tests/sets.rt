@@ -103,19 +103,20 @@ fn is_answered(table: &mut SetTable, step: Step) -> bool {
     }
 }
 
+/// Makes calls, each of which has to be answered so.
+fn follow(rt: &impl Abort, table: &mut SetTable, steps: &[Step]) {
+    for step in steps {
+        assert!(rt; is_answered(table, *step), "with {} sets", table.len());
+    }
+}
+
 /// Makes the calls of a run on a new table.
 fn take(rt: &impl Abort, alloc: Global, run: &Run) -> Result<(), AllocError> {
     assert!(rt; 1 <= run.0 && run.0 <= MOST_SETS);
     let mut own = Own {
         it: SetTable::with_limit(alloc, run.0)?,
     };
-    for step in run.1 {
-        assert!(rt;
-            is_answered(&mut own.it, *step),
-            "with {} sets",
-            own.it.len()
-        );
-    }
+    follow(rt, &mut own.it, run.1);
     Ok(())
 }
 
