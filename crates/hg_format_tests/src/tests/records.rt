@@ -47,6 +47,13 @@ fn expect_read(rt: &impl Abort, bytes: &[u8], event: Event, len: usize) {
     assert!(rt; record_len(bytes) == Some(len));
 }
 
+/// The bytes of a record of this kind.
+fn spelling(alloc: Global, kind: u8, operands: &[u8]) -> Result<Vec<u8>, AllocError> {
+    let mut bytes = Vec::from_slice(alloc, &[1, 2, 3, 4, 5, 6, 7, 8, 9, 10, kind])?;
+    bytes.extend_from_slice(operands)?;
+    Ok(bytes)
+}
+
 /// Whether an event is spelled by its kind and then these bytes, and read again from there and from nothing shorter.
 fn expect_spelled(
     rt: &impl Abort,
@@ -55,8 +62,7 @@ fn expect_spelled(
     event: Event,
     operands: &[u8],
 ) -> Result<(), AllocError> {
-    let mut expected = Vec::from_slice(alloc, &[1, 2, 3, 4, 5, 6, 7, 8, 9, 10, kind])?;
-    expected.extend_from_slice(operands)?;
+    let expected = spelling(alloc, kind, operands)?;
     let mut out = Vec::new(alloc);
     put_record(&named(event), &mut out)?;
     assert!(rt; out.as_slice() == expected.as_slice());
