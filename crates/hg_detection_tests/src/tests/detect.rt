@@ -1,18 +1,17 @@
 //! The detector on worked traces, with the answers that the rules of detection give for them by hand.
 //!
-//! Each test passes too where any one allocation is refused (`rt try --test --fail-alloc N`, for N from 1 up to 40):
+//! Each test passes too where any one allocation is refused (`rt try --test --fail-alloc N`, for N from 1 up to 320, 40 for each run):
 //! a call that answers want of memory has to leave the content as it was, and is made again.
-ghost use Rattle.std.specs.Prelude.{◌≤◌, IfOk};
+ghost use Rattle.std.specs.Prelude.{◌<◌, ◌≤◌, IfOk, length};
 ghost use Rattle.hg_detect.specs.Engine.{AtPresent};
 ghost use Rattle.hg_words.specs.Paged.{AreWithin};
 
 use crate::tests::own::Own;
-use crate::tests::races::{Race, compare};
+use crate::tests::races::{Race, compare, is_of};
 use hg_cells::Cell;
 use hg_detect::detector::{Answer, Detector};
 use hg_model::event::{Access, Block, Event, Hold, HoldKind, Named};
 use hg_model::report::Report;
-use hg_model::segment::Segment;
 use hg_model::verdict::{Refusal, Verdict};
 use hg_sets::MOST_SETS;
 use hg_words::paged::PagedWords;
@@ -24,32 +23,74 @@ use std::test::Fail;
 /// The number of the word at 0x1000.
 const WORD: u64 = 0x400;
 
-fn fork(p: u16, c: u16) -> Event {
-    Event::Fork { p, c }
+/// An event by its numbers, in the order in which a trace spells them.
+#[derive(Clone, Copy)]
+enum Line {
+    Fork(u16, u16),
+    Join(u16, u16),
+    Lock(u16, u16),
+    Unlock(u16, u16),
+    Read(u16, u64, u8),
+    Write(u16, u64, u8),
+    Alloc(u16, u64, u16),
 }
 
-fn lock(t: u16, l: u16) -> Event {
-    Event::Lock { t, l }
+/// The event of a line.
+fn event_of(line: Line) -> Event {
+    match line {
+        Line::Fork(p, c) => Event::Fork { p, c },
+        Line::Join(p, c) => Event::Join { p, c },
+        Line::Lock(t, l) => Event::Lock { t, l },
+        Line::Unlock(t, l) => Event::Unlock { t, l },
+        Line::Read(t, at, len) => Event::Read(Access { t, at, len }),
+        Line::Write(t, at, len) => Event::Write(Access { t, at, len }),
+        Line::Alloc(t, at, len) => Event::Alloc(Block { t, at, len }),
+    }
 }
 
-fn unlock(t: u16, l: u16) -> Event {
-    Event::Unlock { t, l }
-}
-
-fn write(t: u16, at: u64, len: u8) -> Event {
-    Event::Write(Access { t, at, len })
-}
-
-fn read(t: u16, at: u64, len: u8) -> Event {
-    Event::Read(Access { t, at, len })
-}
-
-fn named(number: u64, event: Event) -> Named {
+/// The event of a line, of this number of source 0.
+fn named(number: u64, line: Line) -> Named {
     Named {
         source: 0,
         number,
-        event,
+        event: event_of(line),
     }
+}
+
+/// A step of a run. All events are of source 0.
+#[derive(Clone, Copy)]
+enum Step {
+    /// The next event is accepted.
+    Accepted(Line),
+    /// An event of this number is answered so, and leaves the detector as it was.
+    Unchanged(u64, Line, Result<Answer, Refusal>),
+    /// A write to one byte at 0x1000 by thread 0, offered in its parts, is answered so.
+    Touched(u64, Result<Answer, Refusal>),
+    /// What thread 0 does with lock 7, offered in its parts, is answered so.
+    Held(u64, HoldKind, Result<Answer, Refusal>),
+    /// This is the verdict on an event of this number.
+    Verdict(u64, Line, Verdict),
+    /// The detector shows this.
+    Shows(Fact),
+}
+
+/// What a detector shows.
+#[derive(Clone, Copy)]
+enum Fact {
+    /// The last number of a source.
+    Last(u16, u64),
+    /// How many reports came.
+    Reported(u64),
+    /// How many sets there are.
+    Sets(u32),
+    /// The number of the set with these members.
+    Set(&'static [u16], u32),
+    /// The cell of a word.
+    Cell(u64, Cell),
+    /// How many segments there are.
+    Segments(usize),
+    /// The thread of a segment, and its predecessors.
+    Segment(usize, u16, &'static [u32]),
 }
 
 /// The detector of an empty trace, with so many sets at most.
@@ -72,7 +113,7 @@ fn begin(alloc: Global, most_sets: u32) -> Result<Own<Detector<PagedWords>>, Ref
 }
 
 /// What a refused event has to leave as it was: counts, and the cells of two words on each side of the address 0x1400.
-#[derive(Clone, Copy, Debug, PartialEq, Eq)]
+#[derive(Clone, Copy, PartialEq, Eq)]
 struct Picture {
     events: u64,
     last: u64,
@@ -113,60 +154,117 @@ fn answer(
     if answer != Err(Refusal::OutOfMemory) {
         return answer;
     }
-    assert_eq!(rt; picture_of(detector), before, "at {next:?}");
+    assert!(rt; picture_of(detector) == before, "at event {}", next.number);
     detector.apply(next)
 }
 
-/// Offers an event, which has to be answered so.
-fn answers(
+/// Whether the next event is accepted.
+fn is_accepted(rt: &impl Abort, detector: &mut Detector<PagedWords>, line: Line) -> bool
+    requires { AtPresent AreWithin detector.old }
+    ensures { AtPresent AreWithin detector.new }
+{
+    let next = named(detector.last(0).wrapping_add(1), line);
+    answer(rt, detector, &next) == Ok(Answer::Accepted)
+}
+
+/// Whether an event is answered so and changes nothing.
+fn is_unchanged_by(
     rt: &impl Abort,
     detector: &mut Detector<PagedWords>,
     next: &Named,
     wanted: Result<Answer, Refusal>,
-)
+) -> bool
     requires { AtPresent AreWithin detector.old }
     ensures { AtPresent AreWithin detector.new }
 {
-    assert_eq!(rt; answer(rt, detector, next), wanted, "of {next:?}");
+    let before = picture_of(detector);
+    answer(rt, detector, next) == wanted && picture_of(detector) == before
 }
 
-/// Whether a detector is as it was.
-fn is_as(rt: &impl Abort, detector: &Detector<PagedWords>, before: &Picture) {
-    assert_eq!(rt; picture_of(detector), *before);
-}
-
-/// Whether so many reports came.
-fn reported(rt: &impl Abort, detector: &Detector<PagedWords>, total: u64) {
-    assert_eq!(rt; detector.total(), total);
-}
-
-/// Whether a table has so many sets.
-fn has_sets(rt: &impl Abort, detector: &Detector<PagedWords>, count: u32) {
-    assert_eq!(rt; detector.sets().len(), count);
-}
-
-/// Whether a set has this number.
-fn is_set(rt: &impl Abort, detector: &Detector<PagedWords>, members: &[u16], number: u32) {
-    assert_eq!(rt; detector.sets().find(members), Some(number));
-}
-
-/// Whether a word has this cell.
-fn is_cell(rt: &impl Abort, detector: &Detector<PagedWords>, word: u64, cell: Cell) {
-    assert_eq!(rt; detector.words().get(word), cell);
-}
-
-/// Offers events, numbered by source 0, each of which has to be accepted.
-fn offer(rt: &impl Abort, detector: &mut Detector<PagedWords>, events: &[Event])
+/// Whether a write to one byte is answered so.
+fn is_touched(
+    detector: &mut Detector<PagedWords>,
+    number: u64,
+    wanted: Result<Answer, Refusal>,
+) -> bool
     requires { AtPresent AreWithin detector.old }
     ensures { AtPresent AreWithin detector.new }
 {
-    for event in events {
-        let next = named(detector.last(0).wrapping_add(1), *event);
-        assert_eq!(rt;
-            answer(rt, detector, &next),
-            Ok(Answer::Accepted),
-            "of {event:?}"
-        );
+    let access = Access {
+        t: 0,
+        at: 0x1000,
+        len: 1,
+    };
+    detector.touch(0, number, access, true) == wanted
+}
+
+/// Whether an event on lock 7 is answered so.
+fn is_held(
+    detector: &mut Detector<PagedWords>,
+    number: u64,
+    kind: HoldKind,
+    wanted: Result<Answer, Refusal>,
+) -> bool
+    requires { AtPresent AreWithin detector.old }
+    ensures { AtPresent AreWithin detector.new }
+{
+    let hold = Hold { t: 0, l: 7, kind };
+    detector.hold(0, number, hold) == wanted
+}
+
+/// Whether a detector has a segment of this number, thread and predecessors.
+fn has_segment(
+    detector: &Detector<PagedWords>,
+    number: usize,
+    thread: u16,
+    before: &[u32],
+) -> bool {
+    match detector.segments().get(number) {
+        Some(segment) => segment.thread == thread && segment.before.as_slice() == before,
+        None => false,
+    }
+}
+
+/// Whether a detector shows this.
+fn shows(detector: &Detector<PagedWords>, fact: Fact) -> bool {
+    match fact {
+        Fact::Last(source, number) => detector.last(source) == number,
+        Fact::Reported(total) => detector.total() == total,
+        Fact::Sets(count) => detector.sets().len() == count,
+        Fact::Set(members, number) => detector.sets().find(members) == Some(number),
+        Fact::Cell(word, cell) => detector.words().get(word) == cell,
+        Fact::Segments(count) => detector.segments().len() == count,
+        Fact::Segment(number, thread, before) => has_segment(detector, number, thread, before),
+    }
+}
+
+/// Takes a step. Answers whether it came out so.
+fn holds(rt: &impl Abort, detector: &mut Detector<PagedWords>, step: Step) -> bool
+    requires { AtPresent AreWithin detector.old }
+    ensures { AtPresent AreWithin detector.new }
+{
+    match step {
+        Step::Accepted(line) => is_accepted(rt, detector, line),
+        Step::Unchanged(number, line, wanted) => {
+            is_unchanged_by(rt, detector, &named(number, line), wanted)
+        }
+        Step::Touched(number, wanted) => is_touched(detector, number, wanted),
+        Step::Held(number, kind, wanted) => is_held(detector, number, kind, wanted),
+        Step::Verdict(number, line, verdict) => {
+            detector.verdict(&named(number, line)) == verdict
+        }
+        Step::Shows(fact) => shows(detector, fact),
+    }
+}
+
+/// Takes steps, each of which has to come out so.
+fn follow(rt: &impl Abort, detector: &mut Detector<PagedWords>, steps: &[Step])
+    requires { AtPresent AreWithin detector.old }
+    ensures { AtPresent AreWithin detector.new }
+{
+    for step in steps {
+        let last = detector.last(0);
+        assert!(rt; holds(rt, detector, *step), "behind event {last}");
     }
 }
 
@@ -178,6 +276,33 @@ fn reports_of(alloc: Global, detector: &Detector<PagedWords>) -> Result<Vec<Repo
     }
 }
 
+/// A kept report.
+fn report_of(
+    alloc: Global,
+    detector: &Detector<PagedWords>,
+    number: usize,
+) -> Result<Report, AllocError>
+    requires { number < length detector.now.kept }
+{
+    match detector.report(alloc, number) {
+        Ok(report) => Ok(report),
+        Err(_) => detector.report(alloc, number),
+    }
+}
+
+/// Whether the last report is this one.
+fn expect_last(
+    rt: &impl Abort,
+    alloc: Global,
+    detector: &Detector<PagedWords>,
+    race: &Race,
+) -> Result<(), AllocError> {
+    assert!(rt; detector.kept() > 0);
+    let report = report_of(alloc, detector, detector.kept() - 1)?;
+    assert!(rt; is_of(&report, race));
+    Ok(())
+}
+
 /// Whether a detector kept just these reports.
 fn expect(
     rt: &impl Abort,
@@ -187,232 +312,186 @@ fn expect(
 ) -> Result<(), AllocError> {
     let reports = reports_of(alloc, detector)?;
     compare(rt, &reports, races);
-    assert_eq!(rt; detector.kept(), races.len());
-    Ok(())
-}
-
-/// Whether the last report is of this event.
-fn expect_last(
-    rt: &impl Abort,
-    alloc: Global,
-    detector: &Detector<PagedWords>,
-    event: u64,
-) -> Result<(), AllocError> {
-    let Some(last) = detector.kept().checked_sub(1) else {
-        return Ok(());
-    };
-    let report = match detector.report(alloc, last) {
-        Ok(report) => report,
-        Err(_) => detector.report(alloc, last)?,
-    };
-    assert_eq!(rt; report.event, event);
-    Ok(())
-}
-
-/// Whether these are the segments of a thread that forks one other and joins it.
-fn expect_segments(rt: &impl Abort, segments: &[Segment]) {
-    assert_eq!(rt; segments.len(), SEGMENTS.len());
-    for (segment, wanted) in segments.iter().zip(SEGMENTS.iter()) {
-        assert_eq!(rt; segment.thread, wanted.0);
-        assert!(rt; segment.before.as_slice() == wanted.1);
+    assert!(rt; detector.kept() == races.len());
+    match races.last() {
+        Some(last) => expect_last(rt, alloc, detector, last),
+        None => Ok(()),
     }
 }
 
-/// A thread, and the predecessors of one of its segments.
-#[derive(Clone, Copy)]
-struct Opened(u16, &'static [u32]);
+/// How many sets there may be, the steps from the empty trace on, and the reports that are kept in the end.
+struct Run(u32, &'static [Step], &'static [Race<'static>]);
 
-const SEGMENTS: [Opened; 4] = [
-    Opened(0, &[]),
-    Opened(1, &[0]),
-    Opened(0, &[0]),
-    Opened(0, &[1, 2]),
-];
-
-#[test]
-fn a_full_table_of_sets_refuses_and_changes_nothing(rt: HostRuntime) -> Result<(), Fail> {
-    let mut own = begin(rt.alloc(), 1)?;
-    let detector = &mut own.it;
-    offer(&rt, detector, &[fork(0, 1), write(0, 0x1000, 4)]);
-    let before = picture_of(detector);
-    let third = named(3, write(1, 0x1000, 4));
-    answers(&rt, detector, &third, Err(Refusal::FullSets));
-    is_as(&rt, detector, &before);
-    has_sets(&rt, detector, 1);
-    assert_eq!(rt; detector.verdict(&third), Verdict::Accept);
-    Ok(())
-}
-
-#[test]
-fn with_one_set_more_it_is_reported(rt: HostRuntime) -> Result<(), Fail> {
-    let mut own = begin(rt.alloc(), 2)?;
-    let detector = &mut own.it;
-    let row = [fork(0, 1), write(0, 0x1000, 4), write(1, 0x1000, 4)];
-    offer(&rt, detector, &row);
-    reported(&rt, detector, 1);
-    expect(
-        &rt,
-        rt.alloc(),
-        detector,
+static RUNS: [Run; 8] = [
+    // A full table of sets refuses and changes nothing.
+    Run(
+        1,
+        &[
+            Step::Accepted(Line::Fork(0, 1)),
+            Step::Accepted(Line::Write(0, 0x1000, 4)),
+            Step::Unchanged(3, Line::Write(1, 0x1000, 4), Err(Refusal::FullSets)),
+            Step::Shows(Fact::Sets(1)),
+            Step::Verdict(3, Line::Write(1, 0x1000, 4), Verdict::Accept),
+        ],
+        &[],
+    ),
+    // With one set more it is reported.
+    Run(
+        2,
+        &[
+            Step::Accepted(Line::Fork(0, 1)),
+            Step::Accepted(Line::Write(0, 0x1000, 4)),
+            Step::Accepted(Line::Write(1, 0x1000, 4)),
+            Step::Shows(Fact::Reported(1)),
+            Step::Shows(Fact::Sets(2)),
+        ],
         &[Race(3, true, 1, 0x1000, &[0, 1])],
-    )?;
-    has_sets(&rt, detector, 2);
-    Ok(())
-}
-
-#[test]
-fn a_refused_access_leaves_the_sets_made_before(rt: HostRuntime) -> Result<(), Fail> {
-    let mut own = begin(rt.alloc(), 2)?;
-    let detector = &mut own.it;
-    let row = [fork(0, 1), lock(1, 7), write(0, 0x1000, 4)];
-    offer(&rt, detector, &row);
-    let before = picture_of(detector);
-    let next = named(4, write(1, 0x1000, 4));
-    answers(&rt, detector, &next, Err(Refusal::FullSets));
-    is_as(&rt, detector, &before);
-    is_set(&rt, detector, &[0, 1], 1);
-    answers(&rt, detector, &next, Err(Refusal::FullSets));
-    has_sets(&rt, detector, 2);
-    offer(&rt, detector, &[unlock(1, 7), write(1, 0x1000, 4)]);
-    reported(&rt, detector, 1);
-    Ok(())
-}
-
-#[test]
-fn answers_by_the_number_of_the_event(rt: HostRuntime) -> Result<(), Fail> {
-    let mut own = begin(rt.alloc(), 4)?;
-    let detector = &mut own.it;
-    offer(&rt, detector, &[read(0, 0x1000, 4)]);
-    let before = picture_of(detector);
-    let again = named(1, write(0, 0x1000, 4));
-    answers(&rt, detector, &again, Ok(Answer::Duplicate(1)));
-    let later = named(3, write(0, 0x1000, 4));
-    answers(&rt, detector, &later, Err(Refusal::Gap(2)));
-    let outside = named(2, write(0, 0xffff_ffff_ffff_ffff, 2));
-    answers(&rt, detector, &outside, Err(Refusal::AddressEnd));
-    is_as(&rt, detector, &before);
-    assert_eq!(rt; detector.last(1), 0);
-    Ok(())
-}
-
-#[test]
-fn keeps_the_threads_and_the_common_lock(rt: HostRuntime) -> Result<(), Fail> {
-    let mut own = begin(rt.alloc(), 4)?;
-    let detector = &mut own.it;
-    let row = [
-        fork(0, 1),
-        lock(0, 7),
-        write(0, 0x1000, 4),
-        unlock(0, 7),
-        lock(1, 7),
-        write(1, 0x1000, 4),
-        unlock(1, 7),
-    ];
-    offer(&rt, detector, &row);
-    reported(&rt, detector, 0);
-    assert_eq!(rt; detector.kept(), 0);
-    is_cell(&rt, detector, WORD, Cell::SharedModified(1, 2));
-    is_cell(&rt, detector, WORD + 1, Cell::New);
-    is_set(&rt, detector, &[0, 1], 1);
-    is_set(&rt, detector, &[7], 2);
-    Ok(())
-}
-
-#[test]
-fn shows_the_segments(rt: HostRuntime) -> Result<(), Fail> {
-    let mut own = begin(rt.alloc(), 4)?;
-    let detector = &mut own.it;
-    let row = [
-        fork(0, 1),
-        write(1, 0x1000, 4),
-        Event::Join { p: 0, c: 1 },
-        write(0, 0x1000, 4),
-    ];
-    offer(&rt, detector, &row);
-    reported(&rt, detector, 0);
-    expect_segments(&rt, detector.segments());
-    Ok(())
-}
-
-#[test]
-fn reports_each_word_once_until_an_alloc(rt: HostRuntime) -> Result<(), Fail> {
-    let mut own = begin(rt.alloc(), 4)?;
-    let detector = &mut own.it;
-    let row = [
-        fork(0, 1),
-        write(0, 0x13fc, 8),
-        write(1, 0x13fe, 4),
-        write(0, 0x13fc, 8),
-        Event::Alloc(Block {
-            t: 0,
-            at: 0x13ff,
-            len: 2,
-        }),
-    ];
-    offer(&rt, detector, &row);
-    assert_eq!(rt; picture_of(detector).cells, [Cell::New; 4]);
-    offer(&rt, detector, &[write(0, 0x13fc, 8), write(1, 0x1400, 1)]);
-    expect(
-        &rt,
-        rt.alloc(),
-        detector,
+    ),
+    // A refused access leaves the sets made before.
+    Run(
+        2,
+        &[
+            Step::Accepted(Line::Fork(0, 1)),
+            Step::Accepted(Line::Lock(1, 7)),
+            Step::Accepted(Line::Write(0, 0x1000, 4)),
+            Step::Unchanged(4, Line::Write(1, 0x1000, 4), Err(Refusal::FullSets)),
+            Step::Shows(Fact::Set(&[0, 1], 1)),
+            Step::Unchanged(4, Line::Write(1, 0x1000, 4), Err(Refusal::FullSets)),
+            Step::Shows(Fact::Sets(2)),
+            Step::Accepted(Line::Unlock(1, 7)),
+            Step::Accepted(Line::Write(1, 0x1000, 4)),
+            Step::Shows(Fact::Reported(1)),
+        ],
+        &[Race(5, true, 1, 0x1000, &[0, 1])],
+    ),
+    // It answers by the number of the event.
+    Run(
+        4,
+        &[
+            Step::Accepted(Line::Read(0, 0x1000, 4)),
+            Step::Unchanged(1, Line::Write(0, 0x1000, 4), Ok(Answer::Duplicate(1))),
+            Step::Unchanged(3, Line::Write(0, 0x1000, 4), Err(Refusal::Gap(2))),
+            Step::Unchanged(
+                2,
+                Line::Write(0, 0xffff_ffff_ffff_ffff, 2),
+                Err(Refusal::AddressEnd),
+            ),
+            Step::Shows(Fact::Last(1, 0)),
+        ],
+        &[],
+    ),
+    // It keeps the threads and the common lock.
+    Run(
+        4,
+        &[
+            Step::Accepted(Line::Fork(0, 1)),
+            Step::Accepted(Line::Lock(0, 7)),
+            Step::Accepted(Line::Write(0, 0x1000, 4)),
+            Step::Accepted(Line::Unlock(0, 7)),
+            Step::Accepted(Line::Lock(1, 7)),
+            Step::Accepted(Line::Write(1, 0x1000, 4)),
+            Step::Accepted(Line::Unlock(1, 7)),
+            Step::Shows(Fact::Reported(0)),
+            Step::Shows(Fact::Cell(WORD, Cell::SharedModified(1, 2))),
+            Step::Shows(Fact::Cell(WORD + 1, Cell::New)),
+            Step::Shows(Fact::Set(&[0, 1], 1)),
+            Step::Shows(Fact::Set(&[7], 2)),
+        ],
+        &[],
+    ),
+    // It shows the segments of a thread that forks one other and joins it.
+    Run(
+        4,
+        &[
+            Step::Accepted(Line::Fork(0, 1)),
+            Step::Accepted(Line::Write(1, 0x1000, 4)),
+            Step::Accepted(Line::Join(0, 1)),
+            Step::Accepted(Line::Write(0, 0x1000, 4)),
+            Step::Shows(Fact::Reported(0)),
+            Step::Shows(Fact::Segments(4)),
+            Step::Shows(Fact::Segment(0, 0, &[])),
+            Step::Shows(Fact::Segment(1, 1, &[0])),
+            Step::Shows(Fact::Segment(2, 0, &[0])),
+            Step::Shows(Fact::Segment(3, 0, &[1, 2])),
+        ],
+        &[],
+    ),
+    // It reports each word once until an alloc.
+    Run(
+        4,
+        &[
+            Step::Accepted(Line::Fork(0, 1)),
+            Step::Accepted(Line::Write(0, 0x13fc, 8)),
+            Step::Accepted(Line::Write(1, 0x13fe, 4)),
+            Step::Accepted(Line::Write(0, 0x13fc, 8)),
+            Step::Accepted(Line::Alloc(0, 0x13ff, 2)),
+            Step::Shows(Fact::Cell(WORD, Cell::New)),
+            Step::Shows(Fact::Cell(WORD + 1, Cell::New)),
+            Step::Shows(Fact::Cell(WORD + 0xff, Cell::New)),
+            Step::Shows(Fact::Cell(WORD + 0x100, Cell::New)),
+            Step::Accepted(Line::Write(0, 0x13fc, 8)),
+            Step::Accepted(Line::Write(1, 0x1400, 1)),
+        ],
         &[
             Race(3, true, 1, 0x13fc, &[0, 1]),
             Race(3, true, 1, 0x1400, &[0, 1]),
             Race(7, true, 1, 0x1400, &[0, 1]),
         ],
-    )?;
-    expect_last(&rt, rt.alloc(), detector, 7)?;
+    ),
+    // It takes holds.
+    Run(
+        4,
+        &[
+            Step::Held(1, HoldKind::Lock, Ok(Answer::Accepted)),
+            Step::Held(1, HoldKind::Lock, Ok(Answer::Duplicate(1))),
+            Step::Held(2, HoldKind::RdLock, Err(Refusal::AlreadyHeld)),
+            Step::Held(2, HoldKind::Unlock, Ok(Answer::Accepted)),
+        ],
+        &[],
+    ),
+];
+
+/// Takes a run from the empty trace on.
+fn take(rt: &impl Abort, alloc: Global, run: &Run) -> Result<(), Fail> {
+    assert!(rt; 1 <= run.0 && run.0 <= MOST_SETS);
+    let mut own = begin(alloc, run.0)?;
+    follow(rt, &mut own.it, run.1);
+    expect(rt, alloc, &own.it, run.2)?;
+    Ok(())
+}
+
+#[test]
+fn answers_each_step_of_worked_runs(rt: HostRuntime) -> Result<(), Fail> {
+    for run in &RUNS {
+        take(&rt, rt.alloc(), run)?;
+    }
+    Ok(())
+}
+
+/// A read of a word, and then a write to one of its bytes, which is sent twice.
+const TOUCHES: [Step; 3] = [
+    Step::Accepted(Line::Read(0, 0x1000, 4)),
+    Step::Touched(2, Ok(Answer::Accepted)),
+    Step::Touched(2, Ok(Answer::Duplicate(2))),
+];
+
+/// Whether the words that a detector lends are asked and reset.
+fn reset_words(rt: &impl Abort, detector: &mut Detector<PagedWords>) -> Result<(), Refusal>
+    requires { AtPresent AreWithin detector.old }
+{
+    let words = detector.words_mut();
+    assert!(rt; words.same(WORD, 1) == Some(Cell::Exclusive(0)));
+    assert!(rt; words.same(WORD, 2) == None);
+    words.keep(0x1000, 4)?;
+    words.reset(0x1000, 4);
     Ok(())
 }
 
 #[test]
 fn lends_its_words(rt: HostRuntime) -> Result<(), Fail> {
     let mut own = begin(rt.alloc(), 4)?;
-    let detector = &mut own.it;
-    offer(&rt, detector, &[read(0, 0x1000, 4)]);
-    let access = Access {
-        t: 0,
-        at: 0x1000,
-        len: 1,
-    };
-    assert_eq!(rt; detector.touch(0, 2, access, true), Ok(Answer::Accepted));
-    assert_eq!(rt;
-        detector.touch(0, 2, access, true),
-        Ok(Answer::Duplicate(2))
-    );
-    assert_eq!(rt;
-        detector.words_mut().same(WORD, 1),
-        Some(Cell::Exclusive(0))
-    );
-    assert_eq!(rt; detector.words_mut().same(WORD, 2), None);
-    let words = detector.words_mut();
-    words.keep(0x1000, 4)?;
-    words.reset(0x1000, 4);
-    is_cell(&rt, detector, WORD, Cell::New);
-    Ok(())
-}
-
-#[test]
-fn takes_holds(rt: HostRuntime) -> Result<(), Fail> {
-    let mut own = begin(rt.alloc(), 4)?;
-    let detector = &mut own.it;
-    let lock = Hold {
-        t: 0,
-        l: 7,
-        kind: HoldKind::Lock,
-    };
-    assert_eq!(rt; detector.hold(0, 1, lock), Ok(Answer::Accepted));
-    assert_eq!(rt; detector.hold(0, 1, lock), Ok(Answer::Duplicate(1)));
-    let read_lock = Hold {
-        kind: HoldKind::RdLock,
-        ..lock
-    };
-    assert_eq!(rt; detector.hold(0, 2, read_lock), Err(Refusal::AlreadyHeld));
-    let unlock = Hold {
-        kind: HoldKind::Unlock,
-        ..lock
-    };
-    assert_eq!(rt; detector.hold(0, 2, unlock), Ok(Answer::Accepted));
+    follow(&rt, &mut own.it, &TOUCHES);
+    reset_words(&rt, &mut own.it)?;
+    assert!(rt; shows(&own.it, Fact::Cell(WORD, Cell::New)));
     Ok(())
 }

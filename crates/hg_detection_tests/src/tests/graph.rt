@@ -1,9 +1,12 @@
-ghost use Rattle.std.specs.Prelude.{◌≡◌, ◌<◌, [], ◌∷◌, ◌++◌, IfOk};
+ghost use Rattle.std.specs.Prelude.{◌≡◌, ◌+◌, ◌<◌, ◌≤◌, [], ◌∷◌, ◌++◌, IfOk, false, length, true};
+ghost use Rattle.hg_graph.specs.Graph.{Opens, names};
 ghost use Rattle.hg_model.specs.Segments.{of_thread};
 ghost use Rattle.hg_detection_tests.specs.Earlier.{earlier};
 
 use crate::tests::own::Own;
 use hg_graph::Graph;
+use hg_model::event::Event;
+use hg_model::limits::MOST_SEGMENTS;
 use hg_model::segment::{Predecessors, Segment};
 use std::alloc::{AllocError, Global};
 use std::process::Abort;
@@ -18,17 +21,65 @@ fn begin(alloc: Global) -> Result<Own<Graph>, AllocError>
     })
 }
 
+/// Makes a fork, which opens these segments.
+fn fork(
+    rt: &impl Abort,
+    graph: &mut Graph,
+    p: u16,
+    c: u16,
+    opens: (u32, u32),
+) -> Result<(), AllocError>
+    requires parent { p < 1024 }
+    requires child { c < 1024 }
+    requires named { names graph.old p ≡ true }
+    requires fresh { names graph.old c ≡ false }
+    requires room { length graph.old + 2 ≤ MOST_SEGMENTS }
+    ensures { IfOk result (λ done. Opens graph.old (Event.Fork p c) graph.new) }
+{
+    let found = graph.fork(p, c)?;
+    assert!(rt; found == opens);
+    Ok(())
+}
+
+/// Makes a join, which opens this segment.
+fn join(rt: &impl Abort, graph: &mut Graph, p: u16, c: u16, opens: u32) -> Result<(), AllocError>
+    requires joiner { p < 1024 }
+    requires child { c < 1024 }
+    requires named { names graph.old p ≡ true }
+    requires room { length graph.old + 1 ≤ MOST_SEGMENTS }
+    ensures { IfOk result (λ done. Opens graph.old (Event.Join p c) graph.new) }
+{
+    let found = graph.join(p, c)?;
+    assert!(rt; found == opens);
+    Ok(())
+}
+
+/// Whether a segment reaches the present one of a thread.
+fn reaches_now(rt: &impl Abort, graph: &Graph, s: u32, t: u16, wanted: bool)
+    requires { t < 1024 }
+{
+    assert!(rt; graph.reaches_now(s, t) == wanted, "{s} {t}");
+}
+
+/// Whether a segment reaches another one.
+fn reaches(rt: &impl Abort, graph: &mut Graph, s: u32, g: u32, wanted: bool)
+    ensures { graph.new ≡ graph.old }
+{
+    assert!(rt; (g as usize) < graph.segments().len());
+    assert!(rt; graph.reaches(s, g) == wanted, "{s} {g}");
+}
+
 /// Thread 0 forks thread 1 and joins it: segment 1 is the child's, 2 and 3 are those that thread 0 goes on with.
 #[test]
 fn clocks_follow_a_fork_and_a_join(rt: HostRuntime) -> Result<(), Fail> {
     let mut own = begin(rt.alloc())?;
     let graph = &mut own.it;
-    assert_eq!(rt; graph.fork(0, 1)?, (1, 2));
-    assert!(rt; !graph.reaches_now(2, 1));
-    assert!(rt; graph.reaches_now(0, 1));
-    assert!(rt; !graph.reaches_now(1, 0));
-    assert_eq!(rt; graph.join(0, 1)?, 3);
-    assert!(rt; graph.reaches_now(1, 0));
+    fork(&rt, graph, 0, 1, (1, 2))?;
+    reaches_now(&rt, graph, 2, 1, false);
+    reaches_now(&rt, graph, 0, 1, true);
+    reaches_now(&rt, graph, 1, 0, false);
+    join(&rt, graph, 0, 1, 3)?;
+    reaches_now(&rt, graph, 1, 0, true);
     Ok(())
 }
 
@@ -48,31 +99,38 @@ const SEGMENTS: [Opened; 7] = [
 
 /// Whether these are the segments of the forks and joins below.
 fn expect_segments(rt: &impl Abort, segments: &[Segment]) {
-    assert_eq!(rt; segments.len(), SEGMENTS.len());
-    for (segment, wanted) in segments.iter().zip(SEGMENTS.iter()) {
-        assert_eq!(rt; segment.thread, wanted.0);
-        assert!(rt; segment.before.as_slice() == wanted.1);
+    assert!(rt; segments.len() == SEGMENTS.len());
+    for i in 0..SEGMENTS.len() {
+        assert!(rt; segments[i].thread == SEGMENTS[i].0, "{i}");
+        assert!(rt; segments[i].before.as_slice() == SEGMENTS[i].1, "{i}");
     }
 }
 
 /// Thread 0 forks thread 1, which forks thread 2; thread 1 joins thread 2, and thread 0 joins thread 1.
+fn fork_twice_and_join(rt: &impl Abort, graph: &mut Graph) -> Result<(), AllocError>
+    requires { graph.old ≡ of_thread 0 [] ∷ [] }
+{
+    fork(rt, graph, 0, 1, (1, 2))?;
+    fork(rt, graph, 1, 2, (3, 4))?;
+    assert!(rt; graph.present(1) == 4);
+    reaches(rt, graph, 1, 3, true);
+    reaches(rt, graph, 2, 3, false);
+    reaches_now(rt, graph, 3, 1, false);
+    join(rt, graph, 1, 2, 5)?;
+    reaches_now(rt, graph, 3, 1, true);
+    reaches_now(rt, graph, 3, 0, false);
+    join(rt, graph, 0, 1, 6)
+}
+
 #[test]
 fn follows_forks_and_joins(rt: HostRuntime) -> Result<(), Fail> {
     let mut own = begin(rt.alloc())?;
     let graph = &mut own.it;
-    assert_eq!(rt; graph.fork(0, 1)?, (1, 2));
-    assert_eq!(rt; graph.fork(1, 2)?, (3, 4));
-    assert_eq!(rt; graph.present(1), 4);
-    assert!(rt; graph.reaches(1, 3));
-    assert!(rt; !graph.reaches(2, 3));
-    assert!(rt; !graph.reaches_now(3, 1));
-    assert_eq!(rt; graph.join(1, 2)?, 5);
-    assert!(rt; graph.reaches_now(3, 1));
-    assert!(rt; !graph.reaches_now(3, 0));
-    assert_eq!(rt; graph.join(0, 1)?, 6);
-    assert!(rt; graph.reaches_now(3, 0));
-    assert!(rt; graph.reaches(6, 6));
-    assert_eq!(rt; graph.thread_of(3), 2);
+    fork_twice_and_join(&rt, graph)?;
+    reaches_now(&rt, graph, 3, 0, true);
+    reaches(&rt, graph, 6, 6, true);
+    assert!(rt; graph.segments().len() == 7);
+    assert!(rt; graph.thread_of(3) == 2);
     expect_segments(&rt, graph.segments());
     Ok(())
 }
@@ -130,9 +188,9 @@ fn restores_segments(rt: HostRuntime) -> Result<(), Fail> {
     expect_reached(&rt, graph, 1, &[0, 1]);
     expect_reached(&rt, graph, 2, &[0, 2, 4]);
     expect_reached(&rt, graph, 3, &[0]);
-    assert!(rt; graph.reaches(2, 4));
-    assert!(rt; !graph.reaches(1, 4));
-    assert_eq!(rt; graph.join(0, 2)?, 5);
+    reaches(&rt, graph, 2, 4, true);
+    reaches(&rt, graph, 1, 4, false);
+    join(&rt, graph, 0, 2, 5)?;
     expect_reached(&rt, graph, 0, &[0, 1, 2, 3, 4]);
     expect_reached(&rt, graph, 1, &[0, 1]);
     Ok(())

@@ -7,6 +7,8 @@ use hg_model::thread::ThreadState;
 use hg_model::verdict::{Refusal, Verdict};
 use hg_rules::judging::judge;
 use hg_rules::state::TraceState;
+use std::alloc::Global;
+use std::process::Abort;
 use std::test::Fail;
 
 /// A living thread that holds no lock.
@@ -38,6 +40,22 @@ fn first(event: Event) -> Named {
     }
 }
 
+/// The state of these parts, where no source sent an event.
+fn restored(
+    alloc: Global,
+    events: u64,
+    segments: u32,
+    threads: &[ThreadState],
+) -> Result<TraceState, Refusal> {
+    let last = vec![in alloc; 0; SOURCE_NUMBERS]?;
+    TraceState::restore(alloc, events, segments, threads, last)
+}
+
+/// Whether this is the verdict on an event.
+fn judges(rt: &impl Abort, state: &TraceState, named: &Named, verdict: Verdict) {
+    assert!(rt; judge(state, named) == verdict, "{:?}", named.event);
+}
+
 #[test]
 fn no_event_more_than_the_limit(rt: HostRuntime) -> Result<(), Fail> {
     let read = first(Event::Read(Access {
@@ -46,30 +64,45 @@ fn no_event_more_than_the_limit(rt: HostRuntime) -> Result<(), Fail> {
         len: 4,
     }));
     let threads = [thread(0)];
-    let last = vec![in rt.alloc(); 0; SOURCE_NUMBERS]?;
-    let full = TraceState::restore(rt.alloc(), MOST_EVENTS, 1, &threads, last)?;
-    assert_eq!(rt; full.events(), MOST_EVENTS);
-    assert_eq!(rt; judge(&full, &read), Verdict::Refuse(Refusal::FullEvents));
-    let last = vec![in rt.alloc(); 0; SOURCE_NUMBERS]?;
-    let room = TraceState::restore(rt.alloc(), MOST_EVENTS - 1, 1, &threads, last)?;
-    assert_eq!(rt; judge(&room, &read), Verdict::Accept);
+    let full = restored(rt.alloc(), MOST_EVENTS, 1, &threads)?;
+    assert!(rt; full.events() == MOST_EVENTS);
+    judges(&rt, &full, &read, Verdict::Refuse(Refusal::FullEvents));
+    let room = restored(rt.alloc(), MOST_EVENTS - 1, 1, &threads)?;
+    judges(&rt, &room, &read, Verdict::Accept);
     Ok(())
 }
 
 #[test]
 fn a_fork_needs_two_segments_and_a_join_one(rt: HostRuntime) -> Result<(), Fail> {
-    let threads = [thread(0), thread(1)];
-    let last = vec![in rt.alloc(); 0; SOURCE_NUMBERS]?;
-    let state = TraceState::restore(rt.alloc(), 0, 1_048_575, &threads, last)?;
+    let state = restored(rt.alloc(), 0, 1_048_575, &[thread(0), thread(1)])?;
     let fork = first(Event::Fork { p: 0, c: 2 });
-    assert_eq!(rt;
-        judge(&state, &fork),
-        Verdict::Refuse(Refusal::FullSegments)
-    );
+    judges(&rt, &state, &fork, Verdict::Refuse(Refusal::FullSegments));
     let join = first(Event::Join { p: 0, c: 1 });
-    assert_eq!(rt; judge(&state, &join), Verdict::Accept);
+    judges(&rt, &state, &join, Verdict::Accept);
     Ok(())
 }
+
+/// What is judged of events where the threads 1 and 5 have lock 7 in read mode.
+const JUDGED: [(Event, Verdict); 6] = [
+    (
+        Event::Lock { t: 0, l: 7 },
+        Verdict::Refuse(Refusal::LockBusy),
+    ),
+    (Event::RdLock { t: 0, l: 7 }, Verdict::Accept),
+    (Event::Unlock { t: 5, l: 7 }, Verdict::Accept),
+    (
+        Event::Unlock { t: 0, l: 7 },
+        Verdict::Refuse(Refusal::NotHeld),
+    ),
+    (
+        Event::Fork { p: 0, c: 5 },
+        Verdict::Refuse(Refusal::ChildUsed),
+    ),
+    (
+        Event::Fork { p: 2, c: 3 },
+        Verdict::Refuse(Refusal::NoThread),
+    ),
+];
 
 #[test]
 fn a_restored_state_knows_its_locks_and_numbers(rt: HostRuntime) -> Result<(), Fail> {
@@ -79,63 +112,55 @@ fn a_restored_state_knows_its_locks_and_numbers(rt: HostRuntime) -> Result<(), F
         *number = 9;
     }
     let state = TraceState::restore(rt.alloc(), 9, 5, &threads, last)?;
-    assert_eq!(rt; state.last(3), 9);
-    let cases = [
-        (
-            Event::Lock { t: 0, l: 7 },
-            Verdict::Refuse(Refusal::LockBusy),
-        ),
-        (Event::RdLock { t: 0, l: 7 }, Verdict::Accept),
-        (Event::Unlock { t: 5, l: 7 }, Verdict::Accept),
-        (
-            Event::Unlock { t: 0, l: 7 },
-            Verdict::Refuse(Refusal::NotHeld),
-        ),
-        (
-            Event::Fork { p: 0, c: 5 },
-            Verdict::Refuse(Refusal::ChildUsed),
-        ),
-        (
-            Event::Fork { p: 2, c: 3 },
-            Verdict::Refuse(Refusal::NoThread),
-        ),
-    ];
-    for (event, verdict) in cases {
-        assert_eq!(rt; judge(&state, &first(event)), verdict, "{event:?}");
+    assert!(rt; state.last(3) == 9);
+    for (event, verdict) in JUDGED {
+        judges(&rt, &state, &first(event), verdict);
     }
     let again = Named {
         source: 3,
         number: 9,
         event: Event::Lock { t: 0, l: 8 },
     };
-    assert_eq!(rt; judge(&state, &again), Verdict::Duplicate(9));
+    judges(&rt, &state, &again, Verdict::Duplicate(9));
     Ok(())
 }
 
+/// Whether these parts are refused as damaged: threads, and how many events, segments and sources there are.
+fn is_damaged(
+    rt: &impl Abort,
+    alloc: Global,
+    threads: &[ThreadState],
+    (events, segments, sources): (u64, u32, usize),
+) {
+    match vec![in alloc; 0; sources] {
+        Ok(last) => {
+            let refused = TraceState::restore(alloc, events, segments, threads, last);
+            assert!(rt; matches!(&refused, Err(Refusal::Damaged)));
+        }
+        Err(_) => assert!(rt; false),
+    }
+}
+
 #[test]
-fn parts_out_of_range_make_no_state(rt: HostRuntime) -> Result<(), Fail> {
+fn parts_out_of_range_make_no_state(rt: HostRuntime) {
     let alloc = rt.alloc();
-    let wrong: [&[ThreadState]; 5] = [
-        &[thread(1024)],
-        &[thread(1), thread(0)],
-        &[thread(0), thread(0)],
-        &[thread(0), holder(1, false, true)],
+    let counts = (0, 1, SOURCE_NUMBERS);
+    is_damaged(&rt, alloc, &[thread(1024)], counts);
+    is_damaged(&rt, alloc, &[thread(1), thread(0)], counts);
+    is_damaged(&rt, alloc, &[thread(0), thread(0)], counts);
+    is_damaged(&rt, alloc, &[thread(0), holder(1, false, true)], counts);
+    is_damaged(
+        &rt,
+        alloc,
         &[holder(0, true, false), holder(1, true, true)],
-    ];
-    for threads in wrong {
-        let last = vec![in alloc; 0; SOURCE_NUMBERS]?;
-        let refused = TraceState::restore(alloc, 0, 1, threads, last);
-        assert!(rt; matches!(&refused, Err(Refusal::Damaged)));
-    }
-    let threads = [thread(0)];
-    for (events, segments, sources) in [
+        counts,
+    );
+    is_damaged(
+        &rt,
+        alloc,
+        &[thread(0)],
         (MOST_EVENTS + 1, 1, SOURCE_NUMBERS),
-        (0, 1_048_577, SOURCE_NUMBERS),
-        (0, 1, SOURCE_NUMBERS - 1),
-    ] {
-        let last = vec![in alloc; 0; sources]?;
-        let refused = TraceState::restore(alloc, events, segments, &threads, last);
-        assert!(rt; matches!(&refused, Err(Refusal::Damaged)));
-    }
-    Ok(())
+    );
+    is_damaged(&rt, alloc, &[thread(0)], (0, 1_048_577, SOURCE_NUMBERS));
+    is_damaged(&rt, alloc, &[thread(0)], (0, 1, SOURCE_NUMBERS - 1));
 }

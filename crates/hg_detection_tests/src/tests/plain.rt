@@ -52,7 +52,7 @@ fn write(t: u16, at: u64, len: u8) -> Event
     Event::Write(Access { t, at, len })
 }
 
-fn alloc(t: u16, at: u64, len: u16) -> Event
+fn allocate(t: u16, at: u64, len: u16) -> Event
     ensures { result ≡ Event.Alloc (record { t = t; at = at; len = len }) }
 {
     Event::Alloc(Block { t, at, len })
@@ -105,19 +105,13 @@ fn expect(rt: &impl Abort, alloc: Global, events: &[Event], races: &[Race]) -> R
 
 #[test]
 fn unordered_writes_race(rt: HostRuntime) -> Result<(), Fail> {
-    let events = [fork(0, 1), write(0, 0x1000, 4), write(1, 0x1000, 4)];
-    expect(
-        &rt,
-        rt.alloc(),
-        &events,
-        &[Race(3, true, 1, 0x1000, &[0, 1])],
-    )
-}
+    let alloc = rt.alloc();
+    let race = [fork(0, 1), write(0, 0x1000, 4), write(1, 0x1000, 4)];
+    expect(&rt, alloc, &race, &[Race(3, true, 1, 0x1000, &[0, 1])])?;
 
-#[test]
-fn a_fork_passes_ownership_on(rt: HostRuntime) -> Result<(), Fail> {
-    let events = [write(0, 0x1000, 4), fork(0, 1), write(1, 0x1000, 4)];
-    expect(&rt, rt.alloc(), &events, &[])
+    // A fork passes ownership on.
+    let forked = [write(0, 0x1000, 4), fork(0, 1), write(1, 0x1000, 4)];
+    expect(&rt, alloc, &forked, &[])
 }
 
 #[test]
@@ -131,6 +125,7 @@ fn a_join_passes_ownership_on(rt: HostRuntime) -> Result<(), Fail> {
     expect(&rt, rt.alloc(), &events, &[])
 }
 
+/// And the state has the threads and the common lock.
 #[test]
 fn a_common_lock_is_no_race(rt: HostRuntime) -> Result<(), Fail> {
     let events = [
@@ -141,6 +136,34 @@ fn a_common_lock_is_no_race(rt: HostRuntime) -> Result<(), Fail> {
         lock(1, 7),
         write(1, 0x1000, 4),
         unlock(1, 7),
+    ];
+    expect(&rt, rt.alloc(), &events, &[])?;
+    expect_modified(&rt, rt.alloc(), &events)
+}
+
+#[test]
+fn a_read_lock_does_not_count_for_a_write(rt: HostRuntime) -> Result<(), Fail> {
+    let events = [
+        fork(0, 1),
+        write(0, 0x1000, 4),
+        rdlock(1, 5),
+        write(1, 0x1000, 4),
+    ];
+    expect(
+        &rt,
+        rt.alloc(),
+        &events,
+        &[Race(4, true, 1, 0x1000, &[0, 1])],
+    )
+}
+
+#[test]
+fn the_lockset_begins_at_the_sharing_point(rt: HostRuntime) -> Result<(), Fail> {
+    let events = [
+        fork(0, 1),
+        write(0, 0x1000, 4),
+        lock(1, 7),
+        write(1, 0x1000, 4),
     ];
     expect(&rt, rt.alloc(), &events, &[])
 }
@@ -164,18 +187,19 @@ fn shared_reads_and_then_a_write(rt: HostRuntime) -> Result<(), Fail> {
 }
 
 #[test]
-fn a_read_lock_does_not_count_for_a_write(rt: HostRuntime) -> Result<(), Fail> {
+fn a_read_is_reported_once_a_word_was_written(rt: HostRuntime) -> Result<(), Fail> {
     let events = [
         fork(0, 1),
+        lock(1, 7),
         write(0, 0x1000, 4),
-        rdlock(1, 5),
         write(1, 0x1000, 4),
+        read(0, 0x1000, 4),
     ];
     expect(
         &rt,
         rt.alloc(),
         &events,
-        &[Race(4, true, 1, 0x1000, &[0, 1])],
+        &[Race(5, false, 0, 0x1000, &[0, 1])],
     )
 }
 
@@ -195,28 +219,27 @@ fn each_overlapped_word_is_reported(rt: HostRuntime) -> Result<(), Fail> {
 
 #[test]
 fn reported_once_until_an_alloc(rt: HostRuntime) -> Result<(), Fail> {
+    let alloc = rt.alloc();
     let events = [
         fork(0, 1),
         write(0, 0x1000, 4),
         write(1, 0x1000, 4),
         write(0, 0x1000, 4),
-        alloc(0, 0x1000, 4),
+        allocate(0, 0x1000, 4),
         write(0, 0x1000, 4),
         write(1, 0x1000, 4),
     ];
     expect(
         &rt,
-        rt.alloc(),
+        alloc,
         &events,
         &[
             Race(3, true, 1, 0x1000, &[0, 1]),
             Race(7, true, 1, 0x1000, &[0, 1]),
         ],
-    )
-}
+    )?;
 
-#[test]
-fn reported_once_until_a_free(rt: HostRuntime) -> Result<(), Fail> {
+    // And until a free.
     let events = [
         fork(0, 1),
         write(0, 0x1000, 4),
@@ -227,40 +250,12 @@ fn reported_once_until_a_free(rt: HostRuntime) -> Result<(), Fail> {
     ];
     expect(
         &rt,
-        rt.alloc(),
+        alloc,
         &events,
         &[
             Race(3, true, 1, 0x1000, &[0, 1]),
             Race(6, true, 1, 0x1000, &[0, 1]),
         ],
-    )
-}
-
-#[test]
-fn the_lockset_begins_at_the_sharing_point(rt: HostRuntime) -> Result<(), Fail> {
-    let events = [
-        fork(0, 1),
-        write(0, 0x1000, 4),
-        lock(1, 7),
-        write(1, 0x1000, 4),
-    ];
-    expect(&rt, rt.alloc(), &events, &[])
-}
-
-#[test]
-fn a_read_is_reported_once_a_word_was_written(rt: HostRuntime) -> Result<(), Fail> {
-    let events = [
-        fork(0, 1),
-        lock(1, 7),
-        write(0, 0x1000, 4),
-        write(1, 0x1000, 4),
-        read(0, 0x1000, 4),
-    ];
-    expect(
-        &rt,
-        rt.alloc(),
-        &events,
-        &[Race(5, false, 0, 0x1000, &[0, 1])],
     )
 }
 
@@ -283,18 +278,4 @@ fn the_drawn_example(rt: HostRuntime) -> Result<(), Fail> {
         &events,
         &[Race(7, false, 1, 0x1000, &[0, 1])],
     )
-}
-
-#[test]
-fn the_state_has_the_threads_and_the_common_lock(rt: HostRuntime) -> Result<(), Fail> {
-    let events = [
-        fork(0, 1),
-        lock(0, 7),
-        write(0, 0x1000, 4),
-        unlock(0, 7),
-        lock(1, 7),
-        write(1, 0x1000, 4),
-        unlock(1, 7),
-    ];
-    expect_modified(&rt, rt.alloc(), &events)
 }

@@ -13,29 +13,35 @@ use std::{fs, io};
 #[derive(Clone, Copy)]
 struct Image<'a>(usize, Tear, &'a [u8]);
 
-/// Whether a disk's images are these.
-fn expect(rt: &impl Abort, disk: &MemDisk, images: &[Image]) -> Result<(), AllocError> {
-    for image in images {
-        assert!(rt; image.0 <= disk.calls().len());
-        let found = disk.image(image.0, image.1)?;
-        assert!(rt; found.as_slice() == image.2, "{} {:?}", image.0, image.1);
+/// Whether a disk has this image.
+fn has_image(rt: &impl Abort, disk: &MemDisk, image: &Image) -> bool {
+    assert!(rt; image.0 <= disk.calls().len());
+    match disk.image(image.0, image.1) {
+        Ok(found) => found.as_slice() == image.2,
+        Err(_) => false,
     }
-    Ok(())
+}
+
+/// Whether a disk's images are these.
+fn expect(rt: &impl Abort, disk: &MemDisk, images: &[Image]) {
+    for image in images {
+        assert!(rt; has_image(rt, disk, image), "{} {:?}", image.0, image.1);
+    }
 }
 
 /// A call that is answered Ok.
 fn done(rt: &impl Abort, answer: Result<(), DiskFault>) {
-    assert_eq!(rt; answer, Ok(()));
+    assert!(rt; answer.is_ok());
 }
 
 /// A call that failed.
 fn failed(rt: &impl Abort, answer: Result<(), DiskFault>) {
-    assert_eq!(rt; answer, Err(DiskFault));
+    assert!(rt; answer.is_err());
 }
 
 /// Whether a disk reads so.
 fn has(rt: &impl Abort, disk: &MemDisk, bytes: &[u8]) {
-    assert_eq!(rt; disk.bytes(), bytes);
+    assert!(rt; disk.bytes() == bytes);
 }
 
 /// Cuts a disk that is so long at least.
@@ -76,14 +82,13 @@ const OVERLAPPING: [Image; 19] = [
 ];
 
 #[test]
-fn tears_two_writes_that_overlap(rt: HostRuntime) -> Result<(), Fail> {
+fn tears_two_writes_that_overlap(rt: HostRuntime) {
     let mut disk = MemDisk::new(rt.alloc());
     done(&rt, disk.write_at(0, b"abcdef"));
     done(&rt, disk.sync());
     done(&rt, disk.write_at(1, b"XYZ"));
     done(&rt, disk.write_at(3, b"12"));
-    expect(&rt, &disk, &OVERLAPPING)?;
-    Ok(())
+    expect(&rt, &disk, &OVERLAPPING);
 }
 
 /// A disk with these bytes, durably.
@@ -116,7 +121,7 @@ fn tears_a_cut_and_a_write_above_the_end(rt: HostRuntime) -> Result<(), Fail> {
     done(&rt, disk.write_at(5, b"Z"));
     has(&rt, &disk, b"abc\0\0Z");
     done(&rt, disk.write_at(3, b"12345678"));
-    expect(&rt, &disk, &ABOVE_THE_END)?;
+    expect(&rt, &disk, &ABOVE_THE_END);
     Ok(())
 }
 
@@ -150,7 +155,7 @@ fn counts_calls_that_failed(rt: HostRuntime) -> Result<(), Fail> {
     done(&rt, disk.sync());
     failed(&rt, disk.write_at(1 << 62, b"far"));
     has(&rt, &disk, b"Wbcdef");
-    expect(&rt, &disk, &FAILED_CALLS)?;
+    expect(&rt, &disk, &FAILED_CALLS);
     Ok(())
 }
 
@@ -166,14 +171,14 @@ const fn answered(call: Call) -> Answered {
 fn keeps_its_calls(rt: HostRuntime) -> Result<(), Fail> {
     let mut disk = MemDisk::with_room(rt.alloc(), 3, 8)?;
     done(&rt, disk.write_at(4, b"1234"));
-    assert_eq!(rt; read_three(&rt, &mut disk, 3), Ok(*b"\x0012"));
+    assert!(rt; read_three(&rt, &mut disk, 3) == Ok(*b"\x0012"));
     done(&rt, disk.sync());
     let calls = [
         answered(Call::Write { at: 4, len: 4 }),
         answered(Call::Read),
         answered(Call::Sync),
     ];
-    assert_eq!(rt; disk.calls(), calls.as_slice());
+    assert!(rt; disk.calls() == calls.as_slice());
     Ok(())
 }
 
@@ -186,17 +191,21 @@ fn blows_once(rt: HostRuntime) {
     has(&rt, &once.into_inner(), b"abc");
 }
 
+/// A disk that stops amid a write that goes through it, after which each call fails.
+fn stopped(rt: &impl Abort, alloc: Global) -> MemDisk {
+    let mut stop = FuseDisk::stop(MemDisk::new(alloc), 2);
+    failed(rt, write_through(&mut stop, 0, b"abc"));
+    assert!(rt; read_three(rt, &mut stop, 0).is_err());
+    failed(rt, cut(rt, &mut stop, 1));
+    failed(rt, stop.sync());
+    stop.into_inner()
+}
+
 #[test]
-fn blows_for_good(rt: HostRuntime) -> Result<(), Fail> {
-    let mut stop = FuseDisk::stop(MemDisk::new(rt.alloc()), 2);
-    failed(&rt, write_through(&mut stop, 0, b"abc"));
-    assert_eq!(rt; read_three(&rt, &mut stop, 0), Err(DiskFault));
-    failed(&rt, cut(&rt, &mut stop, 1));
-    failed(&rt, stop.sync());
-    let disk = stop.into_inner();
+fn blows_for_good(rt: HostRuntime) {
+    let disk = stopped(&rt, rt.alloc());
     has(&rt, &disk, b"abc");
-    expect(&rt, &disk, &[Image(1, Tear::Lost, b"")])?;
-    Ok(())
+    expect(&rt, &disk, &[Image(1, Tear::Lost, b"")]);
 }
 
 /// A missing file reads as empty and can't be changed; a sync of it has nothing to do.
@@ -243,7 +252,7 @@ fn write_both<A: Disk, B: Disk>(rt: &impl Abort, state: &mut u64, one: &mut A, o
         *byte = next_below(state, 256) as u8;
     }
     let written = one.write_at(at, &bytes[..len]);
-    assert_eq!(rt; written, other.write_at(at, &bytes[..len]));
+    assert!(rt; written == other.write_at(at, &bytes[..len]));
 }
 
 /// One random read of both disks.
@@ -256,38 +265,49 @@ fn read_both<A: Disk, B: Disk>(rt: &impl Abort, state: &mut u64, one: &mut A, ot
     let mut bytes = [0; 64];
     let mut back = [0; 64];
     let read = one.read_at(at, &mut bytes[..len]);
-    assert_eq!(rt; read, other.read_at(at, &mut back[..len]));
-    assert_eq!(rt; bytes, back);
+    assert!(rt; read == other.read_at(at, &mut back[..len]));
+    assert!(rt; bytes == back);
 }
 
 /// One random cut of both disks.
 fn cut_both<A: Disk, B: Disk>(rt: &impl Abort, state: &mut u64, one: &mut A, other: &mut B) {
     let at = next_below(state, 5000);
     if at <= one.len() && at <= other.len() {
-        assert_eq!(rt; one.cut(at), other.cut(at));
+        assert!(rt; one.cut(at) == other.cut(at));
     }
 }
 
 /// One random call on both disks, whose answers are to be equal. Half are writes, a quarter reads, few cuts and syncs.
 fn call_both<A: Disk, B: Disk>(rt: &impl Abort, state: &mut u64, one: &mut A, other: &mut B) {
-    assert_eq!(rt; one.len(), other.len());
+    assert!(rt; one.len() == other.len());
     match next_below(state, 64) {
         0..=31 => write_both(rt, state, one, other),
         32..=47 => read_both(rt, state, one, other),
         48 => cut_both(rt, state, one, other),
-        49 => assert_eq!(rt; one.sync(), other.sync()),
+        49 => assert!(rt; one.sync() == other.sync()),
         _ => {}
     }
 }
 
+/// Whether a file that is opened again has these bytes.
+fn reads_so(
+    rt: &impl Abort,
+    alloc: Global,
+    file: &mut FileDisk,
+    bytes: &[u8],
+) -> Result<(), AllocError> {
+    let mut back = Vec::from_elem(alloc, 0, bytes.len())?;
+    assert!(rt; file.len() == bytes.len() as u64);
+    done(rt, file.read_at(0, &mut back));
+    assert!(rt; back.as_slice() == bytes);
+    Ok(())
+}
+
 /// Whether the file at the path has these bytes.
 fn file_has(rt: &HostRuntime, abort: &impl Abort, bytes: &[u8]) -> Result<(), Fail> {
-    assert_eq!(abort; fs::read(rt, PATH)?.as_slice(), bytes);
+    assert!(abort; fs::read(rt, PATH)?.as_slice() == bytes);
     let mut again = open_file(rt)?;
-    let mut back = Vec::from_elem(rt.alloc(), 0, bytes.len())?;
-    assert!(abort; again.len() == bytes.len() as u64);
-    done(abort, again.read_at(0, &mut back));
-    assert_eq!(abort; back.as_slice(), bytes);
+    reads_so(abort, rt.alloc(), &mut again, bytes)?;
     Ok(())
 }
 
@@ -312,34 +332,56 @@ fn writes_a_file_as_memory(rt: HostRuntime) -> Result<(), Fail> {
     Ok(())
 }
 
-// Whatever memory is refused, the bytes are those of the writes that answered Ok, and so is the image of each moment.
-#[test]
-fn keeps_what_it_answered(rt: HostRuntime) -> Result<(), Fail> {
-    let mut disk = MemDisk::new(rt.alloc());
+/// Where three bytes are written, each with the number of its write from 1 on.
+const PLACES: [usize; 8] = [0, 5, 2, 9, 1, 14, 3, 20];
+
+/// Writes the next three bytes. Answers whether that was done.
+fn write_next(disk: &mut MemDisk, write: usize) -> bool
+    requires { write < 8 }
+{
+    let bytes = [write as u8 + 1; 3];
+    disk.write_at(PLACES[write] as u64, &bytes).is_ok()
+}
+
+/// Whether these are the bytes that the writes of the bits in `written` leave.
+fn are_of(rt: &impl Abort, bytes: &[u8], written: u8) {
     let mut file = [0; 24];
     let mut len = 0;
-    let mut files = [[0; 24]; 9];
-    let mut lens = [0; 9];
-    for i in 0..8 {
-        let at = [0, 5, 2, 9, 1, 14, 3, 20][i];
-        let bytes = [i as u8 + 1; 3];
-        if disk.write_at(at as u64, &bytes).is_ok() {
-            file[at..at + 3].copy_from_slice(&bytes);
+    for write in 0..8 {
+        if written >> write & 1 == 1 {
+            let at = PLACES[write];
+            file[at..at + 3].copy_from_slice(&[write as u8 + 1; 3]);
             len = len.max(at + 3);
         }
-        assert_eq!(rt; disk.bytes(), &file[..len.min(24)]);
-        let moment = disk.calls().len();
-        if moment < 9 {
-            files[moment] = file;
-            lens[moment] = len;
+    }
+    assert!(rt; bytes == &file[..len.min(24)]);
+}
+
+/// Whether an image is of these writes, if there is memory for it.
+fn image_is_of(rt: &impl Abort, disk: &MemDisk, moment: usize, written: u8) {
+    if moment <= disk.calls().len() {
+        if let Ok(image) = disk.image(moment, Tear::Kept) {
+            are_of(rt, image.as_slice(), written);
         }
     }
-    for k in 0..9 {
-        if k <= disk.calls().len() && lens[k] <= 24 {
-            if let Ok(image) = disk.image(k, Tear::Kept) {
-                assert_eq!(rt; image.as_slice(), &files[k][..lens[k]]);
-            }
+}
+
+// Whatever memory is refused, the bytes are those of the writes that answered Ok, and so is the image of each moment.
+#[test]
+fn keeps_what_it_answered(rt: HostRuntime) {
+    let mut disk = MemDisk::new(rt.alloc());
+    let mut written = 0u8;
+    let mut moments = [0u8; 9];
+    for write in 0..8 {
+        if write_next(&mut disk, write) {
+            written |= 1 << write;
+        }
+        are_of(&rt, disk.bytes(), written);
+        if let Some(moment) = moments.get_mut(disk.calls().len()) {
+            *moment = written;
         }
     }
-    Ok(())
+    for moment in 0..9 {
+        image_is_of(&rt, &disk, moment, moments[moment]);
+    }
 }

@@ -4,6 +4,7 @@ use hg_disk::MemDisk;
 use hg_journal::journal::{Journal, JournalReader};
 use hg_model::event::{Access, Block, Event, Named};
 use hg_model::verdict::Refusal;
+use std::alloc::Global;
 use std::process::Abort;
 use std::test::Fail;
 
@@ -36,6 +37,22 @@ fn events() -> [Named; 5] {
     ]
 }
 
+/// A journal with both batches.
+fn journal_of(
+    rt: &impl Abort,
+    alloc: Global,
+    events: &[Named; 5],
+) -> Result<Journal<MemDisk>, Refusal> {
+    match Journal::create(alloc, MemDisk::new(alloc)) {
+        Ok(mut journal) => {
+            assert!(rt; journal.append(&events[..3]).is_ok());
+            assert!(rt; journal.append(&events[3..]).is_ok());
+            Ok(journal)
+        }
+        Err((refusal, _)) => Err(refusal),
+    }
+}
+
 /// Whether so many are passed of at most `most`.
 fn expect_passed(
     rt: &impl Abort,
@@ -45,7 +62,7 @@ fn expect_passed(
     expected: u64,
 ) {
     let most = u64::from(most) + 1;
-    assert_eq!(rt; journal.pass(reader, most), Ok(expected));
+    assert!(rt; journal.pass(reader, most) == Ok(expected));
 }
 
 /// Whether this is read next.
@@ -55,31 +72,41 @@ fn expect_next(
     reader: &mut JournalReader,
     expected: Option<Named>,
 ) {
-    assert_eq!(rt; journal.next(reader), Ok(expected));
+    assert!(rt; journal.next(reader) == Ok(expected));
+}
+
+/// A call passes over what one batch has left, and no more than it was asked for.
+fn pass_batches(rt: &impl Abort, journal: &mut Journal<MemDisk>) -> Result<(), Refusal> {
+    let mut reader = journal.events()?;
+    expect_passed(rt, journal, &mut reader, 9, 3);
+    expect_passed(rt, journal, &mut reader, 9, 2);
+    expect_passed(rt, journal, &mut reader, 9, 0);
+    expect_next(rt, journal, &mut reader, None);
+    Ok(())
+}
+
+/// What stands behind events that were passed over one by one is read as it is.
+fn pass_events(
+    rt: &impl Abort,
+    journal: &mut Journal<MemDisk>,
+    passed: usize,
+    next: Option<Named>,
+) -> Result<(), Refusal> {
+    let mut reader = journal.events()?;
+    for _i in 0..passed {
+        expect_passed(rt, journal, &mut reader, 0, 1);
+    }
+    expect_next(rt, journal, &mut reader, next);
+    Ok(())
 }
 
 #[test]
 fn passes_over_records_of_each_length(rt: HostRuntime) -> Result<(), Fail> {
     let events = events();
-    let made = Journal::create(rt.alloc(), MemDisk::new(rt.alloc()));
-    let mut journal = made.map_err(|(refusal, _)| refusal)?;
-    assert_eq!(rt; journal.append(&events[..3]), Ok(()));
-    assert_eq!(rt; journal.append(&events[3..]), Ok(()));
-
-    // A call passes over what one batch has left, and no more than it was asked for.
-    let mut reader = journal.events()?;
-    expect_passed(&rt, &mut journal, &mut reader, 9, 3);
-    expect_passed(&rt, &mut journal, &mut reader, 9, 2);
-    expect_passed(&rt, &mut journal, &mut reader, 9, 0);
-    expect_next(&rt, &mut journal, &mut reader, None);
-
-    // What stands behind the events that were passed over is read as it is.
-    for passed in 1..6usize {
-        let mut reader = journal.events()?;
-        for _i in 0..passed {
-            expect_passed(&rt, &mut journal, &mut reader, 0, 1);
-        }
-        expect_next(&rt, &mut journal, &mut reader, events.get(passed).copied());
+    let mut journal = journal_of(&rt, rt.alloc(), &events)?;
+    pass_batches(&rt, &mut journal)?;
+    for passed in 1..6 {
+        pass_events(&rt, &mut journal, passed, events.get(passed).copied())?;
     }
     Ok(())
 }

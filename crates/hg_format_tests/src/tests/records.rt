@@ -27,10 +27,31 @@ fn puts_the_worked_record(rt: HostRuntime) -> Result<(), Fail> {
         event: Event::Fork { p: 0, c: 1 },
     };
     put_record(&fork, &mut out)?;
-    assert_eq!(rt; out.as_slice(), WORKED.as_slice());
-    assert_eq!(rt; read_record(WORKED.as_slice()), Some((fork, 15)));
-    assert_eq!(rt; record_len(WORKED.as_slice()), Some(15));
+    assert!(rt; out.as_slice() == WORKED.as_slice());
+    assert!(rt; read_record(WORKED.as_slice()) == Some((fork, 15)));
+    assert!(rt; record_len(WORKED.as_slice()) == Some(15));
     Ok(())
+}
+
+/// Whether nothing shorter than a record is one.
+fn expect_whole(rt: &impl Abort, record: &[u8]) {
+    for len in 0..record.len() {
+        assert!(rt; read_record(&record[..len]) == None);
+        assert!(rt; record_len(&record[..len]) == None);
+    }
+}
+
+/// Whether an event is read of bytes, and its record has so many of them.
+fn expect_read(rt: &impl Abort, bytes: &[u8], event: Event, len: usize) {
+    assert!(rt; read_record(bytes) == Some((named(event), len)));
+    assert!(rt; record_len(bytes) == Some(len));
+}
+
+/// The bytes of a record of this kind.
+fn spelling(alloc: Global, kind: u8, operands: &[u8]) -> Result<Vec<u8>, AllocError> {
+    let mut bytes = Vec::from_slice(alloc, &[1, 2, 3, 4, 5, 6, 7, 8, 9, 10, kind])?;
+    bytes.extend_from_slice(operands)?;
+    Ok(bytes)
 }
 
 /// Whether an event is spelled by its kind and then these bytes, and read again from there and from nothing shorter.
@@ -41,22 +62,14 @@ fn expect_spelled(
     event: Event,
     operands: &[u8],
 ) -> Result<(), AllocError> {
-    let mut expected = Vec::from_slice(alloc, &[1, 2, 3, 4, 5, 6, 7, 8, 9, 10, kind])?;
-    expected.extend_from_slice(operands)?;
+    let expected = spelling(alloc, kind, operands)?;
     let mut out = Vec::new(alloc);
     put_record(&named(event), &mut out)?;
-    assert_eq!(rt; out.as_slice(), expected.as_slice());
-    for len in 0..expected.len() {
-        assert_eq!(rt; read_record(&expected.as_slice()[..len]), None);
-        assert_eq!(rt; record_len(&expected.as_slice()[..len]), None);
-    }
-    assert_eq!(rt; record_len(expected.as_slice()), Some(expected.len()));
+    assert!(rt; out.as_slice() == expected.as_slice());
+    expect_whole(rt, &expected);
+    expect_read(rt, &expected, event, expected.len());
     out.extend_from_slice(b"more")?;
-    assert_eq!(rt;
-        read_record(out.as_slice()),
-        Some((named(event), expected.len()))
-    );
-    assert_eq!(rt; record_len(out.as_slice()), Some(expected.len()));
+    expect_read(rt, &out, event, expected.len());
     Ok(())
 }
 
@@ -100,8 +113,8 @@ fn reads_no_other_kind(rt: HostRuntime) {
         let mut bytes = [0u8; 23];
         bytes[10] = kind;
         let is_one = read_record(bytes.as_slice()).is_some();
-        assert_eq!(rt; is_one, 1 <= kind && kind <= 9);
+        assert!(rt; is_one == (1 <= kind && kind <= 9));
         let len = record_len(bytes.as_slice()).unwrap_or(0);
-        assert_eq!(rt; len, LENGTHS.get(usize::from(kind)).copied().unwrap_or(0));
+        assert!(rt; len == LENGTHS.get(usize::from(kind)).copied().unwrap_or(0));
     }
 }

@@ -2,9 +2,8 @@
 ghost use Rattle.std.specs.Prelude.{◌<◌};
 
 use hg_root::{Root, RootFault};
-use std::alloc::{AllocError, Global};
+use std::alloc::Global;
 use std::process::Abort;
-use std::test::Fail;
 
 /// One event, `fork 0 1` as number 1 of source 3, and then one checkpoint.
 const BODY: [u8; 97] = [
@@ -23,48 +22,52 @@ const STAYS: [u8; 97] = [
     0,
 ];
 
+/// Whether a root is the worked one.
+fn expect_worked(rt: &impl Abort, root: &Root) {
+    assert!(rt; root.number == 1);
+    assert!(rt; root.state.events() == 1);
+    assert!(rt; root.state.last(3) == 1);
+    assert!(rt; root.segments.len() == 3);
+    assert!(rt; root.sets.len() == 1);
+    assert!(rt; root.pages.len() == 0);
+}
+
 #[test]
-fn reads_the_worked_root(rt: HostRuntime) -> Result<(), Fail> {
+fn reads_the_worked_root(rt: HostRuntime) {
     match Root::decode(rt.alloc(), BODY.as_slice()) {
-        Ok(root) => {
-            assert_eq!(rt; root.number, 1);
-            assert_eq!(rt; root.state.events(), 1);
-            assert_eq!(rt; root.state.last(3), 1);
-            assert_eq!(rt; root.segments.len(), 3);
-            assert_eq!(rt; root.sets.len(), 1);
-            assert_eq!(rt; root.pages.len(), 0);
-        }
+        Ok(root) => expect_worked(&rt, &root),
         Err(_) => assert!(rt; false),
     }
-    Ok(())
 }
 
-/// Whether the body with one byte changed is a root's.
-fn is_root_with(rt: &impl Abort, alloc: Global, at: usize, value: u8) -> Result<bool, AllocError>
-    requires { at < 97 }
-{
-    let mut body = Vec::from_slice(alloc, BODY.as_slice())?;
-    body[at] = value;
-    match Root::decode(alloc, body.as_slice()) {
-        Ok(_) => Ok(true),
-        Err(RootFault::Damaged) => Ok(false),
-        Err(_) => {
-            assert!(rt; false);
-            Ok(false)
+/// Whether these bytes are a root's body.
+fn is_root(rt: &impl Abort, alloc: Global, body: &[u8]) -> bool {
+    match Root::decode(alloc, body) {
+        Ok(_) => true,
+        Err(fault) => {
+            assert!(rt; fault == RootFault::Damaged);
+            false
         }
     }
 }
 
+/// Whether the body with one byte changed is a root's just where `stays` says so.
+fn expect_judged(rt: &impl Abort, alloc: Global, at: usize, turned: u8, stays: bool)
+    requires { at < 97 }
+{
+    let mut body = BODY;
+    body[at] ^= turned;
+    assert!(rt;
+        is_root(rt, alloc, body.as_slice()) == stays,
+        "{at} {turned}"
+    );
+}
+
 #[test]
-fn changed_bytes_are_judged_as_by_the_other_reader(rt: HostRuntime) -> Result<(), Fail> {
+fn changed_bytes_are_judged_as_by_the_other_reader(rt: HostRuntime) {
     for at in 0..97 {
-        let byte = BODY[at];
-        let last = is_root_with(&rt, rt.alloc(), at, byte ^ 1)?;
-        let first = is_root_with(&rt, rt.alloc(), at, byte ^ 128)?;
-        let other = is_root_with(&rt, rt.alloc(), at, byte ^ 2)?;
-        assert_eq!(rt; last, STAYS[at] & 1 != 0);
-        assert_eq!(rt; first, STAYS[at] & 2 != 0);
-        assert_eq!(rt; other, STAYS[at] & 4 != 0);
+        expect_judged(&rt, rt.alloc(), at, 1, STAYS[at] & 1 != 0);
+        expect_judged(&rt, rt.alloc(), at, 128, STAYS[at] & 2 != 0);
+        expect_judged(&rt, rt.alloc(), at, 2, STAYS[at] & 4 != 0);
     }
-    Ok(())
 }

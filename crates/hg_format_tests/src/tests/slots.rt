@@ -131,24 +131,32 @@ const TEARS: [Tear; 6] = [
     Tear::Fill(b'?'),
 ];
 
-/// Whether each image after so many calls has these bytes at this place.
-fn each_image_has(
+/// Whether an image after so many calls has these bytes at this place.
+fn image_has(
     rt: &impl Abort,
     disk: &MemDisk,
-    calls: usize,
+    (calls, tear): (usize, Tear),
     at: usize,
     bytes: &[u8],
-) -> Result<(), AllocError> {
+) -> bool {
+    assert!(rt; calls <= disk.calls().len());
+    match disk.image(calls, tear) {
+        Ok(image) => match image.as_slice().split_at_checked(at) {
+            Some((_, back)) => back.starts_with(bytes),
+            None => false,
+        },
+        Err(_) => false,
+    }
+}
+
+/// Whether each image after so many calls has these bytes at this place.
+fn each_image_has(rt: &impl Abort, disk: &MemDisk, calls: usize, at: usize, bytes: &[u8]) {
     for tear in TEARS {
-        assert!(rt; calls <= disk.calls().len());
-        let image = disk.image(calls, tear)?;
-        let front = image.as_slice().split_at_checked(at);
         assert!(rt;
-            front.is_some_and(|parts| parts.1.starts_with(bytes)),
+            image_has(rt, disk, (calls, tear), at, bytes),
             "{calls} {tear:?}"
         );
     }
-    Ok(())
 }
 
 /// Page 4 in slot 0 and sealed; page 5 in slot 2, with a gap, and sealed; page 5 in slot 0, not sealed.
@@ -164,10 +172,10 @@ fn a_stop_leaves_the_other_slots(rt: HostRuntime) -> Result<(), Fail> {
     answers(&rt, file.write(0, &other), Ok(()));
     let disk = file.into_disks();
     for calls in 2..5 {
-        each_image_has(&rt, &disk, calls, 0, first.bytes())?;
+        each_image_has(&rt, &disk, calls, 0, first.bytes());
     }
     for calls in 4..6 {
-        each_image_has(&rt, &disk, calls, 2 * SLOT_LEN, other.bytes())?;
+        each_image_has(&rt, &disk, calls, 2 * SLOT_LEN, other.bytes());
     }
     Ok(())
 }
@@ -189,22 +197,32 @@ fn a_write_that_fails_leaves_the_other_slots(rt: HostRuntime) -> Result<(), Fail
     }
     let disk = file.into_disks();
     for calls in 2..5 {
-        each_image_has(&rt, &disk, calls, SLOT_LEN, first.bytes())?;
+        each_image_has(&rt, &disk, calls, SLOT_LEN, first.bytes());
     }
     Ok(())
 }
 
-/// What a read was refused for.
-fn refusal(read: Result<Page, SlotFault>) -> Option<SlotFault> {
-    match read {
+/// A file whose disk stops at some call.
+type Stopping = SlotFile<FuseDisk<MemDisk>>;
+
+/// Whether a page of three segments is read, or refused so.
+fn reads_page(
+    rt: &impl Abort,
+    file: &mut Stopping,
+    sets: &SetTable,
+    (slot, page): (u32, u64),
+    refusal: Option<SlotFault>,
+) {
+    let found = match file.read_page(slot, page, 3, sets) {
         Ok(_) => None,
         Err(fault) => Some(fault),
-    }
+    };
+    assert!(rt; found == refusal, "{slot} {page}");
 }
 
-/// Whether a slot was read.
-fn has_slot(rt: &impl Abort, read: Result<EncodedPage, SlotFault>, expected: &EncodedPage) {
-    match read {
+/// Whether slot 1 has this page.
+fn reads_slot(rt: &impl Abort, alloc: Global, file: &mut Stopping, expected: &EncodedPage) {
+    match file.read(alloc, 1) {
         Ok(found) => {
             assert!(rt; found.page() == expected.page() && found.bytes() == expected.bytes())
         }
@@ -212,21 +230,32 @@ fn has_slot(rt: &impl Abort, read: Result<EncodedPage, SlotFault>, expected: &En
     }
 }
 
+/// Writes page 4 to slot 1 and reads it. The sixth call of the disk fails, and all behind it.
+fn read_until_a_call_fails(
+    rt: &impl Abort,
+    alloc: Global,
+    file: &mut Stopping,
+    sets: &SetTable,
+    page: &EncodedPage,
+) {
+    answers(rt, file.write(1, page), Ok(()));
+    reads_page(rt, file, sets, (1, 4), None);
+    reads_slot(rt, alloc, file, page);
+    reads_page(rt, file, sets, (2, 4), Some(SlotFault::Damaged));
+    reads_page(rt, file, sets, (1, 5), Some(SlotFault::Damaged));
+    reads_page(rt, file, sets, (1, 4), Some(SlotFault::DeviceFault));
+    answers(rt, file.seal(), Err(WriteFault::DeviceFault));
+    answers(rt, file.write(0, page), Err(WriteFault::Broken));
+    answers(rt, file.seal(), Err(WriteFault::Broken));
+    reads_page(rt, file, sets, (1, 4), Some(SlotFault::Broken));
+}
+
 #[test]
 fn reads_what_was_written_until_a_call_fails(rt: HostRuntime) -> Result<(), Fail> {
     let sets = sets(rt.alloc())?;
     let encoded = EncodedPage::of(4, slot(rt.alloc())?);
     let mut file = SlotFile::attach(FuseDisk::stop(MemDisk::new(rt.alloc()), 5));
-    answers(&rt, file.write(1, &encoded), Ok(()));
-    assert!(rt; refusal(file.read_page(1, 4, 3, &sets)) == None);
-    has_slot(&rt, file.read(rt.alloc(), 1), &encoded);
-    assert!(rt; refusal(file.read_page(2, 4, 3, &sets)) == Some(SlotFault::Damaged));
-    assert!(rt; refusal(file.read_page(1, 5, 3, &sets)) == Some(SlotFault::Damaged));
-    assert!(rt; refusal(file.read_page(1, 4, 3, &sets)) == Some(SlotFault::DeviceFault));
-    answers(&rt, file.seal(), Err(WriteFault::DeviceFault));
-    answers(&rt, file.write(0, &encoded), Err(WriteFault::Broken));
-    answers(&rt, file.seal(), Err(WriteFault::Broken));
-    assert!(rt; refusal(file.read_page(1, 4, 3, &sets)) == Some(SlotFault::Broken));
+    read_until_a_call_fails(&rt, rt.alloc(), &mut file, &sets, &encoded);
     assert!(rt; file.into_disks().into_inner().bytes().len() == 2 * SLOT_LEN);
     Ok(())
 }
@@ -237,25 +266,51 @@ fn put(rt: &impl Abort, table: &mut Table, page: u64, slot: u32) -> Result<(), A
     table.set(page, slot)
 }
 
+/// Gives three pages slots, one of them two in turn.
+fn fill(rt: &impl Abort, table: &mut Table) -> Result<(), AllocError> {
+    table.reserve(3, 3)?;
+    put(rt, table, 9, 2)?;
+    put(rt, table, 4, 0)?;
+    put(rt, table, 1 << 53, 1)?;
+    put(rt, table, 9, 5)
+}
+
+/// Whether a table has the entries of those pages.
+fn is_filled(rt: &impl Abort, table: &Table) {
+    assert!(rt; table.entries() == [(4, 0), (9, 5), (1 << 53, 1)].as_slice());
+    assert!(rt; table.len() == 3 && table.get(9) == Some(5) && table.get(5) == None);
+}
+
+/// Takes the last page away.
+fn remove_last(rt: &impl Abort, table: &mut Table) {
+    assert!(rt; table.remove(1 << 53) == Some(1) && table.remove(7) == None);
+    assert!(rt; table.names(0) && !table.names(1) && !table.names(2) && table.names(5));
+}
+
+/// Whether a table that is made of another's entries has them.
+fn is_made_again(rt: &impl Abort, alloc: Global, table: &Table) -> Result<(), AllocError> {
+    let again = Table::from_entries(alloc, table.copy(alloc)?.into_entries())?;
+    assert!(rt; again.get(9) == Some(5) && again.names(0) && !again.names(1));
+    Ok(())
+}
+
+/// Which slots are free beside both tables.
+fn finds_free_slots(rt: &impl Abort, file: &SlotFile<MemDisk>, table: &Table, copy: &Table) {
+    assert!(rt; file.free_slot(&[]) == Some(0));
+    assert!(rt; file.free_slot(&[copy]) == Some(1));
+    assert!(rt; file.free_slot(&[copy, table]) == Some(2));
+    assert!(rt; file.free_slot_from(5, &[copy, table]) == Some(6));
+}
+
 #[test]
 fn a_table_names_slots(rt: HostRuntime) -> Result<(), Fail> {
     let mut table = Table::new(rt.alloc());
-    table.reserve(3, 3)?;
-    put(&rt, &mut table, 9, 2)?;
-    put(&rt, &mut table, 4, 0)?;
-    put(&rt, &mut table, 1 << 53, 1)?;
-    put(&rt, &mut table, 9, 5)?;
-    assert!(rt; table.entries() == [(4, 0), (9, 5), (1 << 53, 1)].as_slice());
-    assert!(rt; table.len() == 3 && table.get(9) == Some(5) && table.get(5) == None);
+    fill(&rt, &mut table)?;
+    is_filled(&rt, &table);
     let mut copy = table.copy(rt.alloc())?;
-    assert!(rt; copy.remove(1 << 53) == Some(1) && copy.remove(7) == None);
-    assert!(rt; copy.names(0) && !copy.names(1) && !copy.names(2) && copy.names(5));
-    let again = Table::from_entries(rt.alloc(), copy.copy(rt.alloc())?.into_entries())?;
-    assert!(rt; again.get(9) == Some(5) && again.names(0) && !again.names(1));
+    remove_last(&rt, &mut copy);
+    is_made_again(&rt, rt.alloc(), &copy)?;
     let file = SlotFile::attach(MemDisk::new(rt.alloc()));
-    assert!(rt; file.free_slot(&[]) == Some(0));
-    assert!(rt; file.free_slot(&[&copy]) == Some(1));
-    assert!(rt; file.free_slot(&[&copy, &table]) == Some(2));
-    assert!(rt; file.free_slot_from(5, &[&copy, &table]) == Some(6));
+    finds_free_slots(&rt, &file, &table, &copy);
     Ok(())
 }

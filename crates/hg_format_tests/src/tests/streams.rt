@@ -119,40 +119,49 @@ fn access_in_front(stream: &[u8], alloc: Global) -> Result<(Option<AccessLine>, 
     Ok((found, reader.lines()))
 }
 
+/// The line of `write 3 16 255` in 18 bytes.
+const WRITE: AccessLine = AccessLine {
+    is_write: true,
+    access: Access {
+        t: 3,
+        at: 16,
+        len: 255,
+    },
+    used: 18,
+};
+
+/// The line of `read 3 16 255` in 18 bytes.
+const READ: AccessLine = AccessLine {
+    is_write: false,
+    access: Access {
+        t: 3,
+        at: 16,
+        len: 255,
+    },
+    used: 18,
+};
+
+/// Streams, with the read or write that is taken in front of each, and how many lines are counted.
+static ACCESSES: [(&[u8], Option<AccessLine>, u64); 7] = [
+    (b"write 3 0x10 255\r\nread 5 32 8\n", Some(WRITE), 1),
+    (b"read 3 000016 255\n", Some(READ), 1),
+    // What is no whole line of a read or a write that fits its fields.
+    (b"read 5 32 256\n", None, 0),
+    (b"write 3 0x10 4", None, 0),
+    (b"lock 1 2\n", None, 0),
+    (b"# read 1 2 3\n", None, 0),
+    (b"", None, 0),
+];
+
 /// Reads and writes are taken where they stand whole in front, and nothing else is.
 #[test]
 fn takes_accesses_in_front(rt: HostRuntime) -> Result<(), Fail> {
-    let write = AccessLine {
-        is_write: true,
-        access: Access {
-            t: 3,
-            at: 16,
-            len: 255,
-        },
-        used: 18,
-    };
-    let found = access_in_front(b"write 3 0x10 255\r\nread 5 32 8\n", rt.alloc())?;
-    assert_eq!(rt; found, (Some(write), 1));
-    let read = AccessLine {
-        is_write: false,
-        ..write
-    };
-    let found = access_in_front(b"read 3 000016 255\n", rt.alloc())?;
-    assert_eq!(rt; found, (Some(read), 1));
-    for other in OTHERS {
-        assert_eq!(rt; access_in_front(other, rt.alloc())?, (None, 0));
+    for (stream, access, lines) in &ACCESSES {
+        let found = access_in_front(stream, rt.alloc())?;
+        assert!(rt; found == (*access, *lines), "{stream:?}");
     }
     Ok(())
 }
-
-/// What is no whole line of a read or a write that fits its fields.
-const OTHERS: [&[u8]; 5] = [
-    b"read 5 32 256\n",
-    b"write 3 0x10 4",
-    b"lock 1 2\n",
-    b"# read 1 2 3\n",
-    b"",
-];
 
 /// The event on a lock in front of a stream that goes on with a long comment, and how many lines were counted.
 fn hold_in_front(stream: &[u8], alloc: Global) -> Result<(Option<HoldLine>, u64), AllocError> {
@@ -163,29 +172,32 @@ fn hold_in_front(stream: &[u8], alloc: Global) -> Result<(Option<HoldLine>, u64)
     Ok((found, reader.lines()))
 }
 
+/// The line of `unlock 3 16` in 15 bytes.
+const UNLOCK: HoldLine = HoldLine {
+    hold: Hold {
+        t: 3,
+        l: 16,
+        kind: HoldKind::Unlock,
+    },
+    used: 15,
+};
+
+/// Streams, with the event on a lock that is taken in front of each, and how many lines are counted.
+static HOLDS: [(&[u8], Option<HoldLine>, u64); 5] = [
+    (b"unlock 3 0x10\r\nread 5 32 8\n", Some(UNLOCK), 1),
+    // What is no whole line of an event on a lock that fits its fields.
+    (b"lock 1 65536\n", None, 0),
+    (b"rdlock 1 2 3\n", None, 0),
+    (b"fork 1 2\n", None, 0),
+    (b"unlocks 1 2\n", None, 0),
+];
+
 /// Events on locks are taken where they stand whole in front, and nothing else is.
 #[test]
 fn takes_holds_in_front(rt: HostRuntime) -> Result<(), Fail> {
-    let unlock = HoldLine {
-        hold: Hold {
-            t: 3,
-            l: 16,
-            kind: HoldKind::Unlock,
-        },
-        used: 15,
-    };
-    let found = hold_in_front(b"unlock 3 0x10\r\nread 5 32 8\n", rt.alloc())?;
-    assert_eq!(rt; found, (Some(unlock), 1));
-    for other in NO_HOLDS {
-        assert_eq!(rt; hold_in_front(other, rt.alloc())?, (None, 0));
+    for (stream, hold, lines) in &HOLDS {
+        let found = hold_in_front(stream, rt.alloc())?;
+        assert!(rt; found == (*hold, *lines), "{stream:?}");
     }
     Ok(())
 }
-
-/// What is no whole line of an event on a lock that fits its fields.
-const NO_HOLDS: [&[u8]; 4] = [
-    b"lock 1 65536\n",
-    b"rdlock 1 2 3\n",
-    b"fork 1 2\n",
-    b"unlocks 1 2\n",
-];

@@ -10,69 +10,46 @@ use std::alloc::{AllocError, Global};
 use std::process::Abort;
 use std::test::Fail;
 
+/// Whether this is read of a line.
+fn reads(rt: &impl Abort, line: &[u8], wanted: Result<Event, LineFault>) {
+    assert!(rt; read_line(line) == wanted, "{line:?}");
+}
+
 #[test]
 fn reads_each_verb(rt: HostRuntime) {
-    let pair = (1, 65_535);
+    let (least, most) = (1, 65_535);
     let access = Access {
-        t: 65_535,
+        t: most,
         at: 0x1008,
         len: 255,
     };
     let block = Block {
         t: 0,
         at: u64::MAX,
-        len: 65_535,
+        len: most,
     };
-    let lines = [
-        (
-            b"fork 1 65535".as_slice(),
-            Event::Fork {
-                p: pair.0,
-                c: pair.1,
-            },
-        ),
-        (
-            b"join 1 65535".as_slice(),
-            Event::Join {
-                p: pair.0,
-                c: pair.1,
-            },
-        ),
-        (
-            b"lock 1 65535".as_slice(),
-            Event::Lock {
-                t: pair.0,
-                l: pair.1,
-            },
-        ),
-        (
-            b"rdlock 1 65535".as_slice(),
-            Event::RdLock {
-                t: pair.0,
-                l: pair.1,
-            },
-        ),
-        (
-            b"unlock 1 65535".as_slice(),
-            Event::Unlock {
-                t: pair.0,
-                l: pair.1,
-            },
-        ),
-        (b"read 65535 0x1008 255".as_slice(), Event::Read(access)),
-        (b"write 65535 4104 0xff".as_slice(), Event::Write(access)),
-        (
-            b"alloc 0 0xffffffffffffffff 65535".as_slice(),
-            Event::Alloc(block),
-        ),
-        (
-            b"free 0 18446744073709551615 65535".as_slice(),
-            Event::Free(block),
-        ),
-    ];
-    for (line, event) in lines {
-        assert_eq!(rt; read_line(line), Ok(event), "{line:?}");
-    }
+    let fork = Event::Fork { p: least, c: most };
+    let join = Event::Join { p: least, c: most };
+    let lock = Event::Lock { t: least, l: most };
+    let rdlock = Event::RdLock { t: least, l: most };
+    let unlock = Event::Unlock { t: least, l: most };
+    reads(&rt, b"fork 1 65535", Ok(fork));
+    reads(&rt, b"join 1 65535", Ok(join));
+    reads(&rt, b"lock 1 65535", Ok(lock));
+    reads(&rt, b"rdlock 1 65535", Ok(rdlock));
+    reads(&rt, b"unlock 1 65535", Ok(unlock));
+    reads(&rt, b"read 65535 0x1008 255", Ok(Event::Read(access)));
+    reads(&rt, b"write 65535 4104 0xff", Ok(Event::Write(access)));
+    reads(
+        &rt,
+        b"alloc 0 0xffffffffffffffff 65535",
+        Ok(Event::Alloc(block)),
+    );
+    reads(
+        &rt,
+        b"free 0 18446744073709551615 65535",
+        Ok(Event::Free(block)),
+    );
 }
 
 /// A read of one byte, and its address.
@@ -96,7 +73,7 @@ fn reads_numerals_of_each_form(rt: HostRuntime) {
     for numeral in NUMERALS {
         let at = numeral.1;
         let read = Event::Read(Access { t: 0, at, len: 1 });
-        assert_eq!(rt; read_line(numeral.0), Ok(read), "{:?}", numeral.0);
+        reads(&rt, numeral.0, Ok(read));
     }
 }
 
@@ -145,7 +122,7 @@ const FAULTS: [Told; 35] = [
 #[test]
 fn tells_the_first_fault(rt: HostRuntime) {
     for told in FAULTS {
-        assert_eq!(rt; read_line(told.0), Err(told.1), "{:?}", told.0);
+        reads(&rt, told.0, Err(told.1));
     }
 }
 
@@ -153,10 +130,10 @@ fn tells_the_first_fault(rt: HostRuntime) {
 fn tells_of_long_lines(rt: HostRuntime) -> Result<(), Fail> {
     let mut line = b"fork 0 ".to_vec(rt.alloc())?;
     line.resize(256, b'1')?;
-    assert_eq!(rt; read_line(&line), Err(LineFault::Number));
+    reads(&rt, &line, Err(LineFault::Number));
     line.push(b'1')?;
-    assert_eq!(rt; line.len(), 257);
-    assert_eq!(rt; read_line(&line), Err(LineFault::TooLong));
+    assert!(rt; line.len() == 257);
+    reads(&rt, &line, Err(LineFault::TooLong));
     Ok(())
 }
 
@@ -193,7 +170,7 @@ fn prints_lines(rt: HostRuntime) -> Result<(), Fail> {
     let greatest = (u64::MAX, false, 65_535, 0xfedc_ba98_7654_3210);
     put_race(rt.alloc(), u64::MAX, greatest, &[7], &mut out)?;
     put_end_line(3, 1, u64::MAX, &mut out)?;
-    assert_eq!(rt; out.as_slice(), PRINTED);
+    assert!(rt; out.as_slice() == PRINTED);
     Ok(())
 }
 
@@ -203,8 +180,8 @@ fn takes(rt: &impl Abort, splitter: &mut Splitter, text: &[u8], line: &[u8], num
 {
     assert!(rt; splitter.lines() < 4 && text.len() < 100);
     let used = splitter.take(text).unwrap_or(0);
-    assert_eq!(rt; splitter.last(), line);
-    assert_eq!(rt; splitter.lines(), number);
+    assert!(rt; splitter.last() == line);
+    assert!(rt; splitter.lines() == number);
     assert!(rt; splitter.is_between_lines());
     used
 }
@@ -219,7 +196,7 @@ fn splits_lines(rt: HostRuntime) -> Result<(), Fail> {
     assert!(rt; splitter.lines() < 4 && text.len() < 100);
     assert!(rt; splitter.take(text).is_none() && !splitter.is_between_lines());
     assert!(rt; splitter.lines() < 4 && splitter.finish());
-    assert_eq!(rt; splitter.last(), b"three".as_slice());
+    assert!(rt; splitter.last() == b"three".as_slice());
     assert!(rt; splitter.lines() == 4 && !splitter.finish());
     Ok(())
 }
