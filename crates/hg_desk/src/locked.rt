@@ -238,6 +238,7 @@ impl<D: Disk, A: Opening, B: Column> Core<D, A, B> {
         let Ok(segments) = self.store.graph() else {
             return refused(0, Refusal::Broken);
         };
+        // A store that tells its segments works, and tells both counts.
         let events = self.store.events().unwrap_or(0);
         let races = self.store.total().unwrap_or(0);
         let reports = match self.store.reports(alloc) {

@@ -167,7 +167,10 @@ fn directory<'a>(alloc: Global, required: bool) -> Arg<'a>
 
 /// A number that stands without a name.
 fn number<'a>(alloc: Global, name: &'a str, least: i64, most: i64, help: &'a str) -> Arg<'a>
-    ensures rule { rule_of result ≡ record (new_rule name.entry.now) { required = true; parser = Some (parser.Signed least most) } }
+    ensures rule { rule_of result ≡ record (new_rule name.entry.now) {
+      required = true;
+      parser = Some (parser.Signed least most);
+    } }
     ensures local { result.global ≡ false }
 {
     Arg::new(alloc, name)

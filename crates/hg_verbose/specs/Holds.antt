@@ -1,5 +1,5 @@
 -- Definition: what is told of locks that are held.
-use Rattle.std.specs.Prelude.{◌≡◌, ◌⊎◌, ◌+◌, true, false, ℕ, List, [], ◌∷◌, length}
+use Rattle.std.specs.Prelude.{◌≡◌, ◌⊎◌, ◌+◌, true, false, ℕ, List, [], ◌∷◌, length, Option, IfSome}
 use Rattle.std.specs.List.{AllByRecursion}
 use Rattle.hg_model.specs.declared.event.Event.{Event}
 use Rattle.hg_model.specs.declared.event.Event.TheVariants.{Lock, RdLock, Unlock}
@@ -15,6 +15,10 @@ Takes _ h = ⊥
 abbrev pub LetsGo : Event → Hold → Type 0
 LetsGo (Unlock t l) h = (h.thread ≡ t) × (h.lock ≡ l)
 LetsGo _ h = ⊥
+
+-- the hold is one of this thread and of this lock, each where it is given
+abbrev pub IsOf : Option ℕ → Option ℕ → Hold → Type 0
+IsOf thread lock h = IfSome thread (λ t. h.thread ≡ t) × IfSome lock (λ l. h.lock ≡ l)
 
 -- Of these events, the newest first, the one numbered `since` took the lock, and none behind it let it go.
 abbrev pub IsHeld : List Event → Hold → Type 0

@@ -3,7 +3,7 @@
 ghost use Rattle.std.specs.Prelude.{◌≡◌, ◌∷◌, ◌++◌, [], ◌==◌, ◌&&◌, not, IfSome};
 ghost use Rattle.std.specs.Bool.{OnTrue, OnFalse};
 ghost use Rattle.std.specs.List.{filter};
-ghost use Rattle.hg_verbose.specs.Holds.{HoldsFollow, IsHeld};
+ghost use Rattle.hg_verbose.specs.Holds.{HoldsFollow, IsHeld, IsOf};
 
 use hg_model::event::Event;
 use hg_trail::Trail;
@@ -52,7 +52,7 @@ fn add(list: &mut Vec<Hold>, hold: Hold) -> bool
 
 /// Whether a hold is one of a thread and of a lock, each where it is given.
 fn is_of(hold: &Hold, thread: Option<u16>, lock: Option<u16>) -> bool
-    ensures { OnTrue result (IfSome thread (λ t. hold.now.thread ≡ t) × IfSome lock (λ l. hold.now.lock ≡ l)) }
+    ensures { OnTrue result (IsOf thread lock hold.now) }
 {
     if let Some(thread) = thread {
         if hold.thread != thread {
@@ -140,7 +140,7 @@ impl Holds {
 
     /// The first hold of a thread, of a lock, or of both, and how many there are.
     fn held(&self, thread: Option<u16>, lock: Option<u16>) -> (Option<Hold>, usize)
-        ensures held { IfSome result.0 (λ h. IsHeld self.now h × (IfSome thread (λ t. h.thread ≡ t) × IfSome lock (λ l. h.lock ≡ l))) }
+        ensures held { IfSome result.0 (λ h. IsHeld self.now h × IsOf thread lock h) }
     {
         let first = self
             .list
