@@ -4,7 +4,7 @@
 # make quick    the tests that need no proof, on the built program, in about a minute
 # make scenarios  proves and builds the programs that run tests/scenarios, and runs them
 # make test     the gate: proves all crates from nothing, and tries what no proof says
-# make mutants  tries each wrong program that the gate leaves out (tools/mutants)
+# make mutants  tries each wrong program that the gate leaves out (dev/mutants)
 # make install  copies the program to PREFIX/bin (PREFIX is /usr/local, DESTDIR goes before it)
 # make recorder builds what records traces of pthread programs, at build/recorder (not proved; needs a C compiler)
 # make bench    speed and memory beside the yardstick (needs rustc)
@@ -28,7 +28,7 @@ run: build/hgd
 build: build/hgd
 
 build/hgd: $(SOURCES)
-	tools/build hgd
+	dev/build hgd
 	cp crates/hgd/out/hgd $@.new
 	mv $@.new $@
 
@@ -36,14 +36,14 @@ quick: build/hgd
 	tests/quick build/hgd
 
 scenarios:
-	tools/build hg_scenarios hg_log_scenarios
+	dev/build hg_scenarios hg_log_scenarios
 	tests/run-scenarios crates/hg_scenarios/out/hg_scenarios crates/hg_log_scenarios/out/hg_log_scenarios
 
 test:
 	tests/run-all
 
 mutants:
-	tools/mutants --all
+	dev/mutants --all
 
 install: build/hgd
 	install -D -m 755 build/hgd $(DESTDIR)$(PREFIX)/bin/hgd
