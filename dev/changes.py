@@ -1,7 +1,7 @@
 """Which crates a change touches: a module for dev/mutants.
 
 A crate is touched where its own text has changed, or what it can cite of a crate below: definitions, lemmas, types, signatures and
-contracts. The body of a function is cited by nobody, nor is the proof of one.
+contracts. The body of a function is cited by nobody, nor is the proof of one; and lines of comment mean nothing.
 """
 import re
 import subprocess
@@ -32,6 +32,12 @@ def without_bodies(text):
         elif opens:
             is_in_body = True
     return "\n".join(kept)
+
+
+def without_comments(file, text):
+    """Returns a file without the lines that are comments alone."""
+    mark = {".rt": "//", ".antt": "--"}.get(file[file.rfind(".") :])
+    return "\n".join(it for it in text.split("\n") if not mark or not it.lstrip().startswith(mark))
 
 
 def cited(file, text):
@@ -72,8 +78,10 @@ def touched(repository, base):
     own, told = set(), set()
     for file in changed_files(base):
         crate = file.split("/")[1]
-        own.add(crate)
-        if cited(file, now(file)) != cited(file, git("show", f"{base}:{file}")):
+        new, old = (without_comments(file, it) for it in (now(file), git("show", f"{base}:{file}")))
+        if new != old:
+            own.add(crate)
+        if cited(file, new) != cited(file, old):
             told.add(crate)
     before = lines_at(base)
     own |= {it for it, below in repository.lines.items() if before.get(it) != below}
