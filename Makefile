@@ -2,7 +2,7 @@
 # make run      proves and builds the program, and checks a trace that has a race
 # make build    leaves the proved program at build/hgd
 # make quick    the tests that need no proof, on the built program, in about a minute
-# make scenarios  proves and builds the programs that run tests/scenarios, and runs them
+# make scenarios  proves and builds the program that runs tests/scenarios, and runs them
 # make test     the gate: proves all crates from nothing, and tries what no proof says
 # make mutants  tries each wrong program that the gate leaves out (dev/mutants)
 # make install  copies the program to PREFIX/bin (PREFIX is /usr/local, DESTDIR goes before it)
@@ -36,8 +36,8 @@ quick: build/hgd
 	tests/quick build/hgd
 
 scenarios:
-	dev/build hg_scenarios hg_log_scenarios
-	tests/run-scenarios crates/hg_scenarios/out/hg_scenarios crates/hg_log_scenarios/out/hg_log_scenarios
+	dev/build hg_test_trials
+	tests/run-scenarios crates/hg_test_trials/out/hg_test_trials
 
 test:
 	tests/run-all

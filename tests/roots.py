@@ -1,5 +1,5 @@
 #!/usr/bin/env python3
-"""A reader and a writer of root bodies, root files and page slots, by docs/FORMATS.md alone. tests/formats compares hg_formats with it.
+"""A reader and a writer of root bodies, root files and page slots, by docs/FORMATS.md alone. tests/formats compares `hg_test_trials roots` with it.
 
 roots.py            checks itself: the worked root and slot in both directions, 1,000 random contents there and back, each change of a byte
 roots.py verdicts   prints, for each byte of the worked body and each other value, whether the change is a root's body

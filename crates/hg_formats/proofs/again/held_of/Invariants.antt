@@ -1,6 +1,0 @@
-use Rattle.std.specs.List.{AllByRecursion}
-use Rattle.hg_root.specs.Grammar.{LockFits}
-use Rattle.hg_formats.proofs.again.held_of.Given as goal
-
-abbrev pub invariant-loop-lock : goal.invariant-loop-lock
-invariant-loop-lock l = AllByRecursion LockFits l.held

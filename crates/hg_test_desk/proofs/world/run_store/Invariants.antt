@@ -1,0 +1,13 @@
+use Rattle.hg_test_desk.proofs.world.run_store.Given as goal
+
+abbrev pub ghosts-run_over-A-Ledger : goal.ghosts-run_over-A-Ledger
+ghosts-run_over-A-Ledger a = record { name = a.accepted.name; parts = a.accepted.parts }
+
+abbrev pub ghosts-run_over-A-Column : goal.ghosts-run_over-A-Column
+ghosts-run_over-A-Column a = record { opening = 0 }
+
+abbrev pub ghosts-run_over-B-Ledger : goal.ghosts-run_over-B-Ledger
+ghosts-run_over-B-Ledger a = record { name = a.durable.name; parts = a.durable.parts }
+
+abbrev pub ghosts-run_over-B-Column : goal.ghosts-run_over-B-Column
+ghosts-run_over-B-Column a = record { opening = a.store.durable }

@@ -1,0 +1,70 @@
+//! The four devices by name.
+
+use crate::words::Words;
+
+#[derive(Clone, Copy)]
+pub enum Device {
+    Journal,
+    Slots,
+    Root0,
+    Root1,
+}
+
+pub const DEVICES: [Device; 4] = [Device::Journal, Device::Slots, Device::Root0, Device::Root1];
+
+/// What there is of each device.
+#[derive(Drop)]
+pub struct PerDevice<T> {
+    pub journal: T,
+    pub slots: T,
+    pub root0: T,
+    pub root1: T,
+}
+
+impl<T> PerDevice<T> {
+    /// What there is of this device.
+    pub fn of(&self, device: Device) -> &T {
+        match device {
+            Device::Journal => &self.journal,
+            Device::Slots => &self.slots,
+            Device::Root0 => &self.root0,
+            Device::Root1 => &self.root1,
+        }
+    }
+
+    /// What there is of this device, to be changed.
+    pub fn of_mut(&mut self, device: Device) -> &mut T {
+        match device {
+            Device::Journal => &mut self.journal,
+            Device::Slots => &mut self.slots,
+            Device::Root0 => &mut self.root0,
+            Device::Root1 => &mut self.root1,
+        }
+    }
+}
+
+impl Device {
+    /// Its name.
+    pub fn name(self) -> &'static [u8] {
+        match self {
+            Device::Journal => b"journal",
+            Device::Slots => b"slots",
+            Device::Root0 => b"root0",
+            Device::Root1 => b"root1",
+        }
+    }
+}
+
+/// The device in front.
+pub fn read_device(words: &mut Words) -> Device {
+    match words.word() {
+        "journal" => Device::Journal,
+        "slots" => Device::Slots,
+        "root0" => Device::Root0,
+        "root1" => Device::Root1,
+        _ => {
+            words.fail();
+            Device::Journal
+        }
+    }
+}

@@ -1,0 +1,247 @@
+//! What the disks of a scenario have while nothing is open over them.
+
+use crate::answers::put_bytes;
+use crate::device::{DEVICES, Device, PerDevice, read_device};
+use crate::digits::bytes_of;
+use crate::disks::Disks;
+use crate::tears::tear;
+use crate::text::Text;
+use crate::words::{self, Halt, Words};
+use hg_disk::{FuseDisk, MemDisk, Tear};
+use std::alloc::{AllocError, Global};
+
+/// A disk of a scenario.
+pub type Held = FuseDisk<MemDisk>;
+
+/// When a disk fails: at the call after so many, or at all calls after so many.
+#[derive(Clone, Copy)]
+pub enum Fuse {
+    Once(u64),
+    On(u64),
+}
+
+/// More calls than are made.
+const NEVER: Fuse = Fuse::Once(u64::MAX);
+
+/// No disk fails.
+pub const NO_FUSES: PerDevice<Fuse> = PerDevice {
+    journal: NEVER,
+    slots: NEVER,
+    root0: NEVER,
+    root1: NEVER,
+};
+
+const NO_CALLS: PerDevice<u64> = PerDevice {
+    journal: 0,
+    slots: 0,
+    root0: 0,
+    root1: 0,
+};
+
+/// The bytes of the four devices.
+pub struct Image {
+    pub parts: PerDevice<Vec<u8>>,
+}
+
+impl Drop for Image {
+    fn drop(self) {
+        let Image { parts: _ } = self;
+    }
+}
+
+impl Image {
+    /// Four devices without a byte.
+    pub fn new(alloc: Global) -> Image {
+        Image {
+            parts: PerDevice {
+                journal: Vec::new(alloc),
+                slots: Vec::new(alloc),
+                root0: Vec::new(alloc),
+                root1: Vec::new(alloc),
+            },
+        }
+    }
+
+    pub fn clear(&mut self) {
+        self.parts.journal.clear();
+        self.parts.slots.clear();
+        self.parts.root0.clear();
+        self.parts.root1.clear();
+    }
+
+    /// Has the bytes of another one.
+    pub fn copy(&mut self, other: &Image) -> Result<(), AllocError> {
+        for device in DEVICES {
+            let bytes = self.parts.of_mut(device);
+            bytes.clear();
+            bytes.extend_from_slice(other.parts.of(device))?;
+        }
+        Ok(())
+    }
+}
+
+/// The most bytes of a disk to start from.
+const MOST_BYTES: usize = 1 << 62;
+
+/// A disk in memory with these bytes.
+fn memory_with(alloc: Global, bytes: Vec<u8>) -> Result<MemDisk, AllocError> {
+    if bytes.len() > MOST_BYTES {
+        return Err(AllocError);
+    }
+    MemDisk::holding(alloc, bytes)
+}
+
+/// A disk in memory with the bytes that digits spell. `None` says that they spell none, or too many, or that memory was refused.
+pub fn disk_of(alloc: Global, digits: &str) -> Option<MemDisk> {
+    memory_with(alloc, bytes_of(alloc, digits)?).ok()
+}
+
+/// A disk with these bytes that fails as the fuse says.
+pub fn disk_with(alloc: Global, bytes: &[u8], fuse: Fuse) -> Result<Held, AllocError> {
+    let disk = memory_with(alloc, Vec::from_slice(alloc, bytes)?)?;
+    Ok(match fuse {
+        Fuse::Once(after) => FuseDisk::once(disk, after.saturating_add(1)),
+        Fuse::On(after) => FuseDisk::stop(disk, after.saturating_add(1)),
+    })
+}
+
+/// The disks' bytes, how many calls each had, and when those that are opened next fail.
+#[derive(Drop)]
+pub struct Shelf {
+    pub image: Image,
+    pub calls: PerDevice<u64>,
+    pub fuses: PerDevice<Fuse>,
+    /// What a crash makes of what is not synced, as a disk is put back.
+    pub tear: Tear,
+}
+
+/// Copies what a crash leaves of a disk.
+pub fn copy_image(disk: &MemDisk, tear: Tear, bytes: &mut Vec<u8>) -> Result<(), AllocError> {
+    let image = disk.image(disk.calls().len(), tear)?;
+    bytes.clear();
+    bytes.extend_from_slice(&image)
+}
+
+/// Takes a disk back: its bytes, and how many calls it had.
+fn put_back(
+    disk: Held,
+    tear: Tear,
+    bytes: &mut Vec<u8>,
+    calls: &mut u64,
+) -> Result<(), AllocError> {
+    let disk = disk.into_inner();
+    *calls = disk.calls().len() as u64;
+    copy_image(&disk, tear, bytes)
+}
+
+/// All bytes, or with `from N count M` those of them.
+fn put_part(bytes: &[u8], words: &mut Words, out: &mut Text) -> Result<(), Halt> {
+    if words.rest().is_empty() {
+        put_bytes(bytes, out);
+        return Ok(());
+    }
+    words.expect("from ");
+    let from = words.number() as usize;
+    words.expect("count ");
+    let count = words.number() as usize;
+    words.check()?;
+    let behind = bytes.split_at(bytes.len().min(from)).1;
+    put_bytes(behind.split_at(behind.len().min(count)).0, out);
+    Ok(())
+}
+
+impl Shelf {
+    /// Four disks without a byte.
+    pub fn new(alloc: Global) -> Shelf {
+        Shelf {
+            image: Image::new(alloc),
+            calls: NO_CALLS,
+            fuses: NO_FUSES,
+            tear: Tear::Kept,
+        }
+    }
+
+    pub fn clear(&mut self) {
+        self.image.clear();
+        self.calls = NO_CALLS;
+        self.fuses = NO_FUSES;
+        self.tear = Tear::Kept;
+    }
+
+    /// A disk of its own for what is to be opened.
+    pub fn take(&mut self, alloc: Global, device: Device) -> Result<Held, AllocError> {
+        let fuse = *self.fuses.of(device);
+        *self.fuses.of_mut(device) = NEVER;
+        disk_with(alloc, self.image.parts.of(device), fuse)
+    }
+
+    /// Takes a disk back.
+    pub fn put(&mut self, device: Device, disk: Held) -> Result<(), AllocError> {
+        let bytes = self.image.parts.of_mut(device);
+        put_back(disk, self.tear, bytes, self.calls.of_mut(device))
+    }
+
+    /// Takes all four back.
+    pub fn put_all(&mut self, disks: Disks) -> Result<(), AllocError> {
+        let PerDevice {
+            journal,
+            slots,
+            root0,
+            root1,
+        } = disks.into_parts();
+        let journal = self.put(Device::Journal, journal);
+        let slots = self.put(Device::Slots, slots);
+        let root0 = self.put(Device::Root0, root0);
+        let root1 = self.put(Device::Root1, root1);
+        journal.and(slots).and(root0).and(root1)
+    }
+
+    /// `DEVICE call K once`, or `.. on`
+    pub fn fail(&mut self, text: &str) -> Result<(), Halt> {
+        let mut words = Words::of(text);
+        let device = read_device(&mut words);
+        words.expect("call ");
+        let before = words.number().saturating_sub(1);
+        let fuse = match words.rest() {
+            "once" => Fuse::Once(before),
+            "on" => Fuse::On(before),
+            _ => return Err(Halt::Words),
+        };
+        words.check()?;
+        *self.fuses.of_mut(device) = fuse;
+        Ok(())
+    }
+
+    /// `DEVICE BYTES`
+    pub fn set(&mut self, text: &str) -> Result<(), Halt> {
+        let mut words = Words::of(text);
+        let device = read_device(&mut words);
+        words.check()?;
+        let bytes = self.image.parts.of_mut(device);
+        bytes.clear();
+        words::put_bytes(words.rest(), bytes)
+    }
+
+    /// What a device that is closed has, or had: its bytes, how many, or how many calls.
+    pub fn tell(&self, word: &str, rest: &str, out: &mut Text) -> Result<(), Halt> {
+        let mut words = Words::of(rest);
+        let device = read_device(&mut words);
+        words.check()?;
+        let bytes = self.image.parts.of(device);
+        match word {
+            "bytes" => return put_part(bytes, &mut words, out),
+            "length" => out.put_decimal(bytes.len() as u64),
+            _ => out.put_decimal(*self.calls.of(device)),
+        }
+        Ok(())
+    }
+
+    /// Has each disk that is put back be torn as is told, until it is told otherwise.
+    pub fn tear_by(&mut self, text: &str) -> Result<(), Halt> {
+        let mut words = Words::of(text);
+        let tear = tear(&mut words);
+        words.check()?;
+        self.tear = tear;
+        Ok(())
+    }
+}

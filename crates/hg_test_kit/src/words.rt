@@ -1,0 +1,177 @@
+//! The words of a line.
+
+use crate::digits::byte_of;
+use hg_gate::GateFault;
+use hg_model::verdict::Refusal;
+use std::alloc::{AllocError, AllocFailed};
+
+/// Why a line has no other answer.
+#[derive(Clone, Copy)]
+pub enum Halt {
+    /// Memory was refused.
+    Memory,
+    /// It is not understood.
+    Words,
+    /// Nothing is open that it could be done with.
+    Closed,
+    /// A disk has bytes that should have none.
+    NotEmpty,
+    /// A store or a journal refused it.
+    Refused(Refusal),
+    /// A log or a gated file refused it.
+    Fault(GateFault),
+    /// What was answered up to then says why.
+    Said,
+}
+
+impl From<AllocError> for Halt {
+    fn from(_: AllocError) -> Halt {
+        Halt::Memory
+    }
+}
+
+impl<T: Drop> From<AllocFailed<T>> for Halt {
+    fn from(_: AllocFailed<T>) -> Halt {
+        Halt::Memory
+    }
+}
+
+impl From<Refusal> for Halt {
+    fn from(refusal: Refusal) -> Halt {
+        Halt::Refused(refusal)
+    }
+}
+
+impl From<GateFault> for Halt {
+    fn from(fault: GateFault) -> Halt {
+        Halt::Fault(fault)
+    }
+}
+
+/// The first word, and what follows the spaces after it.
+pub fn front(text: &str) -> (&str, &str) {
+    match text.split_once(' ') {
+        Some((word, rest)) => (word, rest.trim_start()),
+        None => (text, ""),
+    }
+}
+
+/// What is left of a line, word by word. Where it is not understood, that is noted, and nobody need ask before the end; what is read
+/// then means nothing.
+#[derive(Clone, Copy)]
+pub struct Words<'a> {
+    rest: &'a str,
+    is_understood: bool,
+}
+
+impl<'a> Words<'a> {
+    /// The words of a text.
+    pub fn of(text: &'a str) -> Words<'a> {
+        Words {
+            rest: text,
+            is_understood: true,
+        }
+    }
+
+    /// What is left.
+    pub fn rest(&self) -> &'a str {
+        self.rest
+    }
+
+    /// Notes that it is not understood.
+    pub fn fail(&mut self) {
+        self.is_understood = false;
+    }
+
+    /// Whether all was understood so far.
+    pub fn check(&self) -> Result<(), Halt> {
+        if self.is_understood {
+            Ok(())
+        } else {
+            Err(Halt::Words)
+        }
+    }
+
+    /// The word in front.
+    pub fn word(&mut self) -> &'a str {
+        let (word, rest) = front(self.rest);
+        self.rest = rest;
+        word
+    }
+
+    /// Whether these words stand in front. They are passed over then.
+    pub fn skip(&mut self, words: &str) -> bool {
+        match self.rest.strip_prefix(words) {
+            Some(rest) => {
+                self.rest = rest.trim_start();
+                true
+            }
+            None => false,
+        }
+    }
+
+    /// Passes over words that have to stand in front.
+    pub fn expect(&mut self, words: &str) {
+        if !self.skip(words) {
+            self.is_understood = false;
+        }
+    }
+
+    /// What was read, or `none` where that was not understood, which is noted.
+    fn read<T: Copy>(&mut self, read: Option<T>, none: T) -> T {
+        match read {
+            Some(value) => value,
+            None => {
+                self.is_understood = false;
+                none
+            }
+        }
+    }
+
+    /// The number in front.
+    pub fn number(&mut self) -> u64 {
+        let read = self.word().parse::<u64>().ok();
+        self.read(read, 0)
+    }
+
+    /// The number in front, which is below 2^16.
+    pub fn short_number(&mut self) -> u16 {
+        let read = u16::try_from(self.number()).ok();
+        self.read(read, 0)
+    }
+
+    /// The number in front, which is below 2^32.
+    pub fn wide_number(&mut self) -> u32 {
+        let read = u32::try_from(self.number()).ok();
+        self.read(read, 0)
+    }
+
+    /// The byte in front, two hexadecimal digits.
+    pub fn byte(&mut self) -> u8 {
+        let read = byte_of(self.word());
+        self.read(read, 0)
+    }
+}
+
+/// Appends the bytes that a word spells: `07` is one, `07*3` are three.
+fn put_repeated(word: &str, bytes: &mut Vec<u8>) -> Result<(), Halt> {
+    let (digits, count) = word.split_once('*').unwrap_or((word, "1"));
+    let Some(byte) = byte_of(digits) else {
+        return Err(Halt::Words);
+    };
+    let mut words = Words::of(count);
+    let count = words.number();
+    words.check()?;
+    for _ in 0..count {
+        bytes.push(byte)?;
+    }
+    Ok(())
+}
+
+/// Appends the bytes that words spell.
+pub fn put_bytes(words: &str, bytes: &mut Vec<u8>) -> Result<(), Halt> {
+    for word in words.split_whitespace() {
+        put_repeated(word, bytes)?;
+    }
+    Ok(())
+}

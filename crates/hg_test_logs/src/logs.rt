@@ -1,0 +1,166 @@
+//! What the lines of a scenario do with a log of batches. It stands on the disk of the journal.
+
+use hg_disk::Disk;
+use hg_gate::{Batch, Log, LogPlace};
+use hg_test_kit::answers::put_bytes;
+use hg_test_kit::device::Device;
+use hg_test_kit::shelf::{Held, Shelf};
+use hg_test_kit::text::Text;
+use hg_test_kit::words::{self, Halt, front};
+use std::alloc::{AllocError, Global};
+
+/// A log, if one is open, and where the batch stands that is read next.
+#[derive(Drop)]
+pub struct LogBench {
+    opened: Option<Log<Held>>,
+    place: Option<LogPlace>,
+}
+
+/// The most batches that are read at once.
+const MOST_BATCHES: u64 = 1_000_000;
+
+/// Appends a batch, behind a comma where it isn't the first.
+fn put_batch(batch: &Batch, out: &mut Text) {
+    if !out.bytes().is_empty() {
+        out.put(b", ");
+    }
+    put_bytes(batch.body(), out);
+}
+
+/// Appends all batches of a log, or `none`.
+fn put_batches(log: &mut Log<Held>, out: &mut Text) -> Result<(), Halt> {
+    let mut place = log.first_place()?;
+    for _ in 0..MOST_BATCHES {
+        match log.next_batch(&mut place)? {
+            Some(batch) => put_batch(&batch, out),
+            None => {
+                put_none(out);
+                return Ok(());
+            }
+        }
+    }
+    Ok(())
+}
+
+/// Says that there was no batch, if there was none.
+fn put_none(out: &mut Text) {
+    if out.bytes().is_empty() {
+        out.put(b"none");
+    }
+}
+
+/// Appends bytes as a batch.
+fn append(alloc: Global, log: &mut Log<Held>, rest: &str, out: &mut Text) -> Result<(), Halt> {
+    let mut body = Vec::new(alloc);
+    words::put_bytes(rest, &mut body)?;
+    match Batch::new(body) {
+        Ok(batch) => Ok(log.append(&batch)?),
+        Err(_) => {
+            out.put(b"no batch");
+            Ok(())
+        }
+    }
+}
+
+/// Appends the batch that is next, or `end`.
+fn put_next(log: &mut Log<Held>, place: &mut Option<LogPlace>, out: &mut Text) -> Result<(), Halt> {
+    let Some(place) = place else {
+        return Err(Halt::Closed);
+    };
+    match log.next_batch(place)? {
+        Some(batch) => put_bytes(batch.body(), out),
+        None => out.put(b"end"),
+    }
+    Ok(())
+}
+
+/// Makes a log on a disk without a byte, or attaches one. A refusal hands the disk back.
+fn open(alloc: Global, disk: Held, is_new: bool) -> Result<Log<Held>, (Halt, Held)> {
+    let opened = if is_new {
+        if disk.len() > 0 {
+            return Err((Halt::NotEmpty, disk));
+        }
+        Log::create(alloc, disk)
+    } else {
+        Log::attach(alloc, disk)
+    };
+    match opened {
+        Ok(log) => Ok(log),
+        Err((fault, disk)) => Err((Halt::Fault(fault), disk)),
+    }
+}
+
+impl LogBench {
+    pub fn new() -> LogBench {
+        LogBench {
+            opened: None,
+            place: None,
+        }
+    }
+
+    /// Has this log, or none.
+    fn put_opened(&mut self, opened: Option<Log<Held>>) {
+        self.opened = opened;
+        self.place = None;
+    }
+
+    pub fn clear(&mut self) {
+        self.put_opened(None);
+    }
+
+    /// Puts the disk back, if a log is open.
+    pub fn close(&mut self, shelf: &mut Shelf) -> Result<(), AllocError> {
+        match self.opened.take() {
+            Some(log) => shelf.put(Device::Journal, log.into_disks()),
+            None => Ok(()),
+        }
+    }
+
+    /// Makes or attaches a log, or puts the disk of a refused one back.
+    fn open(&mut self, alloc: Global, shelf: &mut Shelf, is_new: bool) -> Result<(), Halt> {
+        self.close(shelf)?;
+        match open(alloc, shelf.take(alloc, Device::Journal)?, is_new) {
+            Ok(log) => {
+                self.put_opened(Some(log));
+                Ok(())
+            }
+            Err((halt, disk)) => {
+                shelf.put(Device::Journal, disk)?;
+                Err(halt)
+            }
+        }
+    }
+
+    /// Does what a line asks of the open log.
+    fn work(&mut self, alloc: Global, word: &str, rest: &str, out: &mut Text) -> Result<(), Halt> {
+        let Some(log) = &mut self.opened else {
+            return Err(Halt::Closed);
+        };
+        match word {
+            "append" => append(alloc, log, rest, out),
+            "first" => {
+                self.place = Some(log.first_place()?);
+                Ok(())
+            }
+            "next" => put_next(log, &mut self.place, out),
+            "all" => put_batches(log, out),
+            _ => Err(Halt::Words),
+        }
+    }
+
+    /// Does what a line asks of a log.
+    pub fn perform(
+        &mut self,
+        alloc: Global,
+        shelf: &mut Shelf,
+        text: &str,
+        out: &mut Text,
+    ) -> Result<(), Halt> {
+        let (word, rest) = front(text);
+        match word {
+            "create" => self.open(alloc, shelf, true),
+            "attach" => self.open(alloc, shelf, false),
+            _ => self.work(alloc, word, rest, out),
+        }
+    }
+}

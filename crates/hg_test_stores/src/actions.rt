@@ -1,0 +1,121 @@
+//! What is done to a store, one action after another, and what it answers.
+
+use hg_detect::detector::Answer;
+use hg_model::event::Named;
+use hg_model::verdict::Refusal;
+use hg_pool::Put;
+use hg_store::steps::StorePhase;
+use hg_test_kit::answers::put_refusal;
+use hg_test_kit::events::put_events;
+use hg_test_kit::text::Text;
+use hg_test_kit::words::Halt;
+use std::alloc::Global;
+
+/// A step of a store. `Put` hands in the page of the job that was taken last.
+#[derive(Clone, Copy)]
+pub enum Action {
+    Offer(Named),
+    Commit,
+    Freeze,
+    Take,
+    Put,
+    Seal,
+    Prepare,
+    WriteRoot,
+    OpenRoot,
+}
+
+/// What an action was answered.
+#[derive(Clone, Copy)]
+pub enum Told {
+    Offered(Answer),
+    /// The count of the events that a commit made durable.
+    Committed(u64),
+    Done,
+    /// The page of the job that was taken.
+    Page(u64),
+    /// No page waits.
+    NoneWaits,
+    Put(Put),
+    /// The number of the root that was opened.
+    Root(u64),
+    WrongPhase(StorePhase),
+    Refused(Refusal),
+    /// No job was taken whose page could be handed in.
+    NoPage,
+    /// No store is open.
+    Closed,
+}
+
+/// The name of a phase.
+pub fn phase_name(phase: StorePhase) -> &'static [u8] {
+    match phase {
+        StorePhase::Idle => b"idle",
+        StorePhase::Pending => b"pending",
+        StorePhase::Flushing => b"flushing",
+        StorePhase::Sealed => b"sealed",
+        StorePhase::Prepared => b"prepared",
+        StorePhase::Written => b"written",
+    }
+}
+
+fn put_wrong_phase(phase: StorePhase, out: &mut Text) {
+    out.put(b"wrong phase ");
+    out.put(phase_name(phase));
+}
+
+/// What an action was answered, as text.
+pub fn put_told(told: Told, out: &mut Text) {
+    match told {
+        Told::Offered(Answer::Accepted) => out.put(b"accepted"),
+        Told::Offered(Answer::Duplicate(last)) => out.put_number(b"duplicate ", last),
+        Told::Committed(count) => out.put_decimal(count),
+        Told::Done => out.put(b"ok"),
+        Told::Page(page) => out.put_number(b"page ", page),
+        Told::NoneWaits => out.put(b"none"),
+        Told::Put(Put::Written) => out.put(b"written"),
+        Told::Put(Put::Stale) => out.put(b"stale"),
+        Told::Root(number) => out.put_number(b"root ", number),
+        Told::WrongPhase(phase) => put_wrong_phase(phase, out),
+        Told::Refused(refusal) => put_refusal(refusal, out),
+        Told::NoPage => out.put(b"no page"),
+        Told::Closed => out.put(b"nothing is open"),
+    }
+}
+
+/// The action of a word that names no event.
+fn action_of(word: &str) -> Result<Action, Halt> {
+    match word {
+        "commit" => Ok(Action::Commit),
+        "freeze" => Ok(Action::Freeze),
+        "take" => Ok(Action::Take),
+        "put" => Ok(Action::Put),
+        "seal" => Ok(Action::Seal),
+        "prepare" => Ok(Action::Prepare),
+        "write-root" => Ok(Action::WriteRoot),
+        "open-root" => Ok(Action::OpenRoot),
+        _ => Err(Halt::Words),
+    }
+}
+
+fn put_offers(alloc: Global, text: &str, actions: &mut Vec<Action>) -> Result<(), Halt> {
+    let mut events = Vec::new(alloc);
+    put_events(text, &mut events)?;
+    for event in events.iter() {
+        actions.push(Action::Offer(*event))?;
+    }
+    Ok(())
+}
+
+/// Appends the actions that a line names: a row of offers, or one step.
+pub fn put_actions(
+    alloc: Global,
+    word: &str,
+    rest: &str,
+    actions: &mut Vec<Action>,
+) -> Result<(), Halt> {
+    match word {
+        "offer" => put_offers(alloc, rest, actions),
+        _ => Ok(actions.push(action_of(word)?)?),
+    }
+}
