@@ -1,7 +1,9 @@
-//! Reads roots and page slots, and writes and stops their files, as standard input says, and prints what it found: a line for each line.
+//! Reads roots and page slots, writes and stops their files, and makes calls on disks, as standard input says, and prints what it
+//! found: a line for each line.
 #![tactic(auto)]
 
 mod again;
+mod disk_calls;
 mod disks;
 mod roots;
 mod slots;
@@ -9,16 +11,17 @@ mod stops;
 mod threads;
 
 use crate::again::tell_again;
+use crate::disk_calls::{tell_disk, tell_file_disk};
 use crate::roots::{tell_file, tell_newest, tell_root};
 use crate::slots::tell_slot;
 use crate::stops::{tell_pair, tell_slots, tell_stopped};
 use hg_text::{Text, front};
-use std::alloc::Global;
 use std::io;
 use std::process::ExitCode;
 
 /// Answers one line.
-fn answer(alloc: Global, line: &str, out: &mut Text) {
+fn answer(rt: &HostRuntime, line: &str, out: &mut Text) {
+    let alloc = rt.alloc();
     let (word, rest) = front(line);
     match word {
         "root" => tell_root(alloc, rest, out),
@@ -28,6 +31,8 @@ fn answer(alloc: Global, line: &str, out: &mut Text) {
         "slot" => tell_slot(alloc, rest, out),
         "slots" => tell_slots(alloc, rest, out),
         "pair" => tell_pair(alloc, rest, out),
+        "disk" => tell_disk(alloc, rest, out),
+        "file-disk" => tell_file_disk(rt, rest, out),
         "stopped" => tell_stopped(alloc, rest, out),
         _ => out.put(b"not understood"),
     }
@@ -39,7 +44,7 @@ fn run_input(rt: &HostRuntime) -> io::Result<()> {
     let text = io::read_to_string(alloc, rt.stdin())?;
     let mut out = Text::new(alloc);
     for line in text.as_str().lines() {
-        answer(alloc, line, &mut out);
+        answer(rt, line, &mut out);
     }
     out.print(&mut rt.stdout())
 }

@@ -23,7 +23,7 @@ fn tear_of(word: &str) -> Option<Tear> {
 }
 
 /// The tears that stand with commas between.
-fn tears_of(alloc: Global, words: &str) -> Option<Vec<Tear>> {
+pub fn tears_of(alloc: Global, words: &str) -> Option<Vec<Tear>> {
     let mut tears = Vec::new(alloc);
     for word in words.split(',') {
         tears.push(tear_of(word)?).ok()?;
@@ -32,7 +32,7 @@ fn tears_of(alloc: Global, words: &str) -> Option<Vec<Tear>> {
 }
 
 /// What a crash with this tear leaves of a disk after so many of its calls.
-fn put_image(disk: &MemDisk, calls: usize, tear: Tear, out: &mut Text) {
+pub fn put_image(disk: &MemDisk, calls: usize, tear: Tear, out: &mut Text) {
     if calls > disk.calls().len() {
         return;
     }

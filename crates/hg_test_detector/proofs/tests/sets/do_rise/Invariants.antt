@@ -1,6 +1,6 @@
 use Rattle.std.proofs.Common.{ℕ, ◌<◌, ◌+◌}
 use Rattle.std.specs.Prelude.{slice_index}
-use Rattle.hg_detection_tests.proofs.tests.sets.do_rise.Given as goal
+use Rattle.hg_test_detector.proofs.tests.sets.do_rise.Given as goal
 
 -- those before it rise
 abbrev pub invariant-loop-i : goal.invariant-loop-i

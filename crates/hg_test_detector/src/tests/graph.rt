@@ -1,7 +1,7 @@
 ghost use Rattle.std.specs.Prelude.{◌≡◌, ◌+◌, ◌<◌, ◌≤◌, [], ◌∷◌, ◌++◌, IfOk, false, length, true};
 ghost use Rattle.hg_graph.specs.Graph.{Opens, names};
 ghost use Rattle.hg_model.specs.Segments.{of_thread};
-ghost use Rattle.hg_detection_tests.specs.Earlier.{earlier};
+ghost use Rattle.hg_test_detector.specs.Earlier.{earlier};
 
 use crate::tests::own::Own;
 use hg_graph::Graph;
