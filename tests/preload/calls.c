@@ -7,6 +7,7 @@
  *   CALLS_STOP=N        it is stopped there, until it gets SIGCONT
  *   CALLS_READ_ONLY=1   files that are opened for writing, or to be made, answer EROFS
  *   CALLS_SHORT=N       a read or write of a standard stream takes N bytes at most
+ *   CALLS_ROOM=N        standard output takes N bytes in all, and then fails with ENOSPC
  *   CALLS_INTERRUPT=N   each N-th read or write of a standard stream is interrupted, with EINTR, and does nothing
  *   CALLS_TICK=1        a signal comes each millisecond, and interrupts a call that waits
  *
@@ -125,6 +126,24 @@ static size_t shortened(int fd, size_t len)
     return fd <= 2 && most && len > most ? most : len;
 }
 
+static size_t printed;
+
+/* How many bytes a write takes of so many, as long as standard output has room; less than 0 where it has none, with errno set. */
+static ssize_t roomy(int fd, size_t len)
+{
+    const char *text = getenv("CALLS_ROOM");
+    if (fd != 1 || !text)
+        return (ssize_t)shortened(fd, len);
+    size_t room = (size_t)atol(text) - printed;
+    if (room == 0 && len > 0) {
+        errno = ENOSPC;
+        return -1;
+    }
+    len = len < room ? len : room;
+    printed += len;
+    return (ssize_t)len;
+}
+
 #define REAL(name) ((__typeof__(&name))dlsym(RTLD_NEXT, #name))
 
 int open(const char *path, int flags, ...)
@@ -219,7 +238,8 @@ ssize_t read(int fd, void *buffer, size_t len)
 
 ssize_t write(int fd, const void *buffer, size_t len)
 {
-    ssize_t result = is_interrupted(fd) || fails(0) ? -1 : REAL(write)(fd, buffer, shortened(fd, len));
+    ssize_t taken = is_interrupted(fd) || fails(0) ? -1 : roomy(fd, len);
+    ssize_t result = taken < 0 ? -1 : REAL(write)(fd, buffer, (size_t)taken);
     int shown = len > 200 ? 200 : (int)len;
     while (shown > 0 && ((const char *)buffer)[shown - 1] == '\n')
         shown--;

@@ -1,5 +1,5 @@
-//! Tests of the detection crates over their public calls: each call once on its happy path, and worked traces. They stand
-//! here so that no crate is proved twice, once with its tests.
+//! Tests of the detection crates over public calls that no program shows one by one. They stand here so that no crate is
+//! proved twice, once with its tests.
 #![tactic(auto)]
 
 #[cfg(test)]

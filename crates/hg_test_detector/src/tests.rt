@@ -1,5 +1,4 @@
 mod cells;
-mod detect;
 mod graph;
 mod model;
 mod own;

@@ -13,7 +13,7 @@ use hg_test_kit::words::front;
 use std::alloc::Global;
 
 /// The tears that stand with commas between.
-fn tears_of(alloc: Global, words: &str) -> Option<Vec<Tear>> {
+pub fn tears_of(alloc: Global, words: &str) -> Option<Vec<Tear>> {
     let mut tears = Vec::new(alloc);
     for word in words.split(',') {
         tears.push(tear_of(word)?).ok()?;
@@ -22,7 +22,7 @@ fn tears_of(alloc: Global, words: &str) -> Option<Vec<Tear>> {
 }
 
 /// What a crash with this tear leaves of a disk after so many of its calls.
-fn put_image(disk: &MemDisk, calls: usize, tear: Tear, out: &mut Text) {
+pub fn put_image(disk: &MemDisk, calls: usize, tear: Tear, out: &mut Text) {
     if calls > disk.calls().len() {
         return;
     }

@@ -5,7 +5,7 @@
 //! | `store` | stores, by scenarios (tests/scenarios/README.md) | 0, or 1 where one failed |
 //! | `log` | logs, journals and gated files, by scenarios | 0, or 1 where one failed |
 //! | `conversations` | conversations with a store, line by line (tests/conversations) | 0 |
-//! | `roots` | roots and page slots, line by line (tests/formats) | 0 |
+//! | `roots` | roots, page slots and disks, line by line (tests/formats, tests/disks) | 0 |
 //! | `pool` | pools of pages, line by line (tests/pool) | 0 |
 //! | `pool-checks memory`, `pool-checks pool FRAMES EVERY` | a detector over one of two maps, by a trace (tests/pool-checks) | that of `hgd check` |
 //! | `--version` | nothing: the name of this program is printed | 0 |
@@ -20,7 +20,6 @@ use hg_test_logs::run_logs;
 use hg_test_pools::{Way, answer_pools, check, way_of};
 use hg_test_roots::answer_roots;
 use hg_test_stores::run_stores;
-use std::alloc::Global;
 use std::env;
 use std::io::{Read, Result};
 use std::process::ExitCode;
@@ -73,12 +72,13 @@ fn trial_of(words: &[String]) -> Option<Trial> {
 }
 
 /// Tries what is tried by lines of text, and answers whether all was right.
-fn answer(alloc: Global, trial: Trial, text: &str, out: &mut Text) -> bool {
+fn answer(rt: &HostRuntime, trial: Trial, text: &str, out: &mut Text) -> bool {
+    let alloc = rt.alloc();
     match trial {
         Trial::Store => return run_stores(alloc, text, out),
         Trial::Log => return run_logs(alloc, text, out),
         Trial::Conversations => run_conversations(alloc, text, out),
-        Trial::Roots => answer_roots(alloc, text, out),
+        Trial::Roots => answer_roots(rt, text, out),
         Trial::Pool => answer_pools(alloc, text, out),
         Trial::PoolChecks(_) => {}
         Trial::Version => out.put(b"hg_test_trials\n"),
@@ -87,12 +87,12 @@ fn answer(alloc: Global, trial: Trial, text: &str, out: &mut Text) -> bool {
 }
 
 /// Tries what is tried on the bytes of standard input, and answers the status.
-fn answer_bytes(alloc: Global, trial: Trial, input: &[u8], out: &mut Text) -> u8 {
+fn answer_bytes(rt: &HostRuntime, trial: Trial, input: &[u8], out: &mut Text) -> u8 {
     if let Trial::PoolChecks(way) = trial {
-        return check(alloc, way, input, out);
+        return check(rt.alloc(), way, input, out);
     }
     match str::from_utf8(input) {
-        Ok(text) if answer(alloc, trial, text, out) => 0,
+        Ok(text) if answer(rt, trial, text, out) => 0,
         _ => 1,
     }
 }
@@ -105,7 +105,7 @@ fn perform(rt: &HostRuntime, trial: Trial) -> Result<u8> {
         rt.stdin().read_to_end(&mut input)?;
     }
     let mut out = Text::new(alloc);
-    let status = answer_bytes(alloc, trial, &input, &mut out);
+    let status = answer_bytes(rt, trial, &input, &mut out);
     out.print(&mut rt.stdout())?;
     Ok(status)
 }

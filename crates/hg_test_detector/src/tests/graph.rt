@@ -70,6 +70,7 @@ fn reaches(rt: &impl Abort, graph: &mut Graph, s: u32, g: u32, wanted: bool)
 }
 
 /// Thread 0 forks thread 1 and joins it: segment 1 is the child's, 2 and 3 are those that thread 0 goes on with.
+// A test, since no program shows which segments reach which.
 #[test]
 fn clocks_follow_a_fork_and_a_join(rt: HostRuntime) -> Result<(), Fail> {
     let mut own = begin(rt.alloc())?;
@@ -122,6 +123,7 @@ fn fork_twice_and_join(rt: &impl Abort, graph: &mut Graph) -> Result<(), AllocEr
     join(rt, graph, 0, 1, 6)
 }
 
+// A test, since `reaches` of two past segments is asked by no program.
 #[test]
 fn follows_forks_and_joins(rt: HostRuntime) -> Result<(), Fail> {
     let mut own = begin(rt.alloc())?;
@@ -180,6 +182,7 @@ fn expect_reached(rt: &impl Abort, graph: &Graph, t: u16, reached: &[u32])
 }
 
 /// The present segments are 3, 1 and 4, and 0 for a thread that has none. The graph goes on as one that followed events.
+// A test, since a root's reader shows the segments, and not what they reach.
 #[test]
 fn restores_segments(rt: HostRuntime) -> Result<(), Fail> {
     let mut own = restored(rt.alloc())?;

@@ -56,6 +56,7 @@ fn judges(rt: &impl Abort, state: &TraceState, named: &Named, verdict: Verdict) 
     assert!(rt; judge(state, named) == verdict, "{:?}", named.event);
 }
 
+// A test, since no trace has 2^58 events.
 #[test]
 fn no_event_more_than_the_limit(rt: HostRuntime) -> Result<(), Fail> {
     let read = first(Event::Read(Access {
@@ -72,6 +73,7 @@ fn no_event_more_than_the_limit(rt: HostRuntime) -> Result<(), Fail> {
     Ok(())
 }
 
+// A test, since a trace has 1,023 forks at most.
 #[test]
 fn a_fork_needs_two_segments_and_a_join_one(rt: HostRuntime) -> Result<(), Fail> {
     let state = restored(rt.alloc(), 0, 1_048_575, &[thread(0), thread(1)])?;
@@ -104,6 +106,7 @@ const JUDGED: [(Event, Verdict); 6] = [
     ),
 ];
 
+// A test, since these parts come of no root: its segments and numbers are not theirs.
 #[test]
 fn a_restored_state_knows_its_locks_and_numbers(rt: HostRuntime) -> Result<(), Fail> {
     let threads = [thread(0), holder(1, true, false), holder(5, true, false)];
@@ -141,6 +144,7 @@ fn is_damaged(
     }
 }
 
+// A test, since a root's reader refuses such parts before a state is made.
 #[test]
 fn parts_out_of_range_make_no_state(rt: HostRuntime) {
     let alloc = rt.alloc();

@@ -40,6 +40,7 @@ fn answers(rt: &impl Abort, found: Option<u32>, wanted: Option<u32>) {
     assert!(rt; found == wanted);
 }
 
+// A test, since a pool shows only which page it evicts.
 #[test]
 fn keeps_keys_in_the_order_of_their_use(rt: HostRuntime) -> Result<(), Fail> {
     let mut own = three_keys(rt.alloc())?;

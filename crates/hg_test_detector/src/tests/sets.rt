@@ -120,6 +120,7 @@ fn take(rt: &impl Abort, alloc: Global, run: &Run) -> Result<(), AllocError> {
     Ok(())
 }
 
+// A test, since no program shows the numbers of sets by the calls that made them.
 #[test]
 fn answers_each_call_of_worked_runs(rt: HostRuntime) -> Result<(), Fail> {
     for run in &RUNS {

@@ -1,3 +1,0 @@
-mod commands;
-mod disks;
-mod memory;
