@@ -1,5 +1,5 @@
 -- What reading a whole text leads to, by the detector alone.
-use Rattle.std.proofs.Common.{◌≡◌, ◌<◌, ℕ, List, [], ◌∷◌, ◌++◌, Option, None, Some, Result, Ok, Err, refl, sym, ap, ◌∙◌, subst, inl, inr, ⊎_elim, arith}
+use Rattle.std.proofs.Common.{List, [], ◌++◌, Option, None, Some, Result, Ok, Err, refl, sym, ap, ◌∙◌, subst, inl, inr, ⊎_elim, arith}
 use Rattle.std.proofs.lemmas.List.{append-nil}
 use Rattle.hg_model.specs.declared.verdict.Refusal.{Refusal}
 use Rattle.hg_model.specs.Change.{empty_content}
@@ -9,18 +9,18 @@ use Rattle.hg_detect.specs.declared.detector.Detector.{Detector}
 use Rattle.hg_words.specs.declared.paged.PagedWords.{PagedWords}
 use Rattle.hg_detect.specs.Memory.{content_of}
 use Rattle.hg_streams.specs.declared.call.ReadCall.{ReadCall}
-use Rattle.hg_streams.specs.declared.call.ReadCall.TheVariants.{Gave}
 use Rattle.hg_streams.specs.declared.call.WriteCall.{WriteCall}
-use Rattle.hg_streams.specs.Calls.{ends_met, given}
+use Rattle.hg_streams.specs.Calls.{given}
 use Rattle.hg_wire.specs.declared.reader.Reading.{Reading}
 use Rattle.hg_wire.specs.Streams.{ended_readings, readings}
 use Rattle.hg_reading.specs.Taking.{AreDue, ReadBroke, WasRead}
-use Rattle.hg_check.specs.declared.checker.Ending.{Ending}
-use Rattle.hg_check.specs.declared.checker.Ending.TheVariants.{Ended}
+use Rattle.hg_reading.proofs.Inputs.{begins_with}
+use Rattle.hg_reading.specs.declared.ending.Ending.{Ending}
+use Rattle.hg_reading.specs.declared.ending.Ending.TheVariants.{Ended}
 use Rattle.hg_check.specs.Checking.{LeadsTo}
-use Rattle.hg_check.specs.Printing.{EndsBy, MayBe, ReadsTo}
+use Rattle.hg_check.specs.Printing.{EndsBy, ReadsTo}
 use Rattle.hg_check.specs.Running.{HasFew, HasReports, IsStart, LeadsFrom, ReportsGrow, Steps, StepsTaken}
-use Rattle.hg_check.specs.Taking.{ending_of}
+use Rattle.hg_reading.specs.Endings.{ending_of}
 use Rattle.hg_check.proofs.Steps.{leads_grow}
 
 -- ---- from a fresh detector
@@ -90,26 +90,13 @@ front_any d e lines (Ok None) later last end s few h = leads_grow later e.sets (
 front_any d e lines (Ok (Some x)) later last end s few h = s.front (λ is. absurd (cc)) later last end few h
 front_any d e lines (Err x) later last end s few h = s.front (λ is. absurd (cc)) later last end few h
 
-met_some : (reads earlier : List ReadCall) → reads ≡ Gave [] ∷ earlier → 0 < ends_met reads
-met_some reads earlier is = subst (λ t. 0 < ends_met t) (sym is) (omega arith)
-
-pub begins_with : (reads : List ReadCall) (lines : List Reading) (r : Result (Option Ending) Refusal) (input : List ℕ) → AreDue StepsTaken reads lines r → MayBe reads input
-    → (rest : List Reading) × (readings input ≡ lines ++ rest)
-begins_with reads lines r input due m =
-    ⊎_elim
-    (λ met. let none : m.more ≡ [] = m.over (met_some reads met.0 met.1) in
-    let is : input ≡ given met.0 = m.joined ∙ (ap (λ t. given reads ++ t) none ∙ (append-nil (given reads) ∙ (ap given met.1 ∙ append-nil (given met.0)))) in
-    ([], ap readings is ∙ (sym met.2 ∙ sym (append-nil lines))))
-    (λ stopped. let rest = stopped.1 m.more in (rest.0, ap readings m.joined ∙ rest.1))
-    due
-
 pub reports_read : (first now : List ReadCall) (d e : Detector PagedWords) (o p : List WriteCall) (r : Result (Option Ending) Refusal) → IsStart d → WasRead StepsTaken first now d o r e p
     → HasReports first now (content_of e)
 reports_read first now d e o p r fresh w = record {
   later = w.later;
   since = w.since;
   grows = λ input last end m l.
-      let rest = begins_with w.later w.lines r input w.due m in
+      let rest = begins_with StepsTaken w.later w.lines r input w.due m in
       front_any d e w.lines r rest.0 last end w.steps (fresh_few d fresh)
       (subst (λ xs. LeadsFrom d xs last end) rest.1 (from_fresh d (readings input) last end fresh l));
 }

@@ -3,18 +3,18 @@ use Rattle.std.proofs.Common.{◌≡◌, ℕ, ◌<◌, Bool, true, false, List, 
 use Rattle.std.proofs.lemmas.List.{append-nil}
 use Rattle.hg_streams.specs.declared.call.ReadCall.{ReadCall}
 use Rattle.hg_streams.specs.declared.call.WriteCall.{WriteCall}
-use Rattle.hg_streams.specs.Calls.{ends_met, given}
+use Rattle.hg_streams.specs.Calls.{ends_met, given, MayBe}
 use Rattle.hg_model.specs.Change.{empty_content}
 use Rattle.hg_model.specs.Contents.{Content}
 use Rattle.hg_sets.specs.Interning.{first_table}
 use Rattle.hg_wire.specs.Streams.{readings}
-use Rattle.hg_check.specs.declared.checker.Ending.{Ending}
+use Rattle.hg_reading.specs.declared.ending.Ending.{Ending}
 use Rattle.hg_check.specs.Checking.{ChecksTo}
-use Rattle.hg_check.specs.Printing.{EndsBy, MayBe, ReadsTo, WroteFront, check_text, graph_text, last_line, line_text}
-use Rattle.hg_check.specs.Written.{TookFront}
-use Rattle.hg_check.specs.Running.{live_text}
-use Rattle.hg_check.specs.Running.{HasReports}
-use Rattle.hg_check.proofs.Printed.{front_more, front_none}
+use Rattle.hg_check.specs.Printing.{EndsBy, ReadsTo, WroteFront, check_text, graph_text, last_line}
+use Rattle.hg_streams.specs.Texts.{line_text}
+use Rattle.hg_streams.specs.Written.{TookFront}
+use Rattle.hg_check.specs.Running.{live_text, HasReports}
+use Rattle.hg_streams.proofs.Printed.{front_more, front_none}
 use Rattle.hg_check.proofs.Growing.{live_text_grows}
 use Rattle.hg_check.proofs.Unique.{leads_to_one}
 

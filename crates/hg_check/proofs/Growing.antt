@@ -5,11 +5,10 @@ use Rattle.hg_streams.specs.declared.call.WriteCall.{WriteCall}
 use Rattle.hg_model.specs.declared.report.Report.{Report}
 use Rattle.hg_model.specs.Contents.{Content}
 use Rattle.hg_wire.specs.Reports.{report_line}
-use Rattle.hg_check.specs.Printing.{line_text, reports_text}
-use Rattle.hg_check.specs.Holding.{IsDue}
-use Rattle.hg_check.specs.Running.{live_text}
-use Rattle.hg_check.specs.Running.{ReportsGrow}
-use Rattle.hg_check.proofs.Printed.{due_more}
+use Rattle.hg_streams.specs.Texts.{line_text, reports_text}
+use Rattle.hg_streams.specs.Holding.{IsDue}
+use Rattle.hg_check.specs.Running.{live_text, ReportsGrow}
+use Rattle.hg_streams.proofs.Printed.{due_more}
 
 reports_text_on : (k : ℕ) (xs ys : List Report) → reports_text k (xs ++ ys) ≡ reports_text k xs ++ reports_text (k + length xs) ys
 reports_text_on k [] ys = let same : k ≡ k + 0 = omega arith in ap (λ (n : ℕ). reports_text n ys) same

@@ -15,9 +15,9 @@ use Rattle.hg_detect.specs.Making.{Asks, sets_asked}
 use Rattle.hg_wire.specs.declared.line.LineFault.{LineFault}
 use Rattle.hg_wire.specs.declared.reader.Reading.{Reading}
 use Rattle.hg_wire.specs.Streams.{readings}
-use Rattle.hg_check.specs.declared.checker.Ending.{Ending}
-use Rattle.hg_check.specs.declared.checker.Ending.TheVariants.{Bad, Ended, Refused}
+use Rattle.hg_reading.specs.declared.ending.Ending.TheVariants.{Bad, Ended, Refused}
 use Rattle.hg_check.specs.Checking.{Answered, ChecksTo, IsRead, LeadsTo, next_named}
+use Rattle.hg_reading.proofs.Endings.{HasOutcome}
 use Rattle.hg_check.proofs.Steps.{never_duplicate}
 
 -- ---- asking a table for sets
@@ -80,9 +80,6 @@ asks_end (set ∷ sets) t few =
     (stands_or_not t.sets set)
 
 -- ---- a text
-
-abbrev pub HasOutcome : (Content → Ending → Type 0) → Type 0
-HasOutcome P = (last : Content) × ((end : Ending) × P last end)
 
 answered_end : (v : Verdict) (t : Table) (c : Content) (e : Event) (line : ℕ) (later : List Reading) → length t.sets ≤ t.limit → ((k : ℕ) → v ≡ Duplicate k → ⊥)
     → ((u : Table) (d : Content) → length u.sets ≤ u.limit → HasOutcome (LeadsTo later u d))

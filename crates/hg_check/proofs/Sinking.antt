@@ -12,16 +12,16 @@ use Rattle.hg_streams.specs.Calls.{failed_writes}
 use Rattle.hg_streams.specs.Told.{told, told_refusal}
 use Rattle.hg_wire.specs.declared.reader.Reading.{Reading}
 use Rattle.hg_reading.specs.Taking.{as_stop}
-use Rattle.hg_check.specs.declared.checker.Ending.{Ending}
+use Rattle.hg_reading.specs.declared.ending.Ending.{Ending}
 use Rattle.hg_check.specs.declared.checking.Checking.{Checking}
-use Rattle.hg_check.specs.Holding.{IsDue}
-use Rattle.hg_check.specs.Printing.{reports_text}
+use Rattle.hg_streams.specs.Holding.{IsDue}
+use Rattle.hg_streams.specs.Texts.{reports_text}
 use Rattle.hg_check.specs.Running.{ReportsGrow, Steps, live_text}
-use Rattle.hg_check.specs.Streaming.{HasWriteCause}
+use Rattle.hg_streams.specs.Faults.{HasWriteCause}
 use Rattle.hg_check.specs.Taking.{Takes}
 use Rattle.hg_check.specs.TakingLaws.{steps_none}
-use Rattle.hg_check.specs.Written.{TookFront}
-use Rattle.hg_check.proofs.Printed.{front_due, front_more}
+use Rattle.hg_streams.specs.Written.{TookFront}
+use Rattle.hg_streams.proofs.Printed.{front_due, front_more}
 use Rattle.hg_check.proofs.Steps.{leads_grow, reports_grow_on, reports_stay}
 use Rattle.hg_check.proofs.Growing.{live_text_grows, new_reports_due}
 

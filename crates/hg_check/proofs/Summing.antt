@@ -10,7 +10,7 @@ use Rattle.hg_model.proofs.Central.{summary_step}
 use Rattle.hg_sets.specs.Interning.{Table}
 use Rattle.hg_wire.specs.declared.line.LineFault.{LineFault}
 use Rattle.hg_wire.specs.declared.reader.Reading.{Reading}
-use Rattle.hg_check.specs.declared.checker.Ending.{Ending}
+use Rattle.hg_reading.specs.declared.ending.Ending.{Ending}
 use Rattle.hg_check.specs.Checking.{Answered, IsRead, LeadsTo, next_named}
 use Rattle.hg_check.specs.Laws.{IsOfAccepted, StopsAt}
 

@@ -1,5 +1,5 @@
 -- What reading a whole text leads to.
-use Rattle.std.proofs.Common.{◌≡◌, ◌+◌, ℕ, Bool, true, false, List, [], ◌∷◌, ◌++◌, length, Option, None, Result, Ok, Err, refl, sym, ap, ◌∙◌, subst, inl, inr, ⊎_elim, arith}
+use Rattle.std.proofs.Common.{◌≡◌, ℕ, Bool, true, false, List, [], ◌∷◌, ◌++◌, length, Option, None, Result, Ok, Err, refl, sym, ap, ◌∙◌, subst, inl, inr, ⊎_elim, arith}
 use Rattle.std.proofs.lemmas.List.{append-nil, length-append}
 use Rattle.hg_model.specs.declared.report.Report.{Report}
 use Rattle.hg_model.specs.declared.verdict.Refusal.{Refusal}
@@ -11,20 +11,23 @@ use Rattle.hg_detect.specs.Memory.{content_of}
 use Rattle.hg_streams.specs.declared.call.ReadCall.{ReadCall}
 use Rattle.hg_streams.specs.declared.call.WriteCall.{WriteCall}
 use Rattle.hg_streams.specs.Calls.{failed_reads}
+use Rattle.hg_streams.proofs.Inputs.{failed_reads_on}
 use Rattle.hg_wire.specs.declared.reader.Reading.{Reading}
 use Rattle.hg_reading.specs.Taking.{ReadBroke, Reads, Taking, WasRead}
-use Rattle.hg_check.specs.declared.checker.Ending.{Ending}
+use Rattle.hg_reading.specs.declared.ending.Ending.{Ending}
 use Rattle.hg_check.specs.declared.checking.Checking.{Checking}
-use Rattle.hg_check.specs.Holding.{IsDue}
-use Rattle.hg_check.specs.Printing.{ReadsTo, WroteFront, reports_text}
+use Rattle.hg_streams.specs.Holding.{IsDue}
+use Rattle.hg_check.specs.Printing.{ReadsTo, WroteFront}
+use Rattle.hg_streams.specs.Texts.{reports_text}
 use Rattle.hg_check.specs.Running.{ReportsGrow, StepsTaken, live_text}
-use Rattle.hg_check.specs.Streaming.{HasCause, HasWriteCause}
-use Rattle.hg_check.specs.Taking.{IsFresh, IsPrinted, Takes, ending_of}
-use Rattle.hg_check.specs.Written.{TookFront}
+use Rattle.hg_streams.specs.Faults.{HasCause, HasWriteCause}
+use Rattle.hg_check.specs.Taking.{IsFresh, IsPrinted, Takes}
+use Rattle.hg_reading.specs.Endings.{ending_of}
+use Rattle.hg_streams.specs.Written.{TookFront}
 use Rattle.hg_reading.proofs.Through.{broke_through, read_through}
 use Rattle.hg_check.proofs.Ends.{reads_to, reports_broke, reports_read}
 use Rattle.hg_check.proofs.Fronts.{wrote_live}
-use Rattle.hg_check.proofs.Printed.{front_due, front_more}
+use Rattle.hg_streams.proofs.Printed.{front_due, front_more}
 use Rattle.hg_check.proofs.Growing.{live_text_grows}
 
 -- ---- a run as its detector sees it
@@ -75,11 +78,6 @@ all_printed s first now all p =
     p.due
 
 -- ---- a run that was broken off
-
-pub failed_reads_on : (later first : List ReadCall) → failed_reads (later ++ first) ≡ failed_reads later + failed_reads first
-failed_reads_on [] first = omega arith
-failed_reads_on (ReadCall.Gave bytes ∷ later) first = failed_reads_on later first
-failed_reads_on (ReadCall.Erred kind ∷ later) first = omega (arith, failed_reads_on later first)
 
 pub cause_of : (reads now : List ReadCall) (before after : List WriteCall) (x : Refusal) → HasWriteCause before after x → HasCause reads now before after x
 cause_of reads now before after x h = ⊎_elim (λ memory. inl memory) (λ failed. inr (failed.0, inr failed.1)) h

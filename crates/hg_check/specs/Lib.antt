@@ -1,9 +1,13 @@
 pub mod Checking
 pub mod Laws
-pub mod Written
-pub mod Holding
 pub mod Printing
 pub mod Running
-pub mod Streaming
 pub mod Taking
 pub mod TakingLaws
+pub mod Life
+pub mod Explaining
+pub mod Telling
+pub mod Holding
+pub mod LifeLaws
+pub mod LifeTaking
+pub mod LifeTakingLaws

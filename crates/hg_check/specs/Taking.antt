@@ -1,5 +1,5 @@
 -- What a `Checking` takes of a trace text, and what it prints.
-use Rattle.std.specs.Prelude.{◌≡◌, ◌+◌, ◌<◌, ◌^◌, ℕ, Bool, List, [], length, Option, None, Some, Result, Err}
+use Rattle.std.specs.Prelude.{◌≡◌, ◌+◌, ◌<◌, ◌^◌, ℕ, Bool, List, [], length, Option, Result, Err}
 use Rattle.hg_model.specs.declared.verdict.Refusal.{Refusal}
 use Rattle.hg_model.specs.Contents.{Content}
 use Rattle.hg_detect.specs.Memory.{IsWhole, content_of}
@@ -7,13 +7,12 @@ use Rattle.hg_streams.specs.declared.call.WriteCall.{WriteCall}
 use Rattle.hg_streams.specs.Calls.{failed_writes}
 use Rattle.hg_streams.specs.Told.{told}
 use Rattle.hg_wire.specs.declared.reader.Reading.{Reading}
-use Rattle.hg_check.specs.declared.checker.Ending.{Ending}
-use Rattle.hg_check.specs.declared.checker.Ending.TheVariants.{Ended}
+use Rattle.hg_reading.specs.declared.ending.Ending.{Ending}
 use Rattle.hg_check.specs.declared.checking.Checking.{Checking}
-use Rattle.hg_check.specs.Holding.{IsDue}
+use Rattle.hg_streams.specs.Holding.{IsDue}
 use Rattle.hg_check.specs.Running.{IsStart, ReportsGrow, Steps, live_text}
-use Rattle.hg_check.specs.Streaming.{HasWriteCause}
-use Rattle.hg_check.specs.Written.{TookFront}
+use Rattle.hg_streams.specs.Faults.{HasWriteCause}
+use Rattle.hg_streams.specs.Written.{TookFront}
 
 -- The first `printed` reports are those of an earlier content. If reports are printed as they come, they were written since the calls
 -- `first`, or are held.
@@ -43,11 +42,6 @@ pub record IsFresh (live : Bool) (s : Checking) : Type 0 where
   pub live_is : s.live ≡ live
   pub printed : s.printed ≡ 0
   pub held : s.held.items ≡ []
-
--- how a run ended: where no line ended it, it came to the end of its input
-abbrev pub ending_of : Option Ending → Ending
-ending_of None = Ended
-ending_of (Some end) = end
 
 -- The text that a run prints while it reads was written, or is held.
 abbrev pub HasPrinted : List WriteCall → List WriteCall → Bool → Checking → Type 0

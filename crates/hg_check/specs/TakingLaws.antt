@@ -10,12 +10,12 @@ use Rattle.hg_detect.specs.Memory.{content_of}
 use Rattle.hg_streams.specs.declared.call.WriteCall.{WriteCall}
 use Rattle.hg_streams.specs.Calls.{failed_writes}
 use Rattle.hg_wire.specs.declared.reader.Reading.{Reading}
-use Rattle.hg_check.specs.declared.checker.Ending.{Ending}
+use Rattle.hg_reading.specs.declared.ending.Ending.{Ending}
 use Rattle.hg_check.specs.declared.checking.Checking.{Checking}
 use Rattle.hg_check.specs.Running.{LeadsFrom, ReportsGrow, Steps, live_text}
-use Rattle.hg_check.specs.Streaming.{HasWriteCause}
+use Rattle.hg_streams.specs.Faults.{HasWriteCause}
 use Rattle.hg_check.specs.Taking.{MayTake, Takes}
-use Rattle.hg_check.specs.Written.{TookFront}
+use Rattle.hg_streams.specs.Written.{TookFront}
 
 no_error : (x : Refusal) → ◌≡◌ {A = Result (Option Ending) Refusal} (Ok None) (Err x) → ⊥
 no_error x h = absurd (cc)

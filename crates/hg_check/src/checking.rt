@@ -4,11 +4,12 @@ ghost use Rattle.std.specs.Prelude.{◌≡◌, [], length, IfErr, IfOk};
 ghost use Rattle.hg_detect.specs.Memory.{content_of};
 ghost use Rattle.hg_reading.specs.Taking.{as_stop};
 
-use crate::checker::{Ending, apply, apply_access, apply_hold};
+use crate::checker::{apply, apply_access, apply_hold};
 use crate::printing::print_reports;
 use hg_detect::memory::{MemoryDetector, new_detector};
 use hg_model::event::Hold;
 use hg_model::verdict::Refusal;
+use hg_reading::ending::Ending;
 use hg_reading::sink::Sink;
 use hg_sets::MOST_SETS;
 use hg_streams::output::Output;

@@ -1,31 +1,21 @@
 //! A run over a whole trace text.
 
-ghost use Rattle.std.specs.Prelude.{◌≡◌, IfErr, IfOk, OnOk};
+ghost use Rattle.std.specs.Prelude.{IfErr, IfOk, OnOk};
 ghost use Rattle.hg_check.specs.Printing.{LeavesFront, ReadsTo};
 ghost use Rattle.hg_check.specs.Running.{live_part};
-ghost use Rattle.hg_check.specs.Streaming.{HasCause};
-ghost use Rattle.hg_check.specs.Taking.{HasPrinted, IsFresh, ending_of};
+ghost use Rattle.hg_streams.specs.Faults.{HasCause};
+ghost use Rattle.hg_check.specs.Taking.{HasPrinted, IsFresh};
 ghost use Rattle.hg_detect.specs.Memory.{content_of};
 
-use crate::checker::Ending;
 use crate::checking::Checking;
 use hg_model::verdict::Refusal;
+use hg_reading::ending::{Ending, ended};
 use hg_reading::sink::Sink;
 use hg_reading::whole::read_side_by_side;
 use hg_streams::input::Input;
 use hg_streams::output::Output;
 use std::io::{Read, Write};
 use std::thread::Threads;
-
-/// How a run ended: where no line ended it, it came to the end of its input.
-pub fn ended(stop: Option<Ending>) -> Ending
-    ensures { result ≡ ending_of stop }
-{
-    match stop {
-        Some(end) => end,
-        None => Ending::Ended,
-    }
-}
 
 /// Reads a trace text to its end, or up to the first line that is refused or bad, and offers its events to a detector that has accepted
 /// none. Where reports are printed as they come, all kept ones are printed or held at the end. Up to `jobs` threads read the lines of

@@ -8,7 +8,7 @@ use Rattle.hg_pool.specs.Shown as pool
 use Rattle.hg_store.specs.Doing.{SameWords}
 use Rattle.hg_store.specs.Answers.{failed_by}
 use Rattle.hg_streams.specs.declared.call.WriteCall.{WriteCall}
-use Rattle.hg_check.specs.Printing.{Took}
+use Rattle.hg_streams.specs.Written.{Took}
 use Rattle.hg_contents.specs.Choices.{Stands}
 use Rattle.hg_store.specs.Images.{EachImage, HasOpened, failures_of}
 use Rattle.hg_store.specs.Shown.{ShownStore, live, saved}
@@ -17,7 +17,7 @@ use Rattle.hg_store.specs.declared.steps.StepFault.{StepFault}
 use Rattle.hg_store.specs.declared.steps.StepFault.TheVariants.{Refused, WrongPhase}
 use Rattle.hg_store.proofs.Moments.{all_still}
 use Rattle.hg_commands.specs.FeedRunning.{StaysFed, WasCheckpointed, WasMade, WasStepped, failed_of}
-use Rattle.hg_listing.specs.Storing.{number_text}
+use Rattle.hg_streams.specs.Texts.{number_text}
 
 pub failed_is : {T : Type 0} (result : Result T StepFault) (f : StepFault) → result ≡ Err f → failed_by result ≡ failed_of f
 failed_is result (WrongPhase phase) is = ap failed_by is

@@ -3,7 +3,7 @@ use Rattle.std.proofs.Common.{◌≡◌, ℕ, ◌+◌, ◌-◌, Bool, true, fals
 use Rattle.std.proofs.lemmas.List.{append-nil}
 use Rattle.hg_streams.specs.declared.call.WriteCall.{WriteCall}
 use Rattle.hg_streams.specs.declared.call.ReadCall.{ReadCall}
-use Rattle.hg_check.specs.Printing.{Took}
+use Rattle.hg_streams.specs.Written.{Took}
 use Rattle.hg_model.specs.Contents.{Content}
 use Rattle.hg_sets.specs.Interning.{Table}
 use Rattle.hg_detect.specs.Shown as detect
@@ -18,14 +18,14 @@ use Rattle.hg_store.specs.Images.{HasOpened, failures_of, read_of, states_of}
 use Rattle.hg_store.specs.Recovering.{HasTable}
 use Rattle.hg_store.specs.Shown.{ShownStore, live, saved}
 use Rattle.hg_store.specs.Store.{Backs, IsFresh}
-use Rattle.hg_check.specs.declared.checker.Ending.{Ending}
+use Rattle.hg_reading.specs.declared.ending.Ending.{Ending}
 use Rattle.hg_commands.specs.declared.lines.Fed.{Fed}
 use Rattle.hg_commands.specs.Feeding.{ack_text, acks_text, checkpoint_text, feed_end_text, feed_text}
 use Rattle.hg_commands.specs.FeedRunning.{FeedDone, Feeds, IsPrinted, WasCheckpointed, WasCommitted, WasFed, WasMade, WentWell, is_due, place}
-use Rattle.hg_listing.specs.Storing.{number_text}
+use Rattle.hg_streams.specs.Texts.{number_text}
 use Rattle.hg_streams.specs.Calls.{failed_writes}
-use Rattle.hg_listing.specs.Storing.{failed_calls}
-use Rattle.hg_check.proofs.Printed.{appends_on, failed_on}
+use Rattle.hg_commands.specs.Storing.{failed_calls}
+use Rattle.hg_streams.proofs.Printed.{appends_on, failed_on}
 
 -- no call of an output failed that took a text
 pub took_intact : {text : List ℕ} (old new : List WriteCall) → Took old new text → failed_writes new ≡ failed_writes old

@@ -7,16 +7,15 @@ use Rattle.hg_model.specs.Contents.{Content}
 use Rattle.hg_sets.specs.Interning.{Table}
 use Rattle.hg_disk.specs.declared.disk.Disk as disk
 use Rattle.hg_store.specs.Shown.{ShownStore, live}
-use Rattle.hg_check.specs.declared.checker.Ending.{Ending}
-use Rattle.hg_check.specs.Printing.{Took}
-use Rattle.hg_check.specs.Written.{TookFront}
-use Rattle.hg_check.proofs.Printed.{appends_on, front_more}
+use Rattle.hg_reading.specs.declared.ending.Ending.{Ending}
+use Rattle.hg_streams.specs.Written.{Took, TookFront}
+use Rattle.hg_streams.proofs.Printed.{appends_on, front_more}
 use Rattle.hg_commands.specs.declared.lines.Fed.{Fed}
 use Rattle.hg_commands.specs.Feeding.{ack_text, acks_text, checkpoint_text, feed_end_text, feed_text}
-use Rattle.hg_listing.specs.Printed.{IsPrintedNow}
-use Rattle.hg_listing.specs.Storing.{number_text}
+use Rattle.hg_streams.specs.Printed.{IsPrintedNow}
+use Rattle.hg_streams.specs.Texts.{number_text}
 use Rattle.hg_commands.specs.FeedRunning.{Feeds, HasFront, IsPrinted, WentWell, WroteFrontFrom, place}
-use Rattle.hg_listing.proofs.Fronts.{printed_front_on}
+use Rattle.hg_streams.proofs.Fronts.{printed_front_on}
 
 -- ---- all that is printed
 

@@ -3,7 +3,7 @@ use Rattle.std.proofs.Common.{◌≡◌, ◌⊎◌, ℕ, suc, ◌+◌, ◌-◌, 
 use Rattle.std.proofs.lemmas.Bool.{lt-leb}
 use Rattle.std.proofs.lemmas.List.{append-nil, append_assoc}
 use Rattle.hg_streams.specs.declared.call.WriteCall.{WriteCall}
-use Rattle.hg_check.specs.Printing.{Took}
+use Rattle.hg_streams.specs.Written.{Took, TookFront}
 use Rattle.std.specs.Option.{option_and_then}
 use Rattle.hg_model.specs.declared.event.Event.{Event}
 use Rattle.hg_model.specs.declared.event.Named.{Named}
@@ -15,10 +15,9 @@ use Rattle.hg_model.specs.Contents.{Content}
 use Rattle.hg_model.specs.Change.{after, followed, is_accept}
 use Rattle.hg_model.specs.Verdicts.{standing_of, verdict}
 use Rattle.hg_sets.specs.Interning.{Table}
-use Rattle.hg_detect.specs.Making.{Asks, sets_asked}
+use Rattle.hg_detect.specs.Making.{Asks, sets_asked, AsksBy}
 use Rattle.hg_detect.specs.declared.detector.Answer.{Answer}
 use Rattle.hg_detect.specs.declared.detector.Answer.TheVariants as answer
-use Rattle.hg_detect.specs.Making.{AsksBy}
 use Rattle.hg_detect.specs.Shown as detect
 use Rattle.hg_disk.specs.declared.disk.Disk as disk
 use Rattle.hg_pool.specs.Maps as pools
@@ -28,18 +27,17 @@ use Rattle.hg_store.specs.Shown.{ShownStore, live}
 use Rattle.hg_store.specs.Steps.{ByVerdict, IsOfRoom, IsTaken, if_accepted}
 use Rattle.hg_wire.specs.declared.line.LineFault.{LineFault}
 use Rattle.hg_wire.specs.declared.reader.Reading.{Reading}
-use Rattle.hg_check.specs.declared.checker.Ending.{Ending}
-use Rattle.hg_check.specs.declared.checker.Ending.TheVariants.{Refused, Bad}
+use Rattle.hg_reading.specs.declared.ending.Ending.{Ending}
+use Rattle.hg_reading.specs.declared.ending.Ending.TheVariants.{Refused, Bad}
 use Rattle.hg_commands.specs.declared.lines.Fed.{Fed}
 use Rattle.hg_commands.specs.Feeding.{Answers, FeedsTo, HasRoom, IsOffered, ack_text, acks_text, sent}
-use Rattle.hg_listing.specs.Storing.{failed_calls}
+use Rattle.hg_commands.specs.Storing.{failed_calls}
 use Rattle.hg_commands.specs.FeedFaults.{IsFeedFault}
 use Rattle.hg_commands.specs.FeedRunning.{BreaksAt, EndsAt, EndsLine, IsEventFault, IsPrinted, IsReady, Passes, Place, WasCounted, WasSent, WentWell, content_at, place, table_at}
 use Rattle.hg_streams.specs.Told.{told, told_refusal}
-use Rattle.hg_check.proofs.Printed.{appends_on, front_more}
-use Rattle.hg_check.specs.Written.{TookFront}
-use Rattle.hg_listing.specs.Printed.{IsPrintedNow}
-use Rattle.hg_listing.proofs.Fronts.{printed_front_on}
+use Rattle.hg_streams.proofs.Printed.{appends_on, front_more}
+use Rattle.hg_streams.specs.Printed.{IsPrintedNow}
+use Rattle.hg_streams.proofs.Fronts.{printed_front_on}
 use Rattle.hg_commands.proofs.Fronts.{acks_front, feeds_grow, printed_grown}
 use Rattle.hg_detect.proofs.Asking.{asks_not_both, asks_same}
 

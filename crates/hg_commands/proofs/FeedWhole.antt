@@ -12,11 +12,11 @@ use Rattle.hg_disk.specs.declared.disk.Disk as disk
 use Rattle.hg_wire.specs.declared.reader.Reading.{Reading}
 use Rattle.hg_wire.specs.Streams.{ended_readings, readings}
 use Rattle.hg_reading.specs.Taking.{AreDue, ReadBroke, Reads, Taking, WasRead}
-use Rattle.hg_check.specs.declared.checker.Ending.{Ending}
-use Rattle.hg_check.specs.declared.checker.Ending.TheVariants.{Ended}
-use Rattle.hg_check.specs.Taking.{ending_of}
-use Rattle.hg_check.proofs.Ends.{begins_with}
-use Rattle.hg_check.proofs.Whole.{failed_reads_on}
+use Rattle.hg_reading.specs.declared.ending.Ending.{Ending}
+use Rattle.hg_reading.specs.declared.ending.Ending.TheVariants.{Ended}
+use Rattle.hg_reading.specs.Endings.{ending_of}
+use Rattle.hg_reading.proofs.Inputs.{begins_with}
+use Rattle.hg_streams.proofs.Inputs.{failed_reads_on}
 use Rattle.hg_commands.specs.Feeding.{FeedsTo}
 use Rattle.hg_commands.specs.FeedRunning.{FeedEndsBy, Feeds, HasFront, LeadsOn, Place, WentWell, content_at, table_at}
 use Rattle.hg_commands.specs.Instants.{Instant}
@@ -98,7 +98,7 @@ module _ {D S : Type 0} (g : disk.Ghosts D) (takes : Taking S Ending) (at : S �
       later = w.later;
       since = w.since;
       front = λ honest input last end room m l.
-          let rest = begins_with w.later w.lines (Err x) input w.due m in
+          let rest = begins_with takes w.later w.lines (Err x) input w.due m in
           (seen s t o p w.lines (Err x) w.steps).front x refl ready honest rest.0 last end room
           (subst (λ xs. LeadsOn g (at s o) xs last end) rest.1 (at_start g (at s o) (readings input) last end none l));
     }

@@ -13,9 +13,9 @@ use Rattle.hg_sets.specs.Interning.{Table}
 use Rattle.hg_disk.specs.declared.disk.Disk as disk
 use Rattle.hg_wire.specs.declared.line.LineFault.{LineFault}
 use Rattle.hg_wire.specs.declared.reader.Reading.{Reading}
-use Rattle.hg_check.specs.declared.checker.Ending.{Ending}
-use Rattle.hg_check.proofs.Printed.{front_more}
-use Rattle.hg_listing.proofs.Fronts.{took_front}
+use Rattle.hg_reading.specs.declared.ending.Ending.{Ending}
+use Rattle.hg_streams.proofs.Printed.{front_more}
+use Rattle.hg_streams.proofs.Fronts.{took_front}
 use Rattle.hg_commands.specs.Feeding.{Answers, FeedsTo, IsOffered, ack_text, acks_text, sent}
 use Rattle.hg_commands.specs.FeedRunning.{FrontFor, Place, content_at}
 

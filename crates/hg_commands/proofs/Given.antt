@@ -2,7 +2,7 @@
 use Rattle.std.proofs.Common.{◌≡◌, ℕ, List, [], ◌∷◌, ◌++◌, refl, sym, ap, subst, ◌∙◌, ⊎_elim}
 use Rattle.std.proofs.lemmas.List.Elements.{All-nil, All-cons, All-weaker}
 use Rattle.hg_streams.specs.declared.call.WriteCall.{WriteCall}
-use Rattle.hg_listing.specs.Printed.{IsPrintedNow, WereGiven, given_to}
+use Rattle.hg_streams.specs.Printed.{IsPrintedNow, WereGiven, given_to}
 
 pub given_none : (P : List ℕ → Type 0) (calls : List WriteCall) → WereGiven P calls calls
 given_none P calls = record { later = []; since = refl; each = All-nil (λ call. P (given_to call)) }

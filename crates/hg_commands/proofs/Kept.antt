@@ -24,7 +24,7 @@ use Rattle.hg_commands.specs.FeedRunning.{WasStepped}
 use Rattle.hg_commands.specs.Feeding.{ack_text}
 use Rattle.hg_commands.specs.Instants.{Instant, instant}
 use Rattle.hg_commands.specs.Keeping.{AcksAtMost, EachAckIsKept, HasAtLeast, IsKept, IsKeptAlong, IsKeptBetween, KeepsOn}
-use Rattle.hg_listing.specs.Printed.{IsPrintedNow, WereGiven}
+use Rattle.hg_streams.specs.Printed.{IsPrintedNow, WereGiven}
 use Rattle.hg_commands.proofs.Given.{given_none, given_printed, given_weaker, grows}
 
 acks_more : (n m : ℕ) (text : List ℕ) → n ≤ m → AcksAtMost n text → AcksAtMost m text

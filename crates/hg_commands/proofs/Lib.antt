@@ -10,3 +10,5 @@ mod Kept
 mod Given
 mod Made
 mod Summing
+mod Asking
+mod Causes

@@ -16,7 +16,7 @@ use Rattle.hg_store.specs.Store.{IsFresh}
 use Rattle.hg_store.proofs.Moments.{all_still}
 use Rattle.hg_commands.specs.Creating.{CreatedIsKept, IsMadeBetween, IsOfNone}
 use Rattle.hg_commands.specs.Instants.{Instant, instant}
-use Rattle.hg_listing.specs.Printed.{IsPrintedNow}
+use Rattle.hg_streams.specs.Printed.{IsPrintedNow}
 use Rattle.hg_commands.proofs.Given.{given_none, given_printed}
 
 module _ {D : Type 0} (g : disk.Ghosts D) where

@@ -13,9 +13,10 @@ use Rattle.hg_sets.specs.Interning.{Table}
 use Rattle.hg_detect.specs.Making.{sets_asked}
 use Rattle.hg_wire.specs.declared.line.LineFault.{LineFault}
 use Rattle.hg_wire.specs.declared.reader.Reading.{Reading}
-use Rattle.hg_check.specs.declared.checker.Ending.TheVariants.{Ended, Refused, Bad}
+use Rattle.hg_reading.specs.declared.ending.Ending.TheVariants.{Ended, Refused, Bad}
 use Rattle.hg_commands.specs.Feeding.{Answers, FeedsTo, HasRoom, IsOffered, sent}
-use Rattle.hg_check.proofs.Outcome.{HasOutcome, asks_end}
+use Rattle.hg_reading.proofs.Endings.{HasOutcome}
+use Rattle.hg_commands.proofs.Asking.{asks_end}
 
 -- The rules never refuse an event for want of slots.
 

@@ -12,7 +12,7 @@ use Rattle.hg_model.proofs.Central.{summary_step}
 use Rattle.hg_sets.specs.Interning.{Table}
 use Rattle.hg_wire.specs.declared.line.LineFault.{LineFault}
 use Rattle.hg_wire.specs.declared.reader.Reading.{Reading}
-use Rattle.hg_check.specs.declared.checker.Ending.{Ending}
+use Rattle.hg_reading.specs.declared.ending.Ending.{Ending}
 use Rattle.hg_commands.specs.Feeding.{Answers, FeedsTo, IsOffered, sent}
 use Rattle.hg_commands.specs.Laws.{EndsWith, IsOfFed, StopsAt, with_sent}
 

@@ -14,8 +14,8 @@ use Rattle.hg_wire.specs.declared.reader.Reading.{Reading}
 use Rattle.hg_sets.specs.declared.fault.SetFault.TheVariants.{Full}
 use Rattle.hg_detect.specs.Making.{Asks, sets_asked}
 use Rattle.hg_detect.proofs.Asking.{asks_not_both, asks_same}
-use Rattle.hg_check.specs.declared.checker.Ending.{Ending}
-use Rattle.hg_check.specs.declared.checker.Ending.TheVariants.{Refused}
+use Rattle.hg_reading.specs.declared.ending.Ending.{Ending}
+use Rattle.hg_reading.specs.declared.ending.Ending.TheVariants.{Refused}
 use Rattle.hg_commands.specs.Feeding.{Answers, FeedsTo, HasRoom, IsOffered, sent}
 
 abbrev AreSame : (x y : Content) (e f : Ending) → Type 0

@@ -13,13 +13,13 @@ use Rattle.hg_store.specs.Recovering.{IsEmpty, empty_image}
 use Rattle.hg_streams.specs.Shown.{Outgoing}
 use Rattle.hg_streams.specs.Calls.{failed_writes}
 use Rattle.hg_streams.specs.Told.{told_refusal}
-use Rattle.hg_check.specs.Streaming.{IsTold}
-use Rattle.hg_check.specs.Written.{Took, TookFront}
+use Rattle.hg_streams.specs.Faults.{IsTold}
+use Rattle.hg_streams.specs.Written.{Took, TookFront}
 use Rattle.hg_commands.specs.declared.moment.Outcome.{Outcome}
-use Rattle.hg_listing.specs.declared.printing.Outputs.{Outputs}
+use Rattle.hg_streams.specs.declared.output.Outputs.{Outputs}
 use Rattle.hg_commands.specs.Instants.{Instant, instant}
-use Rattle.hg_listing.specs.Printed.{WereGiven}
-use Rattle.hg_listing.specs.Storing.{failed_calls}
+use Rattle.hg_streams.specs.Printed.{WereGiven}
+use Rattle.hg_commands.specs.Storing.{failed_calls}
 
 -- a text that does not say `created`: none, or `not empty`
 abbrev pub IsOfNone : List ℕ → Type 0

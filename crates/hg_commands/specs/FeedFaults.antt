@@ -1,5 +1,5 @@
 -- How feeding a store ends by a fault.
-use Rattle.std.specs.Prelude.{◌≡◌, ◌⊎◌, ℕ, ◌+◌, ◌≤◌, ◌^◌, List, length}
+use Rattle.std.specs.Prelude.{◌≡◌, ◌⊎◌, ◌+◌, ◌≤◌, ◌^◌, List, length}
 use Rattle.hg_model.specs.declared.verdict.Refusal.{Refusal}
 use Rattle.hg_model.specs.declared.verdict.Refusal.TheVariants.{Broken, Damaged, FullEvents, FullSlots, DeviceFault}
 use Rattle.hg_disk.specs.declared.disk.Disk as disk
@@ -9,8 +9,9 @@ use Rattle.hg_streams.specs.declared.call.ReadCall.{ReadCall}
 use Rattle.hg_streams.specs.declared.call.WriteCall.{WriteCall}
 use Rattle.hg_streams.specs.Calls.{failed_reads}
 use Rattle.hg_streams.specs.Told.{told_refusal}
-use Rattle.hg_check.specs.Streaming.{IsStreamFault}
-use Rattle.hg_listing.specs.Storing.{IsCounted, IsTrueOf, failed_calls}
+use Rattle.hg_streams.specs.Faults.{IsStreamFault}
+use Rattle.hg_commands.specs.Storing.{IsCounted, failed_calls}
+use Rattle.hg_store.specs.Refusals.{IsTrueOf}
 
 -- What ends the feeding of a store that works: a device or a stream failed, or memory was refused; or bytes of a page are outside the formats; or, in a
 -- checkpoint, there is no slot for a page, or no number for a root.

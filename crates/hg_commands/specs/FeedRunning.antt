@@ -10,7 +10,7 @@ use Rattle.hg_detect.specs.declared.detector.Answer.{Answer}
 use Rattle.hg_streams.specs.declared.call.ReadCall.{ReadCall}
 use Rattle.hg_streams.specs.declared.call.ReadCall.TheVariants.{Gave}
 use Rattle.hg_streams.specs.declared.call.WriteCall.{WriteCall}
-use Rattle.hg_streams.specs.Calls.{ends_met, failed_reads, given}
+use Rattle.hg_streams.specs.Calls.{ends_met, failed_reads, given, MayBe}
 use Rattle.hg_streams.specs.Told.{told}
 use Rattle.hg_disk.specs.declared.disk.Disk as disk
 use Rattle.hg_contents.specs.Images.{HasContent, Image}
@@ -29,14 +29,13 @@ use Rattle.hg_store.specs.Steps.{ContentOffered, OfferDone}
 use Rattle.hg_store.specs.Store.{Backs}
 use Rattle.hg_wire.specs.declared.reader.Reading.{Reading}
 use Rattle.hg_wire.specs.Streams.{ended_readings, readings}
-use Rattle.hg_check.specs.declared.checker.Ending.{Ending}
-use Rattle.hg_check.specs.declared.checker.Ending.TheVariants.{Ended, Refused, Bad}
-use Rattle.hg_check.specs.Printing.{MayBe, Took}
-use Rattle.hg_check.specs.Streaming.{IsTold}
-use Rattle.hg_check.specs.Written.{TookFront}
+use Rattle.hg_reading.specs.declared.ending.Ending.{Ending}
+use Rattle.hg_reading.specs.declared.ending.Ending.TheVariants.{Ended, Refused, Bad}
+use Rattle.hg_streams.specs.Written.{Took, TookFront}
+use Rattle.hg_streams.specs.Faults.{IsTold}
 use Rattle.hg_commands.specs.declared.lines.Fed.{Fed}
 use Rattle.hg_commands.specs.Feeding.{FeedsTo, HasRoom, ack_text, acks_text, checkpoint_text, feed_text, sent}
-use Rattle.hg_listing.specs.Storing.{failed_calls}
+use Rattle.hg_commands.specs.Storing.{failed_calls}
 use Rattle.hg_commands.specs.FeedFaults.{HasFeedCause}
 
 -- a store, what was fed to it, and the output

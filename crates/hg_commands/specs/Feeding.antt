@@ -13,10 +13,10 @@ use Rattle.hg_sets.specs.declared.fault.SetFault.TheVariants.{Full}
 use Rattle.hg_wire.specs.declared.line.LineFault.{LineFault}
 use Rattle.hg_wire.specs.declared.reader.Reading.{Reading}
 use Rattle.hg_detect.specs.Making.{Asks, sets_asked}
-use Rattle.hg_check.specs.declared.checker.Ending.{Ending}
-use Rattle.hg_check.specs.declared.checker.Ending.TheVariants.{Ended, Refused, Bad}
-use Rattle.hg_check.specs.Printing.{line_text, stop_text}
-use Rattle.hg_listing.specs.Storing.{number_text, store_end_line}
+use Rattle.hg_reading.specs.declared.ending.Ending.{Ending}
+use Rattle.hg_reading.specs.declared.ending.Ending.TheVariants.{Ended, Refused, Bad}
+use Rattle.hg_streams.specs.Texts.{line_text, number_text, counts_line}
+use Rattle.hg_reading.specs.Endings.{stop_text}
 
 -- the event of the line behind so many others, as its source sent it
 abbrev pub sent : ℕ → ℕ → Event → Named
@@ -56,7 +56,7 @@ acks_text events (suc n) = acks_text events n ++ (if nat_eq (suc n % 256) 0 then
 
 -- the last line
 abbrev pub feed_end_text : Content → Ending → List ℕ
-feed_end_text last Ended = line_text (store_end_line last)
+feed_end_text last Ended = line_text (counts_line last)
 feed_end_text last (Refused line refusal) = stop_text (Refused line refusal)
 feed_end_text last (Bad line) = stop_text (Bad line)
 

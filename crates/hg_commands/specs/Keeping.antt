@@ -9,11 +9,11 @@ use Rattle.hg_contents.specs.Images.{HasContent, Image}
 use Rattle.hg_store.specs.Images.{EachImage, IsOn, Recovers, read_of}
 use Rattle.hg_store.specs.Shown.{ShownStore, live, saved}
 use Rattle.hg_store.specs.Store.{Backs}
-use Rattle.hg_check.specs.declared.checker.Ending.{Ending}
+use Rattle.hg_reading.specs.declared.ending.Ending.{Ending}
 use Rattle.hg_commands.specs.Feeding.{ack_text, feed_end_text}
 use Rattle.hg_commands.specs.Instants.{Instant, instant}
-use Rattle.hg_listing.specs.Printed.{WereGiven}
-use Rattle.hg_listing.specs.Storing.{number_text}
+use Rattle.hg_streams.specs.Printed.{WereGiven}
+use Rattle.hg_streams.specs.Texts.{number_text}
 
 -- A text that acknowledges nothing: none, the line of `resume` or of a checkpoint, or the last line.
 abbrev pub IsOther : List ℕ → Type 0

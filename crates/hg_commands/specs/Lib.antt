@@ -8,3 +8,5 @@ pub mod Instants
 pub mod Taking
 pub mod TakingLaws
 pub mod Stepping
+pub mod Storing
+pub mod Listings

@@ -7,18 +7,18 @@ use Rattle.hg_store.specs.declared.devices.Devices.{Devices}
 use Rattle.hg_store.specs.Images.{HasOpened}
 use Rattle.hg_store.specs.Shown.{ShownStore, captured, live}
 use Rattle.hg_wire.specs.declared.reader.Reading.{Reading}
-use Rattle.hg_check.specs.declared.checker.Ending.{Ending}
-use Rattle.hg_check.specs.Printing.{status_of}
+use Rattle.hg_reading.specs.declared.ending.Ending.{Ending}
+use Rattle.hg_reading.specs.Endings.{status_of}
 use Rattle.hg_commands.specs.declared.lines.Feeding.{Feeding}
 use Rattle.hg_commands.specs.declared.moment.Outcome.{Outcome}
 use Rattle.hg_commands.specs.declared.plan.FeedPlan.{FeedPlan}
-use Rattle.hg_listing.specs.declared.printing.Outputs.{Outputs}
+use Rattle.hg_streams.specs.declared.output.Outputs.{Outputs}
 use Rattle.hg_commands.specs.Feeding.{ack_text, checkpoint_text, feed_end_text}
 use Rattle.hg_commands.specs.FeedRunning.{BreaksAt, EndsAt, EndsByFeedFault, FeedDone, Feeds, HasFront, Passes, Place, WasCheckpointed, WasCounted, WasFed, WentWell, WroteFeedFront, WroteFrontFrom, place}
 use Rattle.hg_commands.specs.Instants.{Instant, instant}
 use Rattle.hg_commands.specs.Keeping.{EachAckIsKept, KeepsOn}
-use Rattle.hg_listing.specs.Printed.{IsPrintedNow}
-use Rattle.hg_listing.specs.Storing.{failed_calls}
+use Rattle.hg_streams.specs.Printed.{IsPrintedNow}
+use Rattle.hg_commands.specs.Storing.{failed_calls}
 use Rattle.hg_commands.specs.FeedFaults.{FeedFails, HasFeedCause}
 
 -- where a store that is fed stands, with its output

@@ -5,12 +5,12 @@ use Rattle.hg_model.specs.Contents.{Content}
 use Rattle.hg_streams.specs.Told.{told}
 use Rattle.hg_disk.specs.declared.disk.Disk as disk
 use Rattle.hg_wire.specs.declared.reader.Reading.{Reading}
-use Rattle.hg_check.specs.declared.checker.Ending.{Ending}
+use Rattle.hg_reading.specs.declared.ending.Ending.{Ending}
 use Rattle.hg_commands.specs.Feeding.{HasRoom}
 use Rattle.hg_commands.specs.FeedRunning.{FrontFor, IsReady, LeadsOn, Place, WentWell, content_at}
 use Rattle.hg_commands.specs.Instants.{Instant}
 use Rattle.hg_commands.specs.Keeping.{KeepsOn}
-use Rattle.hg_listing.specs.Storing.{failed_calls}
+use Rattle.hg_commands.specs.Storing.{failed_calls}
 use Rattle.hg_commands.specs.FeedFaults.{IsFeedFault}
 
 -- It is ready for lines that are offered next.

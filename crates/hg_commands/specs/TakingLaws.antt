@@ -5,7 +5,7 @@ use Rattle.std.proofs.lemmas.List.{append_assoc, length-append}
 use Rattle.hg_model.specs.declared.verdict.Refusal.{Refusal}
 use Rattle.hg_disk.specs.declared.disk.Disk as disk
 use Rattle.hg_wire.specs.declared.reader.Reading.{Reading}
-use Rattle.hg_check.specs.declared.checker.Ending.{Ending}
+use Rattle.hg_reading.specs.declared.ending.Ending.{Ending}
 use Rattle.hg_commands.specs.FeedRunning.{LeadsOn, Place, WentWell, content_at}
 use Rattle.hg_commands.specs.Instants.{Instant}
 use Rattle.hg_commands.specs.Taking.{IsFine, IsReadyAt, MayTake, Takes}

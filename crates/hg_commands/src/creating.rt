@@ -1,20 +1,20 @@
 //! The command that makes a store.
 
 ghost use Rattle.std.specs.Prelude.{◌≡◌, ◌⊎◌, [], Ok, Err, OnErr, OnOk, IfOk, IfErr};
-ghost use Rattle.hg_check.specs.Printing.{Took};
+ghost use Rattle.hg_streams.specs.Written.{Took};
 ghost use Rattle.hg_disk.specs.State.{counted, settled};
 ghost use Rattle.hg_commands.specs.Creating.{CantCreate, CreatedIsTrue, HasCreateCause, IsCleared, KeepsCreated, LeavesAnEmptyStore, TellsCreated, TellsNotEmpty, WasCreated, HadBytes, WroteAnswer};
-ghost use Rattle.hg_listing.specs.Storing.{NoCallFailed};
+ghost use Rattle.hg_commands.specs.Storing.{NoCallFailed};
 
 use crate::moment::{Moment, Outcome};
-use hg_check::telling::tell;
 use hg_disk::{Disk, DiskFault};
-use hg_listing::printing::{Outputs, print_now};
 use hg_model::verdict::Refusal;
 use hg_store::create::CreateFault;
 use hg_store::devices::{Caps, Devices};
 use hg_store::store::Store;
-use hg_streams::output::Output;
+use hg_streams::output::{Output, Outputs};
+use hg_streams::printing::print_now;
+use hg_streams::telling::tell;
 use hg_trail::Trail;
 use std::alloc::Global;
 use std::io::Write;

@@ -3,33 +3,29 @@
 ghost use Rattle.std.specs.Prelude.{◌≡◌, ◌+◌, ◌<◌, ◌++◌, false, Option, [], Ok, IfOk, IfErr, OnErr, OnOk};
 ghost use Rattle.hg_streams.specs.Calls.{failed_writes};
 ghost use Rattle.hg_streams.specs.Told.{told};
-ghost use Rattle.hg_check.specs.Printing.{Took};
+ghost use Rattle.hg_streams.specs.Written.{Took};
 ghost use Rattle.hg_store.specs.Store.{IsIdle};
 ghost use Rattle.hg_commands.specs.FeedRunning.{IsReady, is_due, place};
-ghost use Rattle.hg_check.specs.Streaming.{IsStreamFault};
-ghost use Rattle.hg_listing.specs.Printed.{IsPrintedNow};
+ghost use Rattle.hg_streams.specs.Faults.{IsStreamFault};
+ghost use Rattle.hg_streams.specs.Printed.{IsPrintedNow};
 ghost use Rattle.hg_commands.specs.Stepping.{AcksAreKept, Checkpointed, Done, Failed, FailedFor, Fails, FaultIsTold, FedOrFault, FedWhere, FeedsFrom, FrontWhere, KeepsAcks, LeavesFront, LeftFront, MayHaveTold, StaysKept, FeedsWell, end_of};
 ghost use Rattle.hg_commands.specs.FeedFaults.{IsFeedFault};
 
 use crate::lines::{Fed, Feeding};
+use crate::listing::hold_end_line;
 use crate::moment::{Moment, Outcome};
 use crate::plan::FeedPlan;
-use hg_check::checker::Ending;
-use hg_check::commands::status_of_end;
-use hg_check::holding::hold_stop;
-use hg_check::run::ended;
-use hg_check::telling::tell;
 use hg_disk::Disk;
-use hg_listing::listing::hold_end_line;
-use hg_listing::opening::open_store;
-use hg_listing::printing::{Outputs, print_now, print_number};
 use hg_model::verdict::Refusal;
+use hg_reading::ending::{Ending, ended, hold_stop, status_of_end};
 use hg_reading::sink::{Sink, access_event};
 use hg_reading::whole::read;
-use hg_store::devices::Devices;
+use hg_store::devices::{Caps, Devices};
 use hg_store::store::Store;
 use hg_streams::input::Input;
-use hg_streams::output::Output;
+use hg_streams::output::{Output, Outputs};
+use hg_streams::printing::{print_now, print_number};
+use hg_streams::telling::tell;
 use hg_trail::Trail;
 use hg_wire::line::AccessLine;
 use hg_wire::reader::Reading;
@@ -206,7 +202,7 @@ fn recover_and_feed<D: Disk, R: Read, W: Write>(
     ensures cause { FailedFor ⟦<D as Disk>⟧ devices input.old input.new output.old output.new result }
     ensures kept { AcksAreKept ⟦<D as Disk>⟧ devices output.old result.2 result.1 output.new }
 {
-    match open_store(alloc, devices, plan.frames) {
+    match Store::recover(alloc, devices, plan.frames, Caps::profile()) {
         Ok(store) => {
             let mut moments = Trail::new();
             moments.push(Moment::of(&store, &*output));

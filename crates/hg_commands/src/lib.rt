@@ -1,4 +1,4 @@
-//! The commands that change a store: making one, and feeding it a trace text.
+//! The commands over a store: making one, feeding it a trace text, and printing what it holds.
 #![tactic(auto)]
 
 pub mod checkpointing;
@@ -6,5 +6,6 @@ pub mod creating;
 pub mod feeding;
 pub mod laws;
 pub mod lines;
+pub mod listing;
 pub mod moment;
 pub mod plan;

@@ -2,22 +2,22 @@
 
 ghost use Rattle.std.specs.Prelude.{◌≡◌, ◌+◌, ◌<◌, ◌^◌, ◌%◌, false, length, IfErr, OnOk};
 ghost use Rattle.hg_streams.specs.Told.{told};
-ghost use Rattle.hg_check.specs.Printing.{Took};
+ghost use Rattle.hg_streams.specs.Written.{Took};
 ghost use Rattle.hg_commands.specs.FeedRunning.{EndsLine, IsReady, WasCommitted, WasSent};
-ghost use Rattle.hg_check.specs.Streaming.{IsStreamFault};
-ghost use Rattle.hg_listing.specs.Printed.{IsPrintedNow};
+ghost use Rattle.hg_streams.specs.Faults.{IsStreamFault};
+ghost use Rattle.hg_streams.specs.Printed.{IsPrintedNow};
 ghost use Rattle.hg_commands.specs.Stepping.{BreaksWhere, Counted, EndsWhere, Failed, PassesWhere, StaysKept, ack_due, ack_of};
 ghost use Rattle.hg_commands.specs.FeedFaults.{IsFeedFault};
 
 use crate::moment::Moment;
-use hg_check::checker::Ending;
 use hg_detect::detector::Answer;
 use hg_disk::Disk;
-use hg_listing::printing::print_number;
 use hg_model::event::{Event, Named};
 use hg_model::verdict::Refusal;
+use hg_reading::ending::Ending;
 use hg_store::store::Store;
 use hg_streams::output::Output;
+use hg_streams::printing::print_number;
 use hg_trail::Trail;
 use hg_wire::reader::Reading;
 use std::io::Write;

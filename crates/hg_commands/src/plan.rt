@@ -1,6 +1,6 @@
 //! What is asked of a feeding.
 
-ghost use Rattle.hg_listing.specs.Opening.{IsFrameCount};
+ghost use Rattle.hg_store.specs.Limits.{IsFrameCount};
 
 /// How a store is fed.
 #[derive(Clone, Copy, Drop)]

@@ -4,3 +4,5 @@ pub mod Through
 pub mod Keeping
 pub mod Parsing
 pub mod Pushing
+pub mod Endings
+pub mod Inputs

@@ -2,6 +2,7 @@
 //! the run.
 #![tactic(auto)]
 
+pub mod ending;
 pub mod kept;
 pub mod part;
 pub mod pieces;

@@ -1,6 +1,6 @@
 //! The lines of a piece.
 
-ghost use Rattle.std.specs.Prelude.{◌≡◌, ℕ, ◌+◌, ◌<◌, ◌^◌, [], Ok, Err, Some, None, ⊤, length};
+ghost use Rattle.std.specs.Prelude.{◌≡◌, ◌+◌, ◌<◌, ◌^◌, Ok, Some, None, ⊤, length};
 ghost use Rattle.hg_reading.specs.Taking.{HasNoneLeft, Offers};
 
 use crate::sink::Sink;

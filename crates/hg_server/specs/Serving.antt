@@ -12,11 +12,12 @@ use Rattle.hg_store.specs.Images.{EachImageAlong, IsOn, Recovers, failures_of, r
 use Rattle.hg_store.specs.Shown.{ShownStore, live, saved}
 use Rattle.hg_store.specs.Store.{Backs}
 use Rattle.hg_desk.specs.Going.{Began, LeadsTo, WentOn, oldest}
-use Rattle.hg_check.specs.Printing.{Took, line_text}
-use Rattle.hg_check.specs.Streaming.{IsTold}
-use Rattle.hg_check.specs.Written.{TookFront}
-use Rattle.hg_listing.specs.declared.printing.Outputs.{Outputs}
-use Rattle.hg_listing.specs.Storing.{IsCounted, IsTrueOf, number_text, store_end_line}
+use Rattle.hg_streams.specs.Written.{Took, TookFront}
+use Rattle.hg_streams.specs.Texts.{line_text, number_text, counts_line}
+use Rattle.hg_streams.specs.Faults.{IsTold}
+use Rattle.hg_streams.specs.declared.output.Outputs.{Outputs}
+use Rattle.hg_store.specs.Recovering.{CountedBy}
+use Rattle.hg_store.specs.Refusals.{IsTrueOf}
 use Rattle.hg_server.specs.declared.fault.ServingFault.{ServingFault}
 use Rattle.hg_server.specs.declared.fault.ServingFault.TheVariants as fault
 use Rattle.hg_server.specs.declared.serving.Outcome.{Outcome}
@@ -24,7 +25,7 @@ use Rattle.hg_server.specs.declared.serving.Plan.{Plan}
 
 -- how many connections were served, and the end line of a store with this content
 abbrev pub served_text : ℕ → Content → List ℕ
-served_text connections c = number_text (codes "served ") connections ++ line_text (store_end_line c)
+served_text connections c = number_text (codes "served ") connections ++ line_text (counts_line c)
 
 -- all that a server prints if its store ends with this content
 abbrev pub serving_text : Plan → Content → List ℕ
@@ -105,7 +106,7 @@ module _ {D : Type 0} (g : disk.Ghosts D) where
 
   -- Why a server ends early: the devices have no store that fits, or as `IsServingFault` says.
   abbrev pub HasServeCause : Devices D → Devices D → Refusal → Type 0
-  HasServeCause old new r = (IsTrueOf g old r × IsCounted r (failures_of g old) (failures_of g new)) ⊎ IsServingFault old new r
+  HasServeCause old new r = (IsTrueOf g old r × CountedBy r (failures_of g old) (failures_of g new)) ⊎ IsServingFault old new r
 
   -- Nothing was written, and the devices were only looked at; or a front of what is due for the last content was written.
   abbrev pub WroteServing : Plan → Devices D → List (Devices D) → Devices D → List WriteCall → List WriteCall → Type 0

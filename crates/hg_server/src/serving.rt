@@ -1,29 +1,28 @@
 //! The server: a listener, and workers in threads of their own.
 
-ghost use Rattle.std.specs.Prelude.{◌≡◌, ◌⊎◌, ◌≤◌, ◌++◌, ℕ, List, [], Some, IfErr, IfOk, IsTrue, OnOk, false};
+ghost use Rattle.std.specs.Prelude.{◌≡◌, ◌≤◌, Some, IfErr, IsTrue, OnOk, false};
 ghost use Rattle.hg_store.specs.Images.{failures_of};
 ghost use Rattle.hg_store.specs.Shown.{live};
-ghost use Rattle.hg_check.specs.Streaming.{IsStreamFault};
-ghost use Rattle.hg_listing.specs.Opening.{IsFrameCount};
+ghost use Rattle.hg_streams.specs.Faults.{IsStreamFault};
+ghost use Rattle.hg_store.specs.Limits.{IsFrameCount};
 ghost use Rattle.hg_desk.specs.Blanks.{IsBlankOf};
 ghost use Rattle.hg_desk.specs.Going.{FailedSince, WentOn, WentOnSince, began};
 ghost use Rattle.hg_server.specs.Serving.{AddsFrontOnErr, AddsOnOk, EndsWellOnOk, HasServeCause, IsServingFault, IsSettled, IsStatusOf, IsToldTruly, PrintsAllOnOk, PrintsFrontOnErr, ServesWell, StillWentOn, StopsEarly, WroteServingOnErr, served_by};
 
+use crate::ending::hold_end_line;
 use crate::fault::ServingFault;
 use crate::worker::{Gate, Seat, worker};
 use crossbeam_channel::Sender;
-use hg_check::telling::tell;
 use hg_desk::moment::Moment;
 use hg_desk::share::{Column, Opening, Share};
 use hg_desk::shared::{Shared, TakenIn, gather};
 use hg_disk::Disk;
-use hg_listing::listing::hold_end_line;
-use hg_listing::opening::open_store;
-use hg_listing::printing::{Outputs, print_now, print_number};
 use hg_model::verdict::Refusal;
-use hg_store::devices::Devices;
+use hg_store::devices::{Caps, Devices};
 use hg_store::store::Store;
-use hg_streams::output::Output;
+use hg_streams::output::{Output, Outputs};
+use hg_streams::printing::{print_now, print_number};
+use hg_streams::telling::tell;
 use hg_trail::Trail;
 use std::alloc::{AllocError, Global};
 use std::io::{ErrorKind, Write};
@@ -397,7 +396,7 @@ fn recover_and_serve<
     ensures cause { IfErr result.0 (λ e. HasServeCause ⟦<D as Disk>⟧ devices e.1 e.0) }
     ensures wrote { WroteServingOnErr ⟦<D as Disk>⟧ door.now.plan devices result.1 output.old output.new result.0 }
 {
-    let store = match open_store(alloc, devices, door.plan.frames) {
+    let store = match Store::recover(alloc, devices, door.plan.frames, Caps::profile()) {
         Ok(store) => store,
         Err(refused) => return (Err(refused), Trail::new()),
     };

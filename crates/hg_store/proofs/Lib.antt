@@ -17,3 +17,4 @@ pub mod Freezing
 pub mod Replaying
 pub mod Making
 pub mod Telling
+pub mod Refusals

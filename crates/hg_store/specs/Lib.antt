@@ -7,3 +7,5 @@ pub mod Steps
 pub mod Doing
 pub mod Runs
 pub mod Recovering
+pub mod Limits
+pub mod Refusals

@@ -1,5 +1,5 @@
 -- What the calls of a stream gave and took. Lists of calls have the newest first.
-use Rattle.std.specs.Prelude.{ℕ, ◌+◌, List, [], ◌∷◌, ◌++◌, take, ⊤, Option, Some, None, Result, Ok, Err}
+use Rattle.std.specs.Prelude.{ℕ, ◌+◌, List, [], ◌∷◌, ◌++◌, ◌≡◌, ◌<◌, take, ⊤, Option, Some, None, Result, Ok, Err}
 use Rattle.std.specs.declared.io.ErrorKind.{ErrorKind}
 use Rattle.std.specs.declared.io.ErrorKind.TheVariants.{Interrupted}
 use Rattle.hg_streams.specs.declared.call.ReadCall.{ReadCall}
@@ -85,3 +85,9 @@ abbrev pub as_got : {E : Type 0} → Result (Option ℕ) E → Result ℕ ⊤
 as_got (Ok (Some n)) = Ok n
 as_got (Ok None) = Err tt
 as_got (Err e) = Err tt
+
+-- The whole input may be these bytes: they begin with the bytes of the reads, and are no more than those if a read met the end.
+pub record MayBe (reads : List ReadCall) (input : List ℕ) : Type 0 where
+  pub more : List ℕ
+  pub joined : input ≡ given reads ++ more
+  pub over : 0 < ends_met reads → more ≡ []

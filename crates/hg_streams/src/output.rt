@@ -1,4 +1,4 @@
-//! Writers that keep their writes.
+//! Writers that keep their writes, and where a command prints.
 
 ghost use Rattle.std.specs.Prelude.{◌≡◌, ◌∷◌, [], IfErr, OnOk};
 ghost use Rattle.std.specs.Io.KnownBytes.{Appends, Keeps};
@@ -82,4 +82,13 @@ impl<W: Write> Output<W> {
             }
         }
     }
+}
+
+/// Where a command prints.
+#[derive(Drop)]
+pub struct Outputs<W, V> {
+    /// What it was asked for.
+    pub output: Output<W>,
+    /// The fault that it ended by.
+    pub faults: Output<V>,
 }

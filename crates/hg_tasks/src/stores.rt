@@ -1,24 +1,23 @@
 //! Commands on the store in a directory.
 
+use crate::directory::{Access, make_directory, open_directory};
 use crate::events::EventText;
 use crate::streams::{noted_outputs, plain_outputs};
 use crate::texts::Wanted;
 use crate::told::{FAULT, fail_to_open, tell_of_feeding, tell_of_listing};
-use hg_check::telling::tell;
+use hg_check::explain::commands::explain;
+use hg_check::explain::form::Form;
 use hg_commands::creating::create_store;
 use hg_commands::feeding::feed;
+use hg_commands::listing::{store_graph, store_reports};
 use hg_commands::plan::FeedPlan;
-use hg_directory::{Access, make_directory, open_directory};
 use hg_disk::FileDisk;
-use hg_explain::commands::explain;
-use hg_explain::form::Form;
-use hg_listing::listing::{store_graph, store_reports};
-use hg_listing::opening::open_store;
-use hg_listing::printing::Outputs;
 use hg_options::task::{Explaining, Frames};
-use hg_store::devices::Devices;
+use hg_store::devices::{Caps, Devices};
+use hg_store::store::Store;
 use hg_streams::input::Input;
-use hg_streams::output::Output;
+use hg_streams::output::{Output, Outputs};
+use hg_streams::telling::tell;
 use hg_verbose::lines::Lines;
 use hg_verbose::noted::NotedReader;
 use std::alloc::Global;
@@ -108,7 +107,7 @@ pub fn explain_in(rt: &HostRuntime, directory: &str, explaining: Explaining) -> 
         Err(fault) => return fail_to_open(rt, &fault, false),
     };
     let mut faults = Output::new(rt.stderr());
-    let store = match open_store(rt.alloc(), devices, 64) {
+    let store = match Store::recover(rt.alloc(), devices, 64, Caps::profile()) {
         Ok(store) => store,
         Err((refusal, _)) => {
             tell(refusal, &mut faults);

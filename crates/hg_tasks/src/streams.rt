@@ -1,7 +1,6 @@
 //! Where commands print, on the standard streams.
 
-use hg_listing::printing::Outputs;
-use hg_streams::output::Output;
+use hg_streams::output::{Output, Outputs};
 use hg_verbose::noted::NotedWriter;
 use std::io::{Stderr, Stdout};
 

@@ -3,12 +3,11 @@
 use crate::streams::{noted_outputs, plain_outputs};
 use crate::told::tell_of_text;
 use hg_check::commands::{check, graph};
-use hg_explain::commands::explain;
-use hg_explain::form::Form;
-use hg_listing::printing::Outputs;
+use hg_check::explain::commands::explain;
+use hg_check::explain::form::Form;
 use hg_options::task::{Explaining, Jobs};
 use hg_streams::input::Input;
-use hg_streams::output::Output;
+use hg_streams::output::{Output, Outputs};
 use hg_verbose::lines::Lines;
 use hg_verbose::noted::NotedReader;
 use std::alloc::Global;

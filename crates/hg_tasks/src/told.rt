@@ -1,12 +1,11 @@
 //! Faults, and what the last line means, told on standard error.
 
-use hg_check::telling::tell;
-use hg_directory::{Cause, OpenFault};
+use crate::directory::{Cause, OpenFault};
 use hg_disk::FileDisk;
-use hg_listing::printing::Outputs;
 use hg_model::verdict::Refusal;
 use hg_store::devices::Devices;
-use hg_streams::output::Output;
+use hg_streams::output::{Output, Outputs};
+use hg_streams::telling::tell;
 use hg_verbose::fault::{Source, damage, replay};
 use hg_verbose::last::{Last, last_of};
 use hg_verbose::lines::Lines;

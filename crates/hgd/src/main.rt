@@ -1,17 +1,17 @@
 //! `hgd`: a detector of data races in traces of programs with threads.
 #![tactic(auto)]
 
-use hg_check::telling::tell;
 use hg_commands::plan::FeedPlan;
-use hg_directory::{Access, Cause, open_directory};
 use hg_disk::FileDisk;
-use hg_listing::printing::Outputs;
 use hg_model::verdict::Refusal;
 use hg_options::reading::read;
 use hg_options::task::{Frames, Jobs, Misread, Serving, StoreTask, Task};
 use hg_server::serving::{Door, Plan, serve};
 use hg_server::worker::OpenGate;
 use hg_store::devices::Devices;
+use hg_streams::output::Outputs;
+use hg_streams::telling::tell;
+use hg_tasks::directory::{Access, Cause, open_directory};
 use hg_tasks::stores::{create_in, explain_in, feed_in, print_of_store};
 use hg_tasks::streams::plain_outputs;
 use hg_tasks::texts::{Wanted, explain_input, print_of_input};

@@ -7,9 +7,9 @@ use Rattle.hg_store.specs.Recovering.{after_create_fault}
 use Rattle.hg_store.specs.declared.create.CreateFault.{CreateFault}
 use Rattle.hg_store.specs.declared.create.CreateFault.TheVariants.{NotEmpty, Refused}
 use Rattle.hg_streams.specs.Told.{told_refusal}
-use Rattle.hg_listing.proofs.Causes.{refusal_is_counted}
-use Rattle.hg_listing.proofs.Fronts.{printed_front}
-use Rattle.hg_check.proofs.Printed.{front_none}
+use Rattle.hg_commands.proofs.Causes.{refusal_is_counted}
+use Rattle.hg_streams.proofs.Fronts.{printed_front}
+use Rattle.hg_streams.proofs.Printed.{front_none}
 use Rattle.hg_commands.proofs.Made.{fresh_is_left, none_is_made, one_is_made, one_is_there}
 use Rattle.hg_commands.proofs.creating.make_and_print.Goals as goal
 

@@ -1,8 +1,8 @@
 use Rattle.std.proofs.Common.{List, ℕ, ◌++◌, ap, subst, ◌∙◌}
-use Rattle.hg_check.specs.Printing.{Took}
+use Rattle.hg_streams.specs.Written.{Took}
 use Rattle.hg_store.specs.Shown.{live}
 use Rattle.hg_commands.specs.Feeding.{feed_end_text}
-use Rattle.hg_listing.specs.Printed.{IsPrintedNow}
+use Rattle.hg_streams.specs.Printed.{IsPrintedNow}
 use Rattle.hg_commands.proofs.feeding.print_end.Goals as goal
 
 pub returns-clause-printed : goal.returns-clause-printed

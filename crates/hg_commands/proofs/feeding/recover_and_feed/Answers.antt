@@ -1,14 +1,18 @@
 use Rattle.std.proofs.lemmas.Result.{IfErr-weaker, IfOk-weaker}
-use Rattle.std.proofs.Common.{inl, inr, refl, sym, subst}
-use Rattle.hg_check.specs.declared.checker.Ending.{Ending}
+use Rattle.std.proofs.Common.{ℕ, IsTrue, inl, inr, refl, sym, subst}
+use Rattle.hg_reading.specs.declared.ending.Ending.{Ending}
 use Rattle.hg_contents.specs.Images.{HasContent}
 use Rattle.hg_store.specs.declared.devices.Devices.{Devices}
-use Rattle.hg_store.specs.Images.{read_of}
+use Rattle.hg_store.specs.Images.{failures_of, read_of}
+use Rattle.hg_store.specs.Recovering.{HasTable}
 use Rattle.hg_store.specs.Shown.{live}
+use Rattle.hg_sets.specs.declared.table.TheConstants.{MOST_SETS}
+use Rattle.hg_store.proofs.Refusals.{recovery_is_true}
+use Rattle.hg_commands.proofs.Causes.{recovery_is_counted}
 use Rattle.hg_commands.specs.FeedRunning.{FeedDone, WasFed}
 use Rattle.hg_commands.specs.FeedFaults.{FeedFails, HasFeedCause}
 use Rattle.hg_commands.proofs.FeedDone.{feed_done}
-use Rattle.hg_listing.proofs.Fronts.{on_err_given}
+use Rattle.hg_streams.proofs.Fronts.{on_err_given}
 use Rattle.hg_commands.proofs.Kept.{fed_is_kept, none_is_kept}
 use Rattle.hg_commands.proofs.feeding.recover_and_feed.Goals as goal
 
@@ -18,11 +22,13 @@ returns-in-Ok-clause-fed g c =
     let later = c.feed_store-end.new.input.calls in
     let before = c.args.output.now.calls in
     let after = c.feed_store-end.new.output.calls in
+    let has_sets : IsTrue g.D.Disk.is_honest → HasTable MOST_SETS (read_of g.D.Disk c.args.devices) (live g.D.Disk c.in-Ok.store) c.in-Ok.store.detector.sets =
+    λ honest. subst (λ (n : ℕ). HasTable n (read_of g.D.Disk c.args.devices) (live g.D.Disk c.in-Ok.store) c.in-Ok.store.detector.sets) c.profile.ensures.0 (c.in-Ok.ensures.sets honest) in
     IfOk-weaker c.feed_store-end.result
     (λ (end : Ending). WasFed g.D.Disk reads later c.args.plan.source c.args.plan.checkpoint c.in-Ok.store c.feed_store-end.new.self.store before after end)
     (λ (end : Ending). FeedDone g.D.Disk reads later c.args.plan.source c.args.plan.checkpoint c.args.devices c.into_devices.result before after end)
     (λ end was. feed_done g.D.Disk reads later c.args.plan.source c.args.plan.checkpoint c.args.devices c.into_devices.result c.in-Ok.store c.feed_store-end.new.self.store
-    before after end c.in-Ok.ensures.content c.in-Ok.ensures.sets c.in-Ok.ensures.device was c.into_devices.ensures)
+    before after end c.in-Ok.ensures.content has_sets c.in-Ok.ensures.device was c.into_devices.ensures)
     c.feed_store-end.ensures.fed
 
 pub returns-in-Ok-clause-kept : goal.returns-in-Ok-clause-kept
@@ -44,7 +50,10 @@ returns-in-Ok-clause-front g c =
     (λ w. inr (λ honest.
     let began = c.in-Ok.ensures.content honest in (
       c.in-Ok.store.detector.sets,
-      (live g.D.Disk c.in-Ok.store, (subst (λ x. HasContent (read_of g.D.Disk c.args.devices) x) (sym began.2.has) began.1, (c.in-Ok.ensures.sets honest, w honest))),
+      (live g.D.Disk c.in-Ok.store, (subst (λ x. HasContent (read_of g.D.Disk c.args.devices) x) (sym began.2.has) began.1, (
+        subst (λ (n : ℕ). HasTable n (read_of g.D.Disk c.args.devices) (live g.D.Disk c.in-Ok.store) c.in-Ok.store.detector.sets) c.profile.ensures.0 (c.in-Ok.ensures.sets honest),
+        w honest,
+      ))),
     )))
     c.feed_store-end.ensures.front
 
@@ -61,4 +70,11 @@ returns-in-Ok-clause-cause g c =
     c.feed_store-end.ensures.cause
 
 pub returns-in-Err-clause-cause : goal.returns-in-Err-clause-cause
-returns-in-Err-clause-cause g c = inl (record { is_true = c.in-Err.ensures.cause; failed = c.in-Err.ensures.fault; unread = refl; unwritten = refl })
+returns-in-Err-clause-cause g c =
+    inl (record {
+      is_true = recovery_is_true g.D.Disk c.args.devices c.in-Err.refusal c.profile.result.sets
+          c.in-Err.ensures.refusal c.profile.ensures.0 c.in-Err.ensures.damaged c.in-Err.ensures.full;
+      failed = recovery_is_counted c.in-Err.refusal (failures_of g.D.Disk c.args.devices) (failures_of g.D.Disk c.in-Err.devices) c.in-Err.ensures.device;
+      unread = refl;
+      unwritten = refl;
+    })

@@ -1,11 +1,10 @@
 use Rattle.std.proofs.Common.{◌≡◌, ◌∙◌, ◌++◌, ℕ, List, append_assoc, ap, codes, subst}
 use Rattle.hg_streams.specs.declared.call.WriteCall.{WriteCall}
-use Rattle.hg_check.proofs.Printed.{always_err, appends_on, front_more}
-use Rattle.hg_check.specs.Printing.{Took, line_text}
-use Rattle.hg_check.specs.Written.{TookFront}
-use Rattle.hg_listing.proofs.Fronts.{printed_front_on, took_front}
-use Rattle.hg_listing.specs.Printed.{IsPrintedNow}
-use Rattle.hg_listing.specs.Storing.{number_text, store_end_line}
+use Rattle.hg_streams.proofs.Printed.{always_err, appends_on, front_more}
+use Rattle.hg_streams.specs.Written.{Took, TookFront}
+use Rattle.hg_streams.specs.Texts.{line_text, number_text, counts_line}
+use Rattle.hg_streams.proofs.Fronts.{printed_front_on, took_front}
+use Rattle.hg_streams.specs.Printed.{IsPrintedNow}
 use Rattle.hg_store.specs.Shown.{live}
 use Rattle.hg_server.proofs.serving.print_end.Goals as goal
 
@@ -18,7 +17,7 @@ took_line old new n m same = subst (λ (k : ℕ). Took old new (number_text (cod
 
 pub returns-clause-printed : goal.returns-clause-printed
 returns-clause-printed g c =
-    let end : List ℕ = line_text (store_end_line (live g.D.Disk c.args.store.now)) in
+    let end : List ℕ = line_text (counts_line (live g.D.Disk c.args.store.now)) in
     let old = c.args.output.now.calls in
     let mid = c.print_number.new.output.calls in
     let held : c.hold_end_line.new.held.items ≡ end = c.in_ok-hold_end_line.ensures.ok ∙ ap (λ (l : List ℕ). l ++ end) c.new-held.ensures.items in
@@ -28,7 +27,7 @@ returns-clause-printed g c =
 
 pub returns-in_err-print_number-clause-front : goal.returns-in_err-print_number-clause-front
 returns-in_err-print_number-clause-front g c first before t =
-    let end : List ℕ = line_text (store_end_line (live g.D.Disk c.args.store.now)) in
+    let end : List ℕ = line_text (counts_line (live g.D.Disk c.args.store.now)) in
     let line : List ℕ = number_text (codes "served ") c.args.plan.connections in
     let old = c.args.output.now.calls in
     let new = c.print_number.new.output.calls in
@@ -37,7 +36,7 @@ returns-in_err-print_number-clause-front g c first before t =
 
 pub returns-in_err-hold_end_line-clause-front : goal.returns-in_err-hold_end_line-clause-front
 returns-in_err-hold_end_line-clause-front g c first before t =
-    let end : List ℕ = line_text (store_end_line (live g.D.Disk c.args.store.now)) in
+    let end : List ℕ = line_text (counts_line (live g.D.Disk c.args.store.now)) in
     let line : List ℕ = number_text (codes "served ") c.args.plan.connections in
     let old = c.args.output.now.calls in
     let mid = c.print_number.new.output.calls in
@@ -47,7 +46,7 @@ returns-in_err-hold_end_line-clause-front g c first before t =
 
 pub returns-in_err-print_now-clause-front : goal.returns-in_err-print_now-clause-front
 returns-in_err-print_now-clause-front g c first before t =
-    let end : List ℕ = line_text (store_end_line (live g.D.Disk c.args.store.now)) in
+    let end : List ℕ = line_text (counts_line (live g.D.Disk c.args.store.now)) in
     let line : List ℕ = number_text (codes "served ") c.args.plan.connections in
     let old = c.args.output.now.calls in
     let mid = c.print_number.new.output.calls in

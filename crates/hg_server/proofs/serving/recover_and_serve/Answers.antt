@@ -1,14 +1,19 @@
 use Rattle.std.proofs.Common.{◌≡◌, false, inl, inr, sym, subst, OnErr, OnOk, IsTrue}
 use Rattle.std.proofs.lemmas.Result.{IfErr-at_err}
 use Rattle.hg_store.specs.Shown.{live}
-use Rattle.hg_check.specs.Printing.{Took}
-use Rattle.hg_check.specs.Written.{TookFront}
+use Rattle.hg_store.proofs.Refusals.{recovery_is_true}
+use Rattle.hg_streams.specs.Written.{Took, TookFront}
 use Rattle.hg_server.specs.Serving.{HasServeCause, IsServingFault, IsSettled, WroteServing, serving_text}
 use Rattle.hg_server.proofs.Leaving.{serve_cause, served}
 use Rattle.hg_server.proofs.serving.recover_and_serve.Goals as goal
 
 pub returns-in-Err-clause-cause : goal.returns-in-Err-clause-cause
-returns-in-Err-clause-cause g c = inl (c.in-Err.ensures.cause, c.in-Err.ensures.fault)
+returns-in-Err-clause-cause g c =
+    inl (
+      recovery_is_true g.D.Disk c.args.devices c.in-Err.refused.0 c.profile.result.sets
+          c.in-Err.ensures.refusal c.profile.ensures.0 c.in-Err.ensures.damaged c.in-Err.ensures.full,
+      c.in-Err.ensures.device,
+    )
 
 pub returns-in-Err-ended-clause-cause : goal.returns-in-Err-ended-clause-cause
 returns-in-Err-ended-clause-cause g c =

@@ -7,12 +7,12 @@ use Rattle.hg_server.specs.declared.fault.ServingFault.{ServingFault}
 use Rattle.hg_server.specs.declared.fault.ServingFault.TheVariants as fault
 use Rattle.hg_streams.specs.declared.call.WriteCall.{WriteCall}
 use Rattle.hg_store.specs.Shown.{live}
-use Rattle.hg_check.proofs.Printed.{appends_on, front_more}
-use Rattle.hg_check.specs.Printing.{Took}
-use Rattle.hg_check.specs.Streaming.{IsStreamFault}
-use Rattle.hg_listing.proofs.Fronts.{printed_front, took_front}
-use Rattle.hg_listing.specs.Printed.{IsPrintedNow}
-use Rattle.hg_listing.specs.Storing.{number_text}
+use Rattle.hg_streams.proofs.Printed.{appends_on, front_more}
+use Rattle.hg_streams.specs.Written.{Took}
+use Rattle.hg_streams.specs.Faults.{IsStreamFault}
+use Rattle.hg_streams.proofs.Fronts.{printed_front, took_front}
+use Rattle.hg_streams.specs.Printed.{IsPrintedNow}
+use Rattle.hg_streams.specs.Texts.{number_text}
 use Rattle.hg_desk.specs.Going.{WentOn, began}
 use Rattle.hg_desk.proofs.Going.{went_nowhere}
 use Rattle.hg_server.specs.Serving.{IsServingFault, IsToldTruly, refusal_of, served_text, serving_text}

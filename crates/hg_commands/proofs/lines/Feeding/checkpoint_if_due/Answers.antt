@@ -1,9 +1,9 @@
 use Rattle.std.proofs.Common.{ℕ, Option, Some, codes, inl, inr, refl}
 use Rattle.std.proofs.lemmas.Result.{on_ok_weaker}
-use Rattle.hg_check.proofs.Printed.{always_err}
+use Rattle.hg_streams.proofs.Printed.{always_err}
 use Rattle.hg_commands.specs.Feeding.{checkpoint_text}
-use Rattle.hg_listing.specs.Printed.{IsPrintedNow}
-use Rattle.hg_listing.specs.Storing.{number_text}
+use Rattle.hg_streams.specs.Printed.{IsPrintedNow}
+use Rattle.hg_streams.specs.Texts.{number_text}
 use Rattle.hg_commands.proofs.Checkpointed.{checkpointed}
 use Rattle.hg_commands.proofs.Kept.{keeps_printed, keeps_then}
 use Rattle.hg_commands.proofs.lines.Feeding.checkpoint_if_due.Goals as goal

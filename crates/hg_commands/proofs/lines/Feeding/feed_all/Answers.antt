@@ -1,7 +1,7 @@
 use Rattle.std.proofs.Common.{Err, sym, subst}
 use Rattle.std.proofs.lemmas.Result.{err_from_is_err_and}
 use Rattle.hg_store.specs.Shown.{live}
-use Rattle.hg_check.proofs.Printed.{always_err}
+use Rattle.hg_streams.proofs.Printed.{always_err}
 use Rattle.hg_commands.specs.FeedRunning.{Feeds, place}
 use Rattle.hg_commands.proofs.FeedWhole.{fails, feeds, front, kept}
 use Rattle.hg_commands.proofs.lines.Feeding.feed_all.Goals as goal

@@ -3,7 +3,7 @@ use Rattle.hg_detect.specs.declared.detector.Answer.{Answer}
 use Rattle.hg_commands.specs.FeedRunning.{WasSent}
 use Rattle.hg_commands.proofs.FeedSteps.{breaks_accepted, breaks_still, ends_refused, fault_counted, fault_is_told, passes_accepted, passes_duplicate}
 use Rattle.hg_commands.proofs.Kept.{keeps_then}
-use Rattle.hg_check.proofs.Printed.{always_err}
+use Rattle.hg_streams.proofs.Printed.{always_err}
 use Rattle.hg_commands.proofs.lines.Feeding.feed_reading.Goals as goal
 
 pub returns-in_ok-count_accepted-in-Ok-Accepted-clause-passes : goal.returns-in_ok-count_accepted-in-Ok-Accepted-clause-passes

@@ -1,5 +1,5 @@
 use Rattle.std.proofs.Common.{◌≡◌, ℕ, Bool, true, false, None, Result, Ok, Err, cond, codes, refl, ap, subst, inl, inr, arith, ◌∙◌}
-use Rattle.hg_check.specs.Printing.{Took}
+use Rattle.hg_streams.specs.Written.{Took, TookFront}
 use Rattle.hg_model.specs.declared.verdict.Refusal.{Refusal}
 use Rattle.hg_model.specs.declared.verdict.Refusal.TheVariants as refusal
 use Rattle.hg_detect.specs.Shown as detect
@@ -7,14 +7,13 @@ use Rattle.hg_pool.specs.Maps as pools
 use Rattle.hg_pool.specs.Shown as pool
 use Rattle.hg_store.specs.Shown.{live}
 use Rattle.hg_commands.specs.Feeding.{feed_end_text}
-use Rattle.hg_listing.specs.Storing.{number_text}
+use Rattle.hg_streams.specs.Texts.{number_text}
 use Rattle.hg_commands.proofs.Kept.{keeps_printed, keeps_then}
 use Rattle.hg_commands.proofs.FeedDone.{was_fed}
 use Rattle.std.proofs.lemmas.Result.{err_from_is_err_and}
 use Rattle.hg_commands.proofs.FeedWhole.{reads_intact}
-use Rattle.hg_check.specs.Written.{TookFront}
-use Rattle.hg_check.proofs.Printed.{always_err, front_none}
-use Rattle.hg_listing.proofs.Fronts.{printed_front}
+use Rattle.hg_streams.proofs.Printed.{always_err, front_none}
+use Rattle.hg_streams.proofs.Fronts.{printed_front}
 use Rattle.hg_commands.proofs.FeedFronts.{resumed, wrote_acks, wrote_end, wrote_fed, wrote_made, wrote_resume}
 use Rattle.hg_commands.proofs.lines.Feeding.feed_store.Goals as goal
 

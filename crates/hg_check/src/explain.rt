@@ -1,0 +1,11 @@
+//! The command that explains a word: who accessed it, under which locks, and what that made of it.
+pub mod address;
+pub mod commands;
+pub mod explaining;
+pub mod form;
+pub mod laws;
+pub mod look;
+pub mod passing;
+pub mod pieces;
+pub mod run;
+pub mod telling;

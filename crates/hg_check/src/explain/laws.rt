@@ -1,0 +1,14 @@
+//! Laws of the definitions, each the promise of a function without a body.
+
+ghost use Rattle.hg_check.specs.LifeLaws.{LifeIsTheStory, RacesAreTheReports};
+
+/// What `explain` prints of a word is the word's story over the trace: each line by the access's item in the word's history,
+/// by the state that this history gives, and by the reports of the trace so far.
+pub fn life_is_the_story()
+    ensures { LifeIsTheStory }
+{}
+
+/// A race stands on the line of an event exactly where the word is reported at it and that report is kept.
+pub fn races_are_the_reports()
+    ensures { RacesAreTheReports }
+{}

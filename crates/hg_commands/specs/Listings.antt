@@ -1,0 +1,74 @@
+-- What is printed of what a store holds, and how that ends.
+use Rattle.std.specs.Prelude.{◌≡◌, ◌⊎◌, ℕ, List, [], ◌++◌, Vec, Result, IsTrue}
+use Rattle.hg_model.specs.declared.report.Report.{Report}
+use Rattle.hg_model.specs.declared.verdict.Refusal.{Refusal}
+use Rattle.hg_model.specs.Contents.{Content}
+use Rattle.hg_disk.specs.declared.disk.Disk as disk
+use Rattle.hg_contents.specs.Images.{HasContent}
+use Rattle.hg_store.specs.declared.devices.Devices.{Devices}
+use Rattle.hg_store.specs.Images.{read_of}
+use Rattle.hg_store.specs.Shown.{ShownStore, live}
+use Rattle.hg_streams.specs.Shown.{Outgoing}
+use Rattle.hg_streams.specs.Holding.{HoldsOrWrites, WritesFront, IsDue}
+use Rattle.hg_streams.specs.Texts.{line_text, reports_text, segments_text, counts_line}
+use Rattle.hg_streams.specs.Faults.{IsTold}
+use Rattle.hg_streams.specs.Written.{Took, TookFront}
+use Rattle.hg_commands.specs.declared.listing.Listing.{Listing}
+use Rattle.hg_commands.specs.declared.listing.Listing.TheVariants.{Reports, Segments}
+use Rattle.hg_streams.specs.declared.output.Outputs.{Outputs}
+use Rattle.hg_commands.specs.Storing.{IsCounted, failed_calls}
+use Rattle.hg_store.specs.Refusals.{IsTrueOf}
+
+-- What is printed of a store's content.
+abbrev pub listing_text : Listing → Content → List ℕ
+listing_text Reports c = reports_text 1 c.reports ++ line_text (counts_line c)
+listing_text Segments c = segments_text 0 c.segments
+
+module _ {V Z T E : Type 0} where
+  -- Where a call succeeded, the lines of the reports were written behind what was held, or are held.
+  abbrev pub HoldsReports : List Report → Outgoing V → Vec ℕ Z → Result T E → Outgoing V → Vec ℕ Z → Type 0
+  HoldsReports reports before old result after new = HoldsOrWrites (reports_text 1 reports) before.calls old.items result after.calls new.items
+
+  -- Where it failed, a front of the due text was written.
+  abbrev pub BreaksReports : List Report → Outgoing V → Vec ℕ Z → Result T E → Outgoing V → Type 0
+  BreaksReports reports before old result after = WritesFront (reports_text 1 reports) before.calls old.items result after.calls
+
+module _ {D V : Type 0} (g : disk.Ghosts D) where
+  -- The listing of a store was printed.
+  abbrev pub ListsStore : Listing → ShownStore D → Outgoing V → Outgoing V → Type 0
+  ListsStore listing s before after = Took before.calls after.calls (listing_text listing (live g s))
+
+  -- It was printed, except the held text.
+  abbrev pub ListsButHeld : {Z : Type 0} → Listing → ShownStore D → Outgoing V → Outgoing V → Vec ℕ Z → Type 0
+  ListsButHeld listing s before after held = IsDue before.calls after.calls held.items [] (listing_text listing (live g s))
+
+  -- A front of it was printed.
+  abbrev pub ListsFront : Listing → ShownStore D → Outgoing V → Outgoing V → Type 0
+  ListsFront listing s before after = TookFront before.calls after.calls (listing_text listing (live g s))
+
+  -- Honest devices have a content, and its listing was printed.
+  abbrev pub ListsContent : Listing → Devices D → Outgoing V → Outgoing V → Type 0
+  ListsContent listing devices before after =
+      IsTrue g.is_honest → (c : Content) × HasContent (read_of g devices) c × Took before.calls after.calls (listing_text listing c)
+
+  -- A front of the listing of a content was written, or nothing. Honest devices have that content.
+  abbrev pub WroteListing : Listing → Devices D → Outgoing V → Outgoing V → Type 0
+  WroteListing listing old before after =
+      (after.calls ≡ before.calls)
+      ⊎ ((c : Content) × ((IsTrue g.is_honest → HasContent (read_of g old) c) × TookFront before.calls after.calls (listing_text listing c)))
+
+  -- Why a listing ended by a fault: it is true of the devices, and the calls that failed are told.
+  pub record HasListingCause (old new : Devices D) (before after : Outgoing V) (r : Refusal) : Type 0 where
+    pub is_true : IsTrueOf g old r
+    pub failed : IsCounted r (failed_calls g old before.calls) (failed_calls g new after.calls)
+
+module _ {D W V : Type 0} (g : disk.Ghosts D) where
+  -- For the command: honest devices have a content, and its listing was printed.
+  abbrev pub IsListed : Listing → Devices D → Outputs W V → Outputs W V → Type 0
+  IsListed listing devices before after = ListsContent g listing devices before.output after.output
+
+  -- A listing ended by a fault. The fault had a cause; it was told, or telling it failed; and before it a front of the due text was written.
+  abbrev pub CantList : Listing → Devices D → Devices D → Outputs W V → Outputs W V → Type 0
+  CantList listing old new before after =
+      (r : Refusal) × (HasListingCause g old new before.output after.output r
+      × (IsTold before.faults.calls after.faults.calls r × WroteListing g listing old before.output after.output))

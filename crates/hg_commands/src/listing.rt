@@ -1,0 +1,204 @@
+//! The commands that print what a store holds.
+
+ghost use Rattle.std.specs.Prelude.{◌≡◌, ◌⊎◌, ◌++◌, ◌+◌, [], Ok, Err, OnErr, OnOk, IfErr, IsTrue, false};
+ghost use Rattle.hg_streams.specs.Calls.{failed_writes};
+ghost use Rattle.hg_streams.specs.Told.{told};
+ghost use Rattle.hg_store.specs.Images.{Recovers};
+ghost use Rattle.hg_streams.specs.Written.{Took};
+ghost use Rattle.hg_streams.specs.Faults.{IsStreamFault};
+ghost use Rattle.hg_commands.specs.Listings.{BreaksReports, CantList, HasListingCause, HoldsReports, IsListed, ListsButHeld, ListsContent, ListsFront, ListsStore, WroteListing};
+ghost use Rattle.hg_store.specs.Limits.{IsFrameCount};
+ghost use Rattle.hg_commands.specs.Storing.{NoCallFailed, end_text};
+
+use hg_disk::Disk;
+use hg_model::report::Report;
+use hg_model::verdict::Refusal;
+use hg_store::devices::{Caps, Devices};
+use hg_store::store::Store;
+use hg_streams::holding::{hold_counts, hold_report, write_if_large, write_out};
+use hg_streams::output::{Output, Outputs};
+use hg_streams::printing::print_segments;
+use hg_streams::telling::tell;
+use std::alloc::Global;
+use std::io::Write;
+
+/// What is printed of a store.
+#[derive(Clone, Copy, Debug, PartialEq, Eq, Drop)]
+pub enum Listing {
+    /// The kept reports, and the end line.
+    Reports,
+    /// The thread segments.
+    Segments,
+}
+
+/// Holds the end line of a store that is not broken: the counts of its accepted events, its reports and its segments.
+pub fn hold_end_line<D: Disk>(store: &Store<D>, held: &mut Vec<u8>) -> Result<(), Refusal>
+    requires works { store.now.is_broken ≡ false }
+    ensures ok { OnOk result (held.new.items ≡ held.old.items ++ end_text ⟦<D as Disk>⟧ store.now) }
+    ensures cause { IfErr result (λ r. r ≡ Refusal.OutOfMemory) }
+{
+    let events = store.events()?;
+    let races = store.total()?;
+    let segments = store.graph()?.len() as u64;
+    hold_counts(events, races, segments, held)
+}
+
+/// Prints the lines of kept reports.
+fn print_kept<W: Write>(
+    reports: &[Report],
+    held: &mut Vec<u8>,
+    output: &mut Output<W>,
+) -> Result<(), Refusal>
+    ensures printed { HoldsReports reports.now output.old held.old result output.new held.new }
+    ensures front { BreaksReports reports.now output.old held.old result output.new }
+    ensures cause { IfErr result IsStreamFault }
+    ensures fault { failed_writes output.new.calls ≡ told result + failed_writes output.old.calls }
+{
+    let mut before = 0;
+    for report in reports {
+        hold_report(before + 1, report, held)?;
+        write_if_large(held, output)?;
+        before += 1;
+    }
+    Ok(())
+}
+
+/// Writes a listing of a store in large pieces; what remains below 64 KiB stays in `held`.
+fn print_listing<D: Disk, W: Write>(
+    alloc: Global,
+    store: &Store<D>,
+    listing: Listing,
+    held: &mut Vec<u8>,
+    output: &mut Output<W>,
+) -> Result<(), Refusal>
+    requires works { store.now.is_broken ≡ false }
+    requires none { held.old.items ≡ [] }
+    ensures printed { OnOk result (ListsButHeld ⟦<D as Disk>⟧ listing store.now output.old output.new held.new) }
+    ensures front { OnErr result (ListsFront ⟦<D as Disk>⟧ listing store.now output.old output.new) }
+    ensures cause { IfErr result IsStreamFault }
+    ensures fault { failed_writes output.new.calls ≡ told result + failed_writes output.old.calls }
+{
+    match listing {
+        Listing::Reports => {
+            let reports = store.reports(alloc)?;
+            print_kept(reports.as_slice(), held, output)?;
+            hold_end_line(store, held)
+        }
+        Listing::Segments => print_segments(store.graph()?, held, output),
+    }
+}
+
+/// Prints a listing of a store that is not broken.
+fn print_store<D: Disk, W: Write>(
+    alloc: Global,
+    store: &Store<D>,
+    listing: Listing,
+    output: &mut Output<W>,
+) -> Result<(), Refusal>
+    requires works { store.now.is_broken ≡ false }
+    ensures printed { OnOk result (ListsStore ⟦<D as Disk>⟧ listing store.now output.old output.new) }
+    ensures front { OnErr result (ListsFront ⟦<D as Disk>⟧ listing store.now output.old output.new) }
+    ensures cause { IfErr result IsStreamFault }
+    ensures fault { failed_writes output.new.calls ≡ told result + failed_writes output.old.calls }
+{
+    let mut held = Vec::new(alloc);
+    print_listing(alloc, store, listing, &mut held, output)?;
+    write_out(&mut held, output)?;
+    output.flush()?;
+    Ok(())
+}
+
+/// Recovers a store, prints what it holds, and hands its devices back.
+fn recover_and_print<D: Disk, W: Write>(
+    alloc: Global,
+    devices: Devices<D>,
+    frames: u16,
+    listing: Listing,
+    output: &mut Output<W>,
+) -> (Result<(), Refusal>, Devices<D>)
+    requires { IsFrameCount frames }
+    ensures prints { OnOk result.0 (ListsContent ⟦<D as Disk>⟧ listing devices output.old output.new) }
+    ensures front { OnErr result.0 (WroteListing ⟦<D as Disk>⟧ listing devices output.old output.new) }
+    ensures device { OnOk result.0 (NoCallFailed ⟦<D as Disk>⟧ devices result.1) }
+    ensures cause { IfErr result.0 (HasListingCause ⟦<D as Disk>⟧ devices result.1 output.old output.new) }
+    ensures images { IsTrue D.is_honest → Recovers ⟦<D as Disk>⟧ devices result.1 }
+{
+    match Store::recover(alloc, devices, frames, Caps::profile()) {
+        Ok(store) => {
+            let printed = print_store(alloc, &store, listing, output);
+            (printed, store.into_devices())
+        }
+        Err((refusal, devices)) => (Err(refusal), devices),
+    }
+}
+
+/// Prints a listing of the store that the devices hold, and answers the status as `store_reports` does.
+fn list_store<D: Disk, W: Write, V: Write>(
+    alloc: Global,
+    devices: Devices<D>,
+    frames: u16,
+    listing: Listing,
+    outputs: &mut Outputs<W, V>,
+) -> (u8, Devices<D>)
+    requires { IsFrameCount frames }
+    ensures status { (result.0 ≡ 0) ⊎ (result.0 ≡ 3) }
+    ensures prints { result.0 ≡ 0 → IsListed ⟦<D as Disk>⟧ listing devices outputs.old outputs.new }
+    ensures device { result.0 ≡ 0 → NoCallFailed ⟦<D as Disk>⟧ devices result.1 }
+    ensures quiet { result.0 ≡ 0 → Took outputs.old.faults.calls outputs.new.faults.calls [] }
+    ensures fault { result.0 ≡ 3 → CantList ⟦<D as Disk>⟧ listing devices result.1 outputs.old outputs.new }
+    ensures images { IsTrue D.is_honest → Recovers ⟦<D as Disk>⟧ devices result.1 }
+{
+    let (printed, devices) = recover_and_print(
+        alloc,
+        devices,
+        frames,
+        listing,
+        &mut outputs.output,
+    );
+    match printed {
+        Ok(()) => (0, devices),
+        Err(refusal) => {
+            tell(refusal, &mut outputs.faults);
+            (3, devices)
+        }
+    }
+}
+
+/// Recovers the store that the devices hold, and prints its kept reports and the end line. Answers the status and the
+/// devices: 0, or 3 where they hold no store, a device or the output failed, or memory or room was refused, which is
+/// told among the faults. What was printed before that is a front of what was due. A recovery may write pages, but a crash at any
+/// moment leaves an image with the content of an image before.
+pub fn store_reports<D: Disk, W: Write, V: Write>(
+    alloc: Global,
+    devices: Devices<D>,
+    frames: u16,
+    outputs: &mut Outputs<W, V>,
+) -> (u8, Devices<D>)
+    requires { IsFrameCount frames }
+    ensures status { (result.0 ≡ 0) ⊎ (result.0 ≡ 3) }
+    ensures prints { result.0 ≡ 0 → IsListed ⟦<D as Disk>⟧ Listing.Reports devices outputs.old outputs.new }
+    ensures device { result.0 ≡ 0 → NoCallFailed ⟦<D as Disk>⟧ devices result.1 }
+    ensures quiet { result.0 ≡ 0 → Took outputs.old.faults.calls outputs.new.faults.calls [] }
+    ensures fault { result.0 ≡ 3 → CantList ⟦<D as Disk>⟧ Listing.Reports devices result.1 outputs.old outputs.new }
+    ensures images { IsTrue D.is_honest → Recovers ⟦<D as Disk>⟧ devices result.1 }
+{
+    list_store(alloc, devices, frames, Listing::Reports, outputs)
+}
+
+/// Recovers the store that the devices hold, and prints its thread segments. Answers as `store_reports` does.
+pub fn store_graph<D: Disk, W: Write, V: Write>(
+    alloc: Global,
+    devices: Devices<D>,
+    frames: u16,
+    outputs: &mut Outputs<W, V>,
+) -> (u8, Devices<D>)
+    requires { IsFrameCount frames }
+    ensures status { (result.0 ≡ 0) ⊎ (result.0 ≡ 3) }
+    ensures prints { result.0 ≡ 0 → IsListed ⟦<D as Disk>⟧ Listing.Segments devices outputs.old outputs.new }
+    ensures device { result.0 ≡ 0 → NoCallFailed ⟦<D as Disk>⟧ devices result.1 }
+    ensures quiet { result.0 ≡ 0 → Took outputs.old.faults.calls outputs.new.faults.calls [] }
+    ensures fault { result.0 ≡ 3 → CantList ⟦<D as Disk>⟧ Listing.Segments devices result.1 outputs.old outputs.new }
+    ensures images { IsTrue D.is_honest → Recovers ⟦<D as Disk>⟧ devices result.1 }
+{
+    list_store(alloc, devices, frames, Listing::Segments, outputs)
+}

@@ -1,4 +1,0 @@
-pub mod Storing
-pub mod Opening
-pub mod Listings
-pub mod Printed

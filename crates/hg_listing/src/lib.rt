@@ -1,6 +1,0 @@
-//! Opening a store, and printing what it holds.
-#![tactic(auto)]
-
-pub mod listing;
-pub mod opening;
-pub mod printing;

@@ -1,0 +1,40 @@
+-- Definition: part of what `check` promises. What is read and written, and how that fails.
+use Rattle.std.specs.Prelude.{◌≡◌, ◌⊎◌, ◌+◌, ◌<◌, ◌≤◌, ◌^◌, ℕ, List, length}
+use Rattle.hg_model.specs.declared.verdict.Refusal.{Refusal}
+use Rattle.hg_model.specs.Codes.{code_of}
+use Rattle.hg_streams.specs.declared.call.ReadCall.{ReadCall}
+use Rattle.hg_streams.specs.declared.call.WriteCall.{WriteCall}
+use Rattle.hg_streams.specs.Calls.{failed_reads, failed_writes}
+use Rattle.hg_streams.specs.Shown.{Incoming, Outgoing}
+use Rattle.hg_streams.specs.Written.{Took}
+use Rattle.hg_streams.specs.Texts.{fault_text}
+use Rattle.hg_model.specs.declared.verdict.Refusal.TheVariants.{DeviceFault, OutOfMemory}
+
+-- A write or a flush failed.
+abbrev pub WriteFailed : List WriteCall → List WriteCall → Type 0
+WriteFailed old new = failed_writes old < failed_writes new
+
+-- A read failed, or at least 2 ^ 32 reads were made.
+abbrev pub ReadFailed : List ReadCall → List ReadCall → Type 0
+ReadFailed old new = (failed_reads old < failed_reads new) ⊎ (2 ^ 32 + length old ≤ length new)
+
+-- A device fault has its cause in a stream that failed, and the one other fault is want of memory.
+abbrev pub HasCause : List ReadCall → List ReadCall → List WriteCall → List WriteCall → Refusal → Type 0
+HasCause reads_old reads_new old new r = (r ≡ OutOfMemory) ⊎ ((r ≡ DeviceFault) × (ReadFailed reads_old reads_new ⊎ WriteFailed old new))
+
+-- a fault of a stream or a device, or want of memory
+abbrev pub IsStreamFault : Refusal → Type 0
+IsStreamFault r = (r ≡ OutOfMemory) ⊎ (r ≡ DeviceFault)
+
+-- the same of a call that only writes
+abbrev pub HasWriteCause : List WriteCall → List WriteCall → Refusal → Type 0
+HasWriteCause old new r = (r ≡ OutOfMemory) ⊎ ((r ≡ DeviceFault) × WriteFailed old new)
+
+-- The fault was told, or telling it failed.
+abbrev pub IsTold : List WriteCall → List WriteCall → Refusal → Type 0
+IsTold old new r = WriteFailed old new ⊎ Took old new (fault_text (code_of r))
+
+-- The status 3 says that the run ended by a fault, which had a cause, and was told.
+abbrev pub EndsByFault : {R W V : Type 0} → ℕ → Incoming R → Incoming R → Outgoing W → Outgoing W → Outgoing V → Outgoing V → Type 0
+EndsByFault status reads later writes now faults told =
+    status ≡ 3 → (r : Refusal) × (HasCause reads.calls later.calls writes.calls now.calls r × IsTold faults.calls told.calls r)

@@ -1,0 +1,283 @@
+//! The files of a store's directory: opened, made, locked and made durable.
+ghost use Rattle.std.specs.Prelude.{◌≡◌, IfErr};
+
+use hg_disk::FileDisk;
+use hg_store::devices::Devices;
+use std::fs::{File, OpenOptions, TryLockError};
+use std::io::{ErrorKind, Read};
+use std::os::fd::AsRawFd;
+use std::os::unix::fs::OpenOptionsExt;
+use std::random::RandomSource;
+use std::string::String;
+use std::{env, fs, io};
+
+/// The greatest length of a store's `pages`: that of 1,048,576 slots.
+const MAX_PAGES_LEN: u64 = 1_048_576 * 3_080;
+
+/// Why a store's files can't be used.
+#[derive(Clone, Copy, Drop)]
+pub enum Cause {
+    DeviceFault,
+    OutOfMemory,
+}
+
+/// What a command does to a store.
+#[derive(Clone, Copy, PartialEq, Eq, Drop)]
+pub enum Access {
+    /// It makes the store. Files that are missing are made, and no other program may use the store meanwhile.
+    Make,
+    /// It adds events. No other program may use the store meanwhile.
+    Change,
+    /// It only looks. Other programs may do so too.
+    Look,
+}
+
+/// Why a store's files can't be used, at which of them, and what the system said.
+#[derive(Clone, Copy, Drop)]
+pub struct OpenFault {
+    pub cause: Cause,
+    pub name: &'static str,
+    pub error: Option<io::Error>,
+}
+
+/// A fault of a device.
+fn failed(name: &'static str, error: io::Error) -> OpenFault
+    ensures { result.cause ≡ Cause.DeviceFault }
+{
+    OpenFault {
+        cause: Cause::DeviceFault,
+        name,
+        error: Some(error),
+    }
+}
+
+/// Want of memory.
+fn out_of_memory(name: &'static str) -> OpenFault
+    ensures { result.cause ≡ Cause.OutOfMemory }
+{
+    OpenFault {
+        cause: Cause::OutOfMemory,
+        name,
+        error: None,
+    }
+}
+
+/// The file `name` of a directory, as text for the system.
+fn path_of(rt: &HostRuntime, directory: &str, name: &'static str) -> Result<String, OpenFault>
+    ensures { IfErr result (λ f. f.cause ≡ Cause.OutOfMemory) }
+{
+    match format!(in rt.alloc(); "{directory}/{name}") {
+        Ok(path) => Ok(path),
+        Err(_) => Err(out_of_memory(name)),
+    }
+}
+
+/// The file, unless it got one of the descriptors 0 to 2. These belong to the standard streams, even where they are closed.
+fn beside_streams(file: File) -> io::Result<File> {
+    if file.as_raw_fd() <= 2 {
+        return Err(io::Error::other("it got the descriptor of a closed standard stream"));
+    }
+    Ok(file)
+}
+
+/// Opens a file. `None` says that the directory exists, and has no such file.
+fn open_file(
+    rt: &HostRuntime,
+    directory: &str,
+    name: &'static str,
+    access: Access,
+) -> Result<Option<File>, OpenFault> {
+    let path = path_of(rt, directory, name)?;
+    let mut options = OpenOptions::new();
+    options
+        .read(true)
+        .write(access != Access::Look)
+        .create(access == Access::Make);
+    match options.open(rt, path.as_str()) {
+        Ok(file) => match beside_streams(file) {
+            Ok(file) => Ok(Some(file)),
+            Err(error) => Err(failed(name, error)),
+        },
+        Err(error) => {
+            if error.kind() == ErrorKind::NotFound && fs::metadata(rt, directory).is_ok() {
+                return Ok(None);
+            }
+            Err(failed(name, error))
+        }
+    }
+}
+
+/// Locks a file for what is done to its store, at once or not at all.
+fn lock(file: &File, access: Access) -> Result<(), OpenFault>
+    ensures { IfErr result (λ f. f.cause ≡ Cause.DeviceFault) }
+{
+    let locked = match access {
+        Access::Look => file.try_lock_shared(),
+        _ => file.try_lock(),
+    };
+    match locked {
+        Ok(()) => Ok(()),
+        Err(TryLockError::WouldBlock) => {
+            let error = io::Error::new(ErrorKind::WouldBlock, "another program uses the store");
+            Err(failed("journal", error))
+        }
+        Err(TryLockError::Error(error)) => Err(failed("journal", error)),
+    }
+}
+
+/// A file as a device. One that is missing has no byte.
+fn device(name: &'static str, file: Option<File>) -> Result<FileDisk, OpenFault>
+    ensures { IfErr result (λ f. f.cause ≡ Cause.DeviceFault) }
+{
+    match file {
+        Some(file) => match FileDisk::new(file) {
+            Ok(disk) => Ok(disk),
+            Err(error) => Err(failed(name, error)),
+        },
+        None => Ok(FileDisk::missing()),
+    }
+}
+
+/// Opens the journal, and locks it before anything of it is read.
+fn open_journal(rt: &HostRuntime, directory: &str, access: Access) -> Result<FileDisk, OpenFault> {
+    let file = open_file(rt, directory, "journal", access)?;
+    if let Some(file) = &file {
+        lock(file, access)?;
+    }
+    device("journal", file)
+}
+
+/// Where a scratch file is made: a name in the system's folder for temporary files, of a random number.
+fn scratch_path(rt: &HostRuntime) -> io::Result<String> {
+    let mut random = [0; 8];
+    rt.fill_bytes(&mut random)?;
+    let number = u64::from_be_bytes(random);
+    let folder = env::temp_dir(rt)?;
+    Ok(format!(in rt.alloc(); "{}/hgd-{number:016x}", folder.as_str())?)
+}
+
+/// A new file without a byte, in the system's folder for temporary files, that no other user may open. Its name is removed at once, so that
+/// nothing of it stays behind when the program ends.
+fn scratch_file(rt: &HostRuntime) -> io::Result<File> {
+    let path = scratch_path(rt)?;
+    let file = OpenOptions::new()
+        .read(true)
+        .write(true)
+        .create_new(true)
+        .mode(0o600)
+        .open(rt, path.as_str())?;
+    fs::remove_file(rt, path.as_str())?;
+    beside_streams(file)
+}
+
+/// A scratch file with the bytes of `pages`, or without a byte where that is missing. One that is longer than a store's is not copied.
+fn scratch_copy(rt: &HostRuntime, pages: &Option<File>) -> io::Result<File> {
+    let mut copy = scratch_file(rt)?;
+    if let Some(file) = pages {
+        let len = file.metadata()?.len();
+        if len > MAX_PAGES_LEN {
+            return Err(ErrorKind::FileTooLarge.into());
+        }
+        io::copy(&mut file.take(len), &mut copy)?;
+    }
+    Ok(copy)
+}
+
+/// Makes a file's bytes durable, or a folder's names.
+fn sync(name: &'static str, file: &File) -> Result<(), OpenFault>
+    ensures { IfErr result (λ f. f.cause ≡ Cause.DeviceFault) }
+{
+    match file.sync_all() {
+        Ok(()) => Ok(()),
+        Err(error) => Err(failed(name, error)),
+    }
+}
+
+/// Opens `pages`. `Make` makes the empty file durable: a new store has no page to write. `Look` gets a scratch copy, since opening a store
+/// may write pages. Where no copy can be made it gets `pages` itself, which is enough as long as all pages have room in memory.
+fn open_pages(rt: &HostRuntime, directory: &str, access: Access) -> Result<FileDisk, OpenFault> {
+    let pages = open_file(rt, directory, "pages", access)?;
+    if access == Access::Look {
+        if let Ok(copy) = scratch_copy(rt, &pages) {
+            return device("pages", Some(copy));
+        }
+    }
+    if access == Access::Make {
+        if let Some(file) = &pages {
+            sync("pages", file)?;
+        }
+    }
+    device("pages", pages)
+}
+
+/// Opens one of the two roots.
+fn open_root(
+    rt: &HostRuntime,
+    directory: &str,
+    name: &'static str,
+    access: Access,
+) -> Result<FileDisk, OpenFault> {
+    device(name, open_file(rt, directory, name, access)?)
+}
+
+/// Opens the files.
+fn open_files(
+    rt: &HostRuntime,
+    directory: &str,
+    access: Access,
+) -> Result<Devices<FileDisk>, OpenFault> {
+    Ok(Devices {
+        journal: open_journal(rt, directory, access)?,
+        slots: open_pages(rt, directory, access)?,
+        root0: open_root(rt, directory, "root0", access)?,
+        root1: open_root(rt, directory, "root1", access)?,
+    })
+}
+
+/// Opens the files of a store's directory: `journal`, `pages`, `root0` and `root1`. Only `Access::Make` makes files; for
+/// another access a file that is missing is read as an empty one. With `Access::Look` none of them is changed. The journal is
+/// locked, so that the store is used by one program that changes it, or by programs that look at it. `DeviceFault` says that a
+/// file can't be opened, or that another program uses the store.
+///
+/// No file gets a descriptor of a standard stream that is closed: those are filled while the files are opened.
+pub fn open_directory(
+    rt: &HostRuntime,
+    directory: &str,
+    access: Access,
+) -> Result<Devices<FileDisk>, OpenFault> {
+    let first = File::open(rt, "/dev/null");
+    let second = File::open(rt, "/dev/null");
+    let third = File::open(rt, "/dev/null");
+    let devices = open_files(rt, directory, access);
+    drop((first, second, third));
+    devices
+}
+
+/// Makes a directory's names durable.
+fn sync_directory(rt: &HostRuntime, path: &str) -> Result<(), OpenFault>
+    ensures { IfErr result (λ f. f.cause ≡ Cause.DeviceFault) }
+{
+    match File::open(rt, path) {
+        Ok(directory) => sync("the folder", &directory),
+        Err(error) => Err(failed("the folder", error)),
+    }
+}
+
+/// Makes a new store's names durable, and that of its directory in the one above.
+fn sync_names(rt: &HostRuntime, directory: &str, above: &str) -> Result<(), OpenFault>
+    ensures { IfErr result (λ f. f.cause ≡ Cause.DeviceFault) }
+{
+    sync_directory(rt, directory)?;
+    sync_directory(rt, above)
+}
+
+/// Makes a directory where there is none, and opens its files as `open_directory` does, made where they are missing. Their
+/// names, and that of the directory, are then durable.
+pub fn make_directory(rt: &HostRuntime, directory: &str) -> Result<Devices<FileDisk>, OpenFault> {
+    // Where it can't be made, its files can't be opened.
+    let _ = fs::create_dir(rt, directory);
+    let above = path_of(rt, directory, "..")?;
+    let devices = open_directory(rt, directory, Access::Make)?;
+    sync_names(rt, directory, above.as_str())?;
+    Ok(devices)
+}
