@@ -2,10 +2,10 @@
 
 ghost use Rattle.std.specs.Prelude.{◌<◌};
 
-use crate::disks::disk_of;
 use crate::stops::{put_image, tears_of};
 use hg_disk::{Disk, DiskFault, FileDisk, MemDisk};
 use hg_test_kit::digits::bytes_of;
+use hg_test_kit::shelf::disk_of;
 use hg_test_kit::text::Text;
 use hg_test_kit::words::front;
 use std::alloc::Global;
