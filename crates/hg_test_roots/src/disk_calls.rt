@@ -1,9 +1,7 @@
 //! Calls of a disk in memory and of a file, and the images that a crash may leave of the former.
 
-ghost use Rattle.std.specs.Prelude.{◌<◌};
-
 use crate::stops::{put_image, tears_of};
-use hg_disk::{Disk, DiskFault, FileDisk, MemDisk};
+use hg_disk::{Disk, DiskFault, FileDisk, MemDisk, Tear};
 use hg_test_kit::digits::bytes_of;
 use hg_test_kit::shelf::disk_of;
 use hg_test_kit::text::Text;
@@ -21,33 +19,39 @@ fn put_answer(answer: Result<(), DiskFault>, out: &mut Text) {
     }
 }
 
-/// A place, and what stands behind it and a colon.
-fn placed(words: &str) -> Option<(u64, &str)> {
-    let (at, rest) = words.split_once(':')?;
-    Some((at.parse::<u64>().ok()?, rest))
+/// A number. A word that is none stands for the greatest, where no disk has a byte.
+fn number(word: &str) -> u64 {
+    word.parse::<u64>().unwrap_or(u64::MAX)
 }
 
-/// A place and bytes.
-fn written(alloc: Global, words: &str) -> Option<(u64, Vec<u8>)> {
-    let (at, digits) = placed(words)?;
-    Some((at, bytes_of(alloc, digits)?))
-}
-
-/// Reads so many bytes from a place on, if there are so many.
-fn read<D: Disk>(alloc: Global, disk: &mut D, at: u64, count: usize, out: &mut Text) -> Option<()> {
-    if disk.len() < at || disk.len() - at < count as u64 {
-        out.put(b" outside");
-        return Some(());
+/// Writes the bytes that digits spell.
+fn write<D: Disk>(alloc: Global, disk: &mut D, at: u64, digits: &str, out: &mut Text) {
+    match bytes_of(alloc, digits) {
+        Some(bytes) => put_answer(disk.write_at(at, &bytes), out),
+        None => out.put(b" no bytes"),
     }
-    let mut bytes = Vec::from_elem(alloc, 0, count).ok()?;
-    match disk.read_at(at, &mut bytes) {
+}
+
+fn put_read(answer: Result<(), DiskFault>, bytes: &[u8], out: &mut Text) {
+    match answer {
         Ok(()) => {
             out.put(b" ");
-            out.put_hex(&bytes);
+            out.put_hex(bytes);
         }
         Err(DiskFault) => out.put(b" fault"),
     }
-    Some(())
+}
+
+/// Reads so many bytes from a place on, if there are so many.
+fn read<D: Disk>(alloc: Global, disk: &mut D, at: u64, count: u64, out: &mut Text) {
+    if disk.len() < at || disk.len() - at < count {
+        out.put(b" outside");
+        return;
+    }
+    match Vec::from_elem(alloc, 0, count as usize) {
+        Ok(mut bytes) => put_read(disk.read_at(at, &mut bytes), &bytes, out),
+        Err(_) => out.put(b" no memory"),
+    }
 }
 
 /// Cuts a disk that is so long at least.
@@ -59,28 +63,16 @@ fn cut<D: Disk>(disk: &mut D, to: u64, out: &mut Text) {
     }
 }
 
-/// Makes the call that a word names.
-fn call<D: Disk>(alloc: Global, disk: &mut D, word: &str, out: &mut Text) -> Option<()> {
-    let (verb, rest) = word.split_once(':').unwrap_or((word, ""));
-    match verb {
-        "write" => {
-            let (at, bytes) = written(alloc, rest)?;
-            put_answer(disk.write_at(at, &bytes), out);
-        }
-        "read" => {
-            let (at, count) = placed(rest)?;
-            read(alloc, disk, at, count.parse::<usize>().ok()?, out)?;
-        }
-        "cut" => cut(disk, rest.parse::<u64>().ok()?, out),
-        "sync" => put_answer(disk.sync(), out),
-        _ => return None,
-    }
-    Some(())
-}
-
+/// Makes the call that a word names, `VERB:AT:REST`.
 fn make<D: Disk>(alloc: Global, disk: &mut D, word: &str, out: &mut Text) {
-    if call(alloc, disk, word, out).is_none() {
-        out.put(b" not understood");
+    let (verb, rest) = word.split_once(':').unwrap_or((word, ""));
+    let (at, rest) = rest.split_once(':').unwrap_or((rest, ""));
+    match verb {
+        "write" => write(alloc, disk, number(at), rest, out),
+        "read" => read(alloc, disk, number(at), number(rest), out),
+        "cut" => cut(disk, number(at), out),
+        "sync" => put_answer(disk.sync(), out),
+        _ => out.put(b" not understood"),
     }
 }
 
@@ -93,25 +85,29 @@ fn make_all<D: Disk>(alloc: Global, disk: &mut D, words: &str, out: &mut Text) {
 
 // ---- disks in memory
 
+/// What each tear leaves of a disk after so many calls.
+fn put_moment(disk: &MemDisk, calls: usize, tears: &[Tear], out: &mut Text) {
+    for tear in tears {
+        out.put(b" ");
+        put_image(disk, calls, *tear, out);
+    }
+}
+
 /// What a disk reads, how many calls it had, and what each tear leaves of it at each moment.
-fn put_disk(alloc: Global, disk: &MemDisk, tears: &str, out: &mut Text) -> Option<()> {
-    let tears = tears_of(alloc, tears)?;
+fn put_disk(disk: &MemDisk, tears: &[Tear], out: &mut Text) {
     out.put(b" has ");
     out.put_hex(disk.bytes());
     out.put_number(b" calls ", disk.calls().len() as u64);
     out.put(b" images");
     for calls in 0..disk.calls().len() + 1 {
-        for tear in tears.iter() {
-            out.put(b" ");
-            put_image(disk, calls, *tear, out);
-        }
+        put_moment(disk, calls, tears, out);
     }
-    Some(())
 }
 
 fn put_left(alloc: Global, disk: &MemDisk, tears: &str, out: &mut Text) {
-    if put_disk(alloc, disk, tears, out).is_none() {
-        out.put(b" no tears");
+    match tears_of(alloc, tears) {
+        Some(tears) => put_disk(disk, &tears, out),
+        None => out.put(b" no tears"),
     }
 }
 
