@@ -111,12 +111,12 @@ fn put_left(alloc: Global, disk: &MemDisk, tears: &str, out: &mut Text) {
     }
 }
 
-/// Makes calls on a disk in memory. At `fail` the call behind it fails.
+/// Makes calls on a disk in memory with these bytes, none for `-`. At `fail` the call behind it fails.
 pub fn tell_disk(alloc: Global, words: &str, out: &mut Text) {
     let (digits, rest) = front(words);
     let (tears, calls) = front(rest);
     out.put(b"disk");
-    let Some(mut disk) = disk_of(alloc, digits) else {
+    let Some(mut disk) = disk_of(alloc, if digits == "-" { "" } else { digits }) else {
         out.put(b" not understood");
         return;
     };
