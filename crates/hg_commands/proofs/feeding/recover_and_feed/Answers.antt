@@ -50,10 +50,16 @@ returns-in-Ok-clause-front g c =
     (λ w. inr (λ honest.
     let began = c.in-Ok.ensures.content honest in (
       c.in-Ok.store.detector.sets,
-      (live g.D.Disk c.in-Ok.store, (subst (λ x. HasContent (read_of g.D.Disk c.args.devices) x) (sym began.2.has) began.1, (
-        subst (λ (n : ℕ). HasTable n (read_of g.D.Disk c.args.devices) (live g.D.Disk c.in-Ok.store) c.in-Ok.store.detector.sets) c.profile.ensures.0 (c.in-Ok.ensures.sets honest),
-        w honest,
-      ))),
+      (
+        live g.D.Disk c.in-Ok.store,
+        (
+          subst (λ x. HasContent (read_of g.D.Disk c.args.devices) x) (sym began.2.has) began.1,
+          (
+            subst (λ (n : ℕ). HasTable n (read_of g.D.Disk c.args.devices) (live g.D.Disk c.in-Ok.store) c.in-Ok.store.detector.sets) c.profile.ensures.0 (c.in-Ok.ensures.sets honest),
+            w honest,
+          ),
+        ),
+      ),
     )))
     c.feed_store-end.ensures.front
 
