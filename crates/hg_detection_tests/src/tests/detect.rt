@@ -4,18 +4,18 @@
 //! a call that answers want of memory has to leave the content as it was, and is made again.
 ghost use Rattle.std.specs.Prelude.{◌<◌, ◌≤◌, IfOk, length};
 ghost use Rattle.hg_detect.specs.Engine.{AtPresent};
-ghost use Rattle.hg_words.specs.Paged.{AreWithin};
+ghost use Rattle.hg_cells.specs.Paged.{AreWithin};
 
 use crate::tests::own::Own;
 use crate::tests::races::{Race, compare, is_of};
 use hg_cells::Cell;
+use hg_cells::paged::PagedWords;
+use hg_cells::words::Words;
 use hg_detect::detector::{Answer, Detector};
 use hg_model::event::{Access, Block, Event, Hold, HoldKind, Named};
 use hg_model::report::Report;
 use hg_model::verdict::{Refusal, Verdict};
 use hg_sets::MOST_SETS;
-use hg_words::paged::PagedWords;
-use hg_words::words::Words;
 use std::alloc::{AllocError, Global};
 use std::process::Abort;
 use std::test::Fail;

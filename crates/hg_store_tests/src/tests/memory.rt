@@ -3,7 +3,7 @@
 ghost use Rattle.std.specs.Prelude.{◌≤◌};
 
 use crate::tests::disks::Disks;
-use hg_checkpointer::Cause;
+use hg_checkpoint::Cause;
 use hg_detect::detector::Answer;
 use hg_disk::MemDisk;
 use hg_model::event::{Access, Event, Named};
