@@ -3,7 +3,7 @@ use Rattle.std.specs.Prelude.{◌≡◌, ℕ, ◌+◌, ◌≤◌, suc, List, [],
 use Rattle.hg_model.specs.Contents.{Content}
 use Rattle.hg_model.specs.Change.{empty_content}
 use Rattle.hg_detect.specs.declared.detector.Detector.{Detector}
-use Rattle.hg_words.specs.declared.paged.PagedWords.{PagedWords}
+use Rattle.hg_cells.specs.declared.paged.PagedWords.{PagedWords}
 use Rattle.hg_detect.specs.Memory.{content_of}
 use Rattle.hg_streams.specs.declared.call.ReadCall.{ReadCall}
 use Rattle.hg_streams.specs.declared.call.WriteCall.{WriteCall}

@@ -2,7 +2,7 @@
 use Rattle.std.proofs.Common.{◌≡◌, ℕ, ◌+◌, inl, inr, ⊎_elim, refl, ◌∙◌, ap, Result, Ok, Err, arith}
 use Rattle.hg_model.specs.declared.verdict.Refusal.{Refusal}
 use Rattle.hg_model.specs.declared.verdict.Refusal.TheVariants.{DeviceFault}
-use Rattle.hg_journal.specs.Journal.{after_refusal, failed_after}
+use Rattle.hg_store.specs.Journal.{after_refusal, failed_after}
 use Rattle.hg_store.specs.Answers.{failed_in}
 use Rattle.hg_store.specs.Recovering.{CountedBy}
 use Rattle.hg_streams.specs.Told.{told, told_refusal}

@@ -10,5 +10,4 @@ mod Kept
 mod Given
 mod Made
 mod Summing
-mod Asking
 mod Causes

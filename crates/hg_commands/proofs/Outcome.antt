@@ -16,7 +16,7 @@ use Rattle.hg_wire.specs.declared.reader.Reading.{Reading}
 use Rattle.hg_reading.specs.declared.ending.Ending.TheVariants.{Ended, Refused, Bad}
 use Rattle.hg_commands.specs.Feeding.{Answers, FeedsTo, HasRoom, IsOffered, sent}
 use Rattle.hg_reading.proofs.Endings.{HasOutcome}
-use Rattle.hg_commands.proofs.Asking.{asks_end}
+use Rattle.hg_detect.proofs.AskingEnds.{asks_end}
 
 -- The rules never refuse an event for want of slots.
 

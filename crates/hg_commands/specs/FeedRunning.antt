@@ -16,7 +16,7 @@ use Rattle.hg_disk.specs.declared.disk.Disk as disk
 use Rattle.hg_contents.specs.Images.{HasContent, Image}
 use Rattle.hg_contents.specs.Stores.{IsLeft}
 use Rattle.hg_contents.specs.Choices.{Stands}
-use Rattle.hg_checkpointer.specs.Phases.{failed_in}
+use Rattle.hg_checkpoint.specs.Phases.{failed_in}
 use Rattle.hg_store.specs.Answers.{failed_by}
 use Rattle.hg_store.specs.declared.devices.Devices.{Devices}
 use Rattle.hg_store.specs.declared.steps.StepFault.{StepFault}

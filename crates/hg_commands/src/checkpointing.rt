@@ -8,12 +8,10 @@ ghost use Rattle.hg_commands.specs.FeedFaults.{IsFeedFault};
 
 use crate::lines::Feeding;
 use crate::moment::Moment;
-use hg_checkpointer::Cause;
+use hg_checkpoint::Cause;
 use hg_disk::Disk;
 use hg_model::verdict::Refusal;
-use hg_pages::EncodedPage;
-use hg_pool::Put;
-use hg_store::steps::StepFault;
+use hg_store::steps::{EncodedPage, Put, StepFault};
 use hg_store::store::Store;
 use hg_streams::output::Output;
 use std::alloc::Global;

@@ -10,8 +10,8 @@ ghost use Rattle.hg_contents.specs.Spellings.{ContentsHaveSpellings, TablesHaveS
 ghost use Rattle.hg_contents.specs.States.{AnswersStaySpelled, EmptyIsLawful, FollowedStayLawful, LiveWordsAreKnown, RootsHaveLawfulStates, StatesFit, StatesStayLawful, TablesStaySpelled};
 ghost use Rattle.hg_contents.specs.Stores.{FactsBack};
 
+use hg_cells::words::Words;
 use hg_model::laws::following_is_the_summary;
-use hg_words::words::Words;
 
 /// An image of the devices, with root files shorter than 2^64 bytes, has one content.
 pub fn content_is_unique()

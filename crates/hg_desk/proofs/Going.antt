@@ -7,7 +7,7 @@ use Rattle.hg_disk.specs.declared.disk.Disk as disk
 use Rattle.hg_detect.specs.Shown as detect
 use Rattle.hg_pool.specs.Maps as pools
 use Rattle.hg_pool.specs.Shown as pool
-use Rattle.hg_journal.specs.Journal.{after_refusal, failed_after}
+use Rattle.hg_store.specs.Journal.{after_refusal, failed_after}
 use Rattle.hg_contents.specs.Choices.{Stands}
 use Rattle.hg_contents.specs.Images.{Image}
 use Rattle.hg_contents.proofs.Following.{followed_append}

@@ -8,11 +8,11 @@ use Rattle.hg_model.specs.declared.verdict.Refusal.TheVariants.{Gap, BadNumber, 
 use Rattle.hg_detect.specs.declared.detector.Answer.{Answer}
 use Rattle.hg_detect.specs.declared.detector.Answer.TheVariants.{Accepted as IsAccepted, Duplicate as IsDuplicate}
 use Rattle.hg_disk.specs.declared.disk.Disk as disk
-use Rattle.hg_frames.specs.declared.frame.Frame.{Frame}
-use Rattle.hg_frames.specs.declared.frame.Frame.TheVariants.{Hello, Event as Numbered, Ask, Reports, Bye}
-use Rattle.hg_frames.specs.declared.reply.Reply.{Reply}
-use Rattle.hg_frames.specs.declared.reply.Reply.TheVariants.{Welcome, Accepted, Duplicate, Refused, Ack, Line, Fault, Lines, Nothing}
-use Rattle.hg_frames.specs.declared.lines.ReportLines.{ReportLines}
+use Rattle.hg_protocol.specs.declared.frame.Frame.{Frame}
+use Rattle.hg_protocol.specs.declared.frame.Frame.TheVariants.{Hello, Event as Numbered, Ask, Reports, Bye}
+use Rattle.hg_protocol.specs.declared.reply.Reply.{Reply}
+use Rattle.hg_protocol.specs.declared.reply.Reply.TheVariants.{Welcome, Accepted, Duplicate, Refused, Ack, Line, Fault, Lines, Nothing}
+use Rattle.hg_protocol.specs.declared.lines.ReportLines.{ReportLines}
 use Rattle.hg_store.specs.declared.steps.Step.TheVariants.{Offer, Commit}
 use Rattle.hg_store.specs.declared.steps.StepResult.TheVariants.{Offered, Committed}
 use Rattle.hg_store.specs.Shown.{ShownStore, live}

@@ -2,7 +2,7 @@
 
 ghost use Rattle.std.specs.Prelude.{◌≡◌, ◌+◌, ◌<◌, ◌≤◌, ℕ, Ok, Err, cond, vec_len, All, IfOk, IfSome, IfErr, IsTrue};
 ghost use Rattle.hg_model.specs.declared.verdict.Refusal.TheVariants.{Broken};
-ghost use Rattle.hg_frames.specs.Spelling.{FitsFrames};
+ghost use Rattle.hg_protocol.specs.Spelling.{FitsFrames};
 ghost use Rattle.hg_store.specs.Doing.{fails_by};
 ghost use Rattle.hg_store.specs.Shown.{live};
 ghost use Rattle.hg_desk.specs.Blanks.{IsBlankOf};
@@ -14,13 +14,12 @@ use crate::desk::refused;
 use crate::moment::Moment;
 use crate::sets::are_thread_sets;
 use crate::share::{Column, Opening, Share};
-use hg_checkpointer::Cause;
 use hg_detect::detector::Answer;
 use hg_disk::Disk;
-use hg_frames::lines::{ReportLines, ReportList};
-use hg_frames::reply::Reply;
 use hg_model::verdict::Refusal;
-use hg_store::steps::{Step, StepFault, StepResult};
+use hg_protocol::lines::{ReportLines, ReportList};
+use hg_protocol::reply::Reply;
+use hg_store::steps::{Cause, Step, StepFault, StepResult};
 use hg_store::store::Store;
 use hg_trail::Trail;
 use std::alloc::Global;

@@ -1,7 +1,7 @@
 //! Tasks that run under the lock.
 
 ghost use Rattle.std.specs.Prelude.{◌≡◌, ◌+◌, ◌≤◌, IsTrue};
-ghost use Rattle.hg_frames.specs.Spelling.{FitsFrames};
+ghost use Rattle.hg_protocol.specs.Spelling.{FitsFrames};
 ghost use Rattle.hg_store.specs.Shown.{live};
 ghost use Rattle.hg_desk.specs.Conversation.{Answers, AskTold};
 ghost use Rattle.hg_desk.specs.Counting.{AreSince, FindsAtLeast};
@@ -11,8 +11,8 @@ use crate::desk::Desk;
 use crate::locked::{Core, Counts};
 use crate::share::{Column, Opening, Share};
 use hg_disk::Disk;
-use hg_frames::frame::Frame;
-use hg_frames::reply::Reply;
+use hg_protocol::frame::Frame;
+use hg_protocol::reply::Reply;
 use hg_store::steps::{Step, StepResult};
 use std::alloc::Global;
 

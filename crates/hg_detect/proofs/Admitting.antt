@@ -8,7 +8,7 @@ use Rattle.hg_model.specs.Change.{is_accept}
 use Rattle.hg_model.specs.Verdicts.{standing, verdict}
 use Rattle.hg_model.proofs.Following.{accept_is}
 use Rattle.hg_cells.specs.declared.cell.Cell.{Cell}
-use Rattle.hg_words.specs.declared.words.Words as words
+use Rattle.hg_cells.specs.declared.words.Words as words
 use Rattle.hg_detect.specs.declared.detector.Answer.{Answer}
 use Rattle.hg_detect.specs.declared.detector.Answer.TheVariants.{Accepted}
 use Rattle.hg_detect.specs.declared.engine.Engine.{Engine}

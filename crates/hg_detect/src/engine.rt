@@ -12,7 +12,7 @@ ghost use Rattle.hg_model.specs.Verdicts.{MayBeNext};
 ghost use Rattle.hg_sets.specs.Interning.{AreSets, KeepsNumbers, first_table};
 ghost use Rattle.hg_cells.specs.declared.cell.Cell.TheVariants.{New};
 ghost use Rattle.hg_cells.specs.Cells.{IsWithin};
-ghost use Rattle.hg_words.specs.Words.{ForWords, HaveCell, KeepsLaw, failed_after};
+ghost use Rattle.hg_cells.specs.Words.{ForWords, HaveCell, KeepsLaw, failed_after};
 ghost use Rattle.hg_detect.specs.Planning.{as_it_is};
 ghost use Rattle.hg_detect.specs.Shown.{HasRoom, IsReportAt, content, shown_with};
 ghost use Rattle.hg_detect.specs.Engine.{Answers, AnswersAccess, AsksForAccess, AsksForCell, AtPresent, HasEffect, HasPlan, HasThread, IsPlannedBy, IsQuick, IsSound, KeepsCells, KeepsLocks, PassesTo, named_of, shown_of};
@@ -21,6 +21,7 @@ use crate::kept::{add_reports, reserve_reports};
 use crate::parts::DetectorParts;
 use crate::plan::{Accessor, Planned, plan_alike, plan_word, plan_words};
 use crate::setting::set_words;
+use hg_cells::words::Words;
 use hg_cells::{Cell, KeptReport, are_same};
 use hg_graph::Graph;
 use hg_model::event::{Access, Block, Event, Hold, HoldKind, Named};
@@ -29,7 +30,6 @@ use hg_model::sets::NumberSet;
 use hg_model::verdict::Refusal;
 use hg_rules::state::TraceState;
 use hg_sets::{MOST_SETS, SetTable};
-use hg_words::words::Words;
 use std::alloc::{AllocError, Global};
 
 /// How many words one access overlaps at most.

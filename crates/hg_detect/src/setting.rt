@@ -2,12 +2,12 @@
 
 ghost use Rattle.std.specs.Prelude.{◌≡◌, ℕ, ◌+◌, ◌<◌, ◌≤◌, ◌^◌, length};
 ghost use Rattle.hg_detect.specs.Planning.{HaveCellOf, KeepsLawForPlan};
-ghost use Rattle.hg_words.specs.Words.{ForWords};
+ghost use Rattle.hg_cells.specs.Words.{ForWords};
 ghost use Rattle.hg_detect.specs.Shown.{given};
 
 use crate::plan::Planned;
 use hg_cells::are_same;
-use hg_words::words::Words;
+use hg_cells::words::Words;
 
 /// The end of the run of words in a plan that get the same cell as the word at `from`.
 #[inline]

@@ -7,7 +7,7 @@ use Rattle.hg_cells.specs.Cells.{IsWithin}
 use Rattle.hg_cells.specs.Pages.{filled}
 use Rattle.hg_cells.specs.declared.cell.Cell.{Cell}
 use Rattle.hg_cells.specs.declared.cell.Cell.TheVariants.{New}
-use Rattle.hg_words.specs.Words.{failed_after}
+use Rattle.hg_cells.specs.Words.{failed_after}
 use Rattle.hg_disk.specs.declared.disk.Disk as disk
 use Rattle.hg_disk.specs.Moments.{Leaves, LeavesOnly}
 use Rattle.hg_pages.specs.Encoded.{Encoded}

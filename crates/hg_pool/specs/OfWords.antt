@@ -6,7 +6,7 @@ use Rattle.hg_disk.specs.Moments.{EachLeaves, GoesOn}
 use Rattle.hg_disk.proofs.Moments.{joined, at_end, started}
 use Rattle.hg_cells.specs.declared.cell.Cell.TheVariants.{New}
 use Rattle.hg_cells.specs.Cells.{IsWithin}
-use Rattle.hg_words.specs.PagedLaws.{within_more}
+use Rattle.hg_cells.specs.PagedLaws.{within_more}
 use Rattle.hg_model.specs.declared.verdict.Refusal.{Refusal}
 use Rattle.hg_model.specs.declared.verdict.Refusal.TheVariants as refusal
 use Rattle.hg_pages.specs.Slots.{HasBytes}

@@ -10,12 +10,12 @@ ghost use Rattle.hg_pool.specs.Calls.{ArePagesOf, CountsFailures, FillsWords, St
 
 use crate::frame::Frame;
 use crate::pool::Pool;
+use hg_cells::run::{Run, run_in};
+use hg_cells::words::Words;
 use hg_cells::{Cell, PAGE_WORDS};
 use hg_disk::Disk;
 use hg_model::verdict::Refusal;
 use hg_sets::SetTable;
-use hg_words::run::{Run, run_in};
-use hg_words::words::Words;
 
 /// How many bytes of memory a page stands for.
 const PAGE_BYTES: u64 = 1024;

@@ -25,7 +25,7 @@ use Rattle.hg_gate.specs.contracts.gated.Gated as gated
 use Rattle.hg_root.specs.contracts.pair.RootPair as roots
 use Rattle.hg_store.specs.contracts.store.Store as store
 use Rattle.hg_store.specs.contracts.store.Store.TheInside as within
-use Rattle.hg_checkpointer.specs.contracts.checkpointer.Checkpointer as checkpointer
+use Rattle.hg_checkpoint.specs.contracts.checkpointer.Checkpointer as checkpointer
 use Rattle.std.specs.declared.sync.ledger.Ledger as ledger
 use Rattle.std.proofs.sync.ledger.Book.TheSendSync as book
 use Rattle.hg_trail.proofs.trail.Trail.TheLaws.TheKnot as knot

@@ -14,13 +14,13 @@ use Rattle.hg_contents.specs.Maps.{IsNewElsewhere, checkpoint_of}
 use Rattle.hg_contents.specs.States.{IsLawfulState}
 use Rattle.hg_contents.proofs.Maps.{contents}
 use Rattle.hg_contents.proofs.lawful.Sources.{read_again}
-use Rattle.hg_recovery.specs.Capturing.{parts_with}
-use Rattle.hg_checkpointer.specs.declared.checkpointer.Checkpointer.{Checkpointer}
-use Rattle.hg_checkpointer.specs.declared.phase.Phase.{Phase}
-use Rattle.hg_checkpointer.specs.declared.phase.Phase.TheVariants as phase
-use Rattle.hg_checkpointer.specs.Standing as checkpoints
-use Rattle.hg_checkpointer.specs.Standing.{EachEither, EachNow, EachOf, root_with}
-use Rattle.hg_checkpointer.proofs.Between.{calls_between}
+use Rattle.hg_checkpoint.specs.Capturing.{parts_with}
+use Rattle.hg_checkpoint.specs.declared.checkpointer.Checkpointer.{Checkpointer}
+use Rattle.hg_checkpoint.specs.declared.phase.Phase.{Phase}
+use Rattle.hg_checkpoint.specs.declared.phase.Phase.TheVariants as phase
+use Rattle.hg_checkpoint.specs.Standing as checkpoints
+use Rattle.hg_checkpoint.specs.Standing.{EachEither, EachNow, EachOf, root_with}
+use Rattle.hg_checkpoint.proofs.Between.{calls_between}
 use Rattle.hg_store.specs.Images.{EachImage}
 use Rattle.hg_store.specs.Kept.{IsFreezing, IsInProgress, IsRooting, Parts, Standing, devices_of, shown_of}
 use Rattle.hg_store.specs.Shown.{live, saved}

@@ -15,8 +15,8 @@ use Rattle.hg_pool.specs.Shown as pool
 use Rattle.hg_contents.specs.Choices.{Basis, Choice, GivesDurable, HasBothSlots, HasEvents, Stands}
 use Rattle.hg_contents.specs.Images.{Gives, start_of}
 use Rattle.hg_contents.proofs.Following.{lead_on}
-use Rattle.hg_checkpointer.specs.declared.phase.Phase.{Phase}
-use Rattle.hg_checkpointer.specs.declared.phase.Phase.TheVariants as phase
+use Rattle.hg_checkpoint.specs.declared.phase.Phase.{Phase}
+use Rattle.hg_checkpoint.specs.declared.phase.Phase.TheVariants as phase
 use Rattle.hg_store.specs.Images.{EachImage}
 use Rattle.hg_store.specs.Kept.{IsFreezing, IsFront, IsInProgress, IsRooting, Parts, Standing, devices_of, shown_of}
 use Rattle.hg_store.specs.Shown.{live, saved}

@@ -23,11 +23,11 @@ use Rattle.hg_contents.specs.Choices.{Basis, HasBothSlots, HasEvents}
 use Rattle.hg_contents.specs.Images.{Gives}
 use Rattle.hg_contents.specs.Maps.{IsKnownTo}
 use Rattle.hg_contents.proofs.lawful.Sharing.{live_known}
-use Rattle.hg_recovery.specs.Capturing.{parts_with}
-use Rattle.hg_checkpointer.specs.declared.checkpointer.Checkpointer.{Checkpointer}
-use Rattle.hg_checkpointer.specs.declared.phase.Phase.{Phase}
-use Rattle.hg_checkpointer.specs.declared.phase.Phase.TheVariants as phase
-use Rattle.hg_checkpointer.specs.Standing as checkpoints
+use Rattle.hg_checkpoint.specs.Capturing.{parts_with}
+use Rattle.hg_checkpoint.specs.declared.checkpointer.Checkpointer.{Checkpointer}
+use Rattle.hg_checkpoint.specs.declared.phase.Phase.{Phase}
+use Rattle.hg_checkpoint.specs.declared.phase.Phase.TheVariants as phase
+use Rattle.hg_checkpoint.specs.Standing as checkpoints
 use Rattle.hg_store.specs.Kept.{IsFreezing, IsFront, IsInProgress, Parts, Standing, devices_of, shown_of}
 use Rattle.hg_store.specs.Shown.{live, phase_by, saved}
 use Rattle.hg_store.specs.declared.steps.StorePhase.TheVariants as store

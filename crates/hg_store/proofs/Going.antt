@@ -15,10 +15,10 @@ use Rattle.hg_pool.specs.Shown as pool
 use Rattle.hg_root.specs.Grammar.{SetFits}
 use Rattle.hg_contents.specs.Choices.{Basis, Choice, HasEvents, HasSlots, Stands}
 use Rattle.hg_contents.specs.States.{IsLawfulState}
-use Rattle.hg_checkpointer.specs.declared.phase.Phase.{Phase}
-use Rattle.hg_checkpointer.specs.declared.phase.Phase.TheVariants as phase
-use Rattle.hg_checkpointer.proofs.Between.{calls_between}
-use Rattle.hg_checkpointer.proofs.Staying.{slots_stay}
+use Rattle.hg_checkpoint.specs.declared.phase.Phase.{Phase}
+use Rattle.hg_checkpoint.specs.declared.phase.Phase.TheVariants as phase
+use Rattle.hg_checkpoint.proofs.Between.{calls_between}
+use Rattle.hg_checkpoint.proofs.Staying.{slots_stay}
 use Rattle.hg_store.specs.Images.{EachImage}
 use Rattle.hg_store.specs.Kept.{IsFreezing, IsInProgress, IsRooting, IsWorking, Parts, Standing, devices_of, shown_of}
 use Rattle.hg_store.specs.Shown.{live, saved}

@@ -1,12 +1,12 @@
 -- A store that was just made or recovered.
 use Rattle.std.proofs.Common.{◌≡◌, ◌≤◌, inl, ℕ, false, List, [], ◌∷◌, All, drop, Some, None, Option, IsTrue, Result, Ok, Err, length, refl, sym, ap, ◌∙◌, subst, arith}
 use Rattle.std.specs.Prelude.{IfErr, IfOk, OnOk}
-use Rattle.hg_recovery.specs.declared.caps.Caps.{Caps}
-use Rattle.hg_recovery.specs.Restoring.{detector_of}
-use Rattle.hg_recovery.specs.Standing.{HasPagesOf, entries_of}
-use Rattle.hg_recovery.proofs.Entries.{are_entries}
+use Rattle.hg_checkpoint.specs.declared.limits.Limits.{Limits}
+use Rattle.hg_checkpoint.specs.Restoring.{detector_of}
+use Rattle.hg_checkpoint.specs.NamedPages.{HasPagesOf, entries_of}
+use Rattle.hg_checkpoint.proofs.Entries.{are_entries}
 use Rattle.hg_root.specs.declared.parts.PageSlot.{PageSlot}
-use Rattle.hg_checkpointer.proofs.Tables.{has_entry}
+use Rattle.hg_checkpoint.proofs.Tables.{has_entry}
 use Rattle.std.proofs.lemmas.Bool.{false≢true}
 use Rattle.std.specs.List.{AllByRecursion}
 use Rattle.hg_model.specs.declared.event.Named.{Named}
@@ -14,12 +14,12 @@ use Rattle.hg_records.specs.Records.{RecordFits}
 use Rattle.hg_disk.specs.State.{IsImage}
 use Rattle.hg_journal.specs.declared.journal.Journal.{Journal}
 use Rattle.hg_root.specs.declared.pair.RootPair.{RootPair}
-use Rattle.hg_contents.specs.Images.{LeadFrom}
+use Rattle.hg_contents.specs.Images.{LeadFrom, Gives, content_of}
 use Rattle.hg_contents.proofs.lawful.Staying.{first, followed_stay}
-use Rattle.hg_checkpointer.specs.declared.checkpointer.Checkpointer.{Checkpointer}
-use Rattle.hg_checkpointer.specs.Standing.{RootsStand}
-use Rattle.hg_checkpointer.specs.Tables.{Names, NamesOf, pages_of}
-use Rattle.hg_checkpointer.proofs.Staying.{slots_stay}
+use Rattle.hg_checkpoint.specs.declared.checkpointer.Checkpointer.{Checkpointer}
+use Rattle.hg_checkpoint.specs.Standing.{RootsStand}
+use Rattle.hg_checkpoint.specs.Tables.{Names, NamesOf, pages_of}
+use Rattle.hg_checkpoint.proofs.Staying.{slots_stay}
 use Rattle.hg_store.proofs.Replaying.{fills_spelled, fits_behind}
 use Rattle.hg_model.specs.Contents.{Content}
 use Rattle.hg_model.specs.Change.{empty_content, followed}
@@ -46,12 +46,11 @@ use Rattle.hg_root.specs.Checkpoints.{Checkpoint, HasPages, root_of}
 use Rattle.hg_root.specs.Pairs.{first_of, second_of}
 use Rattle.hg_root.specs.Parts as roots
 use Rattle.hg_contents.specs.Choices.{Basis, Choice, GivesDurable, HasSlots}
-use Rattle.hg_contents.specs.Images.{Gives, content_of}
 use Rattle.hg_contents.specs.Stores as stores
 use Rattle.hg_contents.proofs.Joining.{facts_back}
-use Rattle.hg_checkpointer.specs.declared.phase.Phase.{Phase}
-use Rattle.hg_checkpointer.specs.declared.phase.Phase.TheVariants as phase
-use Rattle.hg_checkpointer.proofs.Rooting.{still_now}
+use Rattle.hg_checkpoint.specs.declared.phase.Phase.{Phase}
+use Rattle.hg_checkpoint.specs.declared.phase.Phase.TheVariants as phase
+use Rattle.hg_checkpoint.proofs.Rooting.{still_now}
 use Rattle.hg_store.specs.Kept.{IsInProgress, IsSound, IsWorking, Parts, Standing, is_rooting, shown_of}
 use Rattle.hg_store.specs.Recovering.{Fills, IsBased, IsReady, IsStarted}
 use Rattle.hg_store.specs.Shown.{live, saved}
@@ -238,14 +237,14 @@ module _ {D : Type 0} (g : disk.Ghosts D) where
     spelled = subst (λ (t : Table). All SetFits t.sets) (sym sets) (All-from_recursion SetFits ([] ∷ []) ((omega arith, tt), tt));
   }
 
-  pub each_ready : {E : Type 0} (root : Root) (caps : Caps) (slots : List ℕ) → IsLawful (parts_of root) → (result : Result (detect.ShownDetector (pool.ShownPool D)) E) → OnOk result (HasPagesOf (parts_of root) slots)
+  pub each_ready : {E : Type 0} (root : Root) (caps : Limits) (slots : List ℕ) → IsLawful (parts_of root) → (result : Result (detect.ShownDetector (pool.ShownPool D)) E) → OnOk result (HasPagesOf (parts_of root) slots)
       → IfOk result (λ d. d ≡ detector_of root caps d.words.file) → ((c : Checkpoint) → c.root ≡ parts_of root → HasPages slots c → IfOk result (λ d. detect.content (pools.live g) d ≡ content_of c))
       → IfOk result (AtPresent (IsFaithful g)) → IfOk result (IsReady g)
   each_ready root caps slots lawful (Ok d) has shown content faithful =
       root_ready root d slots has.0 lawful has.1 has.2 (ap (λ (e : detect.ShownDetector (pool.ShownPool D)). e.sets.sets) shown) (content has.0 has.1 has.2) faithful
   each_ready root caps slots lawful (Err e) has shown content faithful = tt
 
-  pub each_names : {E : Type 0} (root : Root) (caps : Caps) (o : Option Checkpoint) → IsLawful (parts_of root) → root_of o ≡ Some (parts_of root) → (result : Result (detect.ShownDetector (pool.ShownPool D)) E)
+  pub each_names : {E : Type 0} (root : Root) (caps : Limits) (o : Option Checkpoint) → IsLawful (parts_of root) → root_of o ≡ Some (parts_of root) → (result : Result (detect.ShownDetector (pool.ShownPool D)) E)
       → IfOk result (λ d. d ≡ detector_of root caps d.words.file) → IfOk result (λ d. NamesOf d.words.root o)
   each_names root caps o lawful is (Ok d) shown =
       let k = some_checkpoint o (parts_of root) is in

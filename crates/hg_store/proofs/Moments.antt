@@ -11,7 +11,7 @@ use Rattle.hg_contents.specs.Choices.{Basis, GivesDurable, HasBothSlots, HasEith
 use Rattle.hg_contents.specs.Images.{Image}
 use Rattle.hg_contents.specs.Stores as stores
 use Rattle.hg_contents.proofs.Joining.{joint_images}
-use Rattle.hg_checkpointer.specs.Standing.{EachOf}
+use Rattle.hg_checkpoint.specs.Standing.{EachOf}
 use Rattle.hg_store.specs.declared.devices.Devices.{Devices}
 use Rattle.hg_store.specs.Images.{EachImage, read_of, states_of}
 

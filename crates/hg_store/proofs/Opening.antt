@@ -14,12 +14,12 @@ use Rattle.hg_root.specs.Pairs.{first_of, second_of}
 use Rattle.hg_contents.specs.Choices.{Basis, Choice, GivesDurable, HasBothSlots, HasEitherRoots, HasEvents, Stands}
 use Rattle.hg_contents.specs.Images.{Gives, content_of, start_of}
 use Rattle.hg_contents.proofs.Following.{same_from}
-use Rattle.hg_checkpointer.specs.declared.checkpointer.Checkpointer.{Checkpointer}
-use Rattle.hg_checkpointer.specs.declared.phase.Phase.{Phase}
-use Rattle.hg_checkpointer.specs.declared.phase.Phase.TheVariants as phase
-use Rattle.hg_checkpointer.specs.Standing as checkpoints
-use Rattle.hg_checkpointer.specs.Standing.{EachEither}
-use Rattle.hg_checkpointer.proofs.Rooting.{still_now}
+use Rattle.hg_checkpoint.specs.declared.checkpointer.Checkpointer.{Checkpointer}
+use Rattle.hg_checkpoint.specs.declared.phase.Phase.{Phase}
+use Rattle.hg_checkpoint.specs.declared.phase.Phase.TheVariants as phase
+use Rattle.hg_checkpoint.specs.Standing as checkpoints
+use Rattle.hg_checkpoint.specs.Standing.{EachEither}
+use Rattle.hg_checkpoint.proofs.Rooting.{still_now}
 use Rattle.hg_store.specs.Images.{EachImage, HasOpened}
 use Rattle.hg_store.specs.Kept.{IsInProgress, IsRooting, Parts, Standing, devices_of, shown_of}
 use Rattle.hg_store.specs.Shown.{captured, live, saved}

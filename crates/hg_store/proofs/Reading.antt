@@ -10,8 +10,8 @@ use Rattle.hg_contents.specs.Choices.{Basis}
 use Rattle.hg_contents.specs.Images.{start_of}
 use Rattle.hg_contents.specs.Stores.{IsLeft}
 use Rattle.hg_contents.proofs.Following.{counted}
-use Rattle.hg_checkpointer.specs.declared.phase.Phase.{Phase}
-use Rattle.hg_checkpointer.specs.declared.phase.Phase.TheVariants as phase
+use Rattle.hg_checkpoint.specs.declared.phase.Phase.{Phase}
+use Rattle.hg_checkpoint.specs.declared.phase.Phase.TheVariants as phase
 use Rattle.hg_store.specs.declared.devices.Devices.{Devices}
 use Rattle.hg_store.specs.Images.{EachImage, states_of}
 use Rattle.hg_store.specs.Kept.{IsFreezing, IsInProgress, IsRooting, Parts, Standing, shown_of}

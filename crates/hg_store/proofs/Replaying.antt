@@ -22,7 +22,7 @@ use Rattle.hg_sets.specs.declared.fault.SetFault.TheVariants.{Full}
 use Rattle.hg_detect.specs.Engine.{AtPresent}
 use Rattle.hg_detect.specs.Making.{Asks, sets_asked}
 use Rattle.hg_detect.specs.Shown as detect
-use Rattle.hg_words.specs.Words as words
+use Rattle.hg_cells.specs.Words as words
 use Rattle.hg_disk.specs.declared.disk.Disk as disk
 use Rattle.hg_journal.specs.declared.journal.Journal.{Journal}
 use Rattle.hg_journal.specs.declared.journal.JournalReader.{JournalReader}

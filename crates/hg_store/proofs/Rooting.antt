@@ -16,7 +16,7 @@ use Rattle.hg_root.specs.Parts.{Parts}
 use Rattle.hg_root.specs.declared.pair.Newest.{Newest}
 use Rattle.hg_root.specs.declared.pair.RootPair.{RootPair}
 use Rattle.hg_root.proofs.Choosing.{newest_of}
-use Rattle.hg_checkpointer.specs.Tables.{NamesOf}
+use Rattle.hg_checkpoint.specs.Tables.{NamesOf}
 use Rattle.hg_contents.specs.Choices.{Choice, HasSlots}
 use Rattle.hg_contents.specs.Images.{start_of}
 use Rattle.hg_contents.proofs.Contents.{one_start}

@@ -15,7 +15,7 @@ use Rattle.hg_contents.specs.Choices.{Stands}
 use Rattle.hg_contents.specs.Images.{Image}
 use Rattle.hg_contents.specs.Runs.{Run, StandsFor, accepted}
 use Rattle.hg_contents.proofs.Following.{followed_append}
-use Rattle.hg_checkpointer.specs.declared.cause.Cause.{Cause}
+use Rattle.hg_checkpoint.specs.declared.cause.Cause.{Cause}
 use Rattle.hg_store.specs.declared.devices.Devices.{Devices}
 use Rattle.hg_store.specs.declared.steps.Step.{Step}
 use Rattle.hg_store.specs.declared.steps.Step.TheVariants as step

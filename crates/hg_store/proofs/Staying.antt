@@ -20,8 +20,8 @@ use Rattle.hg_root.specs.Pairs.{first_of, second_of}
 use Rattle.hg_root.specs.declared.pair.RootPair.{RootPair}
 use Rattle.hg_contents.specs.Choices.{Basis, GivesDurable, HasBothSlots, HasEitherRoots, HasEvents, HasRoots, Stands}
 use Rattle.hg_contents.specs.States.{IsLawfulState}
-use Rattle.hg_checkpointer.specs.declared.checkpointer.Checkpointer.{Checkpointer}
-use Rattle.hg_checkpointer.specs.Standing.{EachNow, EachOf}
+use Rattle.hg_checkpoint.specs.declared.checkpointer.Checkpointer.{Checkpointer}
+use Rattle.hg_checkpoint.specs.Standing.{EachNow, EachOf}
 use Rattle.hg_store.specs.Images.{EachImage}
 use Rattle.hg_store.specs.Kept.{IsWorking, Parts, Standing, devices_of, shown_of}
 use Rattle.hg_store.specs.Shown.{live, saved}

@@ -2,8 +2,8 @@
 use Rattle.std.proofs.Common.{◌≡◌, inl, ℕ, Err, sym, ap, subst}
 use Rattle.hg_disk.specs.declared.disk.Disk as disk
 use Rattle.hg_pool.specs.Shown as pool
-use Rattle.hg_checkpointer.specs.declared.checkpointer.Checkpointer.{Checkpointer}
-use Rattle.hg_checkpointer.specs.declared.phase.Phase.{Phase}
+use Rattle.hg_checkpoint.specs.declared.checkpointer.Checkpointer.{Checkpointer}
+use Rattle.hg_checkpoint.specs.declared.phase.Phase.{Phase}
 use Rattle.hg_store.specs.Answers.{IsAllowed}
 use Rattle.hg_store.specs.Kept.{IsSound, Parts, shown_of}
 use Rattle.hg_store.specs.Shown.{ShownStore}

@@ -2,11 +2,11 @@
 use Rattle.std.specs.Prelude.{◌≡◌, ◌⊎◌, ℕ, true, false, Result, Ok, Err}
 use Rattle.hg_model.specs.declared.verdict.Refusal.{Refusal}
 use Rattle.hg_model.specs.declared.verdict.Refusal.TheVariants as refusal
-use Rattle.hg_checkpointer.specs.Phases as checkpoints
-use Rattle.hg_checkpointer.specs.declared.cause.Cause.{Cause}
-use Rattle.hg_checkpointer.specs.declared.cause.Cause.TheVariants as cause
-use Rattle.hg_recovery.specs.declared.fault.HeadFault.{HeadFault}
-use Rattle.hg_recovery.specs.declared.fault.HeadFault.TheVariants as head
+use Rattle.hg_checkpoint.specs.Phases as checkpoints
+use Rattle.hg_checkpoint.specs.declared.cause.Cause.{Cause}
+use Rattle.hg_checkpoint.specs.declared.cause.Cause.TheVariants as cause
+use Rattle.hg_checkpoint.specs.declared.fault.HeadFault.{HeadFault}
+use Rattle.hg_checkpoint.specs.declared.fault.HeadFault.TheVariants as head
 use Rattle.hg_store.specs.Shown.{ShownStore, phase_of}
 use Rattle.hg_store.specs.declared.steps.StepFault.{StepFault}
 use Rattle.hg_store.specs.declared.steps.StepFault.TheVariants.{Refused, WrongPhase}

@@ -9,8 +9,8 @@ use Rattle.hg_pool.specs.Shown as pool
 use Rattle.hg_pool.specs.declared.job.Job.{Job}
 use Rattle.hg_pool.specs.declared.job.Put.{Put}
 use Rattle.hg_pool.specs.declared.job.Put.TheVariants as put
-use Rattle.hg_checkpointer.specs.declared.cause.Cause.TheVariants as cause
-use Rattle.hg_checkpointer.specs.declared.phase.Phase.TheVariants as phase
+use Rattle.hg_checkpoint.specs.declared.cause.Cause.TheVariants as cause
+use Rattle.hg_checkpoint.specs.declared.phase.Phase.TheVariants as phase
 use Rattle.hg_store.specs.Answers.{IfRefused, IsAllowed, failed_by}
 use Rattle.hg_store.specs.Shown.{HasNextNumber, IsFlushed, IsIn, ShownStore, live, phase_of, words}
 use Rattle.hg_store.specs.Steps.{CheckpointDone, CommitDone, ContentOffered, OfferDone}

@@ -20,11 +20,11 @@ use Rattle.hg_contents.specs.Choices.{Basis}
 use Rattle.hg_contents.specs.Images.{Gives, content_of}
 use Rattle.hg_contents.specs.States.{IsLawfulState}
 use Rattle.hg_contents.specs.Stores.{KeepsContent}
-use Rattle.hg_recovery.specs.Capturing.{parts_with}
-use Rattle.hg_checkpointer.specs.declared.checkpointer.Checkpointer.{Checkpointer}
-use Rattle.hg_checkpointer.specs.declared.phase.Phase.{Phase}
-use Rattle.hg_checkpointer.specs.declared.phase.Phase.TheVariants as phase
-use Rattle.hg_checkpointer.specs.Standing.{IsDraft, IsNext, Stands}
+use Rattle.hg_checkpoint.specs.Capturing.{parts_with}
+use Rattle.hg_checkpoint.specs.declared.checkpointer.Checkpointer.{Checkpointer}
+use Rattle.hg_checkpoint.specs.declared.phase.Phase.{Phase}
+use Rattle.hg_checkpoint.specs.declared.phase.Phase.TheVariants as phase
+use Rattle.hg_checkpoint.specs.Standing.{IsDraft, IsNext, Stands}
 use Rattle.hg_store.specs.declared.devices.Devices.{Devices}
 use Rattle.hg_store.specs.Shown.{ShownStore, captured, live, saved}
 use Rattle.hg_store.specs.Store.{view_of}

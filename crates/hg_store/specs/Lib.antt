@@ -9,3 +9,5 @@ pub mod Runs
 pub mod Recovering
 pub mod Limits
 pub mod Refusals
+pub use Rattle.hg_checkpoint.specs.Phases
+pub use Rattle.hg_journal.specs.Journal

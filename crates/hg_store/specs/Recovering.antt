@@ -38,10 +38,10 @@ use Rattle.hg_root.specs.declared.root.Root.{Root}
 use Rattle.hg_contents.specs.Choices.{Basis, Choice, HasRoots, HasSlots}
 use Rattle.hg_contents.specs.Images.{Gives, HasContent, Image, LeadFrom, start_of}
 use Rattle.hg_contents.specs.States.{IsLawfulState}
-use Rattle.hg_checkpointer.specs.declared.checkpointer.Checkpointer.{Checkpointer}
-use Rattle.hg_checkpointer.specs.Standing.{Stands}
-use Rattle.hg_checkpointer.specs.Tables.{NamesOf}
-use Rattle.hg_recovery.specs.Restoring.{failures_after, file_in}
+use Rattle.hg_checkpoint.specs.declared.checkpointer.Checkpointer.{Checkpointer}
+use Rattle.hg_checkpoint.specs.Standing.{Stands}
+use Rattle.hg_checkpoint.specs.Tables.{NamesOf}
+use Rattle.hg_checkpoint.specs.Restoring.{failures_after, file_in}
 use Rattle.hg_store.specs.Shown.{ShownStore}
 use Rattle.hg_store.specs.Answers.{failed_in}
 use Rattle.hg_store.specs.declared.create.CreateFault.{CreateFault}

@@ -6,7 +6,7 @@ use Rattle.hg_model.specs.Contents.{Content}
 use Rattle.hg_model.specs.Change.{followed}
 use Rattle.hg_disk.specs.declared.disk.Disk as disk
 use Rattle.hg_contents.specs.Runs.{Run, StandsFor, accepted}
-use Rattle.hg_checkpointer.specs.declared.cause.Cause.TheVariants as cause
+use Rattle.hg_checkpoint.specs.declared.cause.Cause.TheVariants as cause
 use Rattle.hg_store.specs.Doing.{ContentDone, StepDone, Tells, fails_by, in_doubt_during}
 use Rattle.hg_store.specs.Images.{EachImage, failures_of}
 use Rattle.hg_store.specs.Shown.{ShownStore, live, saved}

@@ -14,8 +14,8 @@ use Rattle.hg_detect.specs.declared.detector.Answer.{Answer}
 use Rattle.hg_detect.specs.declared.detector.Answer.TheVariants.{Accepted, Duplicate}
 use Rattle.hg_disk.specs.declared.disk.Disk as disk
 use Rattle.hg_pool.specs.OfWords.{MayRefuse}
-use Rattle.hg_checkpointer.specs.declared.cause.Cause.TheVariants as cause
-use Rattle.hg_checkpointer.specs.declared.phase.Phase.{Phase}
+use Rattle.hg_checkpoint.specs.declared.cause.Cause.TheVariants as cause
+use Rattle.hg_checkpoint.specs.declared.phase.Phase.{Phase}
 use Rattle.hg_store.specs.Answers.{IfRefused, IfWrongPhase, IsAllowed}
 use Rattle.hg_store.specs.Shown.{ShownStore, live}
 use Rattle.hg_store.specs.declared.steps.StepFault.{StepFault}

@@ -5,7 +5,7 @@ use Rattle.hg_model.specs.declared.verdict.Refusal.{Refusal}
 use Rattle.hg_model.specs.Contents.{Content}
 use Rattle.hg_disk.specs.declared.disk.Disk as disk
 use Rattle.hg_disk.specs.Calls.{CallsAtMost}
-use Rattle.hg_checkpointer.specs.declared.phase.Phase.TheVariants.{Idle}
+use Rattle.hg_checkpoint.specs.declared.phase.Phase.TheVariants.{Idle}
 use Rattle.hg_journal.specs.Journal.{IsJournal}
 use Rattle.hg_contents.specs.Choices.{Stands}
 use Rattle.hg_contents.specs.Stores as stores

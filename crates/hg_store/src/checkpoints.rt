@@ -2,7 +2,7 @@
 
 ghost use Rattle.std.specs.Prelude.{◌≡◌, ◌≢◌, ◌⊎◌, ◌+◌, ◌<◌, ◌≤◌, ◌^◌, Err, true, false, IsTrue, OnOk, OnErr, IfOk};
 ghost use Rattle.hg_pool.specs.Calls.{HasWaited, IsStale};
-ghost use Rattle.hg_checkpointer.specs.declared.phase.Phase.TheVariants as phase;
+ghost use Rattle.hg_checkpoint.specs.declared.phase.Phase.TheVariants as phase;
 ghost use Rattle.hg_store.specs.Answers.{IfRefused, IsAllowed, failed_by};
 ghost use Rattle.hg_store.specs.Shown.{HasNextNumber, IsFlushed, IsIn, live, phase_of, words};
 ghost use Rattle.hg_store.specs.Steps.{CheckpointDone};
@@ -12,11 +12,10 @@ ghost use Rattle.hg_store.specs.Doing.{IsFirstWaiting, SameNumbers, SameRoots, S
 
 use crate::steps::{StepFault, StorePhase};
 use crate::store::Store;
-use hg_checkpointer::{Cause, CheckpointFault, Phase};
+use hg_checkpoint::{Cause, CheckpointFault, Phase, head_of};
 use hg_disk::Disk;
 use hg_pages::EncodedPage;
 use hg_pool::{Job, Put};
-use hg_recovery::head_of;
 use std::alloc::Global;
 use std::snapshot::Snapshot;
 

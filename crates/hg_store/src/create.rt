@@ -11,7 +11,7 @@ ghost use Rattle.hg_pool.specs.Maps as pools;
 ghost use Rattle.hg_pool.specs.Maps.{live};
 ghost use Rattle.hg_pool.specs.OfWords.{MayBring};
 ghost use Rattle.hg_sets.specs.Interning.{first_table};
-ghost use Rattle.hg_checkpointer.specs.declared.phase.Phase.TheVariants.{Idle};
+ghost use Rattle.hg_checkpoint.specs.declared.phase.Phase.TheVariants.{Idle};
 ghost use Rattle.hg_store.specs.Kept.{devices_of};
 ghost use Rattle.hg_store.specs.Images.{read_of};
 ghost use Rattle.hg_root.specs.Pairs.{AreGates, Stands};
@@ -20,7 +20,7 @@ ghost use Rattle.hg_store.specs.Store.{IsFresh, IsIdle};
 
 use crate::devices::{Caps, Devices};
 use crate::store::{MOST_PENDING, Store};
-use hg_checkpointer::Checkpointer;
+use hg_checkpoint::Checkpointer;
 use hg_detect::detector::Detector;
 use hg_disk::Disk;
 use hg_journal::journal::{Journal, JournalRoom};

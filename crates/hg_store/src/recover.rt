@@ -13,7 +13,7 @@ ghost use Rattle.hg_pool.specs.OfWords.{MayBring};
 ghost use Rattle.hg_root.specs.Checkpoints.{LieWithin};
 ghost use Rattle.hg_root.specs.Finding.{AreWhole, HasNoNewest, IsNewestOf, IsOnlyOf, IsWholeIn, WasRead, number_in, root_in};
 ghost use Rattle.hg_root.specs.Pairs.{IsWorking, failures, first_of, second_of};
-ghost use Rattle.hg_recovery.specs.Restoring.{file_in};
+ghost use Rattle.hg_checkpoint.specs.Restoring.{file_in};
 ghost use Rattle.hg_store.specs.Images.{FailuresBecome, KeepContent, LeavesOld, Recovers, read_of};
 ghost use Rattle.hg_store.specs.Recovering.{CantCatchUp, CantFill, CantRoot, CatchesUp, CountsCatching, CountsFailures, CountsInFile, CountsRecovery, CountsRooting, FillsSets, HasCheckpointOf, HasFewSets, HasItsTable, HasNoCheckpointOf, HasNoContent, HasNoneIn, IfDamaged, IfFullSets, IsNewestRoot, IsOfRecovery, IsOfRoots, IsOnlyRoot, IsReady, IsRecovered, IsRootedAt, IsTooFew, LacksRoom, MayCatchUp, NamesPages, OnDamaged, PairStands, Settled, StandIfSettled, StartsAt, Stay, first_after, journal_after, made_of, roots_of, second_after, slots_of, table_at, words_after};
 ghost use Rattle.hg_store.specs.Store.{IsIdle};
@@ -22,7 +22,7 @@ use crate::create::{empty_detector, made, pending_room};
 use crate::devices::{Caps, Devices};
 use crate::replay::replay;
 use crate::store::Store;
-use hg_checkpointer::Checkpointer;
+use hg_checkpoint::{Checkpointer, lies_within, restored};
 use hg_detect::detector::Detector;
 use hg_disk::{Disk, DiskFault};
 use hg_journal::journal::Journal;
@@ -30,7 +30,6 @@ use hg_model::event::Named;
 use hg_model::verdict::Refusal;
 use hg_pages::{MOST_SLOTS, SlotFile};
 use hg_pool::Pool;
-use hg_recovery::{lies_within, restored};
 use hg_root::{Newest, Root, RootFault, RootPair};
 use hg_sets::MOST_SETS;
 use std::alloc::Global;
@@ -108,10 +107,10 @@ fn standing<D: Disk>(
 }
 
 /// The caps of the detector that a root makes.
-fn caps_of(frames: u16, caps: Caps) -> hg_recovery::Caps
+fn caps_of(frames: u16, caps: Caps) -> hg_checkpoint::Limits
     ensures { (result.sets ≡ caps.sets) × (result.slots ≡ caps.slots) × (result.frames ≡ frames) }
 {
-    hg_recovery::Caps {
+    hg_checkpoint::Limits {
         sets: caps.sets,
         slots: caps.slots,
         frames: usize::from(frames),

@@ -1,13 +1,13 @@
 //! The steps of a store, and what they answer.
 ghost use Rattle.std.specs.Prelude.{◌≡◌};
 
-use hg_checkpointer::Cause;
+pub use hg_checkpoint::Cause;
+use hg_checkpoint::HeadFault;
 use hg_detect::detector::Answer;
 use hg_model::event::Named;
 use hg_model::verdict::Refusal;
-use hg_pages::EncodedPage;
-use hg_pool::{Job, Put};
-use hg_recovery::HeadFault;
+pub use hg_pages::EncodedPage;
+pub use hg_pool::{Job, Put};
 
 /// The phase of a store: its events and its next checkpoint.
 #[derive(Clone, Copy, Debug, PartialEq, Eq, Drop)]

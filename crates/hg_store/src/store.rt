@@ -8,7 +8,7 @@ ghost use Rattle.hg_store.specs.Images.{FailuresBecome};
 
 use crate::devices::Devices;
 use crate::steps::StorePhase;
-use hg_checkpointer::{Checkpointer, Phase};
+use hg_checkpoint::{Checkpointer, Phase};
 use hg_detect::detector::{Answer, Detector};
 use hg_disk::Disk;
 use hg_journal::journal::{Journal, MAX_BATCH_EVENTS};

@@ -2,9 +2,9 @@
 
 use crate::world::World;
 use hg_desk::share::{Column, Opening};
-use hg_frames::frame::Frame;
-use hg_frames::put::put_frame;
 use hg_model::event::{Access, Event};
+use hg_protocol::frame::Frame;
+use hg_protocol::put::put_frame;
 use hg_test_kit::text::Text;
 use std::alloc::Global;
 

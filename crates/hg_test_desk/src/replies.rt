@@ -1,7 +1,7 @@
 //! Replies in words.
 
-use hg_frames::message::FrameFault;
-use hg_frames::reply::Reply;
+use hg_protocol::message::FrameFault;
+use hg_protocol::reply::Reply;
 use hg_test_kit::text::Text;
 
 /// Appends a fault of a stream.

@@ -3,12 +3,12 @@
 ghost use Rattle.std.specs.Prelude.{◌+◌, ◌<◌, ◌^◌, length, IsTrue};
 ghost use Rattle.hg_detect.specs.Engine.{AtPresent};
 
+use hg_cells::words::Words;
 use hg_detect::detector::Detector;
 use hg_model::event::{Event, Named};
 use hg_model::verdict::Refusal;
 use hg_wire::line::AccessLine;
 use hg_wire::reader::{EventReader, Reading, Taken};
-use hg_words::words::Words;
 
 /// How checking a trace text ended.
 #[derive(Clone, Copy, Debug, PartialEq, Eq, Drop)]

@@ -8,6 +8,7 @@ ghost use Rattle.hg_pool.specs.Maps.{live};
 use crate::checkpoint::checkpoint;
 use crate::events::{Ending, Turn, finish, run};
 use crate::printing::put_run;
+use hg_cells::words::Words;
 use hg_detect::detector::Detector;
 use hg_detect::memory::new_detector;
 use hg_disk::{Disk, MemDisk};
@@ -17,7 +18,6 @@ use hg_pool::Pool;
 use hg_sets::MOST_SETS;
 use hg_test_kit::text::Text;
 use hg_wire::reader::EventReader;
-use hg_words::words::Words;
 use std::alloc::Global;
 
 /// A detector over a pool on a disk in memory.

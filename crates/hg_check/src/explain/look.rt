@@ -6,9 +6,9 @@ ghost use Rattle.hg_check.specs.Life as life;
 ghost use Rattle.hg_model.specs.History as history;
 
 use hg_cells::Cell;
+use hg_cells::words::Words;
 use hg_detect::memory::MemoryDetector;
 use hg_model::event::Event;
-use hg_words::words::Words;
 
 /// A word's state without its sets: its kind, its owner's segment, and how many threads and candidate locks it has.
 #[derive(Clone, Copy, Debug, PartialEq, Eq, Drop)]

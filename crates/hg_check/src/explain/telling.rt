@@ -10,10 +10,10 @@ use crate::explain::form::{Asked, Form};
 use crate::explain::look::{Look, is_bare, look_at};
 use crate::explain::pieces::{hold, hold_all, hold_members, hold_number};
 use hg_cells::Cell;
+use hg_cells::words::Words;
 use hg_detect::memory::MemoryDetector;
 use hg_model::event::Event;
 use hg_model::verdict::Refusal;
-use hg_words::words::Words;
 use itoa::Buffer;
 
 /// An event that was accepted just now, with what stood before it.

@@ -7,7 +7,7 @@ use Rattle.hg_detect.specs.Shown as detect
 use Rattle.hg_detect.specs.Shown.{content}
 use Rattle.hg_disk.specs.declared.disk.Disk as disk
 use Rattle.hg_disk.proofs.Staying.{same}
-use Rattle.hg_checkpointer.specs.Tables.{NamesOf}
+use Rattle.hg_checkpoint.specs.Tables.{NamesOf}
 use Rattle.hg_pages.specs.Files.{disk_of, is_broken, known}
 use Rattle.hg_pages.specs.declared.slot_file.SlotFile.{SlotFile}
 use Rattle.hg_pool.specs.Maps.{live}
@@ -17,8 +17,8 @@ use Rattle.hg_root.specs.Finding.{IsWholeIn, root_in}
 use Rattle.hg_root.specs.Parts.{Parts}
 use Rattle.hg_root.specs.Roots.{parts_of}
 use Rattle.hg_contents.specs.Images.{start_of}
-use Rattle.hg_recovery.specs.Restoring.{IsTrueCause, detector_of}
-use Rattle.hg_recovery.specs.declared.caps.Caps.{Caps}
+use Rattle.hg_checkpoint.specs.Restoring.{IsTrueCause, detector_of}
+use Rattle.hg_checkpoint.specs.declared.limits.Limits.{Limits}
 use Rattle.hg_store.specs.Images.{LeavesOld}
 use Rattle.hg_store.specs.Recovering.{IsOfRecovery, IsTooFew, table_at}
 use Rattle.hg_store.proofs.Making.{each_names, each_ready, first_ready, if_err, some_checkpoint}
@@ -37,7 +37,7 @@ if_ok P Q (Ok value) from holds = from value holds
 if_ok P Q (Err error) from holds = tt
 
 -- the causes of a restoring over a file that works
-of_cause : {D : Type 0} (g : disk.Ghosts D) (root : Parts) (caps : Caps) (file : SlotFile D) → is_broken file ≡ false → (r : Refusal) → IsTrueCause g root caps file r → IsOfRecovery r
+of_cause : {D : Type 0} (g : disk.Ghosts D) (root : Parts) (caps : Limits) (file : SlotFile D) → is_broken file ≡ false → (r : Refusal) → IsTrueCause g root caps file r → IsOfRecovery r
 of_cause g root caps file works (refusal.Gap number) cause = absurd cause
 of_cause g root caps file works refusal.BadNumber cause = absurd cause
 of_cause g root caps file works refusal.BadLength cause = absurd cause

@@ -15,7 +15,7 @@ use Rattle.hg_root.specs.Checkpoints.{HasCheckpoint, root_of}
 use Rattle.hg_root.specs.Pairs.{first_of, second_of}
 use Rattle.hg_contents.specs.Choices.{HasSlots}
 use Rattle.hg_contents.specs.Images.{LeadFrom}
-use Rattle.hg_checkpointer.proofs.Staying.{slots_stay}
+use Rattle.hg_checkpoint.proofs.Staying.{slots_stay}
 use Rattle.hg_store.specs.declared.devices.Devices.{Devices}
 use Rattle.hg_store.specs.Images.{EachImage, HasContentOf, failures_of, read_of}
 use Rattle.hg_store.specs.Recovering.{HasSets, IsTooSmall, table_at}

@@ -1,7 +1,7 @@
 use Rattle.std.proofs.Common.{◌≡◌, length, refl, sym, ◌∙◌}
 use Rattle.std.proofs.lemmas.List.{length-map}
 use Rattle.hg_detect.specs.declared.detector.Detector.{Detector}
-use Rattle.hg_words.specs.declared.paged.PagedWords.{PagedWords}
+use Rattle.hg_cells.specs.declared.paged.PagedWords.{PagedWords}
 use Rattle.hg_detect.specs.Memory.{content_of}
 use Rattle.hg_detect.specs.Shown.{report_of}
 use Rattle.hg_check.proofs.Sinking.{takes_nothing, takes_printed}

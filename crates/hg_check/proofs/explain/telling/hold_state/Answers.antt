@@ -3,8 +3,8 @@ use Rattle.std.proofs.lemmas.Result.{on_ok_weaker}
 use Rattle.std.specs.Fmt.{decimal}
 use Rattle.hg_cells.specs.declared.cell.Cell.{Cell}
 use Rattle.hg_cells.specs.Cells.{meaning}
-use Rattle.hg_words.specs.declared.paged.PagedWords.{PagedWords}
-use Rattle.hg_words.specs.Paged.{cell_in}
+use Rattle.hg_cells.specs.declared.paged.PagedWords.{PagedWords}
+use Rattle.hg_cells.specs.Paged.{cell_in}
 use Rattle.hg_check.specs.Life.{state_text}
 use Rattle.hg_check.proofs.explain.telling.hold_state.Goals as goal
 

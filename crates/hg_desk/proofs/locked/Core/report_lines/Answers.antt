@@ -5,8 +5,8 @@ use Rattle.hg_model.specs.ThreadSets.{IsThreadSet}
 use Rattle.hg_model.specs.declared.report.Report.{Report}
 use Rattle.hg_model.specs.declared.verdict.Refusal.{Refusal}
 use Rattle.hg_model.specs.declared.verdict.Refusal.TheVariants.{Broken}
-use Rattle.hg_frames.specs.declared.reply.Reply.{Reply}
-use Rattle.hg_frames.specs.declared.reply.Reply.TheVariants.{Lines}
+use Rattle.hg_protocol.specs.declared.reply.Reply.{Reply}
+use Rattle.hg_protocol.specs.declared.reply.Reply.TheVariants.{Lines}
 use Rattle.hg_store.specs.Shown.{ShownStore, live}
 use Rattle.hg_desk.specs.Conversation.{ReportsAnswer, lines_of}
 use Rattle.hg_desk.proofs.locked.Core.report_lines.Goals as goal

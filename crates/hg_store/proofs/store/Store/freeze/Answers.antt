@@ -1,9 +1,9 @@
 use Rattle.std.proofs.Common.{◌≡◌, ◌∙◌, ◌+◌, false, length, ℕ, List, rules, subst, sym, ap}
 use Rattle.std.proofs.lemmas.Bool.{true≢false}
-use Rattle.hg_checkpointer.specs.declared.phase.Phase.{Phase}
+use Rattle.hg_checkpoint.specs.declared.phase.Phase.{Phase}
 use Rattle.hg_pages.specs.Files as files
 use Rattle.hg_pages.specs.declared.slot_file.SlotFile.{SlotFile}
-use Rattle.hg_recovery.specs.Capturing.{parts_with}
+use Rattle.hg_checkpoint.specs.Capturing.{parts_with}
 use Rattle.hg_store.specs.Shown.{ShownStore, live as of_store, phase_by}
 use Rattle.hg_store.specs.declared.steps.StorePhase.TheVariants as store
 use Rattle.hg_store.specs.Kept.{is_rooting}

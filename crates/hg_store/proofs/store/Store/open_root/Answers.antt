@@ -1,7 +1,7 @@
 use Rattle.std.proofs.Common.{◌≡◌, ◌∙◌, false, true, length, ℕ, List, IsTrue, rules, subst, sym, ap}
 use Rattle.std.proofs.lemmas.Bool.{true≢false}
-use Rattle.hg_checkpointer.specs.declared.phase.Phase.{Phase}
-use Rattle.hg_checkpointer.specs.declared.phase.Phase.TheVariants as phase
+use Rattle.hg_checkpoint.specs.declared.phase.Phase.{Phase}
+use Rattle.hg_checkpoint.specs.declared.phase.Phase.TheVariants as phase
 use Rattle.hg_pool.specs.Kept.{AreWithin}
 use Rattle.hg_pool.specs.Maps.{disk_of, is_broken, live}
 use Rattle.hg_pool.specs.Shown.{ShownPool as Pool}

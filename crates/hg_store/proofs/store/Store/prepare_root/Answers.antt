@@ -1,7 +1,7 @@
 use Rattle.std.proofs.Common.{◌≡◌, false, true, rules, subst, inl}
 use Rattle.std.proofs.lemmas.Bool.{true≢false}
-use Rattle.hg_checkpointer.specs.declared.phase.Phase.{Phase}
-use Rattle.hg_checkpointer.specs.declared.phase.Phase.TheVariants as phase
+use Rattle.hg_checkpoint.specs.declared.phase.Phase.{Phase}
+use Rattle.hg_checkpoint.specs.declared.phase.Phase.TheVariants as phase
 use Rattle.hg_store.proofs.Going.{progress_at}
 use Rattle.hg_root.specs.Checkpoints.{root_of}
 use Rattle.hg_store.specs.Kept.{is_rooting}

@@ -5,7 +5,7 @@ use Rattle.hg_model.specs.declared.event.Event.{Event}
 use Rattle.hg_model.specs.Verdicts.{standing_of}
 use Rattle.hg_detect.specs.Memory.{content_of}
 use Rattle.hg_detect.specs.declared.detector.Detector.{Detector}
-use Rattle.hg_words.specs.declared.paged.PagedWords.{PagedWords}
+use Rattle.hg_cells.specs.declared.paged.PagedWords.{PagedWords}
 use Rattle.hg_detect.specs.Shown.{report_of}
 use Rattle.hg_wire.specs.declared.line.LineFault.{LineFault}
 use Rattle.hg_reading.specs.declared.ending.Ending.{Ending}

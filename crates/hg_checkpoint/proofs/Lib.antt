@@ -1,0 +1,14 @@
+pub mod Moments
+pub mod Answering
+pub mod Tables
+pub mod Staying
+pub mod Rooting
+pub mod Sealing
+pub mod Between
+pub mod Entries
+pub mod Pages
+pub mod Calling
+pub mod Threads
+pub mod Maps
+pub mod Sent
+pub mod Spelling

@@ -1,0 +1,5 @@
+use Rattle.hg_checkpoint.proofs.Staying as staying
+use Rattle.hg_checkpoint.proofs.laws.slots_stay.Goals as goal
+
+pub returns : goal.returns
+returns g c = staying.slots_stay g.D.Disk g.met.D.Disk.has_its_bytes

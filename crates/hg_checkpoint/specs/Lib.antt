@@ -1,0 +1,10 @@
+pub mod Tables
+pub mod Told
+pub mod Phases
+pub mod Standing
+pub mod Calls
+pub mod Laws
+pub mod Reading
+pub mod NamedPages
+pub mod Restoring
+pub mod Capturing

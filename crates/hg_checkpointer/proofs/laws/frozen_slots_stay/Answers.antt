@@ -1,5 +1,0 @@
-use Rattle.hg_checkpointer.proofs.Staying as staying
-use Rattle.hg_checkpointer.proofs.laws.frozen_slots_stay.Goals as goal
-
-pub returns : goal.returns
-returns g c = staying.frozen_slots_stay g.D.Disk g.met.D.Disk.has_its_bytes

@@ -1,7 +1,0 @@
-use Rattle.std.proofs.Common.{◌≡◌, true, take}
-use Rattle.std.specs.List.{list_all}
-use Rattle.hg_frames.specs.Replies.{is_line_byte}
-use Rattle.hg_frames.proofs.reply.is_line.Given as goal
-
-abbrev pub invariant-loop-byte : goal.invariant-loop-byte
-invariant-loop-byte l = list_all is_line_byte (take l.byte-index l.bytes) ≡ true

@@ -1,5 +1,0 @@
-use Rattle.std.proofs.Common.{◌<◌, All, take}
-use Rattle.hg_recovery.proofs.tables.lie_below.Given as goal
-
-abbrev pub invariant-loop-page : goal.invariant-loop-page
-invariant-loop-page l = All (λ p. p.slot < l.slots) (take l.page-index l.pages)

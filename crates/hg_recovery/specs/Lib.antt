@@ -1,4 +1,0 @@
-pub mod Reading
-pub mod Standing
-pub mod Restoring
-pub mod Capturing

@@ -1,3 +1,0 @@
-pub mod Overlaps
-mod Places
-mod Writing
