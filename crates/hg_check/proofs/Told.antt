@@ -9,7 +9,7 @@ use Rattle.hg_model.specs.declared.event.Event.TheVariants.{Fork, Join, Lock, Rd
 use Rattle.hg_model.specs.declared.event.Named.{Named}
 use Rattle.hg_model.specs.declared.verdict.Verdict.{Verdict}
 use Rattle.hg_model.specs.declared.verdict.Verdict.TheVariants.{Accept, Duplicate, Refuse}
-use Rattle.hg_model.specs.Verdicts.{Standing, bad_number, is_above_limit, standing_of, verdict}
+use Rattle.hg_model.specs.Verdicts.{Standing, bad_number, is_bad_source, is_bad_thread, standing_of, verdict}
 use Rattle.hg_model.specs.Contents.{Content}
 use Rattle.hg_model.specs.Change.{after, locks_of, touched, word_after}
 use Rattle.hg_model.specs.Segments.{present}
@@ -112,7 +112,7 @@ none_stopped (Some end) h = absurd (cc)
 
 -- ---- the acting thread of an accepted event
 
-small : (n : ℕ) → is_above_limit n ≡ false → n < 1024
+small : (n : ℕ) → is_bad_thread n ≡ false → n < 1024
 small n low = let le = ltb-false 1023 n low in omega (arith, le)
 
 neither : (a b : Bool) → (a || b) ≡ false → b ≡ false
@@ -125,10 +125,10 @@ low_actor source (Join p c) low = omega arith
 low_actor source (Lock t l) low = omega arith
 low_actor source (RdLock t l) low = omega arith
 low_actor source (Unlock t l) low = omega arith
-low_actor source (Read a) low = small a.t (neither (is_above_limit source) (is_above_limit a.t) low)
-low_actor source (Write a) low = small a.t (neither (is_above_limit source) (is_above_limit a.t) low)
-low_actor source (Alloc b) low = small b.t (neither (is_above_limit source) (is_above_limit b.t) low)
-low_actor source (Free b) low = small b.t (neither (is_above_limit source) (is_above_limit b.t) low)
+low_actor source (Read a) low = small a.t (neither (is_bad_source source) (is_bad_thread a.t) low)
+low_actor source (Write a) low = small a.t (neither (is_bad_source source) (is_bad_thread a.t) low)
+low_actor source (Alloc b) low = small b.t (neither (is_bad_source source) (is_bad_thread b.t) low)
+low_actor source (Free b) low = small b.t (neither (is_bad_source source) (is_bad_thread b.t) low)
 
 pub actor_is_low : (s : Standing) (n : Named) → verdict s n ≡ Accept → actor_of n.event < 1024
 actor_is_low s n accepts = low_actor n.source n.event (no_cause s n accepts).0

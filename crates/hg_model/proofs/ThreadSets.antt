@@ -17,7 +17,7 @@ use Rattle.hg_model.specs.Paths.{reaches}
 use Rattle.hg_model.specs.Segments.{opened, present, thread_at}
 use Rattle.hg_model.specs.Sets.{set_of, with_member}
 use Rattle.hg_model.specs.Sharing.{shared, threads_in}
-use Rattle.hg_model.specs.Verdicts.{actor, bad_number, is_above_limit, standing_of, verdict}
+use Rattle.hg_model.specs.Verdicts.{actor, bad_number, is_bad_source, is_bad_thread, standing_of, verdict}
 use Rattle.hg_model.specs.Change.{after, empty_content, followed, is_accept, new_reports, touched, word_after}
 use Rattle.hg_model.specs.ThreadSets.{HasThreadSets, IsThreadSet, RisesFrom}
 use Rattle.hg_model.proofs.Accepted.{no_cause}
@@ -78,7 +78,7 @@ all_map P f (x ∷ xs) each = (each x, all_map P f xs each)
 
 -- ---- numbers of an accepted event
 
-small : (n : ℕ) → is_above_limit n ≡ false → n ≤ 1023
+small : (n : ℕ) → is_bad_thread n ≡ false → n ≤ 1023
 small n low = let le = ltb-false 1023 n low in omega (arith, le)
 
 neither : (a b : Bool) → (a || b) ≡ false → (a ≡ false) × (b ≡ false)
@@ -90,17 +90,17 @@ pub record HasSmallNumbers (e : Event) : Type 0 where
   pub actor_is : actor e ≤ 1023
   pub opens : (segments : List Segment) → AllByRecursion (λ s. s.thread ≤ 1023) (opened segments e)
 
-one_number : (source : ℕ) (e : Event) → (is_above_limit source || is_above_limit (actor e)) ≡ false → actor e ≤ 1023
-one_number source e low = small (actor e) (neither (is_above_limit source) (is_above_limit (actor e)) low).1
+one_number : (source : ℕ) (e : Event) → (is_bad_source source || is_bad_thread (actor e)) ≡ false → actor e ≤ 1023
+one_number source e low = small (actor e) (neither (is_bad_source source) (is_bad_thread (actor e)) low).1
 
 small_numbers : (source : ℕ) (e : Event) → bad_number source e ≡ false → HasSmallNumbers e
 small_numbers source (Fork p c) low =
-    let first = neither (is_above_limit source || is_above_limit p) (is_above_limit c) low in
-    let p_small = small p (neither (is_above_limit source) (is_above_limit p) first.0).1 in
+    let first = neither (is_bad_source source || is_bad_thread p) (is_bad_thread c) low in
+    let p_small = small p (neither (is_bad_source source) (is_bad_thread p) first.0).1 in
     record { actor_is = p_small; opens = λ segments. (small c first.1, (p_small, tt)) }
 small_numbers source (Join p c) low =
-    let first = neither (is_above_limit source || is_above_limit p) (is_above_limit c) low in
-    let p_small = small p (neither (is_above_limit source) (is_above_limit p) first.0).1 in
+    let first = neither (is_bad_source source || is_bad_thread p) (is_bad_thread c) low in
+    let p_small = small p (neither (is_bad_source source) (is_bad_thread p) first.0).1 in
     record { actor_is = p_small; opens = λ segments. (p_small, tt) }
 small_numbers source (Lock t l) low = record { actor_is = one_number source (Lock t l) low; opens = λ segments. tt }
 small_numbers source (RdLock t l) low = record { actor_is = one_number source (RdLock t l) low; opens = λ segments. tt }

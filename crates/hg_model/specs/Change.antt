@@ -1,5 +1,6 @@
 -- What one accepted event changes, by the state table.
 use Rattle.std.specs.Prelude.{ℕ, ◌+◌, Bool, true, false, ◌==◌, ◌&&◌, not, nat_lt, List, [], ◌∷◌, ◌++◌, map, filter, take, length, if◌then◌else◌, ◌*◌, Option, Some, None}
+use Rattle.hg_model.specs.declared.limits.TheConstants.{MOST_REPORTS}
 use Rattle.hg_model.specs.declared.event.Event.{Event}
 use Rattle.hg_model.specs.declared.event.Event.TheVariants.{Fork, Join, Lock, RdLock, Unlock, Read, Write, Alloc, Free}
 use Rattle.hg_model.specs.declared.event.Named.{Named}
@@ -103,7 +104,7 @@ after c n =
       segments = c.segments ++ opened c.segments n.event;
       threads = threads_after n.event c.threads;
       words = word_after c n.event;
-      reports = take 65536 (c.reports ++ new_reports c n.event);
+      reports = take MOST_REPORTS (c.reports ++ new_reports c n.event);
       total = c.total + length (new_reports c n.event);
       last = λ s. if n.source == s then c.last s + 1 else c.last s;
     }

@@ -1,6 +1,7 @@
 -- What restoring a trace state requires of its parts.
 use Rattle.std.specs.Prelude.{◌≡◌, ◌⊎◌, IfErr, ℕ, ◌≤◌, ◌^◌, Bool, true, ◌&&◌, ◌||◌, ◌==◌, not, nat_lt, List, Result, length, take, slice_get, Some, if◌then◌else◌}
 use Rattle.std.specs.List.{list_any, list_all}
+use Rattle.hg_model.specs.declared.limits.TheConstants.{MOST_EVENTS, MOST_SEGMENTS, SOURCE_NUMBERS, THREAD_NUMBERS}
 use Rattle.hg_model.specs.declared.held.HeldLock.{HeldLock}
 use Rattle.hg_model.specs.declared.thread.ThreadState.{ThreadState}
 use Rattle.hg_model.specs.declared.verdict.Refusal.{Refusal}
@@ -12,9 +13,9 @@ use Rattle.hg_model.specs.Parts.{Parts}
 abbrev pub excludes : HeldLock → ThreadState → Bool
 excludes h x = if h.write then has_lock x.held h.lock else has_lock_for_writing x.held h.lock
 
--- a number up to 1023, and above those of these threads
+-- a number that a thread may have, and above those of these threads
 abbrev pub is_next : List ThreadState → ℕ → Bool
-is_next threads t = nat_lt t 1024 && list_all (λ x. nat_lt x.number t) threads
+is_next threads t = nat_lt t THREAD_NUMBERS && list_all (λ x. nat_lt x.number t) threads
 
 -- alive, or without a lock
 abbrev pub holds_alive : ThreadState → Bool
@@ -30,10 +31,10 @@ AreThreads threads = (k : ℕ) (x : ThreadState) → slice_get threads k ≡ Som
 
 -- The parts are in range: the counts, the threads, and a number for each source.
 pub record AreInRange (p : Parts) : Type 0 where
-  pub events : p.events ≤ 2 ^ 58
-  pub segments : p.segments ≤ 1048576
+  pub events : p.events ≤ MOST_EVENTS
+  pub segments : p.segments ≤ MOST_SEGMENTS
   pub threads : AreThreads p.threads
-  pub last : length p.last ≡ 1024
+  pub last : length p.last ≡ SOURCE_NUMBERS
 
 -- the parts of a trace state, as it is restored from them
 abbrev pub parts_of : ℕ → ℕ → List ThreadState → List ℕ → Parts

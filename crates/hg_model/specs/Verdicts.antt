@@ -1,6 +1,7 @@
 -- The verdict on an offered event: the trace rules and the limits, in the order in which they are tested.
 use Rattle.std.specs.Prelude.{◌≡◌, ℕ, ◌+◌, ◌^◌, Bool, false, ◌&&◌, ◌||◌, not, ◌==◌, nat_lt, nat_le, List, [], ◌∷◌, length, slice_index, if◌then◌else◌}
 use Rattle.std.specs.List.{list_any}
+use Rattle.hg_model.specs.declared.limits.TheConstants.{GREATEST_ACCESS, GREATEST_BLOCK, GREATEST_SOURCE, GREATEST_THREAD, MOST_EVENTS, MOST_HELD, MOST_SEGMENTS}
 use Rattle.hg_model.specs.declared.event.Event.{Event}
 use Rattle.hg_model.specs.declared.event.Event.TheVariants.{Fork, Join, Lock, RdLock, Unlock, Read, Write, Alloc, Free}
 use Rattle.hg_model.specs.declared.event.Named.{Named}
@@ -44,22 +45,26 @@ actor (Free b) = b.t
 abbrev pub has_thread : List ThreadState → ℕ → (ThreadState → Bool) → Bool
 has_thread threads t test = list_any (λ x. (x.number == t) && test x) threads
 
--- above the greatest number of a thread or a source
-abbrev pub is_above_limit : ℕ → Bool
-is_above_limit n = nat_lt 1023 n
+-- above the greatest number of a thread
+abbrev pub is_bad_thread : ℕ → Bool
+is_bad_thread t = nat_lt GREATEST_THREAD t
+
+-- above the greatest number of a source
+abbrev pub is_bad_source : ℕ → Bool
+is_bad_source source = nat_lt GREATEST_SOURCE source
 
 -- the source or a thread of the event has a number above the limit
 abbrev pub bad_number : ℕ → Event → Bool
-bad_number source (Fork p c) = is_above_limit source || is_above_limit p || is_above_limit c
-bad_number source (Join p c) = is_above_limit source || is_above_limit p || is_above_limit c
-bad_number source e = is_above_limit source || is_above_limit (actor e)
+bad_number source (Fork p c) = is_bad_source source || is_bad_thread p || is_bad_thread c
+bad_number source (Join p c) = is_bad_source source || is_bad_thread p || is_bad_thread c
+bad_number source e = is_bad_source source || is_bad_thread (actor e)
 
--- an access is of 1 to 64 bytes, a block of 1 to 1024
+-- The length is that of no access, or of no block: each has a byte at least.
 abbrev pub bad_length : Event → Bool
-bad_length (Read a) = (a.len == 0) || nat_lt 64 a.len
-bad_length (Write a) = (a.len == 0) || nat_lt 64 a.len
-bad_length (Alloc b) = (b.len == 0) || nat_lt 1024 b.len
-bad_length (Free b) = (b.len == 0) || nat_lt 1024 b.len
+bad_length (Read a) = (a.len == 0) || nat_lt GREATEST_ACCESS a.len
+bad_length (Write a) = (a.len == 0) || nat_lt GREATEST_ACCESS a.len
+bad_length (Alloc b) = (b.len == 0) || nat_lt GREATEST_BLOCK b.len
+bad_length (Free b) = (b.len == 0) || nat_lt GREATEST_BLOCK b.len
 bad_length _ = false
 
 -- the bytes pass the end of the addresses
@@ -115,21 +120,21 @@ abbrev pub not_held : List ThreadState → Event → Bool
 not_held threads (Unlock t l) = not (has_thread threads t (λ x. has_lock x.held l))
 not_held threads _ = false
 
--- the thread holds 64 locks
+-- the thread holds as many locks as it may
 abbrev pub full_held : List ThreadState → Event → Bool
-full_held threads (Lock t l) = has_thread threads t (λ x. nat_le 64 (length x.held))
-full_held threads (RdLock t l) = has_thread threads t (λ x. nat_le 64 (length x.held))
+full_held threads (Lock t l) = has_thread threads t (λ x. nat_le MOST_HELD (length x.held))
+full_held threads (RdLock t l) = has_thread threads t (λ x. nat_le MOST_HELD (length x.held))
 full_held threads _ = false
 
 -- the new segments would pass the limit: a fork opens two and a join one
 abbrev pub full_segments : ℕ → Event → Bool
-full_segments segments (Fork p c) = nat_lt 1048576 (segments + 2)
-full_segments segments (Join p c) = nat_lt 1048576 (segments + 1)
+full_segments segments (Fork p c) = nat_lt MOST_SEGMENTS (segments + 2)
+full_segments segments (Join p c) = nat_lt MOST_SEGMENTS (segments + 1)
 full_segments segments _ = false
 
 -- 2^58 events were accepted
 abbrev pub full_events : ℕ → Bool
-full_events events = nat_le (2 ^ 58) events
+full_events events = nat_le MOST_EVENTS events
 
 -- Causes for a refusal are tested in this order: the event's form, the threads, the locks and limits. Here the last group.
 abbrev pub lock_causes : Standing → Event → List (Bool × Refusal)

@@ -5,7 +5,7 @@ ghost use Rattle.hg_root.specs.Lawful.{AreInOrder, HaveSent, HaveSlots, IsBefore
 
 use crate::parts::{PageSlot, SourceCount};
 use hg_cells::KeptReport;
-use hg_model::limits::GREATEST_NUMBER;
+use hg_model::limits::{GREATEST_SOURCE, GREATEST_THREAD};
 use hg_sets::SetTable;
 use std::alloc::{AllocError, Global};
 
@@ -21,7 +21,7 @@ fn are_threads_with(members: &[u16], thread: u16) -> bool
 {
     let mut is_member = false;
     for member in members {
-        if *member > GREATEST_NUMBER {
+        if *member > GREATEST_THREAD {
             return false;
         }
         if *member == thread {
@@ -89,7 +89,7 @@ fn each_sent(sources: &[SourceCount]) -> bool
     ensures { IsTrue result ↔ All (λ s. (s.source ≤ 1023) × (1 ≤ s.last)) sources.now }
 {
     for source in sources {
-        if source.source > GREATEST_NUMBER || source.last == 0 {
+        if source.source > GREATEST_SOURCE || source.last == 0 {
             return false;
         }
     }

@@ -12,7 +12,7 @@ ghost use Rattle.hg_model.specs.Holding.{hold_event, hold_named};
 use crate::state::TraceState;
 use hg_model::event::{Access, Block, Event, Hold, HoldKind, Named};
 use hg_model::limits::{
-    GREATEST_ACCESS, GREATEST_BLOCK, GREATEST_NUMBER, MOST_EVENTS, MOST_SEGMENTS,
+    GREATEST_ACCESS, GREATEST_BLOCK, GREATEST_SOURCE, GREATEST_THREAD, MOST_EVENTS, MOST_SEGMENTS,
 };
 use hg_model::verdict::{Refusal, Verdict};
 
@@ -136,7 +136,7 @@ fn judge_fork(state: &TraceState, source: u16, p: u16, c: u16) -> Verdict
     ensures { IsFirstCause state.now source (Event.Fork p c) result }
 {
     let threads = &state.threads;
-    if source > GREATEST_NUMBER || p > GREATEST_NUMBER || c > GREATEST_NUMBER {
+    if source > GREATEST_SOURCE || p > GREATEST_THREAD || c > GREATEST_THREAD {
         return Verdict::Refuse(Refusal::BadNumber);
     }
     if !threads.is_alive(p) {
@@ -156,7 +156,7 @@ fn judge_join(state: &TraceState, source: u16, p: u16, c: u16) -> Verdict
     ensures { IsFirstCause state.now source (Event.Join p c) result }
 {
     let threads = &state.threads;
-    if source > GREATEST_NUMBER || p > GREATEST_NUMBER || c > GREATEST_NUMBER {
+    if source > GREATEST_SOURCE || p > GREATEST_THREAD || c > GREATEST_THREAD {
         return Verdict::Refuse(Refusal::BadNumber);
     }
     if !threads.is_alive(p) {
@@ -182,7 +182,7 @@ fn judge_lock(state: &TraceState, source: u16, t: u16, l: u16) -> Verdict
     ensures { IsFirstCause state.now source (Event.Lock t l) result }
 {
     let threads = &state.threads;
-    if source > GREATEST_NUMBER || t > GREATEST_NUMBER {
+    if source > GREATEST_SOURCE || t > GREATEST_THREAD {
         return Verdict::Refuse(Refusal::BadNumber);
     }
     if !threads.is_alive(t) {
@@ -205,7 +205,7 @@ fn judge_read_lock(state: &TraceState, source: u16, t: u16, l: u16) -> Verdict
     ensures { IsFirstCause state.now source (Event.RdLock t l) result }
 {
     let threads = &state.threads;
-    if source > GREATEST_NUMBER || t > GREATEST_NUMBER {
+    if source > GREATEST_SOURCE || t > GREATEST_THREAD {
         return Verdict::Refuse(Refusal::BadNumber);
     }
     if !threads.is_alive(t) {
@@ -228,7 +228,7 @@ fn judge_unlock(state: &TraceState, source: u16, t: u16, l: u16) -> Verdict
     ensures { IsFirstCause state.now source (Event.Unlock t l) result }
 {
     let threads = &state.threads;
-    if source > GREATEST_NUMBER || t > GREATEST_NUMBER {
+    if source > GREATEST_SOURCE || t > GREATEST_THREAD {
         return Verdict::Refuse(Refusal::BadNumber);
     }
     if !threads.is_alive(t) {
@@ -245,7 +245,7 @@ fn judge_access(state: &TraceState, source: u16, access: &Access) -> Verdict
     ensures read { IsFirstCause state.now source (Event.Read access.now) result }
     ensures write { IsFirstCause state.now source (Event.Write access.now) result }
 {
-    if source > GREATEST_NUMBER || access.t > GREATEST_NUMBER {
+    if source > GREATEST_SOURCE || access.t > GREATEST_THREAD {
         return Verdict::Refuse(Refusal::BadNumber);
     }
     if access.len == 0 || access.len > GREATEST_ACCESS {
@@ -265,7 +265,7 @@ fn judge_block(state: &TraceState, source: u16, block: &Block) -> Verdict
     ensures alloc { IsFirstCause state.now source (Event.Alloc block.now) result }
     ensures free { IsFirstCause state.now source (Event.Free block.now) result }
 {
-    if source > GREATEST_NUMBER || block.t > GREATEST_NUMBER {
+    if source > GREATEST_SOURCE || block.t > GREATEST_THREAD {
         return Verdict::Refuse(Refusal::BadNumber);
     }
     if block.len == 0 || block.len > GREATEST_BLOCK {

@@ -9,7 +9,7 @@ ghost use Rattle.hg_root.specs.Roots.{parts_of};
 use crate::threads::{is_alive, is_among, last_of};
 use hg_graph::Graph;
 use hg_model::held::{HeldLock, HeldLocks};
-use hg_model::limits::{GREATEST_NUMBER, MOST_HELD};
+use hg_model::limits::{GREATEST_THREAD, MOST_HELD};
 use hg_model::segment::Segment;
 use hg_model::thread::ThreadState;
 use hg_root::{HeadParts, Root, RootFault, RootHead};
@@ -65,7 +65,7 @@ fn threads_of(
     ensures fits { IfOk result (λ threads. AllByRecursion ThreadFits threads.items) }
 {
     let mut threads = Vec::new(alloc);
-    for number in 0..GREATEST_NUMBER + 1 {
+    for number in 0..GREATEST_THREAD + 1 {
         if last_of(segments, number).is_some() {
             threads.push(thread_of(state, number))?;
         }

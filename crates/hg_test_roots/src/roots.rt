@@ -6,7 +6,7 @@ use crate::disks::disks_of;
 use crate::threads::put_threads;
 use hg_cells::KeptReport;
 use hg_gate::{GateFault, Gated};
-use hg_model::limits::GREATEST_NUMBER;
+use hg_model::limits::GREATEST_SOURCE;
 use hg_model::segment::Segment;
 use hg_root::{Newest, PageSlot, Root, RootFault, RootPair, SourceCount};
 use hg_sets::SetTable;
@@ -61,7 +61,7 @@ fn put_sources(sources: &[SourceCount], out: &mut Text) {
 
 /// The last number of each source that sent something, as the trace state has it.
 fn put_last(root: &Root, out: &mut Text) {
-    for source in 0..GREATEST_NUMBER + 1 {
+    for source in 0..GREATEST_SOURCE + 1 {
         let last = root.state.last(source);
         if last > 0 {
             out.put_number(b" ", u64::from(source));

@@ -1,7 +1,7 @@
 //! The threads of a trace state, as its public calls show them.
 
 use hg_model::event::{Access, Event, Named};
-use hg_model::limits::GREATEST_NUMBER;
+use hg_model::limits::GREATEST_THREAD;
 use hg_model::segment::Segment;
 use hg_model::verdict::{Refusal, Verdict};
 use hg_rules::judging::judge;
@@ -73,7 +73,7 @@ fn put_thread(state: &TraceState, thread: u16, last: usize, out: &mut Text) {
 
 /// The threads that segments name, each with its last segment and its locks.
 pub fn put_threads(state: &TraceState, segments: &[Segment], out: &mut Text) {
-    for thread in 0..GREATEST_NUMBER + 1 {
+    for thread in 0..GREATEST_THREAD + 1 {
         match last_of(segments, thread) {
             Some(last) => put_thread(state, thread, last, out),
             None => {}

@@ -10,7 +10,7 @@ use Rattle.hg_model.specs.declared.thread.ThreadState.{ThreadState}
 use Rattle.hg_model.specs.Contents.{Content}
 use Rattle.hg_model.specs.Segments.{of_thread, opened, present, rising}
 use Rattle.hg_model.specs.Sets.{contains, with_member}
-use Rattle.hg_model.specs.Verdicts.{bad_number, child_not_alive, child_used, is_above_limit, no_thread, self_join}
+use Rattle.hg_model.specs.Verdicts.{bad_number, child_not_alive, child_used, is_bad_source, is_bad_thread, no_thread, self_join}
 use Rattle.hg_model.specs.Verdicts as verdicts
 use Rattle.hg_model.specs.Change.{change, dead, empty_content, threads_after}
 use Rattle.hg_graph.specs.Graph.{names}
@@ -98,12 +98,12 @@ module _ (threads : List ThreadState) (segments : List Segment) (are : AreNamed 
 
   pub named_after : (source : ℕ) (e : Event) → bad_number source e ≡ false → no_thread threads e ≡ false → child_used threads e ≡ false → self_join e ≡ false → child_not_alive threads e ≡ false → AreNamed (threads_after e threads) (segments ++ opened segments e)
   named_after source (Fork p c) low alive fresh apart there =
-      let p_small = actor_small source p (is_above_limit c) low in
-      let c_small = child_small (is_above_limit source || is_above_limit p) c low in
+      let p_small = actor_small source p (is_bad_thread c) low in
+      let c_small = child_small (is_bad_source source || is_bad_thread p) c low in
       forked p c p_small c_small (names_passing p (λ x. x.alive) p_small (not-false (verdicts.has_thread threads p (λ x. x.alive)) alive)) (names_none c c_small fresh)
   named_after source (Join p c) low alive fresh apart there =
-      let p_small = actor_small source p (is_above_limit c) low in
-      let c_small = child_small (is_above_limit source || is_above_limit p) c low in
+      let p_small = actor_small source p (is_bad_thread c) low in
+      let c_small = child_small (is_bad_source source || is_bad_thread p) c low in
       joined p c p_small (names_passing p (λ x. x.alive) p_small (not-false (verdicts.has_thread threads p (λ x. x.alive)) alive)) (names_passing c (λ x. x.alive) c_small (not-false (verdicts.has_thread threads c (λ x. x.alive)) there)) (eqb-false p c apart)
   named_after source (Lock t l) low alive fresh apart there = others t _ (λ x. refl)
   named_after source (RdLock t l) low alive fresh apart there = others t _ (λ x. refl)

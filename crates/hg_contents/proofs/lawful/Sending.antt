@@ -7,31 +7,31 @@ use Rattle.std.proofs.lemmas.List.Sums.{sum_by-cons}
 use Rattle.hg_model.specs.declared.event.Event.{Event}
 use Rattle.hg_model.specs.declared.event.Event.TheVariants.{Fork, Join, Lock, RdLock, Unlock, Read, Write, Alloc, Free}
 use Rattle.hg_model.specs.Contents.{Content}
-use Rattle.hg_model.specs.Verdicts.{bad_number, is_above_limit}
+use Rattle.hg_model.specs.Verdicts.{bad_number, is_bad_source, is_bad_thread}
 use Rattle.hg_model.specs.Change.{empty_content}
 use Rattle.hg_contents.specs.Lawful.{HaveSent, sources}
 use Rattle.hg_contents.proofs.lawful.Passing.{IsKept}
 
-small : (n : ℕ) → is_above_limit n ≡ false → n ≤ 1023
+small : (n : ℕ) → is_bad_thread n ≡ false → n ≤ 1023
 small n low = ltb-false 1023 n low
 
 -- the source, the actor and the child of an event
 pub source_small : (source : ℕ) (e : Event) → bad_number source e ≡ false → source ≤ 1023
-source_small source (Fork p c) low = small source (or_parts _ _ (or_parts (is_above_limit source || is_above_limit p) _ low).0).0
-source_small source (Join p c) low = small source (or_parts _ _ (or_parts (is_above_limit source || is_above_limit p) _ low).0).0
-source_small source (Lock t l) low = small source (or_parts (is_above_limit source) _ low).0
-source_small source (RdLock t l) low = small source (or_parts (is_above_limit source) _ low).0
-source_small source (Unlock t l) low = small source (or_parts (is_above_limit source) _ low).0
-source_small source (Read a) low = small source (or_parts (is_above_limit source) _ low).0
-source_small source (Write a) low = small source (or_parts (is_above_limit source) _ low).0
-source_small source (Alloc b) low = small source (or_parts (is_above_limit source) _ low).0
-source_small source (Free b) low = small source (or_parts (is_above_limit source) _ low).0
+source_small source (Fork p c) low = small source (or_parts _ _ (or_parts (is_bad_source source || is_bad_thread p) _ low).0).0
+source_small source (Join p c) low = small source (or_parts _ _ (or_parts (is_bad_source source || is_bad_thread p) _ low).0).0
+source_small source (Lock t l) low = small source (or_parts (is_bad_source source) _ low).0
+source_small source (RdLock t l) low = small source (or_parts (is_bad_source source) _ low).0
+source_small source (Unlock t l) low = small source (or_parts (is_bad_source source) _ low).0
+source_small source (Read a) low = small source (or_parts (is_bad_source source) _ low).0
+source_small source (Write a) low = small source (or_parts (is_bad_source source) _ low).0
+source_small source (Alloc b) low = small source (or_parts (is_bad_source source) _ low).0
+source_small source (Free b) low = small source (or_parts (is_bad_source source) _ low).0
 
-pub actor_small : (source p : ℕ) (later : Bool) → ((is_above_limit source || is_above_limit p) || later) ≡ false → p ≤ 1023
-actor_small source p later low = small p (or_parts (is_above_limit source) (is_above_limit p) (or_parts (is_above_limit source || is_above_limit p) later low).0).1
+pub actor_small : (source p : ℕ) (later : Bool) → ((is_bad_source source || is_bad_thread p) || later) ≡ false → p ≤ 1023
+actor_small source p later low = small p (or_parts (is_bad_source source) (is_bad_thread p) (or_parts (is_bad_source source || is_bad_thread p) later low).0).1
 
-pub child_small : (earlier : Bool) (c : ℕ) → (earlier || is_above_limit c) ≡ false → c ≤ 1023
-child_small earlier c low = small c (or_parts earlier (is_above_limit c) low).1
+pub child_small : (earlier : Bool) (c : ℕ) → (earlier || is_bad_thread c) ≡ false → c ≤ 1023
+child_small earlier c low = small c (or_parts earlier (is_bad_thread c) low).1
 
 -- one more from a source
 abbrev more : (ℕ → ℕ) → ℕ → ℕ → ℕ
