@@ -1,6 +1,7 @@
 -- The rules for the content of an accepted trace: those of a root's parts, said of the content.
 use Rattle.std.specs.Prelude.{◌≡◌, ◌⊎◌, ◌<◌, ◌≤◌, ◌+◌, ◌*◌, ◌%◌, ◌^◌, ℕ, List, length, map, min, slice_get, Some, sum_by, Contains, All}
 use Rattle.std.specs.List.{range_with_len}
+use Rattle.hg_model.specs.declared.limits.TheConstants.{GREATEST_SOURCE, GREATEST_THREAD, MOST_ACCESS_WORDS, MOST_EVENTS, MOST_REPORTS, MOST_SEGMENTS, SOURCE_NUMBERS}
 use Rattle.hg_model.specs.declared.event.Named.{Named}
 use Rattle.hg_model.specs.declared.report.Report.{Report}
 use Rattle.hg_model.specs.Contents.{Content}
@@ -14,7 +15,7 @@ pub record IsReportOf (events : ℕ) (r : Report) : Type 0 where
   pub event : (1 ≤ r.event) × (r.event ≤ events)
   pub word : (r.word % 4 ≡ 0) × (r.word < 2 ^ 64)
   pub member : Contains r.threads r.thread
-  pub threads : All (λ t. t ≤ 1023) r.threads
+  pub threads : All (λ t. t ≤ GREATEST_THREAD) r.threads
 
 -- the one stands before the other
 abbrev pub IsBefore : Report → Report → Type 0
@@ -26,22 +27,22 @@ AreInOrder reports = (k : ℕ) (a b : Report) → slice_get reports k ≡ Some a
 
 -- the sources 0 to 1,023
 unfoldable pub sources : List ℕ
-sources = range_with_len 0 1024
+sources = range_with_len 0 SOURCE_NUMBERS
 
 -- The last numbers of the sources add up to the events, and no other source has one.
 pub record HaveSent (events : ℕ) (last : ℕ → ℕ) : Type 0 where
   pub sum : sum_by last sources ≡ events
-  pub others : (source : ℕ) → 1023 < source → last source ≡ 0
+  pub others : (source : ℕ) → GREATEST_SOURCE < source → last source ≡ 0
 
 pub record IsLawfulContent (c : Content) : Type 0 where
-  pub events : c.events ≤ 2 ^ 58
-  pub segment_count : (1 ≤ length c.segments) × (length c.segments ≤ 1048576)
+  pub events : c.events ≤ MOST_EVENTS
+  pub segment_count : (1 ≤ length c.segments) × (length c.segments ≤ MOST_SEGMENTS)
   pub segments : AreSegments c.segments
   pub threads : AreThreads c.threads
   pub named : map (λ t. t.number) c.threads ≡ named_threads c.segments
   pub held : All (λ t. AreHeld t.held) c.threads
-  pub total : c.total ≤ 17 * c.events
-  pub kept : length c.reports ≡ min c.total 65536
+  pub total : c.total ≤ MOST_ACCESS_WORDS * c.events
+  pub kept : length c.reports ≡ min c.total MOST_REPORTS
   pub reports : All (IsReportOf c.events) c.reports
   pub order : AreInOrder c.reports
   pub last : HaveSent c.events c.last

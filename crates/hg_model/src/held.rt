@@ -39,7 +39,7 @@ impl Model for HeldLocks {
     ghost invariant = { λ h. (h.any.items ≡ counted false h.holds.items)
         × (h.writing.items ≡ counted true h.holds.items)
         × IsByRisingLock h.holds.items
-        × (length h.holds.items ≤ 64) };
+        × (length h.holds.items ≤ MOST_HELD) };
 }
 
 // A copy of the items.
@@ -77,7 +77,7 @@ impl HeldLocks {
     pub fn as_slice(&self) -> &[HeldLock]
         ensures value { result.now ≡ self.now }
         ensures rising { IsByRisingLock self.now }
-        ensures most { length self.now ≤ 64 }
+        ensures most { length self.now ≤ MOST_HELD }
     {
         self.holds.as_slice()
     }
@@ -112,7 +112,7 @@ impl HeldLocks {
 
     /// Adds a lock that is not held yet.
     pub fn add(&mut self, held: HeldLock)
-        requires room { length self.old < 64 }
+        requires room { length self.old < MOST_HELD }
         requires absent { has_lock self.old held.lock ≡ false }
         ensures { self.new ≡ with_hold held self.old }
     {
@@ -137,7 +137,7 @@ impl HeldLocks {
 /// Puts an item at a place. What stands there and behind it moves on by one.
 fn put_at<T: Copy>(items: &mut ArrayVec<T, MOST_HELD>, place: usize, item: T)
     requires place { place ≤ length items.old.items }
-    requires room { length items.old.items < 64 }
+    requires room { length items.old.items < MOST_HELD }
     ensures items { items.new.items ≡ insert items.old.items place item }
     ensures len { length items.new.items ≡ length items.old.items + 1 }
 {
@@ -145,7 +145,7 @@ fn put_at<T: Copy>(items: &mut ArrayVec<T, MOST_HELD>, place: usize, item: T)
     items.push(last);
 }
 
-/// The same in a slice of fixed length. Answers the last item, for which there is no room.
+/// Puts an item at a place of a slice, whose length is fixed. Answers the last item, for which there is no room.
 fn move_on<T: Copy>(items: &mut [T], place: usize, item: T) -> T
     requires { place ≤ length items.old }
     ensures { items.new ++ result ∷ [] ≡ insert items.old place item }
@@ -169,7 +169,7 @@ fn take_out<T: Copy + Default + Drop>(items: &mut ArrayVec<T, MOST_HELD>, place:
     let _last = items.pop();
 }
 
-/// The same in a slice of fixed length. Its last item stays where it was.
+/// Moves the items behind a place of a slice back by one, over the item there. The last item stays where it was.
 fn move_back<T: Copy>(items: &mut [T], place: usize)
     requires { place < length items.old }
     ensures len { length items.new ≡ length items.old }
@@ -222,7 +222,7 @@ fn place_among(numbers: &[u16], number: u16) -> usize
 
 /// Adds a lock that is not held yet to the numbers of the write-mode locks, if it is one.
 fn count_writer(writing: &mut ArrayVec<u16, MOST_HELD>, held: HeldLock)
-    requires { length writing.old.items < 64 }
+    requires { length writing.old.items < MOST_HELD }
     ensures { writing.new.items ≡ (if held.write then with_number held.lock writing.old.items else writing.old.items) }
 {
     if held.write {

@@ -16,7 +16,7 @@ pub enum WordState {
         threads: NumberSet,
         locks: NumberSet,
     },
-    /// The same, and written to.
+    /// Accessed by these threads, and written to since it is shared; these locks were held at each access.
     SharedModified {
         threads: NumberSet,
         locks: NumberSet,

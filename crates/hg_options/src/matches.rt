@@ -10,7 +10,7 @@ use crate::commands::{
 };
 use crate::task::{Explaining, Frames, Jobs, Misread, Serving, Source, StoreTask, Task};
 use clap::ArgMatches;
-use hg_wire::number::number_of_word;
+use hg_wire::number::number_of_token;
 
 /// The number that an argument spells, or `other` where it spells none from `low` to `high`.
 fn number(given: &ArgMatches<'_>, id: &str, low: u16, high: u16, other: u16) -> u16
@@ -103,7 +103,7 @@ fn explaining(given: &ArgMatches<'_>) -> Result<Explaining, Misread>
     let Some(text) = given.get_str(ADDRESS) else {
         return Err(Misread::Incomplete);
     };
-    let Some(address) = number_of_word(text.as_bytes()) else {
+    let Some(address) = number_of_token(text.as_bytes()) else {
         return Err(Misread::BadAddress);
     };
     Ok(Explaining {

@@ -1,8 +1,9 @@
--- A client's frame is determined by its body, which has 1 to 64 bytes.
+-- A client's frame is determined by its body, which has a byte at least and MOST_FRAME_BYTES at most.
 use Rattle.std.proofs.Common.{◌≡◌, ℕ, ◌≤◌, ◌<◌, ◌^◌, List, [], ◌∷◌, ◌++◌, length, take, drop, refl, sym, ap, ◌∙◌, arith}
 use Rattle.std.specs.Int.{w16, w64, to_be_bytes, from_be_bytes}
 use Rattle.std.proofs.lemmas.List.{append-nil}
 use Rattle.std.proofs.lemmas.Nat.{from_be_bytes-to_be_bytes_2, from_be_bytes-to_be_bytes_8}
+use Rattle.hg_protocol.specs.declared.frame.TheConstants.{MOST_FRAME_BYTES}
 use Rattle.hg_model.specs.declared.event.Event.{Event}
 use Rattle.hg_model.specs.declared.event.Event.TheVariants.{Fork, Join, Lock, RdLock, Unlock, Read, Write, Alloc, Free}
 use Rattle.hg_records.specs.Records.{EventFits, event_text}
@@ -11,7 +12,7 @@ use Rattle.hg_protocol.specs.declared.frame.Frame.{Frame}
 use Rattle.hg_protocol.specs.declared.frame.Frame.TheVariants.{Hello, Event as Offer, Ask, Reports, Bye}
 use Rattle.hg_protocol.specs.Frames.{FrameFits, body_text, numbered_text}
 
-pub narrow_frame : 64 < 2 ^ 16
+pub narrow_frame : MOST_FRAME_BYTES < 2 ^ 16
 narrow_frame = omega arith
 
 few_bytes : (e : Event) → length (event_text e) ≤ 13
@@ -25,7 +26,7 @@ few_bytes (Write a) = omega arith
 few_bytes (Alloc b) = omega arith
 few_bytes (Free b) = omega arith
 
-pub frame_within : (frame : Frame) → FrameFits frame → (1 ≤ length (body_text frame)) × (length (body_text frame) ≤ 64)
+pub frame_within : (frame : Frame) → FrameFits frame → (1 ≤ length (body_text frame)) × (length (body_text frame) ≤ MOST_FRAME_BYTES)
 frame_within (Hello source) fits = (omega arith, omega arith)
 frame_within (Offer number event) fits = let few = few_bytes event in (omega arith, omega (arith, few))
 frame_within Ask fits = (omega arith, omega arith)

@@ -2,6 +2,7 @@
 use Rattle.std.specs.Prelude.{◌≡◌, ◌⊎◌, ℕ, ◌<◌, ◌≤◌, ◌^◌, Bool, not, ◌&&◌, ◌==◌, nat_lt, List, [], ◌∷◌, ◌++◌, length, IsTrue}
 use Rattle.std.specs.Int.{w64, to_be_bytes}
 use Rattle.std.specs.List.{list_all}
+use Rattle.hg_protocol.specs.declared.reply.TheConstants.{MOST_REPLY_LINE}
 use Rattle.hg_protocol.specs.declared.reply.Reply.{Reply}
 use Rattle.hg_protocol.specs.declared.reply.Reply.TheVariants.{Welcome, Accepted, Duplicate, Refused, Ack, Line, Fault, Lines, Nothing}
 
@@ -38,7 +39,7 @@ is_line_byte byte = nat_lt byte 128 && not (byte == 10)
 -- A line of 1 to 8,191 bytes.
 pub record IsLine (line : List ℕ) : Type 0 where
   pub some : 1 ≤ length line
-  pub few : length line ≤ 8191
+  pub few : length line ≤ MOST_REPLY_LINE
   pub bytes : IsTrue (list_all is_line_byte line)
 
 -- each field is within its width, and only a gap has an expected number

@@ -2,14 +2,15 @@
 use Rattle.std.proofs.Common.{◌≡◌, ℕ, ◌≤◌, ◌<◌, ◌^◌, List, [], ◌∷◌, length, take, drop, Option, Some, None, refl, sym, ap, ◌∙◌, cond, nat_eq, slice_index, arith}
 use Rattle.std.specs.Int.{w64, from_be_bytes}
 use Rattle.std.proofs.lemmas.Nat.{from_be_bytes-to_be_bytes_8}
+use Rattle.hg_protocol.specs.declared.reply.TheConstants.{MOST_REPLY_BYTES}
 use Rattle.hg_protocol.specs.declared.reply.Reply.{Reply}
 use Rattle.hg_protocol.specs.declared.reply.Reply.TheVariants.{Welcome, Accepted, Duplicate, Refused, Ack, Line, Fault, Lines, Nothing}
 use Rattle.hg_protocol.specs.Replies.{ReplyFits, reply_body}
 
-pub narrow_reply : 8192 < 2 ^ 16
+pub narrow_reply : MOST_REPLY_BYTES < 2 ^ 16
 narrow_reply = omega arith
 
-pub reply_within : (reply : Reply) → ReplyFits reply → (1 ≤ length (reply_body reply)) × (length (reply_body reply) ≤ 8192)
+pub reply_within : (reply : Reply) → ReplyFits reply → (1 ≤ length (reply_body reply)) × (length (reply_body reply) ≤ MOST_REPLY_BYTES)
 reply_within (Welcome last) fits = (omega arith, omega arith)
 reply_within (Accepted number) fits = (omega arith, omega arith)
 reply_within (Duplicate last) fits = (omega arith, omega arith)

@@ -1,6 +1,7 @@
 -- The bytes sent for a reply: one frame, several or none.
 use Rattle.std.specs.Prelude.{ℕ, ◌+◌, ◌≤◌, List, [], ◌∷◌, ◌++◌, length}
 use Rattle.std.specs.List.{AllByRecursion}
+use Rattle.hg_protocol.specs.declared.reply.TheConstants.{MOST_REPLY_LINE}
 use Rattle.hg_model.specs.declared.report.Report.{Report}
 use Rattle.hg_model.specs.ThreadSets.{IsThreadSet}
 use Rattle.hg_wire.specs.Reports.{report_line, end_line}
@@ -38,7 +39,7 @@ FitsFrames (Accepted number) = Unit {0}
 FitsFrames (Duplicate last) = Unit {0}
 FitsFrames (Refused number code expected) = Unit {0}
 FitsFrames (Ack number) = Unit {0}
-FitsFrames (Line line) = length line ≤ 8191
+FitsFrames (Line line) = length line ≤ MOST_REPLY_LINE
 FitsFrames (Fault code) = Unit {0}
 FitsFrames (Lines lines) = AllByRecursion (λ r. IsThreadSet r.threads) lines.reports
 FitsFrames Nothing = Unit {0}

@@ -11,6 +11,9 @@ use hg_model::event::Event;
 use hg_records::record::read_event;
 use std::alloc::{AllocError, Global};
 
+/// The most bytes that the body of a frame has.
+pub const MOST_FRAME_BYTES: usize = 64;
+
 /// What a client says in one frame.
 #[derive(Clone, Copy, Debug, PartialEq, Eq, Drop)]
 pub enum Frame {
@@ -81,13 +84,13 @@ impl Message for Frame {
     ghost use Rattle.hg_protocol.specs.Frames.{FrameFits, body_text};
     ghost use Rattle.hg_protocol.specs.FrameLaws.{frame_within, narrow_frame, one_frame};
 
-    ghost MOST_BYTES = { 64 };
+    ghost MOST_BYTES = { MOST_FRAME_BYTES };
 
     ghost body = { body_text };
 
     ghost fits = { FrameFits };
 
-    const MOST_BYTES: usize = 64;
+    const MOST_BYTES: usize = MOST_FRAME_BYTES;
 
     fn read(_alloc: Global, bytes: &[u8]) -> Result<Option<Self>, AllocError> {
         Ok(read_body(bytes))

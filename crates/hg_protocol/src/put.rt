@@ -2,6 +2,7 @@
 
 ghost use Rattle.std.specs.Prelude.{◌≡◌, ◌≤◌, ◌<◌, ◌^◌, ◌+◌, ◌++◌, ◌∷◌, ℕ, List, [], length, OnOk, OnErr};
 ghost use Rattle.std.specs.List.{AllByRecursion};
+ghost use Rattle.hg_protocol.specs.declared.reply.TheConstants.{MOST_REPLY_LINE};
 ghost use Rattle.hg_model.specs.ThreadSets.{IsThreadSet};
 ghost use Rattle.hg_records.specs.Records.{event_text};
 ghost use Rattle.hg_wire.specs.Reports.{report_line, end_line};
@@ -105,7 +106,7 @@ fn put_refused(number: u64, code: u8, expected: u64, out: &mut Vec<u8>) -> Resul
 
 /// Appends the frame of a line. An `Err` leaves `out` as it was.
 fn put_line(line: &[u8], out: &mut Vec<u8>) -> Result<(), AllocError>
-    requires { length line.now ≤ 8191 }
+    requires { length line.now ≤ MOST_REPLY_LINE }
     ensures ok { OnOk result (out.new.items ≡ out.old.items ++ framed (line_body line.now)) }
     ensures err { OnErr result (out.new.items ≡ out.old.items) }
 {

@@ -12,8 +12,11 @@ use crate::message::Message;
 use std::alloc::{AllocError, Global};
 use std::marker::Model;
 
-/// The most bytes that a line in a reply has.
-pub const MOST_LINE_BYTES: usize = 8191;
+/// The most bytes that the body of a reply has.
+pub const MOST_REPLY_BYTES: usize = 8192;
+
+/// The most bytes that a line in a reply has: a body is a byte for the kind of the reply, and the line.
+pub const MOST_REPLY_LINE: usize = MOST_REPLY_BYTES - 1;
 
 /// A line of text, without its line feed.
 #[derive(Drop)]
@@ -151,7 +154,7 @@ fn read_line(alloc: Global, bytes: &[u8]) -> Result<Option<Line>, AllocError>
     ensures some { IfOk result (λ read. IfSome read (λ line. IsLine line × (bytes.now ≡ line))) }
     ensures none { IfOk result (λ read. IfNone read (IsLine bytes.now → ⊥)) }
 {
-    if bytes.is_empty() || bytes.len() > MOST_LINE_BYTES || !is_line(bytes) {
+    if bytes.is_empty() || bytes.len() > MOST_REPLY_LINE || !is_line(bytes) {
         return Ok(None);
     }
     let mut copy = Vec::new(alloc);
@@ -191,13 +194,13 @@ impl Message for Reply {
     ghost use Rattle.hg_protocol.specs.Replies.{ReplyFits, reply_body};
     ghost use Rattle.hg_protocol.specs.ReplyLaws.{narrow_reply, one_reply, reply_within};
 
-    ghost MOST_BYTES = { 8192 };
+    ghost MOST_BYTES = { MOST_REPLY_BYTES };
 
     ghost body = { reply_body };
 
     ghost fits = { ReplyFits };
 
-    const MOST_BYTES: usize = 8192;
+    const MOST_BYTES: usize = MOST_REPLY_BYTES;
 
     fn read(alloc: Global, bytes: &[u8]) -> Result<Option<Self>, AllocError> {
         match bytes {

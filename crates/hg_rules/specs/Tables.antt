@@ -1,5 +1,6 @@
 -- How a trace state finds a thread and a lock's holders in one step. (No promise to a reader rests on this file.)
 use Rattle.std.specs.Prelude.{◌≡◌, ℕ, ◌+◌, ◌<◌, nat_lt, List, [], ◌∷◌, length, Option, Some, None, count_by, if◌then◌else◌, slice_index_or, Bool, false}
+use Rattle.hg_model.specs.declared.limits.TheConstants.{LOCK_NUMBERS, THREAD_NUMBERS}
 use Rattle.hg_model.specs.declared.thread.ThreadState.{ThreadState}
 use Rattle.hg_rules.specs.declared.table.LockUse.{LockUse}
 use Rattle.hg_rules.specs.declared.table.LockUse.TheVariants.{Reading, Writing}
@@ -46,8 +47,8 @@ readers_in Writing = 0
 
 -- The tables agree: threads stand at their numbers, each lock has its use, and a lock that is held for writing has one holder.
 pub record TablesAgree (slots : List (Option ThreadState)) (uses : List LockUse) : Type 0 where
-  pub slots_len : length slots ≡ 1024
-  pub uses_len : length uses ≡ 65536
+  pub slots_len : length slots ≡ THREAD_NUMBERS
+  pub uses_len : length uses ≡ LOCK_NUMBERS
   pub numbered : IsNumbered 0 slots
-  pub each_use : (l : ℕ) → l < 65536 → slice_index_or uses l Writing ≡ use_of (started slots) l
+  pub each_use : (l : ℕ) → l < LOCK_NUMBERS → slice_index_or uses l Writing ≡ use_of (started slots) l
   pub one_writer : (l : ℕ) → 0 < writers (started slots) l → holders (started slots) l ≡ 1

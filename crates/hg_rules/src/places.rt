@@ -3,6 +3,7 @@
 ghost use Rattle.std.specs.Prelude.{◌≡◌, ◌<◌, ◌∷◌, ◌++◌, [], None, false, length, slice_index_or, IfOk, IfSome, OnOk, is_some, not, replicate};
 ghost use Rattle.std.specs.Option.{option_copied, option_map};
 ghost use Rattle.std.specs.List.{list_all};
+ghost use Rattle.hg_model.specs.declared.limits.TheConstants.{MOST_HELD};
 ghost use Rattle.hg_model.specs.Locks.{has_lock, with_hold, without_lock};
 ghost use Rattle.hg_model.specs.Change.{dead, with_held};
 ghost use Rattle.hg_rules.specs.Tables.{started};
@@ -14,7 +15,7 @@ use std::alloc::{AllocError, Global};
 
 /// The places of a table with no thread.
 pub(crate) fn empty_slots(alloc: Global) -> Result<Vec<Option<ThreadState>>, AllocError>
-    ensures { IfOk result (λ v. v.items ≡ replicate 1024 None) }
+    ensures { IfOk result (λ v. v.items ≡ replicate THREAD_NUMBERS None) }
 {
     let mut slots = Vec::with_capacity(alloc, THREAD_NUMBERS)?;
     for _ in 0..THREAD_NUMBERS {
@@ -82,7 +83,7 @@ pub(crate) fn end_at(slot: &mut Option<ThreadState>)
 
 /// Gives the thread of a place a lock.
 pub(crate) fn add_at(slot: &mut Option<ThreadState>, lock: HeldLock)
-    requires { IfSome slot.old (λ x. (length x.held < 64) × (has_lock x.held lock.lock ≡ false)) }
+    requires { IfSome slot.old (λ x. (length x.held < MOST_HELD) × (has_lock x.held lock.lock ≡ false)) }
     ensures { slot.new ≡ option_map (λ x. with_held x (with_hold lock x.held)) slot.old }
 {
     if let Some(x) = slot {

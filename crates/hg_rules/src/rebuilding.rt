@@ -2,6 +2,7 @@
 
 ghost use Rattle.std.specs.Prelude.{◌≡◌, ◌++◌, ◌∷◌, [], true, false, length, nat_le, not, IfOk, IfErr};
 ghost use Rattle.std.specs.List.{list_any};
+ghost use Rattle.hg_model.specs.declared.limits.TheConstants.{MOST_HELD};
 ghost use Rattle.hg_model.specs.Locks.{has_lock, with_hold};
 ghost use Rattle.hg_model.specs.Verdicts.{has_thread};
 ghost use Rattle.hg_model.specs.Change.{change, with_held};
@@ -50,7 +51,7 @@ impl ThreadTable {
 
     /// Gives a thread a lock that it does not hold, unless a thread's hold excludes that.
     fn hold(&mut self, t: u16, hold: HeldLock) -> bool
-        requires used { has_thread self.old t (λ x. not (nat_le 64 (length x.held))) ≡ true }
+        requires used { has_thread self.old t (λ x. not (nat_le MOST_HELD (length x.held))) ≡ true }
         requires absent { has_thread self.old t (λ x. has_lock x.held hold.lock) ≡ false }
         ensures answer { result ≡ not (list_any (excludes hold) self.old) }
         ensures held { result ≡ true → self.new ≡ change t (λ x. with_held x (with_hold hold x.held)) self.old }

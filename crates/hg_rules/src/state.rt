@@ -52,7 +52,7 @@ impl Model for TraceState {
 
     ghost view = { λ s. record { events = s.events; segments = s.segments; threads = s.threads; last = s.last.items } };
 
-    ghost invariant = { λ s. (length s.last.items ≡ 1024) × (s.segments ≤ 1048576) };
+    ghost invariant = { λ s. (length s.last.items ≡ SOURCE_NUMBERS) × (s.segments ≤ MOST_SEGMENTS) };
 }
 
 impl TraceState {

@@ -166,7 +166,7 @@ impl ThreadTable {
 
     /// Whether the thread holds as many locks as a thread may.
     pub(crate) fn holds_most(&self, t: u16) -> bool
-        ensures { result ≡ has_thread self.now t (λ x. nat_le 64 (length x.held)) }
+        ensures { result ≡ has_thread self.now t (λ x. nat_le MOST_HELD (length x.held)) }
     {
         match self.thread(t) {
             Some(x) => x.held.as_slice().len() >= MOST_HELD,
@@ -214,7 +214,7 @@ impl ThreadTable {
 
     /// Starts a thread.
     pub(crate) fn start(&mut self, c: u16)
-        requires number { c < 1024 }
+        requires number { c < THREAD_NUMBERS }
         requires fresh { list_any (λ x. x.number == c) self.old ≡ false }
         ensures { self.new ≡ with_thread (record { number = c; alive = true; held = [] }) self.old }
     {
@@ -235,7 +235,7 @@ impl ThreadTable {
 
     /// Gives a thread a lock for writing.
     pub(crate) fn lock(&mut self, t: u16, l: u16)
-        requires used { has_thread self.old t (λ x. not (nat_le 64 (length x.held))) ≡ true }
+        requires used { has_thread self.old t (λ x. not (nat_le MOST_HELD (length x.held))) ≡ true }
         requires is_free { list_any (λ x. has_lock x.held l) self.old ≡ false }
         ensures { self.new ≡ threads_after (Event.Lock t l) self.old }
     {
@@ -251,7 +251,7 @@ impl ThreadTable {
 
     /// Gives a thread a lock for reading.
     pub(crate) fn read_lock(&mut self, t: u16, l: u16)
-        requires used { has_thread self.old t (λ x. not (nat_le 64 (length x.held))) ≡ true }
+        requires used { has_thread self.old t (λ x. not (nat_le MOST_HELD (length x.held))) ≡ true }
         requires absent { has_thread self.old t (λ x. has_lock x.held l) ≡ false }
         requires no_writer { list_any (λ x. has_lock_for_writing x.held l) self.old ≡ false }
         ensures { self.new ≡ threads_after (Event.RdLock t l) self.old }

@@ -45,7 +45,7 @@ fn read_row(text: &str) -> Result<Row, Halt> {
     Ok(Row { first, last, step })
 }
 
-/// The same event so many bytes further on, where it has an address.
+/// The event moved on by so many bytes, where it has an address.
 fn moved(event: Event, step: u64) -> Event {
     match event {
         Event::Read(Access { t, at, len }) => Event::Read(Access {

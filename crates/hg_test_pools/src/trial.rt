@@ -88,7 +88,7 @@ fn changed(alloc: Global, page: &EncodedPage, at: usize, value: u8) -> Option<En
     Some(EncodedPage::of(page.page(), bytes))
 }
 
-// The same bytes under another page's number.
+// The bytes of that page under another page's number.
 fn renamed(alloc: Global, page: &EncodedPage, number: u64) -> Option<EncodedPage> {
     let bytes = Vec::from_slice(alloc, page.bytes()).ok()?;
     if bytes.len() != SLOT_LEN {

@@ -2,6 +2,7 @@
 
 ghost use Rattle.std.specs.Prelude.{◌≡◌, ◌<◌, ◌≤◌, IfOk, length};
 ghost use Rattle.std.specs.List.{AllByRecursion};
+ghost use Rattle.hg_model.specs.declared.limits.TheConstants.{THREAD_NUMBERS};
 ghost use Rattle.hg_root.specs.Grammar.{LockFits, ThreadFits};
 ghost use Rattle.hg_root.specs.Lawful.{IsLawful};
 ghost use Rattle.hg_root.specs.Roots.{parts_of};
@@ -60,8 +61,8 @@ fn threads_of(
     state: &TraceState,
     segments: &[Segment],
 ) -> Result<Vec<ThreadState>, AllocError>
-    ensures count { IfOk result (λ threads. length threads.items ≤ 1024) }
-    ensures numbers { IfOk result (λ threads. AllByRecursion (λ t. t.number < 1024) threads.items) }
+    ensures count { IfOk result (λ threads. length threads.items ≤ THREAD_NUMBERS) }
+    ensures numbers { IfOk result (λ threads. AllByRecursion (λ t. t.number < THREAD_NUMBERS) threads.items) }
     ensures fits { IfOk result (λ threads. AllByRecursion ThreadFits threads.items) }
 {
     let mut threads = Vec::new(alloc);

@@ -1,6 +1,6 @@
 //! The last line that a command printed.
 
-use hg_wire::number::number_of_word;
+use hg_wire::number::number_of_token;
 
 /// What the last line tells.
 #[derive(Clone, Copy, Drop)]
@@ -15,7 +15,7 @@ pub enum Last {
 
 /// The number that follows `front` in a line.
 fn number_after(front: &[u8], line: &[u8]) -> Option<u64> {
-    number_of_word(line.strip_prefix(front)?)
+    number_of_token(line.strip_prefix(front)?)
 }
 
 /// What a line tells, if it is one of those.
@@ -28,7 +28,7 @@ fn told_by(line: &[u8]) -> Option<Last> {
     }
     let numbers = line.strip_prefix(b"refused line ")?;
     let space = numbers.iter().position(|byte| *byte == b' ')?;
-    let line = number_of_word(&numbers[..space])?;
+    let line = number_of_token(&numbers[..space])?;
     let code = number_after(b" code ", &numbers[space..])?;
     Some(Last::Refused { line, code })
 }

@@ -6,7 +6,7 @@ use hg_wire::verb::Verb;
 use std::alloc::AllocError;
 use std::string::String;
 
-/// What a word of some bits may be at most.
+/// What a token of some bits may be at most.
 fn greatest(bits: u8) -> u64 {
     match bits {
         8 => 0xff,
@@ -30,20 +30,20 @@ fn name(verb: Verb) -> &'static str {
     }
 }
 
-/// Appends that a word may not stand at its place.
-fn put_word(place: usize, word: &[u8], text: &mut String) -> Result<(), AllocError> {
+/// Appends that a token may not stand at its place (for a reader it is a word of the line).
+fn put_token(place: usize, token: &[u8], text: &mut String) -> Result<(), AllocError> {
     put_number("word ", place.saturating_add(1) as u64, ", ", text)?;
-    put_quoted(word, text)
+    put_quoted(token, text)
 }
 
 /// Appends that a line has no verb.
-fn put_no_verb(word: &[u8], text: &mut String) -> Result<(), AllocError> {
+fn put_no_verb(token: &[u8], text: &mut String) -> Result<(), AllocError> {
     text.push_str("there is no verb ")?;
-    put_quoted(word, text)
+    put_quoted(token, text)
 }
 
-/// Appends that nothing stands where a word should.
-fn put_empty_word(place: usize, text: &mut String) -> Result<(), AllocError> {
+/// Appends that nothing stands where a token should.
+fn put_empty_token(place: usize, text: &mut String) -> Result<(), AllocError> {
     let why = " is empty: one space stands before each word, and none at the end";
     put_number("word ", place.saturating_add(1) as u64, why, text)
 }
@@ -56,28 +56,28 @@ fn put_count(verb: Verb, given: usize, text: &mut String) -> Result<(), AllocErr
     text.push_str(" stand here")
 }
 
-/// Appends that a word is no number.
-fn put_misspelt(place: usize, word: &[u8], text: &mut String) -> Result<(), AllocError> {
-    put_word(place, word, text)?;
+/// Appends that a token is no number.
+fn put_misspelt(place: usize, token: &[u8], text: &mut String) -> Result<(), AllocError> {
+    put_token(place, token, text)?;
     text.push_str(", is no number: 1 to 20 decimal digits, or 0x and 1 to 16 hexadecimal digits")
 }
 
 /// Appends that a number has more bits than may stand at its place.
-fn put_too_great(place: usize, word: &[u8], bits: u8, text: &mut String) -> Result<(), AllocError> {
-    put_word(place, word, text)?;
+fn put_too_great(place: usize, token: &[u8], bits: u8, text: &mut String) -> Result<(), AllocError> {
+    put_token(place, token, text)?;
     let most = greatest(bits);
     put_number(", is too great: at most ", most, " may stand there", text)
 }
 
-/// Appends what is wrong with a line. Its words are counted from 1 on, the verb first.
+/// Appends what is wrong with a line. Its tokens are counted from 1 on, the verb first.
 fn put_diagnosis(found: Diagnosis<'_>, text: &mut String) -> Result<(), AllocError> {
     match found {
         Diagnosis::TooLong => text.push_str("it has more than 256 bytes"),
-        Diagnosis::NoVerb { word } => put_no_verb(word, text),
-        Diagnosis::EmptyWord { place } => put_empty_word(place, text),
+        Diagnosis::NoVerb { token } => put_no_verb(token, text),
+        Diagnosis::EmptyToken { place } => put_empty_token(place, text),
         Diagnosis::Count { verb, given } => put_count(verb, given, text),
-        Diagnosis::Misspelt { place, word } => put_misspelt(place, word, text),
-        Diagnosis::TooGreat { place, word, bits } => put_too_great(place, word, bits, text),
+        Diagnosis::Misspelt { place, token } => put_misspelt(place, token, text),
+        Diagnosis::TooGreat { place, token, bits } => put_too_great(place, token, bits, text),
     }
 }
 

@@ -13,9 +13,9 @@ use Rattle.hg_wire.specs.Holds.{verb_on}
 use Rattle.hg_wire.specs.Verbs.{row_of, verb_of, AllFit, Makes}
 use Rattle.hg_wire.specs.Lines.{AreOperands, line_of}
 use Rattle.hg_wire.specs.InFront.{HasOperands, HasEvent, HasEventLine, EndsLineBefore}
-use Rattle.hg_wire.proofs.WordLemmas.{led_by}
+use Rattle.hg_wire.proofs.TokenLemmas.{led_by}
 use Rattle.hg_wire.proofs.VerbLemmas.{each_is_verb}
-use Rattle.hg_wire.proofs.LineLemmas.{operands_are_words, event_reads}
+use Rattle.hg_wire.proofs.LineLemmas.{operands_are_tokens, event_reads}
 use Rattle.hg_wire.proofs.OperandLemmas.{refit_operands}
 
 pub event_follows : (verb : Verb) (wide bytes operands values rest : List ℕ) (event : Event) → bytes ≡ (row_of verb).text ++ operands → HasOperands wide operands values rest → Makes verb values event
@@ -24,12 +24,12 @@ event_follows verb wide bytes operands values rest event begins wide_enough make
     let h = refit_operands wide (row_of verb).widths operands values rest makes.0 wide_enough in
     let text = (row_of verb).text in
     let is = each_is_verb verb in
-    let few = (operands_are_words (row_of verb).widths h.words values h.operands).2 in
-    let short : length (text ++ led_by 32 h.words) ≤ 256 = omega (arith, length-append text (led_by 32 h.words), is.short, is.few) in
+    let few = (operands_are_tokens (row_of verb).widths h.tokens values h.operands).2 in
+    let short : length (text ++ led_by 32 h.tokens) ≤ 256 = omega (arith, length-append text (led_by 32 h.tokens), is.short, is.few) in
     record {
-      text = text ++ led_by 32 h.words;
-      spelled = record { verb = verb; words = h.words; values = values; operands = h.operands; spelled = refl; made = makes.1; short = short };
-      joined = begins ∙ (ap (λ more. text ++ more) h.joined ∙ sym (append_assoc text (led_by 32 h.words) rest));
+      text = text ++ led_by 32 h.tokens;
+      spelled = record { verb = verb; tokens = h.tokens; values = values; operands = h.operands; spelled = refl; made = makes.1; short = short };
+      joined = begins ∙ (ap (λ more. text ++ more) h.joined ∙ sym (append_assoc text (led_by 32 h.tokens) rest));
     }
 
 -- a line that was written in front of other bytes is an event if one ends where the line does
@@ -45,13 +45,13 @@ event_line bytes event middle end h ends within =
     record { text = h.text; spelled = h.spelled; middle = middle; rest = drop end bytes; joined = h.joined; ends = ends; count = omega (arith, length-drop end bytes) }
 
 -- operands fit their widths
-pub operands_fit : (widths : List ℕ) (words : List (List ℕ)) (values : List ℕ) → AreOperands widths words values → AllFit widths values
+pub operands_fit : (widths : List ℕ) (tokens : List (List ℕ)) (values : List ℕ) → AreOperands widths tokens values → AllFit widths values
 operands_fit [] [] [] h = tt
 operands_fit [] [] (v ∷ values) h = absurd h
-operands_fit [] (word ∷ words) values h = absurd h
+operands_fit [] (token ∷ tokens) values h = absurd h
 operands_fit (width ∷ widths) [] values h = absurd h
-operands_fit (width ∷ widths) (word ∷ words) [] h = absurd h
-operands_fit (width ∷ widths) (word ∷ words) (v ∷ values) h = (h.1, operands_fit widths words values h.2)
+operands_fit (width ∷ widths) (token ∷ tokens) [] h = absurd h
+operands_fit (width ∷ widths) (token ∷ tokens) (v ∷ values) h = (h.1, operands_fit widths tokens values h.2)
 
 -- the parts of an access make the event of its verb
 pub makes_access : (is_write : Bool) (t at len : ℕ) → t < 2 ^ 16 → at < 2 ^ 64 → len < 256 → Makes (verb_of (kind.Access is_write)) (t ∷ at ∷ len ∷ []) (if is_write then Write (record { t = t; at = at; len = len }) else Read (record { t = t; at = at; len = len }))

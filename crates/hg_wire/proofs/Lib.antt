@@ -1,7 +1,7 @@
 pub mod NumberLemmas
 pub mod RunLemmas
 pub mod WholeLemmas
-pub mod WordLemmas
+pub mod TokenLemmas
 pub mod VerbLemmas
 pub mod LineLemmas
 pub mod DiagnosisLemmas
@@ -9,7 +9,7 @@ pub mod OperandLemmas
 pub mod EventLemmas
 pub mod CountLemmas
 pub mod PieceLemmas
-pub mod HeldLemmas
+pub mod StoredLemmas
 pub mod StreamLemmas
 pub mod SplitterLemmas
 pub mod ReaderLemmas

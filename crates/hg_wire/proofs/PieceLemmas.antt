@@ -25,11 +25,11 @@ pow_sixteen (suc k) =
     let four : 4 * suc k ≡ 4 * k + 4 = omega arith in
     ap (λ e. 2 ^ e) four ∙ (pow-add 2 (4 * k) 4 ∙ (ap (λ p. p * 16) (pow_sixteen k) ∙ sym (pow-suc 16 k)))
 
-pub digit_of_shifted : (word i : ℕ) → i < 16 → digit_char (bit_and (word / 2 ^ (60 - 4 * i)) 15) ≡ digit_char (word / 16 ^ (15 - i) % 16)
-digit_of_shifted word i within =
+pub digit_of_shifted : (token i : ℕ) → i < 16 → digit_char (bit_and (token / 2 ^ (60 - 4 * i)) 15) ≡ digit_char (token / 16 ^ (15 - i) % 16)
+digit_of_shifted token i within =
     let place : 60 - 4 * i ≡ 4 * (15 - i) = omega arith in
     let power : 2 ^ (60 - 4 * i) ≡ 16 ^ (15 - i) = ap (λ e. 2 ^ e) place ∙ pow_sixteen (15 - i) in
-    ap digit_char (and_mask (word / 2 ^ (60 - 4 * i)) 4 ∙ ap (λ p. word / p % 16) power)
+    ap digit_char (and_mask (token / 2 ^ (60 - 4 * i)) 4 ∙ ap (λ p. token / p % 16) power)
 
 -- each number after the first is led by a comma
 joined_from : (t : ℕ) (ts : List ℕ) → join_with_byte 44 (map decimal (t ∷ ts)) ≡ decimal t ++ flat_map (λ n. 44 ∷ decimal n) ts

@@ -8,16 +8,16 @@ use Rattle.std.specs.List.{AllByRecursion, between, enumerate_from}
 use Rattle.std.specs.Str.Lines.{strip_carriage_return}
 use Rattle.hg_model.specs.declared.event.Event.{Event}
 use Rattle.hg_wire.specs.declared.reader.Reading.{Reading}
-use Rattle.hg_wire.specs.Words.{NoByte}
+use Rattle.hg_wire.specs.Bytes.{NoByte}
 use Rattle.hg_wire.specs.Verbs.{row_of}
 use Rattle.hg_wire.specs.Lines.{AreOperands, IsLine, line_of}
 use Rattle.hg_wire.specs.InFront.{HasEventLine, EndsLineBefore}
 use Rattle.hg_wire.specs.Streams.{lines_when, is_skipped, reading_of, readings_in, readings_when, lines_from, LinesRead, Splitting, EndsLine, EndsNoLine, GivesReading, GivesNoReading}
 use Rattle.hg_wire.proofs.NumberLemmas.{number_no_byte}
-use Rattle.hg_wire.proofs.WordLemmas.{led_by}
+use Rattle.hg_wire.proofs.TokenLemmas.{led_by}
 use Rattle.hg_wire.proofs.VerbLemmas.{each_is_verb, no_low_byte}
 use Rattle.hg_wire.proofs.LineLemmas.{event_reads}
-use Rattle.hg_wire.proofs.HeldLemmas.{take_whole}
+use Rattle.hg_wire.proofs.StoredLemmas.{take_whole}
 use Rattle.hg_wire.proofs.StreamLemmas.{no_byte_append, part_ends}
 
 -- ---- one line more
@@ -90,20 +90,20 @@ no_line_read over old new piece h more = from_lines over old.so_far (piece ++ mo
 
 -- ---- an event line at the front of a piece
 
-operands_no_byte : (c : ℕ) (widths : List ℕ) (words : List (List ℕ)) (values : List ℕ) → 16 ≤ digit_value c → 120 ≢ c → 32 ≢ c → AreOperands widths words values → NoByte c (led_by 32 words)
+operands_no_byte : (c : ℕ) (widths : List ℕ) (tokens : List (List ℕ)) (values : List ℕ) → 16 ≤ digit_value c → 120 ≢ c → 32 ≢ c → AreOperands widths tokens values → NoByte c (led_by 32 tokens)
 operands_no_byte c [] [] [] high not_x not_space h = tt
 operands_no_byte c [] [] (v ∷ values) high not_x not_space h = absurd h
-operands_no_byte c [] (word ∷ words) values high not_x not_space h = absurd h
+operands_no_byte c [] (token ∷ tokens) values high not_x not_space h = absurd h
 operands_no_byte c (width ∷ widths) [] values high not_x not_space h = absurd h
-operands_no_byte c (width ∷ widths) (word ∷ words) [] high not_x not_space h = absurd h
-operands_no_byte c (width ∷ widths) (word ∷ words) (v ∷ values) high not_x not_space h =
-    (not_space, no_byte_append c word (led_by 32 words) (number_no_byte c word v high not_x h.0) (operands_no_byte c widths words values high not_x not_space h.2))
+operands_no_byte c (width ∷ widths) (token ∷ tokens) [] high not_x not_space h = absurd h
+operands_no_byte c (width ∷ widths) (token ∷ tokens) (v ∷ values) high not_x not_space h =
+    (not_space, no_byte_append c token (led_by 32 tokens) (number_no_byte c token v high not_x h.0) (operands_no_byte c widths tokens values high not_x not_space h.2))
 
 line_no_byte : (c : ℕ) (text : List ℕ) (event : Event) → c ≤ 35 → 16 ≤ digit_value c → 120 ≢ c → 32 ≢ c → IsLine text event → NoByte c text
 line_no_byte c text event low high not_x not_space h =
     let verb = (row_of h.verb).text in
-    subst (NoByte c) (sym h.spelled) (no_byte_append c verb (led_by 32 h.words) (no_low_byte 35 c verb low (each_is_verb h.verb).letters)
-    (operands_no_byte c (row_of h.verb).widths h.words h.values high not_x not_space h.operands))
+    subst (NoByte c) (sym h.spelled) (no_byte_append c verb (led_by 32 h.tokens) (no_low_byte 35 c verb low (each_is_verb h.verb).letters)
+    (operands_no_byte c (row_of h.verb).widths h.tokens h.values high not_x not_space h.operands))
 
 letter_first : (letters more : List ℕ) → 1 ≤ length letters → AllByRecursion (λ b. 35 < b) letters → is_skipped (letters ++ more) ≡ false
 letter_first [] more some h = absurd (omega arith)
@@ -112,7 +112,7 @@ letter_first (b ∷ letters) more some h = ne_eqb b 35 (λ e. omega (arith, h.0)
 line_not_skipped : (text : List ℕ) (event : Event) → IsLine text event → not (is_skipped text) ≡ true
 line_not_skipped text event h =
     let is = each_is_verb h.verb in
-    ap (λ b. not (is_skipped b)) h.spelled ∙ ap not (letter_first (row_of h.verb).text (led_by 32 h.words) is.some is.letters)
+    ap (λ b. not (is_skipped b)) h.spelled ∙ ap not (letter_first (row_of h.verb).text (led_by 32 h.tokens) is.some is.letters)
 
 no_byte_at : (c : ℕ) (bytes : List ℕ) (k : ℕ) → 0 ≢ c → NoByte c bytes → get_or bytes k 0 ≢ c
 no_byte_at c [] k not_zero h = not_zero

@@ -1,22 +1,22 @@
 -- The steps of a splitter.
 use Rattle.std.proofs.Common.{◌≢◌, ℕ, ◌+◌, ◌<◌, List, [], ◌∷◌, ◌++◌, length, take, refl, ap, arith}
 use Rattle.std.specs.List.{enumerate_from}
-use Rattle.hg_wire.specs.Words.{NoByte}
-use Rattle.hg_wire.specs.Streams.{Splitting, held, EndsLine, EndsNoLine, EndsLastLine}
-use Rattle.hg_wire.proofs.StreamLemmas.{shown, IsParted, piece_held, line_taken, last_line_taken, no_byte_append, no_byte_held, no_line_shown}
+use Rattle.hg_wire.specs.Bytes.{NoByte}
+use Rattle.hg_wire.specs.Streams.{Splitting, stored, EndsLine, EndsNoLine, EndsLastLine}
+use Rattle.hg_wire.proofs.StreamLemmas.{shown, IsParted, piece_stored, line_taken, last_line_taken, no_byte_append, no_byte_stored, no_line_shown}
 
 abbrev pub splitting : ℕ → List ℕ → List ℕ → Splitting
 splitting n begun last = record { so_far = record { lines = n; begun = begun }; last = last }
 
-pub ends_no_line : (n : ℕ) (begun last other piece : List ℕ) → NoByte 10 begun → NoByte 10 piece → EndsNoLine (splitting n begun last) (splitting n (held (begun ++ piece)) other) piece
+pub ends_no_line : (n : ℕ) (begun last other piece : List ℕ) → NoByte 10 begun → NoByte 10 piece → EndsNoLine (splitting n begun last) (splitting n (stored (begun ++ piece)) other) piece
 ends_no_line n begun last other piece h k = record {
   counted = refl;
-  lines = λ over more. ap (enumerate_from (n + 1)) (piece_held over begun piece more h k);
-  none_left = ap (enumerate_from (n + 1)) (no_line_shown (held (begun ++ piece)) (no_byte_held 10 (begun ++ piece) (λ e. omega arith) (no_byte_append 10 begun piece h k)));
+  lines = λ over more. ap (enumerate_from (n + 1)) (piece_stored over begun piece more h k);
+  none_left = ap (enumerate_from (n + 1)) (no_line_shown (stored (begun ++ piece)) (no_byte_stored 10 (begun ++ piece) (λ e. omega arith) (no_byte_append 10 begun piece h k)));
 }
 
 pub ends_line : (n : ℕ) (begun last piece : List ℕ) (end : ℕ) → NoByte 10 begun → IsParted piece end
-    → EndsLine (splitting n begun last) (splitting (n + 1) [] (shown (held (begun ++ take end piece)))) piece (end + 1)
+    → EndsLine (splitting n begun last) (splitting (n + 1) [] (shown (stored (begun ++ take end piece)))) piece (end + 1)
 ends_line n begun last piece end h p =
     record {
       some = omega arith;

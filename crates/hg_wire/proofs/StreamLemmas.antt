@@ -5,10 +5,10 @@ use Rattle.std.proofs.lemmas.List.{append_assoc, append-nil, length-append, leng
 use Rattle.std.specs.List.{slice_split, onto_first}
 use Rattle.std.specs.Str.Lines.{strip_carriage_return}
 use Rattle.memchr.specs.Find.{IsFirstByte, is_byte}
-use Rattle.hg_wire.specs.Words.{NoByte}
-use Rattle.hg_wire.specs.Streams.{lines_among, lines_when, held}
-use Rattle.hg_wire.proofs.WordLemmas.{Parts, led_by, split_parts, split_joined}
-use Rattle.hg_wire.proofs.HeldLemmas.{held_short, held_long}
+use Rattle.hg_wire.specs.Bytes.{NoByte}
+use Rattle.hg_wire.specs.Streams.{lines_among, lines_when, stored}
+use Rattle.hg_wire.proofs.TokenLemmas.{Parts, led_by, split_parts, split_joined}
+use Rattle.hg_wire.proofs.StoredLemmas.{stored_short, stored_long}
 
 -- ---- bytes without line feeds
 
@@ -21,11 +21,11 @@ no_byte_take c zero xs h = tt
 no_byte_take c (suc n) [] h = tt
 no_byte_take c (suc n) (x ∷ xs) h = (h.0, no_byte_take c n xs h.1)
 
-pub no_byte_held : (c : ℕ) (xs : List ℕ) → 0 ≢ c → NoByte c xs → NoByte c (held xs)
-no_byte_held c xs not_zero h =
+pub no_byte_stored : (c : ℕ) (xs : List ℕ) → 0 ≢ c → NoByte c xs → NoByte c (stored xs)
+no_byte_stored c xs not_zero h =
     elim (cases_lt 257 (length xs)) [
-      | inl long ↦ subst (NoByte c) (sym (held_long xs long)) (no_byte_append c (take 257 xs) (0 ∷ []) (no_byte_take c 257 xs h) (not_zero, tt))
-      | inr short ↦ subst (NoByte c) (sym (held_short xs short)) h
+      | inl long ↦ subst (NoByte c) (sym (stored_long xs long)) (no_byte_append c (take 257 xs) (0 ∷ []) (no_byte_take c 257 xs h) (not_zero, tt))
+      | inr short ↦ subst (NoByte c) (sym (stored_short xs short)) h
     ]
 
 pub no_byte_everywhere : (c : ℕ) (xs : List ℕ) → ((k : ℕ) → k < length xs → get_or xs k 0 ≢ c) → NoByte c xs
@@ -81,20 +81,20 @@ shown_long line long =
       | inr miss ↦ ap (take 257) (cond-false _ _ _ miss)
     ]
 
--- what is held of a line shows it, however it goes on
-pub shown_held : (xs more : List ℕ) → shown (held xs ++ more) ≡ shown (xs ++ more)
-shown_held xs more =
+-- what is stored of a line shows it, however it goes on
+pub shown_stored : (xs more : List ℕ) → shown (stored xs ++ more) ≡ shown (xs ++ more)
+shown_stored xs more =
     elim (cases_lt 257 (length xs)) [
       | inl long ↦ (
           let front = take 257 xs in
           let count : length front ≡ 257 = length-take-le 257 xs (omega arith) in
-          let held_is : held xs ++ more ≡ (front ++ 0 ∷ []) ++ more = ap (λ b. b ++ more) (held_long xs long) in
-          let long_held : 257 < length ((front ++ 0 ∷ []) ++ more) = omega (arith, length-append (front ++ 0 ∷ []) more, length-append front (0 ∷ [])) in
+          let stored_is : stored xs ++ more ≡ (front ++ 0 ∷ []) ++ more = ap (λ b. b ++ more) (stored_long xs long) in
+          let long_stored : 257 < length ((front ++ 0 ∷ []) ++ more) = omega (arith, length-append (front ++ 0 ∷ []) more, length-append front (0 ∷ [])) in
           let long_whole : 257 < length (xs ++ more) = omega (arith, length-append xs more) in
-          ap shown held_is ∙ (shown_long ((front ++ 0 ∷ []) ++ more) long_held ∙ (ap (take 257) (append_assoc front (0 ∷ []) more) ∙ (take_at front (0 ∷ more) 257 count
+          ap shown stored_is ∙ (shown_long ((front ++ 0 ∷ []) ++ more) long_stored ∙ (ap (take 257) (append_assoc front (0 ∷ []) more) ∙ (take_at front (0 ∷ more) 257 count
           ∙ (sym (take-append-le 257 xs more (omega arith)) ∙ sym (shown_long (xs ++ more) long_whole)))))
           )
-      | inr short ↦ ap (λ b. shown (b ++ more)) (held_short xs short)
+      | inr short ↦ ap (λ b. shown (b ++ more)) (stored_short xs short)
     ]
 
 abbrev pub shown_lines : Bool → List ℕ → List (List ℕ)
@@ -119,38 +119,38 @@ shown_line_alone false xs more some h k =
 pub no_line_shown : (xs : List ℕ) → NoByte 10 xs → shown_lines false (xs ++ []) ≡ []
 no_line_shown xs h = ap (shown_lines false) (append-nil xs) ∙ ap (λ parts. map (take 257) (map strip_carriage_return parts)) (no_part xs h)
 
-length_held_long : (xs : List ℕ) → 257 < length xs → 0 < length (held xs)
-length_held_long xs long = rw (held_long xs long) (omega (arith, length-append (take 257 xs) (0 ∷ [])))
+length_stored_long : (xs : List ℕ) → 257 < length xs → 0 < length (stored xs)
+length_stored_long xs long = rw (stored_long xs long) (omega (arith, length-append (take 257 xs) (0 ∷ [])))
 
-shown_held_long : (over : Bool) (xs more : List ℕ) → 257 < length xs → NoByte 10 xs → shown_lines over (held xs ++ more) ≡ shown_lines over (xs ++ more)
-shown_held_long over xs more long h = go (split_parts 10 more).0 (split_parts 10 more).1 (split_parts 10 more).2
+shown_stored_long : (over : Bool) (xs more : List ℕ) → 257 < length xs → NoByte 10 xs → shown_lines over (stored xs ++ more) ≡ shown_lines over (xs ++ more)
+shown_stored_long over xs more long h = go (split_parts 10 more).0 (split_parts 10 more).1 (split_parts 10 more).2
   where
-    none_held : NoByte 10 (held xs)
-    none_held = no_byte_held 10 xs (λ e. omega arith) h
+    none_stored : NoByte 10 (stored xs)
+    none_stored = no_byte_stored 10 xs (λ e. omega arith) h
 
-    go : (first : List ℕ) (rest : List (List ℕ)) → Parts 10 more first rest → shown_lines over (held xs ++ more) ≡ shown_lines over (xs ++ more)
+    go : (first : List ℕ) (rest : List (List ℕ)) → Parts 10 more first rest → shown_lines over (stored xs ++ more) ≡ shown_lines over (xs ++ more)
     go first [] p =
         let none_more : NoByte 10 more = subst (NoByte 10) (sym (p.joined ∙ append-nil first)) p.none in
-        shown_line_alone over (held xs) more (length_held_long xs long) none_held none_more ∙ (ap (last_when over) (shown_held xs more)
+        shown_line_alone over (stored xs) more (length_stored_long xs long) none_stored none_more ∙ (ap (last_when over) (shown_stored xs more)
         ∙ sym (shown_line_alone over xs more (omega arith) h none_more))
     go first (r ∷ rs) p =
-        shown_line_ends over (held xs) first (r ++ led_by 10 rs) more none_held p.none p.joined ∙ (ap (λ line. line ∷ shown_lines over (r ++ led_by 10 rs)) (shown_held xs first)
+        shown_line_ends over (stored xs) first (r ++ led_by 10 rs) more none_stored p.none p.joined ∙ (ap (λ line. line ∷ shown_lines over (r ++ led_by 10 rs)) (shown_stored xs first)
         ∙ sym (shown_line_ends over xs first (r ++ led_by 10 rs) more h p.none p.joined))
 
--- a line is as good as what is held of it, however the stream goes on
-pub shown_lines_held : (over : Bool) (xs more : List ℕ) → NoByte 10 xs → shown_lines over (held xs ++ more) ≡ shown_lines over (xs ++ more)
-shown_lines_held over xs more h =
+-- a line is as good as what is stored of it, however the stream goes on
+pub shown_lines_stored : (over : Bool) (xs more : List ℕ) → NoByte 10 xs → shown_lines over (stored xs ++ more) ≡ shown_lines over (xs ++ more)
+shown_lines_stored over xs more h =
     elim (cases_lt 257 (length xs)) [
-      | inl long ↦ shown_held_long over xs more long h
-      | inr short ↦ ap (λ b. shown_lines over (b ++ more)) (held_short xs short)
+      | inl long ↦ shown_stored_long over xs more long h
+      | inr short ↦ ap (λ b. shown_lines over (b ++ more)) (stored_short xs short)
     ]
 
 -- ---- steps of a splitter
 
 -- all of a piece goes onto the line
-pub piece_held : (over : Bool) (begun piece more : List ℕ) → NoByte 10 begun → NoByte 10 piece → shown_lines over (begun ++ (piece ++ more)) ≡ shown_lines over (held (begun ++ piece) ++ more)
-piece_held over begun piece more h k =
-    ap (shown_lines over) (sym (append_assoc begun piece more)) ∙ sym (shown_lines_held over (begun ++ piece) more (no_byte_append 10 begun piece h k))
+pub piece_stored : (over : Bool) (begun piece more : List ℕ) → NoByte 10 begun → NoByte 10 piece → shown_lines over (begun ++ (piece ++ more)) ≡ shown_lines over (stored (begun ++ piece) ++ more)
+piece_stored over begun piece more h k =
+    ap (shown_lines over) (sym (append_assoc begun piece more)) ∙ sym (shown_lines_stored over (begun ++ piece) more (no_byte_append 10 begun piece h k))
 
 -- what stands before the first line feed of a piece, and after it
 pub record IsParted (piece : List ℕ) (end : ℕ) : Type 0 where
@@ -160,13 +160,13 @@ pub record IsParted (piece : List ℕ) (end : ℕ) : Type 0 where
 
 -- a line feed ends the line
 pub line_taken : (over : Bool) (begun piece more : List ℕ) (end : ℕ) → NoByte 10 begun → IsParted piece end
-    → shown_lines over (begun ++ (piece ++ more)) ≡ shown (held (begun ++ take end piece)) ∷ shown_lines over (drop (end + 1) piece ++ more)
+    → shown_lines over (begun ++ (piece ++ more)) ≡ shown (stored (begun ++ take end piece)) ∷ shown_lines over (drop (end + 1) piece ++ more)
 line_taken over begun piece more end h p =
     let front = take end piece in
     let rest = drop (end + 1) piece ++ more in
     let parted : piece ++ more ≡ front ++ 10 ∷ rest = ap (λ b. b ++ more) p.joined ∙ append_assoc front (10 ∷ drop (end + 1) piece) more in
-    let alone : shown (held (begun ++ front)) ≡ shown (begun ++ front) = (
-    ap shown (sym (append-nil (held (begun ++ front)))) ∙ (shown_held (begun ++ front) [] ∙ ap shown (append-nil (begun ++ front)))) in
+    let alone : shown (stored (begun ++ front)) ≡ shown (begun ++ front) = (
+    ap shown (sym (append-nil (stored (begun ++ front)))) ∙ (shown_stored (begun ++ front) [] ∙ ap shown (append-nil (begun ++ front)))) in
     shown_line_ends over begun front rest (piece ++ more) h p.none parted ∙ ap (λ line. line ∷ shown_lines over rest) (sym alone)
 
 pub last_line_taken : (begun : List ℕ) → 0 < length begun → NoByte 10 begun → shown_lines true (begun ++ []) ≡ shown begun ∷ []

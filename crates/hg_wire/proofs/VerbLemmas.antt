@@ -1,4 +1,4 @@
--- The verbs of the table, and the word that names one.
+-- The verbs of the table, and the token that names one.
 use Rattle.std.proofs.Common.{◌≡◌, ◌≢◌, ℕ, zero, suc, ◌<◌, ◌≤◌, Bool, true, false, leb, ltb, List, [], ◌∷◌, length, Some, None, refl, sym, ◌∙◌, ap, subst, arith, inl, inr, Contains}
 use Rattle.std.proofs.lemmas.Bool.{cond-true, cond-false, cases_Bool, ltb-true, leb-true, and_parts, false_from_ne_true}
 use Rattle.std.proofs.lemmas.Slice.Eq.{bytes_eq-Decides}
@@ -8,7 +8,7 @@ use Rattle.hg_wire.specs.declared.verb.Verb.{Verb}
 use Rattle.hg_wire.specs.declared.verb.Verb.TheVariants.{Fork, Join, Lock, RdLock, Unlock, Read, Write, Alloc, Free}
 use Rattle.hg_wire.specs.Verbs.{row_of, verbs}
 use Rattle.hg_wire.specs.Lines.{verb_named}
-use Rattle.hg_wire.specs.Words.{NoByte}
+use Rattle.hg_wire.specs.Bytes.{NoByte}
 
 -- what a search finds
 pub find_some : {X : Type 0} (p : X → Bool) (xs : List X) (x : X) → find p xs ≡ Some x → Contains xs x × (p x ≡ true)
@@ -66,16 +66,16 @@ each_is_verb Free = is_verb Free refl refl refl refl refl
 pub verb_spaceless : (verb : Verb) → NoByte 32 (row_of verb).text
 verb_spaceless verb = no_low_byte 35 32 (row_of verb).text (omega arith) (each_is_verb verb).letters
 
-pub named_has_text : (word : List ℕ) (verb : Verb) → verb_named word ≡ Some verb → (row_of verb).text ≡ word
+pub named_has_text : (token : List ℕ) (verb : Verb) → verb_named token ≡ Some verb → (row_of verb).text ≡ token
 unfolding verb_named
-named_has_text word verb e =
-    let p = find_some (λ v. bytes_eq (row_of v).text word) verbs verb e in (bytes_eq-Decides (row_of verb).text word).0 p.1
+named_has_text token verb e =
+    let p = find_some (λ v. bytes_eq (row_of v).text token) verbs verb e in (bytes_eq-Decides (row_of verb).text token).0 p.1
 
-pub nothing_named : (word : List ℕ) → ((verb : Verb) → (row_of verb).text ≢ word) → verb_named word ≡ None
+pub nothing_named : (token : List ℕ) → ((verb : Verb) → (row_of verb).text ≢ token) → verb_named token ≡ None
 unfolding verb_named
-nothing_named word h =
-    find_none (λ v. bytes_eq (row_of v).text word) verbs (λ verb c. false_from_ne_true _ (λ e. h verb ((bytes_eq-Decides (row_of verb).text word).0 e)))
+nothing_named token h =
+    find_none (λ v. bytes_eq (row_of v).text token) verbs (λ verb c. false_from_ne_true _ (λ e. h verb ((bytes_eq-Decides (row_of verb).text token).0 e)))
 
-pub named_by_none : (word : List ℕ) → verb_named word ≡ None → (verb : Verb) → (row_of verb).text ≢ word
-named_by_none word e verb is =
-    let again : verb_named word ≡ Some verb = ap verb_named (sym is) ∙ (each_is_verb verb).named in cc
+pub named_by_none : (token : List ℕ) → verb_named token ≡ None → (verb : Verb) → (row_of verb).text ≢ token
+named_by_none token e verb is =
+    let again : verb_named token ≡ Some verb = ap verb_named (sym is) ∙ (each_is_verb verb).named in cc

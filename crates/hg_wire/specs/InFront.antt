@@ -44,11 +44,11 @@ pub record HasNumber (bytes : List ℕ) (n : ℕ) (rest : List ℕ) : Type 0 whe
   pub fits : n < 2 ^ 64
   pub joined : bytes ≡ text ++ rest
 
--- The bytes are a space and a word for each value, and then the rest.
+-- The bytes are a space and a token for each value, and then the rest.
 pub record HasOperands (widths bytes values rest : List ℕ) : Type 0 where
-  pub words : List (List ℕ)
-  pub operands : AreOperands widths words values
-  pub joined : bytes ≡ flat_map (λ word. 32 ∷ word) words ++ rest
+  pub tokens : List (List ℕ)
+  pub operands : AreOperands widths tokens values
+  pub joined : bytes ≡ flat_map (λ token. 32 ∷ token) tokens ++ rest
 
 -- The bytes spell the event, and then come the rest.
 pub record HasEvent (bytes : List ℕ) (event : Event) (rest : List ℕ) : Type 0 where

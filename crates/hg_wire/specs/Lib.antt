@@ -1,4 +1,4 @@
-pub mod Words
+pub mod Bytes
 pub mod Numbers
 pub mod Verbs
 pub mod Lines

@@ -9,7 +9,7 @@ use Rattle.hg_wire.specs.declared.reader.Taken.TheVariants.{Line, More}
 pub use Rattle.hg_wire.specs.Readings.{ended_readings, is_skipped, lines_among, lines_of, lines_when, reading_of, readings, readings_after, readings_in, readings_when}
 
 -- How far a stream has come: how many lines have ended, and the bytes so far of the next one.
--- (A line too long for an event may be held as its first 257 bytes and one byte more, since it reads the same.)
+-- (A line too long for an event may be stored as its first 257 bytes and one byte more, since it reads the same.)
 pub record LinesRead : Type 0 where
   pub lines : ℕ
   pub begun : List ℕ
@@ -29,7 +29,7 @@ numbered_on k reading = record { line = k + reading.line; event = reading.event 
 abbrev pub readings_from : LinesRead → List ℕ → List Reading
 readings_from so_far rest = readings_after so_far.lines (so_far.begun ++ rest)
 
--- The same for the lines that a line feed ends.
+-- The readings of those lines of the rest of a stream that a line feed ends.
 abbrev pub ended_from : LinesRead → List ℕ → List Reading
 ended_from so_far rest = readings_when false so_far.lines (so_far.begun ++ rest)
 
@@ -37,9 +37,9 @@ ended_from so_far rest = readings_when false so_far.lines (so_far.begun ++ rest)
 abbrev pub lines_from : Bool → LinesRead → List ℕ → List (ℕ × List ℕ)
 lines_from over so_far rest = enumerate_from (so_far.lines + 1) (map (take 257) (lines_when over (so_far.begun ++ rest)))
 
--- the held bytes of a line: its first 257, and one 0 for all those after them
-abbrev pub held : List ℕ → List ℕ
-held bytes = if nat_lt 257 (length bytes) then take 257 bytes ++ 0 ∷ [] else bytes
+-- the stored bytes of a line: its first 257, and one 0 for all those after them
+abbrev pub stored : List ℕ → List ℕ
+stored bytes = if nat_lt 257 (length bytes) then take 257 bytes ++ 0 ∷ [] else bytes
 
 -- How far a splitter has come, and the last line that has ended, as it is shown.
 pub record Splitting : Type 0 where

@@ -1,9 +1,9 @@
 //! The language of bytes: the text of traces and reports.
 #![tactic(auto)]
 
+mod begun;
 pub mod cuts;
 pub mod diagnosis;
-mod held;
 pub mod laws;
 pub mod line;
 pub mod lines;
@@ -12,5 +12,5 @@ mod operands;
 pub mod reader;
 pub mod report;
 pub mod splitter;
+mod tokens;
 pub mod verb;
-mod words;

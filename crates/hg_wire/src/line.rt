@@ -7,10 +7,10 @@ ghost use Rattle.hg_wire.specs.Lines.{line_of};
 ghost use Rattle.hg_wire.specs.InFront.{HasEvent, HasEventLine, EndsLineBefore};
 
 use crate::operands::{long_at, short_at};
+use crate::tokens::line_by_tokens;
 use crate::verb::{
     VerbKind, access_verb_in_front, hold_verb_in_front, pair_event, sized_event, verb_in_front,
 };
-use crate::words::line_by_words;
 use hg_model::event::{Access, Event, Hold};
 
 /// The faults of a line of the trace text, in the order of testing (this project's profile).
@@ -18,9 +18,9 @@ use hg_model::event::{Access, Event, Hold};
 pub enum LineFault {
     /// It has more than 256 bytes.
     TooLong,
-    /// Its first word is none of the nine verbs.
+    /// Its first token is none of the nine verbs.
     Verb,
-    /// A word is missing, too many or empty.
+    /// A token is missing, too many or empty.
     Count,
     /// A number is misspelt or does not fit its field.
     Number,
@@ -42,7 +42,7 @@ pub fn read_line(line: &[u8]) -> Result<Event, LineFault>
     if let Some(event) = event_alone(line) {
         return Ok(event);
     }
-    line_by_words(line)
+    line_by_tokens(line)
 }
 
 /// The event that a line spells, where the line fits the window. (`None` says nothing of the line.)
@@ -101,7 +101,7 @@ pub struct AccessLine {
     pub used: usize,
 }
 
-/// The same for a read or a write, in its parts.
+/// The read or the write in front, in its parts, if its line is whole and usual.
 #[inline(always)]
 pub(crate) fn access_line_in_front(bytes: &[u8]) -> Option<AccessLine>
     ensures { IfSome result (λ found. HasEventLine bytes.now (event_of found) found.used) }
@@ -136,7 +136,7 @@ pub struct HoldLine {
     pub used: usize,
 }
 
-/// The same for an event on a lock, in its parts.
+/// The event on a lock in front, in its parts, if its line is whole and usual.
 #[inline(always)]
 pub(crate) fn hold_line_in_front(bytes: &[u8]) -> Option<HoldLine>
     ensures { IfSome result (λ found. HasEventLine bytes.now (hold_event found.hold) found.used) }

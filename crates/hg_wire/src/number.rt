@@ -110,7 +110,7 @@ fn with_decimal_digit_at(bytes: &[u8], at: usize, number: u64) -> Option<u64>
     Some(number.wrapping_mul(10).wrapping_add(u64::from(digit)))
 }
 
-/// The same with up to four digits, and where they end.
+/// The number with up to four decimal digits from `at` on appended, and where they end.
 #[inline(always)]
 fn with_decimal_digits_at(bytes: &[u8], at: usize, number: u64) -> (u64, usize)
     requires { at + 4 ≤ length bytes.now }
@@ -187,7 +187,7 @@ fn with_digit_at(bytes: &[u8], at: usize, number: u64) -> Option<u64>
     Some(number.wrapping_mul(16).wrapping_add(u64::from(digit)))
 }
 
-/// The same with up to three digits, and where they end.
+/// The number with up to three hexadecimal digits from `at` on appended, and where they end.
 #[inline(always)]
 fn with_digits_at(bytes: &[u8], at: usize, number: u64) -> (u64, usize)
     requires { at + 3 ≤ length bytes.now }
@@ -276,7 +276,7 @@ pub(crate) fn number_at(bytes: &[u8], from: usize) -> Option<(u64, usize)>
     decimal_at(bytes, from)
 }
 
-/// The same of at most five decimal or four hexadecimal digits.
+/// The number at a place, of at most five decimal or four hexadecimal digits, and where it ends.
 #[inline(always)]
 pub(crate) fn short_number_at(bytes: &[u8], from: usize) -> Option<(u64, usize)>
     requires { from + 6 ≤ length bytes.now }
@@ -309,13 +309,13 @@ fn number_of_numeral(base: u8, most: usize, digits: &[u8]) -> Option<u64>
     u64::try_from(value).ok()
 }
 
-/// The number that a word spells, if it fits 64 bits.
-pub fn number_of_word(word: &[u8]) -> Option<u64>
-    ensures { result ≡ operand_of 64 word.now }
+/// The number that a token spells, if it fits 64 bits.
+pub fn number_of_token(token: &[u8]) -> Option<u64>
+    ensures { result ≡ operand_of 64 token.now }
 {
-    match word {
+    match token {
         [b'0', b'x', digits @ ..] => number_of_numeral(16, 16, digits),
-        _ => number_of_numeral(10, 20, word),
+        _ => number_of_numeral(10, 20, token),
     }
 }
 
@@ -336,12 +336,12 @@ fn is_numeral(base: u8, most: usize, digits: &[u8]) -> bool
     are_digits(base, digits)
 }
 
-/// Whether a word spells a number, even one too great for 64 bits.
-pub fn is_number(word: &[u8]) -> bool
-    ensures { result ≡ is_some (number_of word.now) }
+/// Whether a token spells a number, even one too great for 64 bits.
+pub fn is_number(token: &[u8]) -> bool
+    ensures { result ≡ is_some (number_of token.now) }
 {
-    match word {
+    match token {
         [b'0', b'x', digits @ ..] => is_numeral(16, 16, digits),
-        _ => is_numeral(10, 20, word),
+        _ => is_numeral(10, 20, token),
     }
 }

@@ -18,7 +18,7 @@ pub(crate) fn long_at(bytes: &[u8], from: usize) -> Option<(u64, usize)>
     number_at(bytes, from + 1)
 }
 
-/// The same of 16 bits, spelled by few digits.
+/// A space and a number of 16 bits, spelled by few digits, at a place, and where they end.
 #[inline(always)]
 pub(crate) fn short_at(bytes: &[u8], from: usize) -> Option<(u16, usize)>
     requires { from + 7 ≤ length bytes.now }

@@ -95,7 +95,8 @@ impl EventReader {
         Some(found)
     }
 
-    /// The same for an event on a lock.
+    /// Takes the next line of the stream, if it is an event on a lock and stands whole at the front of the piece. `None`
+    /// takes nothing, and says nothing of the piece.
     #[inline(always)]
     pub fn take_hold(&mut self, piece: &[u8]) -> Option<HoldLine>
         requires { self.old.lines + length piece.now < 2 ^ 64 }
@@ -168,7 +169,8 @@ fn reading_of_last(splitter: &Splitter) -> Option<Reading>
     }
 }
 
-/// The same as `EventReader::take`, line by line.
+/// Takes the next line as `EventReader::take` does, by the splitter: it holds a line that is cut, and skips those that say
+/// nothing.
 #[inline(never)]
 fn take_by_lines(splitter: &mut Splitter, piece: &[u8]) -> Taken
     requires { splitter.old.so_far.lines + length piece.now < 2 ^ 64 }

@@ -3,7 +3,7 @@
 ghost use Rattle.std.specs.Prelude.{◌≡◌, ◌+◌, ◌<◌, ◌^◌, [], IfOk, IfSome, IfNone, IsTrue, ◌↔◌, length};
 ghost use Rattle.std.specs.Bool.{OnTrue, OnFalse};
 
-use crate::held::HeldLine;
+use crate::begun::BegunLine;
 use memchr::memchr;
 use std::alloc::{AllocError, Global};
 use std::marker::Model;
@@ -15,14 +15,14 @@ use std::mem;
 #[derive(Drop)]
 pub struct Splitter {
     lines: u64,
-    line: HeldLine,
-    last: HeldLine,
+    line: BegunLine,
+    last: BegunLine,
 }
 
 impl Model for Splitter {
     ghost use Rattle.std.specs.Prelude.{take};
     ghost use Rattle.std.specs.Str.Lines.{strip_carriage_return};
-    ghost use Rattle.hg_wire.specs.Words.{NoByte};
+    ghost use Rattle.hg_wire.specs.Bytes.{NoByte};
     ghost use Rattle.hg_wire.specs.Streams.{Splitting};
 
     ghost Value = { Splitting };
@@ -42,8 +42,8 @@ impl Splitter {
     {
         Ok(Splitter {
             lines: 0,
-            line: HeldLine::new(alloc)?,
-            last: HeldLine::new(alloc)?,
+            line: BegunLine::new(alloc)?,
+            last: BegunLine::new(alloc)?,
         })
     }
 

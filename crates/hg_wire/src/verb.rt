@@ -68,12 +68,12 @@ impl Verb {
         }
     }
 
-    /// The verb that the word is, if it is one.
+    /// The verb that the token is, if it is one.
     #[tactic(auto, unfolding(crate::specs::Lines::verb_named))]
-    pub fn named(word: &[u8]) -> Option<Verb>
-        ensures { result ≡ verb_named word.now }
+    pub fn named(token: &[u8]) -> Option<Verb>
+        ensures { result ≡ verb_named token.now }
     {
-        VERBS.iter().copied().find(|verb| verb.text() == word)
+        VERBS.iter().copied().find(|verb| verb.text() == token)
     }
 }
 

@@ -1,4 +1,5 @@
 ghost use Rattle.std.specs.Prelude.{◌≡◌, ◌+◌, ◌<◌, ◌≤◌, [], ◌∷◌, ◌++◌, IfOk, false, length, true};
+ghost use Rattle.hg_model.specs.declared.limits.TheConstants.{THREAD_NUMBERS};
 ghost use Rattle.hg_graph.specs.Graph.{Opens, names};
 ghost use Rattle.hg_model.specs.Segments.{of_thread};
 ghost use Rattle.hg_test_detector.specs.Earlier.{earlier};
@@ -29,8 +30,8 @@ fn fork(
     c: u16,
     opens: (u32, u32),
 ) -> Result<(), AllocError>
-    requires parent { p < 1024 }
-    requires child { c < 1024 }
+    requires parent { p < THREAD_NUMBERS }
+    requires child { c < THREAD_NUMBERS }
     requires named { names graph.old p ≡ true }
     requires fresh { names graph.old c ≡ false }
     requires room { length graph.old + 2 ≤ MOST_SEGMENTS }
@@ -43,8 +44,8 @@ fn fork(
 
 /// Makes a join, which opens this segment.
 fn join(rt: &impl Abort, graph: &mut Graph, p: u16, c: u16, opens: u32) -> Result<(), AllocError>
-    requires joiner { p < 1024 }
-    requires child { c < 1024 }
+    requires joiner { p < THREAD_NUMBERS }
+    requires child { c < THREAD_NUMBERS }
     requires named { names graph.old p ≡ true }
     requires room { length graph.old + 1 ≤ MOST_SEGMENTS }
     ensures { IfOk result (λ done. Opens graph.old (Event.Join p c) graph.new) }
@@ -56,7 +57,7 @@ fn join(rt: &impl Abort, graph: &mut Graph, p: u16, c: u16, opens: u32) -> Resul
 
 /// Whether a segment reaches the present one of a thread.
 fn reaches_now(rt: &impl Abort, graph: &Graph, s: u32, t: u16, wanted: bool)
-    requires { t < 1024 }
+    requires { t < THREAD_NUMBERS }
 {
     assert!(rt; graph.reaches_now(s, t) == wanted, "{s} {t}");
 }
@@ -174,7 +175,7 @@ fn restored(alloc: Global) -> Result<Own<Graph>, AllocError>
 
 /// Whether these of the first five segments reach the present one of a thread, and no others.
 fn expect_reached(rt: &impl Abort, graph: &Graph, t: u16, reached: &[u32])
-    requires { t < 1024 }
+    requires { t < THREAD_NUMBERS }
 {
     for s in 0..5 {
         assert!(rt; graph.reaches_now(s, t) == reached.contains(&s));

@@ -1,4 +1,4 @@
--- The table is held against the definition at each of the 256 bytes, by computing.
+-- The table is tested against the definition at each of the 256 bytes, by computing.
 use Rattle.std.proofs.Common.{◌≡◌, refl, ap, ◌∙◌, arith}
 use Rattle.std.specs.Char.{digit_value}
 use Rattle.hg_wire.specs.declared.number.TheConstants.{DIGIT_VALUES}

@@ -1,17 +1,17 @@
 use Rattle.std.proofs.Common.{sym, subst, arith}
-use Rattle.hg_wire.specs.Words.{NoByte}
-use Rattle.hg_wire.proofs.StreamLemmas.{no_byte_append, no_byte_held, parted_at, not_parted}
+use Rattle.hg_wire.specs.Bytes.{NoByte}
+use Rattle.hg_wire.proofs.StreamLemmas.{no_byte_append, no_byte_stored, parted_at, not_parted}
 use Rattle.hg_wire.proofs.SplitterLemmas.{ends_line, ends_no_line}
 use Rattle.hg_wire.proofs.splitter.Splitter.take.Goals as goal
 
 pub invariant_of-self : goal.invariant_of-self
 invariant_of-self c =
-    subst (NoByte 10) (sym c.push.ensures) (no_byte_held 10 _ (λ e. omega arith) (no_byte_append 10 _ _ c.self.invariant (not_parted c.args.piece.now c.in-None.ensures)))
+    subst (NoByte 10) (sym c.push.ensures) (no_byte_stored 10 _ (λ e. omega arith) (no_byte_append 10 _ _ c.self.invariant (not_parted c.args.piece.now c.in-None.ensures)))
 
 pub invariant_of-self-in-Some : goal.invariant_of-self-in-Some
 invariant_of-self-in-Some c =
     let parted = parted_at c.args.piece.now c.in-Some.end c.in-Some.ensures in
-    subst (NoByte 10) (sym c.push-in-Some.ensures) (no_byte_held 10 _ (λ e. omega arith) (no_byte_append 10 _ _ c.self-in-Some.invariant parted.none))
+    subst (NoByte 10) (sym c.push-in-Some.ensures) (no_byte_stored 10 _ (λ e. omega arith) (no_byte_append 10 _ _ c.self-in-Some.invariant parted.none))
 
 pub returns-in-None-clause-none : goal.returns-in-None-clause-none
 returns-in-None-clause-none c =
