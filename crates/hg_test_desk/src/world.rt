@@ -21,7 +21,7 @@ use hg_store::devices::{Caps, Devices};
 use hg_store::store::Store;
 use hg_test_kit::digits::bytes_of;
 use hg_test_kit::text::Text;
-use hg_test_kit::words::front;
+use hg_test_kit::tokens::front;
 use std::alloc::Global;
 use std::marker::Brand;
 use std::sync::ledger::Blank;
@@ -110,8 +110,8 @@ impl<A: Opening, B: Column> World<A, B> {
     }
 
     fn perform(&mut self, alloc: Global, line: &str, out: &mut Text) {
-        let (word, rest) = front(line);
-        match word {
+        let (token, rest) = front(line);
+        match token {
             "client" => {
                 self.restart(alloc);
                 out.put(b"client");

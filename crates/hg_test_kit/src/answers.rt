@@ -2,7 +2,7 @@
 
 use crate::digits::digit;
 use crate::text::Text;
-use crate::words::Halt;
+use crate::tokens::Halt;
 use hg_gate::GateFault;
 use hg_model::report::Report;
 use hg_model::verdict::Refusal;
@@ -44,7 +44,7 @@ pub fn put_refusal(refusal: Refusal, out: &mut Text) {
 /// The answer of a line that was halted, where it has no number.
 fn words_of(halt: Halt) -> &'static str {
     match halt {
-        Halt::Words => "not understood",
+        Halt::Misspelt => "not understood",
         Halt::Closed => "nothing is open",
         Halt::NotEmpty => "not empty",
         Halt::Fault(GateFault::Broken) => "broken",

@@ -1,6 +1,6 @@
 //! The four devices by name.
 
-use crate::words::Words;
+use crate::tokens::Tokens;
 
 #[derive(Clone, Copy)]
 pub enum Device {
@@ -56,14 +56,14 @@ impl Device {
 }
 
 /// The device in front.
-pub fn read_device(words: &mut Words) -> Device {
-    match words.word() {
+pub fn read_device(tokens: &mut Tokens) -> Device {
+    match tokens.token() {
         "journal" => Device::Journal,
         "slots" => Device::Slots,
         "root0" => Device::Root0,
         "root1" => Device::Root1,
         _ => {
-            words.fail();
+            tokens.fail();
             Device::Journal
         }
     }

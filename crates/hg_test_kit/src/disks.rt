@@ -4,13 +4,13 @@
 //! its own: what lets them go is one call.
 
 use crate::device::{DEVICES, Device, PerDevice};
-use crate::shelf::{Fuse, Held, Image, copy_image, disk_with};
+use crate::shelf::{Fuse, TestDisk, Image, copy_image, disk_with};
 use hg_disk::{Answer, Call, MemDisk, Tear};
 use std::alloc::{AllocError, Global};
 
 /// Four disks.
 pub struct Disks {
-    parts: PerDevice<Held>,
+    parts: PerDevice<TestDisk>,
 }
 
 impl Drop for Disks {
@@ -33,12 +33,12 @@ impl Drop for Memories {
 }
 
 /// A disk, or one without a byte, and a word that memory was refused.
-fn disk_or_none(alloc: Global, bytes: &[u8], fuse: Fuse, is_whole: &mut bool) -> Held {
+fn disk_or_none(alloc: Global, bytes: &[u8], fuse: Fuse, is_whole: &mut bool) -> TestDisk {
     match disk_with(alloc, bytes, fuse) {
         Ok(disk) => disk,
         Err(AllocError) => {
             *is_whole = false;
-            Held::once(MemDisk::new(alloc), 1)
+            TestDisk::once(MemDisk::new(alloc), 1)
         }
     }
 }
@@ -59,11 +59,11 @@ impl Disks {
     }
 
     /// These four.
-    pub fn of(parts: PerDevice<Held>) -> Disks {
+    pub fn of(parts: PerDevice<TestDisk>) -> Disks {
         Disks { parts }
     }
 
-    pub fn into_parts(self) -> PerDevice<Held> {
+    pub fn into_parts(self) -> PerDevice<TestDisk> {
         let Disks { parts } = self;
         parts
     }

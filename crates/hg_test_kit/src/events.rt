@@ -1,7 +1,7 @@
 //! Events as a line names them, one or a row of them, and as an answer does.
 
 use crate::text::Text;
-use crate::words::{Halt, Words};
+use crate::tokens::{Halt, Tokens};
 use hg_model::event::{Access, Block, Event, Named};
 use hg_wire::line::read_line;
 
@@ -17,26 +17,26 @@ struct Row {
 fn read_event(text: &str) -> Result<Event, Halt> {
     match read_line(text.as_bytes()) {
         Ok(event) => Ok(event),
-        Err(_) => Err(Halt::Words),
+        Err(_) => Err(Halt::Misspelt),
     }
 }
 
 /// `SOURCE NUMBER EVENT`, or `SOURCE FIRST to LAST EVENT`, with ` step BYTES` behind it or without
 fn read_row(text: &str) -> Result<Row, Halt> {
     let (front, step) = text.split_once(" step ").unwrap_or((text, "0"));
-    let mut steps = Words::of(step);
+    let mut steps = Tokens::of(step);
     let step = steps.number();
     steps.check()?;
-    let mut words = Words::of(front);
-    let source = words.short_number();
-    let number = words.number();
-    let last = if words.skip("to ") {
-        words.number()
+    let mut tokens = Tokens::of(front);
+    let source = tokens.short_number();
+    let number = tokens.number();
+    let last = if tokens.skip("to ") {
+        tokens.number()
     } else {
         number
     };
-    words.check()?;
-    let event = read_event(words.rest())?;
+    tokens.check()?;
+    let event = read_event(tokens.rest())?;
     let first = Named {
         source,
         number,

@@ -1,4 +1,4 @@
-//! What all trials share: text that is written piece by piece, the words of a line and what it answers, disks in memory, and the loop over
+//! What all trials share: text that is written piece by piece, the tokens of a line and what it answers, disks in memory, and the loop over
 //! the lines of scenarios.
 #![tactic(auto)]
 
@@ -13,4 +13,4 @@ pub mod sets;
 pub mod shelf;
 pub mod tears;
 pub mod text;
-pub mod words;
+pub mod tokens;

@@ -2,7 +2,7 @@
 
 use crate::answers::{put_halt, put_ok};
 use crate::text::Text;
-use crate::words::Halt;
+use crate::tokens::Halt;
 use std::alloc::Global;
 
 /// What the lines of a scenario act on.

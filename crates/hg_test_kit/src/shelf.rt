@@ -6,12 +6,12 @@ use crate::digits::bytes_of;
 use crate::disks::Disks;
 use crate::tears::tear;
 use crate::text::Text;
-use crate::words::{self, Halt, Words};
+use crate::tokens::{self, Halt, Tokens};
 use hg_disk::{FuseDisk, MemDisk, Tear};
 use std::alloc::{AllocError, Global};
 
 /// A disk of a scenario.
-pub type Held = FuseDisk<MemDisk>;
+pub type TestDisk = FuseDisk<MemDisk>;
 
 /// When a disk fails: at the call after so many, or at all calls after so many.
 #[derive(Clone, Copy)]
@@ -97,7 +97,7 @@ pub fn disk_of(alloc: Global, digits: &str) -> Option<MemDisk> {
 }
 
 /// A disk with these bytes that fails as the fuse says.
-pub fn disk_with(alloc: Global, bytes: &[u8], fuse: Fuse) -> Result<Held, AllocError> {
+pub fn disk_with(alloc: Global, bytes: &[u8], fuse: Fuse) -> Result<TestDisk, AllocError> {
     let disk = memory_with(alloc, Vec::from_slice(alloc, bytes)?)?;
     Ok(match fuse {
         Fuse::Once(after) => FuseDisk::once(disk, after.saturating_add(1)),
@@ -124,7 +124,7 @@ pub fn copy_image(disk: &MemDisk, tear: Tear, bytes: &mut Vec<u8>) -> Result<(),
 
 /// Takes a disk back: its bytes, and how many calls it had.
 fn put_back(
-    disk: Held,
+    disk: TestDisk,
     tear: Tear,
     bytes: &mut Vec<u8>,
     calls: &mut u64,
@@ -135,16 +135,16 @@ fn put_back(
 }
 
 /// All bytes, or with `from N count M` those of them.
-fn put_part(bytes: &[u8], words: &mut Words, out: &mut Text) -> Result<(), Halt> {
-    if words.rest().is_empty() {
+fn put_part(bytes: &[u8], tokens: &mut Tokens, out: &mut Text) -> Result<(), Halt> {
+    if tokens.rest().is_empty() {
         put_bytes(bytes, out);
         return Ok(());
     }
-    words.expect("from ");
-    let from = words.number() as usize;
-    words.expect("count ");
-    let count = words.number() as usize;
-    words.check()?;
+    tokens.expect("from ");
+    let from = tokens.number() as usize;
+    tokens.expect("count ");
+    let count = tokens.number() as usize;
+    tokens.check()?;
     let behind = bytes.split_at(bytes.len().min(from)).1;
     put_bytes(behind.split_at(behind.len().min(count)).0, out);
     Ok(())
@@ -169,14 +169,14 @@ impl Shelf {
     }
 
     /// A disk of its own for what is to be opened.
-    pub fn take(&mut self, alloc: Global, device: Device) -> Result<Held, AllocError> {
+    pub fn take(&mut self, alloc: Global, device: Device) -> Result<TestDisk, AllocError> {
         let fuse = *self.fuses.of(device);
         *self.fuses.of_mut(device) = NEVER;
         disk_with(alloc, self.image.parts.of(device), fuse)
     }
 
     /// Takes a disk back.
-    pub fn put(&mut self, device: Device, disk: Held) -> Result<(), AllocError> {
+    pub fn put(&mut self, device: Device, disk: TestDisk) -> Result<(), AllocError> {
         let bytes = self.image.parts.of_mut(device);
         put_back(disk, self.tear, bytes, self.calls.of_mut(device))
     }
@@ -198,38 +198,38 @@ impl Shelf {
 
     /// `DEVICE call K once`, or `.. on`
     pub fn fail(&mut self, text: &str) -> Result<(), Halt> {
-        let mut words = Words::of(text);
-        let device = read_device(&mut words);
-        words.expect("call ");
-        let before = words.number().saturating_sub(1);
-        let fuse = match words.rest() {
+        let mut tokens = Tokens::of(text);
+        let device = read_device(&mut tokens);
+        tokens.expect("call ");
+        let before = tokens.number().saturating_sub(1);
+        let fuse = match tokens.rest() {
             "once" => Fuse::Once(before),
             "on" => Fuse::On(before),
-            _ => return Err(Halt::Words),
+            _ => return Err(Halt::Misspelt),
         };
-        words.check()?;
+        tokens.check()?;
         *self.fuses.of_mut(device) = fuse;
         Ok(())
     }
 
     /// `DEVICE BYTES`
     pub fn set(&mut self, text: &str) -> Result<(), Halt> {
-        let mut words = Words::of(text);
-        let device = read_device(&mut words);
-        words.check()?;
+        let mut tokens = Tokens::of(text);
+        let device = read_device(&mut tokens);
+        tokens.check()?;
         let bytes = self.image.parts.of_mut(device);
         bytes.clear();
-        words::put_bytes(words.rest(), bytes)
+        tokens::put_bytes(tokens.rest(), bytes)
     }
 
     /// What a device that is closed has, or had: its bytes, how many, or how many calls.
-    pub fn tell(&self, word: &str, rest: &str, out: &mut Text) -> Result<(), Halt> {
-        let mut words = Words::of(rest);
-        let device = read_device(&mut words);
-        words.check()?;
+    pub fn tell(&self, token: &str, rest: &str, out: &mut Text) -> Result<(), Halt> {
+        let mut tokens = Tokens::of(rest);
+        let device = read_device(&mut tokens);
+        tokens.check()?;
         let bytes = self.image.parts.of(device);
-        match word {
-            "bytes" => return put_part(bytes, &mut words, out),
+        match token {
+            "bytes" => return put_part(bytes, &mut tokens, out),
             "length" => out.put_decimal(bytes.len() as u64),
             _ => out.put_decimal(*self.calls.of(device)),
         }
@@ -238,9 +238,9 @@ impl Shelf {
 
     /// Has each disk that is put back be torn as is told, until it is told otherwise.
     pub fn tear_by(&mut self, text: &str) -> Result<(), Halt> {
-        let mut words = Words::of(text);
-        let tear = tear(&mut words);
-        words.check()?;
+        let mut tokens = Tokens::of(text);
+        let tear = tear(&mut tokens);
+        tokens.check()?;
         self.tear = tear;
         Ok(())
     }

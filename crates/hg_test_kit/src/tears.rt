@@ -2,7 +2,7 @@
 
 use crate::answers::put_byte;
 use crate::text::Text;
-use crate::words::{Halt, Words};
+use crate::tokens::{Halt, Tokens};
 use hg_disk::Tear;
 use std::alloc::Global;
 
@@ -14,70 +14,70 @@ pub enum Tears {
     Fronts(usize),
 }
 
-fn fronts(words: &mut Words) -> Tears {
-    if words.skip("*") {
+fn fronts(tokens: &mut Tokens) -> Tears {
+    if tokens.skip("*") {
         return Tears::Fronts(1);
     }
-    if words.skip("every ") {
-        let step = words.number() as usize;
+    if tokens.skip("every ") {
+        let step = tokens.number() as usize;
         if step == 0 {
-            words.fail();
+            tokens.fail();
         }
         return Tears::Fronts(step);
     }
-    Tears::One(Tear::Front(words.number() as usize))
+    Tears::One(Tear::Front(tokens.number() as usize))
 }
 
 /// The tears in front: `lost`, `kept`, `fill HH`, `front N`; `front *` is each front, `front every N` those that have a multiple of
 /// N bytes.
-fn next_tears(words: &mut Words) -> Tears {
-    match words.word() {
+fn next_tears(tokens: &mut Tokens) -> Tears {
+    match tokens.token() {
         "lost" => Tears::One(Tear::Lost),
         "kept" => Tears::One(Tear::Kept),
-        "fill" => Tears::One(Tear::Fill(words.byte())),
-        "front" => fronts(words),
+        "fill" => Tears::One(Tear::Fill(tokens.byte())),
+        "front" => fronts(tokens),
         _ => {
-            words.fail();
+            tokens.fail();
             Tears::One(Tear::Lost)
         }
     }
 }
 
 /// The tear in front, which has to be one.
-pub fn tear(words: &mut Words) -> Tear {
-    match next_tears(words) {
+pub fn tear(tokens: &mut Tokens) -> Tear {
+    match next_tears(tokens) {
         Tears::One(tear) => tear,
         Tears::Fronts(_) => {
-            words.fail();
+            tokens.fail();
             Tear::Lost
         }
     }
 }
 
-/// The tears that words name.
+/// The tears that tokens name.
 pub fn tears_of(alloc: Global, text: &str) -> Result<Vec<Tears>, Halt> {
     let mut found = Vec::new(alloc);
-    let mut words = Words::of(text);
+    let mut tokens = Tokens::of(text);
     for _ in 0..text.len() {
-        if words.rest().is_empty() {
+        if tokens.rest().is_empty() {
             break;
         }
-        found.push(next_tears(&mut words))?;
+        found.push(next_tears(&mut tokens))?;
     }
-    words.check()?;
+    tokens.check()?;
     Ok(found)
 }
 
-/// The tear that a word names: `lost`, `kept`, `front` or `fill`, the last two with a decimal number.
-pub fn tear_of(word: &str) -> Option<Tear> {
-    match word {
+/// The tear that a token names: `lost`, `kept`, `front` or `fill`, the last two with a decimal number.
+pub fn tear_of(token: &str) -> Option<Tear> {
+    match token {
         "lost" => return Some(Tear::Lost),
         "kept" => return Some(Tear::Kept),
         _ => {}
     }
-    match word.strip_prefix("front") {
+    match token.strip_prefix("front") {
         Some(count) => Some(Tear::Front(count.parse::<usize>().ok()?)),
-        None => Some(Tear::Fill(word.strip_prefix("fill")?.parse::<u8>().ok()?)),
+        None => Some(Tear::Fill(token.strip_prefix("fill")?.parse::<u8>().ok()?)),
     }
 }
 

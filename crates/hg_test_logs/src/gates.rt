@@ -3,26 +3,26 @@
 use hg_gate::Gated;
 use hg_test_kit::answers::put_bytes;
 use hg_test_kit::device::Device;
-use hg_test_kit::shelf::{Held, Shelf};
+use hg_test_kit::shelf::{TestDisk, Shelf};
 use hg_test_kit::text::Text;
-use hg_test_kit::words::{self, Halt, front};
+use hg_test_kit::tokens::{self, Halt, front};
 use std::alloc::{AllocError, Global};
 
 /// A gated file, if one is open.
 #[derive(Drop)]
 pub struct GateBench {
-    opened: Option<Gated<Held>>,
+    opened: Option<Gated<TestDisk>>,
 }
 
 /// Has the file have other bytes behind its gate.
-fn write(alloc: Global, file: &mut Gated<Held>, rest: &str) -> Result<(), Halt> {
+fn write(alloc: Global, file: &mut Gated<TestDisk>, rest: &str) -> Result<(), Halt> {
     let mut body = Vec::new(alloc);
-    words::put_bytes(rest, &mut body)?;
+    tokens::put_bytes(rest, &mut body)?;
     Ok(file.write_body(&body)?)
 }
 
 /// The body, or `closed`.
-fn put_body(alloc: Global, file: &mut Gated<Held>, out: &mut Text) -> Result<(), Halt> {
+fn put_body(alloc: Global, file: &mut Gated<TestDisk>, out: &mut Text) -> Result<(), Halt> {
     match file.read(alloc)? {
         Some(body) => put_bytes(&body, out),
         None => out.put(b"closed"),
@@ -35,7 +35,7 @@ impl GateBench {
         GateBench { opened: None }
     }
 
-    fn put_opened(&mut self, opened: Option<Gated<Held>>) {
+    fn put_opened(&mut self, opened: Option<Gated<TestDisk>>) {
         self.opened = opened;
     }
 
@@ -59,16 +59,16 @@ impl GateBench {
     }
 
     /// Does what a line asks of the open file.
-    fn work(&mut self, alloc: Global, word: &str, rest: &str, out: &mut Text) -> Result<(), Halt> {
+    fn work(&mut self, alloc: Global, token: &str, rest: &str, out: &mut Text) -> Result<(), Halt> {
         let Some(file) = &mut self.opened else {
             return Err(Halt::Closed);
         };
-        match word {
+        match token {
             "close" => Ok(file.close()?),
             "write" => write(alloc, file, rest),
             "open" => Ok(file.open_gate()?),
             "read" => put_body(alloc, file, out),
-            _ => Err(Halt::Words),
+            _ => Err(Halt::Misspelt),
         }
     }
 
@@ -80,10 +80,10 @@ impl GateBench {
         text: &str,
         out: &mut Text,
     ) -> Result<(), Halt> {
-        let (word, rest) = front(text);
-        match word {
+        let (token, rest) = front(text);
+        match token {
             "attach" => Ok(self.attach(alloc, shelf)?),
-            _ => self.work(alloc, word, rest, out),
+            _ => self.work(alloc, token, rest, out),
         }
     }
 }

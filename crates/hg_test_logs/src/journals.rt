@@ -5,22 +5,22 @@ use hg_journal::journal::{Journal, JournalReader, MAX_BATCH_EVENTS};
 use hg_model::event::Named;
 use hg_test_kit::device::Device;
 use hg_test_kit::events::{put_events, put_named};
-use hg_test_kit::shelf::{Held, Shelf};
+use hg_test_kit::shelf::{TestDisk, Shelf};
 use hg_test_kit::text::Text;
-use hg_test_kit::words::{Halt, front};
+use hg_test_kit::tokens::{Halt, front};
 use std::alloc::{AllocError, Global};
 
 /// A journal, if one is open, the reader of its events, and the events that are to be appended to it at once.
 #[derive(Drop)]
 pub struct JournalBench {
-    opened: Option<Journal<Held>>,
+    opened: Option<Journal<TestDisk>>,
     reader: Option<JournalReader>,
     batch: Vec<Named>,
 }
 
 /// The event that is next, or `end`.
 fn put_next(
-    journal: &mut Journal<Held>,
+    journal: &mut Journal<TestDisk>,
     reader: &mut Option<JournalReader>,
     out: &mut Text,
 ) -> Result<(), Halt> {
@@ -35,7 +35,7 @@ fn put_next(
 }
 
 /// Appends events at once.
-fn append(journal: &mut Journal<Held>, batch: &[Named], out: &mut Text) -> Result<(), Halt> {
+fn append(journal: &mut Journal<TestDisk>, batch: &[Named], out: &mut Text) -> Result<(), Halt> {
     if batch.is_empty() || batch.len() > MAX_BATCH_EVENTS {
         out.put(b"no batch");
         return Ok(());
@@ -44,7 +44,7 @@ fn append(journal: &mut Journal<Held>, batch: &[Named], out: &mut Text) -> Resul
 }
 
 /// Makes a journal on a disk without a byte, or attaches one. A refusal hands the disk back.
-fn open(alloc: Global, disk: Held, is_new: bool) -> Result<Journal<Held>, (Halt, Held)> {
+fn open(alloc: Global, disk: TestDisk, is_new: bool) -> Result<Journal<TestDisk>, (Halt, TestDisk)> {
     let opened = if is_new {
         if disk.len() > 0 {
             return Err((Halt::NotEmpty, disk));
@@ -69,7 +69,7 @@ impl JournalBench {
     }
 
     /// Has this journal, or none.
-    fn put_opened(&mut self, opened: Option<Journal<Held>>) {
+    fn put_opened(&mut self, opened: Option<Journal<TestDisk>>) {
         self.opened = opened;
         self.reader = None;
     }
@@ -103,11 +103,11 @@ impl JournalBench {
     }
 
     /// Does what a line asks of the open journal.
-    fn work(&mut self, word: &str, out: &mut Text) -> Result<(), Halt> {
+    fn work(&mut self, token: &str, out: &mut Text) -> Result<(), Halt> {
         let Some(journal) = &mut self.opened else {
             return Err(Halt::Closed);
         };
-        match word {
+        match token {
             "append" => {
                 let appended = append(journal, &self.batch, out);
                 self.batch.clear();
@@ -118,7 +118,7 @@ impl JournalBench {
                 Ok(())
             }
             "next" => put_next(journal, &mut self.reader, out),
-            _ => Err(Halt::Words),
+            _ => Err(Halt::Misspelt),
         }
     }
 
@@ -130,12 +130,12 @@ impl JournalBench {
         text: &str,
         out: &mut Text,
     ) -> Result<(), Halt> {
-        let (word, rest) = front(text);
-        match word {
+        let (token, rest) = front(text);
+        match token {
             "create" => self.open(alloc, shelf, true),
             "attach" => self.open(alloc, shelf, false),
             "event" => put_events(rest, &mut self.batch),
-            _ => self.work(word, out),
+            _ => self.work(token, out),
         }
     }
 }

@@ -12,7 +12,7 @@ use hg_disk::Tear;
 use hg_test_kit::run::{World, run_scenarios};
 use hg_test_kit::shelf::Shelf;
 use hg_test_kit::text::Text;
-use hg_test_kit::words::{Halt, front};
+use hg_test_kit::tokens::{Halt, front};
 use std::alloc::{AllocError, Global};
 
 /// What there is in a scenario.
@@ -55,19 +55,19 @@ impl Files {
 
 impl World for Files {
     fn perform(&mut self, order: &str, out: &mut Text) -> Result<(), Halt> {
-        let (word, rest) = front(order);
+        let (token, rest) = front(order);
         let alloc = self.alloc;
         let shelf = &mut self.shelf;
-        match word {
+        match token {
             "close" => Ok(self.close()?),
             "crash" => self.crash(rest),
             "disk" => shelf.set(rest),
             "fail" => shelf.fail(rest),
-            "bytes" | "length" | "calls" => shelf.tell(word, rest, out),
+            "bytes" | "length" | "calls" => shelf.tell(token, rest, out),
             "log" => self.log.perform(alloc, shelf, rest, out),
             "journal" => self.journal.perform(alloc, shelf, rest, out),
             "gated" => self.gated.perform(alloc, shelf, rest, out),
-            _ => Err(Halt::Words),
+            _ => Err(Halt::Misspelt),
         }
     }
 

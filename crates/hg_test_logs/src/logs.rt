@@ -4,15 +4,15 @@ use hg_disk::Disk;
 use hg_gate::{Batch, Log, LogPlace};
 use hg_test_kit::answers::put_bytes;
 use hg_test_kit::device::Device;
-use hg_test_kit::shelf::{Held, Shelf};
+use hg_test_kit::shelf::{TestDisk, Shelf};
 use hg_test_kit::text::Text;
-use hg_test_kit::words::{self, Halt, front};
+use hg_test_kit::tokens::{self, Halt, front};
 use std::alloc::{AllocError, Global};
 
 /// A log, if one is open, and where the batch stands that is read next.
 #[derive(Drop)]
 pub struct LogBench {
-    opened: Option<Log<Held>>,
+    opened: Option<Log<TestDisk>>,
     place: Option<LogPlace>,
 }
 
@@ -28,7 +28,7 @@ fn put_batch(batch: &Batch, out: &mut Text) {
 }
 
 /// Appends all batches of a log, or `none`.
-fn put_batches(log: &mut Log<Held>, out: &mut Text) -> Result<(), Halt> {
+fn put_batches(log: &mut Log<TestDisk>, out: &mut Text) -> Result<(), Halt> {
     let mut place = log.first_place()?;
     for _ in 0..MOST_BATCHES {
         match log.next_batch(&mut place)? {
@@ -50,9 +50,9 @@ fn put_none(out: &mut Text) {
 }
 
 /// Appends bytes as a batch.
-fn append(alloc: Global, log: &mut Log<Held>, rest: &str, out: &mut Text) -> Result<(), Halt> {
+fn append(alloc: Global, log: &mut Log<TestDisk>, rest: &str, out: &mut Text) -> Result<(), Halt> {
     let mut body = Vec::new(alloc);
-    words::put_bytes(rest, &mut body)?;
+    tokens::put_bytes(rest, &mut body)?;
     match Batch::new(body) {
         Ok(batch) => Ok(log.append(&batch)?),
         Err(_) => {
@@ -63,7 +63,7 @@ fn append(alloc: Global, log: &mut Log<Held>, rest: &str, out: &mut Text) -> Res
 }
 
 /// Appends the batch that is next, or `end`.
-fn put_next(log: &mut Log<Held>, place: &mut Option<LogPlace>, out: &mut Text) -> Result<(), Halt> {
+fn put_next(log: &mut Log<TestDisk>, place: &mut Option<LogPlace>, out: &mut Text) -> Result<(), Halt> {
     let Some(place) = place else {
         return Err(Halt::Closed);
     };
@@ -75,7 +75,7 @@ fn put_next(log: &mut Log<Held>, place: &mut Option<LogPlace>, out: &mut Text) -
 }
 
 /// Makes a log on a disk without a byte, or attaches one. A refusal hands the disk back.
-fn open(alloc: Global, disk: Held, is_new: bool) -> Result<Log<Held>, (Halt, Held)> {
+fn open(alloc: Global, disk: TestDisk, is_new: bool) -> Result<Log<TestDisk>, (Halt, TestDisk)> {
     let opened = if is_new {
         if disk.len() > 0 {
             return Err((Halt::NotEmpty, disk));
@@ -99,7 +99,7 @@ impl LogBench {
     }
 
     /// Has this log, or none.
-    fn put_opened(&mut self, opened: Option<Log<Held>>) {
+    fn put_opened(&mut self, opened: Option<Log<TestDisk>>) {
         self.opened = opened;
         self.place = None;
     }
@@ -132,11 +132,11 @@ impl LogBench {
     }
 
     /// Does what a line asks of the open log.
-    fn work(&mut self, alloc: Global, word: &str, rest: &str, out: &mut Text) -> Result<(), Halt> {
+    fn work(&mut self, alloc: Global, token: &str, rest: &str, out: &mut Text) -> Result<(), Halt> {
         let Some(log) = &mut self.opened else {
             return Err(Halt::Closed);
         };
-        match word {
+        match token {
             "append" => append(alloc, log, rest, out),
             "first" => {
                 self.place = Some(log.first_place()?);
@@ -144,7 +144,7 @@ impl LogBench {
             }
             "next" => put_next(log, &mut self.place, out),
             "all" => put_batches(log, out),
-            _ => Err(Halt::Words),
+            _ => Err(Halt::Misspelt),
         }
     }
 
@@ -156,11 +156,11 @@ impl LogBench {
         text: &str,
         out: &mut Text,
     ) -> Result<(), Halt> {
-        let (word, rest) = front(text);
-        match word {
+        let (token, rest) = front(text);
+        match token {
             "create" => self.open(alloc, shelf, true),
             "attach" => self.open(alloc, shelf, false),
-            _ => self.work(alloc, word, rest, out),
+            _ => self.work(alloc, token, rest, out),
         }
     }
 }

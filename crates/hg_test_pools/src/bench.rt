@@ -7,7 +7,7 @@ use hg_sets::{MOST_SETS, SetTable};
 use hg_test_kit::sets::sets_of;
 use hg_test_kit::tears::tear_of;
 use hg_test_kit::text::Text;
-use hg_test_kit::words::front;
+use hg_test_kit::tokens::front;
 use std::alloc::Global;
 
 /// The pool under trial, what its cells are checked against, and the disk of the last pool.
@@ -63,8 +63,8 @@ impl PoolBench {
     }
 
     // `known SEGMENTS SETS`: what cells are checked against from here on.
-    fn set_known(&mut self, words: &str) -> Option<()> {
-        let (segments, sets) = front(words);
+    fn set_known(&mut self, tokens: &str) -> Option<()> {
+        let (segments, sets) = front(tokens);
         let segments = segments.parse::<u32>().ok()?;
         self.known = Known {
             segments,
@@ -74,8 +74,8 @@ impl PoolBench {
     }
 
     // `new ..`: a pool in place of the one under trial.
-    fn begin(&mut self, words: &str) -> Option<()> {
-        let pool = pool_of(self.alloc, words)?;
+    fn begin(&mut self, tokens: &str) -> Option<()> {
+        let pool = pool_of(self.alloc, tokens)?;
         self.trial = Some(Trial::new(self.alloc, pool));
         Some(())
     }
@@ -91,8 +91,8 @@ impl PoolBench {
     }
 
     // `image K TEAR`: what a crash with this tear leaves of the last pool's disk after its first K calls.
-    fn put_image(&self, words: &str, out: &mut Text) -> Option<()> {
-        let (calls, tear) = front(words);
+    fn put_image(&self, tokens: &str, out: &mut Text) -> Option<()> {
+        let (calls, tear) = front(tokens);
         let calls = calls.parse::<usize>().ok()?;
         let tear = tear_of(tear)?;
         if calls > self.disk.calls().len() {
@@ -105,8 +105,8 @@ impl PoolBench {
     }
 
     fn act(&mut self, line: &str, out: &mut Text) -> Option<()> {
-        let (word, rest) = front(line);
-        match word {
+        let (token, rest) = front(line);
+        match token {
             "known" => self.set_known(rest),
             "new" => self.begin(rest),
             "end" => self.end(out),

@@ -7,14 +7,14 @@ use crate::disk::{Failures, TrialDisk};
 use hg_pages::{MOST_PAGES, MOST_SLOTS, SlotFile, Table};
 use hg_pool::Pool;
 use hg_test_kit::shelf::disk_of;
-use hg_test_kit::words::front;
+use hg_test_kit::tokens::front;
 use std::alloc::Global;
 
 /// The number of a page.
-pub fn page_of(word: &str) -> Option<u64>
+pub fn page_of(token: &str) -> Option<u64>
     ensures { IfSome result (λ page. page < 2 ^ 54) }
 {
-    let page = word.parse::<u64>().ok()?;
+    let page = token.parse::<u64>().ok()?;
     if page < MOST_PAGES { Some(page) } else { None }
 }
 
@@ -30,9 +30,9 @@ fn is_below(table: &Table, slots: u32) -> bool
     true
 }
 
-// Gives a page the slot that a word like `4:2` names, where no page has the slot.
-fn add_entry(table: &mut Table, word: &str) -> Option<()> {
-    let (page, slot) = word.split_once(':')?;
+// Gives a page the slot that a token like `4:2` names, where no page has the slot.
+fn add_entry(table: &mut Table, token: &str) -> Option<()> {
+    let (page, slot) = token.split_once(':')?;
     let page = page_of(page)?;
     let slot = slot.parse::<u32>().ok()?;
     if table.names(slot) || slot >= MOST_SLOTS {
@@ -41,37 +41,37 @@ fn add_entry(table: &mut Table, word: &str) -> Option<()> {
     table.set(page, slot).ok()
 }
 
-/// The table that words with commas between name, or an empty one for `-`.
-fn table_of(alloc: Global, words: &str) -> Option<Table> {
+/// The table that tokens with commas between name, or an empty one for `-`.
+fn table_of(alloc: Global, tokens: &str) -> Option<Table> {
     let mut table = Table::new(alloc);
-    if words != "-" {
-        for word in words.split(',') {
-            add_entry(&mut table, word)?;
+    if tokens != "-" {
+        for token in tokens.split(',') {
+            add_entry(&mut table, token)?;
         }
     }
     Some(table)
 }
 
 /// The calls that a list with commas says, or none for `-`. A number with `..` behind it stands for all calls from it on.
-fn failures_of(alloc: Global, words: &str) -> Option<Failures> {
+fn failures_of(alloc: Global, tokens: &str) -> Option<Failures> {
     let mut failures = Failures {
         each: Vec::new(alloc),
         from: u64::MAX,
     };
-    if words != "-" {
-        for word in words.split(',') {
-            match word.strip_suffix("..") {
+    if tokens != "-" {
+        for token in tokens.split(',') {
+            match token.strip_suffix("..") {
                 Some(from) => failures.from = from.parse::<u64>().ok()?,
-                None => failures.each.push(word.parse::<u64>().ok()?).ok()?,
+                None => failures.each.push(token.parse::<u64>().ok()?).ok()?,
             }
         }
     }
     Some(failures)
 }
 
-// A disk that fails as words say, which begin with the failures; and the table behind them.
-fn parts_of(alloc: Global, words: &str) -> Option<(TrialDisk, Table)> {
-    let (failures, rest) = front(words);
+// A disk that fails as tokens say, which begin with the failures; and the table behind them.
+fn parts_of(alloc: Global, tokens: &str) -> Option<(TrialDisk, Table)> {
+    let (failures, rest) = front(tokens);
     let (table, digits) = front(rest);
     let table = table_of(alloc, table)?;
     let failures = failures_of(alloc, failures)?;
@@ -80,8 +80,8 @@ fn parts_of(alloc: Global, words: &str) -> Option<(TrialDisk, Table)> {
 }
 
 /// The pool that a line says: frames, slots, the calls that fail, the table of the root, and the bytes of the disk.
-pub fn pool_of(alloc: Global, words: &str) -> Option<Pool<TrialDisk>> {
-    let (frames, rest) = front(words);
+pub fn pool_of(alloc: Global, tokens: &str) -> Option<Pool<TrialDisk>> {
+    let (frames, rest) = front(tokens);
     let (slots, rest) = front(rest);
     let frames = frames.parse::<usize>().ok()?;
     let slots = slots.parse::<u32>().ok()?;

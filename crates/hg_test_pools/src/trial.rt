@@ -13,7 +13,7 @@ use hg_pool::{Pool, Put};
 use hg_sets::SetTable;
 use hg_test_kit::cells::{put_cell, put_page};
 use hg_test_kit::text::Text;
-use hg_test_kit::words::front;
+use hg_test_kit::tokens::front;
 use std::alloc::Global;
 
 /// What cells are checked against when they are read.
@@ -137,8 +137,8 @@ impl Trial {
     }
 
     // `update P FROM TO CELL`: loads the page, keeps its frozen cells, and gives words of it a cell.
-    fn update(&mut self, known: &Known, words: &str, out: &mut Text) -> Option<()> {
-        let (page, rest) = front(words);
+    fn update(&mut self, known: &Known, tokens: &str, out: &mut Text) -> Option<()> {
+        let (page, rest) = front(tokens);
         let (from, rest) = front(rest);
         let (to, cell) = front(rest);
         let page = page_of(page)?;
@@ -152,14 +152,14 @@ impl Trial {
         Some(())
     }
 
-    fn load(&mut self, known: &Known, words: &str, out: &mut Text) -> Option<()> {
-        let page = page_of(words)?;
+    fn load(&mut self, known: &Known, tokens: &str, out: &mut Text) -> Option<()> {
+        let page = page_of(tokens)?;
         put_answer(self.pool.load(page, known.segments, &known.sets), out);
         Some(())
     }
 
-    fn keep(&mut self, words: &str, out: &mut Text) -> Option<()> {
-        let page = page_of(words)?;
+    fn keep(&mut self, tokens: &str, out: &mut Text) -> Option<()> {
+        let page = page_of(tokens)?;
         put_answer(self.pool.keep(page), out);
         Some(())
     }
@@ -176,8 +176,8 @@ impl Trial {
     }
 
     // `cells P`: loads the page and tells the cells that it has live.
-    fn cells(&mut self, known: &Known, words: &str, out: &mut Text) -> Option<()> {
-        let page = page_of(words)?;
+    fn cells(&mut self, known: &Known, tokens: &str, out: &mut Text) -> Option<()> {
+        let page = page_of(tokens)?;
         if let Err(refusal) = self.put_live_page(known, page, out) {
             put_refusal(refusal, out);
         }
@@ -204,15 +204,15 @@ impl Trial {
     }
 
     // `put N`: hands in the job of this number.
-    fn put(&mut self, words: &str, out: &mut Text) -> Option<()> {
-        let page = self.jobs.get(words.parse::<usize>().ok()?)?;
+    fn put(&mut self, tokens: &str, out: &mut Text) -> Option<()> {
+        let page = self.jobs.get(tokens.parse::<usize>().ok()?)?;
         put_taken(self.pool.put(page), out);
         Some(())
     }
 
     // `changed N AT VALUE`: hands in the job of this number with another byte in its slot.
-    fn put_changed(&mut self, alloc: Global, words: &str, out: &mut Text) -> Option<()> {
-        let (number, rest) = front(words);
+    fn put_changed(&mut self, alloc: Global, tokens: &str, out: &mut Text) -> Option<()> {
+        let (number, rest) = front(tokens);
         let (at, value) = front(rest);
         let at = at.parse::<usize>().ok()?;
         let value = value.parse::<u8>().ok()?;
@@ -223,8 +223,8 @@ impl Trial {
     }
 
     // `renamed N P`: hands in the bytes of the job of this number as another page.
-    fn put_renamed(&mut self, alloc: Global, words: &str, out: &mut Text) -> Option<()> {
-        let (number, page) = front(words);
+    fn put_renamed(&mut self, alloc: Global, tokens: &str, out: &mut Text) -> Option<()> {
+        let (number, page) = front(tokens);
         let number = number.parse::<usize>().ok()?;
         let page = renamed(alloc, self.jobs.get(number)?, page.parse::<u64>().ok()?)?;
         put_taken(self.pool.put(&page), out);
@@ -265,8 +265,8 @@ impl Trial {
     }
 
     fn act(&mut self, alloc: Global, known: &Known, line: &str, out: &mut Text) -> Option<()> {
-        let (word, rest) = front(line);
-        match word {
+        let (token, rest) = front(line);
+        match token {
             "load" => self.load(known, rest, out)?,
             "keep" => self.keep(rest, out)?,
             "update" => self.update(known, rest, out)?,

@@ -5,7 +5,7 @@ use hg_disk::{Disk, DiskFault, FileDisk, MemDisk, Tear};
 use hg_test_kit::digits::bytes_of;
 use hg_test_kit::shelf::disk_of;
 use hg_test_kit::text::Text;
-use hg_test_kit::words::front;
+use hg_test_kit::tokens::front;
 use std::alloc::Global;
 use std::fs::OpenOptions;
 use std::io;
@@ -19,9 +19,9 @@ fn put_answer(answer: Result<(), DiskFault>, out: &mut Text) {
     }
 }
 
-/// A number. A word that is none stands for the greatest, where no disk has a byte.
-fn number(word: &str) -> u64 {
-    word.parse::<u64>().unwrap_or(u64::MAX)
+/// A number. A token that is none stands for the greatest, where no disk has a byte.
+fn number(token: &str) -> u64 {
+    token.parse::<u64>().unwrap_or(u64::MAX)
 }
 
 /// Writes the bytes that digits spell.
@@ -63,9 +63,9 @@ fn cut<D: Disk>(disk: &mut D, to: u64, out: &mut Text) {
     }
 }
 
-/// Makes the call that a word names, `VERB:AT:REST`.
-fn make<D: Disk>(alloc: Global, disk: &mut D, word: &str, out: &mut Text) {
-    let (verb, rest) = word.split_once(':').unwrap_or((word, ""));
+/// Makes the call that a token names, `VERB:AT:REST`.
+fn make<D: Disk>(alloc: Global, disk: &mut D, token: &str, out: &mut Text) {
+    let (verb, rest) = token.split_once(':').unwrap_or((token, ""));
     let (at, rest) = rest.split_once(':').unwrap_or((rest, ""));
     match verb {
         "write" => write(alloc, disk, number(at), rest, out),
@@ -76,10 +76,10 @@ fn make<D: Disk>(alloc: Global, disk: &mut D, word: &str, out: &mut Text) {
     }
 }
 
-/// Makes the calls that words name, and tells what each is answered.
-fn make_all<D: Disk>(alloc: Global, disk: &mut D, words: &str, out: &mut Text) {
-    for word in words.split(' ') {
-        make(alloc, disk, word, out);
+/// Makes the calls that tokens name, and tells what each is answered.
+fn make_all<D: Disk>(alloc: Global, disk: &mut D, tokens: &str, out: &mut Text) {
+    for token in tokens.split(' ') {
+        make(alloc, disk, token, out);
     }
 }
 
@@ -112,19 +112,19 @@ fn put_left(alloc: Global, disk: &MemDisk, tears: &str, out: &mut Text) {
 }
 
 /// Makes calls on a disk in memory with these bytes, none for `-`. At `fail` the call behind it fails.
-pub fn tell_disk(alloc: Global, words: &str, out: &mut Text) {
-    let (digits, rest) = front(words);
+pub fn tell_disk(alloc: Global, tokens: &str, out: &mut Text) {
+    let (digits, rest) = front(tokens);
     let (tears, calls) = front(rest);
     out.put(b"disk");
     let Some(mut disk) = disk_of(alloc, if digits == "-" { "" } else { digits }) else {
         out.put(b" not understood");
         return;
     };
-    for word in calls.split(' ') {
-        if word == "fail" {
+    for token in calls.split(' ') {
+        if token == "fail" {
             disk.fail_next();
         } else {
-            make(alloc, &mut disk, word, out);
+            make(alloc, &mut disk, token, out);
         }
     }
     put_left(alloc, &disk, tears, out);
@@ -143,8 +143,8 @@ fn open_file(rt: &HostRuntime, path: &str) -> io::Result<FileDisk> {
 }
 
 /// Makes calls on the file of that name, and tells how long it is then. The name `-` is that of no file.
-pub fn tell_file_disk(rt: &HostRuntime, words: &str, out: &mut Text) {
-    let (path, calls) = front(words);
+pub fn tell_file_disk(rt: &HostRuntime, tokens: &str, out: &mut Text) {
+    let (path, calls) = front(tokens);
     out.put(b"file");
     if path == "-" {
         make_calls(rt.alloc(), FileDisk::missing(), calls, out);

@@ -16,13 +16,13 @@ use crate::roots::{tell_file, tell_newest, tell_root};
 use crate::slots::tell_slot;
 use crate::stops::{tell_pair, tell_slots, tell_stopped};
 use hg_test_kit::text::Text;
-use hg_test_kit::words::front;
+use hg_test_kit::tokens::front;
 
 /// Answers one line.
 fn answer(rt: &HostRuntime, line: &str, out: &mut Text) {
     let alloc = rt.alloc();
-    let (word, rest) = front(line);
-    match word {
+    let (token, rest) = front(line);
+    match token {
         "root" => tell_root(alloc, rest, out),
         "again" => tell_again(alloc, rest, out),
         "file" => tell_file(alloc, rest, out),

@@ -1,4 +1,4 @@
-//! Page slots, read and told in words.
+//! Page slots, read and told in tokens.
 
 ghost use Rattle.std.specs.Prelude.{◌≡◌, length};
 
@@ -9,7 +9,7 @@ use hg_test_kit::cells::{CellWords, put_page};
 use hg_test_kit::digits::bytes_of;
 use hg_test_kit::sets::sets_of;
 use hg_test_kit::text::Text;
-use hg_test_kit::words::front;
+use hg_test_kit::tokens::front;
 use std::alloc::Global;
 
 /// How cells are told.
@@ -65,8 +65,8 @@ impl Drop for SlotLine {
     }
 }
 
-fn parse_line(alloc: Global, words: &str) -> Option<SlotLine> {
-    let (page, rest) = front(words);
+fn parse_line(alloc: Global, tokens: &str) -> Option<SlotLine> {
+    let (page, rest) = front(tokens);
     let (segments, rest) = front(rest);
     let (sets, digits) = front(rest);
     let page = page.parse::<u64>().ok()?;
@@ -82,8 +82,8 @@ fn parse_line(alloc: Global, words: &str) -> Option<SlotLine> {
 }
 
 /// Tells the cells of a slot.
-pub fn tell_slot(alloc: Global, words: &str, out: &mut Text) {
-    let Some(it) = parse_line(alloc, words) else {
+pub fn tell_slot(alloc: Global, tokens: &str, out: &mut Text) {
+    let Some(it) = parse_line(alloc, tokens) else {
         out.put(b"no slot");
         return;
     };

@@ -9,14 +9,14 @@ use hg_root::{RootFault, RootPair};
 use hg_test_kit::digits::bytes_of;
 use hg_test_kit::tears::tear_of;
 use hg_test_kit::text::Text;
-use hg_test_kit::words::front;
+use hg_test_kit::tokens::front;
 use std::alloc::Global;
 
 /// The tears that stand with commas between.
-pub fn tears_of(alloc: Global, words: &str) -> Option<Vec<Tear>> {
+pub fn tears_of(alloc: Global, tokens: &str) -> Option<Vec<Tear>> {
     let mut tears = Vec::new(alloc);
-    for word in words.split(',') {
-        tears.push(tear_of(word)?).ok()?;
+    for token in tokens.split(',') {
+        tears.push(tear_of(token)?).ok()?;
     }
     Some(tears)
 }
@@ -42,9 +42,9 @@ fn put_slot_answer(answer: Result<(), WriteFault>, out: &mut Text) {
     }
 }
 
-/// Writes to a slot what a word like `2:00ff` says.
-fn write_slot(alloc: Global, file: &mut SlotFile<MemDisk>, word: &str, out: &mut Text) {
-    let Some((slot, digits)) = word.split_once(':') else {
+/// Writes to a slot what a token like `2:00ff` says.
+fn write_slot(alloc: Global, file: &mut SlotFile<MemDisk>, token: &str, out: &mut Text) {
+    let Some((slot, digits)) = token.split_once(':') else {
         return;
     };
     let Ok(slot) = slot.parse::<u32>() else {
@@ -59,11 +59,11 @@ fn write_slot(alloc: Global, file: &mut SlotFile<MemDisk>, word: &str, out: &mut
     }
 }
 
-/// Does what a word says: `seal`, or a write. Behind a `!` its device call fails.
-fn perform(alloc: Global, disk: MemDisk, word: &str, out: &mut Text) -> MemDisk {
+/// Does what a token says: `seal`, or a write. Behind a `!` its device call fails.
+fn perform(alloc: Global, disk: MemDisk, token: &str, out: &mut Text) -> MemDisk {
     let mut disk = disk;
-    let mut rest = word;
-    if let Some(behind) = word.strip_prefix("!") {
+    let mut rest = token;
+    if let Some(behind) = token.strip_prefix("!") {
         disk.fail_next();
         rest = behind;
     }
@@ -87,8 +87,8 @@ fn put_images(disk: &MemDisk, from: usize, tears: &[Tear], out: &mut Text) {
 }
 
 /// Performs steps on a file of slots, and tells after each what was answered and the images that a crash may leave.
-pub fn tell_slots(alloc: Global, words: &str, out: &mut Text) {
-    let (tears, steps) = front(words);
+pub fn tell_slots(alloc: Global, tokens: &str, out: &mut Text) {
+    let (tears, steps) = front(tokens);
     let Some(tears) = tears_of(alloc, tears) else {
         out.put(b"no tears");
         return;
@@ -216,30 +216,30 @@ impl Files {
 }
 
 /// What is replaced: the bytes of both files, and the bodies of the roots that come one after the other.
-struct Plan<'a> {
+struct Replacements<'a> {
     files: &'a str,
     bodies: Vec<Vec<u8>>,
 }
 
-impl Drop for Plan<'_> {
+impl Drop for Replacements<'_> {
     fn drop(self) {
-        let Plan { files: _, bodies } = self;
+        let Replacements { files: _, bodies } = self;
         drop(bodies);
     }
 }
 
-/// The disks after the first steps of a plan, three steps for each body.
+/// The disks after the first steps of the replacements, three steps for each body.
 fn disks_after(
     alloc: Global,
-    plan: &Plan<'_>,
+    replacements: &Replacements<'_>,
     steps: usize,
     stops: Stops,
     out: &mut Text,
 ) -> Option<Disks> {
-    let mut files = Files::of(alloc, plan.files, stops)?;
+    let mut files = Files::of(alloc, replacements.files, stops)?;
     if files.recover(alloc, out) {
         let mut left = steps;
-        for body in plan.bodies.iter() {
+        for body in replacements.bodies.iter() {
             files.replace(body.as_slice(), left, out);
             left = left.saturating_sub(3);
         }
@@ -266,27 +266,27 @@ fn put_step(before: &Disks, disks: &Disks, tears: &[Tear], out: &mut Text) {
     }
 }
 
-/// The files and the bodies that words spell.
-fn plan_of<'a>(alloc: Global, words: &'a str) -> Option<Plan<'a>> {
-    let (files, rest) = front(words);
+/// The files and the bodies that tokens spell.
+fn replacements_of<'a>(alloc: Global, tokens: &'a str) -> Option<Replacements<'a>> {
+    let (files, rest) = front(tokens);
     let mut bodies = Vec::new(alloc);
-    for word in rest.split(' ') {
-        bodies.push(bytes_of(alloc, word)?).ok()?;
+    for token in rest.split(' ') {
+        bodies.push(bytes_of(alloc, token)?).ok()?;
     }
-    Some(Plan { files, bodies })
+    Some(Replacements { files, bodies })
 }
 
-fn put_steps(alloc: Global, plan: &Plan<'_>, tears: &[Tear], out: &mut Text) -> Option<()> {
+fn put_steps(alloc: Global, replacements: &Replacements<'_>, tears: &[Tear], out: &mut Text) -> Option<()> {
     let stops = Stops {
         one: u64::MAX,
         other: u64::MAX,
     };
     let mut said = Text::new(alloc);
-    for step in 0..plan.bodies.len() {
+    for step in 0..replacements.bodies.len() {
         for part in 0..3 {
             let steps = step.checked_mul(3)?.checked_add(part)?;
-            let before = disks_after(alloc, plan, steps, stops, &mut said)?;
-            let disks = disks_after(alloc, plan, steps.checked_add(1)?, stops, &mut said)?;
+            let before = disks_after(alloc, replacements, steps, stops, &mut said)?;
+            let disks = disks_after(alloc, replacements, steps.checked_add(1)?, stops, &mut said)?;
             out.put_number(b" step ", steps as u64);
             put_step(&before, &disks, tears, out);
         }
@@ -295,22 +295,22 @@ fn put_steps(alloc: Global, plan: &Plan<'_>, tears: &[Tear], out: &mut Text) -> 
 }
 
 /// Replaces roots, and tells the images of both files at each moment of each step.
-pub fn tell_pair(alloc: Global, words: &str, out: &mut Text) {
-    let (tears, rest) = front(words);
+pub fn tell_pair(alloc: Global, tokens: &str, out: &mut Text) {
+    let (tears, rest) = front(tokens);
     out.put(b"pair");
     let Some(tears) = tears_of(alloc, tears) else {
         return;
     };
-    let Some(plan) = plan_of(alloc, rest) else {
+    let Some(replacements) = replacements_of(alloc, rest) else {
         return;
     };
-    if put_steps(alloc, &plan, &tears, out).is_none() {
+    if put_steps(alloc, &replacements, &tears, out).is_none() {
         out.put(b" not understood");
     }
 }
 
-fn put_stopped(alloc: Global, words: &str, out: &mut Text) -> Option<()> {
-    let (one, rest) = front(words);
+fn put_stopped(alloc: Global, tokens: &str, out: &mut Text) -> Option<()> {
+    let (one, rest) = front(tokens);
     let (other, rest) = front(rest);
     let (tears, rest) = front(rest);
     let stops = Stops {
@@ -318,8 +318,8 @@ fn put_stopped(alloc: Global, words: &str, out: &mut Text) -> Option<()> {
         other: other.parse::<u64>().ok()?,
     };
     let tears = tears_of(alloc, tears)?;
-    let plan = plan_of(alloc, rest)?;
-    let disks = disks_after(alloc, &plan, usize::MAX, stops, out)?;
+    let replacements = replacements_of(alloc, rest)?;
+    let disks = disks_after(alloc, &replacements, usize::MAX, stops, out)?;
     let (one, other) = (disks.one.calls().len(), disks.other.calls().len());
     out.put_number(b" calls ", one as u64);
     out.put_number(b" ", other as u64);
@@ -328,9 +328,9 @@ fn put_stopped(alloc: Global, words: &str, out: &mut Text) -> Option<()> {
 }
 
 /// Replaces roots on disks that stop at a call each, and tells what was answered, and what a crash may leave then.
-pub fn tell_stopped(alloc: Global, words: &str, out: &mut Text) {
+pub fn tell_stopped(alloc: Global, tokens: &str, out: &mut Text) {
     out.put(b"stopped");
-    if put_stopped(alloc, words, out).is_none() {
+    if put_stopped(alloc, tokens, out).is_none() {
         out.put(b" not understood");
     }
 }

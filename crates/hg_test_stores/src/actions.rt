@@ -8,7 +8,7 @@ use hg_store::steps::StorePhase;
 use hg_test_kit::answers::put_refusal;
 use hg_test_kit::events::put_events;
 use hg_test_kit::text::Text;
-use hg_test_kit::words::Halt;
+use hg_test_kit::tokens::Halt;
 use std::alloc::Global;
 
 /// A step of a store. `Put` hands in the page of the job that was taken last.
@@ -83,9 +83,9 @@ pub fn put_told(told: Told, out: &mut Text) {
     }
 }
 
-/// The action of a word that names no event.
-fn action_of(word: &str) -> Result<Action, Halt> {
-    match word {
+/// The action of a token that names no event.
+fn action_of(token: &str) -> Result<Action, Halt> {
+    match token {
         "commit" => Ok(Action::Commit),
         "freeze" => Ok(Action::Freeze),
         "take" => Ok(Action::Take),
@@ -94,7 +94,7 @@ fn action_of(word: &str) -> Result<Action, Halt> {
         "prepare" => Ok(Action::Prepare),
         "write-root" => Ok(Action::WriteRoot),
         "open-root" => Ok(Action::OpenRoot),
-        _ => Err(Halt::Words),
+        _ => Err(Halt::Misspelt),
     }
 }
 
@@ -110,12 +110,12 @@ fn put_offers(alloc: Global, text: &str, actions: &mut Vec<Action>) -> Result<()
 /// Appends the actions that a line names: a row of offers, or one step.
 pub fn put_actions(
     alloc: Global,
-    word: &str,
+    token: &str,
     rest: &str,
     actions: &mut Vec<Action>,
 ) -> Result<(), Halt> {
-    match word {
+    match token {
         "offer" => put_offers(alloc, rest, actions),
-        _ => Ok(actions.push(action_of(word)?)?),
+        _ => Ok(actions.push(action_of(token)?)?),
     }
 }

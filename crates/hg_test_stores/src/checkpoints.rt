@@ -4,7 +4,7 @@ use crate::actions::{Action, Told, put_told};
 use crate::machine::Machine;
 use hg_pool::Put;
 use hg_test_kit::text::Text;
-use hg_test_kit::words::Halt;
+use hg_test_kit::tokens::Halt;
 
 /// The most pages that are handed in for one checkpoint.
 const MOST_PAGES: u64 = 1_000_000;

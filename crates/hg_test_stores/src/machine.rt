@@ -6,7 +6,7 @@ use hg_test_kit::device::PerDevice;
 use hg_test_kit::disks::Disks;
 use hg_test_kit::shelf::{Fuse, Image};
 use hg_test_kit::text::Text;
-use hg_test_kit::words::Halt;
+use hg_test_kit::tokens::Halt;
 
 /// A store over disks in memory, if one is open, and what was done to it since then.
 pub trait Machine {

@@ -18,18 +18,18 @@ use hg_store::steps::{Step, StepResult};
 use hg_store::store::Store;
 use hg_test_kit::device::PerDevice;
 use hg_test_kit::disks::Disks;
-use hg_test_kit::shelf::{Fuse, Held, Image};
+use hg_test_kit::shelf::{Fuse, TestDisk, Image};
 use hg_test_kit::text::Text;
-use hg_test_kit::words::Halt;
+use hg_test_kit::tokens::Halt;
 use std::alloc::{AllocError, Global};
 
 /// A store over disks in memory.
-pub type OpenStore = Store<Held>;
+pub type OpenStore = Store<TestDisk>;
 
 /// A store, or why it was refused, with its disks.
-type Opened = Result<OpenStore, (CreateFault, Devices<Held>)>;
+type Opened = Result<OpenStore, (CreateFault, Devices<TestDisk>)>;
 
-fn devices_of(disks: Disks) -> Devices<Held> {
+fn devices_of(disks: Disks) -> Devices<TestDisk> {
     let PerDevice {
         journal,
         slots,
@@ -45,7 +45,7 @@ fn devices_of(disks: Disks) -> Devices<Held> {
 }
 
 /// The disks of a store.
-fn disks_of(devices: Devices<Held>) -> Disks {
+fn disks_of(devices: Devices<TestDisk>) -> Disks {
     let Devices {
         journal,
         slots,
@@ -153,7 +153,7 @@ fn put_times(times: u64, answer: &Text, out: &mut Text) {
 }
 
 /// Appends the answers of a run. Equal ones in a row become their number and one of them.
-fn put_answers(alloc: Global, answers: &[StepAnswer<Held>], out: &mut Text) {
+fn put_answers(alloc: Global, answers: &[StepAnswer<TestDisk>], out: &mut Text) {
     let mut last = Text::new(alloc);
     let mut next = Text::new(alloc);
     let mut times = 0_u64;
@@ -175,7 +175,7 @@ fn put_answers(alloc: Global, answers: &[StepAnswer<Held>], out: &mut Text) {
 /// Has a store make all steps at once.
 fn drive(alloc: Global, store: &mut OpenStore, steps: &[Step], out: &mut Text) -> Result<(), Halt> {
     let [done @ .., last] = steps else {
-        return Err(Halt::Words);
+        return Err(Halt::Misspelt);
     };
     let answers = store.drive(alloc, done, last)?;
     put_answers(alloc, &answers, out);

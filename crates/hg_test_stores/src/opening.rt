@@ -1,6 +1,6 @@
 //! How a store comes to be.
 
-use hg_test_kit::words::{Halt, Words};
+use hg_test_kit::tokens::{Halt, Tokens};
 
 /// Whether a store is made or recovered, and how much it may have.
 #[derive(Clone, Copy)]
@@ -31,25 +31,25 @@ pub const NEW: Opening = Opening {
 };
 
 /// Takes `frames N`, `sets N` or `slots N` in front into account.
-fn read_part(words: &mut Words, opening: &mut Opening) {
-    match words.word() {
-        "frames" => opening.frames = words.short_number(),
-        "sets" => opening.sets = words.wide_number(),
-        "slots" => opening.slots = words.wide_number(),
-        _ => words.fail(),
+fn read_part(tokens: &mut Tokens, opening: &mut Opening) {
+    match tokens.token() {
+        "frames" => opening.frames = tokens.short_number(),
+        "sets" => opening.sets = tokens.wide_number(),
+        "slots" => opening.slots = tokens.wide_number(),
+        _ => tokens.fail(),
     }
 }
 
 /// `frames N`, `sets N` and `slots N`, those of them that are said, one behind the other.
 pub fn opening_of(is_new: bool, text: &str) -> Result<Opening, Halt> {
-    let mut words = Words::of(text);
+    let mut tokens = Tokens::of(text);
     let mut opening = Opening { is_new, ..NEW };
     for _ in 0..text.len() {
-        if words.rest().is_empty() {
+        if tokens.rest().is_empty() {
             break;
         }
-        read_part(&mut words, &mut opening);
+        read_part(&mut tokens, &mut opening);
     }
-    words.check()?;
+    tokens.check()?;
     Ok(opening)
 }

@@ -12,7 +12,7 @@ use hg_test_kit::device::{Device, PerDevice};
 use hg_test_kit::disks::Memories;
 use hg_test_kit::shelf::{Fuse, Image, NO_FUSES};
 use hg_test_kit::text::Text;
-use hg_test_kit::words::Halt;
+use hg_test_kit::tokens::Halt;
 use std::alloc::{AllocError, Global};
 
 /// How a store came to be.

@@ -5,7 +5,7 @@ use hg_model::verdict::Refusal;
 use hg_pages::EncodedPage;
 use hg_store::steps::{Step, StepFault, StepResult};
 use hg_test_kit::text::Text;
-use hg_test_kit::words::Halt;
+use hg_test_kit::tokens::Halt;
 use std::alloc::{AllocError, Global};
 
 fn fault_told(fault: StepFault) -> Told {

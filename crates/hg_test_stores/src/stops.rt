@@ -7,7 +7,7 @@ use hg_test_kit::device::Device;
 use hg_test_kit::disks::Memories;
 use hg_test_kit::tears::{Tears, put_tear};
 use hg_test_kit::text::Text;
-use hg_test_kit::words::Halt;
+use hg_test_kit::tokens::Halt;
 
 /// How many stops were gone on from, and how often the commit that was under way was found.
 #[derive(Clone, Copy)]

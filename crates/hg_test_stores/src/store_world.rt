@@ -14,7 +14,7 @@ use hg_test_kit::run::World;
 use hg_test_kit::shelf::{Image, NO_FUSES, Shelf};
 use hg_test_kit::tears::{tear, tears_of};
 use hg_test_kit::text::Text;
-use hg_test_kit::words::{Halt, Words, front};
+use hg_test_kit::tokens::{Halt, Tokens, front};
 use std::alloc::{AllocError, Global};
 
 /// What there is in a scenario.
@@ -70,20 +70,20 @@ fn make_all(machine: &mut impl Machine, actions: &[Action], out: &mut Text) {
 fn make(
     alloc: Global,
     machine: &mut impl Machine,
-    word: &str,
+    token: &str,
     rest: &str,
     out: &mut Text,
 ) -> Result<(), Halt> {
     let mut actions = Vec::new(alloc);
-    put_actions(alloc, word, rest, &mut actions)?;
+    put_actions(alloc, token, rest, &mut actions)?;
     make_all(machine, &actions, out);
     Ok(())
 }
 
 /// Notes what a line says, to be done at once.
 fn note(alloc: Global, text: &str, noted: &mut Vec<Action>) -> Result<(), Halt> {
-    let (word, rest) = front(text);
-    put_actions(alloc, word, rest, noted)
+    let (token, rest) = front(text);
+    put_actions(alloc, token, rest, noted)
 }
 
 /// Has a text have all that a store tells: how far it is, and what it tells of its events.
@@ -110,13 +110,13 @@ fn stop_one(
     machine: &mut impl Machine,
     run: Run,
     device: Device,
-    words: &mut Words,
+    tokens: &mut Tokens,
     image: &mut Image,
     out: &mut Text,
 ) -> Result<(), Halt> {
-    let calls = words.number();
-    let tear = tear(words);
-    words.check()?;
+    let calls = tokens.number();
+    let tear = tear(tokens);
+    tokens.check()?;
     let (progress, memories) = stop_run(machine, run, device, calls)?;
     memories.leave_torn(device, tear, Tear::Kept, image)?;
     put_progress(progress, out);
@@ -192,30 +192,30 @@ impl<M: Machine> StoreWorld<M> {
     }
 
     /// Stops the run of a store once, and leaves it.
-    fn stop_once(&mut self, device: Device, words: &mut Words, out: &mut Text) -> Result<(), Halt> {
+    fn stop_once(&mut self, device: Device, tokens: &mut Tokens, out: &mut Text) -> Result<(), Halt> {
         let run = Run {
             origin: &self.origin,
             actions: self.machine.made(),
         };
         let image = &mut self.shelf.image;
-        stop_one(&mut self.rerun.machine, run, device, words, image, out)?;
+        stop_one(&mut self.rerun.machine, run, device, tokens, image, out)?;
         self.machine.leave();
         Ok(())
     }
 
     /// Stops the run since the store was opened: `every device at each call TEARS`, or of a device `at each call TEARS` or `at K TEAR`.
     fn stop(&mut self, text: &str, out: &mut Text) -> Result<(), Halt> {
-        let mut words = Words::of(text);
-        if words.skip("every device at each call ") {
-            return self.stop_each(&DEVICES, words.rest(), out);
+        let mut tokens = Tokens::of(text);
+        if tokens.skip("every device at each call ") {
+            return self.stop_each(&DEVICES, tokens.rest(), out);
         }
-        let device = read_device(&mut words);
-        words.expect("at ");
-        words.check()?;
-        if words.skip("each call ") {
-            return self.stop_each(&[device], words.rest(), out);
+        let device = read_device(&mut tokens);
+        tokens.expect("at ");
+        tokens.check()?;
+        if tokens.skip("each call ") {
+            return self.stop_each(&[device], tokens.rest(), out);
         }
-        self.stop_once(device, &mut words, out)
+        self.stop_once(device, &mut tokens, out)
     }
 
     /// Whether the store tells the same as it told.
@@ -245,8 +245,8 @@ impl<M: Machine> StoreWorld<M> {
     }
 
     /// Does what a line asks of the store that is open.
-    fn work(&mut self, word: &str, rest: &str, out: &mut Text) -> Result<(), Halt> {
-        match word {
+    fn work(&mut self, token: &str, rest: &str, out: &mut Text) -> Result<(), Halt> {
+        match token {
             "expect" => self.tell(rest, out),
             "read" => self.machine.put_durable(rest, out),
             "remember" => draw(&self.machine, &mut self.remembered),
@@ -254,21 +254,21 @@ impl<M: Machine> StoreWorld<M> {
             "run" => self.drive(out),
             "pages" => put_pages(&mut self.machine, out),
             "checkpoint" => put_checkpoint(&mut self.machine, out),
-            _ => make(self.alloc, &mut self.machine, word, rest, out),
+            _ => make(self.alloc, &mut self.machine, token, rest, out),
         }
     }
 }
 
 impl<M: Machine> World for StoreWorld<M> {
     fn perform(&mut self, order: &str, out: &mut Text) -> Result<(), Halt> {
-        let (word, rest) = front(order);
+        let (token, rest) = front(order);
         let shelf = &mut self.shelf;
-        match word {
+        match token {
             "close" => Ok(self.close()?),
             "crash" => self.crash(rest),
             "disk" => shelf.set(rest),
             "fail" => shelf.fail(rest),
-            "bytes" | "length" | "calls" => shelf.tell(word, rest, out),
+            "bytes" | "length" | "calls" => shelf.tell(token, rest, out),
             "store" => self.open(true, rest, out),
             "recover" => self.open(false, rest, out),
             "found" => find(
@@ -282,7 +282,7 @@ impl<M: Machine> World for StoreWorld<M> {
                 put_profile(out);
                 Ok(())
             }
-            _ => self.work(word, rest, out),
+            _ => self.work(token, rest, out),
         }
     }
 

@@ -7,7 +7,7 @@ use hg_model::verdict::Refusal;
 use hg_test_kit::answers::{put_refusal, put_report};
 use hg_test_kit::events::put_named;
 use hg_test_kit::text::Text;
-use hg_test_kit::words::{Halt, Words};
+use hg_test_kit::tokens::{Halt, Tokens};
 use hg_wire::lines::put_segment_line;
 use std::alloc::Global;
 
@@ -18,10 +18,10 @@ fn put_segment(k: u64, segment: &Segment, out: &mut Text) {
     }
 }
 
-/// Words and a number, or in their place why there is none.
-fn put_total(words: &[u8], told: Result<u64, Refusal>, out: &mut Text) {
+/// A text and a number, or in their place why there is none.
+fn put_total(text: &[u8], told: Result<u64, Refusal>, out: &mut Text) {
     match told {
-        Ok(total) => out.put_number(words, total),
+        Ok(total) => out.put_number(text, total),
         Err(refusal) => put_refusal(refusal, out),
     }
 }
@@ -68,26 +68,26 @@ fn segments_in(store: &OpenStore) -> Result<u64, Refusal> {
     Ok(store.graph()?.len() as u64)
 }
 
-/// The line that begins with these words.
+/// The line that begins with these tokens.
 pub fn put_answer(
     alloc: Global,
     store: &OpenStore,
     line: &str,
     out: &mut Text,
 ) -> Result<(), Halt> {
-    let mut words = Words::of(line);
-    match words.word() {
+    let mut tokens = Tokens::of(line);
+    match tokens.token() {
         "events" => put_total(b"events ", store.events(), out),
         "durable" => put_total(b"durable ", store.durable(), out),
         "races" => put_total(b"races ", store.total(), out),
         "segments" => put_total(b"segments ", segments_in(store), out),
         "phase" => put_phase(store, out),
-        "last" => put_last(store, words.short_number(), out),
-        "race" => put_race(alloc, store, words.number(), out)?,
-        "segment" => tell_segment(store, words.number(), out)?,
-        _ => words.fail(),
+        "last" => put_last(store, tokens.short_number(), out),
+        "race" => put_race(alloc, store, tokens.number(), out)?,
+        "segment" => tell_segment(store, tokens.number(), out)?,
+        _ => tokens.fail(),
     }
-    words.check()
+    tokens.check()
 }
 
 /// `FROM MAX`: that many of the durable events from there on.
@@ -97,10 +97,10 @@ pub fn put_durable(
     text: &str,
     out: &mut Text,
 ) -> Result<(), Halt> {
-    let mut words = Words::of(text);
-    let from = words.number();
-    let max = words.short_number();
-    words.check()?;
+    let mut tokens = Tokens::of(text);
+    let from = tokens.number();
+    let max = tokens.short_number();
+    tokens.check()?;
     let events = store.durable_events(alloc, from, usize::from(max))?;
     out.put_decimal(events.len() as u64);
     for named in events.iter() {

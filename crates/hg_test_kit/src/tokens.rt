@@ -1,4 +1,4 @@
-//! The words of a line.
+//! The tokens of a line.
 
 use crate::digits::byte_of;
 use hg_gate::GateFault;
@@ -11,7 +11,7 @@ pub enum Halt {
     /// Memory was refused.
     Memory,
     /// It is not understood.
-    Words,
+    Misspelt,
     /// Nothing is open that it could be done with.
     Closed,
     /// A disk has bytes that should have none.
@@ -48,26 +48,26 @@ impl From<GateFault> for Halt {
     }
 }
 
-/// The first word, and what follows the spaces after it.
+/// The first token, and what follows the spaces after it.
 pub fn front(text: &str) -> (&str, &str) {
     match text.split_once(' ') {
-        Some((word, rest)) => (word, rest.trim_start()),
+        Some((token, rest)) => (token, rest.trim_start()),
         None => (text, ""),
     }
 }
 
-/// What is left of a line, word by word. Where it is not understood, that is noted, and nobody need ask before the end; what is read
+/// What is left of a line, token by token. Where it is not understood, that is noted, and nobody need ask before the end; what is read
 /// then means nothing.
 #[derive(Clone, Copy)]
-pub struct Words<'a> {
+pub struct Tokens<'a> {
     rest: &'a str,
     is_understood: bool,
 }
 
-impl<'a> Words<'a> {
-    /// The words of a text.
-    pub fn of(text: &'a str) -> Words<'a> {
-        Words {
+impl<'a> Tokens<'a> {
+    /// The tokens of a text.
+    pub fn of(text: &'a str) -> Tokens<'a> {
+        Tokens {
             rest: text,
             is_understood: true,
         }
@@ -88,20 +88,20 @@ impl<'a> Words<'a> {
         if self.is_understood {
             Ok(())
         } else {
-            Err(Halt::Words)
+            Err(Halt::Misspelt)
         }
     }
 
-    /// The word in front.
-    pub fn word(&mut self) -> &'a str {
-        let (word, rest) = front(self.rest);
+    /// The token in front.
+    pub fn token(&mut self) -> &'a str {
+        let (token, rest) = front(self.rest);
         self.rest = rest;
-        word
+        token
     }
 
-    /// Whether these words stand in front. They are passed over then.
-    pub fn skip(&mut self, words: &str) -> bool {
-        match self.rest.strip_prefix(words) {
+    /// Whether these tokens stand in front. They are passed over then.
+    pub fn skip(&mut self, tokens: &str) -> bool {
+        match self.rest.strip_prefix(tokens) {
             Some(rest) => {
                 self.rest = rest.trim_start();
                 true
@@ -110,9 +110,9 @@ impl<'a> Words<'a> {
         }
     }
 
-    /// Passes over words that have to stand in front.
-    pub fn expect(&mut self, words: &str) {
-        if !self.skip(words) {
+    /// Passes over tokens that have to stand in front.
+    pub fn expect(&mut self, tokens: &str) {
+        if !self.skip(tokens) {
             self.is_understood = false;
         }
     }
@@ -130,7 +130,7 @@ impl<'a> Words<'a> {
 
     /// The number in front.
     pub fn number(&mut self) -> u64 {
-        let read = self.word().parse::<u64>().ok();
+        let read = self.token().parse::<u64>().ok();
         self.read(read, 0)
     }
 
@@ -148,30 +148,30 @@ impl<'a> Words<'a> {
 
     /// The byte in front, two hexadecimal digits.
     pub fn byte(&mut self) -> u8 {
-        let read = byte_of(self.word());
+        let read = byte_of(self.token());
         self.read(read, 0)
     }
 }
 
-/// Appends the bytes that a word spells: `07` is one, `07*3` are three.
-fn put_repeated(word: &str, bytes: &mut Vec<u8>) -> Result<(), Halt> {
-    let (digits, count) = word.split_once('*').unwrap_or((word, "1"));
+/// Appends the bytes that a token spells: `07` is one, `07*3` are three.
+fn put_repeated(token: &str, bytes: &mut Vec<u8>) -> Result<(), Halt> {
+    let (digits, count) = token.split_once('*').unwrap_or((token, "1"));
     let Some(byte) = byte_of(digits) else {
-        return Err(Halt::Words);
+        return Err(Halt::Misspelt);
     };
-    let mut words = Words::of(count);
-    let count = words.number();
-    words.check()?;
+    let mut tokens = Tokens::of(count);
+    let count = tokens.number();
+    tokens.check()?;
     for _ in 0..count {
         bytes.push(byte)?;
     }
     Ok(())
 }
 
-/// Appends the bytes that words spell.
-pub fn put_bytes(words: &str, bytes: &mut Vec<u8>) -> Result<(), Halt> {
-    for word in words.split_whitespace() {
-        put_repeated(word, bytes)?;
+/// Appends the bytes that tokens spell.
+pub fn put_bytes(tokens: &str, bytes: &mut Vec<u8>) -> Result<(), Halt> {
+    for token in tokens.split_whitespace() {
+        put_repeated(token, bytes)?;
     }
     Ok(())
 }
