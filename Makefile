@@ -3,8 +3,8 @@
 # make build    leaves the proved program at build/hgd
 # make quick    the tests that need no proof, on the built program, in about a minute
 # make scenarios  proves and builds the program that runs tests/scenarios, and runs them
-# make test     the gate: proves all crates from nothing, and tries what no proof says
-# make mutants  tries every wrong program, also those that the gate leaves out (dev/mutants)
+# make test     proves all crates from nothing, and tries what no proof says
+# make mutants  tries every wrong program, also those that make test leaves out (dev/mutants)
 # make install  copies the program to PREFIX/bin (PREFIX is /usr/local, DESTDIR goes before it)
 # make recorder builds what records traces of pthread programs, at build/recorder (not proved; needs a C compiler)
 # make bench    speed and memory beside the yardstick (needs rustc)

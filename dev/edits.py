@@ -104,7 +104,7 @@ def pairs_of(text):
 
 
 def edits_of(crate):
-    """Returns the wrong programs of a crate, those of the gate first."""
+    """Returns the wrong programs of a crate, those of must-fail first."""
     found = []
     for kind in KINDS:
         folder = f"{ROOT}/crates/{crate}/{kind}"
