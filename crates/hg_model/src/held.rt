@@ -28,6 +28,7 @@ pub struct HeldLocks {
 
 impl Model for HeldLocks {
     ghost use Rattle.std.specs.Prelude.{◌≡◌, ◌≤◌, List, true, false, length};
+    ghost use Rattle.hg_model.specs.declared.limits.TheConstants.{MOST_HELD};
     ghost use Rattle.hg_model.specs.declared.held.HeldLock.{HeldLock};
 
     ghost Value = { List HeldLock };

@@ -81,6 +81,7 @@ fn read_body(body: &[u8]) -> Option<Frame>
 }
 
 impl Message for Frame {
+    ghost use Rattle.hg_protocol.specs.declared.frame.TheConstants.{MOST_FRAME_BYTES};
     ghost use Rattle.hg_protocol.specs.Frames.{FrameFits, body_text};
     ghost use Rattle.hg_protocol.specs.FrameLaws.{frame_within, narrow_frame, one_frame};
 

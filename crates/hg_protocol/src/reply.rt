@@ -191,6 +191,7 @@ fn read_short(body: &[u8]) -> Option<Reply>
 }
 
 impl Message for Reply {
+    ghost use Rattle.hg_protocol.specs.declared.reply.TheConstants.{MOST_REPLY_BYTES};
     ghost use Rattle.hg_protocol.specs.Replies.{ReplyFits, reply_body};
     ghost use Rattle.hg_protocol.specs.ReplyLaws.{narrow_reply, one_reply, reply_within};
 

@@ -46,6 +46,7 @@ impl Drop for TraceState {
 
 impl Model for TraceState {
     ghost use Rattle.std.specs.Prelude.{◌≡◌, ◌≤◌, length};
+    ghost use Rattle.hg_model.specs.declared.limits.TheConstants.{MOST_SEGMENTS, SOURCE_NUMBERS};
     ghost use Rattle.hg_model.specs.Parts.{Parts};
 
     ghost Value = { Parts };

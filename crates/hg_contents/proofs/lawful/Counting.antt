@@ -4,6 +4,7 @@ use Rattle.std.proofs.lemmas.Bool.{ltb-false, leb-false, or_parts}
 use Rattle.std.proofs.lemmas.List.{length-map}
 use Rattle.std.proofs.lemmas.List.FromFn.{length-range_with_len}
 use Rattle.std.proofs.lemmas.List.Sums.{count_by-le-length, length-filter}
+use Rattle.hg_model.specs.declared.limits.TheConstants.{GREATEST_ACCESS, MOST_ACCESS_WORDS}
 use Rattle.hg_model.specs.declared.event.Event.{Event}
 use Rattle.hg_model.specs.declared.event.Event.TheVariants.{Fork, Join, Lock, RdLock, Unlock, Read, Write, Alloc, Free}
 use Rattle.hg_model.specs.declared.segment.Segment.{Segment}
@@ -32,7 +33,7 @@ opened_few segments n (Write a) is few full = omega (arith, few)
 opened_few segments n (Alloc b) is few full = omega (arith, few)
 opened_few segments n (Free b) is few full = omega (arith, few)
 
-words_few : (at len : ℕ) → len ≤ 64 → length (words_of at len) ≤ 17
+words_few : (at len : ℕ) → len ≤ GREATEST_ACCESS → length (words_of at len) ≤ MOST_ACCESS_WORDS
 words_few at len few =
     let width : (at + len + 3) / 4 - at / 4 ≤ 17 = omega arith in
     omega (arith, length-range_with_len (at / 4) ((at + len + 3) / 4 - at / 4))
@@ -40,8 +41,8 @@ words_few at len few =
 filtered_few : (p : ℕ → Bool) (words : List ℕ) → length words ≤ 17 → length (filter p words) ≤ 17
 filtered_few p words few = omega (arith, length-filter p words, count_by-le-length p words)
 
-not_long : (len : ℕ) → (nat_eq len 0 || nat_lt 64 len) ≡ false → len ≤ 64
-not_long len low = ltb-false 64 len (or_parts (nat_eq len 0) (nat_lt 64 len) low).1
+not_long : (len : ℕ) → (nat_eq len 0 || nat_lt GREATEST_ACCESS len) ≡ false → len ≤ GREATEST_ACCESS
+not_long len low = ltb-false GREATEST_ACCESS len (or_parts (nat_eq len 0) (nat_lt GREATEST_ACCESS len) low).1
 
 mapped_few : {X : Type 0} (f : ℕ → X) (words : List ℕ) → length words ≤ 17 → length (map f words) ≤ 17
 mapped_few f [] few = few
