@@ -11,6 +11,9 @@ use std::marker::Model;
 /// How many words a page has, of 4 bytes each.
 pub const PAGE_WORDS: usize = 256;
 
+/// How many bytes of memory a page stands for.
+pub const PAGE_BYTES: u64 = 1024;
+
 /// The cells of the 256 words of a page, lowest word first. 3 KiB.
 #[derive(Drop)]
 pub struct Page {

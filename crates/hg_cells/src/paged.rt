@@ -9,14 +9,11 @@ ghost use Rattle.hg_cells.specs.PagedLaws.{each_within, more_within, never_full}
 
 use crate::run::{Run, run_in};
 use crate::words::Words;
-use crate::{Cell, PAGE_WORDS, Page};
+use crate::{Cell, PAGE_BYTES, PAGE_WORDS, Page};
 use hg_model::verdict::Refusal;
 use hg_sets::SetTable;
 use indexmap::IndexMap;
 use std::alloc::{AllocError, Global};
-
-/// How many bytes of memory a page stands for.
-const PAGE_BYTES: u64 = 1024;
 
 /// How many words a page has.
 const WORDS: u64 = PAGE_WORDS as u64;
@@ -339,8 +336,8 @@ impl Words for PagedWords {
 fn pages_of(at: u64, len: u16) -> (u64, u64)
     requires some { 0 < len }
     requires within { at + len ≤ 2 ^ 64 }
-    ensures first { result.0 ≡ at / 1024 }
-    ensures last { result.1 ≡ (at + (len - 1)) / 1024 }
+    ensures first { result.0 ≡ at / PAGE_BYTES }
+    ensures last { result.1 ≡ (at + (len - 1)) / PAGE_BYTES }
 {
     (at / PAGE_BYTES, (at + u64::from(len - 1)) / PAGE_BYTES)
 }

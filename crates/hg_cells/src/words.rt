@@ -11,6 +11,7 @@ ghost use Rattle.hg_cells.specs.declared.cell.Cell.TheVariants.{New};
 
 use crate::Cell;
 use crate::run::Run;
+use hg_model::limits::GREATEST_BLOCK;
 use hg_model::verdict::Refusal;
 use hg_sets::SetTable;
 
@@ -53,7 +54,7 @@ pub trait Words {
     fn bring(&mut self, at: u64, len: u16, segments: u32, sets: &SetTable) -> Result<(), Refusal>
         requires lawful { may_bring self.old segments (length sets.now.sets) }
         requires some { 0 < len }
-        requires few { len ≤ 1024 }
+        requires few { len ≤ GREATEST_BLOCK }
         requires within { at + len ≤ 2 ^ 64 }
         ensures cells { (n m : ℕ) → is_faithful self.old n m → SameCells (cell_of self.old) (cell_of self.new) }
         ensures brought { OnOk result (ForOverlapped at len (is_brought self.new)) }
@@ -68,7 +69,7 @@ pub trait Words {
     fn keep(&mut self, at: u64, len: u16) -> Result<(), Refusal>
         requires brought { ForOverlapped at len (is_brought self.old) }
         requires some { 0 < len }
-        requires few { len ≤ 1024 }
+        requires few { len ≤ GREATEST_BLOCK }
         requires within { at + len ≤ 2 ^ 64 }
         ensures cells { SameCells (cell_of self.old) (cell_of self.new) }
         ensures kept { OnOk result (ForOverlapped at len (is_kept self.new)) }
@@ -109,7 +110,8 @@ pub trait Words {
         ensures went { went self.old self.new }
         ensures failures { failures self.new ≡ failures self.old };
 
-    /// The same as `same`, where it is known without a search. (`None` says nothing of the words.) It changes nothing.
+    /// The cell that `count` words from `first` on all have, where the map knows without a search that they may be filled. (`None`
+    /// says nothing of them.) It changes nothing.
     #[inline(always)]
     fn peek(&self, first: u64, count: u64) -> Option<Cell>
         ensures cells { IfSome result (HaveCell (cell_of self.now) first count) }
@@ -170,7 +172,7 @@ pub trait Words {
     fn reset(&mut self, at: u64, len: u16)
         requires kept { ForOverlapped at len (is_kept self.old) }
         requires some { 0 < len }
-        requires few { len ≤ 1024 }
+        requires few { len ≤ GREATEST_BLOCK }
         requires within { at + len ≤ 2 ^ 64 }
         ensures cells { (w : ℕ) → cell_of self.new w ≡ (if overlaps at len w then New else cell_of self.old w) }
         ensures lawful { KeepsLaw (may_bring self.old) (may_bring self.new) }

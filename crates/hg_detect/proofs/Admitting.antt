@@ -1,5 +1,5 @@
 -- What the rules accept, and how it is answered.
-use Rattle.std.proofs.Common.{◌≡◌, ℕ, Bool, true, Result, Ok, Err, sym, ap, ◌∙◌, subst}
+use Rattle.std.proofs.Common.{◌≡◌, ℕ, true, Result, Ok, Err, sym, ap, ◌∙◌, subst}
 use Rattle.std.specs.Prelude.{IsErrAnd}
 use Rattle.hg_model.specs.declared.event.Named.{Named}
 use Rattle.hg_model.specs.declared.verdict.Refusal.{Refusal}

@@ -71,7 +71,7 @@ underway_run segments old now new a cell_of first word end (suc n) plan cell p u
     (underway_on segments old new a cell_of first (word + 1) end n (plan ++ p ∷ []) cell p one (omega arith) (λ w low high. alike w (omega arith) (omega arith)) within again
     (from_before segments new.sets now.sets new.sets a cell p (sym same) planned)))
 
--- The same, seen from where the run was read and the answer was given.
+-- A run is planned, seen from where it was read and the answer was given.
 pub run_planned : (segments : List Segment) (old now new : Table) (a : Actor) (cell_of : ℕ → Cell) (first word end n : ℕ) (plan after : List Planned) (cell : Cell) (p : Planned) (answer : Result Planned SetFault)
     → IsUnderway segments old now a cell_of first word end plan → 0 < n → word + n ≤ end → AreAlike cell_of cell word n → IsWithin (length segments) (length old.sets) cell
     → KeepsNumbers now new → AreSets new → answer ≡ Ok p → Asks now (sets_in (touched_by segments a (meaning now.sets cell))) (result_err answer) new → IfOk answer (IsPlanned segments now.sets new.sets a cell)

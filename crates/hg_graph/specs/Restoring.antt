@@ -1,6 +1,7 @@
 -- What restoring a graph requires of its segments.
 use Rattle.std.specs.Prelude.{◌≡◌, ℕ, Bool, true, false, ◌&&◌, ◌==◌, nat_lt, List, [], ◌∷◌, length, take, slice_get, Option, Some, None, if◌then◌else◌}
 use Rattle.std.specs.List.{list_any}
+use Rattle.hg_model.specs.declared.limits.TheConstants.{THREAD_NUMBERS}
 use Rattle.hg_model.specs.Segments.{present}
 use Rattle.hg_model.specs.declared.segment.Segment.{Segment}
 use Rattle.hg_graph.specs.Graph.{names}
@@ -21,9 +22,9 @@ abbrev pub has_former : Option ℕ → List ℕ → Bool
 has_former None before = true
 has_former (Some s) before = list_any (λ k. k == s) before
 
--- segment 0 is of thread 0, each other of any thread below 1024
+-- segment 0 is of thread 0, each other of any thread
 abbrev pub has_thread : ℕ → ℕ → Bool
-has_thread n t = nat_lt t (if n == 0 then 1 else 1024)
+has_thread n t = nat_lt t (if n == 0 then 1 else THREAD_NUMBERS)
 
 -- A segment may come after these: its predecessors are among them, and have the former segment of its thread, if there is one.
 abbrev pub stands_behind : List Segment → Segment → Bool

@@ -6,10 +6,9 @@ ghost use Rattle.hg_graph.specs.Clocks.{AreClocks, IsClock};
 ghost use Rattle.hg_graph.specs.Kept.{ArePresent, IsUnmarked};
 ghost use Rattle.hg_graph.specs.Restoring.{AreSegments};
 
-use crate::THREADS;
 use crate::clock::Clock;
 use crate::sweep::mark;
-use hg_model::limits::MOST_SEGMENTS;
+use hg_model::limits::{MOST_SEGMENTS, THREAD_NUMBERS};
 use hg_model::segment::Segment;
 use std::alloc::{AllocError, Global};
 
@@ -17,10 +16,10 @@ use std::alloc::{AllocError, Global};
 pub(crate) fn present_segments(alloc: Global, segments: &[Segment]) -> Result<Vec<u32>, AllocError>
     requires few { length segments.now ≤ MOST_SEGMENTS }
     requires lawful { AreSegments segments.now }
-    ensures rows { IfOk result (λ table. length table.items ≡ 1024) }
+    ensures rows { IfOk result (λ table. length table.items ≡ THREAD_NUMBERS) }
     ensures each { IfOk result (λ table. ArePresent segments.now table.items) }
 {
-    let mut table = vec![in alloc; 0; THREADS]?;
+    let mut table = vec![in alloc; 0; THREAD_NUMBERS]?;
     for number in 0..segments.len() {
         table[usize::from(segments[number].thread)] = number as u32;
     }
@@ -37,7 +36,7 @@ pub(crate) fn clocks_of(
     requires some { 0 < length segments.now }
     requires few { length segments.now ≤ MOST_SEGMENTS }
     requires lawful { AreSegments segments.now }
-    requires rows { length present.now ≡ 1024 }
+    requires rows { length present.now ≡ THREAD_NUMBERS }
     requires each { ArePresent segments.now present.now }
     requires marks { length marks.old ≡ length segments.now }
     requires clear { IsUnmarked marks.old }
@@ -45,8 +44,8 @@ pub(crate) fn clocks_of(
     ensures clear { IsUnmarked marks.new }
 {
     let threads = named_threads(segments);
-    let mut clocks = Vec::with_capacity(alloc, THREADS)?;
-    for t in 0..THREADS {
+    let mut clocks = Vec::with_capacity(alloc, THREAD_NUMBERS)?;
+    for t in 0..THREAD_NUMBERS {
         let clock = clock_of(alloc, segments, marks, present[t] as usize, threads)?;
         clocks.push(clock)?;
     }

@@ -12,13 +12,11 @@ use crate::frame::Frame;
 use crate::pool::Pool;
 use hg_cells::run::{Run, run_in};
 use hg_cells::words::Words;
-use hg_cells::{Cell, PAGE_WORDS};
+use hg_cells::{Cell, PAGE_BYTES, PAGE_WORDS};
 use hg_disk::Disk;
+use hg_model::limits::GREATEST_BLOCK;
 use hg_model::verdict::Refusal;
 use hg_sets::SetTable;
-
-/// How many bytes of memory a page stands for.
-const PAGE_BYTES: u64 = 1024;
 
 /// How many words a page has.
 const WORDS: u64 = PAGE_WORDS as u64;
@@ -27,10 +25,10 @@ const WORDS: u64 = PAGE_WORDS as u64;
 #[inline]
 fn pages_of(at: u64, len: u16) -> (u64, u64)
     requires some { 0 < len }
-    requires few { len ≤ 1024 }
+    requires few { len ≤ GREATEST_BLOCK }
     requires within { at + len ≤ 2 ^ 64 }
-    ensures first { result.0 ≡ at / 1024 }
-    ensures last { result.1 ≡ (at + (len - 1)) / 1024 }
+    ensures first { result.0 ≡ at / PAGE_BYTES }
+    ensures last { result.1 ≡ (at + (len - 1)) / PAGE_BYTES }
 {
     (at / PAGE_BYTES, (at + u64::from(len - 1)) / PAGE_BYTES)
 }

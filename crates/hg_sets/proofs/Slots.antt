@@ -44,7 +44,7 @@ met_kept slots e x q at (suc n) some free (inr h) =
       subst (λ len. IsMet (set slots q x) e (next_slot len at) n) (sym (length-set slots q x)) (met_kept slots e x q (next_slot (length slots) at) n some free h.1),
     )
 
--- the same of whole searches
+-- a whole search for a hash, once an entry is put
 pub found_put : (slots : List ℕ) (hash entry steps at : ℕ) → IsPassed slots (first_slot (length slots) hash) steps at → slice_index slots at ≡ 0 → at < length slots → steps < length slots → IsFoundBy (set slots at entry) hash entry
 found_put slots hash entry steps at p free within lt =
     subst (λ len. IsMet (set slots at entry) entry (first_slot len hash) len) (sym (length-set slots at entry)) (met_put slots entry (first_slot (length slots) hash) steps at (length slots) p free within lt)

@@ -47,7 +47,7 @@ impl Interner {
         self.lists.len()
     }
 
-    /// The same lists, with room for `limit`.
+    /// Sets how many lists there may be. The lists stay.
     pub(crate) fn set_limit(&mut self, limit: u32)
         ensures { self.new ≡ record self.old { limit = limit } }
     {

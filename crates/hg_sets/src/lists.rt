@@ -210,7 +210,7 @@ fn put_entry(slots: &mut [u32], hash: u64, entry: u32) -> bool
     false
 }
 
-/// The same in a vector.
+/// Puts an entry into the first free slot of a vector, from the slot of its hash on. `false` says that no slot is free.
 fn put_in(slots: &mut Vec<u32>, hash: u64, entry: u32) -> bool
     requires few { length slots.old.items ≤ 2 ^ 32 }
     requires some { 0 < entry }

@@ -34,7 +34,7 @@ impl SetTable {
         Ok(Some(table))
     }
 
-    /// The same sets, with room for at most `limit`.
+    /// Sets how many sets there may be. The sets stay.
     pub fn set_limit(&mut self, limit: u32)
         requires within { length self.old.sets ≤ limit }
         requires greatest { limit ≤ MOST_SETS }

@@ -1,12 +1,21 @@
-use Rattle.std.proofs.Common.{◌∷◌, sym, ap, ◌∙◌}
-use Rattle.hg_model.specs.Change.{after}
-use Rattle.hg_model.specs.Verdicts.{IsAccepted, standing_of, verdict}
-use Rattle.hg_model.proofs.Central.{summary_step}
+use Rattle.std.proofs.Common.{sym, ◌∙◌}
+use Rattle.hg_detect.proofs.Offering.{offer_accepted, offer_again, offer_lacks_room, offer_refused}
 use Rattle.hg_detect.proofs.detector.Detector.apply_by_verdict.Goals as goal
 
-pub returns-in_ok-accept-in-Accept-clause-summary : goal.returns-in_ok-accept-in-Accept-clause-summary
-returns-in_ok-accept-in-Accept-clause-summary g c = λ past faithful accepted is answer.
-    let n = c.args.named in
-    let accepts = ap (λ x. verdict (standing_of x) n) (sym is) ∙ sym c.verdict.ensures ∙ c.in-Accept.is in
-    let follows : IsAccepted (n ∷ past) = (accepted, accepts) in
-    (follows, c.in_ok-accept-in-Accept.ensures.content faithful ∙ ap (λ x. after x n) is ∙ sym (summary_step n past follows))
+pub returns-in_err-accept-in-Accept : goal.returns-in_err-accept-in-Accept
+returns-in_err-accept-in-Accept g c =
+    offer_lacks_room g.W.Words c.args.self.now c.accept.new.self c.args.named c.from_residual.result c.in_err-accept-in-Accept.field-0.0 c.from_residual.ensures.1 (sym c.verdict.ensures ∙ c.in-Accept.is)
+    c.in_err-accept-in-Accept.ensures.unchanged c.in_err-accept-in-Accept.ensures.sets c.in_err-accept-in-Accept.ensures.cause
+    c.accept.ensures.lawful c.accept.ensures.faithful c.accept.ensures.went
+
+pub returns-in_ok-accept-in-Accept : goal.returns-in_ok-accept-in-Accept
+returns-in_ok-accept-in-Accept g c =
+    offer_accepted g.W.Words c.args.self.now c.accept.new.self c.args.named (sym c.verdict.ensures ∙ c.in-Accept.is)
+    c.in_ok-accept-in-Accept.ensures.content c.in_ok-accept-in-Accept.ensures.sets
+    c.accept.ensures.few c.accept.ensures.lawful c.accept.ensures.faithful c.accept.ensures.went
+
+pub returns-in-Duplicate : goal.returns-in-Duplicate
+returns-in-Duplicate g c = offer_again g.W.Words c.args.self.now c.args.named c.in-Duplicate.last (sym c.verdict.ensures ∙ c.in-Duplicate.is) c.requires.lawful (g.met.W.Words.went_nowhere c.args.self.now.words)
+
+pub returns-in-Refuse : goal.returns-in-Refuse
+returns-in-Refuse g c = offer_refused g.W.Words c.args.self.now c.args.named c.in-Refuse.refusal (sym c.verdict.ensures ∙ c.in-Refuse.is) c.requires.lawful (g.met.W.Words.went_nowhere c.args.self.now.words)

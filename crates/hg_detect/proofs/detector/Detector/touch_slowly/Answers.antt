@@ -1,16 +1,25 @@
+use Rattle.std.proofs.Common.{Ok, subst}
 use Rattle.hg_model.specs.Accessing.{access_named}
-use Rattle.hg_detect.proofs.Admitting.{answered, answered_refused}
+use Rattle.hg_detect.specs.Answering.{AnswersOffer}
+use Rattle.hg_detect.proofs.Offering.{engine_accepted, engine_refused, refused_on}
 use Rattle.hg_detect.proofs.detector.Detector.touch_slowly.Goals as goal
 
-pub returns-in_err-access_slowly-clause-answer : goal.returns-in_err-access_slowly-clause-answer
-returns-in_err-access_slowly-clause-answer g c =
-    answered_refused g.W.Words c.args.self.now (access_named c.args.source c.args.number c.args.write c.args.access) c.from_residual.result c.in_err-access_slowly.field-0.0 c.from_residual.ensures.1 (c.requires.admitted c.if-admitted.true) c.in_err-access_slowly.ensures.answers.cause
+pub returns-in_err-access_slowly : goal.returns-in_err-access_slowly
+returns-in_err-access_slowly g c =
+    engine_refused g.W.Words c.self.inside.engine c.access_slowly.new.self c.args.self.now (access_named c.args.source c.args.number c.args.write c.args.access) c.from_residual.result c.in_err-access_slowly.field-0.0 c.from_residual.ensures.1
+    c.self.view_is (c.requires.admitted c.if-admitted.true) c.in_err-access_slowly.ensures.answers c.access_slowly.ensures.went
 
-pub returns-in_err-access_slowly-clause-same : goal.returns-in_err-access_slowly-clause-same
-returns-in_err-access_slowly-clause-same g c = λ not. absurd (not (c.requires.admitted c.if-admitted.true))
+pub returns-then-admitted : goal.returns-then-admitted
+returns-then-admitted g c =
+    engine_accepted g.W.Words c.self.inside.engine c.access_slowly.new.self c.args.self.now (access_named c.args.source c.args.number c.args.write c.args.access)
+    c.self.view_is c.self.invariant (c.requires.admitted c.if-admitted.true) c.in_ok-access_slowly.ensures.answers c.access_slowly.ensures.went
 
-pub returns-then-admitted-clause-answer : goal.returns-then-admitted-clause-answer
-returns-then-admitted-clause-answer g c = answered g.W.Words c.args.self.now (access_named c.args.source c.args.number c.args.write c.args.access) (c.requires.admitted c.if-admitted.true)
+pub returns-in_err-answer : goal.returns-in_err-answer
+returns-in_err-answer g c =
+    subst (λ event. AnswersOffer g.W.Words c.args.self.now (record { source = c.args.source; number = c.args.number; event = event }) c.from_residual-in_err-answer.result c.apply_by_verdict.new.self) c.event_of-event.ensures
+    (refused_on g.W.Words c.args.self.now c.apply_by_verdict.new.self _ c.from_residual-in_err-answer.result c.in_err-answer.field-0.0 c.from_residual-in_err-answer.ensures.1 c.in_err-answer.ensures)
 
-pub returns-then-admitted-clause-same : goal.returns-then-admitted-clause-same
-returns-then-admitted-clause-same g c = λ not. absurd (not (c.requires.admitted c.if-admitted.true))
+pub returns : goal.returns
+returns g c =
+    subst (λ event. AnswersOffer g.W.Words c.args.self.now (record { source = c.args.source; number = c.args.number; event = event }) (Ok c.in_ok-answer.answer) c.apply_by_verdict.new.self)
+    c.event_of-event.ensures c.in_ok-answer.ensures
