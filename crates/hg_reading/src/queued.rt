@@ -1,9 +1,9 @@
-//! Parsed lines that are kept until they are offered.
+//! Parsed lines, queued until they are offered.
 
 ghost use Rattle.std.specs.Prelude.{◌≡◌, ℕ, ◌+◌, ◌++◌, ◌∷◌, [], ◌<◌, ◌≤◌, ◌^◌, length, vec_capacity, vec_len};
 ghost use Rattle.std.specs.Bool.{OnFalse, OnTrue};
 ghost use Rattle.hg_model.specs.Holding.{hold_event};
-ghost use Rattle.hg_reading.specs.Keeping.{KeepsLine, OffersKept, lines_by, lines_kept, one, one_access, reading_kept, readings_kept};
+ghost use Rattle.hg_reading.specs.Queueing.{CountsLine, OffersQueued, QueuesLine, lines_by, lines_queued, one, one_access, reading_queued, readings_queued};
 
 use crate::sink::Sink;
 use hg_model::event::{Access, Block, Event, Hold, HoldKind};
@@ -15,7 +15,7 @@ use hg_wire::reader::Reading;
 /// A line with its event, or a number of lines without one. It takes 16 bytes, a `Reading` 48: parsed lines go through the memory of two
 /// processors.
 #[derive(Clone, Copy, Debug, PartialEq, Eq, Drop)]
-pub enum Kept {
+pub enum Queued {
     /// So many lines are empty or comments.
     Passed(u64),
     Fork {
@@ -49,15 +49,15 @@ pub enum Kept {
     },
 }
 
-impl Kept {
+impl Queued {
     /// The line of a read or a write.
     #[inline(always)]
     pub fn of_access(is_write: bool, access: Access) -> Self
-        ensures reading { (n : ℕ) → reading_kept n result ≡ one_access n is_write access }
+        ensures reading { (n : ℕ) → reading_queued n result ≡ one_access n is_write access }
         ensures lines { lines_by result ≡ 1 }
     {
         let Access { t, at, len } = access;
-        Kept::Access {
+        Queued::Access {
             len,
             is_write,
             t,
@@ -68,40 +68,40 @@ impl Kept {
     /// The line of an event on a lock.
     #[inline(always)]
     pub fn of_hold(hold: Hold) -> Self
-        ensures reading { (n : ℕ) → reading_kept n result ≡ one n (hold_event hold) }
+        ensures reading { (n : ℕ) → reading_queued n result ≡ one n (hold_event hold) }
         ensures lines { lines_by result ≡ 1 }
     {
         let Hold { t, l, kind } = hold;
-        Kept::Hold { kind, t, l }
+        Queued::Hold { kind, t, l }
     }
 
     /// The line of an event.
     pub fn of_event(event: Event) -> Self
-        ensures reading { (n : ℕ) → reading_kept n result ≡ one n event }
+        ensures reading { (n : ℕ) → reading_queued n result ≡ one n event }
         ensures lines { lines_by result ≡ 1 }
     {
         match event {
-            Event::Fork { p, c } => Kept::Fork { p, c },
-            Event::Join { p, c } => Kept::Join { p, c },
-            Event::Lock { t, l } => Kept::Hold {
+            Event::Fork { p, c } => Queued::Fork { p, c },
+            Event::Join { p, c } => Queued::Join { p, c },
+            Event::Lock { t, l } => Queued::Hold {
                 kind: HoldKind::Lock,
                 t,
                 l,
             },
-            Event::RdLock { t, l } => Kept::Hold {
+            Event::RdLock { t, l } => Queued::Hold {
                 kind: HoldKind::RdLock,
                 t,
                 l,
             },
-            Event::Unlock { t, l } => Kept::Hold {
+            Event::Unlock { t, l } => Queued::Hold {
                 kind: HoldKind::Unlock,
                 t,
                 l,
             },
-            Event::Read(access) => Kept::of_access(false, access),
-            Event::Write(access) => Kept::of_access(true, access),
-            Event::Alloc(Block { t, at, len }) => Kept::Alloc { t, len, at },
-            Event::Free(Block { t, at, len }) => Kept::Free { t, len, at },
+            Event::Read(access) => Queued::of_access(false, access),
+            Event::Write(access) => Queued::of_access(true, access),
+            Event::Alloc(Block { t, at, len }) => Queued::Alloc { t, len, at },
+            Event::Free(Block { t, at, len }) => Queued::Free { t, len, at },
         }
     }
 
@@ -111,7 +111,7 @@ impl Kept {
         ensures { result ≡ lines_by self.now }
     {
         match *self {
-            Kept::Passed(count) => count,
+            Queued::Passed(count) => count,
             _ => 1,
         }
     }
@@ -119,47 +119,47 @@ impl Kept {
 
 /// Appends `passed` lines without an event, and the line `it`. `false` says that there is no room; nothing is appended then.
 #[inline(always)]
-pub fn keep(kept: &mut Vec<Kept>, passed: u64, it: Kept) -> bool
-    ensures readings { OnTrue result (KeepsLine kept.old.items passed it kept.new.items) }
-    ensures lines { OnTrue result (lines_kept kept.new.items ≡ lines_kept kept.old.items + passed + lines_by it) }
-    ensures full { OnFalse result (kept.new.items ≡ kept.old.items) }
+pub fn queue(queued: &mut Vec<Queued>, passed: u64, it: Queued) -> bool
+    ensures readings { OnTrue result (QueuesLine queued.old.items passed it queued.new.items) }
+    ensures lines { OnTrue result (CountsLine queued.old.items passed it queued.new.items) }
+    ensures full { OnFalse result (queued.new.items ≡ queued.old.items) }
 {
-    if kept.capacity() - kept.len() < 2 {
+    if queued.capacity() - queued.len() < 2 {
         return false;
     }
     if passed == 0 {
-        push(kept, it);
+        push(queued, it);
         return true;
     }
-    push(kept, Kept::Passed(passed));
-    push(kept, it);
+    push(queued, Queued::Passed(passed));
+    push(queued, it);
     true
 }
 
 /// Appends one item, for which there is room.
 #[inline(always)]
-fn push(kept: &mut Vec<Kept>, it: Kept)
-    requires room { vec_len kept.old < vec_capacity kept.old }
-    ensures items { kept.new.items ≡ kept.old.items ++ it ∷ [] }
-    ensures len { vec_len kept.new ≡ vec_len kept.old + 1 }
-    ensures capacity { vec_capacity kept.old ≤ vec_capacity kept.new }
+fn push(queued: &mut Vec<Queued>, it: Queued)
+    requires room { vec_len queued.old < vec_capacity queued.old }
+    ensures items { queued.new.items ≡ queued.old.items ++ it ∷ [] }
+    ensures len { vec_len queued.new ≡ vec_len queued.old + 1 }
+    ensures capacity { vec_capacity queued.old ≤ vec_capacity queued.new }
 {
-    kept.push(it).unwrap();
+    queued.push(it).unwrap();
 }
 
-/// Offers the kept lines, which stand behind `lines` others, up to the first that is not passed. `None` says that each was passed.
+/// Offers the queued lines, which stand behind `lines` others, up to the first that is not passed. `None` says that each was passed.
 pub fn offer_all<W, S: Sink<W>>(
     lines: u64,
-    kept: &[Kept],
+    queued: &[Queued],
     sink: &mut S,
     output: &mut Output<W>,
 ) -> Result<Option<S::End>, Refusal>
-    requires lines { lines + lines_kept kept.now < 2 ^ 64 }
-    requires room { S.may_take sink.old (length (readings_kept lines kept.now)) }
-    ensures { OffersKept S.takes lines kept.now sink.old output.old result sink.new output.new }
+    requires lines { lines + lines_queued queued.now < 2 ^ 64 }
+    requires room { S.may_take sink.old (length (readings_queued lines queued.now)) }
+    ensures { OffersQueued S.takes lines queued.now sink.old output.old result sink.new output.new }
 {
     let mut lines = lines;
-    for it in kept {
+    for it in queued {
         if let Some(end) = offer(lines, it, sink, output)? {
             return Ok(Some(end));
         }
@@ -168,36 +168,36 @@ pub fn offer_all<W, S: Sink<W>>(
     Ok(None)
 }
 
-/// Offers one kept item.
+/// Offers one queued item.
 #[inline(always)]
 fn offer<W, S: Sink<W>>(
     lines: u64,
-    kept: &Kept,
+    queued: &Queued,
     sink: &mut S,
     output: &mut Output<W>,
 ) -> Result<Option<S::End>, Refusal>
-    requires lines { lines + lines_by kept.now < 2 ^ 64 }
-    requires room { S.may_take sink.old (length (reading_kept lines kept.now)) }
-    ensures { S.takes sink.old output.old.calls (reading_kept lines kept.now) result sink.new output.new.calls }
+    requires lines { lines + lines_by queued.now < 2 ^ 64 }
+    requires room { S.may_take sink.old (length (reading_queued lines queued.now)) }
+    ensures { S.takes sink.old output.old.calls (reading_queued lines queued.now) result sink.new output.new.calls }
 {
-    match *kept {
-        Kept::Passed(_) => Ok(None),
-        Kept::Fork { p, c } => offer_event(lines, Event::Fork { p, c }, sink, output),
-        Kept::Join { p, c } => offer_event(lines, Event::Join { p, c }, sink, output),
-        Kept::Hold { kind, t, l } => offer_hold(lines, Hold { t, l, kind }, sink, output),
-        Kept::Access {
+    match *queued {
+        Queued::Passed(_) => Ok(None),
+        Queued::Fork { p, c } => offer_event(lines, Event::Fork { p, c }, sink, output),
+        Queued::Join { p, c } => offer_event(lines, Event::Join { p, c }, sink, output),
+        Queued::Hold { kind, t, l } => offer_hold(lines, Hold { t, l, kind }, sink, output),
+        Queued::Access {
             len,
             is_write,
             t,
             at,
         } => offer_access(lines, is_write, Access { t, at, len }, sink, output),
-        Kept::Alloc { t, len, at } => offer_event(
+        Queued::Alloc { t, len, at } => offer_event(
             lines,
             Event::Alloc(Block { t, at, len }),
             sink,
             output,
         ),
-        Kept::Free { t, len, at } => offer_event(
+        Queued::Free { t, len, at } => offer_event(
             lines,
             Event::Free(Block { t, at, len }),
             sink,
