@@ -1,7 +1,7 @@
 use Rattle.std.proofs.Common.{◌++◌, ◌∙◌, ap, arith}
 use Rattle.std.proofs.lemmas.Result.{on_ok_weaker}
 use Rattle.hg_check.proofs.Lines.{more_line}
-use Rattle.hg_check.proofs.explain.telling.hold_more.Goals as goal
+use Rattle.hg_check.proofs.explain.event_line.hold_more.Goals as goal
 
 pub returns-clause-ok : goal.returns-clause-ok
 returns-clause-ok c =

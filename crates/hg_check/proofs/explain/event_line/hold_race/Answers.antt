@@ -6,7 +6,7 @@ use Rattle.hg_cells.specs.declared.report.KeptReport.{KeptReport}
 use Rattle.hg_detect.specs.Shown.{report_of}
 use Rattle.hg_check.specs.Life.{race_text}
 use Rattle.hg_check.proofs.Lines.{race_found, race_passed}
-use Rattle.hg_check.proofs.explain.telling.hold_race.Goals as goal
+use Rattle.hg_check.proofs.explain.event_line.hold_race.Goals as goal
 
 pub returns-then-kept-index-clause-ok : goal.returns-then-kept-index-clause-ok
 returns-then-kept-index-clause-ok c =

@@ -3,7 +3,7 @@ use Rattle.std.proofs.lemmas.Result.{on_ok_weaker}
 use Rattle.hg_sets.specs.Interning.{set_at}
 use Rattle.hg_wire.specs.Reports.{predecessors_text}
 use Rattle.hg_check.proofs.Lines.{four_joined}
-use Rattle.hg_check.proofs.explain.telling.hold_sets.Goals as goal
+use Rattle.hg_check.proofs.explain.event_line.hold_sets.Goals as goal
 
 pub returns-clause-ok : goal.returns-clause-ok
 returns-clause-ok c =

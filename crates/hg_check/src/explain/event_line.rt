@@ -13,6 +13,7 @@ use hg_cells::Cell;
 use hg_cells::words::Words;
 use hg_detect::memory::MemoryDetector;
 use hg_model::event::Event;
+use hg_model::limits::THREAD_NUMBERS;
 use hg_model::verdict::Refusal;
 use itoa::Buffer;
 
@@ -35,7 +36,7 @@ fn hold_place(
     t: u16,
     held: &mut Vec<u8>,
 ) -> Result<(), Refusal>
-    requires { t < 1024 }
+    requires { t < THREAD_NUMBERS }
     ensures ok { HoldsMore result held.old held.new (verb.now ++ life.place_text (content_of detector.now) t) }
     ensures cause { IfErr result (λ r. r ≡ Refusal.OutOfMemory) }
 {
@@ -58,7 +59,7 @@ fn hold_access(
     t: u16,
     held: &mut Vec<u8>,
 ) -> Result<(), Refusal>
-    requires { t < 1024 }
+    requires { t < THREAD_NUMBERS }
     ensures ok { HoldsMore result held.old held.new (life.access_text (content_of detector.now) write t) }
     ensures cause { IfErr result (λ r. r ≡ Refusal.OutOfMemory) }
 {
@@ -74,7 +75,7 @@ fn hold_access(
 
 /// Holds who acts.
 fn hold_acts(detector: &MemoryDetector, event: &Event, held: &mut Vec<u8>) -> Result<(), Refusal>
-    requires { life.actor_of event.now < 1024 }
+    requires { life.actor_of event.now < THREAD_NUMBERS }
     ensures ok { HoldsMore result held.old held.new (life.acts_text (content_of detector.now) event.now) }
     ensures cause { IfErr result (λ r. r ≡ Refusal.OutOfMemory) }
 {
@@ -228,7 +229,7 @@ pub fn hold_event(
 ) -> Result<(), Refusal>
     requires whole { IsWhole detector.now }
     requires word { asked.word < 2 ^ 62 }
-    requires actor { life.actor_of accepted.now.event < 1024 }
+    requires actor { life.actor_of accepted.now.event < THREAD_NUMBERS }
     ensures ok { HoldsMore result held.old held.new (event_text asked accepted.now (content_of detector.now)) }
     ensures cause { IfErr result (λ r. r ≡ Refusal.OutOfMemory) }
 {
@@ -267,7 +268,7 @@ fn hold_changes(
     held: &mut Vec<u8>,
 ) -> Result<(), Refusal>
     requires whole { IsWhole detector.now }
-    requires actor { t < 1024 }
+    requires actor { t < THREAD_NUMBERS }
     ensures ok { HoldsMore result held.old held.new (life.changes_of before word (content_of detector.now) t) }
     ensures cause { IfErr result (λ r. r ≡ Refusal.OutOfMemory) }
 {

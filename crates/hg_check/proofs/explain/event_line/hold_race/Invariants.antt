@@ -1,7 +1,7 @@
 use Rattle.std.proofs.Common.{◌≡◌, ◌+◌, drop, map}
 use Rattle.hg_detect.specs.Shown.{report_of}
 use Rattle.hg_check.specs.Life.{race_text}
-use Rattle.hg_check.proofs.explain.telling.hold_race.Given as goal
+use Rattle.hg_check.proofs.explain.event_line.hold_race.Given as goal
 
 abbrev pub invariant-loop-index : goal.invariant-loop-index
 invariant-loop-index l =

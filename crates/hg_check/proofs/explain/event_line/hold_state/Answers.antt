@@ -6,7 +6,7 @@ use Rattle.hg_cells.specs.Cells.{meaning}
 use Rattle.hg_cells.specs.declared.paged.PagedWords.{PagedWords}
 use Rattle.hg_cells.specs.Paged.{cell_in}
 use Rattle.hg_check.specs.Life.{state_text}
-use Rattle.hg_check.proofs.explain.telling.hold_state.Goals as goal
+use Rattle.hg_check.proofs.explain.event_line.hold_state.Goals as goal
 
 pub returns-in-Exclusive-clause-ok : goal.returns-in-Exclusive-clause-ok
 returns-in-Exclusive-clause-ok c =
