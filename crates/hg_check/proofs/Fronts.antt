@@ -1,6 +1,8 @@
 -- What was written when a run was broken off.
-use Rattle.std.proofs.Common.{◌≡◌, ℕ, ◌<◌, Bool, true, false, List, [], ◌∷◌, ◌++◌, refl, sym, ap, subst, ◌∙◌, ⊎_elim, arith}
+use Rattle.std.proofs.Common.{◌≡◌, ℕ, ◌<◌, List, [], ◌∷◌, ◌++◌, refl, sym, ap, subst, ◌∙◌, ⊎_elim, arith}
 use Rattle.std.proofs.lemmas.List.{append-nil}
+use Rattle.hg_streams.specs.declared.listing.Listing.{Listing}
+use Rattle.hg_streams.specs.declared.listing.Listing.TheVariants.{Reports, Segments}
 use Rattle.hg_streams.specs.declared.call.ReadCall.{ReadCall}
 use Rattle.hg_streams.specs.declared.call.WriteCall.{WriteCall}
 use Rattle.hg_streams.specs.Calls.{ends_met, given, MayBe}
@@ -19,12 +21,12 @@ use Rattle.hg_check.proofs.Growing.{live_text_grows}
 use Rattle.hg_check.proofs.Unique.{leads_to_one}
 
 -- the reports of a content were written, or a front of them
-pub wrote_live : (live : Bool) (reads reads_new : List ReadCall) (first now : List WriteCall) (c : Content) → HasReports reads reads_new c → TookFront first now (live_text live c)
-    → WroteFront (λ d end. live_text live d) reads reads_new first now
-wrote_live live reads reads_new first now c h f = record {
+pub wrote_live : (listing : Listing) (reads reads_new : List ReadCall) (first now : List WriteCall) (c : Content) → HasReports reads reads_new c → TookFront first now (live_text listing c)
+    → WroteFront (λ d end. live_text listing d) reads reads_new first now
+wrote_live listing reads reads_new first now c h f = record {
   later = h.later;
   since = h.since;
-  front = λ input d end m l. let more = live_text_grows live c d (h.grows input d end m l) in front_more first now (live_text live c) more.0 (live_text live d) more.1 f;
+  front = λ input d end m l. let more = live_text_grows listing c d (h.grows input d end m l) in front_more first now (live_text listing c) more.0 (live_text listing d) more.1 f;
 }
 
 pub wrote_none : (text : Content → Ending → List ℕ) (reads : List ReadCall) (old : List WriteCall) → WroteFront text reads reads old old
@@ -34,15 +36,15 @@ pub wrote_nothing : (text : Content → Ending → List ℕ) (reads : List ReadC
 wrote_nothing text reads first now f = record { later = []; since = refl; front = λ input d end m l. front_more first now [] (text d end) (text d end) refl f }
 
 -- the reports are the front of what `check` prints
-pub wrote_check : (reads reads_new : List ReadCall) (first now : List WriteCall) → WroteFront (λ d end. live_text true d) reads reads_new first now → WroteFront check_text reads reads_new first now
+pub wrote_check : (reads reads_new : List ReadCall) (first now : List WriteCall) → WroteFront (λ d end. live_text Reports d) reads reads_new first now → WroteFront check_text reads reads_new first now
 wrote_check reads reads_new first now w = record {
   later = w.later;
   since = w.since;
-  front = λ input d end m l. front_more first now (live_text true d) (line_text (last_line d end)) (check_text d end) refl (w.front input d end m l);
+  front = λ input d end m l. front_more first now (live_text Reports d) (line_text (last_line d end)) (check_text d end) refl (w.front input d end m l);
 }
 
 -- and nothing is the front of what `graph` prints
-pub wrote_graph : (reads reads_new : List ReadCall) (first now : List WriteCall) → WroteFront (λ d end. live_text false d) reads reads_new first now → WroteFront graph_text reads reads_new first now
+pub wrote_graph : (reads reads_new : List ReadCall) (first now : List WriteCall) → WroteFront (λ d end. live_text Segments d) reads reads_new first now → WroteFront graph_text reads reads_new first now
 wrote_graph reads reads_new first now w = record {
   later = w.later;
   since = w.since;

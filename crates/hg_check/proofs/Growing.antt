@@ -1,6 +1,8 @@
 -- The text of reports, while they grow.
-use Rattle.std.proofs.Common.{◌≡◌, ℕ, suc, ◌+◌, Bool, true, false, List, [], ◌∷◌, ◌++◌, length, drop, refl, sym, ap, subst, ◌∙◌, arith}
+use Rattle.std.proofs.Common.{◌≡◌, ℕ, suc, ◌+◌, List, [], ◌∷◌, ◌++◌, length, drop, refl, sym, ap, subst, ◌∙◌, arith}
 use Rattle.std.proofs.lemmas.List.{append-nil, append_assoc}
+use Rattle.hg_streams.specs.declared.listing.Listing.{Listing}
+use Rattle.hg_streams.specs.declared.listing.Listing.TheVariants.{Reports, Segments}
 use Rattle.hg_streams.specs.declared.call.WriteCall.{WriteCall}
 use Rattle.hg_model.specs.declared.report.Report.{Report}
 use Rattle.hg_model.specs.Contents.{Content}
@@ -38,7 +40,7 @@ new_reports_due first now held old new from is grow p =
     subst (λ t. IsDue first now held (reports_text (from + 1) (drop from new.reports) ++ []) t) (reports_text_grows old new from is grow)
     (due_more first now held (reports_text 1 old.reports) (reports_text (from + 1) (drop from new.reports) ++ []) p)
 
-pub live_text_grows : (live : Bool) (c d : Content) → ReportsGrow c d → (more : List ℕ) × (live_text live c ++ more ≡ live_text live d)
-live_text_grows true c d grow =
+pub live_text_grows : (listing : Listing) (c d : Content) → ReportsGrow c d → (more : List ℕ) × (live_text listing c ++ more ≡ live_text listing d)
+live_text_grows Reports c d grow =
     (reports_text (1 + length c.reports) grow.0, sym (ap (λ xs. reports_text 1 xs) grow.1 ∙ reports_text_on 1 c.reports grow.0))
-live_text_grows false c d grow = ([], refl)
+live_text_grows Segments c d grow = ([], refl)

@@ -25,7 +25,7 @@ use Rattle.hg_check.specs.declared.explain.explaining.Explaining.{Explaining}
 use Rattle.hg_check.specs.declared.explain.form.Asked.{Asked}
 use Rattle.hg_check.specs.declared.explain.form.Form.{Form}
 use Rattle.hg_check.specs.Life.{life, look_of, more_text}
-use Rattle.hg_check.specs.LifeTaking.{Adds, IsReady, PassesLine, Takes}
+use Rattle.hg_check.specs.LifeTaking.{Adds, ExplainsLines, IsReady, PassesLine}
 use Rattle.hg_check.specs.Telling.{Stays, Tells}
 
 adds_line : (w : ℕ) (form : Form) (c d : Content) (k j : ℕ) (reading : Reading) (held kept : List ℕ) → (t : Tells w form c k reading d j held kept) → Adds w form c k (reading ∷ []) (Ok None) d j t.added
@@ -66,7 +66,7 @@ adds_any w form c d k j lines x = record {
 takes_passed : (old new : Explaining) (calls : List WriteCall) (reading : Reading) → IsReady old → new.asked ≡ old.asked → Steps old.detector (reading ∷ []) (Ok None) new.detector → IsWhole new.detector
     → Tells old.asked.word old.asked.form (content_of old.detector) old.more reading (content_of new.detector) new.more old.held.items new.held.items
     → new.look ≡ look_of ((content_of new.detector).words old.asked.word)
-    → Takes old calls (reading ∷ []) (Ok None) new calls
+    → ExplainsLines old calls (reading ∷ []) (Ok None) new calls
 takes_passed old new calls reading is_ready asked steps whole tells looks = record {
   asked = asked;
   steps = steps;
@@ -87,7 +87,7 @@ takes_passed old new calls reading is_ready asked steps whole tells looks = reco
 -- A line ended the run.
 takes_stop : (old new : Explaining) (calls : List WriteCall) (reading : Reading) (end : Ending) → new.asked ≡ old.asked → Steps old.detector (reading ∷ []) (Ok (Some end)) new.detector
     → Stays old.detector old.more old.held.items new.detector new.more new.held.items
-    → Takes old calls (reading ∷ []) (Ok (Some end)) new calls
+    → ExplainsLines old calls (reading ∷ []) (Ok (Some end)) new calls
 takes_stop old new calls reading end asked steps stays = record {
   asked = asked;
   steps = steps;
@@ -102,7 +102,7 @@ takes_stop old new calls reading end asked steps stays = record {
 
 -- A line was broken off, by want of memory.
 takes_broken : (old new : Explaining) (calls : List WriteCall) (reading : Reading) (y : Refusal) → new.asked ≡ old.asked → Steps old.detector (reading ∷ []) (Err y) new.detector → y ≡ OutOfMemory
-    → Takes old calls (reading ∷ []) (Err y) new calls
+    → ExplainsLines old calls (reading ∷ []) (Err y) new calls
 takes_broken old new calls reading y asked steps memory = record {
   asked = asked;
   steps = steps;
@@ -118,7 +118,7 @@ takes_broken old new calls reading y asked steps memory = record {
 }
 
 -- One line was offered.
-pub takes_line : (old new : Explaining) (calls : List WriteCall) (line : Reading) (r : Result (Option Ending) Refusal) → IsReady old → PassesLine old line r new → Takes old calls (line ∷ []) r new calls
+pub takes_line : (old new : Explaining) (calls : List WriteCall) (line : Reading) (r : Result (Option Ending) Refusal) → IsReady old → PassesLine old line r new → ExplainsLines old calls (line ∷ []) r new calls
 takes_line old new calls line (Ok None) ready p = takes_passed old new calls line ready p.asked p.steps (p.steps.whole ready.whole) (p.tells refl) (p.looks refl ∙ ap (λ (q : Asked). look_of ((content_of new.detector).words q.word)) p.asked)
 takes_line old new calls line (Ok (Some end)) ready p = takes_stop old new calls line end p.asked p.steps (p.stays end refl)
 takes_line old new calls line (Err y) ready p = takes_broken old new calls line y p.asked p.steps p.fault
@@ -130,7 +130,7 @@ pub takes_printed : {T : Type 0} (old new : Explaining) (before now : List Write
     → ((first : List WriteCall) (rest goal : List ℕ) → IsDue first before old.held.items rest goal → OnErr r (TookFront first now goal))
     → IfErr r (λ x. HasWriteCause before now x)
     → failed_writes now ≡ told r + failed_writes before
-    → Takes old before [] (as_stop r) new now
+    → ExplainsLines old before [] (as_stop r) new now
 takes_printed old new before now (Ok done) asked detector look more printed front cause failures = record {
   asked = asked;
   steps = subst (λ (d : Detector PagedWords). Steps old.detector [] (Ok None) d) (sym detector) (steps_none old.detector);

@@ -27,16 +27,16 @@ use Rattle.hg_check.proofs.Whole.{cause_by_read, cause_of}
 use Rattle.hg_check.specs.declared.explain.explaining.Explaining.{Explaining}
 use Rattle.hg_check.specs.Explaining.{WroteFrontOf, explain_text, word_line}
 use Rattle.hg_check.specs.Life.{life, more_text}
-use Rattle.hg_check.specs.LifeTaking.{IsFresh, Takes}
+use Rattle.hg_check.specs.LifeTaking.{ExplainsLines, IsFresh}
 use Rattle.hg_check.specs.LifeTakingLaws.{events_grow}
 use Rattle.hg_check.specs.Telling.{HasRun}
 use Rattle.hg_check.proofs.Told.{life_none}
 
-steps_seen : (a b : Explaining) (at_a at_b : List WriteCall) (lines : List Reading) (r : Result (Option Ending) Refusal) → Takes a at_a lines r b at_b → StepsTaken a.detector at_a lines r b.detector at_b
+steps_seen : (a b : Explaining) (at_a at_b : List WriteCall) (lines : List Reading) (r : Result (Option Ending) Refusal) → ExplainsLines a at_a lines r b at_b → StepsTaken a.detector at_a lines r b.detector at_b
 steps_seen a b at_a at_b lines r h = h.steps
 
-seen : (first now : List ReadCall) (s t : Explaining) (o p : List WriteCall) (r : Result (Option Ending) Refusal) → WasRead Takes first now s o r t p → WasRead StepsTaken first now s.detector o r t.detector p
-seen = read_through Takes StepsTaken (λ s. s.detector) steps_seen
+seen : (first now : List ReadCall) (s t : Explaining) (o p : List WriteCall) (r : Result (Option Ending) Refusal) → WasRead ExplainsLines first now s o r t p → WasRead StepsTaken first now s.detector o r t.detector p
+seen = read_through ExplainsLines StepsTaken (λ s. s.detector) steps_seen
 
 no_error : (stop : Option Ending) (x : Refusal) → ◌≡◌ {A = Result (Option Ending) Refusal} (Ok stop) (Err x) → ⊥
 no_error stop x h = absurd (cc)
@@ -49,7 +49,7 @@ from_empty s n lines fresh =
 no_events : (s : Explaining) → IsFresh s → (content_of s.detector).events ≡ 0
 no_events s fresh = ap (λ (c : Content). c.events) fresh.start.content
 
-told_to : (s t : Explaining) (o p : List WriteCall) (lines rest : List Reading) (stop : Option Ending) (h : Takes s o lines (Ok stop) t p)
+told_to : (s t : Explaining) (o p : List WriteCall) (lines rest : List Reading) (stop : Option Ending) (h : ExplainsLines s o lines (Ok stop) t p)
     → life s.asked.word s.asked.form (content_of s.detector) s.more h.adds.count (lines ++ rest) ≡ h.text ++ more_text t.more
 told_to s t o p lines rest None h =
     let all : h.adds.count ≡ h.adds.count + 0 = omega arith in
@@ -58,7 +58,7 @@ told_to s t o p lines rest None h =
 told_to s t o p lines rest (Some end) h = h.adds.ends end refl rest
 
 -- The run came to an ending.
-pub has_run : (first now : List ReadCall) (s t : Explaining) (o p : List WriteCall) (stop : Option Ending) → IsFresh s → WasRead Takes first now s o (Ok stop) t p
+pub has_run : (first now : List ReadCall) (s t : Explaining) (o p : List WriteCall) (stop : Option Ending) → IsFresh s → WasRead ExplainsLines first now s o (Ok stop) t p
     → HasRun s.asked.word s.asked.form first now o p s.held.items t.held.items (content_of t.detector) t.more (ending_of stop)
 has_run first now s t o p stop fresh w =
     let v = seen first now s t o p (Ok stop) w in
@@ -103,7 +103,7 @@ front_last s begun p n lines input last end fresh is counted f =
     (append_assoc (line_text (word_line s.asked.word)) told (line_text (last_line last end)))
     (subst (λ x. TookFront begun p (line_text (word_line s.asked.word) ++ x)) same f)
 
-front_read : (first now : List ReadCall) (s t : Explaining) (o p begun : List WriteCall) (x : Refusal) → IsFresh s → WasRead Takes first now s o (Err x) t p
+front_read : (first now : List ReadCall) (s t : Explaining) (o p begun : List WriteCall) (x : Refusal) → IsFresh s → WasRead ExplainsLines first now s o (Err x) t p
     → IsDue begun o s.held.items [] (line_text (word_line s.asked.word)) → WroteFrontOf s.asked.word s.asked.form first now begun p
 front_read first now s t o p begun x fresh w due = record {
   later = w.later;
@@ -116,7 +116,7 @@ front_read first now s t o p begun x fresh w due = record {
       (w.steps.front x refl begun (line_text (word_line s.asked.word)) due last.events rest.0 last end led counted);
 }
 
-front_broke : (first now : List ReadCall) (s t : Explaining) (o p begun : List WriteCall) (x : Refusal) → IsFresh s → ReadBroke Takes first now s o x t p
+front_broke : (first now : List ReadCall) (s t : Explaining) (o p begun : List WriteCall) (x : Refusal) → IsFresh s → ReadBroke ExplainsLines first now s o x t p
     → IsDue begun o s.held.items [] (line_text (word_line s.asked.word)) → WroteFrontOf s.asked.word s.asked.form first now begun p
 front_broke first now s t o p begun x fresh w due = record {
   later = w.later;
@@ -137,11 +137,11 @@ front_broke first now s t o p begun x fresh w due = record {
       (front_due begun p t.held.items [] (head ++ w.steps.text) (w.steps.due (no_error None) begun head due)));
 }
 
-pub broke : (first now : List ReadCall) (s t : Explaining) (o p begun : List WriteCall) (x : Refusal) → IsFresh s → Reads Takes first now s o (Err x) t p
+pub broke : (first now : List ReadCall) (s t : Explaining) (o p begun : List WriteCall) (x : Refusal) → IsFresh s → Reads ExplainsLines first now s o (Err x) t p
     → IsDue begun o s.held.items [] (line_text (word_line s.asked.word)) → WroteFrontOf s.asked.word s.asked.form first now begun p
 broke first now s t o p begun x fresh reads due =
     ⊎_elim (λ w. front_read first now s t o p begun x fresh w due) (λ w. front_broke first now s t o p begun x fresh w due) reads
 
-pub broke_cause : (first now : List ReadCall) (s t : Explaining) (o p : List WriteCall) (x : Refusal) → Reads Takes first now s o (Err x) t p → HasCause first now o p x
+pub broke_cause : (first now : List ReadCall) (s t : Explaining) (o p : List WriteCall) (x : Refusal) → Reads ExplainsLines first now s o (Err x) t p → HasCause first now o p x
 broke_cause first now s t o p x reads =
-    ⊎_elim (λ w. cause_of first now o p x (w.steps.cause x refl)) (λ w. cause_by_read Takes first now s t o p x w) reads
+    ⊎_elim (λ w. cause_of first now o p x (w.steps.cause x refl)) (λ w. cause_by_read ExplainsLines first now s t o p x w) reads

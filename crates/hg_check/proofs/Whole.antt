@@ -1,6 +1,8 @@
 -- What reading a whole text leads to.
-use Rattle.std.proofs.Common.{◌≡◌, ℕ, Bool, true, false, List, [], ◌∷◌, ◌++◌, length, Option, None, Result, Ok, Err, refl, sym, ap, ◌∙◌, subst, inl, inr, ⊎_elim, arith}
+use Rattle.std.proofs.Common.{◌≡◌, ℕ, List, [], ◌∷◌, ◌++◌, length, Option, None, Result, Ok, Err, refl, sym, ap, ◌∙◌, subst, inl, inr, ⊎_elim, arith}
 use Rattle.std.proofs.lemmas.List.{append-nil, length-append}
+use Rattle.hg_streams.specs.declared.listing.Listing.{Listing}
+use Rattle.hg_streams.specs.declared.listing.Listing.TheVariants.{Reports, Segments}
 use Rattle.hg_model.specs.declared.report.Report.{Report}
 use Rattle.hg_model.specs.declared.verdict.Refusal.{Refusal}
 use Rattle.hg_model.specs.Change.{empty_content}
@@ -21,7 +23,7 @@ use Rattle.hg_check.specs.Printing.{ReadsTo, WroteFront}
 use Rattle.hg_streams.specs.Texts.{reports_text}
 use Rattle.hg_check.specs.Running.{ReportsGrow, StepsTaken, live_text}
 use Rattle.hg_streams.specs.Faults.{HasCause, HasWriteCause}
-use Rattle.hg_check.specs.Taking.{IsFresh, IsPrinted, Takes}
+use Rattle.hg_check.specs.Taking.{ChecksLines, IsFresh, IsPrinted}
 use Rattle.hg_reading.specs.Endings.{ending_of}
 use Rattle.hg_streams.specs.Written.{TookFront}
 use Rattle.hg_reading.proofs.Through.{broke_through, read_through}
@@ -32,31 +34,31 @@ use Rattle.hg_check.proofs.Growing.{live_text_grows}
 
 -- ---- a run as its detector sees it
 
-steps_seen : (a b : Checking) (at_a at_b : List WriteCall) (lines : List Reading) (r : Result (Option Ending) Refusal) → Takes a at_a lines r b at_b → StepsTaken a.detector at_a lines r b.detector at_b
+steps_seen : (a b : Checking) (at_a at_b : List WriteCall) (lines : List Reading) (r : Result (Option Ending) Refusal) → ChecksLines a at_a lines r b at_b → StepsTaken a.detector at_a lines r b.detector at_b
 steps_seen a b at_a at_b lines r h = h.steps
 
-seen : (first now : List ReadCall) (s t : Checking) (o p : List WriteCall) (r : Result (Option Ending) Refusal) → WasRead Takes first now s o r t p → WasRead StepsTaken first now s.detector o r t.detector p
-seen = read_through Takes StepsTaken (λ s. s.detector) steps_seen
+seen : (first now : List ReadCall) (s t : Checking) (o p : List WriteCall) (r : Result (Option Ending) Refusal) → WasRead ChecksLines first now s o r t p → WasRead StepsTaken first now s.detector o r t.detector p
+seen = read_through ChecksLines StepsTaken (λ s. s.detector) steps_seen
 
-seen_broke : (first now : List ReadCall) (s t : Checking) (o p : List WriteCall) (x : Refusal) → ReadBroke Takes first now s o x t p → ReadBroke StepsTaken first now s.detector o x t.detector p
-seen_broke = broke_through Takes StepsTaken (λ s. s.detector) steps_seen
+seen_broke : (first now : List ReadCall) (s t : Checking) (o p : List WriteCall) (x : Refusal) → ReadBroke ChecksLines first now s o x t p → ReadBroke StepsTaken first now s.detector o x t.detector p
+seen_broke = broke_through ChecksLines StepsTaken (λ s. s.detector) steps_seen
 
 -- ---- what was printed
 
-nothing_live : (live : Bool) → [] ≡ live_text live empty_content
-nothing_live true = refl
-nothing_live false = refl
+nothing_live : (listing : Listing) → [] ≡ live_text listing empty_content
+nothing_live Reports = refl
+nothing_live Segments = refl
 
-fresh_due : (live : Bool) (known : List WriteCall) (held : List ℕ) → held ≡ [] → IsDue known known held [] (live_text live empty_content)
-fresh_due live known held none =
-    subst (λ t. IsDue known known held [] t) (nothing_live live) (record { written = []; appended = record { later = []; since = refl; whole = refl; all = refl }; whole = ap (λ xs. xs ++ []) none })
+fresh_due : (listing : Listing) (known : List WriteCall) (held : List ℕ) → held ≡ [] → IsDue known known held [] (live_text listing empty_content)
+fresh_due listing known held none =
+    subst (λ t. IsDue known known held [] t) (nothing_live listing) (record { written = []; appended = record { later = []; since = refl; whole = refl; all = refl }; whole = ap (λ xs. xs ++ []) none })
 
-printed_first : (live : Bool) (s : Checking) (known : List WriteCall) → IsFresh live s → IsPrinted known s known
-printed_first live s known fresh = record {
+printed_first : (listing : Listing) (s : Checking) (known : List WriteCall) → IsFresh listing s → IsPrinted known s known
+printed_first listing s known fresh = record {
   before = empty_content;
   count = fresh.printed;
   grow = subst (λ c. ReportsGrow empty_content c) (sym fresh.start.content) ([], refl);
-  due = fresh_due s.live known s.held.items fresh.held;
+  due = fresh_due s.listing known s.held.items fresh.held;
 }
 
 no_error : (stop : Option Ending) (x : Refusal) → ◌≡◌ {A = Result (Option Ending) Refusal} (Ok stop) (Err x) → ⊥
@@ -66,15 +68,15 @@ same_reports : (xs ys more : List Report) → ys ≡ xs ++ more → length xs �
 same_reports xs ys [] is same = sym (is ∙ append-nil xs)
 same_reports xs ys (r ∷ more) is same = absurd (omega (arith, same, ap length is, length-append xs (r ∷ more)))
 
-live_same : (live : Bool) (c d : Content) → c.reports ≡ d.reports → live_text live c ≡ live_text live d
-live_same true c d is = ap (λ xs. reports_text 1 xs) is
-live_same false c d is = refl
+live_same : (listing : Listing) (c d : Content) → c.reports ≡ d.reports → live_text listing c ≡ live_text listing d
+live_same Reports c d is = ap (λ xs. reports_text 1 xs) is
+live_same Segments c d is = refl
 
 -- Where all reports were printed, the text of them all is due.
-pub all_printed : (s : Checking) (first now : List WriteCall) → s.printed ≡ length (content_of s.detector).reports → IsPrinted first s now → IsDue first now s.held.items [] (live_text s.live (content_of s.detector))
+pub all_printed : (s : Checking) (first now : List WriteCall) → s.printed ≡ length (content_of s.detector).reports → IsPrinted first s now → IsDue first now s.held.items [] (live_text s.listing (content_of s.detector))
 all_printed s first now all p =
     subst (λ t. IsDue first now s.held.items [] t)
-    (live_same s.live p.before (content_of s.detector) (same_reports p.before.reports (content_of s.detector).reports p.grow.0 p.grow.1 (sym p.count ∙ all)))
+    (live_same s.listing p.before (content_of s.detector) (same_reports p.before.reports (content_of s.detector).reports p.grow.0 p.grow.1 (sym p.count ∙ all)))
     p.due
 
 -- ---- a run that was broken off
@@ -82,13 +84,13 @@ all_printed s first now all p =
 pub cause_of : (reads now : List ReadCall) (before after : List WriteCall) (x : Refusal) → HasWriteCause before after x → HasCause reads now before after x
 cause_of reads now before after x h = ⊎_elim (λ memory. inl memory) (λ failed. inr (failed.0, inr failed.1)) h
 
-due_of : (s t : Checking) (o p : List WriteCall) (lines : List Reading) (live : Bool) → IsFresh live s → Takes s o lines (Ok None) t p → IsPrinted o t p
-due_of s t o p lines live fresh h = h.printed (no_error None) o (printed_first live s o fresh)
+due_of : (s t : Checking) (o p : List WriteCall) (lines : List Reading) (listing : Listing) → IsFresh listing s → ChecksLines s o lines (Ok None) t p → IsPrinted o t p
+due_of s t o p lines listing fresh h = h.printed (no_error None) o (printed_first listing s o fresh)
 
-front_printed : (t : Checking) (first now : List WriteCall) → IsPrinted first t now → TookFront first now (live_text t.live (content_of t.detector))
+front_printed : (t : Checking) (first now : List WriteCall) → IsPrinted first t now → TookFront first now (live_text t.listing (content_of t.detector))
 front_printed t first now p =
-    let more = live_text_grows t.live p.before (content_of t.detector) p.grow in
-    front_more first now (live_text t.live p.before) more.0 (live_text t.live (content_of t.detector)) more.1 (front_due first now t.held.items [] (live_text t.live p.before) p.due)
+    let more = live_text_grows t.listing p.before (content_of t.detector) p.grow in
+    front_more first now (live_text t.listing p.before) more.0 (live_text t.listing (content_of t.detector)) more.1 (front_due first now t.held.items [] (live_text t.listing p.before) p.due)
 
 pub cause_by_read : {S : Type 0} (takes : Taking S Ending) (first now : List ReadCall) (s t : S) (o p : List WriteCall) (x : Refusal) → ReadBroke takes first now s o x t p → HasCause first now o p x
 cause_by_read takes first now s t o p x w =
@@ -103,52 +105,52 @@ cause_by_read takes first now s t o p x w =
     ))
     w.cause
 
-pub broke : (live : Bool) (first now : List ReadCall) (s t : Checking) (o p : List WriteCall) (x : Refusal) → IsFresh live s → Reads Takes first now s o (Err x) t p
-    → WroteFront (λ c end. live_text s.live c) first now o p × HasCause first now o p x
-broke live first now s t o p x fresh reads =
+pub broke : (listing : Listing) (first now : List ReadCall) (s t : Checking) (o p : List WriteCall) (x : Refusal) → IsFresh listing s → Reads ChecksLines first now s o (Err x) t p
+    → WroteFront (λ c end. live_text s.listing c) first now o p × HasCause first now o p x
+broke listing first now s t o p x fresh reads =
     ⊎_elim
     (λ w. (
-      wrote_live s.live first now o p (content_of t.detector) (reports_read first now s.detector t.detector o p (Err x) fresh.start (seen first now s t o p (Err x) w)) (w.steps.front x refl o (printed_first live s o fresh)),
+      wrote_live s.listing first now o p (content_of t.detector) (reports_read first now s.detector t.detector o p (Err x) fresh.start (seen first now s t o p (Err x) w)) (w.steps.front x refl o (printed_first listing s o fresh)),
       cause_of first now o p x (w.steps.cause x refl),
     ))
     (λ w. (
-      wrote_live s.live first now o p (content_of t.detector) (reports_broke first now s.detector t.detector o p x fresh.start (seen_broke first now s t o p x w))
-          (subst (λ l. TookFront o p (live_text l (content_of t.detector))) w.steps.live (front_printed t o p (due_of s t o p w.lines live fresh w.steps))),
-      cause_by_read Takes first now s t o p x w,
+      wrote_live s.listing first now o p (content_of t.detector) (reports_broke first now s.detector t.detector o p x fresh.start (seen_broke first now s t o p x w))
+          (subst (λ l. TookFront o p (live_text l (content_of t.detector))) w.steps.listing (front_printed t o p (due_of s t o p w.lines listing fresh w.steps))),
+      cause_by_read ChecksLines first now s t o p x w,
     ))
     reads
 
 -- ---- what is printed at the end
 
 -- what was printed behind the last line, which was broken off
-pub broke_printing : (live : Bool) (first now : List ReadCall) (s t u : Checking) (o p q : List WriteCall) (stop : Option Ending) (x : Refusal) → IsFresh live s
-    → WasRead Takes first now s o (Ok stop) t p → Takes t p [] (Err x) u q → u.detector ≡ t.detector
-    → WroteFront (λ c end. live_text s.live c) first now o q × HasCause first now o q x
-broke_printing live first now s t u o p q stop x fresh w h same = (
-  wrote_live s.live first now o q (content_of t.detector) (reports_read first now s.detector t.detector o p (Ok stop) fresh.start (seen first now s t o p (Ok stop) w))
-      (subst (λ l. TookFront o q (live_text l (content_of t.detector))) w.steps.live
-      (subst (λ (d : Detector PagedWords). TookFront o q (live_text t.live (content_of d))) same (h.front x refl o (w.steps.printed (no_error stop) o (printed_first live s o fresh))))),
+pub broke_printing : (listing : Listing) (first now : List ReadCall) (s t u : Checking) (o p q : List WriteCall) (stop : Option Ending) (x : Refusal) → IsFresh listing s
+    → WasRead ChecksLines first now s o (Ok stop) t p → ChecksLines t p [] (Err x) u q → u.detector ≡ t.detector
+    → WroteFront (λ c end. live_text s.listing c) first now o q × HasCause first now o q x
+broke_printing listing first now s t u o p q stop x fresh w h same = (
+  wrote_live s.listing first now o q (content_of t.detector) (reports_read first now s.detector t.detector o p (Ok stop) fresh.start (seen first now s t o p (Ok stop) w))
+      (subst (λ l. TookFront o q (live_text l (content_of t.detector))) w.steps.listing
+      (subst (λ (d : Detector PagedWords). TookFront o q (live_text t.listing (content_of d))) same (h.front x refl o (w.steps.printed (no_error stop) o (printed_first listing s o fresh))))),
   cause_of first now o q x (⊎_elim (λ memory. inl memory) (λ failed. inr (failed.0, omega (arith, failed.1, w.steps.failures))) (h.cause x refl)),
 )
 
 -- all reports were printed or are held
-pub due_at_end : (live : Bool) (first now : List ReadCall) (s t u : Checking) (o p q : List WriteCall) (stop : Option Ending) → IsFresh live s
-    → WasRead Takes first now s o (Ok stop) t p → Takes t p [] (Ok None) u q → u.detector ≡ t.detector → u.printed ≡ length (content_of t.detector).reports
-    → IsDue o q u.held.items [] (live_text s.live (content_of u.detector))
-due_at_end live first now s t u o p q stop fresh w h same count =
-    subst (λ l. IsDue o q u.held.items [] (live_text l (content_of u.detector))) (h.live ∙ w.steps.live)
-    (all_printed u o q (count ∙ ap (λ (d : Detector PagedWords). length (content_of d).reports) (sym same)) (h.printed (no_error None) o (w.steps.printed (no_error stop) o (printed_first live s o fresh))))
+pub due_at_end : (listing : Listing) (first now : List ReadCall) (s t u : Checking) (o p q : List WriteCall) (stop : Option Ending) → IsFresh listing s
+    → WasRead ChecksLines first now s o (Ok stop) t p → ChecksLines t p [] (Ok None) u q → u.detector ≡ t.detector → u.printed ≡ length (content_of t.detector).reports
+    → IsDue o q u.held.items [] (live_text s.listing (content_of u.detector))
+due_at_end listing first now s t u o p q stop fresh w h same count =
+    subst (λ l. IsDue o q u.held.items [] (live_text l (content_of u.detector))) (h.listing ∙ w.steps.listing)
+    (all_printed u o q (count ∙ ap (λ (d : Detector PagedWords). length (content_of d).reports) (sym same)) (h.printed (no_error None) o (w.steps.printed (no_error stop) o (printed_first listing s o fresh))))
 
-pub reads_to_end : (live : Bool) (first now : List ReadCall) (s t u : Checking) (o p : List WriteCall) (stop : Option Ending) → IsFresh live s → WasRead Takes first now s o (Ok stop) t p → u.detector ≡ t.detector
+pub reads_to_end : (listing : Listing) (first now : List ReadCall) (s t u : Checking) (o p : List WriteCall) (stop : Option Ending) → IsFresh listing s → WasRead ChecksLines first now s o (Ok stop) t p → u.detector ≡ t.detector
     → ReadsTo first now (content_of u.detector) (ending_of stop)
-reads_to_end live first now s t u o p stop fresh w same =
+reads_to_end listing first now s t u o p stop fresh w same =
     subst (λ (d : Detector PagedWords). ReadsTo first now (content_of d) (ending_of stop)) (sym same) (reads_to first now s.detector t.detector o p stop fresh.start (seen first now s t o p (Ok stop) w))
 
 -- ---- what a command asks of a run
 
-pub live_due : (first now : List WriteCall) (held : List ℕ) (c : Content) (is live : Bool) → is ≡ live → IsDue first now held [] (live_text is c) → IsDue first now held [] (live_text live c)
-live_due first now held c is live same h = subst (λ l. IsDue first now held [] (live_text l c)) same h
+pub live_due : (first now : List WriteCall) (held : List ℕ) (c : Content) (is listing : Listing) → is ≡ listing → IsDue first now held [] (live_text is c) → IsDue first now held [] (live_text listing c)
+live_due first now held c is listing same h = subst (λ l. IsDue first now held [] (live_text l c)) same h
 
-pub live_front : (reads reads_new : List ReadCall) (first now : List WriteCall) (is live : Bool) → is ≡ live → WroteFront (λ c end. live_text is c) reads reads_new first now
-    → WroteFront (λ c end. live_text live c) reads reads_new first now
-live_front reads reads_new first now is live same h = subst (λ l. WroteFront (λ c end. live_text l c) reads reads_new first now) same h
+pub live_front : (reads reads_new : List ReadCall) (first now : List WriteCall) (is listing : Listing) → is ≡ listing → WroteFront (λ c end. live_text is c) reads reads_new first now
+    → WroteFront (λ c end. live_text listing c) reads reads_new first now
+live_front reads reads_new first now is listing same h = subst (λ l. WroteFront (λ c end. live_text l c) reads reads_new first now) same h

@@ -12,6 +12,7 @@ use Rattle.hg_reading.specs.declared.ending.Ending.{Ending}
 use Rattle.hg_check.specs.Checking.{ChecksTo}
 use Rattle.hg_streams.specs.Calls.{MayBe}
 use Rattle.hg_check.specs.Printing.{ReadsTo, last_line}
+use Rattle.hg_streams.specs.declared.streams.Streams.{Streams}
 use Rattle.hg_streams.specs.Texts.{line_text}
 use Rattle.hg_reading.specs.Endings.{status_of}
 use Rattle.hg_streams.specs.Written.{Took, TookFront}
@@ -54,12 +55,16 @@ abbrev pub asked_at : ℕ → Form → Asked
 asked_at address form = record { word = address / 4; form = form }
 
 -- A status other than 3 says how the run ended, and the text of the word was printed.
-abbrev pub EndsWell : {R W : Type 0} → ℕ → Asked → Incoming R → Incoming R → Outgoing W → Outgoing W → Type 0
-EndsWell status asked reads later writes now = (status ≡ 3 → ⊥) → (end : Ending) × (status ≡ status_of end) × PrintsLife asked reads later writes now end
+abbrev pub EndsWell : {R W V : Type 0} → ℕ → Asked → Streams R W V → Streams R W V → Type 0
+EndsWell status asked before after =
+    (status ≡ 3 → ⊥)
+    → (end : Ending) × (status ≡ status_of end) × PrintsLife asked before.input after.input before.output after.output end
 
 -- The status 3 says that what was written is a front of what was due.
-abbrev pub EndsEarly : {R W : Type 0} → ℕ → Asked → Incoming R → Incoming R → Outgoing W → Outgoing W → Type 0
-EndsEarly status asked reads later writes now = status ≡ 3 → WroteFrontOf asked.word asked.form reads.calls later.calls writes.calls now.calls
+abbrev pub EndsEarly : {R W V : Type 0} → ℕ → Asked → Streams R W V → Streams R W V → Type 0
+EndsEarly status asked before after =
+    status ≡ 3
+    → WroteFrontOf asked.word asked.form before.input.calls after.input.calls before.output.calls after.output.calls
 
 -- what stands behind the last line of an event: how many accesses were not shown, and how the run ended
 abbrev pub end_text : ℕ → Content → Ending → List ℕ

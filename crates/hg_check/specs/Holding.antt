@@ -4,7 +4,7 @@ use Rattle.hg_model.specs.Contents.{Content}
 use Rattle.hg_sets.specs.Interning.{set_at}
 use Rattle.hg_streams.specs.Texts.{line_text}
 use Rattle.hg_check.specs.declared.explain.form.Asked.{Asked}
-use Rattle.hg_check.specs.declared.explain.telling.Accepted.{Accepted}
+use Rattle.hg_check.specs.declared.explain.event_line.Accepted.{Accepted}
 use Rattle.hg_check.specs.Life.{event_line, sets_text}
 
 -- Where the call succeeded, it appended this text to the held one.

@@ -122,7 +122,7 @@ front_text form c line = codes "event " ++ decimal c.events ++ place_in form lin
 abbrev pub changes_text : Look → WordState → ℕ → List ℕ
 changes_text before after g = change_text before (look_of after) g ++ bare_text before (look_of after)
 
--- the same for the word w, where thread t acts, by the content after the event
+-- what became of the state of the word w, where thread t acts, by the content after the event
 abbrev pub changes_of : Look → ℕ → Content → ℕ → List ℕ
 changes_of before w d t = changes_text before (d.words w) (present d.segments t)
 
@@ -142,7 +142,7 @@ abbrev pub told_by : ℕ → Form → Look → ℕ → Content → ℕ → ℕ �
 told_by w form before kept d k line e =
     if form.all || differs before (look_of (d.words w)) then (more_text k ++ line_text (event_line w form before kept d line e), 0) else ([], k + accesses e)
 
--- the same of any accepted event, from the content before it to the one after it
+-- What any accepted event adds to the text, and how many accesses were not shown since, from the content before it to the one after it.
 abbrev pub told_of : ℕ → Form → Content → Content → ℕ → ℕ → Event → List ℕ × ℕ
 told_of w form c d k line e = if concerns w e then told_by w form (look_of (c.words w)) (length c.reports) d k line e else ([], k)
 

@@ -4,6 +4,7 @@ use Rattle.std.specs.Fmt.{decimal}
 use Rattle.hg_model.specs.declared.event.Event.{Event}
 use Rattle.hg_model.specs.declared.event.Event.TheVariants.{Read, Write, Alloc, Free}
 use Rattle.hg_model.specs.declared.event.Named.{Named}
+use Rattle.hg_model.specs.declared.limits.TheConstants.{MOST_REPORTS}
 use Rattle.hg_model.specs.declared.report.Report.{Report}
 use Rattle.hg_model.specs.declared.word.HistoryItem.{HistoryItem}
 use Rattle.hg_model.specs.declared.word.WordState.{WordState}
@@ -29,7 +30,7 @@ state_in w trace = state (segments_of trace) (history w trace)
 
 -- the kept reports of a trace
 abbrev pub kept_in : List Event → List Report
-kept_in trace = take 65536 (all_reports trace)
+kept_in trace = take MOST_REPORTS (all_reports trace)
 
 -- a thread and its segment
 abbrev pub segment_text : ℕ → ℕ → List ℕ
@@ -85,5 +86,5 @@ LifeIsTheStory = (w : ℕ) (form : Form) (bytes : List ℕ) (c : Content) (end :
 
 -- A race stands on the line of an event where the word is reported at it, while all reports are kept, and on no other line.
 pub record RacesAreTheReports : Type 0 where
-  pub told : (w : ℕ) (past : List Event) (e : Event) → is_reported (e ∷ past) w ≡ true → length (all_reports (e ∷ past)) ≤ 65536 → (k : ℕ) × (race_in w past e ≡ codes " ; race " ++ decimal k)
+  pub told : (w : ℕ) (past : List Event) (e : Event) → is_reported (e ∷ past) w ≡ true → length (all_reports (e ∷ past)) ≤ MOST_REPORTS → (k : ℕ) × (race_in w past e ≡ codes " ; race " ++ decimal k)
   pub others : (w : ℕ) (past : List Event) (e : Event) → is_reported (e ∷ past) w ≡ false → race_in w past e ≡ []

@@ -19,7 +19,7 @@ use Rattle.hg_check.specs.Explaining.{WroteFrontOf, word_line}
 use Rattle.hg_check.specs.declared.explain.explaining.Explaining.{Explaining}
 use Rattle.hg_check.specs.declared.explain.form.Form.{Form}
 use Rattle.hg_streams.specs.Texts.{line_text}
-use Rattle.hg_check.specs.declared.explain.telling.Accepted.{Accepted}
+use Rattle.hg_check.specs.declared.explain.event_line.Accepted.{Accepted}
 use Rattle.hg_check.specs.Holding.{event_text}
 use Rattle.hg_check.specs.Life.{life, look_of, more_text, told_by}
 use Rattle.hg_check.specs.Telling.{HasRun, Stays, Tells}
@@ -49,7 +49,7 @@ WroteLifeFront s before lines now =
     → last.events ≡ (content_of s.detector).events + n → TookFront first now (goal ++ life s.asked.word s.asked.form (content_of s.detector) s.more n (lines ++ later))
 
 -- Lines were offered, or the held text was printed.
-pub record Takes (old : Explaining) (before : List WriteCall) (lines : List Reading) (r : Result (Option Ending) Refusal) (new : Explaining) (now : List WriteCall) : Type 0 where
+pub record ExplainsLines (old : Explaining) (before : List WriteCall) (lines : List Reading) (r : Result (Option Ending) Refusal) (new : Explaining) (now : List WriteCall) : Type 0 where
   pub asked : new.asked ≡ old.asked
   pub steps : Steps old.detector lines r new.detector
   pub ready : r ≡ Ok None → IsReady old → IsReady new

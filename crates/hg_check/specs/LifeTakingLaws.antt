@@ -25,7 +25,7 @@ use Rattle.hg_check.specs.declared.explain.explaining.Explaining.{Explaining}
 use Rattle.hg_check.specs.declared.explain.form.Asked.{Asked}
 use Rattle.hg_check.specs.declared.explain.form.Form.{Form}
 use Rattle.hg_check.specs.Life.{life, more_text}
-use Rattle.hg_check.specs.LifeTaking.{Adds, MayTake, Takes, WroteLifeFront}
+use Rattle.hg_check.specs.LifeTaking.{Adds, ExplainsLines, MayTake, WroteLifeFront}
 
 answered_events : (v : Verdict) (t : Table) (c last : Content) (e : Event) (line : ℕ) (later : Table → Content → Type 0) (end : Ending)
     → ((u : Table) (d : Content) → later u d → d.events ≤ last.events) → Answered v t c e line later last end → c.events ≤ last.events
@@ -73,7 +73,7 @@ adds_on w form a b c i j k first later r told new s t = record {
       ∙ (s.on refl t.count (later ++ more) ∙ (ap (λ x. told ++ x) (t.ends end is more) ∙ sym (append_assoc told new (more_text k))));
 }
 
-pub takes_none : (s : Explaining) (calls : List WriteCall) → Takes s calls [] (Ok None) s calls
+pub takes_none : (s : Explaining) (calls : List WriteCall) → ExplainsLines s calls [] (Ok None) s calls
 takes_none s calls = record {
   asked = refl;
   steps = steps_none s.detector;
@@ -87,7 +87,7 @@ takes_none s calls = record {
 }
 
 -- a front of what the later lines make due is a front of what all lines make due
-front_on : (a b : Explaining) (at_a at_b at_c : List WriteCall) (first later : List Reading) → (s : Takes a at_a first (Ok None) b at_b) → WroteLifeFront b at_b later at_c → WroteLifeFront a at_a (first ++ later) at_c
+front_on : (a b : Explaining) (at_a at_b at_c : List WriteCall) (first later : List Reading) → (s : ExplainsLines a at_a first (Ok None) b at_b) → WroteLifeFront b at_b later at_c → WroteLifeFront a at_a (first ++ later) at_c
 front_on a b at_a at_b at_c first later s t start goal due n more last end leads counted =
     let w = a.asked.word in
     let form = a.asked.form in
@@ -114,7 +114,7 @@ same_asked q p c d k j lines r text same h = record {
 }
 
 pub takes_on : (a b c : Explaining) (at_a at_b at_c : List WriteCall) (first later : List Reading) (r : Result (Option Ending) Refusal)
-    → Takes a at_a first (Ok None) b at_b → Takes b at_b later r c at_c → Takes a at_a (first ++ later) r c at_c
+    → ExplainsLines a at_a first (Ok None) b at_b → ExplainsLines b at_b later r c at_c → ExplainsLines a at_a (first ++ later) r c at_c
 takes_on a b c at_a at_b at_c first later r s t =
     let added = same_asked b.asked a.asked (content_of b.detector) (content_of c.detector) b.more c.more later r t.text s.asked t.adds in
     record {
@@ -129,7 +129,7 @@ takes_on a b c at_a at_b at_c first later r s t =
       failures = omega (arith, s.failures, t.failures);
     }
 
-pub takes_room : (a b : Explaining) (at_a at_b : List WriteCall) (first : List Reading) (n : ℕ) → MayTake a (length first + n) → Takes a at_a first (Ok None) b at_b → MayTake b n
+pub takes_room : (a b : Explaining) (at_a at_b : List WriteCall) (first : List Reading) (n : ℕ) → MayTake a (length first + n) → ExplainsLines a at_a first (Ok None) b at_b → MayTake b n
 takes_room a b at_a at_b first n may s = (s.ready refl may.0, omega (arith, may.1, s.steps.counted))
 
 pub takes_fewer : (s : Explaining) (n more : ℕ) → MayTake s (n + more) → MayTake s n

@@ -14,7 +14,7 @@ use Rattle.hg_reading.specs.declared.ending.Ending.{Ending}
 use Rattle.hg_check.specs.declared.checking.Checking.{Checking}
 use Rattle.hg_check.specs.Running.{LeadsFrom, ReportsGrow, Steps, live_text}
 use Rattle.hg_streams.specs.Faults.{HasWriteCause}
-use Rattle.hg_check.specs.Taking.{MayTake, Takes}
+use Rattle.hg_check.specs.Taking.{ChecksLines, MayTake}
 use Rattle.hg_streams.specs.Written.{TookFront}
 
 no_error : (x : Refusal) → ◌≡◌ {A = Result (Option Ending) Refusal} (Ok None) (Err x) → ⊥
@@ -47,10 +47,10 @@ steps_on a b c first later r s t = record {
   whole = λ h. t.whole (s.whole h);
 }
 
-pub takes_none : (s : Checking) (calls : List WriteCall) → Takes s calls [] (Ok None) s calls
+pub takes_none : (s : Checking) (calls : List WriteCall) → ChecksLines s calls [] (Ok None) s calls
 takes_none s calls = record {
   steps = steps_none s.detector;
-  live = refl;
+  listing = refl;
   printed = λ fine first p. p;
   front = λ x is. absurd (no_error x is);
   cause = λ x is. absurd (no_error x is);
@@ -61,17 +61,17 @@ pub cause_on : (a b c : List WriteCall) (x : Refusal) → failed_writes b ≡ 0 
 cause_on a b c x same h = ⊎_elim (λ memory. inl memory) (λ failed. inr (failed.0, omega (arith, same, failed.1))) h
 
 pub takes_on : (a b c : Checking) (at_a at_b at_c : List WriteCall) (first later : List Reading) (r : Result (Option Ending) Refusal)
-    → Takes a at_a first (Ok None) b at_b → Takes b at_b later r c at_c → Takes a at_a (first ++ later) r c at_c
+    → ChecksLines a at_a first (Ok None) b at_b → ChecksLines b at_b later r c at_c → ChecksLines a at_a (first ++ later) r c at_c
 takes_on a b c at_a at_b at_c first later r s t = record {
   steps = steps_on a.detector b.detector c.detector first later r s.steps t.steps;
-  live = t.live ∙ s.live;
+  listing = t.listing ∙ s.listing;
   printed = λ fine start p. t.printed fine start (s.printed no_error start p);
-  front = λ x is start p. subst (λ live. TookFront start at_c (live_text live (content_of c.detector))) s.live (t.front x is start (s.printed no_error start p));
+  front = λ x is start p. subst (λ listing. TookFront start at_c (live_text listing (content_of c.detector))) s.listing (t.front x is start (s.printed no_error start p));
   cause = λ x is. cause_on at_a at_b at_c x s.failures (t.cause x is);
   failures = omega (arith, s.failures, t.failures);
 }
 
-pub takes_room : (a b : Checking) (at_a at_b : List WriteCall) (first : List Reading) (n : ℕ) → MayTake a (length first + n) → Takes a at_a first (Ok None) b at_b → MayTake b n
+pub takes_room : (a b : Checking) (at_a at_b : List WriteCall) (first : List Reading) (n : ℕ) → MayTake a (length first + n) → ChecksLines a at_a first (Ok None) b at_b → MayTake b n
 takes_room a b at_a at_b first n may s = (s.steps.whole may.0, omega (arith, may.1, s.steps.counted))
 
 pub takes_fewer : (s : Checking) (n more : ℕ) → MayTake s (n + more) → MayTake s n

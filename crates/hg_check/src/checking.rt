@@ -12,6 +12,7 @@ use hg_model::verdict::Refusal;
 use hg_reading::ending::Ending;
 use hg_reading::sink::Sink;
 use hg_sets::MOST_SETS;
+use hg_streams::listing::Listing;
 use hg_streams::output::Output;
 use hg_wire::line::AccessLine;
 use hg_wire::reader::Reading;
@@ -23,8 +24,8 @@ use std::io::Write;
 pub struct Checking {
     pub(crate) alloc: Global,
     pub detector: MemoryDetector,
-    /// Whether reports are printed as they come.
-    pub live: bool,
+    /// What is printed: the reports as they come, or the segments at the end.
+    pub listing: Listing,
     /// How many of the kept reports were printed, or are held.
     pub printed: usize,
     /// Text that is still to be written.
@@ -35,15 +36,15 @@ impl Checking {
     ghost use Rattle.hg_check.specs.Taking.{IsFresh};
 
     /// A detector that has accepted no event.
-    pub fn new(alloc: Global, live: bool) -> Result<Checking, Refusal>
-        ensures fresh { IfOk result (IsFresh live) }
+    pub fn new(alloc: Global, listing: Listing) -> Result<Checking, Refusal>
+        ensures fresh { IfOk result (IsFresh listing) }
         ensures cause { IfErr result (λ r. r ≡ Refusal.OutOfMemory) }
     {
         let detector = new_detector(alloc, MOST_SETS)?;
         Ok(Checking {
             alloc,
             detector,
-            live,
+            listing,
             printed: 0,
             held: Vec::new(alloc),
         })
@@ -51,14 +52,14 @@ impl Checking {
 }
 
 impl<W: Write> Sink<W> for Checking {
-    ghost use Rattle.hg_check.specs.Taking.{MayTake, Takes};
+    ghost use Rattle.hg_check.specs.Taking.{ChecksLines, MayTake};
     ghost use Rattle.hg_check.specs.TakingLaws.{takes_fewer, takes_none, takes_on, takes_room};
 
     type End = Ending;
 
     ghost may_take = { MayTake };
 
-    ghost takes = { Takes };
+    ghost takes = { ChecksLines };
 
     #[inline(always)]
     fn offer(
@@ -91,15 +92,21 @@ impl<W: Write> Sink<W> for Checking {
 
     /// Prints the reports that are new since the last time, if reports are printed as they come.
     fn print(&mut self, output: &mut Output<W>) -> Result<(), Refusal>
-        ensures takes { Takes self.old output.old.calls [] (as_stop result) self.new output.new.calls }
+        ensures takes { ChecksLines self.old output.old.calls [] (as_stop result) self.new output.new.calls }
         ensures detector { self.new.detector ≡ self.old.detector }
         ensures count { self.new.printed ≡ length (content_of self.old.detector).reports }
     {
         let from = self.printed;
         self.printed = self.detector.kept();
-        match self.live {
-            true => print_reports(self.alloc, &self.detector, from, &mut self.held, output),
-            false => Ok(()),
+        match self.listing {
+            Listing::Reports => print_reports(
+                self.alloc,
+                &self.detector,
+                from,
+                &mut self.held,
+                output,
+            ),
+            Listing::Segments => Ok(()),
         }
     }
 

@@ -1,6 +1,7 @@
 //! The command that explains a word: who accessed it, under which locks, and what that made of it.
 pub mod address;
 pub mod commands;
+pub mod event_line;
 pub mod explaining;
 pub mod form;
 pub mod laws;
@@ -8,4 +9,3 @@ pub mod look;
 pub mod passing;
 pub mod pieces;
 pub mod run;
-pub mod telling;

@@ -7,6 +7,7 @@ ghost use Rattle.hg_streams.specs.Texts.{line_text};
 ghost use Rattle.hg_detect.specs.Memory.{content_of};
 
 use hg_detect::memory::MemoryDetector;
+use hg_model::limits::MOST_REPORTS;
 use hg_model::verdict::Refusal;
 use hg_reading::ending::Ending;
 use hg_streams::holding::{end_line, hold_report};
@@ -22,7 +23,7 @@ pub(crate) fn hold_kept_report(
     held: &mut Vec<u8>,
 ) -> Result<(), Refusal>
     requires within { index < length detector.now.kept }
-    requires few { index < 65536 }
+    requires few { index < MOST_REPORTS }
     ensures ok { OnOk result (HoldsReport (content_of detector.now) index held.old.items held.new.items) }
     ensures cause { IfErr result (λ r. r ≡ Refusal.OutOfMemory) }
 {

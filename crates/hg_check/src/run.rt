@@ -27,10 +27,10 @@ pub fn run<T: Threads + Sync, R: Read, W: Write>(
     input: &mut Input<R>,
     output: &mut Output<W>,
 ) -> Result<Ending, Refusal>
-    requires fresh { IsFresh checking.old.live checking.old }
+    requires fresh { IsFresh checking.old.listing checking.old }
     ensures ends { IfOk result (ReadsTo input.old.calls input.new.calls (content_of checking.new.detector)) }
-    ensures printed { OnOk result (HasPrinted output.old.calls output.new.calls checking.old.live checking.new) }
-    ensures front { LeavesFront result (live_part checking.old.live) input.old input.new output.old output.new }
+    ensures printed { OnOk result (HasPrinted output.old.calls output.new.calls checking.old.listing checking.new) }
+    ensures front { LeavesFront result (live_part checking.old.listing) input.old input.new output.old output.new }
     ensures cause { IfErr result (HasCause input.old.calls input.new.calls output.old.calls output.new.calls) }
 {
     let alloc = checking.alloc;

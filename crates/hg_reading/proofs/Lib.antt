@@ -1,7 +1,7 @@
 pub mod Passing
 pub mod Runs
 pub mod Through
-pub mod Keeping
+pub mod Queueing
 pub mod Parsing
 pub mod Pushing
 pub mod Endings

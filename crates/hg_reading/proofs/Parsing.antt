@@ -5,29 +5,29 @@ use Rattle.hg_model.specs.declared.event.Event.{Event}
 use Rattle.hg_wire.specs.declared.reader.Reading.{Reading}
 use Rattle.hg_wire.specs.Streams.{GivesNoReading, GivesReading, LinesRead, at_start, between_lines, ended_from, numbered_on, readings_from}
 use Rattle.hg_wire.proofs.Numbering.{gives_none_on, gives_on}
-use Rattle.hg_reading.specs.declared.kept.Kept.{Kept}
-use Rattle.hg_reading.specs.Keeping.{IsKept, lines_kept, one, readings_kept}
+use Rattle.hg_reading.specs.declared.queued.Queued.{Queued}
+use Rattle.hg_reading.specs.Queueing.{IsQueued, lines_queued, one, readings_queued}
 
--- A text was parsed up to a rest, each line that has an event was kept, and a reader stands in front of the rest.
-pub record IsParsedTo (text : List ℕ) (kept : List Kept) (lines bytes : ℕ) (reader : LinesRead) (rest : List ℕ) : Type 0 where
-  pub front : IsKept text kept lines bytes
-  pub exact : lines_kept kept ≡ lines
+-- A text was parsed up to a rest, each line that has an event was queued, and a reader stands in front of the rest.
+pub record IsParsedTo (text : List ℕ) (queued : List Queued) (lines bytes : ℕ) (reader : LinesRead) (rest : List ℕ) : Type 0 where
+  pub front : IsQueued text queued lines bytes
+  pub exact : lines_queued queued ≡ lines
   pub left : rest ≡ drop bytes text
   pub stands : reader ≡ between_lines lines
 
-pub parsed_first : (text : List ℕ) (kept : List Kept) (reader : LinesRead) → kept ≡ [] → reader ≡ at_start → IsParsedTo text kept 0 0 reader text
-parsed_first text kept reader none start =
+pub parsed_first : (text : List ℕ) (queued : List Queued) (reader : LinesRead) → queued ≡ [] → reader ≡ at_start → IsParsedTo text queued 0 0 reader text
+parsed_first text queued reader none start =
     let here : (n : ℕ) → n ≡ n + 0 = λ n. omega arith in
     record {
       front = record {
         within = omega arith;
         counted = omega arith;
-        stands_for = omega (arith, ap lines_kept none);
-        few = λ n. omega (arith, ap length (ap (readings_kept n) none));
-        readings = λ n more. ap (λ (m : ℕ). readings_from (between_lines m) (text ++ more)) (here n) ∙ ap (λ k. readings_kept n k ++ readings_from (between_lines (n + 0)) (text ++ more)) (sym none);
-        ended = λ n more. ap (λ (m : ℕ). ended_from (between_lines m) (text ++ more)) (here n) ∙ ap (λ k. readings_kept n k ++ ended_from (between_lines (n + 0)) (text ++ more)) (sym none);
+        stands_for = omega (arith, ap lines_queued none);
+        few = λ n. omega (arith, ap length (ap (readings_queued n) none));
+        readings = λ n more. ap (λ (m : ℕ). readings_from (between_lines m) (text ++ more)) (here n) ∙ ap (λ k. readings_queued n k ++ readings_from (between_lines (n + 0)) (text ++ more)) (sym none);
+        ended = λ n more. ap (λ (m : ℕ). ended_from (between_lines m) (text ++ more)) (here n) ∙ ap (λ k. readings_queued n k ++ ended_from (between_lines (n + 0)) (text ++ more)) (sym none);
       };
-      exact = ap lines_kept none;
+      exact = ap lines_queued none;
       left = refl;
       stands = start;
     }
@@ -36,40 +36,40 @@ between : (p : LinesRead) → p.begun ≡ [] → p ≡ between_lines p.lines
 between p none = ap (λ b. record { lines = p.lines; begun = b }) none
 
 -- one line more
-pub parsed_on : (text : List ℕ) (kept more_kept : List Kept) (lines bytes : ℕ) (old new : LinesRead) (rest : List ℕ) (event : Event) (used passed : ℕ) → IsParsedTo text kept lines bytes old rest
+pub parsed_on : (text : List ℕ) (queued more_queued : List Queued) (lines bytes : ℕ) (old new : LinesRead) (rest : List ℕ) (event : Event) (used passed : ℕ) → IsParsedTo text queued lines bytes old rest
     → GivesReading old new rest (record { line = new.lines; event = Ok event }) used → passed ≡ new.lines - lines - 1
-    → ((n : ℕ) → readings_kept n more_kept ≡ readings_kept n kept ++ one (n + lines_kept kept + passed) event) → lines_kept more_kept ≡ lines_kept kept + passed + 1
-    → IsParsedTo text more_kept new.lines (bytes + used) new (drop used rest)
-parsed_on text kept more_kept lines bytes old new rest event used passed h gives lead reads counts =
+    → ((n : ℕ) → readings_queued n more_queued ≡ readings_queued n queued ++ one (n + lines_queued queued + passed) event) → lines_queued more_queued ≡ lines_queued queued + passed + 1
+    → IsParsedTo text more_queued new.lines (bytes + used) new (drop used rest)
+parsed_on text queued more_queued lines bytes old new rest event used passed h gives lead reads counts =
     let start : old.lines ≡ lines = ap (λ (p : LinesRead). p.lines) h.stands in
     let begun : old.begun ≡ [] = ap (λ (p : LinesRead). p.begun) h.stands in
     let size : length rest ≡ length text - bytes = ap length h.left ∙ length-drop bytes text in
     let left : drop used rest ≡ drop (bytes + used) text = ap (drop used) h.left ∙ drop-drop used bytes text in
-    let whole : lines_kept more_kept ≡ new.lines = omega (arith, counts, h.exact, lead, gives.rising, start) in
-    let number : (n : ℕ) → n + new.lines ≡ n + lines_kept kept + passed + 1 = λ n. omega (arith, h.exact, lead, gives.rising, start) in
+    let whole : lines_queued more_queued ≡ new.lines = omega (arith, counts, h.exact, lead, gives.rising, start) in
+    let number : (n : ℕ) → n + new.lines ≡ n + lines_queued queued + passed + 1 = λ n. omega (arith, h.exact, lead, gives.rising, start) in
     let reading : Reading = record { line = new.lines; event = Ok event } in
     let step : (n : ℕ) → GivesReading (between_lines (n + lines)) (between_lines (n + new.lines)) rest (numbered_on n reading) used =
     λ n. subst (λ (l : ℕ). GivesReading (between_lines (n + l)) (between_lines (n + new.lines)) rest (numbered_on n reading) used) start (gives_on n old new rest reading used begun gives) in
-    let same : (n : ℕ) → numbered_on n reading ∷ [] ≡ one (n + lines_kept kept + passed) event = λ n. ap (λ (l : ℕ). record { line = l; event = Ok event } ∷ []) (number n) in
+    let same : (n : ℕ) → numbered_on n reading ∷ [] ≡ one (n + lines_queued queued + passed) event = λ n. ap (λ (l : ℕ). record { line = l; event = Ok event } ∷ []) (number n) in
     record {
       front = record {
         within = omega (arith, h.front.within, gives.within, size);
         counted = omega (arith, h.front.counted, gives.counted, start);
         stands_for = omega (arith, whole, gives.counted, gives.within, size, start, h.front.counted, h.front.within);
-        few = λ n. omega (arith, ap length (reads n), length-append (readings_kept n kept) (one (n + lines_kept kept + passed) event), h.front.few n, gives.some);
+        few = λ n. omega (arith, ap length (reads n), length-append (readings_queued n queued) (one (n + lines_queued queued + passed) event), h.front.few n, gives.some);
         readings = λ n more. (
             let after = readings_from (between_lines (n + new.lines)) in
             let onward : readings_from (between_lines (n + lines)) (drop bytes text ++ more) ≡ (numbered_on n reading ∷ []) ++ after (drop (bytes + used) text ++ more) =
             ap (λ b. readings_from (between_lines (n + lines)) (b ++ more)) (sym h.left) ∙ ((step n).readings more ∙ ap (λ b. numbered_on n reading ∷ after (b ++ more)) left) in
-            h.front.readings n more ∙ (ap (λ rs. readings_kept n kept ++ rs) (onward ∙ ap (λ rs. rs ++ after (drop (bytes + used) text ++ more)) (same n))
-            ∙ (sym (append_assoc (readings_kept n kept) (one (n + lines_kept kept + passed) event) (after (drop (bytes + used) text ++ more)))
+            h.front.readings n more ∙ (ap (λ rs. readings_queued n queued ++ rs) (onward ∙ ap (λ rs. rs ++ after (drop (bytes + used) text ++ more)) (same n))
+            ∙ (sym (append_assoc (readings_queued n queued) (one (n + lines_queued queued + passed) event) (after (drop (bytes + used) text ++ more)))
             ∙ ap (λ rs. rs ++ after (drop (bytes + used) text ++ more)) (sym (reads n)))));
         ended = λ n more. (
             let after = ended_from (between_lines (n + new.lines)) in
             let onward : ended_from (between_lines (n + lines)) (drop bytes text ++ more) ≡ (numbered_on n reading ∷ []) ++ after (drop (bytes + used) text ++ more) =
             ap (λ b. ended_from (between_lines (n + lines)) (b ++ more)) (sym h.left) ∙ ((step n).ended more ∙ ap (λ b. numbered_on n reading ∷ after (b ++ more)) left) in
-            h.front.ended n more ∙ (ap (λ rs. readings_kept n kept ++ rs) (onward ∙ ap (λ rs. rs ++ after (drop (bytes + used) text ++ more)) (same n))
-            ∙ (sym (append_assoc (readings_kept n kept) (one (n + lines_kept kept + passed) event) (after (drop (bytes + used) text ++ more)))
+            h.front.ended n more ∙ (ap (λ rs. readings_queued n queued ++ rs) (onward ∙ ap (λ rs. rs ++ after (drop (bytes + used) text ++ more)) (same n))
+            ∙ (sym (append_assoc (readings_queued n queued) (one (n + lines_queued queued + passed) event) (after (drop (bytes + used) text ++ more)))
             ∙ ap (λ rs. rs ++ after (drop (bytes + used) text ++ more)) (sym (reads n)))));
       };
       exact = whole;
@@ -78,9 +78,9 @@ parsed_on text kept more_kept lines bytes old new rest event used passed h gives
     }
 
 -- no line more
-pub parsed_all : (text : List ℕ) (kept : List Kept) (lines bytes : ℕ) (old new : LinesRead) (rest : List ℕ) → IsParsedTo text kept lines bytes old rest → GivesNoReading old new rest → new.begun ≡ []
-    → IsKept text kept new.lines (length text)
-parsed_all text kept lines bytes old new rest h gives after =
+pub parsed_all : (text : List ℕ) (queued : List Queued) (lines bytes : ℕ) (old new : LinesRead) (rest : List ℕ) → IsParsedTo text queued lines bytes old rest → GivesNoReading old new rest → new.begun ≡ []
+    → IsQueued text queued new.lines (length text)
+parsed_all text queued lines bytes old new rest h gives after =
     let start : old.lines ≡ lines = ap (λ (p : LinesRead). p.lines) h.stands in
     let begun : old.begun ≡ [] = ap (λ (p : LinesRead). p.begun) h.stands in
     let size : length rest ≡ length text - bytes = ap length h.left ∙ length-drop bytes text in
@@ -92,9 +92,9 @@ parsed_all text kept lines bytes old new rest h gives after =
       counted = omega (arith, gives.counted, size, start, h.front.counted, h.front.within);
       stands_for = h.front.stands_for;
       few = λ n. omega (arith, h.front.few n, h.front.within);
-      readings = λ n more. h.front.readings n more ∙ ap (λ rs. readings_kept n kept ++ rs)
+      readings = λ n more. h.front.readings n more ∙ ap (λ rs. readings_queued n queued ++ rs)
           (ap (λ b. readings_from (between_lines (n + lines)) (b ++ more)) (sym h.left) ∙ ((step n).readings more ∙ ap (λ b. readings_from (between_lines (n + new.lines)) (b ++ more)) (sym none)));
-      ended = λ n more. h.front.ended n more ∙ ap (λ rs. readings_kept n kept ++ rs)
+      ended = λ n more. h.front.ended n more ∙ ap (λ rs. readings_queued n queued ++ rs)
           (ap (λ b. ended_from (between_lines (n + lines)) (b ++ more)) (sym h.left) ∙ ((step n).ended more ∙ ap (λ b. ended_from (between_lines (n + new.lines)) (b ++ more)) (sym none)));
     }
 
@@ -102,6 +102,6 @@ parsed_all text kept lines bytes old new rest h gives after =
 pub rest_is : (k : ℕ) (rest : List ℕ) → take (length rest - k) (drop k rest) ≡ drop k rest
 rest_is k rest = take_all (length rest - k) (drop k rest) (omega (arith, length-drop k rest))
 
--- where kept lines stand for as many lines as were kept, what is kept alone may change
-pub kept_same : (text : List ℕ) (kept now : List Kept) (lines bytes : ℕ) → IsKept text kept lines bytes → now ≡ kept → IsKept text now lines bytes
-kept_same text kept now lines bytes h same = subst (λ k. IsKept text k lines bytes) (sym same) h
+-- where queued lines stand for as many lines as were queued, what is queued alone may change
+pub queued_same : (text : List ℕ) (queued now : List Queued) (lines bytes : ℕ) → IsQueued text queued lines bytes → now ≡ queued → IsQueued text now lines bytes
+queued_same text queued now lines bytes h same = subst (λ k. IsQueued text k lines bytes) (sym same) h

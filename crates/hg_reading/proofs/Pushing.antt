@@ -6,9 +6,9 @@ use Rattle.hg_model.specs.declared.verdict.Refusal.{Refusal}
 use Rattle.hg_streams.specs.declared.call.WriteCall.{WriteCall}
 use Rattle.hg_wire.specs.declared.reader.Reading.{Reading}
 use Rattle.hg_wire.specs.Streams.{LinesRead, between_lines, ended_from, readings_from}
-use Rattle.hg_reading.specs.declared.kept.Kept.{Kept}
+use Rattle.hg_reading.specs.declared.queued.Queued.{Queued}
 use Rattle.hg_reading.specs.declared.part.Part.{Part}
-use Rattle.hg_reading.specs.Keeping.{AreHeld, Holds, HoldsAlone, IsKept, IsOffered, readings_kept}
+use Rattle.hg_reading.specs.Queueing.{AreHeld, Holds, HoldsAlone, IsQueued, IsOffered, readings_queued}
 use Rattle.hg_reading.specs.Taking.{Passes, Pushes, StopsIn, Taking}
 
 module _ {S E : Type 0} (takes : Taking S E) where
@@ -84,12 +84,12 @@ module _ {S E : Type 0} (takes : Taking S E) where
 
   -- ---- what a part holds
 
-  pub part_passes : (p : LinesRead) (a b : S) (at_a at_b : List WriteCall) (text : List ℕ) (kept : List Kept) (lines bytes n : ℕ) (r : Result (Option E) Refusal) → p.begun ≡ [] → n ≡ p.lines → IsKept text kept lines bytes
-      → IsOffered takes a at_a (readings_kept n kept) r b at_b → r ≡ Ok None → Passes takes p a at_a text (record { lines = p.lines + lines; begun = p.begun }) b at_b (drop bytes text)
-  part_passes p a b at_a at_b text kept lines bytes n r begun is h offered passed =
+  pub part_passes : (p : LinesRead) (a b : S) (at_a at_b : List WriteCall) (text : List ℕ) (queued : List Queued) (lines bytes n : ℕ) (r : Result (Option E) Refusal) → p.begun ≡ [] → n ≡ p.lines → IsQueued text queued lines bytes
+      → IsOffered takes a at_a (readings_queued n queued) r b at_b → r ≡ Ok None → Passes takes p a at_a text (record { lines = p.lines + lines; begun = p.begun }) b at_b (drop bytes text)
+  part_passes p a b at_a at_b text queued lines bytes n r begun is h offered passed =
       let stands : p ≡ between_lines p.lines = ap (λ x. record { lines = p.lines; begun = x }) begun in
       let after : between_lines (p.lines + lines) ≡ record { lines = p.lines + lines; begun = p.begun } = ap (λ x. record { lines = p.lines + lines; begun = x }) (sym begun) in
-      let all : readings_kept p.lines kept ≡ offered.lines = ap (λ (m : ℕ). readings_kept m kept) (sym is) ∙ (offered.joined ∙ (ap (λ xs. offered.lines ++ xs) (offered.all passed) ∙ append-nil offered.lines)) in
+      let all : readings_queued p.lines queued ≡ offered.lines = ap (λ (m : ℕ). readings_queued m queued) (sym is) ∙ (offered.joined ∙ (ap (λ xs. offered.lines ++ xs) (offered.all passed) ∙ append-nil offered.lines)) in
       record {
         lines = offered.lines;
         steps = subst (λ x. takes a at_a offered.lines x b at_b) passed offered.steps;
@@ -101,11 +101,11 @@ module _ {S E : Type 0} (takes : Taking S E) where
         few = omega (arith, h.few p.lines, ap length all, h.within, length-drop bytes text);
       }
 
-  pub part_stops : (p : LinesRead) (a b : S) (at_a at_b : List WriteCall) (text : List ℕ) (kept : List Kept) (lines bytes n : ℕ) (r : Result (Option E) Refusal) → p.begun ≡ [] → n ≡ p.lines → IsKept text kept lines bytes
-      → IsOffered takes a at_a (readings_kept n kept) r b at_b → StopsIn takes p a at_a text r b at_b
-  part_stops p a b at_a at_b text kept lines bytes n r begun is h offered =
+  pub part_stops : (p : LinesRead) (a b : S) (at_a at_b : List WriteCall) (text : List ℕ) (queued : List Queued) (lines bytes n : ℕ) (r : Result (Option E) Refusal) → p.begun ≡ [] → n ≡ p.lines → IsQueued text queued lines bytes
+      → IsOffered takes a at_a (readings_queued n queued) r b at_b → StopsIn takes p a at_a text r b at_b
+  part_stops p a b at_a at_b text queued lines bytes n r begun is h offered =
       let stands : p ≡ between_lines p.lines = ap (λ x. record { lines = p.lines; begun = x }) begun in
-      let all : readings_kept p.lines kept ≡ offered.lines ++ offered.left = ap (λ (m : ℕ). readings_kept m kept) (sym is) ∙ offered.joined in
+      let all : readings_queued p.lines queued ≡ offered.lines ++ offered.left = ap (λ (m : ℕ). readings_queued m queued) (sym is) ∙ offered.joined in
       record {
         lines = offered.lines;
         steps = offered.steps;

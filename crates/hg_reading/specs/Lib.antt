@@ -1,3 +1,3 @@
 pub mod Taking
-pub mod Keeping
+pub mod Queueing
 pub mod Endings

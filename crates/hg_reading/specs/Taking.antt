@@ -62,7 +62,7 @@ module _ {S E : Type 0} (takes : Taking S E) where
   Pushes old before at_first piece (Ok (Some end)) new now at_last = StopsIn old before at_first piece (Ok (Some end)) now at_last
   Pushes old before at_first piece (Err r) new now at_last = StopsIn old before at_first piece (Err r) now at_last
 
-  -- The same with the output in place of its calls.
+  -- What came of a piece, by the output in place of its calls.
   abbrev pub Offers : {W : Type 0} → LinesRead → S → Outgoing W → List ℕ → Result (Option E) Refusal → LinesRead → S → Outgoing W → Type 0
   Offers old before output piece r new now printed = Pushes old before output.calls piece r new now printed.calls
 

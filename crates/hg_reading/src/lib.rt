@@ -3,9 +3,9 @@
 #![tactic(auto)]
 
 pub mod ending;
-pub mod kept;
 pub mod part;
 pub mod pieces;
+pub mod queued;
 mod side_by_side;
 pub mod sink;
 pub mod whole;

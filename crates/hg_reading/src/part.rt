@@ -2,9 +2,9 @@
 
 ghost use Rattle.std.specs.Prelude.{◌≡◌, ◌+◌, ◌<◌, ◌≤◌, ◌^◌, [], length, vec_capacity, IfOk};
 ghost use Rattle.hg_wire.specs.Streams.{at_start};
-ghost use Rattle.hg_reading.specs.Keeping.{IsKept, FindsNext};
+ghost use Rattle.hg_reading.specs.Queueing.{FindsNext, IsQueued};
 
-use crate::kept::{Kept, keep};
+use crate::queued::{Queued, queue};
 use hg_wire::reader::{EventReader, Taken};
 use std::alloc::{AllocError, Global};
 
@@ -19,7 +19,7 @@ pub struct Extent {
 #[derive(Clone, Copy, Debug, PartialEq, Eq, Drop)]
 pub enum Next {
     /// A line with an event. It ends behind `used` bytes.
-    Line { it: Kept, used: usize },
+    Line { it: Queued, used: usize },
     /// A line that is bad.
     Bad,
     /// No line more.
@@ -30,8 +30,8 @@ pub enum Next {
 #[derive(Drop)]
 pub struct Part {
     reader: EventReader,
-    /// What is kept of the text that was parsed last.
-    pub kept: Vec<Kept>,
+    /// What is queued of the text that was parsed last.
+    pub queued: Vec<Queued>,
     /// How many bytes that text has.
     pub given: usize,
     /// How far it was parsed: up to a line that is bad, or for which there is no room.
@@ -41,15 +41,15 @@ pub struct Part {
 }
 
 impl Part {
-    ghost use Rattle.hg_reading.specs.Keeping.{Holds};
+    ghost use Rattle.hg_reading.specs.Queueing.{Holds};
 
     /// With room for so many lines.
     pub fn with_room(alloc: Global, lines: usize) -> Result<Self, AllocError>
-        ensures room { IfOk result (λ part. lines ≤ vec_capacity part.kept) }
+        ensures room { IfOk result (λ part. lines ≤ vec_capacity part.queued) }
     {
         Ok(Part {
             reader: EventReader::new(alloc)?,
-            kept: Vec::with_capacity(alloc, lines)?,
+            queued: Vec::with_capacity(alloc, lines)?,
             given: 0,
             extent: Extent { lines: 0, bytes: 0 },
             apart: [0; 16],
@@ -61,17 +61,17 @@ impl Part {
         ensures { Holds self.new text.now }
     {
         self.reader.reset();
-        self.kept.clear();
+        self.queued.clear();
         self.given = text.len();
-        self.extent = keep_lines(&mut self.reader, &mut self.kept, text);
+        self.extent = queue_lines(&mut self.reader, &mut self.queued, text);
     }
 }
 
-/// Keeps the lines of a text, up to one that is bad or finds no room.
-fn keep_lines(reader: &mut EventReader, kept: &mut Vec<Kept>, text: &[u8]) -> Extent
+/// Queues the lines of a text, up to one that is bad or finds no room.
+fn queue_lines(reader: &mut EventReader, queued: &mut Vec<Queued>, text: &[u8]) -> Extent
     requires start { reader.old ≡ at_start }
-    requires none { kept.old.items ≡ [] }
-    ensures { IsKept text.now kept.new.items result.lines result.bytes }
+    requires none { queued.old.items ≡ [] }
+    ensures { IsQueued text.now queued.new.items result.lines result.bytes }
 {
     let mut extent = Extent { lines: 0, bytes: 0 };
     let mut rest = text;
@@ -79,7 +79,7 @@ fn keep_lines(reader: &mut EventReader, kept: &mut Vec<Kept>, text: &[u8]) -> Ex
         match next_line(reader, rest) {
             Next::Line { it, used } => {
                 let lines = reader.lines();
-                if !keep(kept, lines - extent.lines - 1, it) {
+                if !queue(queued, lines - extent.lines - 1, it) {
                     return extent;
                 }
                 rest = &rest[used..];
@@ -111,20 +111,20 @@ fn next_line(reader: &mut EventReader, rest: &[u8]) -> Next
 {
     if let Some(found) = reader.take_access(rest) {
         return Next::Line {
-            it: Kept::of_access(found.is_write, found.access),
+            it: Queued::of_access(found.is_write, found.access),
             used: found.used,
         };
     }
     if let Some(held) = reader.take_hold(rest) {
         return Next::Line {
-            it: Kept::of_hold(held.hold),
+            it: Queued::of_hold(held.hold),
             used: held.used,
         };
     }
     match reader.take(rest) {
         Taken::Line { reading, used } => match reading.event {
             Ok(event) => Next::Line {
-                it: Kept::of_event(event),
+                it: Queued::of_event(event),
                 used,
             },
             Err(_) => Next::Bad,

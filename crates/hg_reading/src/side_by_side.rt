@@ -2,12 +2,12 @@
 
 ghost use Rattle.std.specs.Prelude.{◌≡◌, ◌+◌, ◌++◌, ◌<◌, ◌≤◌, ◌^◌, Ok, None, length};
 ghost use denote.Param.Send.{IsSync};
-ghost use Rattle.hg_reading.specs.Keeping.{AreHeld, Holds, HoldsAlone};
+ghost use Rattle.hg_reading.specs.Queueing.{AreHeld, Holds, HoldsAlone};
 ghost use Rattle.hg_reading.specs.Taking.{HasNoneLeft, Offers};
 
-use crate::kept::offer_all;
 use crate::part::Part;
-use crate::pieces::{Pieces, push};
+use crate::pieces::{Alone, Pieces};
+use crate::queued::offer_all;
 use crate::sink::Sink;
 use hg_model::verdict::Refusal;
 use hg_streams::output::Output;
@@ -72,7 +72,7 @@ impl<'a, T: Threads + Sync, W, S: Sink<W>> Pieces<W, S> for SideBySide<'a, T> {
     }
 }
 
-/// Takes a piece of a trace text, as `push` does.
+/// Takes a piece of a trace text, its lines parsed by several threads.
 fn push_side_by_side<T: Threads + Sync, W, S: Sink<W>>(
     rt: &T,
     reader: &mut EventReader,
@@ -87,13 +87,13 @@ fn push_side_by_side<T: Threads + Sync, W, S: Sink<W>>(
     ensures none_left { result ≡ Ok None → HasNoneLeft reader.new }
 {
     if piece.len() < FEW || parts.len() < 2 {
-        return push(reader, sink, piece, output);
+        return Alone.push(reader, sink, piece, output);
     }
     let (lines, last) = piece.split_at(last_line_end(piece));
     if let Some(end) = offer_lines(rt, lines, reader, sink, output, parts)? {
         return Ok(Some(end));
     }
-    push(reader, sink, last, output)
+    Alone.push(reader, sink, last, output)
 }
 
 /// What is offered in a turn, and what is parsed meanwhile.
@@ -299,7 +299,7 @@ fn offer_parts<W, S: Sink<W>>(
         }
         rest = behind;
     }
-    push(reader, sink, rest, output)
+    Alone.push(reader, sink, rest, output)
 }
 
 /// Offers the text of a part: first the lines that the part holds, then the rest, which is parsed here. Within a line all of it is parsed
@@ -317,11 +317,11 @@ fn offer_part<W, S: Sink<W>>(
     ensures { Offers S.takes reader.old sink.old output.old text.now result reader.new sink.new output.new }
 {
     if !reader.is_between_lines() {
-        return push(reader, sink, text, output);
+        return Alone.push(reader, sink, text, output);
     }
-    if let Some(end) = offer_all(reader.lines(), part.kept.as_slice(), sink, output)? {
+    if let Some(end) = offer_all(reader.lines(), part.queued.as_slice(), sink, output)? {
         return Ok(Some(end));
     }
     reader.count_lines(part.extent.lines);
-    push(reader, sink, &text[part.extent.bytes..], output)
+    Alone.push(reader, sink, &text[part.extent.bytes..], output)
 }

@@ -10,14 +10,12 @@ use crate::sink::Sink;
 use hg_model::verdict::Refusal;
 use hg_streams::input::Input;
 use hg_streams::output::Output;
+use hg_streams::streams::PIECE_BYTES;
 use hg_wire::reader::EventReader;
 use std::alloc::Global;
 use std::io::Read;
 use std::marker::Sync;
 use std::thread::Threads;
-
-/// How many bytes are read at once.
-const PIECE: usize = 65_536;
 
 /// How many bytes are read at once where several threads parse them.
 const LARGE_PIECE: usize = 2_097_152;
@@ -96,7 +94,7 @@ pub fn read<R: Read, W, S: Sink<W>>(
     requires room { S.may_take sink.old (2 ^ 48) }
     ensures { Reads S.takes input.old.calls input.new.calls sink.old output.old.calls result sink.new output.new.calls }
 {
-    let intake = Intake::new(alloc, PIECE)?;
+    let intake = Intake::new(alloc, PIECE_BYTES)?;
     read_pieces(&mut Alone, intake, input, sink, output)
 }
 

@@ -38,7 +38,7 @@ due_took first now text t = record { written = text; appended = t; whole = appen
 pub took_front : (first now : List WriteCall) (text : List ℕ) → Took first now text → TookFront first now text
 took_front first now text t = front_due first now [] [] text (due_took first now text t)
 
--- the same behind a text that was written
+-- a text that is printed at once behind a text that was written: both, as far as they were written
 pub printed_front_on : (first old new : List WriteCall) (before text : List ℕ) → Took first old before → IsPrintedNow old new text → TookFront first new (before ++ text)
 printed_front_on first old new before text t h =
     let written : IsDue first (WriteCall.Took text ∷ old) [] [] (before ++ text) =

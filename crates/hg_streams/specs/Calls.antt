@@ -80,7 +80,7 @@ abbrev pub as_read : {E : Type 0} → Result ℕ E → Result ℕ ⊤
 as_read (Ok n) = Ok n
 as_read (Err e) = Err tt
 
--- the same for a read that tells interruptions apart
+-- the answer of a read that tells interruptions apart, as std's clauses see it
 abbrev pub as_got : {E : Type 0} → Result (Option ℕ) E → Result ℕ ⊤
 as_got (Ok (Some n)) = Ok n
 as_got (Ok None) = Err tt

@@ -1,11 +1,11 @@
 -- Definition: part of what `check` promises. What is read and written, and how that fails.
-use Rattle.std.specs.Prelude.{◌≡◌, ◌⊎◌, ◌+◌, ◌<◌, ◌≤◌, ◌^◌, ℕ, List, length}
+use Rattle.std.specs.Prelude.{◌≡◌, ◌⊎◌, ◌+◌, ◌<◌, ◌≤◌, ◌^◌, ℕ, List, [], length}
 use Rattle.hg_model.specs.declared.verdict.Refusal.{Refusal}
 use Rattle.hg_model.specs.Codes.{code_of}
 use Rattle.hg_streams.specs.declared.call.ReadCall.{ReadCall}
 use Rattle.hg_streams.specs.declared.call.WriteCall.{WriteCall}
 use Rattle.hg_streams.specs.Calls.{failed_reads, failed_writes}
-use Rattle.hg_streams.specs.Shown.{Incoming, Outgoing}
+use Rattle.hg_streams.specs.declared.streams.Streams.{Streams}
 use Rattle.hg_streams.specs.Written.{Took}
 use Rattle.hg_streams.specs.Texts.{fault_text}
 use Rattle.hg_model.specs.declared.verdict.Refusal.TheVariants.{DeviceFault, OutOfMemory}
@@ -26,7 +26,7 @@ HasCause reads_old reads_new old new r = (r ≡ OutOfMemory) ⊎ ((r ≡ DeviceF
 abbrev pub IsStreamFault : Refusal → Type 0
 IsStreamFault r = (r ≡ OutOfMemory) ⊎ (r ≡ DeviceFault)
 
--- the same of a call that only writes
+-- why a call that only writes was broken off
 abbrev pub HasWriteCause : List WriteCall → List WriteCall → Refusal → Type 0
 HasWriteCause old new r = (r ≡ OutOfMemory) ⊎ ((r ≡ DeviceFault) × WriteFailed old new)
 
@@ -34,7 +34,13 @@ HasWriteCause old new r = (r ≡ OutOfMemory) ⊎ ((r ≡ DeviceFault) × WriteF
 abbrev pub IsTold : List WriteCall → List WriteCall → Refusal → Type 0
 IsTold old new r = WriteFailed old new ⊎ Took old new (fault_text (code_of r))
 
+-- With a status other than 3 no fault is told.
+abbrev pub TellsNoFault : {R W V : Type 0} → ℕ → Streams R W V → Streams R W V → Type 0
+TellsNoFault status before after = (status ≡ 3 → ⊥) → Took before.faults.calls after.faults.calls []
+
 -- The status 3 says that the run ended by a fault, which had a cause, and was told.
-abbrev pub EndsByFault : {R W V : Type 0} → ℕ → Incoming R → Incoming R → Outgoing W → Outgoing W → Outgoing V → Outgoing V → Type 0
-EndsByFault status reads later writes now faults told =
-    status ≡ 3 → (r : Refusal) × (HasCause reads.calls later.calls writes.calls now.calls r × IsTold faults.calls told.calls r)
+abbrev pub EndsByFault : {R W V : Type 0} → ℕ → Streams R W V → Streams R W V → Type 0
+EndsByFault status before after =
+    status ≡ 3
+    → (r : Refusal) × (HasCause before.input.calls after.input.calls before.output.calls after.output.calls r
+    × IsTold before.faults.calls after.faults.calls r)

@@ -24,9 +24,10 @@ abbrev pub WritesFront : {T E : Type 0} → List ℕ → List WriteCall → List
 WritesFront text old held r new =
     (first : List WriteCall) (rest goal : List ℕ) → IsDue first old held (text ++ rest) goal → OnErr r (TookFront first new goal)
 
--- The same, by the output and what it holds.
+-- Where a call succeeded, this text was written to the output or is held for it.
 abbrev pub HoldsOrPrints : {T E W Z : Type 0} → List ℕ → Outgoing W → Vec ℕ Z → Result T E → Outgoing W → Vec ℕ Z → Type 0
 HoldsOrPrints text old held r new left = HoldsOrWrites text old.calls held.items r new.calls left.items
 
+-- Where it failed, a front of what is due for the output was written.
 abbrev pub PrintsFront : {T E W Z : Type 0} → List ℕ → Outgoing W → Vec ℕ Z → Result T E → Outgoing W → Type 0
 PrintsFront text old held r new = WritesFront text old.calls held.items r new.calls

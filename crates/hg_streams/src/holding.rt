@@ -8,15 +8,13 @@ ghost use Rattle.hg_streams.specs.Texts.{line_text};
 ghost use Rattle.hg_streams.specs.Told.{told};
 
 use crate::output::Output;
+use crate::streams::PIECE_BYTES;
 use hg_model::report::Report;
 use hg_model::segment::Segment;
 use hg_model::verdict::Refusal;
 use hg_wire::lines::put_segment_line;
 use hg_wire::report::{put_end_line, put_report_line};
 use std::io::Write;
-
-/// How many bytes are held before they are written.
-const LARGE: usize = 65_536;
 
 /// Holds the end of a line.
 pub fn end_line(held: &mut Vec<u8>) -> Result<(), Refusal>
@@ -78,7 +76,7 @@ pub fn write_if_large<W: Write>(held: &mut Vec<u8>, output: &mut Output<W>) -> R
     ensures cause { IfErr result (λ r. r ≡ Refusal.DeviceFault) }
     ensures fault { failed_writes output.new.calls ≡ told result + failed_writes output.old.calls }
 {
-    if held.len() >= LARGE {
+    if held.len() >= PIECE_BYTES {
         write_out(held, output)
     } else {
         Ok(())

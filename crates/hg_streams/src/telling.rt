@@ -1,4 +1,4 @@
-//! How a command tells a fault.
+//! How a command tells a fault, and ends by it.
 
 ghost use Rattle.std.specs.Prelude.{◌≡◌};
 ghost use Rattle.hg_model.specs.Codes.{code_of};
@@ -8,6 +8,9 @@ ghost use Rattle.hg_streams.specs.Faults.{IsTold};
 use crate::output::Output;
 use hg_model::verdict::Refusal;
 use std::io::Write;
+
+/// The status of a fault.
+pub const FAULT: u8 = 3;
 
 /// The line of a fault, which takes no memory.
 fn fault_line(refusal: Refusal) -> &'static [u8]
@@ -47,4 +50,13 @@ pub fn tell<V: Write>(refusal: Refusal, faults: &mut Output<V>)
         Ok(()) => {}
         Err(_) => {}
     }
+}
+
+/// Ends a command by a fault: tells it on `faults`, and answers the status of faults, 3.
+pub fn end_by_fault<V: Write>(refusal: Refusal, faults: &mut Output<V>) -> u8
+    ensures status { result ≡ 3 }
+    ensures told { IsTold faults.old.calls faults.new.calls refusal }
+{
+    tell(refusal, faults);
+    FAULT
 }

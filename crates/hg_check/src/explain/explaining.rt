@@ -66,14 +66,14 @@ impl Explaining {
 }
 
 impl<W: Write> Sink<W> for Explaining {
-    ghost use Rattle.hg_check.specs.LifeTaking.{MayTake, Takes};
+    ghost use Rattle.hg_check.specs.LifeTaking.{ExplainsLines, MayTake};
     ghost use Rattle.hg_check.specs.LifeTakingLaws.{takes_fewer, takes_none, takes_on, takes_room};
 
     type End = Ending;
 
     ghost may_take = { MayTake };
 
-    ghost takes = { Takes };
+    ghost takes = { ExplainsLines };
 
     fn offer(
         &mut self,

@@ -19,7 +19,7 @@ pub enum Look {
     Owned(u32),
     /// Read by so many threads, with so many candidate locks.
     Read(usize, usize),
-    /// The same, and written to.
+    /// Read and written to by so many threads, with so many candidate locks.
     Modified(usize, usize),
 }
 

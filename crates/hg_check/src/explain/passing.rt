@@ -9,10 +9,11 @@ ghost use Rattle.hg_wire.specs.Accesses.{event_of as event_in};
 ghost use Rattle.hg_check.specs.Life as life;
 
 use crate::checker::{apply, apply_access};
+use crate::explain::event_line::{Accepted, hold_event, hold_more};
 use crate::explain::explaining::Explaining;
 use crate::explain::look::{Look, concerns, differs, look_at, overlaps};
-use crate::explain::telling::{Accepted, hold_event, hold_more};
 use hg_model::event::Event;
+use hg_model::limits::THREAD_NUMBERS;
 use hg_model::verdict::Refusal;
 use hg_reading::ending::Ending;
 use hg_reading::sink::access_event;
@@ -36,7 +37,7 @@ impl Explaining {
     fn show_event(&mut self, accepted: &Accepted) -> Result<(), Refusal>
         requires whole { IsWhole self.old.detector }
         requires word { self.old.asked.word < 2 ^ 62 }
-        requires actor { life.actor_of accepted.now.event < 1024 }
+        requires actor { life.actor_of accepted.now.event < THREAD_NUMBERS }
         ensures others { self.new ≡ record self.old { more = self.new.more; held = self.new.held } }
         ensures held { HoldsMore result self.old.held self.new.held (shown_text self.old accepted.now) }
         ensures none { OnOk result (self.new.more ≡ 0) }
@@ -52,7 +53,7 @@ impl Explaining {
     fn tell_event(&mut self, kept: usize, line: u64, event: &Event) -> Result<(), Refusal>
         requires whole { IsWhole self.old.detector }
         requires word { self.old.asked.word < 2 ^ 62 }
-        requires actor { life.actor_of event.now < 1024 }
+        requires actor { life.actor_of event.now < THREAD_NUMBERS }
         requires few { self.old.more + 1 < 2 ^ 64 }
         ensures asked { self.new.asked ≡ self.old.asked }
         ensures detector { self.new.detector ≡ self.old.detector }
@@ -97,7 +98,7 @@ impl Explaining {
         Ok(None)
     }
 
-    /// The same for the read or write of a line.
+    /// Offers the read or write of a line as the next event of source 0, and tells it where it overlaps the word.
     #[inline(always)]
     pub(crate) fn pass_access(
         &mut self,
@@ -118,7 +119,7 @@ impl Explaining {
         apply_access(&mut self.detector, line, found)
     }
 
-    /// The same for one that overlaps the word.
+    /// Offers the read or write of a line that overlaps the word, and tells it.
     #[inline(always)]
     fn pass_concerned(&mut self, line: u64, found: &AccessLine) -> Result<Option<Ending>, Refusal>
         requires ready { IsReady self.old }

@@ -1,6 +1,6 @@
 use Rattle.std.proofs.Common.{◌≡◌, ℕ, ◌+◌, [], ◌∷◌, length, drop, None, Some, Ok, Err, sym, ap, ◌∙◌, subst, arith}
 use Rattle.std.proofs.lemmas.List.{drop_more}
-use Rattle.hg_reading.specs.Keeping.{AreHeld}
+use Rattle.hg_reading.specs.Queueing.{AreHeld}
 use Rattle.hg_reading.specs.Taking.{Passes, Pushes}
 use Rattle.hg_reading.proofs.Pushing.{held_next, passes_longer, passes_then, pushes_pass, pushes_then, room_left, stops_front, stops_then}
 use Rattle.hg_reading.proofs.side_by_side.offer_parts.Goals as goal

@@ -1,5 +1,5 @@
 use Rattle.std.proofs.Common.{drop}
-use Rattle.hg_reading.specs.Keeping.{AreHeld}
+use Rattle.hg_reading.specs.Queueing.{AreHeld}
 use Rattle.hg_reading.specs.Taking.{Passes}
 use Rattle.hg_reading.proofs.side_by_side.offer_parts.Given as goal
 

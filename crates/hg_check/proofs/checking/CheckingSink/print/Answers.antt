@@ -10,21 +10,21 @@ use Rattle.hg_check.proofs.checking.CheckingSink.print.Goals as goal
 reports_kept : (d : Detector PagedWords) → length d.kept ≡ length (content_of d).reports
 reports_kept d = sym (length-map d.kept (report_of d.sets.sets))
 
-pub returns-in-true : goal.returns-in-true
-returns-in-true g c =
+pub returns-in-Reports : goal.returns-in-Reports
+returns-in-Reports g c =
     let count = c.kept-self.ensures.count ∙ reports_kept c.args.self.now.detector in
     record {
-      takes = takes_printed c.args.self.now _ c.args.output.now.calls c.print_reports.new.output.calls c.print_reports.result c.in-true.is refl refl count
+      takes = takes_printed c.args.self.now _ c.args.output.now.calls c.print_reports.new.output.calls c.print_reports.result c.in-Reports.is refl refl count
           c.print_reports.ensures.printed c.print_reports.ensures.front c.print_reports.ensures.cause c.print_reports.ensures.fault;
       detector = refl;
       count = count;
     }
 
-pub returns-in-false : goal.returns-in-false
-returns-in-false g c =
+pub returns-in-Segments : goal.returns-in-Segments
+returns-in-Segments g c =
     let count = c.kept-self.ensures.count ∙ reports_kept c.args.self.now.detector in
     record {
-      takes = takes_nothing c.args.self.now _ c.args.output.now.calls c.in-false.is refl refl count refl;
+      takes = takes_nothing c.args.self.now _ c.args.output.now.calls c.in-Segments.is refl refl count refl;
       detector = refl;
       count = count;
     }

@@ -1,9 +1,0 @@
-use Rattle.std.proofs.Common.{length}
-use Rattle.hg_reading.proofs.Parsing.{IsParsedTo}
-use Rattle.hg_reading.proofs.part.keep_lines.Given as goal
-
-abbrev pub invariant-loop-it : goal.invariant-loop-it
-invariant-loop-it l = IsParsedTo l.fn.text l.kept.items l.extent.lines l.extent.bytes l.reader l.rest
-
-abbrev pub decreases-loop-it : goal.decreases-loop-it
-decreases-loop-it l = length l.rest

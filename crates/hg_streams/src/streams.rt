@@ -1,0 +1,18 @@
+//! The three streams of a command that reads a trace, and the size of the pieces that go through a stream.
+
+use crate::input::Input;
+use crate::output::Output;
+
+/// How many bytes are read at once, and from how many bytes on held ones are written: 64 KiB.
+pub const PIECE_BYTES: usize = 65_536;
+
+/// What a command reads, and where it prints.
+#[derive(Drop)]
+pub struct Streams<R, W, V> {
+    /// The trace text.
+    pub input: Input<R>,
+    /// What the command was asked for.
+    pub output: Output<W>,
+    /// The fault that it ended by.
+    pub faults: Output<V>,
+}
