@@ -1,6 +1,6 @@
 -- The checks of the parts that were read. (No promise to a reader rests on this file, except on HaveLast.)
 use Rattle.std.specs.Global.{Vec}
-use Rattle.std.specs.Prelude.{◌≡◌, ℕ, ◌≤◌, ◌*◌, ◌^◌, ◌==◌, List, [], ◌∷◌, length, map, min, slice_index, All, if◌then◌else◌}
+use Rattle.std.specs.Prelude.{◌≡◌, ℕ, ◌≤◌, ◌*◌, ◌==◌, List, [], ◌∷◌, length, map, min, slice_index, All, if◌then◌else◌}
 use Rattle.hg_model.specs.declared.limits.TheConstants.{MOST_ACCESS_WORDS, MOST_EVENTS, MOST_REPORTS}
 use Rattle.hg_model.specs.Restoring.{AreThreads}
 use Rattle.hg_model.specs.declared.segment.Segment.{Segment}

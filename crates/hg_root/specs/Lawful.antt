@@ -1,5 +1,5 @@
 -- The rules of a root's body.
-use Rattle.std.specs.Prelude.{◌≡◌, ◌≢◌, ◌⊎◌, ◌<◌, ◌≤◌, ◌+◌, ◌*◌, ◌%◌, ◌^◌, ℕ, List, length, map, filter, min, sum, slice_get, Some, Contains, All, AllPairs}
+use Rattle.std.specs.Prelude.{◌≡◌, ◌≢◌, ◌⊎◌, ◌<◌, ◌≤◌, ◌+◌, ◌*◌, ◌%◌, ℕ, List, length, map, filter, min, sum, slice_get, Some, Contains, All, AllPairs}
 use Rattle.std.specs.List.{range_with_len}
 use Rattle.std.specs.List.Sorted.{IsStrictlyIncreasing}
 use Rattle.hg_model.specs.declared.limits.TheConstants.{GREATEST_SOURCE, GREATEST_THREAD, MOST_ACCESS_WORDS, MOST_EVENTS, MOST_HELD, MOST_REPORTS, MOST_SEGMENTS, THREAD_NUMBERS}
