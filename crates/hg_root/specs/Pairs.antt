@@ -1,14 +1,18 @@
 -- What a crash may leave of two root files, and the state of a pair in each step.
-use Rattle.std.specs.Prelude.{◌≡◌, ◌≢◌, ◌⊎◌, ◌+◌, ℕ, Bool, true, false, IsTrue, not, List, [], ◌∷◌, Option, Some, None, Result, Ok, Err, OnOk, OnErr, if◌then◌else◌}
+use Rattle.std.specs.Prelude.{◌≡◌, ◌≢◌, ◌⊎◌, ◌+◌, ℕ, Bool, true, false, IsTrue, not, List, [], ◌∷◌, Option, Some, None, Result, Ok, Err, IfErr, IsErrOf, OnOk, OnErr, if◌then◌else◌}
+use Rattle.hg_disk.specs.Calls.{CallsAtMost}
 use Rattle.hg_disk.specs.Moments.{GoesOn, MayLeave}
 use Rattle.hg_disk.specs.State.{settled}
 use Rattle.hg_disk.specs.declared.disk.Disk as disk
 use Rattle.hg_gate.specs.Batches.{IsClosed, closed_gate, open_gate}
 use Rattle.hg_gate.specs.Gated as gated
 use Rattle.hg_gate.specs.Gated.{Rests, framed}
+use Rattle.hg_root.specs.Fault.{IsBrokenOrDevice, failures_after}
 use Rattle.hg_root.specs.Lawful.{IsRoot}
 use Rattle.hg_root.specs.Newest.{IsBelow, IsNewest, IsRootFile}
 use Rattle.hg_root.specs.Parts.{Parts}
+use Rattle.hg_root.specs.declared.fault.RootFault.{RootFault}
+use Rattle.hg_root.specs.declared.fault.RootFault.TheVariants.{Broken}
 use Rattle.hg_root.specs.declared.pair.RootPair.{RootPair}
 
 -- whether the file is known to be closed
@@ -99,7 +103,8 @@ module _ {D : Type 0} (g : disk.Ghosts D) where
     pub known : IsKnown p.is_closed former
     pub newer_known : IsKnown p.is_other_closed root
 
-  -- The same, and the file that is written next is closed, with these bytes behind its gate.
+  -- The pair works, and both files are durable. The file that is written next is closed, with these bytes behind its gate; the other
+  -- has the newest open root, or is closed.
   pub record IsPrepared (p : RootPair D) (root : Option Parts) (rest : List ℕ) : Type 0 where
     pub gate : ℕ
     pub newer_file : List ℕ
@@ -179,3 +184,16 @@ module _ {D : Type 0} (g : disk.Ghosts D) where
   -- A pair that was opened stands with the next root, and the former one.
   abbrev pub StandsOpened : (old new : RootPair D) → Type 0
   StandsOpened old new = (root : Option Parts) (next : Parts) → IsOpened g old root next → Stands g new (Some next) root
+
+  -- What each call that writes the older file promises. The newer file and the turn stay. It makes at most so many device calls. Where
+  -- one of them fails, the file is broken; a broken file is not changed.
+  pub record CallsOlder (most : ℕ) (old new : RootPair D) (result : Result (Unit {0}) RootFault) : Type 0 where
+    pub newer : newer new ≡ newer old
+    pub turn : is_turned new ≡ is_turned old
+    pub other : is_other_broken new ≡ is_other_broken old
+    pub fault : IfErr result IsBrokenOrDevice
+    pub calls : CallsAtMost g most (older old) (older new)
+    pub device : g.failures (older new) ≡ failures_after result (g.failures (older old))
+    pub broken : IsErrOf result Broken → IsTrue (is_broken old)
+    pub breaks : OnErr result (IsTrue (is_broken new))
+    pub same : IsTrue (is_broken old) → new ≡ old

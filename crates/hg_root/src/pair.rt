@@ -38,7 +38,7 @@ pub struct RootPair<D: Disk> {
 impl<D: Disk> RootPair<D> {
     ghost use Rattle.hg_root.specs.Finding.{HaveOneNumber, AreWhole, ChoosesFrom, HasNoNewest, IsNewestOf, IsOnlyOf, IsWholeIn, StandsByChoice, StandsDurably, WasRead, root_in};
     ghost use Rattle.hg_root.specs.Making.{CountsMaking};
-    ghost use Rattle.hg_root.specs.Pairs.{AreGates, ClosesInTurn, IsEitherBroken, IsGate, IsWorking, LeavesEither, LeavesRoot, LeavesRoots, OpensNext, Prepares, PutsBody, Stands, StandsClosed, StandsOpened, StaysOnErr, failures, first_after, first_of, is_broken, is_closed, is_other_broken, is_other_closed, is_turned, newer, older, second_after, second_of, turned};
+    ghost use Rattle.hg_root.specs.Pairs.{AreGates, CallsOlder, ClosesInTurn, IsEitherBroken, IsGate, IsWorking, LeavesEither, LeavesRoot, LeavesRoots, OpensNext, Prepares, PutsBody, Stands, StandsClosed, StandsOpened, StaysOnErr, failures, first_after, first_of, is_broken, is_closed, is_other_closed, is_turned, newer, older, second_after, second_of, turned};
 
     /// The pair of two files, whatever their bytes are. It makes no device call. Call `newest` first: it finds which of
     /// them has the newest open root.
@@ -189,16 +189,8 @@ impl<D: Disk> RootPair<D> {
         ensures prepared { Prepares ⟦<D as Disk>⟧ self.old self.new result }
         ensures any_moment { LeavesRoots ⟦<D as Disk>⟧ self.old self.new }
         ensures known { is_closed self.new ≡ is_ok result }
-        ensures newer { newer self.new ≡ newer self.old }
-        ensures turn { is_turned self.new ≡ is_turned self.old }
-        ensures other { is_other_broken self.new ≡ is_other_broken self.old }
-        ensures fault { IfErr result IsBrokenOrDevice }
-        ensures calls { CallsAtMost ⟦<D as Disk>⟧ 2 (older self.old) (older self.new) }
-        ensures device { D.failures (older self.new) ≡ failures_after result (D.failures (older self.old)) }
-        ensures broken { IsErrOf result RootFault.Broken → IsTrue (is_broken self.old) }
-        ensures breaks { OnErr result (IsTrue (is_broken self.new)) }
+        ensures older { CallsOlder ⟦<D as Disk>⟧ 2 self.old self.new result }
         ensures refuses { IsTrue (is_broken self.old) → is_closed self.old ≡ false → result ≡ Err RootFault.Broken }
-        ensures same { IsTrue (is_broken self.old) → self.new ≡ self.old }
 
         // It does nothing if the file is known to be closed.
         ensures closed { IsTrue (is_closed self.old) → IsOk result × (self.new ≡ self.old) }
@@ -216,16 +208,8 @@ impl<D: Disk> RootPair<D> {
         ensures written { PutsBody ⟦<D as Disk>⟧ body.now self.old self.new result }
         ensures any_moment { LeavesRoot ⟦<D as Disk>⟧ self.old self.new }
         ensures known { is_closed self.new ≡ is_closed self.old }
-        ensures newer { newer self.new ≡ newer self.old }
-        ensures turn { is_turned self.new ≡ is_turned self.old }
-        ensures other { is_other_broken self.new ≡ is_other_broken self.old }
-        ensures fault { IfErr result IsBrokenOrDevice }
-        ensures calls { CallsAtMost ⟦<D as Disk>⟧ 4 (older self.old) (older self.new) }
-        ensures device { D.failures (older self.new) ≡ failures_after result (D.failures (older self.old)) }
-        ensures broken { IsErrOf result RootFault.Broken → IsTrue (is_broken self.old) }
-        ensures breaks { OnErr result (IsTrue (is_broken self.new)) }
+        ensures older { CallsOlder ⟦<D as Disk>⟧ 4 self.old self.new result }
         ensures refuses { IsTrue (is_broken self.old) → result ≡ Err RootFault.Broken }
-        ensures same { IsTrue (is_broken self.old) → self.new ≡ self.old }
     {
         self.older.write_body(body)?;
         Ok(())
@@ -236,16 +220,8 @@ impl<D: Disk> RootPair<D> {
     pub fn open_gate(&mut self) -> Result<(), RootFault>
         ensures any_moment { LeavesEither ⟦<D as Disk>⟧ self.old self.new }
         ensures opened { OpensNext ⟦<D as Disk>⟧ self.old self.new result }
-        ensures newer { newer self.new ≡ newer self.old }
-        ensures turn { is_turned self.new ≡ is_turned self.old }
-        ensures other { is_other_broken self.new ≡ is_other_broken self.old }
-        ensures fault { IfErr result IsBrokenOrDevice }
-        ensures calls { CallsAtMost ⟦<D as Disk>⟧ 2 (older self.old) (older self.new) }
-        ensures device { D.failures (older self.new) ≡ failures_after result (D.failures (older self.old)) }
-        ensures broken { IsErrOf result RootFault.Broken → IsTrue (is_broken self.old) }
-        ensures breaks { OnErr result (IsTrue (is_broken self.new)) }
+        ensures older { CallsOlder ⟦<D as Disk>⟧ 2 self.old self.new result }
         ensures refuses { IsTrue (is_broken self.old) → result ≡ Err RootFault.Broken }
-        ensures same { IsTrue (is_broken self.old) → self.new ≡ self.old }
     {
         self.older.open_gate()?;
         self.is_closed = false;

@@ -24,17 +24,17 @@ pub returns-in-Ok-clause-any_moment : goal.returns-in-Ok-clause-any_moment
 returns-in-Ok-clause-any_moment g c = λ now former next stands is.
     let old = c.args.self.now in
     let at = subst (λ (phase : Phase). RootsStand g.D.Disk phase old.roots (root_of now) former old.body.value.items) c.in_default.ensures.phase.1 stands.roots in
-    let opened = either_moment g.D.Disk old.roots c.open_gate.new.self (root_of now) former next.root c.open_gate.ensures.turn (c.open_gate.ensures.any_moment (root_of now) next.root old.body.value.items at (is.body c.in_default.ensures.phase.1) is.below) in
+    let opened = either_moment g.D.Disk old.roots c.open_gate.new.self (root_of now) former next.root c.open_gate.ensures.older.turn (c.open_gate.ensures.any_moment (root_of now) next.root old.body.value.items at (is.body c.in_default.ensures.phase.1) is.below) in
     turned_moment g.D.Disk old.roots c.open_gate.new.self c.take_turns.new.self _ c.take_turns.ensures.first c.take_turns.ensures.second opened
 
 pub returns-in-Err-open_gate-clause-any_moment : goal.returns-in-Err-open_gate-clause-any_moment
 returns-in-Err-open_gate-clause-any_moment g c = λ now former next stands is.
     let old = c.args.self.now in
     let at = subst (λ (phase : Phase). RootsStand g.D.Disk phase old.roots (root_of now) former old.body.value.items) c.in_default.ensures.phase.1 stands.roots in
-    either_moment g.D.Disk old.roots c.open_gate.new.self (root_of now) former next.root c.open_gate.ensures.turn (c.open_gate.ensures.any_moment (root_of now) next.root old.body.value.items at (is.body c.in_default.ensures.phase.1) is.below)
+    either_moment g.D.Disk old.roots c.open_gate.new.self (root_of now) former next.root c.open_gate.ensures.older.turn (c.open_gate.ensures.any_moment (root_of now) next.root old.body.value.items at (is.body c.in_default.ensures.phase.1) is.below)
 
 pub returns-in-Err-clause-device : goal.returns-in-Err-clause-device
 returns-in-Err-clause-device g c = same_fault (Unit {0}) ℕ c.args.self.now.is_broken c.in-Err.fault c.in-Err.ensures.device
 
 pub returns-in-Err-open_gate-clause-count : goal.returns-in-Err-open_gate-clause-count
-returns-in-Err-open_gate-clause-count g c = counted_fault g.D.Disk c.args.self.now.roots c.open_gate.new.self c.in-Err-open_gate.fault c.from.result c.from.ensures c.open_gate.ensures.turn c.open_gate.ensures.newer c.in-Err-open_gate.ensures.device
+returns-in-Err-open_gate-clause-count g c = counted_fault g.D.Disk c.args.self.now.roots c.open_gate.new.self c.in-Err-open_gate.fault c.from.result c.from.ensures c.open_gate.ensures.older.turn c.open_gate.ensures.older.newer c.in-Err-open_gate.ensures.older.device

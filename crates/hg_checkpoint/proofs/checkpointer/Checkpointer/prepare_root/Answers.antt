@@ -13,16 +13,16 @@ pub returns-in-Ok-clause-any_moment : goal.returns-in-Ok-clause-any_moment
 returns-in-Ok-clause-any_moment g c = λ now former stands.
     let old = c.args.self.now in
     let at = subst (λ (phase : Phase). RootsStand g.D.Disk phase old.roots (root_of now) former old.body.value.items) c.in_default.ensures.phase.1 stands in
-    moment g.D.Disk old.roots c.prepare.new.self (root_of now) former c.prepare.ensures.turn (c.prepare.ensures.any_moment (root_of now) former at)
+    moment g.D.Disk old.roots c.prepare.new.self (root_of now) former c.prepare.ensures.older.turn (c.prepare.ensures.any_moment (root_of now) former at)
 
 pub returns-in-Err-prepare-clause-any_moment : goal.returns-in-Err-prepare-clause-any_moment
 returns-in-Err-prepare-clause-any_moment g c = λ now former stands.
     let old = c.args.self.now in
     let at = subst (λ (phase : Phase). RootsStand g.D.Disk phase old.roots (root_of now) former old.body.value.items) c.in_default.ensures.phase.1 stands in
-    moment g.D.Disk old.roots c.prepare.new.self (root_of now) former c.prepare.ensures.turn (c.prepare.ensures.any_moment (root_of now) former at)
+    moment g.D.Disk old.roots c.prepare.new.self (root_of now) former c.prepare.ensures.older.turn (c.prepare.ensures.any_moment (root_of now) former at)
 
 pub returns-in-Ok-clause-count : goal.returns-in-Ok-clause-count
-returns-in-Ok-clause-count g c = counted_none g.D.Disk c.args.self.now.roots c.prepare.new.self c.prepare.ensures.turn c.prepare.ensures.newer c.in-Ok.ensures.device
+returns-in-Ok-clause-count g c = counted_none g.D.Disk c.args.self.now.roots c.prepare.new.self c.prepare.ensures.older.turn c.prepare.ensures.older.newer c.in-Ok.ensures.older.device
 
 pub returns-in-Err-prepare-clause-count : goal.returns-in-Err-prepare-clause-count
-returns-in-Err-prepare-clause-count g c = counted_fault g.D.Disk c.args.self.now.roots c.prepare.new.self c.in-Err-prepare.fault c.from.result c.from.ensures c.prepare.ensures.turn c.prepare.ensures.newer c.in-Err-prepare.ensures.device
+returns-in-Err-prepare-clause-count g c = counted_fault g.D.Disk c.args.self.now.roots c.prepare.new.self c.in-Err-prepare.fault c.from.result c.from.ensures c.prepare.ensures.older.turn c.prepare.ensures.older.newer c.in-Err-prepare.ensures.older.device
