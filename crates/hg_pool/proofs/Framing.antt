@@ -7,82 +7,82 @@ use Rattle.std.proofs.lemmas.List.{get_or-set_same, get_or-set_other}
 use Rattle.std.proofs.lemmas.Map.Keys.{IsDistinct-head, IsDistinct-tail}
 use Rattle.lru.specs.LruCache.{last_entry, promoted}
 use Rattle.hg_pool.specs.declared.frame.Frame.{Frame}
-use Rattle.hg_pool.specs.declared.frame.Held.{Held}
-use Rattle.hg_pool.specs.Frames.{AreHeld, HasPage, frame_at, framed, nothing, with_frame}
+use Rattle.hg_pool.specs.declared.frame.Placed.{Placed}
+use Rattle.hg_pool.specs.Frames.{ArePlaced, HasPage, frame_at, framed, nothing, with_frame}
 use Rattle.hg_recency.specs.Entries.{IsFree, behind, has_place}
 use Rattle.hg_pool.proofs.Lookups.{if_false, if_true, itself, looked_promoted, same_number}
 use Rattle.hg_pool.proofs.Orders.{got_there, is_listed, listed}
 
-module _ (held : List Held) where
+module _ (placed : List Placed) where
   -- a page with its frame
   abbrev pub with_its : ℕ × ℕ → ℕ × Frame
-  with_its e = (e.0, frame_at held e.1)
+  with_its e = (e.0, frame_at placed e.1)
 
-  pub keys_framed : (es : List (ℕ × ℕ)) → keys_of (framed held es) ≡ keys_of es
+  pub keys_framed : (es : List (ℕ × ℕ)) → keys_of (framed placed es) ≡ keys_of es
   keys_framed [] = refl
   keys_framed (e ∷ es) = ap (λ (ks : List ℕ). e.0 ∷ ks) (keys_framed es)
 
-  pub length_framed : (es : List (ℕ × ℕ)) → length (framed held es) ≡ length es
+  pub length_framed : (es : List (ℕ × ℕ)) → length (framed placed es) ≡ length es
   length_framed [] = refl
   length_framed (e ∷ es) = ap suc (length_framed es)
 
-  pub looked_framed : (q : ℕ) (es : List (ℕ × ℕ)) → lookup (nat_eq q) (framed held es) ≡ option_map (frame_at held) (lookup (nat_eq q) es)
+  pub looked_framed : (q : ℕ) (es : List (ℕ × ℕ)) → lookup (nat_eq q) (framed placed es) ≡ option_map (frame_at placed) (lookup (nat_eq q) es)
   looked_framed q [] = refl
   looked_framed q (e ∷ es) = here (q == e.0) (looked_framed q es)
     where
-      here : (b : Bool) → lookup (nat_eq q) (framed held es) ≡ option_map (frame_at held) (lookup (nat_eq q) es) → cond b (Some (frame_at held e.1)) (lookup (nat_eq q) (framed held es)) ≡ option_map (frame_at held) (cond b (Some e.1) (lookup (nat_eq q) es))
+      here : (b : Bool) → lookup (nat_eq q) (framed placed es) ≡ option_map (frame_at placed) (lookup (nat_eq q) es) → cond b (Some (frame_at placed e.1)) (lookup (nat_eq q) (framed placed es)) ≡ option_map (frame_at placed) (cond b (Some e.1) (lookup (nat_eq q) es))
       here true same = refl
       here false same = same
 
-  -- the same pages are there
-  pub is_there : (q : ℕ) (es : List (ℕ × ℕ)) → is_some (lookup (nat_eq q) es) ≡ is_some (lookup (nat_eq q) (framed held es))
+  -- a page has a frame exactly if it has a place
+  pub is_there : (q : ℕ) (es : List (ℕ × ℕ)) → is_some (lookup (nat_eq q) es) ≡ is_some (lookup (nat_eq q) (framed placed es))
   is_there q es = by (lookup (nat_eq q) es) ∙ ap is_some (sym (looked_framed q es))
     where
-      by : (o : Option ℕ) → is_some o ≡ is_some (option_map (frame_at held) o)
+      by : (o : Option ℕ) → is_some o ≡ is_some (option_map (frame_at placed) o)
       by None = refl
       by (Some place) = refl
 
-  pub absent_framed : (q : ℕ) (es : List (ℕ × ℕ)) → lookup (nat_eq q) (framed held es) ≡ None → lookup (nat_eq q) es ≡ None
+  pub absent_framed : (q : ℕ) (es : List (ℕ × ℕ)) → lookup (nat_eq q) (framed placed es) ≡ None → lookup (nat_eq q) es ≡ None
   absent_framed q es none = by (lookup (nat_eq q) es) (sym (looked_framed q es) ∙ none)
     where
-      by : (o : Option ℕ) → option_map (frame_at held) o ≡ None → o ≡ None
+      by : (o : Option ℕ) → option_map (frame_at placed) o ≡ None → o ≡ None
       by None is = refl
       by (Some place) is = absurd (cc is)
 
-  pub entry_framed : (q : ℕ) (es : List (ℕ × ℕ)) → lookup_entry (nat_eq q) (framed held es) ≡ option_map with_its (lookup_entry (nat_eq q) es)
+  pub entry_framed : (q : ℕ) (es : List (ℕ × ℕ)) → lookup_entry (nat_eq q) (framed placed es) ≡ option_map with_its (lookup_entry (nat_eq q) es)
   entry_framed q [] = refl
   entry_framed q (e ∷ es) = here (q == e.0) (entry_framed q es)
     where
-      here : (b : Bool) → lookup_entry (nat_eq q) (framed held es) ≡ option_map with_its (lookup_entry (nat_eq q) es) → cond b (Some (with_its e)) (lookup_entry (nat_eq q) (framed held es)) ≡ option_map with_its (cond b (Some e) (lookup_entry (nat_eq q) es))
+      here : (b : Bool) → lookup_entry (nat_eq q) (framed placed es) ≡ option_map with_its (lookup_entry (nat_eq q) es) → cond b (Some (with_its e)) (lookup_entry (nat_eq q) (framed placed es)) ≡ option_map with_its (cond b (Some e) (lookup_entry (nat_eq q) es))
       here true same = refl
       here false same = same
 
-  pub removed_framed : (q : ℕ) (es : List (ℕ × ℕ)) → framed held (remove_entry (nat_eq q) es) ≡ remove_entry (nat_eq q) (framed held es)
+  pub removed_framed : (q : ℕ) (es : List (ℕ × ℕ)) → framed placed (remove_entry (nat_eq q) es) ≡ remove_entry (nat_eq q) (framed placed es)
   removed_framed q [] = refl
   removed_framed q (e ∷ es) = here (q == e.0) (removed_framed q es)
     where
-      here : (b : Bool) → framed held (remove_entry (nat_eq q) es) ≡ remove_entry (nat_eq q) (framed held es) → framed held (cond b es (e ∷ remove_entry (nat_eq q) es)) ≡ cond b (framed held es) (with_its e ∷ remove_entry (nat_eq q) (framed held es))
+      here : (b : Bool) → framed placed (remove_entry (nat_eq q) es) ≡ remove_entry (nat_eq q) (framed placed es) → framed placed (cond b es (e ∷ remove_entry (nat_eq q) es)) ≡ cond b (framed placed es) (with_its e ∷ remove_entry (nat_eq q) (framed placed es))
       here true same = refl
       here false same = ap (λ (fs : List (ℕ × Frame)). with_its e ∷ fs) same
 
-  pub promoted_framed : (q : ℕ) (es : List (ℕ × ℕ)) → framed held (promoted (nat_eq q) es) ≡ promoted (nat_eq q) (framed held es)
+  pub promoted_framed : (q : ℕ) (es : List (ℕ × ℕ)) → framed placed (promoted (nat_eq q) es) ≡ promoted (nat_eq q) (framed placed es)
   promoted_framed q es =
       by (lookup_entry (nat_eq q) es)
-      ∙ ap (λ (o : Option (ℕ × Frame)). option_map_or (λ e. e ∷ remove_entry (nat_eq q) (framed held es)) o (framed held es)) (sym (entry_framed q es))
+      ∙ ap (λ (o : Option (ℕ × Frame)). option_map_or (λ e. e ∷ remove_entry (nat_eq q) (framed placed es)) o (framed placed es)) (sym (entry_framed q es))
     where
-      by : (o : Option (ℕ × ℕ)) → framed held (option_map_or (λ e. e ∷ remove_entry (nat_eq q) es) o es) ≡ option_map_or (λ e. e ∷ remove_entry (nat_eq q) (framed held es)) (option_map with_its o) (framed held es)
+      by : (o : Option (ℕ × ℕ)) → framed placed (option_map_or (λ e. e ∷ remove_entry (nat_eq q) es) o es) ≡ option_map_or (λ e. e ∷ remove_entry (nat_eq q) (framed placed es)) (option_map with_its o) (framed placed es)
       by None = refl
       by (Some e) = ap (λ (fs : List (ℕ × Frame)). with_its e ∷ fs) (removed_framed q es)
 
-  got_framed : (k : ℕ) (es : List (ℕ × ℕ)) → slice_get (framed held es) k ≡ option_map with_its (slice_get es k)
+  got_framed : (k : ℕ) (es : List (ℕ × ℕ)) → slice_get (framed placed es) k ≡ option_map with_its (slice_get es k)
   got_framed k [] = refl
   got_framed zero (e ∷ es) = refl
   got_framed (suc k) (e ∷ es) = got_framed k es
 
   -- the page that is last
-  pub last_framed : (es : List (ℕ × ℕ)) → option_map (λ e. e.0) (last_entry (framed held es)) ≡ option_map (λ e. e.0) (last_entry es)
+  pub last_framed : (es : List (ℕ × ℕ)) → option_map (λ e. e.0) (last_entry (framed placed es)) ≡ option_map (λ e. e.0) (last_entry es)
   last_framed es =
-      ap (λ (n : ℕ). option_map (λ e. e.0) (slice_get (framed held es) (n - 1))) (length_framed es)
+      ap (λ (n : ℕ). option_map (λ e. e.0) (slice_get (framed placed es) (n - 1))) (length_framed es)
       ∙ ap (λ (o : Option (ℕ × Frame)). option_map (λ e. e.0) o) (got_framed (length es - 1) es)
       ∙ by (slice_get es (length es - 1))
     where
@@ -90,38 +90,38 @@ module _ (held : List Held) where
       by None = refl
       by (Some e) = refl
 
-  pub held_removed : (q : ℕ) (es : List (ℕ × ℕ)) → AreHeld held es → AreHeld held (remove_entry (nat_eq q) es)
+  pub held_removed : (q : ℕ) (es : List (ℕ × ℕ)) → ArePlaced placed es → ArePlaced placed (remove_entry (nat_eq q) es)
   held_removed q [] all = all
   held_removed q (e ∷ es) all = here (q == e.0) (held_removed q es all.1)
     where
-      here : (b : Bool) → AreHeld held (remove_entry (nat_eq q) es) → AreHeld held (cond b es (e ∷ remove_entry (nat_eq q) es))
+      here : (b : Bool) → ArePlaced placed (remove_entry (nat_eq q) es) → ArePlaced placed (cond b es (e ∷ remove_entry (nat_eq q) es))
       here true rest = all.1
       here false rest = (all.0, rest)
 
-  entry_held : (q : ℕ) (es : List (ℕ × ℕ)) (e : ℕ × ℕ) → AreHeld held es → lookup_entry (nat_eq q) es ≡ Some e → HasPage held e
-  entry_held q [] e all is = absurd (cc is)
-  entry_held q (f ∷ es) e all is = here (q == f.0) is (entry_held q es e all.1)
+  entry_placed : (q : ℕ) (es : List (ℕ × ℕ)) (e : ℕ × ℕ) → ArePlaced placed es → lookup_entry (nat_eq q) es ≡ Some e → HasPage placed e
+  entry_placed q [] e all is = absurd (cc is)
+  entry_placed q (f ∷ es) e all is = here (q == f.0) is (entry_placed q es e all.1)
     where
-      here : (b : Bool) → cond b (Some f) (lookup_entry (nat_eq q) es) ≡ Some e → (lookup_entry (nat_eq q) es ≡ Some e → HasPage held e) → HasPage held e
-      here true found rest = let same : f ≡ e = cc found in subst (λ (x : ℕ × ℕ). HasPage held x) same all.0
+      here : (b : Bool) → cond b (Some f) (lookup_entry (nat_eq q) es) ≡ Some e → (lookup_entry (nat_eq q) es ≡ Some e → HasPage placed e) → HasPage placed e
+      here true found rest = let same : f ≡ e = cc found in subst (λ (x : ℕ × ℕ). HasPage placed x) same all.0
       here false found rest = rest found
 
-  pub held_promoted : (q : ℕ) (es : List (ℕ × ℕ)) → AreHeld held es → AreHeld held (promoted (nat_eq q) es)
+  pub held_promoted : (q : ℕ) (es : List (ℕ × ℕ)) → ArePlaced placed es → ArePlaced placed (promoted (nat_eq q) es)
   held_promoted q es all = by (lookup_entry (nat_eq q) es) refl
     where
-      by : (o : Option (ℕ × ℕ)) → lookup_entry (nat_eq q) es ≡ o → AreHeld held (option_map_or (λ e. e ∷ remove_entry (nat_eq q) es) o es)
+      by : (o : Option (ℕ × ℕ)) → lookup_entry (nat_eq q) es ≡ o → ArePlaced placed (option_map_or (λ e. e ∷ remove_entry (nat_eq q) es) o es)
       by None is = all
-      by (Some e) is = (entry_held q es e all is, held_removed q es all)
+      by (Some e) is = (entry_placed q es e all is, held_removed q es all)
 
   -- the place of a page has it
-  pub held_of : (q place : ℕ) (es : List (ℕ × ℕ)) → AreHeld held es → lookup (nat_eq q) es ≡ Some place → HasPage held (q, place)
+  pub held_of : (q place : ℕ) (es : List (ℕ × ℕ)) → ArePlaced placed es → lookup (nat_eq q) es ≡ Some place → HasPage placed (q, place)
   held_of q place [] all is = absurd (cc is)
   held_of q place (f ∷ es) all is = here (q == f.0) refl is (held_of q place es all.1)
     where
-      here : (b : Bool) → (q == f.0) ≡ b → cond b (Some f.1) (lookup (nat_eq q) es) ≡ Some place → (lookup (nat_eq q) es ≡ Some place → HasPage held (q, place)) → HasPage held (q, place)
+      here : (b : Bool) → (q == f.0) ≡ b → cond b (Some f.1) (lookup (nat_eq q) es) ≡ Some place → (lookup (nat_eq q) es ≡ Some place → HasPage placed (q, place)) → HasPage placed (q, place)
       here true test found rest =
           let same : f.1 ≡ place = cc found in
-          (subst (λ (n : ℕ). n < length held) same all.0.0, ap (λ (n : ℕ). (get_or held n nothing).page) (sym same) ∙ all.0.1 ∙ sym (same_number q f.0 test))
+          (subst (λ (n : ℕ). n < length placed) same all.0.0, ap (λ (n : ℕ). (get_or placed n nothing).page) (sym same) ∙ all.0.1 ∙ sym (same_number q f.0 test))
       here false test found rest = rest found
 
   -- A place whose page is elsewhere, or nowhere, is free.
@@ -129,13 +129,13 @@ module _ (held : List Held) where
   none_behind q [] all = refl
   none_behind q (k ∷ ks) all = if_false (q == k) true (listed q ks) all.0 ∙ none_behind q ks all.1
 
-  pub free_of : (former place : ℕ) (es : List (ℕ × ℕ)) → IsDistinct nat_eq (keys_of es) → AreHeld held es → (get_or held place nothing).page ≡ former → (lookup (nat_eq former) es ≡ Some place → ⊥) → IsFree place es
+  pub free_of : (former place : ℕ) (es : List (ℕ × ℕ)) → IsDistinct nat_eq (keys_of es) → ArePlaced placed es → (get_or placed place nothing).page ≡ former → (lookup (nat_eq former) es ≡ Some place → ⊥) → IsFree place es
   free_of former place [] distinct all at not = tt
   free_of former place (e ∷ es) distinct all at not = (first, free_of former place es (IsDistinct-tail nat_eq e.0 (keys_of es) distinct) all.1 at (λ found. later (former == e.0) refl found))
     where
       first : e.1 ≢ place
       first same =
-          let is : former ≡ e.0 = sym at ∙ ap (λ (n : ℕ). (get_or held n nothing).page) (sym same) ∙ all.0.1 in
+          let is : former ≡ e.0 = sym at ∙ ap (λ (n : ℕ). (get_or placed n nothing).page) (sym same) ∙ all.0.1 in
           not (if_true (former == e.0) (Some e.1) (lookup (nat_eq former) es) (ap (λ (n : ℕ). n == e.0) is ∙ itself e.0) ∙ ap Some same)
 
       later : (b : Bool) → (former == e.0) ≡ b → lookup (nat_eq former) es ≡ Some place → ⊥
@@ -144,129 +144,129 @@ module _ (held : List Held) where
           absurd (cc (sym (ap is_some found) ∙ ap (λ (n : ℕ). is_some (lookup (nat_eq n) es)) (same_number former e.0 test) ∙ none))
       later false test found = not (if_false (former == e.0) (Some e.1) (lookup (nat_eq former) es) test ∙ found)
 
-  set_length : (xs : List Held) (k : ℕ) (x : Held) → length (set xs k x) ≡ length xs
+  set_length : (xs : List Placed) (k : ℕ) (x : Placed) → length (set xs k x) ≡ length xs
   set_length [] k x = refl
   set_length (y ∷ ys) zero x = refl
   set_length (y ∷ ys) (suc k) x = ap suc (set_length ys k x)
 
   -- A free place may be taken.
-  pub free_framed : (place : ℕ) (x : Held) (es : List (ℕ × ℕ)) → IsFree place es → framed (set held place x) es ≡ framed held es
+  pub free_framed : (place : ℕ) (x : Placed) (es : List (ℕ × ℕ)) → IsFree place es → framed (set placed place x) es ≡ framed placed es
   free_framed place x [] free = refl
-  free_framed place x (e ∷ es) free = λ i. (e.0, (get_or-set_other held place e.1 x nothing free.0 i).frame) ∷ free_framed place x es free.1 i
+  free_framed place x (e ∷ es) free = λ i. (e.0, (get_or-set_other placed place e.1 x nothing free.0 i).frame) ∷ free_framed place x es free.1 i
 
-  pub free_held : (place : ℕ) (x : Held) (es : List (ℕ × ℕ)) → IsFree place es → AreHeld held es → AreHeld (set held place x) es
-  free_held place x [] free all = tt
-  free_held place x (e ∷ es) free all =
-      ((subst (λ (n : ℕ). e.1 < n) (sym (set_length held place x)) all.0.0, ap (λ (h : Held). h.page) (get_or-set_other held place e.1 x nothing free.0) ∙ all.0.1), free_held place x es free.1 all.1)
+  pub free_placed : (place : ℕ) (x : Placed) (es : List (ℕ × ℕ)) → IsFree place es → ArePlaced placed es → ArePlaced (set placed place x) es
+  free_placed place x [] free all = tt
+  free_placed place x (e ∷ es) free all =
+      ((subst (λ (n : ℕ). e.1 < n) (sym (set_length placed place x)) all.0.0, ap (λ (h : Placed). h.page) (get_or-set_other placed place e.1 x nothing free.0) ∙ all.0.1), free_placed place x es free.1 all.1)
 
   -- and so may a new one
-  got_front : (xs : List Held) (x : Held) (k : ℕ) → k < length xs → get_or (xs ++ x ∷ []) k nothing ≡ get_or xs k nothing
+  got_front : (xs : List Placed) (x : Placed) (k : ℕ) → k < length xs → get_or (xs ++ x ∷ []) k nothing ≡ get_or xs k nothing
   got_front [] x k lt = absurd (omega (arith, lt))
   got_front (y ∷ ys) x zero lt = refl
   got_front (y ∷ ys) x (suc k) lt = got_front ys x k (omega (arith, lt))
 
-  pub got_back : (xs : List Held) (x : Held) → (length xs < length (xs ++ x ∷ [])) × (get_or (xs ++ x ∷ []) (length xs) nothing ≡ x)
+  pub got_back : (xs : List Placed) (x : Placed) → (length xs < length (xs ++ x ∷ [])) × (get_or (xs ++ x ∷ []) (length xs) nothing ≡ x)
   got_back [] x = (omega arith, refl)
   got_back (y ∷ ys) x = let lt = (got_back ys x).0 in (omega (arith, lt), (got_back ys x).1)
 
-  longer : (xs : List Held) (x : Held) (k : ℕ) → k < length xs → k < length (xs ++ x ∷ [])
+  longer : (xs : List Placed) (x : Placed) (k : ℕ) → k < length xs → k < length (xs ++ x ∷ [])
   longer [] x k lt = absurd (omega (arith, lt))
   longer (y ∷ ys) x zero lt = omega arith
   longer (y ∷ ys) x (suc k) lt = let rest = longer ys x k (omega (arith, lt)) in omega (arith, rest)
 
-  pub more_framed : (x : Held) (es : List (ℕ × ℕ)) → AreHeld held es → framed (held ++ x ∷ []) es ≡ framed held es
+  pub more_framed : (x : Placed) (es : List (ℕ × ℕ)) → ArePlaced placed es → framed (placed ++ x ∷ []) es ≡ framed placed es
   more_framed x [] all = refl
-  more_framed x (e ∷ es) all = λ i. (e.0, (got_front held x e.1 all.0.0 i).frame) ∷ more_framed x es all.1 i
+  more_framed x (e ∷ es) all = λ i. (e.0, (got_front placed x e.1 all.0.0 i).frame) ∷ more_framed x es all.1 i
 
-  pub more_held : (x : Held) (es : List (ℕ × ℕ)) → AreHeld held es → AreHeld (held ++ x ∷ []) es
-  more_held x [] all = tt
-  more_held x (e ∷ es) all = ((longer held x e.1 all.0.0, ap (λ (h : Held). h.page) (got_front held x e.1 all.0.0) ∙ all.0.1), more_held x es all.1)
+  pub more_placed : (x : Placed) (es : List (ℕ × ℕ)) → ArePlaced placed es → ArePlaced (placed ++ x ∷ []) es
+  more_placed x [] all = tt
+  more_placed x (e ∷ es) all = ((longer placed x e.1 all.0.0, ap (λ (h : Placed). h.page) (got_front placed x e.1 all.0.0) ∙ all.0.1), more_placed x es all.1)
 
   -- another frame of the same page
-  page_kept : (place j : ℕ) (f : Frame) → place < length held → (get_or (with_frame held place f) j nothing).page ≡ (get_or held j nothing).page
+  page_kept : (place j : ℕ) (f : Frame) → place < length placed → (get_or (with_frame placed place f) j nothing).page ≡ (get_or placed j nothing).page
   page_kept place j f lt = by (j == place) refl
     where
-      by : (b : Bool) → (j == place) ≡ b → (get_or (with_frame held place f) j nothing).page ≡ (get_or held j nothing).page
+      by : (b : Bool) → (j == place) ≡ b → (get_or (with_frame placed place f) j nothing).page ≡ (get_or placed j nothing).page
       by true test =
           let same = same_number j place test in
-          ap (λ (n : ℕ). (get_or (with_frame held place f) n nothing).page) same
-          ∙ ap (λ (h : Held). h.page) (get_or-set_same held place (record { page = (get_or held place nothing).page; frame = f }) nothing lt)
-          ∙ ap (λ (n : ℕ). (get_or held n nothing).page) (sym same)
-      by false test = ap (λ (h : Held). h.page) (get_or-set_other held place j (record { page = (get_or held place nothing).page; frame = f }) nothing (λ same. absurd (cc (sym test ∙ ap (λ (n : ℕ). n == place) same ∙ itself place))))
+          ap (λ (n : ℕ). (get_or (with_frame placed place f) n nothing).page) same
+          ∙ ap (λ (h : Placed). h.page) (get_or-set_same placed place (record { page = (get_or placed place nothing).page; frame = f }) nothing lt)
+          ∙ ap (λ (n : ℕ). (get_or placed n nothing).page) (sym same)
+      by false test = ap (λ (h : Placed). h.page) (get_or-set_other placed place j (record { page = (get_or placed place nothing).page; frame = f }) nothing (λ same. absurd (cc (sym test ∙ ap (λ (n : ℕ). n == place) same ∙ itself place))))
 
-  pub with_held : (place : ℕ) (f : Frame) (es : List (ℕ × ℕ)) → place < length held → AreHeld held es → AreHeld (with_frame held place f) es
-  with_held place f [] lt all = tt
-  with_held place f (e ∷ es) lt all =
-      ((subst (λ (n : ℕ). e.1 < n) (sym (set_length held place (record { page = (get_or held place nothing).page; frame = f }))) all.0.0, page_kept place e.1 f lt ∙ all.0.1), with_held place f es lt all.1)
+  pub with_placed : (place : ℕ) (f : Frame) (es : List (ℕ × ℕ)) → place < length placed → ArePlaced placed es → ArePlaced (with_frame placed place f) es
+  with_placed place f [] lt all = tt
+  with_placed place f (e ∷ es) lt all =
+      ((subst (λ (n : ℕ). e.1 < n) (sym (set_length placed place (record { page = (get_or placed place nothing).page; frame = f }))) all.0.0, page_kept place e.1 f lt ∙ all.0.1), with_placed place f es lt all.1)
 
-  pub looked_with : (page place q : ℕ) (f : Frame) (es : List (ℕ × ℕ)) → AreHeld held es → lookup (nat_eq page) es ≡ Some place
-      → option_map (frame_at (with_frame held place f)) (lookup (nat_eq q) es) ≡ (if page == q then Some f else option_map (frame_at held) (lookup (nat_eq q) es))
+  pub looked_with : (page place q : ℕ) (f : Frame) (es : List (ℕ × ℕ)) → ArePlaced placed es → lookup (nat_eq page) es ≡ Some place
+      → option_map (frame_at (with_frame placed place f)) (lookup (nat_eq q) es) ≡ (if page == q then Some f else option_map (frame_at placed) (lookup (nat_eq q) es))
   looked_with page place q f es all is = by (page == q) refl (lookup (nat_eq q) es) refl
     where
-      at : HasPage held (page, place)
+      at : HasPage placed (page, place)
       at = held_of page place es all is
 
-      by : (b : Bool) → (page == q) ≡ b → (o : Option ℕ) → lookup (nat_eq q) es ≡ o → option_map (frame_at (with_frame held place f)) o ≡ (if b then Some f else option_map (frame_at held) o)
+      by : (b : Bool) → (page == q) ≡ b → (o : Option ℕ) → lookup (nat_eq q) es ≡ o → option_map (frame_at (with_frame placed place f)) o ≡ (if b then Some f else option_map (frame_at placed) o)
       by true test o found =
           let there : o ≡ Some place = sym found ∙ ap (λ (n : ℕ). lookup (nat_eq n) es) (sym (same_number page q test)) ∙ is in
-          ap (λ (x : Option ℕ). option_map (frame_at (with_frame held place f)) x) there
-          ∙ ap (λ (h : Held). Some h.frame) (get_or-set_same held place (record { page = (get_or held place nothing).page; frame = f }) nothing at.0)
+          ap (λ (x : Option ℕ). option_map (frame_at (with_frame placed place f)) x) there
+          ∙ ap (λ (h : Placed). Some h.frame) (get_or-set_same placed place (record { page = (get_or placed place nothing).page; frame = f }) nothing at.0)
       by false test None found = refl
       by false test (Some j) found =
           let other = held_of q j es all found in
-          let apart : j ≢ place = λ same. absurd (cc (sym test ∙ ap (λ (n : ℕ). page == n) (sym other.1 ∙ ap (λ (n : ℕ). (get_or held n nothing).page) same ∙ at.1) ∙ itself page)) in
-          ap (λ (h : Held). Some h.frame) (get_or-set_other held place j (record { page = (get_or held place nothing).page; frame = f }) nothing apart)
+          let apart : j ≢ place = λ same. absurd (cc (sym test ∙ ap (λ (n : ℕ). page == n) (sym other.1 ∙ ap (λ (n : ℕ). (get_or placed n nothing).page) same ∙ at.1) ∙ itself page)) in
+          ap (λ (h : Placed). Some h.frame) (get_or-set_other placed place j (record { page = (get_or placed place nothing).page; frame = f }) nothing apart)
 
-pub written : (held : List Held) (page place q : ℕ) (f : Frame) (es : List (ℕ × ℕ)) → AreHeld held es → lookup (nat_eq page) es ≡ Some place
-    → lookup (nat_eq q) (framed (with_frame held place f) es) ≡ (if page == q then Some f else lookup (nat_eq q) (framed held es))
-written held page place q f es all is =
-    looked_framed (with_frame held place f) q es ∙ looked_with held page place q f es all is ∙ ap (λ (o : Option Frame). if page == q then Some f else o) (sym (looked_framed held q es))
+pub written : (placed : List Placed) (page place q : ℕ) (f : Frame) (es : List (ℕ × ℕ)) → ArePlaced placed es → lookup (nat_eq page) es ≡ Some place
+    → lookup (nat_eq q) (framed (with_frame placed place f) es) ≡ (if page == q then Some f else lookup (nat_eq q) (framed placed es))
+written placed page place q f es all is =
+    looked_framed (with_frame placed place f) q es ∙ looked_with placed page place q f es all is ∙ ap (λ (o : Option Frame). if page == q then Some f else o) (sym (looked_framed placed q es))
 
 -- and so where the page was used anew
-pub written_used : (held : List Held) (page place q : ℕ) (f : Frame) (es : List (ℕ × ℕ)) → IsDistinct nat_eq (keys_of es) → AreHeld held es → lookup (nat_eq page) es ≡ Some place
-    → lookup (nat_eq q) (framed (with_frame held place f) (promoted (nat_eq page) es)) ≡ (if page == q then Some f else lookup (nat_eq q) (framed held es))
-written_used held page place q f es distinct all is =
-    looked_framed (with_frame held place f) q (promoted (nat_eq page) es)
-    ∙ ap (λ (o : Option ℕ). option_map (frame_at (with_frame held place f)) o) (looked_promoted page q es distinct)
-    ∙ sym (looked_framed (with_frame held place f) q es)
-    ∙ written held page place q f es all is
+pub written_used : (placed : List Placed) (page place q : ℕ) (f : Frame) (es : List (ℕ × ℕ)) → IsDistinct nat_eq (keys_of es) → ArePlaced placed es → lookup (nat_eq page) es ≡ Some place
+    → lookup (nat_eq q) (framed (with_frame placed place f) (promoted (nat_eq page) es)) ≡ (if page == q then Some f else lookup (nat_eq q) (framed placed es))
+written_used placed page place q f es distinct all is =
+    looked_framed (with_frame placed place f) q (promoted (nat_eq page) es)
+    ∙ ap (λ (o : Option ℕ). option_map (frame_at (with_frame placed place f)) o) (looked_promoted page q es distinct)
+    ∙ sym (looked_framed (with_frame placed place f) q es)
+    ∙ written placed page place q f es all is
 
 -- the frame of a page in this place
-pub frame_there : (held : List Held) (page place : ℕ) (f : Frame) (es : List (ℕ × ℕ)) → lookup (nat_eq page) es ≡ Some place → lookup (nat_eq page) (framed held es) ≡ Some f → frame_at held place ≡ f
-frame_there held page place f es at is =
-    let there : Some (frame_at held place) ≡ Some f = sym (ap (λ (o : Option ℕ). option_map (frame_at held) o) at) ∙ sym (looked_framed held page es) ∙ is in
+pub frame_there : (placed : List Placed) (page place : ℕ) (f : Frame) (es : List (ℕ × ℕ)) → lookup (nat_eq page) es ≡ Some place → lookup (nat_eq page) (framed placed es) ≡ Some f → frame_at placed place ≡ f
+frame_there placed page place f es at is =
+    let there : Some (frame_at placed place) ≡ Some f = sym (ap (λ (o : Option ℕ). option_map (frame_at placed) o) at) ∙ sym (looked_framed placed page es) ∙ is in
     cc there
 
 -- a page that is there has a place
-pub no_place : (held : List Held) (page : ℕ) (es : List (ℕ × ℕ)) (o : Option ℕ) → o ≡ lookup (nat_eq page) es → ((place : ℕ) → o ≡ Some place → ⊥) → is_some (lookup (nat_eq page) (framed held es)) ≡ true → ⊥
-no_place held page es None is not there = absurd (cc (sym (ap is_some is ∙ is_there held page es ∙ there)))
-no_place held page es (Some place) is not there = not place refl
+pub no_place : (placed : List Placed) (page : ℕ) (es : List (ℕ × ℕ)) (o : Option ℕ) → o ≡ lookup (nat_eq page) es → ((place : ℕ) → o ≡ Some place → ⊥) → is_some (lookup (nat_eq page) (framed placed es)) ≡ true → ⊥
+no_place placed page es None is not there = absurd (cc (sym (ap is_some is ∙ is_there placed page es ∙ there)))
+no_place placed page es (Some place) is not there = not place refl
 
 -- No two pages have one place, so a place leads to the page behind the one that has it.
-pub got_held : (held : List Held) (es : List (ℕ × ℕ)) (k : ℕ) (e : ℕ × ℕ) → AreHeld held es → slice_get es k ≡ Some e → HasPage held e
-got_held held [] k e all is = absurd (cc is)
-got_held held (f ∷ es) zero e all is = let same : f ≡ e = cc is in subst (λ (x : ℕ × ℕ). HasPage held x) same all.0
-got_held held (f ∷ es) (suc k) e all is = got_held held es k e all.1 is
+pub got_placed : (placed : List Placed) (es : List (ℕ × ℕ)) (k : ℕ) (e : ℕ × ℕ) → ArePlaced placed es → slice_get es k ≡ Some e → HasPage placed e
+got_placed placed [] k e all is = absurd (cc is)
+got_placed placed (f ∷ es) zero e all is = let same : f ≡ e = cc is in subst (λ (x : ℕ × ℕ). HasPage placed x) same all.0
+got_placed placed (f ∷ es) (suc k) e all is = got_placed placed es k e all.1 is
 
-apart : (held : List Held) (f e : ℕ × ℕ) (es : List (ℕ × ℕ)) (k : ℕ) → IsDistinct nat_eq (keys_of (f ∷ es)) → AreHeld held (f ∷ es) → slice_get es k ≡ Some e → (e.1 == f.1) ≡ false
-apart held f e es k distinct all is = by (e.1 == f.1) refl
+apart : (placed : List Placed) (f e : ℕ × ℕ) (es : List (ℕ × ℕ)) (k : ℕ) → IsDistinct nat_eq (keys_of (f ∷ es)) → ArePlaced placed (f ∷ es) → slice_get es k ≡ Some e → (e.1 == f.1) ≡ false
+apart placed f e es k distinct all is = by (e.1 == f.1) refl
   where
     by : (b : Bool) → (e.1 == f.1) ≡ b → (e.1 == f.1) ≡ false
     by true test =
-        let one : e.0 ≡ f.0 = sym (got_held held es k e all.1 is).1 ∙ ap (λ (n : ℕ). (get_or held n nothing).page) (same_number e.1 f.1 test) ∙ all.0.1 in
-        let none = is_listed f.0 es ∙ none_behind held f.0 (keys_of es) (IsDistinct-head nat_eq f.0 (keys_of es) distinct) in
+        let one : e.0 ≡ f.0 = sym (got_placed placed es k e all.1 is).1 ∙ ap (λ (n : ℕ). (get_or placed n nothing).page) (same_number e.1 f.1 test) ∙ all.0.1 in
+        let none = is_listed f.0 es ∙ none_behind placed f.0 (keys_of es) (IsDistinct-head nat_eq f.0 (keys_of es) distinct) in
         absurd (cc (sym (got_there es k e is) ∙ ap (λ (n : ℕ). is_some (lookup (nat_eq n) es)) one ∙ none))
     by false test = test
 
-pub next_behind : (held : List Held) (es : List (ℕ × ℕ)) (k : ℕ) (e : ℕ × ℕ) → IsDistinct nat_eq (keys_of es) → AreHeld held es → slice_get es k ≡ Some e → (has_place e.1 es ≡ true) × (behind e.1 es ≡ slice_get es (suc k))
-next_behind held [] k e distinct all is = absurd (cc is)
-next_behind held (f ∷ es) zero e distinct all is =
+pub next_behind : (placed : List Placed) (es : List (ℕ × ℕ)) (k : ℕ) (e : ℕ × ℕ) → IsDistinct nat_eq (keys_of es) → ArePlaced placed es → slice_get es k ≡ Some e → (has_place e.1 es ≡ true) × (behind e.1 es ≡ slice_get es (suc k))
+next_behind placed [] k e distinct all is = absurd (cc is)
+next_behind placed (f ∷ es) zero e distinct all is =
     let same : f ≡ e = cc is in
     let test : (e.1 == f.1) ≡ true = ap (λ (x : ℕ × ℕ). e.1 == x.1) same ∙ itself e.1 in
     (if_true (e.1 == f.1) true (has_place e.1 es) test, if_true (e.1 == f.1) (slice_get es 0) (behind e.1 es) test)
-next_behind held (f ∷ es) (suc k) e distinct all is =
-    let test = apart held f e es k distinct all is in
-    let rest = next_behind held es k e (IsDistinct-tail nat_eq f.0 (keys_of es) distinct) all.1 is in
+next_behind placed (f ∷ es) (suc k) e distinct all is =
+    let test = apart placed f e es k distinct all is in
+    let rest = next_behind placed es k e (IsDistinct-tail nat_eq f.0 (keys_of es) distinct) all.1 is in
     (if_false (e.1 == f.1) true (has_place e.1 es) test ∙ rest.0, if_false (e.1 == f.1) (slice_get es 0) (behind e.1 es) test ∙ rest.1)
 
 -- the entries from one on

@@ -36,7 +36,7 @@ listed_front q n (k ∷ ks) is = here (q == k) is (listed_front q n ks)
     here true found rest = refl
     here false found rest = rest found
 
--- the same pages, or those but for the last
+-- both lists have one order of pages, or the first one has one page more at its end
 pub same_pages : {X Y : Type 0} (q : ℕ) (es : List (ℕ × X)) (fs : List (ℕ × Y)) → keys_of fs ≡ keys_of es → is_some (lookup (nat_eq q) fs) ≡ true → is_some (lookup (nat_eq q) es) ≡ true
 same_pages q es fs same is = is_listed q es ∙ ap (λ (ks : List ℕ). listed q ks) (sym same) ∙ sym (is_listed q fs) ∙ is
 

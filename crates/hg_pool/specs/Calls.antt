@@ -69,7 +69,8 @@ FillsFrame page from to cell old new =
     (f : Frame) → frame_in old page ≡ Some f
     → (q : ℕ) → frame_in new q ≡ (if page == q then Some (record { cells = filled f.cells from to cell; is_dirty = true }) else frame_in old q)
 
--- The same, and the frame had 256 cells.
+-- The frame of the page had 256 cells. It has the cell from `from` up to `to`, and is dirty; each other page keeps its
+-- frame.
 abbrev pub FillsPage : (page from to : ℕ) → Cell → (old new : List (ℕ × Frame)) → Type 0
 FillsPage page from to cell old new =
     (f : Frame) → frame_in old page ≡ Some f
@@ -145,7 +146,7 @@ module _ {D : Type 0} where
   HasWaited p page =
       (cells : List Cell) × (is_some (slot_in p.waiting page.page) ≡ true) × IsFrozen p page.page cells × IsSlot page.page cells page.bytes
 
-  -- The same, with the slot for which it waits.
+  -- The page waits for this slot, and the bytes are those of its cells at the freeze.
   abbrev pub WaitsFor : ShownPool D → Encoded → (slot : ℕ) → Type 0
   WaitsFor p page slot =
       (slot_in p.waiting page.page ≡ Some slot) × (cells : List Cell) × IsFrozen p page.page cells × IsSlot page.page cells page.bytes
@@ -223,7 +224,7 @@ module _ {D : Type 0} (g : disk.Ghosts D) where
   abbrev pub CountsFailures : {T : Type 0} → (old new : ShownPool D) → Result T Refusal → Type 0
   CountsFailures old new result = g.failures (disk_of new) ≡ failed_after result (g.failures (disk_of old))
 
-  -- The same of a write or a sync.
+  -- After a write or a sync the count of failed calls is that from before, and one more after the answer DeviceFault.
   abbrev pub CountsWrites : {T : Type 0} → (old new : ShownPool D) → Result T WriteFault → Type 0
   CountsWrites old new result = g.failures (disk_of new) ≡ failures_after_write result (g.failures (disk_of old))
 
@@ -284,7 +285,7 @@ module _ {D : Type 0} (g : disk.Ghosts D) where
       IsWhole g p → ((i : ℕ) → i < 256 → IsKnown segments sets (in_slot (bytes_of g p) (slot_in p.live page) i))
       → IfErr result (λ r. r ≢ Damaged)
 
-  -- The same where the cells of the live map are known.
+  -- Loading a page of a whole pool, whose cells of the live map are known, answers no Damaged.
   abbrev pub LoadsUndamaged : {T : Type 0} → ShownPool D → (page segments : ℕ) → List (List ℕ) → Result T Refusal → Type 0
   LoadsUndamaged p page segments sets result =
       IsWhole g p → ((w : ℕ) → w / 256 ≡ page → IsKnown segments sets (live g p w)) → IfErr result (λ r. r ≢ Damaged)

@@ -35,7 +35,7 @@ module _ {D : Type 0} (g : disk.Ghosts D) where
     pub honest : IsTrue g.is_honest
     pub pages : (page : ℕ) → IsPageWhole p page
 
-  -- The same, and the live cells name only segments and sets below these numbers.
+  -- The maps have what was written, and the live cells name only segments and sets below these numbers.
   pub record IsFaithful (p : ShownPool D) (segments sets : ℕ) : Type 0 where
     pub whole : IsWhole p
     pub within : (w : ℕ) → IsWithin segments sets (live g p w)

@@ -3,6 +3,8 @@ use Rattle.std.specs.Prelude.{◌≡◌, ◌+◌, ◌≤◌, ◌<◌, ◌^◌, �
 use Rattle.std.specs.Option.{unwrap_or}
 use Rattle.lru.specs.LruCache.{LruCache}
 use Rattle.hg_cells.specs.declared.cell.Cell.{Cell}
+use Rattle.hg_pages.specs.declared.decoded.TheConstants.{MOST_PAGES}
+use Rattle.hg_pages.specs.declared.slot_file.TheConstants.{MOST_SLOTS}
 use Rattle.hg_pages.specs.Tables as tables
 use Rattle.hg_pages.specs.Tables.{IsNamed, slot_in}
 use Rattle.hg_pool.specs.declared.frame.Frame.{Frame}
@@ -62,7 +64,7 @@ pub record IsPicked (root : tables.ShownTable) (frozen : Option tables.ShownTabl
   pub frozen_slots : slot < (unwrap_or frozen root).slots
   pub live_slots : slot < live.slots
   pub within : slot < slots
-  pub number : page < 2 ^ 54
+  pub number : page < MOST_PAGES
 
 -- The parts agree with each other.
 pub record AreSound (root : tables.ShownTable) (frozen : Option tables.ShownTable) (live waiting : tables.ShownTable) (copies : LruCache ℕ (List Cell)) (frames : LruCache ℕ Frame) (slots : ℕ) (is_sealed : Bool) : Type 0 where
@@ -70,11 +72,11 @@ pub record AreSound (root : tables.ShownTable) (frozen : Option tables.ShownTabl
   pub copied : (page : ℕ) (cells : List Cell) → copy_in copies.entries page ≡ Some cells → is_some (slot_in waiting.entries page) ≡ true
   pub few : length waiting.entries ≤ frames.cap
   pub most : copies.cap ≡ frames.cap
-  pub numbers : (page : ℕ) (f : Frame) → frame_in frames.entries page ≡ Some f → page < 2 ^ 54
+  pub numbers : (page : ℕ) (f : Frame) → frame_in frames.entries page ≡ Some f → page < MOST_PAGES
   pub sealed : IsTrue is_sealed → waiting.entries ≡ []
   pub most_frames : frames.cap ≤ 4096
   pub least_frames : 2 ≤ frames.cap
-  pub most_slots : slots ≤ 1048576
+  pub most_slots : slots ≤ MOST_SLOTS
   pub root_below : FindsBelow slots root.entries
   pub frozen_below : FindsBelow slots (unwrap_or frozen root).entries
   pub live_below : FindsBelow slots live.entries

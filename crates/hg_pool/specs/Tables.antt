@@ -1,14 +1,16 @@
 -- Tables: their pages and slots, and a table in which a page was given a slot.
 use Rattle.std.specs.Prelude.{◌≡◌, ◌+◌, ◌≤◌, ◌<◌, ◌^◌, ◌==◌, ℕ, List, length, Some, All, is_some, if◌then◌else◌}
+use Rattle.hg_pages.specs.declared.decoded.TheConstants.{MOST_PAGES}
+use Rattle.hg_pages.specs.declared.slot_file.TheConstants.{MOST_SLOTS}
 use Rattle.hg_pages.specs.Tables.{AreEntries, ShownTable, slot_in}
 
--- the pages are below 2^54, and the slots below this number
+-- the pages have numbers of pages, and the slots are below this number
 abbrev pub AreBelow : ℕ → List (ℕ × ℕ) → Type 0
-AreBelow slots table = All (λ e. (e.0 < 2 ^ 54) × (e.1 < slots)) table
+AreBelow slots table = All (λ e. (e.0 < MOST_PAGES) × (e.1 < slots)) table
 
--- the same, as pages are looked up
+-- the pages that are found have numbers of pages, and their slots are below this number
 abbrev pub FindsBelow : ℕ → List (ℕ × ℕ) → Type 0
-FindsBelow slots table = (page slot : ℕ) → slot_in table page ≡ Some slot → (page < 2 ^ 54) × (slot < slots)
+FindsBelow slots table = (page slot : ℕ) → slot_in table page ≡ Some slot → (page < MOST_PAGES) × (slot < slots)
 
 -- A root can name the table: its pages rise, no slot has two pages, all numbers are within the profile, and there are no
 -- more entries than slots.
@@ -16,7 +18,7 @@ pub record IsNameable (slots : ℕ) (table : List (ℕ × ℕ)) : Type 0 where
   pub entries : AreEntries table
   pub below : AreBelow slots table
   pub few : length table ≤ slots
-  pub most : slots ≤ 1048576
+  pub most : slots ≤ MOST_SLOTS
 
 -- The page has the slot, other pages keep theirs, and there is no less room.
 pub record IsSetAt (page slot : ℕ) (old new : ShownTable) : Type 0 where

@@ -12,7 +12,7 @@ pub struct Frame {
 
 /// A frame in its place, and the page that has it.
 #[derive(Drop)]
-pub(crate) struct Held {
+pub(crate) struct Placed {
     pub(crate) page: u64,
     pub(crate) frame: Frame,
 }

@@ -5,12 +5,12 @@ ghost use Rattle.std.specs.NonZero.{non_zero_usize_get};
 ghost use Rattle.lru.specs.LruCache.{LruCache as Entries, IsValid, last_entry, promoted};
 ghost use Rattle.hg_pool.specs.declared.frame.Frame.{Frame as FrameOf};
 ghost use Rattle.hg_pages.specs.Tables.{slot_in};
-ghost use Rattle.hg_pool.specs.Frames.{AreHeld, HasCell, HasPage, frame_at, framed, with_cell, with_clean};
+ghost use Rattle.hg_pool.specs.Frames.{ArePlaced, HasCell, HasPage, frame_at, framed, with_cell, with_clean};
 ghost use Rattle.hg_pool.specs.Maps.{frame_in};
 ghost use Rattle.hg_recency.specs.Entries.{IsFree};
 ghost use Rattle.hg_pool.specs.Calls.{CleansFrame, FillsFrame, IsFreePlace, NamesDirty, Notes};
 
-use crate::frame::{Frame, Held};
+use crate::frame::{Frame, Placed};
 use hg_cells::Cell;
 use hg_pages::Table;
 use hg_recency::Recency;
@@ -24,16 +24,20 @@ use std::num::NonZeroUsize;
 /// search. Contracts see the pages with their frames, the page used last first.
 pub(crate) struct Frames {
     order: Recency,
-    held: Vec<Held>,
+    placed: Vec<Placed>,
     // Places that pages left. No contract rests on this list: a place is taken again only if its page is no longer in it.
     left: Vec<u32>,
 }
 
 impl Drop for Frames {
     fn drop(self) {
-        let Frames { order, held, left } = self;
+        let Frames {
+            order,
+            placed,
+            left,
+        } = self;
         drop(order);
-        drop(held);
+        drop(placed);
         drop(left);
     }
 }
@@ -42,29 +46,29 @@ impl Model for Frames {
     ghost use Rattle.std.specs.Prelude.{ℕ};
     ghost use Rattle.lru.specs.LruCache.{LruCache as Entries, lru_cache};
     ghost use Rattle.hg_pool.specs.declared.frame.Frame.{Frame as FrameOf};
-    ghost use Rattle.hg_pool.specs.Frames.{AreHeld, framed};
+    ghost use Rattle.hg_pool.specs.Frames.{ArePlaced, framed};
 
     ghost Value = { Entries ℕ FrameOf };
 
-    ghost view = { λ f. lru_cache (framed f.held.items f.order.entries) f.order.cap };
+    ghost view = { λ f. lru_cache (framed f.placed.items f.order.entries) f.order.cap };
 
-    ghost invariant = { λ f. AreHeld f.held.items f.order.entries };
+    ghost invariant = { λ f. ArePlaced f.placed.items f.order.entries };
 }
 
 // A place that a page left and that no page has now.
-fn free_place(order: &Recency, held: &Vec<Held>, left: &mut Vec<u32>) -> Option<u32>
-    requires { AreHeld held.now.items order.now.entries }
-    ensures { IfSome result (IsFreePlace (length held.now.items) order.now.cap order.now.entries) }
+fn free_place(order: &Recency, placed: &Vec<Placed>, left: &mut Vec<u32>) -> Option<u32>
+    requires { ArePlaced placed.now.items order.now.entries }
+    ensures { IfSome result (IsFreePlace (length placed.now.items) order.now.cap order.now.entries) }
 {
     let _count = order.len();
     let place = left.pop()?;
     if place >= order.most() {
         return None;
     }
-    if place as usize >= held.len() {
+    if place as usize >= placed.len() {
         return None;
     }
-    match order.place(held[place as usize].page) {
+    match order.place(placed[place as usize].page) {
         None => Some(place),
         Some(at) => { if at == place { None } else { Some(place) } }
     }
@@ -73,59 +77,59 @@ fn free_place(order: &Recency, held: &Vec<Held>, left: &mut Vec<u32>) -> Option<
 // Puts a page into a free place.
 fn take_place(
     order: &Recency,
-    held: &mut Vec<Held>,
+    placed: &mut Vec<Placed>,
     left: &mut Vec<u32>,
-    taken: Held,
+    taken: Placed,
 ) -> Result<u32, AllocError>
-    requires { AreHeld held.old.items order.now.entries }
-    ensures page { IfOk result (λ place. HasPage held.new.items (taken.page, place)) }
-    ensures frame { IfOk result (λ place. frame_at held.new.items place ≡ taken.frame) }
+    requires { ArePlaced placed.old.items order.now.entries }
+    ensures page { IfOk result (λ place. HasPage placed.new.items (taken.page, place)) }
+    ensures frame { IfOk result (λ place. frame_at placed.new.items place ≡ taken.frame) }
     ensures within { IfOk result (λ place. place < order.now.cap) }
     ensures free { IfOk result (λ place. IsFree place order.now.entries) }
-    ensures held { AreHeld held.new.items order.now.entries }
-    ensures others { framed held.new.items order.now.entries ≡ framed held.old.items order.now.entries }
+    ensures placed { ArePlaced placed.new.items order.now.entries }
+    ensures others { framed placed.new.items order.now.entries ≡ framed placed.old.items order.now.entries }
 {
-    if let Some(place) = free_place(order, held, left) {
-        held[place as usize] = taken;
+    if let Some(place) = free_place(order, placed, left) {
+        placed[place as usize] = taken;
         return Ok(place);
     }
-    if held.len() >= order.most() as usize {
+    if placed.len() >= order.most() as usize {
         return Err(AllocError);
     }
-    let place = held.len() as u32;
-    held.push(taken)?;
+    let place = placed.len() as u32;
+    placed.push(taken)?;
     Ok(place)
 }
 
 // The frame in a place.
 #[inline]
-fn frame_of(held: &Vec<Held>, place: u32) -> &Frame
-    requires { place < length held.now.items }
-    ensures { result.now ≡ frame_at held.now.items place }
+fn frame_of(placed: &Vec<Placed>, place: u32) -> &Frame
+    requires { place < length placed.now.items }
+    ensures { result.now ≡ frame_at placed.now.items place }
 {
-    &held[place as usize].frame
+    &placed[place as usize].frame
 }
 
 // Gives words of the page in a place a cell.
 #[inline]
-fn fill_at(held: &mut Vec<Held>, place: u32, from: usize, to: usize, cell: Cell)
-    requires place { place < length held.old.items }
+fn fill_at(placed: &mut Vec<Placed>, place: u32, from: usize, to: usize, cell: Cell)
+    requires place { place < length placed.old.items }
     requires in_order { from ≤ to }
     requires in_page { to ≤ 256 }
-    ensures held { held.new.items ≡ with_cell held.old.items place from to cell }
-    ensures words { length (frame_at held.old.items place).cells ≡ 256 }
+    ensures placed { placed.new.items ≡ with_cell placed.old.items place from to cell }
+    ensures words { length (frame_at placed.old.items place).cells ≡ 256 }
 {
-    let frame = &mut held[place as usize].frame;
+    let frame = &mut placed[place as usize].frame;
     frame.cells.fill(from, to, cell);
     frame.is_dirty = true;
 }
 
 // Marks the page in a place as clean.
-fn clean_at(held: &mut Vec<Held>, place: u32)
-    requires place { place < length held.old.items }
-    ensures held { held.new.items ≡ with_clean held.old.items place }
+fn clean_at(placed: &mut Vec<Placed>, place: u32)
+    requires place { place < length placed.old.items }
+    ensures placed { placed.new.items ≡ with_clean placed.old.items place }
 {
-    held[place as usize].frame.is_dirty = false;
+    placed[place as usize].frame.is_dirty = false;
 }
 
 // Adds a page to a table, with its place in the order of use, if the page was changed.
@@ -141,18 +145,18 @@ fn note(table: &mut Table, page: u64, place: u32, frame: &Frame) -> Result<(), A
 }
 
 // The pages that were changed, each with its place in the order of use.
-fn changed_pages(alloc: Global, order: &Recency, held: &Vec<Held>) -> Result<Table, AllocError>
-    requires held { AreHeld held.now.items order.now.entries }
-    requires few { length (framed held.now.items order.now.entries) ≤ 4096 }
-    ensures pages { IfOk result (λ table. NamesDirty (framed held.now.items order.now.entries) table.entries) }
-    ensures few { IfOk result (λ table. length table.entries ≤ length (framed held.now.items order.now.entries)) }
+fn changed_pages(alloc: Global, order: &Recency, placed: &Vec<Placed>) -> Result<Table, AllocError>
+    requires placed { ArePlaced placed.now.items order.now.entries }
+    requires few { length (framed placed.now.items order.now.entries) ≤ 4096 }
+    ensures pages { IfOk result (λ table. NamesDirty (framed placed.now.items order.now.entries) table.entries) }
+    ensures few { IfOk result (λ table. length table.entries ≤ length (framed placed.now.items order.now.entries)) }
 {
     let _count = order.len();
     let mut table = Table::new(alloc);
     let mut place = 0u32;
     let mut next = order.newest();
     while let Some((page, at)) = next {
-        note(&mut table, page, place, frame_of(held, at))?;
+        note(&mut table, page, place, frame_of(placed, at))?;
         place += 1;
         next = order.older(at);
     }
@@ -171,7 +175,7 @@ impl Frames {
         };
         Ok(Frames {
             order: Recency::new(alloc, places)?,
-            held: Vec::with_capacity(alloc, most.get())?,
+            placed: Vec::with_capacity(alloc, most.get())?,
             left: Vec::with_capacity(alloc, most.get())?,
         })
     }
@@ -198,7 +202,7 @@ impl Frames {
         ensures { option_copied result ≡ frame_in self.now.entries page }
     {
         match self.order.place(page) {
-            Some(place) => Some(frame_of(&self.held, place)),
+            Some(place) => Some(frame_of(&self.placed, place)),
             None => None,
         }
     }
@@ -212,7 +216,7 @@ impl Frames {
         match self.order.newest() {
             Some((first, place)) => {
                 if first == page {
-                    Some(frame_of(&self.held, place))
+                    Some(frame_of(&self.placed, place))
                 } else {
                     None
                 }
@@ -251,7 +255,7 @@ impl Frames {
         ensures cells { IfSome result (λ answer. IfSome answer (λ cell. HasCell self.old.entries page from to cell)) }
     {
         let place = self.order.promote(page)?;
-        Some(frame_of(&self.held, place).cells.same(from, to))
+        Some(frame_of(&self.placed, place).cells.same(from, to))
     }
 
     /// Takes a page out.
@@ -270,8 +274,8 @@ impl Frames {
         ensures entries { OnOk result (self.new ≡ lru_cache ((page, frame) ∷ self.old.entries) self.old.cap) }
         ensures refused { OnErr result (self.new ≡ self.old) }
     {
-        let taken = Held { page, frame };
-        let place = take_place(&self.order, &mut self.held, &mut self.left, taken)?;
+        let taken = Placed { page, frame };
+        let place = take_place(&self.order, &mut self.placed, &mut self.left, taken)?;
         match self.order.insert(page, place) {
             Ok(()) => Ok(()),
             Err(_) => {
@@ -289,7 +293,7 @@ impl Frames {
         ensures cap { self.new.cap ≡ self.old.cap }
     {
         if let Some(place) = self.order.place(page) {
-            clean_at(&mut self.held, place);
+            clean_at(&mut self.placed, place);
         }
     }
 
@@ -306,7 +310,7 @@ impl Frames {
     {
         let _count = self.order.len();
         if let Some(place) = self.order.promote(page) {
-            fill_at(&mut self.held, place, from, to, cell);
+            fill_at(&mut self.placed, place, from, to, cell);
         }
     }
 
@@ -316,6 +320,6 @@ impl Frames {
         ensures pages { IfOk result (λ table. NamesDirty self.now.entries table.entries) }
         ensures few { IfOk result (λ table. length table.entries ≤ length self.now.entries) }
     {
-        changed_pages(alloc, &self.order, &self.held)
+        changed_pages(alloc, &self.order, &self.placed)
     }
 }

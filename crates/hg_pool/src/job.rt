@@ -3,7 +3,7 @@ ghost use Rattle.std.specs.Prelude.{◌≡◌, ◌<◌, ◌^◌, IfOk, IfErr};
 ghost use Rattle.hg_pages.specs.Slots.{IsSlot, slot_text};
 
 use hg_cells::Page;
-use hg_pages::{EncodedPage, encode};
+use hg_pages::{EncodedPage, MOST_PAGES, encode};
 use std::alloc::Global;
 
 /// What `put` did with a page.
@@ -31,7 +31,7 @@ impl Job {
     pub fn encode(self) -> Result<EncodedPage, Job>
         ensures page { IfOk result (λ encoded. encoded.page ≡ self.page) }
         ensures bytes { IfOk result (λ encoded. encoded.bytes ≡ slot_text self.page self.cells) }
-        ensures slot { self.page < 2 ^ 54 → IfOk result (λ encoded. IsSlot self.page self.cells encoded.bytes) }
+        ensures slot { self.page < MOST_PAGES → IfOk result (λ encoded. IsSlot self.page self.cells encoded.bytes) }
         ensures handed_back { IfErr result (λ job. job ≡ self) }
     {
         match encode(self.alloc, self.page, &self.cells) {

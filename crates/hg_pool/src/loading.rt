@@ -13,6 +13,7 @@ use crate::parts::Parts;
 use hg_cells::{Cell, Page};
 use hg_disk::Disk;
 use hg_model::verdict::Refusal;
+use hg_pages::MOST_PAGES;
 use hg_sets::SetTable;
 
 impl<D: Disk> Parts<D> {
@@ -42,7 +43,7 @@ impl<D: Disk> Parts<D> {
     #[inline(never)]
     fn read_in(&mut self, page: u64, segments: u32, sets: &SetTable) -> Result<(), Refusal>
         requires sound { IsSound self.old }
-        requires number { page < 2 ^ 54 }
+        requires number { page < MOST_PAGES }
         requires absent { frame_in self.old.frames.entries page ≡ None }
         requires room { length self.old.frames.entries < self.old.frames.cap }
         ensures sound { IsSound self.new }
@@ -83,7 +84,7 @@ impl<D: Disk> Parts<D> {
     pub(crate) fn load(&mut self, page: u64, segments: u32, sets: &SetTable) -> Result<(), Refusal>
         requires sound { IsSound self.old }
         requires reached { IsReached self.old }
-        requires number { page < 2 ^ 54 }
+        requires number { page < MOST_PAGES }
         ensures sound { IsSound self.new }
         ensures reached { IsReached self.new }
         ensures takes { TakesLeastFree (shown_of self.old) (shown_of self.new) }

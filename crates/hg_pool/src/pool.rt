@@ -17,7 +17,7 @@ use crate::parts::Parts;
 use hg_cells::{Cell, Page};
 use hg_disk::Disk;
 use hg_model::verdict::Refusal;
-use hg_pages::{EncodedPage, MOST_SLOTS, SlotFile, Table, WriteFault};
+use hg_pages::{EncodedPage, MOST_PAGES, MOST_SLOTS, SlotFile, Table, WriteFault};
 use hg_sets::SetTable;
 use lru::LruCache;
 use std::alloc::{AllocError, Global};
@@ -141,7 +141,7 @@ impl<D: Disk> Pool<D> {
     /// Brings a page into a frame, as the one used last. If all frames are taken, the page used least recently leaves its
     /// frame. The page used just before this call stays.
     pub fn load(&mut self, page: u64, segments: u32, sets: &SetTable) -> Result<(), Refusal>
-        requires { page < 2 ^ 54 }
+        requires { page < MOST_PAGES }
         ensures takes { TakesLeastFree self.old self.new }
         ensures stays { Stays ⟦<D as Disk>⟧ self.old self.new }
         ensures loaded { OnOk result (is_some (frame_in self.new.frames page) ≡ true) }

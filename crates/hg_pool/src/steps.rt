@@ -16,7 +16,7 @@ use crate::parts::Parts;
 use hg_cells::Page;
 use hg_disk::Disk;
 use hg_model::verdict::Refusal;
-use hg_pages::Table;
+use hg_pages::{MOST_PAGES, Table};
 
 // Gives a page that was written its slot in the frozen table.
 fn name_frozen(frozen: &mut Option<Table>, page: u64, slot: u32)
@@ -130,7 +130,7 @@ impl<D: Disk> Parts<D> {
     /// Takes a page that is not in memory into a frame, as the one used last.
     pub(crate) fn take_in(&mut self, page: u64, cells: Page) -> Result<(), Refusal>
         requires sound { IsSound self.old }
-        requires number { page < 2 ^ 54 }
+        requires number { page < MOST_PAGES }
         requires absent { frame_in self.old.frames.entries page ≡ None }
         requires room { length self.old.frames.entries < self.old.frames.cap }
         requires stands { AreStoredIfWhole ⟦<D as Disk>⟧ (shown_of self.old) page cells }

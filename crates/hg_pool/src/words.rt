@@ -16,6 +16,7 @@ use hg_cells::{Cell, PAGE_BYTES, PAGE_WORDS};
 use hg_disk::Disk;
 use hg_model::limits::GREATEST_BLOCK;
 use hg_model::verdict::Refusal;
+use hg_pages::MOST_PAGES;
 use hg_sets::SetTable;
 
 /// How many words a page has.
@@ -42,8 +43,8 @@ impl<D: Disk> Pool<D> {
         segments: u32,
         sets: &SetTable,
     ) -> Result<(), Refusal>
-        requires first { first < 2 ^ 54 }
-        requires last { last < 2 ^ 54 }
+        requires first { first < MOST_PAGES }
+        requires last { last < MOST_PAGES }
         ensures stays { Stays ⟦<D as Disk>⟧ self.old self.new }
         ensures first { OnOk result (is_some (frame_in self.new.frames first) ≡ true) }
         ensures last { OnOk result (is_some (frame_in self.new.frames last) ≡ true) }
@@ -123,7 +124,8 @@ impl<D: Disk> Pool<D> {
         }
     }
 
-    // The same, without a look-up if the page is the one used last.
+    // The run of words in a page in memory that have the cell of the word at `from`; it begins there and ends at `to` or
+    // before. This looks the page up unless it is the one used last.
     #[inline]
     fn run_of(&self, page: u64, from: usize, to: usize) -> Run
         requires present { is_some (frame_in self.now.frames page) ≡ true }

@@ -13,7 +13,7 @@ pub frame_of-requires : goal.frame_of-requires
 frame_of-requires c =
     let f = c.self.inside in
     let first : Some (c.in-Some.first, c.in-Some.place) ≡ slice_get f.order.entries 0 = search rules in
-    (held_of f.held.items c.in-Some.first c.in-Some.place f.order.entries c.self.invariant (first_entry f.order.entries (c.in-Some.first, c.in-Some.place) (sym first))).0
+    (held_of f.placed.items c.in-Some.first c.in-Some.place f.order.entries c.self.invariant (first_entry f.order.entries (c.in-Some.first, c.in-Some.place) (sym first))).0
 
 pub returns-then-first-page-clause-frame : goal.returns-then-first-page-clause-frame
 returns-then-first-page-clause-frame c =
@@ -22,8 +22,8 @@ returns-then-first-page-clause-frame c =
     let first : Some (c.in-Some.first, place) ≡ slice_get f.order.entries 0 = search rules in
     let there = ap (λ (n : ℕ). lookup (nat_eq n) f.order.entries) (sym c.if-first-page.true) ∙ first_entry f.order.entries (c.in-Some.first, place) (sym first) in
     ap (λ (x : LruCache ℕ Frame). frame_in x.entries c.args.page) (sym c.self.view_is)
-    ∙ looked_framed f.held.items c.args.page f.order.entries
-    ∙ ap (λ (o : Option ℕ). option_map (frame_at f.held.items) o) there
+    ∙ looked_framed f.placed.items c.args.page f.order.entries
+    ∙ ap (λ (o : Option ℕ). option_map (frame_at f.placed.items) o) there
     ∙ ap Some (sym c.frame_of.ensures)
 
 pub returns-then-first-page-clause-first : goal.returns-then-first-page-clause-first
@@ -31,4 +31,4 @@ returns-then-first-page-clause-first c =
     let f = c.self.inside in
     let first : Some (c.in-Some.first, c.in-Some.place) ≡ slice_get f.order.entries 0 = search rules in
     let at = first_order f.order.entries (c.in-Some.first, c.in-Some.place) c.args.page (sym first) c.if-first-page.true in
-    (at.0, ap (λ (x : LruCache ℕ Frame). keys_of x.entries) (sym c.self.view_is) ∙ keys_framed f.held.items f.order.entries ∙ at.1)
+    (at.0, ap (λ (x : LruCache ℕ Frame). keys_of x.entries) (sym c.self.view_is) ∙ keys_framed f.placed.items f.order.entries ∙ at.1)

@@ -9,19 +9,19 @@ use Rattle.hg_pool.proofs.frames.Frames.get.Goals as goal
 pub frame_of-requires : goal.frame_of-requires
 frame_of-requires c =
     let f = c.self.inside in
-    (held_of f.held.items c.args.page c.in-Some.place f.order.entries c.self.invariant (sym c.in-Some.ensures)).0
+    (held_of f.placed.items c.args.page c.in-Some.place f.order.entries c.self.invariant (sym c.in-Some.ensures)).0
 
 pub returns-in-Some : goal.returns-in-Some
 returns-in-Some c =
     let f = c.self.inside in
     ap Some c.frame_of.ensures
-    ∙ ap (λ (o : Option ℕ). option_map (frame_at f.held.items) o) c.in-Some.ensures
-    ∙ sym (looked_framed f.held.items c.args.page f.order.entries)
+    ∙ ap (λ (o : Option ℕ). option_map (frame_at f.placed.items) o) c.in-Some.ensures
+    ∙ sym (looked_framed f.placed.items c.args.page f.order.entries)
     ∙ ap (λ (x : LruCache ℕ Frame). frame_in x.entries c.args.page) c.self.view_is
 
 pub returns-in-None : goal.returns-in-None
 returns-in-None c =
     let f = c.self.inside in
-    ap (λ (o : Option ℕ). option_map (frame_at f.held.items) o) c.in-None.ensures
-    ∙ sym (looked_framed f.held.items c.args.page f.order.entries)
+    ap (λ (o : Option ℕ). option_map (frame_at f.placed.items) o) c.in-None.ensures
+    ∙ sym (looked_framed f.placed.items c.args.page f.order.entries)
     ∙ ap (λ (x : LruCache ℕ Frame). frame_in x.entries c.args.page) c.self.view_is

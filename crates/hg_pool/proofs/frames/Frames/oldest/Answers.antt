@@ -9,7 +9,7 @@ returns-in-Some c =
     let f = c.self.inside in
     let last : Some (c.in-Some.page, c.in-Some.field-0-1) ≡ last_entry f.order.entries = search rules in
     ap (λ (o : Option (ℕ × ℕ)). option_map (λ e. e.0) o) last
-    ∙ sym (last_framed f.held.items f.order.entries)
+    ∙ sym (last_framed f.placed.items f.order.entries)
     ∙ ap (λ (x : LruCache ℕ Frame). option_map (λ e. e.0) (last_entry x.entries)) c.self.view_is
 
 pub returns-in-None : goal.returns-in-None
@@ -17,5 +17,5 @@ returns-in-None c =
     let f = c.self.inside in
     let none : None ≡ last_entry f.order.entries = search rules in
     ap (λ (o : Option (ℕ × ℕ)). option_map (λ e. e.0) o) none
-    ∙ sym (last_framed f.held.items f.order.entries)
+    ∙ sym (last_framed f.placed.items f.order.entries)
     ∙ ap (λ (x : LruCache ℕ Frame). option_map (λ e. e.0) (last_entry x.entries)) c.self.view_is

@@ -1,7 +1,7 @@
 use Rattle.std.proofs.Common.{◌∙◌, ℕ, nat_eq, List, is_some, sym, ap, subst}
 use Rattle.lru.specs.LruCache.{LruCache, lru_cache, promoted}
 use Rattle.hg_pool.specs.declared.frame.Frame.{Frame}
-use Rattle.hg_pool.specs.Frames.{AreHeld, framed}
+use Rattle.hg_pool.specs.Frames.{ArePlaced, framed}
 use Rattle.hg_pool.specs.Maps.{frame_in}
 use Rattle.hg_pool.proofs.Framing.{held_promoted, is_there, promoted_framed}
 use Rattle.hg_pool.proofs.frames.Frames.promote.Goals as goal
@@ -9,16 +9,16 @@ use Rattle.hg_pool.proofs.frames.Frames.promote.Goals as goal
 pub invariant_of-self : goal.invariant_of-self
 invariant_of-self c =
     let f = c.self.inside in
-    subst (λ (x : LruCache ℕ ℕ). AreHeld f.held.items x.entries) (sym c.promote.ensures.entries) (held_promoted f.held.items c.args.page f.order.entries c.self.invariant)
+    subst (λ (x : LruCache ℕ ℕ). ArePlaced f.placed.items x.entries) (sym c.promote.ensures.entries) (held_promoted f.placed.items c.args.page f.order.entries c.self.invariant)
 
 pub returns-clause-value : goal.returns-clause-value
 returns-clause-value c =
     let f = c.self.inside in
-    c.is_some.ensures ∙ ap is_some c.promote.ensures.place ∙ is_there f.held.items c.args.page f.order.entries ∙ ap (λ (x : LruCache ℕ Frame). is_some (frame_in x.entries c.args.page)) c.self.view_is
+    c.is_some.ensures ∙ ap is_some c.promote.ensures.place ∙ is_there f.placed.items c.args.page f.order.entries ∙ ap (λ (x : LruCache ℕ Frame). is_some (frame_in x.entries c.args.page)) c.self.view_is
 
 pub returns-clause-entries : goal.returns-clause-entries
 returns-clause-entries c =
     let f = c.self.inside in
-    ap (λ (x : LruCache ℕ ℕ). lru_cache (framed f.held.items x.entries) x.cap) c.promote.ensures.entries
-    ∙ ap (λ (es : List (ℕ × Frame)). lru_cache es f.order.cap) (promoted_framed f.held.items c.args.page f.order.entries)
+    ap (λ (x : LruCache ℕ ℕ). lru_cache (framed f.placed.items x.entries) x.cap) c.promote.ensures.entries
+    ∙ ap (λ (es : List (ℕ × Frame)). lru_cache es f.order.cap) (promoted_framed f.placed.items c.args.page f.order.entries)
     ∙ ap (λ (x : LruCache ℕ Frame). lru_cache (promoted (nat_eq c.args.page) x.entries) x.cap) c.self.view_is
