@@ -22,7 +22,7 @@ use Rattle.hg_commands.specs.FeedRunning.{FeedEndsBy, Feeds, HasFront, LeadsOn, 
 use Rattle.hg_commands.specs.Instants.{Instant}
 use Rattle.hg_commands.specs.Keeping.{KeepsOn}
 use Rattle.hg_commands.specs.FeedFaults.{FeedFails}
-use Rattle.hg_commands.specs.Taking.{IsFine, IsReadyAt, Takes}
+use Rattle.hg_commands.specs.Taking.{FeedsLines, IsFine, IsReadyAt}
 use Rattle.hg_commands.proofs.Fronts.{feeds_grow, printed_grown}
 
 no_error : (stop : Option Ending) → IsFine (Ok stop)
@@ -36,13 +36,13 @@ module _ {D : Type 0} (g : disk.Ghosts D) where
   at_start : (p : Place D) (lines : List Reading) (last : Content) (end : Ending) → p.fed.number ≡ 0 → FeedsTo p.fed.source lines (table_at p) (content_at g p) 0 last end → LeadsOn g p lines last end
   at_start p lines last end none h = subst (λ (n : ℕ). FeedsTo p.fed.source lines (table_at p) (content_at g p) n last end) (sym none) h
 
-  passed_to : (p q : Place D) (early late : List (Instant D)) (lines : List Reading) → p.fed.number ≡ 0 → Takes g p early lines (Ok None) q late → IsTrue g.is_honest
+  passed_to : (p q : Place D) (early late : List (Instant D)) (lines : List Reading) → p.fed.number ≡ 0 → FeedsLines g p early lines (Ok None) q late → IsTrue g.is_honest
       → FeedsTo p.fed.source lines (table_at p) (content_at g p) 0 (content_at g q) Ended
   passed_to p q early late lines none t honest =
       from_start p lines (content_at g q) Ended none
       (subst (λ xs. LeadsOn g p xs (content_at g q) Ended) (append-nil lines) (t.leads refl honest [] (content_at g q) Ended (refl, refl)))
 
-  ends_by : {S : Type 0} (takes : Taking S Ending) (p q : Place D) (early late : List (Instant D)) (reads : List ReadCall) (lines : List Reading) (stop : Option Ending) → p.fed.number ≡ 0 → Takes g p early lines (Ok stop) q late
+  ends_by : {S : Type 0} (takes : Taking S Ending) (p q : Place D) (early late : List (Instant D)) (reads : List ReadCall) (lines : List Reading) (stop : Option Ending) → p.fed.number ≡ 0 → FeedsLines g p early lines (Ok stop) q late
       → AreDue takes reads lines (Ok stop) → IsTrue g.is_honest → FeedEndsBy p.fed.source (table_at p) (content_at g p) reads (content_at g q) (ending_of stop)
   ends_by takes p q early late reads lines None none t due honest =
       ⊎_elim
@@ -63,7 +63,7 @@ module _ {D : Type 0} (g : disk.Ghosts D) where
       due
 
 module _ {D S : Type 0} (g : disk.Ghosts D) (takes : Taking S Ending) (at : S → List WriteCall → Place D) (moments : S → List (Instant D))
-    (seen : (a b : S) (at_a at_b : List WriteCall) (lines : List Reading) (r : Result (Option Ending) Refusal) → takes a at_a lines r b at_b → Takes g (at a at_a) (moments a) lines r (at b at_b) (moments b))
+    (seen : (a b : S) (at_a at_b : List WriteCall) (lines : List Reading) (r : Result (Option Ending) Refusal) → takes a at_a lines r b at_b → FeedsLines g (at a at_a) (moments a) lines r (at b at_b) (moments b))
   where
     -- The feeding came to an end.
     pub feeds : (first now : List ReadCall) (s t : S) (o p : List WriteCall) (stop : Option Ending) → (at s o).fed.number ≡ 0 → WasRead takes first now s o (Ok stop) t p

@@ -30,7 +30,7 @@ module _ {D : Type 0} (g : disk.Ghosts D) where
   abbrev pub IsEmptied : D → D → Type 0
   IsEmptied old new = g.failures new ≡ g.failures old → g.state new ≡ settled []
 
-  -- the same of each device
+  -- Each device has no byte, durably, unless a call of it failed since.
   pub record IsCleared (old new : Devices D) : Type 0 where
     pub journal : IsEmptied old.journal new.journal
     pub slots : IsEmptied old.slots new.slots
@@ -80,11 +80,12 @@ module _ {D : Type 0} (g : disk.Ghosts D) where
   CreatedIsKept start [] now = IsMadeBetween start start now
   CreatedIsKept start (mid ∷ earlier) now = IsMadeBetween start mid now × CreatedIsKept start earlier mid
 
-  -- The same of the devices and the output at the start of the making, its moments, and the devices and the output at its end.
+  -- `created` is true at each moment, by the devices and the output at the start of the making, its moments, and the devices and the
+  -- output at its end.
   abbrev pub CreatedIsTrue : {V : Type 0} → Devices D → Outgoing V → List (Instant D) → Devices D → Outgoing V → Type 0
   CreatedIsTrue old before moments new after = CreatedIsKept (instant old before.calls) moments (instant new after.calls)
 
--- The same for the command, which prints to one output and tells its faults on another.
+-- For the command, which prints to one output and tells its faults on another.
 module _ {D W V : Type 0} (g : disk.Ghosts D) where
   -- Devices without a byte have an empty store now, and that was told.
   abbrev pub WasCreated : Devices D → Devices D → Outputs W V → Outputs W V → Type 0

@@ -13,8 +13,8 @@ use Rattle.hg_streams.specs.Holding.{HoldsOrWrites, WritesFront, IsDue}
 use Rattle.hg_streams.specs.Texts.{line_text, reports_text, segments_text, counts_line}
 use Rattle.hg_streams.specs.Faults.{IsTold}
 use Rattle.hg_streams.specs.Written.{Took, TookFront}
-use Rattle.hg_commands.specs.declared.listing.Listing.{Listing}
-use Rattle.hg_commands.specs.declared.listing.Listing.TheVariants.{Reports, Segments}
+use Rattle.hg_streams.specs.declared.listing.Listing.{Listing}
+use Rattle.hg_streams.specs.declared.listing.Listing.TheVariants.{Reports, Segments}
 use Rattle.hg_streams.specs.declared.output.Outputs.{Outputs}
 use Rattle.hg_commands.specs.Storing.{IsCounted, failed_calls}
 use Rattle.hg_store.specs.Refusals.{IsTrueOf}

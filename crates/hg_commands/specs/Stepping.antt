@@ -11,8 +11,8 @@ use Rattle.hg_reading.specs.declared.ending.Ending.{Ending}
 use Rattle.hg_reading.specs.Endings.{status_of}
 use Rattle.hg_commands.specs.declared.lines.Feeding.{Feeding}
 use Rattle.hg_commands.specs.declared.moment.Outcome.{Outcome}
-use Rattle.hg_commands.specs.declared.plan.FeedPlan.{FeedPlan}
-use Rattle.hg_streams.specs.declared.output.Outputs.{Outputs}
+use Rattle.hg_commands.specs.declared.settings.FeedSettings.{FeedSettings}
+use Rattle.hg_streams.specs.declared.streams.Streams.{Streams}
 use Rattle.hg_commands.specs.Feeding.{ack_text, checkpoint_text, feed_end_text}
 use Rattle.hg_commands.specs.FeedRunning.{BreaksAt, EndsAt, EndsByFeedFault, FeedDone, Feeds, HasFront, Passes, Place, WasCheckpointed, WasCounted, WasFed, WentWell, WroteFeedFront, WroteFrontFrom, place}
 use Rattle.hg_commands.specs.Instants.{Instant, instant}
@@ -119,14 +119,14 @@ module _ {D W R V : Type 0} (g : disk.Ghosts D) where
 
 module _ {D R V : Type 0} (g : disk.Ghosts D) where
   -- Where the devices' store was fed, what that did.
-  abbrev pub FedWhere : FeedPlan → Devices D → Incoming R → Incoming R → Outgoing V → Outgoing V → Recovered D → Type 0
-  FedWhere plan devices first now before after result =
-      IfOk result.0 (λ end. FeedDone g first.calls now.calls plan.source plan.checkpoint devices result.1 before.calls after.calls end)
+  abbrev pub FedWhere : FeedSettings → Devices D → Incoming R → Incoming R → Outgoing V → Outgoing V → Recovered D → Type 0
+  FedWhere settings devices first now before after result =
+      IfOk result.0 (λ end. FeedDone g first.calls now.calls settings.source settings.checkpoint devices result.1 before.calls after.calls end)
 
   -- Where it was not, a front of what is due from the devices was written, or nothing.
-  abbrev pub LeavesFront : FeedPlan → Devices D → Incoming R → Incoming R → Outgoing V → Outgoing V → Recovered D → Type 0
-  LeavesFront plan devices first now before after result =
-      OnErr result.0 (WroteFeedFront g plan.source devices first.calls now.calls before.calls after.calls)
+  abbrev pub LeavesFront : FeedSettings → Devices D → Incoming R → Incoming R → Outgoing V → Outgoing V → Recovered D → Type 0
+  LeavesFront settings devices first now before after result =
+      OnErr result.0 (WroteFeedFront g settings.source devices first.calls now.calls before.calls after.calls)
 
   -- Then, what was the cause.
   abbrev pub FailedFor : Devices D → Incoming R → Incoming R → Outgoing V → Outgoing V → Recovered D → Type 0
@@ -138,22 +138,22 @@ module _ {D V : Type 0} (g : disk.Ghosts D) where
   abbrev pub AcksAreKept : Devices D → Outgoing V → List (Instant D) → Devices D → Outgoing V → Type 0
   AcksAreKept old before moments new after = IsTrue g.is_honest → EachAckIsKept g (instant old before.calls) moments (instant new after.calls)
 
--- For the command, which prints to one output and tells its faults on another.
+-- For the command, which reads one stream, prints to a second and tells its faults on a third.
 module _ {D R W V : Type 0} (g : disk.Ghosts D) where
   -- The status is 3; or it tells how the feeding ended, and the feeding did what it is to do.
-  abbrev pub FedOrFault : FeedPlan → Devices D → Incoming R → Incoming R → Outputs W V → Outputs W V → Outcome D W → Type 0
-  FedOrFault plan devices first now before after outcome =
+  abbrev pub FedOrFault : FeedSettings → Devices D → Streams R W V → Streams R W V → Outcome D W → Type 0
+  FedOrFault settings devices before after outcome =
       (outcome.status ≡ 3 → ⊥)
       → (end : Ending) × (outcome.status ≡ status_of end)
-      × FeedDone g first.calls now.calls plan.source plan.checkpoint devices outcome.devices before.output.calls after.output.calls end
+      × FeedDone g before.input.calls after.input.calls settings.source settings.checkpoint devices outcome.devices before.output.calls after.output.calls end
 
   -- The status is not 3; or a fault ended the feeding, and was told.
-  abbrev pub FaultIsTold : FeedPlan → Devices D → Incoming R → Incoming R → Outputs W V → Outputs W V → Outcome D W → Type 0
-  FaultIsTold plan devices first now before after outcome =
+  abbrev pub FaultIsTold : FeedSettings → Devices D → Streams R W V → Streams R W V → Outcome D W → Type 0
+  FaultIsTold settings devices before after outcome =
       outcome.status ≡ 3
-      → EndsByFeedFault g plan.source devices outcome.devices first.calls now.calls before.output.calls after.output.calls before.faults.calls after.faults.calls
+      → EndsByFeedFault g settings.source devices outcome.devices before.input.calls after.input.calls
+      before.output.calls after.output.calls before.faults.calls after.faults.calls
 
-module _ {D W V : Type 0} (g : disk.Ghosts D) where
   -- At each moment of a feeding that came to this outcome each `ack` is true.
-  abbrev pub KeepsAcks : Devices D → Outputs W V → Outcome D W → Outputs W V → Type 0
+  abbrev pub KeepsAcks : Devices D → Streams R W V → Outcome D W → Streams R W V → Type 0
   KeepsAcks old before outcome after = AcksAreKept g old before.output outcome.moments outcome.devices after.output

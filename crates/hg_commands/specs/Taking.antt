@@ -27,7 +27,7 @@ IsFine r = (x : Refusal) → r ≡ Err x → ⊥
 
 module _ {D : Type 0} (g : disk.Ghosts D) where
   -- Lines were offered: each was passed (`Ok None`), or the last of them ended the feeding or was broken off. What is said of content is said of honest devices.
-  pub record Takes (old : Place D) (earlier : List (Instant D)) (lines : List Reading) (r : Result (Option Ending) Refusal) (new : Place D) (later : List (Instant D)) : Type 0 where
+  pub record FeedsLines (old : Place D) (earlier : List (Instant D)) (lines : List Reading) (r : Result (Option Ending) Refusal) (new : Place D) (later : List (Instant D)) : Type 0 where
     pub goes : IsFine r → IsReadyAt old → WentWell g old new
     pub number : r ≡ Ok None → new.fed.number ≡ old.fed.number + length lines
     pub leads : r ≡ Ok None → IsTrue g.is_honest → (more : List Reading) (last : Content) (end : Ending) → LeadsOn g new more last end → LeadsOn g old (lines ++ more) last end

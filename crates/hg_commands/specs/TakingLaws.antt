@@ -8,7 +8,7 @@ use Rattle.hg_wire.specs.declared.reader.Reading.{Reading}
 use Rattle.hg_reading.specs.declared.ending.Ending.{Ending}
 use Rattle.hg_commands.specs.FeedRunning.{LeadsOn, Place, WentWell, content_at}
 use Rattle.hg_commands.specs.Instants.{Instant}
-use Rattle.hg_commands.specs.Taking.{IsFine, IsReadyAt, MayTake, Takes}
+use Rattle.hg_commands.specs.Taking.{FeedsLines, IsFine, IsReadyAt, MayTake}
 
 passed : IsFine (Ok None)
 passed x h = absurd (cc)
@@ -25,7 +25,7 @@ module _ {D : Type 0} (g : disk.Ghosts D) where
     ready = second.ready;
   }
 
-  pub takes_none : (p : Place D) (moments : List (Instant D)) → Takes g p moments [] (Ok None) p moments
+  pub takes_none : (p : Place D) (moments : List (Instant D)) → FeedsLines g p moments [] (Ok None) p moments
   takes_none p moments = record {
     goes = λ fine ready. stays p ready;
     number = λ is. omega arith;
@@ -39,7 +39,7 @@ module _ {D : Type 0} (g : disk.Ghosts D) where
   }
 
   pub takes_on : (a b c : Place D) (at_a at_b at_c : List (Instant D)) (first later : List Reading) (r : Result (Option Ending) Refusal)
-      → Takes g a at_a first (Ok None) b at_b → Takes g b at_b later r c at_c → Takes g a at_a (first ++ later) r c at_c
+      → FeedsLines g a at_a first (Ok None) b at_b → FeedsLines g b at_b later r c at_c → FeedsLines g a at_a (first ++ later) r c at_c
   takes_on a b c at_a at_b at_c first later r s t = record {
     goes = λ fine ready. let goes = s.goes passed ready in goes_then a b c goes (t.goes fine goes.ready);
     number = λ is. omega (arith, s.number refl, t.number is, length-append first later);
@@ -55,7 +55,7 @@ module _ {D : Type 0} (g : disk.Ghosts D) where
     kept = λ start content honest h. t.kept start content honest (s.kept start content honest h);
   }
 
-  pub takes_room : (a b : Place D) (at_a at_b : List (Instant D)) (first : List Reading) (n : ℕ) → MayTake a (length first + n) → Takes g a at_a first (Ok None) b at_b → MayTake b n
+  pub takes_room : (a b : Place D) (at_a at_b : List (Instant D)) (first : List Reading) (n : ℕ) → MayTake a (length first + n) → FeedsLines g a at_a first (Ok None) b at_b → MayTake b n
   takes_room a b at_a at_b first n may s = ((s.goes passed may.0).ready, omega (arith, may.1, s.number refl))
 
 pub takes_fewer : {D : Type 0} (p : Place D) (n more : ℕ) → MayTake p (n + more) → MayTake p n

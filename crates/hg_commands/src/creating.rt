@@ -14,10 +14,13 @@ use hg_store::devices::{Caps, Devices};
 use hg_store::store::Store;
 use hg_streams::output::{Output, Outputs};
 use hg_streams::printing::print_now;
-use hg_streams::telling::tell;
+use hg_streams::telling::end_by_fault;
 use hg_trail::Trail;
 use std::alloc::Global;
 use std::io::Write;
+
+/// How many pages may be in memory while a store is made. It has none yet.
+const FRAMES: u16 = 64;
 
 /// Takes all bytes from a device.
 fn empty<D: Disk>(disk: &mut D) -> Result<(), DiskFault>
@@ -57,7 +60,7 @@ fn make_and_print<D: Disk, W: Write>(
     ensures cause { IfErr result.0 (HasCreateCause ⟦<D as Disk>⟧ devices result.1 output.old output.new) }
     ensures kept { CreatedIsTrue ⟦<D as Disk>⟧ devices output.old moments.new result.1 output.new }
 {
-    match Store::create(alloc, devices, 64, Caps::profile()) {
+    match Store::create(alloc, devices, FRAMES, Caps::profile()) {
         Ok(store) => {
             moments.push(Moment::of(&store, &*output));
             let printed = print_now(b"created\n", output);
@@ -105,9 +108,9 @@ pub fn create_store<D: Disk, W: Write, V: Write>(
             moments,
         },
         Err(refusal) => {
-            tell(refusal, &mut outputs.faults);
+            let status = end_by_fault(refusal, &mut outputs.faults);
             Outcome {
-                status: 3,
+                status,
                 devices,
                 moments,
             }

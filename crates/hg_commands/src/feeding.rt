@@ -6,7 +6,7 @@ ghost use Rattle.hg_streams.specs.Told.{told};
 ghost use Rattle.hg_streams.specs.Written.{Took};
 ghost use Rattle.hg_store.specs.Store.{IsIdle};
 ghost use Rattle.hg_commands.specs.FeedRunning.{IsReady, is_due, place};
-ghost use Rattle.hg_streams.specs.Faults.{IsStreamFault};
+ghost use Rattle.hg_streams.specs.Faults.{IsStreamFault, TellsNoFault};
 ghost use Rattle.hg_streams.specs.Printed.{IsPrintedNow};
 ghost use Rattle.hg_commands.specs.Stepping.{AcksAreKept, Checkpointed, Done, Failed, FailedFor, Fails, FaultIsTold, FedOrFault, FedWhere, FeedsFrom, FrontWhere, KeepsAcks, LeavesFront, LeftFront, MayHaveTold, StaysKept, FeedsWell, end_of};
 ghost use Rattle.hg_commands.specs.FeedFaults.{IsFeedFault};
@@ -14,7 +14,7 @@ ghost use Rattle.hg_commands.specs.FeedFaults.{IsFeedFault};
 use crate::lines::{Fed, Feeding};
 use crate::listing::hold_end_line;
 use crate::moment::{Moment, Outcome};
-use crate::plan::FeedPlan;
+use crate::settings::FeedSettings;
 use hg_disk::Disk;
 use hg_model::verdict::Refusal;
 use hg_reading::ending::{Ending, ended, hold_stop, status_of_end};
@@ -23,9 +23,10 @@ use hg_reading::whole::read;
 use hg_store::devices::{Caps, Devices};
 use hg_store::store::Store;
 use hg_streams::input::Input;
-use hg_streams::output::{Output, Outputs};
+use hg_streams::output::Output;
 use hg_streams::printing::{print_now, print_number};
-use hg_streams::telling::tell;
+use hg_streams::streams::Streams;
+use hg_streams::telling::end_by_fault;
 use hg_trail::Trail;
 use hg_wire::line::AccessLine;
 use hg_wire::reader::Reading;
@@ -33,14 +34,14 @@ use std::alloc::Global;
 use std::io::{Read, Write};
 
 impl<D: Disk, W: Write> Sink<W> for Feeding<D, W> {
-    ghost use Rattle.hg_commands.specs.Taking.{MayTake, Takes};
+    ghost use Rattle.hg_commands.specs.Taking.{FeedsLines, MayTake};
     ghost use Rattle.hg_commands.specs.TakingLaws.{takes_fewer, takes_none, takes_on, takes_room};
 
     type End = Ending;
 
     ghost may_take = { λ s n. MayTake (place s.store s.fed []) n };
 
-    ghost takes = { λ old before lines r new now. Takes ⟦<D as Disk>⟧ (place old.store old.fed before) old.moments lines r (place new.store new.fed now) new.moments };
+    ghost takes = { λ old before lines r new now. FeedsLines ⟦<D as Disk>⟧ (place old.store old.fed before) old.moments lines r (place new.store new.fed now) new.moments };
 
     fn offer(
         &mut self,
@@ -122,7 +123,7 @@ fn checkpoint_is_due(asked: bool, end: Ending) -> bool
 
 impl<D: Disk, W: Write> Feeding<D, W> {
     /// Reads a trace text to its end, or up to the line that ends the feeding, and offers its events.
-    fn feed_all<R: Read>(
+    fn feed_lines<R: Read>(
         &mut self,
         alloc: Global,
         input: &mut Input<R>,
@@ -179,7 +180,7 @@ impl<D: Disk, W: Write> Feeding<D, W> {
     {
         let last = self.store.last(self.fed.source)?;
         print_number(b"resume ", last, output)?;
-        let end = self.feed_all(alloc, input, output)?;
+        let end = self.feed_lines(alloc, input, output)?;
         self.acknowledge(output)?;
         let is_made = checkpoint_is_due(asked, end);
         self.checkpoint_if_due(alloc, is_made, output)?;
@@ -193,21 +194,21 @@ impl<D: Disk, W: Write> Feeding<D, W> {
 fn recover_and_feed<D: Disk, R: Read, W: Write>(
     alloc: Global,
     devices: Devices<D>,
-    plan: FeedPlan,
+    settings: FeedSettings,
     input: &mut Input<R>,
     output: &mut Output<W>,
 ) -> (Result<Ending, Refusal>, Devices<D>, Trail<Moment<D, W>>)
-    ensures fed { FedWhere ⟦<D as Disk>⟧ plan devices input.old input.new output.old output.new result }
-    ensures front { LeavesFront ⟦<D as Disk>⟧ plan devices input.old input.new output.old output.new result }
+    ensures fed { FedWhere ⟦<D as Disk>⟧ settings devices input.old input.new output.old output.new result }
+    ensures front { LeavesFront ⟦<D as Disk>⟧ settings devices input.old input.new output.old output.new result }
     ensures cause { FailedFor ⟦<D as Disk>⟧ devices input.old input.new output.old output.new result }
     ensures kept { AcksAreKept ⟦<D as Disk>⟧ devices output.old result.2 result.1 output.new }
 {
-    match Store::recover(alloc, devices, plan.frames, Caps::profile()) {
+    match Store::recover(alloc, devices, settings.frames, Caps::profile()) {
         Ok(store) => {
             let mut moments = Trail::new();
             moments.push(Moment::of(&store, &*output));
             let fed = Fed {
-                source: plan.source,
+                source: settings.source,
                 number: 0,
                 accepted: 0,
             };
@@ -216,7 +217,7 @@ fn recover_and_feed<D: Disk, R: Read, W: Write>(
                 fed,
                 moments,
             };
-            let end = feeding.feed_store(alloc, plan.checkpoint, input, output);
+            let end = feeding.feed_store(alloc, settings.checkpoint, input, output);
             let Feeding {
                 store,
                 fed: _,
@@ -244,21 +245,20 @@ fn recover_and_feed<D: Disk, R: Read, W: Write>(
 pub fn feed<D: Disk, R: Read, W: Write, V: Write>(
     alloc: Global,
     devices: Devices<D>,
-    plan: FeedPlan,
-    input: &mut Input<R>,
-    outputs: &mut Outputs<W, V>,
+    settings: FeedSettings,
+    streams: &mut Streams<R, W, V>,
 ) -> Outcome<D, W>
-    ensures fed { FedOrFault ⟦<D as Disk>⟧ plan devices input.old input.new outputs.old outputs.new result }
-    ensures quiet { (result.status ≡ 3 → ⊥) → Took outputs.old.faults.calls outputs.new.faults.calls [] }
-    ensures fault { FaultIsTold ⟦<D as Disk>⟧ plan devices input.old input.new outputs.old outputs.new result }
-    ensures kept { KeepsAcks ⟦<D as Disk>⟧ devices outputs.old result outputs.new }
+    ensures fed { FedOrFault ⟦<D as Disk>⟧ settings devices streams.old streams.new result }
+    ensures quiet { TellsNoFault result.status streams.old streams.new }
+    ensures fault { FaultIsTold ⟦<D as Disk>⟧ settings devices streams.old streams.new result }
+    ensures kept { KeepsAcks ⟦<D as Disk>⟧ devices streams.old result streams.new }
 {
     let (done, devices, moments) = recover_and_feed(
         alloc,
         devices,
-        plan,
-        input,
-        &mut outputs.output,
+        settings,
+        &mut streams.input,
+        &mut streams.output,
     );
     match done {
         Ok(end) => Outcome {
@@ -267,9 +267,9 @@ pub fn feed<D: Disk, R: Read, W: Write, V: Write>(
             moments,
         },
         Err(refusal) => {
-            tell(refusal, &mut outputs.faults);
+            let status = end_by_fault(refusal, &mut streams.faults);
             Outcome {
-                status: 3,
+                status,
                 devices,
                 moments,
             }

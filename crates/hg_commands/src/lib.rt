@@ -8,4 +8,4 @@ pub mod laws;
 pub mod lines;
 pub mod listing;
 pub mod moment;
-pub mod plan;
+pub mod settings;

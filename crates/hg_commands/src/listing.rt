@@ -16,20 +16,12 @@ use hg_model::verdict::Refusal;
 use hg_store::devices::{Caps, Devices};
 use hg_store::store::Store;
 use hg_streams::holding::{hold_counts, hold_report, write_if_large, write_out};
+use hg_streams::listing::Listing;
 use hg_streams::output::{Output, Outputs};
 use hg_streams::printing::print_segments;
-use hg_streams::telling::tell;
+use hg_streams::telling::end_by_fault;
 use std::alloc::Global;
 use std::io::Write;
-
-/// What is printed of a store.
-#[derive(Clone, Copy, Debug, PartialEq, Eq, Drop)]
-pub enum Listing {
-    /// The kept reports, and the end line.
-    Reports,
-    /// The thread segments.
-    Segments,
-}
 
 /// Holds the end line of a store that is not broken: the counts of its accepted events, its reports and its segments.
 pub fn hold_end_line<D: Disk>(store: &Store<D>, held: &mut Vec<u8>) -> Result<(), Refusal>
@@ -132,8 +124,11 @@ fn recover_and_print<D: Disk, W: Write>(
     }
 }
 
-/// Prints a listing of the store that the devices hold, and answers the status as `store_reports` does.
-fn list_store<D: Disk, W: Write, V: Write>(
+/// Recovers the store that the devices hold, and prints its kept reports and the end line, or its thread segments. Answers the
+/// status and the devices: 0, or 3 where they hold no store, a device or the output failed, or memory or room was refused, which is
+/// told among the faults. What was printed before that is a front of what was due. A recovery may write pages, but a crash at any
+/// moment leaves an image with the content of an image before.
+pub fn list_store<D: Disk, W: Write, V: Write>(
     alloc: Global,
     devices: Devices<D>,
     frames: u16,
@@ -157,48 +152,6 @@ fn list_store<D: Disk, W: Write, V: Write>(
     );
     match printed {
         Ok(()) => (0, devices),
-        Err(refusal) => {
-            tell(refusal, &mut outputs.faults);
-            (3, devices)
-        }
+        Err(refusal) => (end_by_fault(refusal, &mut outputs.faults), devices),
     }
-}
-
-/// Recovers the store that the devices hold, and prints its kept reports and the end line. Answers the status and the
-/// devices: 0, or 3 where they hold no store, a device or the output failed, or memory or room was refused, which is
-/// told among the faults. What was printed before that is a front of what was due. A recovery may write pages, but a crash at any
-/// moment leaves an image with the content of an image before.
-pub fn store_reports<D: Disk, W: Write, V: Write>(
-    alloc: Global,
-    devices: Devices<D>,
-    frames: u16,
-    outputs: &mut Outputs<W, V>,
-) -> (u8, Devices<D>)
-    requires { IsFrameCount frames }
-    ensures status { (result.0 ≡ 0) ⊎ (result.0 ≡ 3) }
-    ensures prints { result.0 ≡ 0 → IsListed ⟦<D as Disk>⟧ Listing.Reports devices outputs.old outputs.new }
-    ensures device { result.0 ≡ 0 → NoCallFailed ⟦<D as Disk>⟧ devices result.1 }
-    ensures quiet { result.0 ≡ 0 → Took outputs.old.faults.calls outputs.new.faults.calls [] }
-    ensures fault { result.0 ≡ 3 → CantList ⟦<D as Disk>⟧ Listing.Reports devices result.1 outputs.old outputs.new }
-    ensures images { IsTrue D.is_honest → Recovers ⟦<D as Disk>⟧ devices result.1 }
-{
-    list_store(alloc, devices, frames, Listing::Reports, outputs)
-}
-
-/// Recovers the store that the devices hold, and prints its thread segments. Answers as `store_reports` does.
-pub fn store_graph<D: Disk, W: Write, V: Write>(
-    alloc: Global,
-    devices: Devices<D>,
-    frames: u16,
-    outputs: &mut Outputs<W, V>,
-) -> (u8, Devices<D>)
-    requires { IsFrameCount frames }
-    ensures status { (result.0 ≡ 0) ⊎ (result.0 ≡ 3) }
-    ensures prints { result.0 ≡ 0 → IsListed ⟦<D as Disk>⟧ Listing.Segments devices outputs.old outputs.new }
-    ensures device { result.0 ≡ 0 → NoCallFailed ⟦<D as Disk>⟧ devices result.1 }
-    ensures quiet { result.0 ≡ 0 → Took outputs.old.faults.calls outputs.new.faults.calls [] }
-    ensures fault { result.0 ≡ 3 → CantList ⟦<D as Disk>⟧ Listing.Segments devices result.1 outputs.old outputs.new }
-    ensures images { IsTrue D.is_honest → Recovers ⟦<D as Disk>⟧ devices result.1 }
-{
-    list_store(alloc, devices, frames, Listing::Segments, outputs)
 }

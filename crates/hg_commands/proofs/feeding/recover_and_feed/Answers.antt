@@ -25,9 +25,9 @@ returns-in-Ok-clause-fed g c =
     let has_sets : IsTrue g.D.Disk.is_honest → HasTable MOST_SETS (read_of g.D.Disk c.args.devices) (live g.D.Disk c.in-Ok.store) c.in-Ok.store.detector.sets =
     λ honest. subst (λ (n : ℕ). HasTable n (read_of g.D.Disk c.args.devices) (live g.D.Disk c.in-Ok.store) c.in-Ok.store.detector.sets) c.profile.ensures.0 (c.in-Ok.ensures.sets honest) in
     IfOk-weaker c.feed_store-end.result
-    (λ (end : Ending). WasFed g.D.Disk reads later c.args.plan.source c.args.plan.checkpoint c.in-Ok.store c.feed_store-end.new.self.store before after end)
-    (λ (end : Ending). FeedDone g.D.Disk reads later c.args.plan.source c.args.plan.checkpoint c.args.devices c.into_devices.result before after end)
-    (λ end was. feed_done g.D.Disk reads later c.args.plan.source c.args.plan.checkpoint c.args.devices c.into_devices.result c.in-Ok.store c.feed_store-end.new.self.store
+    (λ (end : Ending). WasFed g.D.Disk reads later c.args.settings.source c.args.settings.checkpoint c.in-Ok.store c.feed_store-end.new.self.store before after end)
+    (λ (end : Ending). FeedDone g.D.Disk reads later c.args.settings.source c.args.settings.checkpoint c.args.devices c.into_devices.result before after end)
+    (λ end was. feed_done g.D.Disk reads later c.args.settings.source c.args.settings.checkpoint c.args.devices c.into_devices.result c.in-Ok.store c.feed_store-end.new.self.store
     before after end c.in-Ok.ensures.content has_sets c.in-Ok.ensures.device was c.into_devices.ensures)
     c.feed_store-end.ensures.fed
 

@@ -4,7 +4,7 @@ use Rattle.std.proofs.lemmas.Result.{on_ok_weaker}
 use Rattle.hg_store.specs.Shown.{live}
 use Rattle.hg_streams.specs.Holding.{IsDue}
 use Rattle.hg_streams.specs.Texts.{line_text, reports_text, segments_text, counts_line}
-use Rattle.hg_commands.specs.declared.listing.Listing.TheVariants.{Reports}
+use Rattle.hg_streams.specs.declared.listing.Listing.TheVariants.{Reports}
 use Rattle.hg_commands.specs.Listings.{listing_text}
 use Rattle.hg_streams.specs.Written.{TookFront}
 use Rattle.hg_streams.proofs.Printed.{always_err, due_at_first, due_line, due_more, front_due, front_more, front_none}

@@ -26,9 +26,9 @@ returns-clause-fed g c =
     let s = c.args.self.now.store in
     let o = c.args.output.now.calls in
     let p = c.print_number.new.output.calls in
-    was_fed g.D.Disk c.args.input.now.calls c.feed_all.new.input.calls c.args.self.now.fed.source c.args.asked c.checkpoint_is_due-is_made.result s c.feed_all.new.self.store c.acknowledge.new.self.store c.checkpoint_if_due.new.self.store
-    c.args.self.now.fed c.feed_all.new.self.fed
-    o p c.feed_all.new.output.calls c.acknowledge.new.output.calls c.checkpoint_if_due.new.output.calls c.print_end.new.output.calls c.in_ok-end.end
+    was_fed g.D.Disk c.args.input.now.calls c.feed_lines.new.input.calls c.args.self.now.fed.source c.args.asked c.checkpoint_is_due-is_made.result s c.feed_lines.new.self.store c.acknowledge.new.self.store c.checkpoint_if_due.new.self.store
+    c.args.self.now.fed c.feed_lines.new.self.fed
+    o p c.feed_lines.new.output.calls c.acknowledge.new.output.calls c.checkpoint_if_due.new.output.calls c.print_end.new.output.calls c.in_ok-end.end
     c.checkpoint_is_due-is_made.ensures c.requires.accepted
     (subst (λ (n : ℕ). Took o p (number_text (codes "resume ") n)) (last_is s.is_broken c.in_ok-last.last ((live g.D.Disk s).last c.args.self.now.fed.source) c.requires.idle.works c.in_ok-last.ensures) c.in_ok-print_number.ensures.printed)
     c.in_ok-end.ensures.goes c.in_ok-end.ensures.feeds
@@ -45,7 +45,7 @@ returns-in_err-acknowledge-clause-cause g c =
         c.in_err-acknowledge.ensures.fault,
         c.in_ok-end.ensures.goes.failures,
         c.in_ok-print_number.ensures.fault,
-        reads_intact g.D.Disk c.args.input.now.calls c.feed_all.new.input.calls c.args.self.now.fed.source c.args.self.now.store.detector.sets (live g.D.Disk c.args.self.now.store) (live g.D.Disk c.feed_all.new.self.store) c.in_ok-end.end c.in_ok-end.ensures.feeds,
+        reads_intact g.D.Disk c.args.input.now.calls c.feed_lines.new.input.calls c.args.self.now.fed.source c.args.self.now.store.detector.sets (live g.D.Disk c.args.self.now.store) (live g.D.Disk c.feed_lines.new.self.store) c.in_ok-end.end c.in_ok-end.ensures.feeds,
       ));
     })
 
@@ -61,7 +61,7 @@ returns-in_err-checkpoint_if_due-clause-cause g c =
         c.in_ok-acknowledge.ensures.fault,
         c.in_ok-end.ensures.goes.failures,
         c.in_ok-print_number.ensures.fault,
-        reads_intact g.D.Disk c.args.input.now.calls c.feed_all.new.input.calls c.args.self.now.fed.source c.args.self.now.store.detector.sets (live g.D.Disk c.args.self.now.store) (live g.D.Disk c.feed_all.new.self.store) c.in_ok-end.end c.in_ok-end.ensures.feeds,
+        reads_intact g.D.Disk c.args.input.now.calls c.feed_lines.new.input.calls c.args.self.now.fed.source c.args.self.now.store.detector.sets (live g.D.Disk c.args.self.now.store) (live g.D.Disk c.feed_lines.new.self.store) c.in_ok-end.end c.in_ok-end.ensures.feeds,
       ));
     })
 
@@ -78,7 +78,7 @@ returns-in_err-print_end-clause-cause g c =
         c.in_ok-acknowledge.ensures.fault,
         c.in_ok-end.ensures.goes.failures,
         c.in_ok-print_number.ensures.fault,
-        reads_intact g.D.Disk c.args.input.now.calls c.feed_all.new.input.calls c.args.self.now.fed.source c.args.self.now.store.detector.sets (live g.D.Disk c.args.self.now.store) (live g.D.Disk c.feed_all.new.self.store) c.in_ok-end.end c.in_ok-end.ensures.feeds,
+        reads_intact g.D.Disk c.args.input.now.calls c.feed_lines.new.input.calls c.args.self.now.fed.source c.args.self.now.store.detector.sets (live g.D.Disk c.args.self.now.store) (live g.D.Disk c.feed_lines.new.self.store) c.in_ok-end.end c.in_ok-end.ensures.feeds,
       ));
     })
 
@@ -94,17 +94,17 @@ returns-in_err-end-clause-kept g c =
     let s = c.args.self.now.store in
     let o = c.args.output.now.calls in
     let p = c.print_number.new.output.calls in
-    keeps_then g.D.Disk s s c.feed_all.new.self.store o p c.feed_all.new.output.calls c.args.self.now.moments c.args.self.now.moments c.feed_all.new.self.moments
-    (keeps_printed g.D.Disk s o p c.args.self.now.moments (number_text (codes "resume ") c.in_ok-last.last) c.print_number.ensures.calls (λ honest backs. inr (inr (inl (c.in_ok-last.last, refl))))) c.feed_all.ensures.kept
+    keeps_then g.D.Disk s s c.feed_lines.new.self.store o p c.feed_lines.new.output.calls c.args.self.now.moments c.args.self.now.moments c.feed_lines.new.self.moments
+    (keeps_printed g.D.Disk s o p c.args.self.now.moments (number_text (codes "resume ") c.in_ok-last.last) c.print_number.ensures.calls (λ honest backs. inr (inr (inl (c.in_ok-last.last, refl))))) c.feed_lines.ensures.kept
 
 pub returns-in_err-acknowledge-clause-kept : goal.returns-in_err-acknowledge-clause-kept
 returns-in_err-acknowledge-clause-kept g c =
     let s = c.args.self.now.store in
     let o = c.args.output.now.calls in
     let p = c.print_number.new.output.calls in
-    keeps_then g.D.Disk s c.feed_all.new.self.store c.acknowledge.new.self.store o c.feed_all.new.output.calls c.acknowledge.new.output.calls c.args.self.now.moments c.feed_all.new.self.moments c.acknowledge.new.self.moments
-    (keeps_then g.D.Disk s s c.feed_all.new.self.store o p c.feed_all.new.output.calls c.args.self.now.moments c.args.self.now.moments c.feed_all.new.self.moments
-    (keeps_printed g.D.Disk s o p c.args.self.now.moments (number_text (codes "resume ") c.in_ok-last.last) c.print_number.ensures.calls (λ honest backs. inr (inr (inl (c.in_ok-last.last, refl))))) c.feed_all.ensures.kept) c.acknowledge.ensures.kept
+    keeps_then g.D.Disk s c.feed_lines.new.self.store c.acknowledge.new.self.store o c.feed_lines.new.output.calls c.acknowledge.new.output.calls c.args.self.now.moments c.feed_lines.new.self.moments c.acknowledge.new.self.moments
+    (keeps_then g.D.Disk s s c.feed_lines.new.self.store o p c.feed_lines.new.output.calls c.args.self.now.moments c.args.self.now.moments c.feed_lines.new.self.moments
+    (keeps_printed g.D.Disk s o p c.args.self.now.moments (number_text (codes "resume ") c.in_ok-last.last) c.print_number.ensures.calls (λ honest backs. inr (inr (inl (c.in_ok-last.last, refl))))) c.feed_lines.ensures.kept) c.acknowledge.ensures.kept
 
 pub returns-in_err-checkpoint_if_due-clause-kept : goal.returns-in_err-checkpoint_if_due-clause-kept
 returns-in_err-checkpoint_if_due-clause-kept g c =
@@ -112,9 +112,9 @@ returns-in_err-checkpoint_if_due-clause-kept g c =
     let o = c.args.output.now.calls in
     let p = c.print_number.new.output.calls in
     keeps_then g.D.Disk s c.acknowledge.new.self.store c.checkpoint_if_due.new.self.store o c.acknowledge.new.output.calls c.checkpoint_if_due.new.output.calls c.args.self.now.moments c.acknowledge.new.self.moments c.checkpoint_if_due.new.self.moments
-    (keeps_then g.D.Disk s c.feed_all.new.self.store c.acknowledge.new.self.store o c.feed_all.new.output.calls c.acknowledge.new.output.calls c.args.self.now.moments c.feed_all.new.self.moments c.acknowledge.new.self.moments
-    (keeps_then g.D.Disk s s c.feed_all.new.self.store o p c.feed_all.new.output.calls c.args.self.now.moments c.args.self.now.moments c.feed_all.new.self.moments
-    (keeps_printed g.D.Disk s o p c.args.self.now.moments (number_text (codes "resume ") c.in_ok-last.last) c.print_number.ensures.calls (λ honest backs. inr (inr (inl (c.in_ok-last.last, refl))))) c.feed_all.ensures.kept) c.acknowledge.ensures.kept) c.checkpoint_if_due.ensures.kept
+    (keeps_then g.D.Disk s c.feed_lines.new.self.store c.acknowledge.new.self.store o c.feed_lines.new.output.calls c.acknowledge.new.output.calls c.args.self.now.moments c.feed_lines.new.self.moments c.acknowledge.new.self.moments
+    (keeps_then g.D.Disk s s c.feed_lines.new.self.store o p c.feed_lines.new.output.calls c.args.self.now.moments c.args.self.now.moments c.feed_lines.new.self.moments
+    (keeps_printed g.D.Disk s o p c.args.self.now.moments (number_text (codes "resume ") c.in_ok-last.last) c.print_number.ensures.calls (λ honest backs. inr (inr (inl (c.in_ok-last.last, refl))))) c.feed_lines.ensures.kept) c.acknowledge.ensures.kept) c.checkpoint_if_due.ensures.kept
 
 pub returns-in_err-print_end-clause-kept : goal.returns-in_err-print_end-clause-kept
 returns-in_err-print_end-clause-kept g c =
@@ -123,9 +123,9 @@ returns-in_err-print_end-clause-kept g c =
     let p = c.print_number.new.output.calls in
     keeps_then g.D.Disk s c.checkpoint_if_due.new.self.store c.checkpoint_if_due.new.self.store o c.checkpoint_if_due.new.output.calls c.print_end.new.output.calls c.args.self.now.moments c.checkpoint_if_due.new.self.moments c.checkpoint_if_due.new.self.moments
     (keeps_then g.D.Disk s c.acknowledge.new.self.store c.checkpoint_if_due.new.self.store o c.acknowledge.new.output.calls c.checkpoint_if_due.new.output.calls c.args.self.now.moments c.acknowledge.new.self.moments c.checkpoint_if_due.new.self.moments
-    (keeps_then g.D.Disk s c.feed_all.new.self.store c.acknowledge.new.self.store o c.feed_all.new.output.calls c.acknowledge.new.output.calls c.args.self.now.moments c.feed_all.new.self.moments c.acknowledge.new.self.moments
-    (keeps_then g.D.Disk s s c.feed_all.new.self.store o p c.feed_all.new.output.calls c.args.self.now.moments c.args.self.now.moments c.feed_all.new.self.moments
-    (keeps_printed g.D.Disk s o p c.args.self.now.moments (number_text (codes "resume ") c.in_ok-last.last) c.print_number.ensures.calls (λ honest backs. inr (inr (inl (c.in_ok-last.last, refl))))) c.feed_all.ensures.kept) c.acknowledge.ensures.kept) c.checkpoint_if_due.ensures.kept)
+    (keeps_then g.D.Disk s c.feed_lines.new.self.store c.acknowledge.new.self.store o c.feed_lines.new.output.calls c.acknowledge.new.output.calls c.args.self.now.moments c.feed_lines.new.self.moments c.acknowledge.new.self.moments
+    (keeps_then g.D.Disk s s c.feed_lines.new.self.store o p c.feed_lines.new.output.calls c.args.self.now.moments c.args.self.now.moments c.feed_lines.new.self.moments
+    (keeps_printed g.D.Disk s o p c.args.self.now.moments (number_text (codes "resume ") c.in_ok-last.last) c.print_number.ensures.calls (λ honest backs. inr (inr (inl (c.in_ok-last.last, refl))))) c.feed_lines.ensures.kept) c.acknowledge.ensures.kept) c.checkpoint_if_due.ensures.kept)
     (keeps_printed g.D.Disk c.checkpoint_if_due.new.self.store c.checkpoint_if_due.new.output.calls c.print_end.new.output.calls c.checkpoint_if_due.new.self.moments (feed_end_text (live g.D.Disk c.checkpoint_if_due.new.self.store) c.in_ok-end.end)
     c.print_end.ensures.calls (λ honest backs. inr (inr (inr (inr (live g.D.Disk c.checkpoint_if_due.new.self.store, c.in_ok-end.end, refl))))))
 
@@ -136,9 +136,9 @@ returns-clause-kept g c =
     let p = c.print_number.new.output.calls in
     keeps_then g.D.Disk s c.checkpoint_if_due.new.self.store c.checkpoint_if_due.new.self.store o c.checkpoint_if_due.new.output.calls c.print_end.new.output.calls c.args.self.now.moments c.checkpoint_if_due.new.self.moments c.checkpoint_if_due.new.self.moments
     (keeps_then g.D.Disk s c.acknowledge.new.self.store c.checkpoint_if_due.new.self.store o c.acknowledge.new.output.calls c.checkpoint_if_due.new.output.calls c.args.self.now.moments c.acknowledge.new.self.moments c.checkpoint_if_due.new.self.moments
-    (keeps_then g.D.Disk s c.feed_all.new.self.store c.acknowledge.new.self.store o c.feed_all.new.output.calls c.acknowledge.new.output.calls c.args.self.now.moments c.feed_all.new.self.moments c.acknowledge.new.self.moments
-    (keeps_then g.D.Disk s s c.feed_all.new.self.store o p c.feed_all.new.output.calls c.args.self.now.moments c.args.self.now.moments c.feed_all.new.self.moments
-    (keeps_printed g.D.Disk s o p c.args.self.now.moments (number_text (codes "resume ") c.in_ok-last.last) c.print_number.ensures.calls (λ honest backs. inr (inr (inl (c.in_ok-last.last, refl))))) c.feed_all.ensures.kept) c.acknowledge.ensures.kept) c.checkpoint_if_due.ensures.kept)
+    (keeps_then g.D.Disk s c.feed_lines.new.self.store c.acknowledge.new.self.store o c.feed_lines.new.output.calls c.acknowledge.new.output.calls c.args.self.now.moments c.feed_lines.new.self.moments c.acknowledge.new.self.moments
+    (keeps_then g.D.Disk s s c.feed_lines.new.self.store o p c.feed_lines.new.output.calls c.args.self.now.moments c.args.self.now.moments c.feed_lines.new.self.moments
+    (keeps_printed g.D.Disk s o p c.args.self.now.moments (number_text (codes "resume ") c.in_ok-last.last) c.print_number.ensures.calls (λ honest backs. inr (inr (inl (c.in_ok-last.last, refl))))) c.feed_lines.ensures.kept) c.acknowledge.ensures.kept) c.checkpoint_if_due.ensures.kept)
     (keeps_printed g.D.Disk c.checkpoint_if_due.new.self.store c.checkpoint_if_due.new.output.calls c.print_end.new.output.calls c.checkpoint_if_due.new.self.moments (feed_end_text (live g.D.Disk c.checkpoint_if_due.new.self.store) c.in_ok-end.end)
     c.print_end.ensures.calls (λ honest backs. inr (inr (inr (inr (live g.D.Disk c.checkpoint_if_due.new.self.store, c.in_ok-end.end, refl))))))
 
@@ -162,7 +162,7 @@ returns-in_err-end-clause-front g c = λ honest.
     let s = c.args.self.now.store in
     let o = c.args.output.now.calls in
     let p = c.print_number.new.output.calls in
-    always_err _ (wrote_fed g.D.Disk honest s c.args.self.now.fed c.args.self.now.fed.source c.args.input.now.calls c.feed_all.new.input.calls o p c.feed_all.new.output.calls
+    always_err _ (wrote_fed g.D.Disk honest s c.args.self.now.fed c.args.self.now.fed.source c.args.input.now.calls c.feed_lines.new.input.calls o p c.feed_lines.new.output.calls
     (resumed g.D.Disk s c.args.self.now.fed o p c.args.self.now.fed.source c.requires.accepted (subst (λ (n : ℕ). Took o p (number_text (codes "resume ") n)) (last_is s.is_broken c.in_ok-last.last ((live g.D.Disk s).last c.args.self.now.fed.source) c.requires.idle.works c.in_ok-last.ensures) c.in_ok-print_number.ensures.printed))
     c.in_err-end.ensures.front)
 
@@ -171,8 +171,8 @@ returns-in_err-acknowledge-clause-front g c = λ honest.
     let s = c.args.self.now.store in
     let o = c.args.output.now.calls in
     let p = c.print_number.new.output.calls in
-    always_err _ (wrote_acks g.D.Disk honest c.args.input.now.calls c.feed_all.new.input.calls c.args.self.now.fed.source s c.feed_all.new.self.store c.args.self.now.fed c.feed_all.new.self.fed
-    o p c.feed_all.new.output.calls c.acknowledge.new.output.calls None c.in_ok-end.end c.requires.accepted (subst (λ (n : ℕ). Took o p (number_text (codes "resume ") n)) (last_is s.is_broken c.in_ok-last.last ((live g.D.Disk s).last c.args.self.now.fed.source) c.requires.idle.works c.in_ok-last.ensures) c.in_ok-print_number.ensures.printed)
+    always_err _ (wrote_acks g.D.Disk honest c.args.input.now.calls c.feed_lines.new.input.calls c.args.self.now.fed.source s c.feed_lines.new.self.store c.args.self.now.fed c.feed_lines.new.self.fed
+    o p c.feed_lines.new.output.calls c.acknowledge.new.output.calls None c.in_ok-end.end c.requires.accepted (subst (λ (n : ℕ). Took o p (number_text (codes "resume ") n)) (last_is s.is_broken c.in_ok-last.last ((live g.D.Disk s).last c.args.self.now.fed.source) c.requires.idle.works c.in_ok-last.ensures) c.in_ok-print_number.ensures.printed)
     c.in_ok-end.ensures.goes c.in_ok-end.ensures.feeds c.acknowledge.ensures.calls)
 
 pub returns-in_err-checkpoint_if_due-clause-front : goal.returns-in_err-checkpoint_if_due-clause-front
@@ -181,8 +181,8 @@ returns-in_err-checkpoint_if_due-clause-front g c = λ honest.
     let o = c.args.output.now.calls in
     let p = c.print_number.new.output.calls in
     let front = c.in_err-checkpoint_if_due.ensures.front in
-    always_err _ (wrote_made g.D.Disk honest c.args.input.now.calls c.feed_all.new.input.calls c.args.self.now.fed.source s c.feed_all.new.self.store c.args.self.now.fed c.feed_all.new.self.fed
-    o p c.feed_all.new.output.calls c.acknowledge.new.output.calls c.checkpoint_if_due.new.output.calls front.0 c.in_ok-end.end c.requires.accepted (subst (λ (n : ℕ). Took o p (number_text (codes "resume ") n)) (last_is s.is_broken c.in_ok-last.last ((live g.D.Disk s).last c.args.self.now.fed.source) c.requires.idle.works c.in_ok-last.ensures) c.in_ok-print_number.ensures.printed)
+    always_err _ (wrote_made g.D.Disk honest c.args.input.now.calls c.feed_lines.new.input.calls c.args.self.now.fed.source s c.feed_lines.new.self.store c.args.self.now.fed c.feed_lines.new.self.fed
+    o p c.feed_lines.new.output.calls c.acknowledge.new.output.calls c.checkpoint_if_due.new.output.calls front.0 c.in_ok-end.end c.requires.accepted (subst (λ (n : ℕ). Took o p (number_text (codes "resume ") n)) (last_is s.is_broken c.in_ok-last.last ((live g.D.Disk s).last c.args.self.now.fed.source) c.requires.idle.works c.in_ok-last.ensures) c.in_ok-print_number.ensures.printed)
     c.in_ok-end.ensures.goes c.in_ok-end.ensures.feeds c.in_ok-acknowledge.ensures.printed front.1)
 
 pub returns-in_err-print_end-clause-front : goal.returns-in_err-print_end-clause-front
@@ -191,7 +191,7 @@ returns-in_err-print_end-clause-front g c = λ honest.
     let o = c.args.output.now.calls in
     let p = c.print_number.new.output.calls in
     let made = c.in_ok-checkpoint_if_due.ensures.made in
-    always_err _ (wrote_end g.D.Disk honest c.args.input.now.calls c.feed_all.new.input.calls c.args.self.now.fed.source s c.feed_all.new.self.store c.args.self.now.fed c.feed_all.new.self.fed
-    o p c.feed_all.new.output.calls c.acknowledge.new.output.calls c.checkpoint_if_due.new.output.calls c.print_end.new.output.calls (live g.D.Disk c.checkpoint_if_due.new.self.store) made.checkpoint c.in_ok-end.end c.requires.accepted (subst (λ (n : ℕ). Took o p (number_text (codes "resume ") n)) (last_is s.is_broken c.in_ok-last.last ((live g.D.Disk s).last c.args.self.now.fed.source) c.requires.idle.works c.in_ok-last.ensures) c.in_ok-print_number.ensures.printed)
+    always_err _ (wrote_end g.D.Disk honest c.args.input.now.calls c.feed_lines.new.input.calls c.args.self.now.fed.source s c.feed_lines.new.self.store c.args.self.now.fed c.feed_lines.new.self.fed
+    o p c.feed_lines.new.output.calls c.acknowledge.new.output.calls c.checkpoint_if_due.new.output.calls c.print_end.new.output.calls (live g.D.Disk c.checkpoint_if_due.new.self.store) made.checkpoint c.in_ok-end.end c.requires.accepted (subst (λ (n : ℕ). Took o p (number_text (codes "resume ") n)) (last_is s.is_broken c.in_ok-last.last ((live g.D.Disk s).last c.args.self.now.fed.source) c.requires.idle.works c.in_ok-last.ensures) c.in_ok-print_number.ensures.printed)
     c.in_ok-end.ensures.goes c.in_ok-end.ensures.feeds c.in_ok-acknowledge.ensures.printed made.printed
     (made.live honest ∙ ap (λ (d : detect.ShownDetector (pool.ShownPool g.row.D.Denot)). detect.content (pools.live g.D.Disk) d) c.in_ok-acknowledge.ensures.committed.detector) c.print_end.ensures.calls)

@@ -4,7 +4,7 @@ use Rattle.hg_store.specs.Shown.{live}
 use Rattle.hg_streams.proofs.Printed.{always_err}
 use Rattle.hg_commands.specs.FeedRunning.{Feeds, place}
 use Rattle.hg_commands.proofs.FeedWhole.{fails, feeds, front, kept}
-use Rattle.hg_commands.proofs.lines.Feeding.feed_all.Goals as goal
+use Rattle.hg_commands.proofs.lines.Feeding.feed_lines.Goals as goal
 
 pub returns-in_err-stop-clause-front : goal.returns-in_err-stop-clause-front
 returns-in_err-stop-clause-front g c =

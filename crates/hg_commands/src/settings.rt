@@ -4,7 +4,7 @@ ghost use Rattle.hg_store.specs.Limits.{IsFrameCount};
 
 /// How a store is fed.
 #[derive(Clone, Copy, Drop)]
-pub struct FeedPlan {
+pub struct FeedSettings {
     /// The source that sends the events.
     pub source: u16,
     /// How many pages may be in memory: 4 to 4,096.
