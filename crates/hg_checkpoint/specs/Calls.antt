@@ -131,7 +131,7 @@ module _ {D : Type 0} {g : disk.Ghosts D} where
   abbrev pub StaysNext : (old new : Checkpointer D g) → Type 0
   StaysNext old new = (pool : ShownPool D) (now : Option Checkpoint) (next : Checkpoint) → IsNext g old pool now next → IsNext g new pool now next
 
-  -- The same over this pool.
+  -- The next checkpoint stays the next one, over this pool.
   abbrev pub StaysNextOver : ShownPool D → (old new : Checkpointer D g) → Type 0
   StaysNextOver pool old new = (now : Option Checkpoint) (next : Checkpoint) → IsNext g old pool now next → IsNext g new pool now next
 

@@ -25,7 +25,8 @@ module _ {D : Type 0} (g : disk.Ghosts D) where
       (old new : ShownPool D) (now : Option Checkpoint) (former : Option Parts) → Went g old new → NamesOf old.root now
       → Leaves (HasSlotsOf now former) (g.state (disk_of old)) → LeavesOnly g (disk_of old) (disk_of new) (HasSlotsOf now former)
 
-  -- The same of the slots that the frozen table names.
+  -- The slots that the frozen table names keep the pages of the next checkpoint, and those of the former root stay within
+  -- the file, whatever pool calls come (`Went`).
   abbrev pub FrozenSlotsStay : Type 0
   FrozenSlotsStay =
       (old new : ShownPool D) (next : Option Checkpoint) (former : Option Parts) → Went g old new → NamesOf old.frozen next

@@ -2,9 +2,11 @@
 use Rattle.std.specs.Prelude.{◌≡◌, IfOk, ◌<◌, ◌≤◌, ℕ, false, List, [], length, All, Result, Ok, Err, IsTrue}
 use Rattle.hg_model.specs.declared.verdict.Refusal.{Refusal}
 use Rattle.hg_model.specs.declared.verdict.Refusal.TheVariants as refusal
+use Rattle.hg_sets.specs.declared.table.TheConstants.{MOST_SETS}
 use Rattle.hg_detect.specs.Shown as detect
 use Rattle.hg_cells.specs.Words.{after_refusal}
 use Rattle.hg_disk.specs.declared.disk.Disk as disk
+use Rattle.hg_pages.specs.declared.slot_file.TheConstants.{MOST_SLOTS}
 use Rattle.hg_pages.specs.Files.{is_broken, known}
 use Rattle.hg_pages.specs.declared.slot_file.SlotFile.{SlotFile}
 use Rattle.hg_pool.specs.Maps as pools
@@ -19,8 +21,8 @@ use Rattle.hg_checkpoint.specs.declared.limits.Limits.{Limits}
 use Rattle.hg_checkpoint.specs.NamedPages.{HasPagesOf, entries_of}
 
 pub record AreLimits (caps : Limits) : Type 0 where
-  pub sets : caps.sets ≤ 262144
-  pub slots : caps.slots ≤ 1048576
+  pub sets : caps.sets ≤ MOST_SETS
+  pub slots : caps.slots ≤ MOST_SLOTS
   pub frames : (2 ≤ caps.frames) × (caps.frames ≤ 4096)
 
 -- the root has no more than the caps allow

@@ -78,7 +78,7 @@ module _ {D : Type 0} (g : disk.Ghosts D) where
     pub second_goes : GoesOn g second later_second
     pub each : (one other : List ℕ) → MayLeave g first later_first one → MayLeave g second later_second other → P one other
 
-  -- The same of the first root file and the second one, whichever is written next.
+  -- P holds of the images of the first root file and the second one from one moment to another, whichever is written next.
   abbrev pub EachRoots : RootPair D → RootPair D → (List ℕ → List ℕ → Type 0) → Type 0
   EachRoots old new P = EachOf (first_of old) (first_of new) (second_of old) (second_of new) P
 

@@ -18,6 +18,6 @@ pub record HasTable (root : Parts) (table : List (ℕ × ℕ)) : Type 0 where
 abbrev pub Names : List (ℕ × ℕ) → Parts → Type 0
 Names table root = All (λ p. slot_in table p.page ≡ Some p.slot) root.pages
 
--- the same of the root of a checkpoint, if there is one
+-- If there is a checkpoint, each page of its root has its slot in the table.
 abbrev pub NamesOf : List (ℕ × ℕ) → Option Checkpoint → Type 0
 NamesOf table c = IfSome c (λ c. Names table c.root)

@@ -3,14 +3,14 @@ ghost use Rattle.std.specs.Prelude.{◌≡◌, ◌⊎◌, ◌≤◌, ◌^◌, �
 ghost use Rattle.hg_contents.specs.Heads.{FitsARoot, source_counts};
 ghost use Rattle.hg_root.specs.Grammar.{head_text};
 ghost use Rattle.hg_root.specs.Lawful.{IsLawfulHead};
-ghost use Rattle.hg_checkpoint.specs.Capturing.{IsSpelled, head_with, if_sent, parts_with};
+ghost use Rattle.hg_checkpoint.specs.Capturing.{IfDamaged, IsSpelled, head_with, if_sent, parts_with};
 
 use crate::fault::HeadFault;
-use crate::fitting::{have_spellings, sets_have_spellings};
+use crate::fitting::{COUNTS, have_spellings, sets_have_spellings};
 use hg_cells::words::Words;
 use hg_contents::laws::{a_detector_has_a_lawful_head, threads_have_small_numbers};
 use hg_detect::detector::Detector;
-use hg_model::limits::SOURCE_NUMBERS;
+use hg_model::limits::{MOST_EVENTS, SOURCE_NUMBERS};
 use hg_model::thread::ThreadState;
 use hg_root::{HeadParts, RootHead, SourceCount};
 use hg_rules::state::TraceState;
@@ -55,10 +55,10 @@ fn lists_of<W>(
 fn has_spelling<W>(detector: &Detector<W>, threads: &[ThreadState], sources: &[SourceCount]) -> bool
     ensures { IsTrue result ↔ IsSpelled detector.now threads.now sources.now }
 {
-    if threads.len() > 65_535 {
+    if threads.len() >= COUNTS {
         return false;
     }
-    if sources.len() > 65_535 {
+    if sources.len() >= COUNTS {
         return false;
     }
     if !have_spellings(detector.segments()) {
@@ -87,7 +87,7 @@ fn spelled<W>(
 ) -> Result<RootHead, HeadFault>
     requires threads { threads.now ≡ detector.now.parts.threads }
     ensures text { IfOk result (λ head. head ≡ head_text (head_with number detector.now sources.now)) }
-    ensures damaged { IsErrOf result HeadFault.Damaged → ¬ IsSpelled detector.now detector.now.parts.threads sources.now }
+    ensures damaged { IfDamaged result (¬ IsSpelled detector.now detector.now.parts.threads sources.now) }
 {
     if !has_spelling(detector, threads, sources) {
         return Err(HeadFault::Damaged);
@@ -114,10 +114,10 @@ pub fn head_of<W: Words>(
     detector: &Detector<W>,
 ) -> Result<RootHead, HeadFault>
     requires least { 1 ≤ number }
-    requires most { number ≤ 2 ^ 58 }
+    requires most { number ≤ MOST_EVENTS }
     ensures text { IfOk result (λ head. head ≡ head_text (parts_with number detector.now)) }
     ensures lawful { FitsARoot W.cell_of detector.now → IsLawfulHead (parts_with number detector.now) }
-    ensures damaged { IsErrOf result HeadFault.Damaged → ¬ FitsARoot W.cell_of detector.now }
+    ensures damaged { IfDamaged result (¬ FitsARoot W.cell_of detector.now) }
 {
     a_detector_has_a_lawful_head::<W>();
     threads_have_small_numbers();

@@ -7,10 +7,14 @@ ghost use Rattle.hg_checkpoint.specs.Capturing.{IsNumbered};
 
 use hg_cells::KeptReport;
 use hg_model::held::HeldLock;
+use hg_model::limits::THREAD_NUMBERS;
 use hg_model::segment::Segment;
 use hg_model::thread::ThreadState;
 use hg_root::SourceCount;
 use hg_sets::SetTable;
+
+/// How many counts two bytes spell.
+pub(crate) const COUNTS: usize = 65_536;
 
 /// A part that may have a spelling.
 pub(crate) trait Part {
@@ -45,7 +49,7 @@ fn are_few(before: &[u32]) -> bool
 fn are_members(members: &[u16]) -> bool
     ensures { IsTrue result ↔ SetFits members.now }
 {
-    members.len() < 65_536
+    members.len() < COUNTS
 }
 
 impl Part for Segment {
@@ -70,7 +74,7 @@ impl Part for ThreadState {
     ghost fits = { IsNumbered };
 
     fn has_spelling(&self) -> bool {
-        if self.number >= 1024 {
+        if self.number >= THREAD_NUMBERS as u16 {
             return false;
         }
         have_spellings(self.held.as_slice())

@@ -15,7 +15,7 @@ pub fn slots_stay<D: Disk>()
     ensures { SlotsStay ⟦<D as Disk>⟧ }
 {}
 
-/// The same of the slots that the frozen table names.
+/// The slots that the frozen table names keep the pages of the next checkpoint, whatever pool calls come (`Went`).
 pub fn frozen_slots_stay<D: Disk>()
     ensures { FrozenSlotsStay ⟦<D as Disk>⟧ }
 {}

@@ -7,8 +7,8 @@ returns g c =
     let d = c.args.detector.now in
     let segment_count : length d.segments < 2 ^ 32 = omega (arith, c.segments.ensures.few) in
     let report_count : length d.kept < 2 ^ 32 = omega (arith, c.kept-kept.ensures.few) in
-    let thread_count : length c.args.threads.now < 2 ^ 16 = omega (arith, c.if-threads-gt65535.false) in
-    let source_count : length c.args.sources.now < 2 ^ 16 = omega (arith, c.if-sources-gt65535.false) in
+    let thread_count : length c.args.threads.now < 2 ^ 16 = omega (arith, c.if-threads-ge-COUNTS.false) in
+    let source_count : length c.args.sources.now < 2 ^ 16 = omega (arith, c.if-sources-ge-COUNTS.false) in
     let segments : All SegmentFits d.segments = search rules in
     let reports : All ReportFits d.kept = search rules in (
       λ told. record {
