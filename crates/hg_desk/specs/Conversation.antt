@@ -3,6 +3,7 @@ use Rattle.std.specs.Prelude.{◌≡◌, ◌⊎◌, ◌+◌, ◌≤◌, ℕ, nat
 use Rattle.hg_model.specs.Contents.{Content}
 use Rattle.hg_model.specs.Codes.{code_of}
 use Rattle.hg_model.specs.declared.event.Named.{Named}
+use Rattle.hg_model.specs.declared.limits.TheConstants.{GREATEST_SOURCE}
 use Rattle.hg_model.specs.declared.verdict.Refusal.{Refusal}
 use Rattle.hg_model.specs.declared.verdict.Refusal.TheVariants.{Gap, BadNumber, Broken, Damaged, OutOfMemory}
 use Rattle.hg_detect.specs.declared.detector.Answer.{Answer}
@@ -46,12 +47,12 @@ abbrev pub ReportsAnswer : (is_honest is_broken : Bool) → Content → Reply �
 ReportsAnswer is_honest is_broken c reply =
     cond is_broken (reply ≡ refused 0 Broken) ((reply ≡ Lines (lines_of c)) ⊎ ((reply ≡ refused 0 OutOfMemory) ⊎ ((reply ≡ refused 0 Damaged) × ¬ IsTrue is_honest)))
 
--- The answer to a Hello: a source above 1023 is refused before the store is asked.
+-- The answer to a Hello: a source above the greatest one is refused before the store is asked.
 abbrev pub hello_reply : ℕ → Bool → Content → Reply
-hello_reply source is_broken c = cond (nat_lt 1023 source) (refused 0 BadNumber) (cond is_broken (refused 0 Broken) (Welcome (c.last source)))
+hello_reply source is_broken c = cond (nat_lt GREATEST_SOURCE source) (refused 0 BadNumber) (cond is_broken (refused 0 Broken) (Welcome (c.last source)))
 
 abbrev pub stage_after_hello : ℕ → Bool → Stage
-stage_after_hello source is_broken = cond (nat_lt 1023 source) Greeting (cond is_broken Greeting (Talking source))
+stage_after_hello source is_broken = cond (nat_lt GREATEST_SOURCE source) Greeting (cond is_broken Greeting (Talking source))
 
 -- Nothing of the store has changed, and the share was told nothing.
 abbrev pub Still : {D : Type 0} → (old new : ShownStore D) → (told told_after : Told) → Type 0
@@ -125,5 +126,5 @@ Converses g stage old new told told_after [] to (reply ∷ replies) = ⊥
 Converses g stage old new told told_after (frame ∷ frames) to [] = ⊥
 
 -- Where there was room for the replies, the frames are answered so.
-abbrev pub ConversesOnOk : {D Z E : Type 0} → disk.Ghosts D → Stage → (old new : ShownStore D) → (told told_after : Told) → List Frame → Stage → Result (Vec Reply Z) E → Type 0
-ConversesOnOk g stage old new told told_after frames to result = IfOk result (λ replies. Converses g stage old new told told_after frames to replies.items)
+abbrev pub Conversed : {D Z E : Type 0} → disk.Ghosts D → Stage → (old new : ShownStore D) → (told told_after : Told) → List Frame → Stage → Result (Vec Reply Z) E → Type 0
+Conversed g stage old new told told_after frames to result = IfOk result (λ replies. Converses g stage old new told told_after frames to replies.items)

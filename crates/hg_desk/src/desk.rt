@@ -6,7 +6,7 @@ ghost use Rattle.hg_detect.specs.declared.detector.Answer.{Answer};
 ghost use Rattle.hg_store.specs.declared.steps.StepResult.TheVariants.{Offered};
 ghost use Rattle.hg_protocol.specs.Spelling.{FitsFrames};
 ghost use Rattle.hg_store.specs.Shown.{live};
-ghost use Rattle.hg_desk.specs.Conversation.{Answers, Commits, ConversesOnOk, Greets, Offers, Talks, expected_of, hello_reply, offer_reply, refused as refused_reply, stage_after_hello};
+ghost use Rattle.hg_desk.specs.Conversation.{Answers, Commits, Conversed, Greets, Offers, Talks, expected_of, hello_reply, offer_reply, refused as refused_reply, stage_after_hello};
 ghost use Rattle.hg_desk.specs.Told.{Told};
 
 use crate::locked::Core;
@@ -14,15 +14,13 @@ use crate::share::{Column, Opening, Share};
 use hg_detect::detector::Answer;
 use hg_disk::Disk;
 use hg_model::event::Named;
+use hg_model::limits::GREATEST_SOURCE;
 use hg_model::verdict::Refusal;
 use hg_protocol::frame::Frame;
 use hg_protocol::reply::Reply;
 use hg_store::steps::{Step, StepResult};
 use std::alloc::{AllocError, Global};
 use std::marker::Model;
-
-/// The greatest number of a source.
-const MOST_SOURCE: u16 = 1023;
 
 /// How far a conversation has come.
 #[derive(Clone, Copy, Debug, PartialEq, Eq, Drop)]
@@ -112,7 +110,7 @@ impl Desk {
         share: &mut Share<A, B>,
         frames: &[Frame],
     ) -> Result<Vec<Reply>, AllocError>
-        ensures ok { ConversesOnOk ⟦<D as Disk>⟧ self.old core.old core.new share.old share.new frames.now self.new result }
+        ensures ok { Conversed ⟦<D as Disk>⟧ self.old core.old core.new share.old share.new frames.now self.new result }
         ensures err { OnErr result ((self.new ≡ self.old) × ((core.new ≡ core.old) × (share.new ≡ share.old))) }
     {
         let Ok(mut replies) = Vec::with_capacity(alloc, frames.len()) else {
@@ -145,7 +143,7 @@ fn welcome<D: Disk, A: Opening, B: Column>(core: &Core<D, A, B>, source: u16) ->
     ensures reply { result.1 ≡ hello_reply source core.now.is_broken (live ⟦<D as Disk>⟧ core.now) }
     ensures fits { FitsFrames result.1 }
 {
-    if source > MOST_SOURCE {
+    if source > GREATEST_SOURCE {
         return (Stage::Greeting, refused(0, Refusal::BadNumber));
     }
     match core.last(source) {

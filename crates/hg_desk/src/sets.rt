@@ -4,18 +4,16 @@ ghost use Rattle.std.specs.Prelude.{◌↔◌, IsTrue};
 ghost use Rattle.std.specs.List.{AllByRecursion};
 ghost use Rattle.hg_model.specs.ThreadSets.{IsThreadSet};
 
+use hg_model::limits::GREATEST_THREAD;
 use hg_model::report::Report;
 
-/// The greatest number of a thread.
-const MOST_THREAD: u16 = 1023;
-
-/// Whether the numbers rise, up to 1023.
+/// Whether the numbers rise, up to the greatest one of a thread.
 fn is_thread_set(numbers: &[u16]) -> bool
     ensures { IsTrue result ↔ IsThreadSet numbers.now }
 {
     let mut least: u16 = 0;
     for number in numbers {
-        if *number < least || *number > MOST_THREAD {
+        if *number < least || *number > GREATEST_THREAD {
             return false;
         }
         least = *number + 1;

@@ -188,7 +188,7 @@ fn audit_accepted<A: Column, B: Column>(
     seen.give(&mut first.accepted_part, 1, told);
 }
 
-/// The same of the other column.
+/// Lends the parts of these shares in the other column to `seen`, as `audit_accepted` does.
 fn audit_durable<A: Column, B: Column>(
     book: &mut Book<B>,
     shares: &mut [Share<A, B>],
