@@ -55,7 +55,7 @@ IsKnown segments sets (Exclusive segment) = segment < segments
 IsKnown segments sets (SharedRead threads locks) = IsThreadSet sets threads × (locks < length sets)
 IsKnown segments sets (SharedModified threads locks) = IsThreadSet sets threads × (locks < length sets)
 
--- the same of each cell
+-- Each cell names only known segments and sets.
 abbrev pub AreKnown : ℕ → List (List ℕ) → List Cell → Type 0
 AreKnown segments sets cells = AllByRecursion (IsKnown segments sets) cells
 

@@ -36,7 +36,7 @@ abbrev pub IsLeastFree : List ShownTable → (most : ℕ) → Option ℕ → Typ
 IsLeastFree tables most found =
     MatchOption found (EachNamed (SomeNames tables) 0 most) (λ free. (free < most) × (¬ SomeNames tables free) × EachNamed (SomeNames tables) 0 free)
 
--- the same from a slot on
+-- the least slot from `from` on and below `most` that no table names, or none if each of these is named
 abbrev pub IsLeastFreeFrom : (from : ℕ) → List ShownTable → (most : ℕ) → Option ℕ → Type 0
 IsLeastFreeFrom from tables most found =
     MatchOption found (EachNamed (SomeNames tables) from most)

@@ -142,7 +142,7 @@ module _ {D : Type 0} (g : disk.Ghosts D) (s : Parts D g) (basis : Basis) (is : 
       in_doubt = doubt;
     }
 
-    -- the same, of parts that are equal to these
+    -- a commit succeeded, with parts that are equal to these
     pub succeeded_as : (was : detect.ShownDetector (pool.ShownPool D)) (pending : List Named) (broken doubt : Bool) → was ≡ s.detector → pending ≡ [] → broken ≡ false → doubt ≡ false
         → Standing g committed grown → Standing g (as_committed was pending broken doubt) grown
     succeeded_as was pending broken doubt same none works certain is =

@@ -111,7 +111,7 @@ module _ {D : Type 0} (g : disk.Ghosts D) (s : Parts D g) (basis : Basis) (is : 
           progress = subst (λ (p : Phase). IsInProgress g p (with_frozen g s basis is s.detector c (over g s.detector w) broken) basis) (sym at) (freezing broken none draft);
         })
 
-    -- the same, of a detector that is equal to this one
+    -- a checkpoint has begun, with a detector that is equal to this one
     pub frozen_as : (was : detect.ShownDetector (pool.ShownPool D)) (broken : Bool) → was ≡ s.detector → s.pending ≡ [] → c.phase ≡ phase.Flushing → c.number ≡ s.checkpointer.number → checkpoints.Stands g c w basis.now.checkpoint basis.now.former
         → checkpoints.IsDraft g c w basis.now.checkpoint (parts_with c.next now) now.words → Standing g (with_frozen g s basis is was c (over g s.detector w) broken) basis
     frozen_as was broken is_was none at number stands draft =

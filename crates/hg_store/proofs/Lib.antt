@@ -6,6 +6,7 @@ pub mod Refusing
 pub mod Committing
 pub mod Staying
 pub mod Unchanged
+pub mod NotMade
 pub mod Checkpointing
 pub mod Reading
 pub mod Rooting

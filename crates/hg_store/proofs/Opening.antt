@@ -61,7 +61,7 @@ module _ {D : Type 0} (g : disk.Ghosts D) (s : Parts D g) (basis : Basis) (is : 
       → EachImage g (shown_of g s).devices (devices_of g s.journal s.detector.words c) (Stands (saved g (shown_of g s)) (live g (shown_of g s)) s.in_doubt)
   images c each = images_after g s basis is opening c s.detector.words gives_opening (moved c each)
 
-  -- the same of a pool over the same disk
+  -- the images, with a pool over an equal disk
   pub images_as : (c : Checkpointer D g) (w : pool.ShownPool D) → pools.disk_of w ≡ pools.disk_of s.detector.words → EachEither g s.checkpointer.roots c.roots basis.now.checkpoint basis.now.former r.next
       → EachImage g (shown_of g s).devices (devices_of g s.journal w c) (Stands (saved g (shown_of g s)) (live g (shown_of g s)) s.in_doubt)
   images_as c w same each =
@@ -72,7 +72,7 @@ module _ {D : Type 0} (g : disk.Ghosts D) (s : Parts D g) (basis : Basis) (is : 
   pub failed : (c : Checkpointer D g) → EachEither g s.checkpointer.roots c.roots basis.now.checkpoint basis.now.former r.next → Standing g (with_parts g s basis is c s.detector true) opening
   failed c each = stands_after g s basis is opening c s.detector true refl is.spelled is.faithful gives_opening (moved c each) (λ no. absurd (cc no))
 
-  -- the same of a pool that stayed
+  -- a device failed, and the pool stayed
   pub failed_as : (c : Checkpointer D g) (w : pool.ShownPool D) → w ≡ s.detector.words → EachEither g s.checkpointer.roots c.roots basis.now.checkpoint basis.now.former r.next → Standing g (with_parts g s basis is c (over g s.detector w) true) opening
   failed_as c w same each =
       let other = over g s.detector w in
@@ -126,7 +126,7 @@ module _ {D : Type 0} (g : disk.Ghosts D) (s : Parts D g) (basis : Basis) (is : 
         };
   }
 
-  -- the same of a pool that is equal to this one
+  -- the root was opened, with a pool that is equal to this one
   pub succeeded_as : (c : Checkpointer D g) (w : pool.ShownPool D) (broken : Bool) → w ≡ rooted → c.phase ≡ phase.Idle → c.number ≡ s.checkpointer.next → checkpoints.Stands g c w (Some r.next) (root_of basis.now.checkpoint)
       → Standing g (with_parts g s basis is c (over g s.detector w) broken) at_opened
   succeeded_as c w broken same at number stands =

@@ -33,7 +33,7 @@ module _ {D : Type 0} (g : disk.Ghosts D) where
   pub moved : (a b c d : D) (P : List ℕ → Type 0) → b ≡ a → d ≡ c → LeavesOnly g b d P → LeavesOnly g a c P
   moved a b c d P one two leaves = subst (λ (x : D). LeavesOnly g x c P) one (subst (λ (y : D). LeavesOnly g b y P) two leaves)
 
-  -- the same, of a disk that was read
+  -- reads between equal disks
   pub read_on : (a b c d : D) → b ≡ a → d ≡ c → LeavesOnly g b d (IsImage (g.state b)) → LeavesOnly g a c (IsImage (g.state a))
   read_on a b c d one two leaves = subst (λ (x : D). LeavesOnly g x c (IsImage (g.state x))) one (subst (λ (y : D). LeavesOnly g b y (IsImage (g.state b))) two leaves)
 

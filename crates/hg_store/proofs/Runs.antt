@@ -180,7 +180,7 @@ module _ {D : Type 0} (g : disk.Ghosts D) where
           covered = covered_more start s new step result (before old) steps told so_far.covered (is_lawful start run s new step result at done) done content images;
         }
 
-    -- the same, of answers that are pushed
+    -- a run goes on by one step, whose answer is pushed
     pub drive_turn : {A : Type 0} (began : A → ShownStore D) (answered : A → StepResult) (old : ShownStore D) (steps more : List Step) (answers new_answers : List A) (a : A)
         → more ≡ steps ++ step ∷ [] → new_answers ≡ answers ++ a ∷ [] → began a ≡ s → answered a ≡ result
         → DriveDone g old s steps (map (λ (x : A). (began x, answered x)) answers) → StepDone g s new step result → ContentDone g s new step result → Backs g new → Leaves

@@ -29,7 +29,7 @@ module _ {D : Type 0} (g : disk.Ghosts D) (s new : ShownStore D) (step : Step) (
       → StepsDone g old new (steps ++ step ∷ []) (told ++ (s, result) ∷ [])
   steps_more old steps told so_far done failed = record { first = begins_more told ∙ so_far.first; each = leads_more steps told so_far.each done failed }
 
-  -- the same, of answers that are pushed
+  -- the steps go on by one, whose answer is pushed
   pub steps_turn : {A : Type 0} (began : A → ShownStore D) (answered : A → StepResult) (old : ShownStore D) (steps more : List Step) (answers new_answers : List A) (a : A)
       → more ≡ steps ++ step ∷ [] → new_answers ≡ answers ++ a ∷ [] → began a ≡ s → answered a ≡ result
       → StepsDone g old s steps (map (λ (x : A). (began x, answered x)) answers) → StepDone g s new step result → failures_of g new.devices ≡ fails_by result (failures_of g s.devices)

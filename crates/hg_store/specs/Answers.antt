@@ -1,20 +1,42 @@
 -- Which answers the steps of a checkpoint give.
-use Rattle.std.specs.Prelude.{◌≡◌, ◌⊎◌, ℕ, true, false, Result, Ok, Err}
+use Rattle.std.specs.Prelude.{◌≡◌, ◌⊎◌, ℕ, Bool, true, false, Result, Ok, Err}
 use Rattle.hg_model.specs.declared.verdict.Refusal.{Refusal}
 use Rattle.hg_model.specs.declared.verdict.Refusal.TheVariants as refusal
 use Rattle.hg_checkpoint.specs.Phases as checkpoints
 use Rattle.hg_checkpoint.specs.declared.cause.Cause.{Cause}
 use Rattle.hg_checkpoint.specs.declared.cause.Cause.TheVariants as cause
+use Rattle.hg_checkpoint.specs.declared.phase.CheckpointFault.{CheckpointFault}
+use Rattle.hg_checkpoint.specs.declared.phase.CheckpointFault.TheVariants as checkpoint
 use Rattle.hg_checkpoint.specs.declared.fault.HeadFault.{HeadFault}
 use Rattle.hg_checkpoint.specs.declared.fault.HeadFault.TheVariants as head
 use Rattle.hg_store.specs.Shown.{ShownStore, phase_of}
 use Rattle.hg_store.specs.declared.steps.StepFault.{StepFault}
 use Rattle.hg_store.specs.declared.steps.StepFault.TheVariants.{Refused, WrongPhase}
+use Rattle.hg_store.specs.declared.steps.StorePhase.{StorePhase}
 
 -- the fault of a step that could not make the head of a root
 abbrev pub of_head : HeadFault → StepFault
 of_head head.Damaged = Refused cause.Damaged
 of_head head.OutOfMemory = Refused cause.OutOfMemory
+
+-- why a step was not made, by the fault of the checkpointer of a store in this phase
+abbrev pub step_fault : StorePhase → CheckpointFault → StepFault
+step_fault phase (checkpoint.WrongPhase p) = WrongPhase phase
+step_fault phase (checkpoint.Refused r) = Refused r
+
+-- whether a step that was refused for this cause breaks the store: a device failed
+abbrev pub breaks : Cause → Bool
+breaks cause.Broken = true
+breaks cause.Damaged = false
+breaks cause.DeviceFault = true
+breaks cause.FullEvents = false
+breaks cause.FullSlots = false
+breaks cause.OutOfMemory = false
+
+-- whether this fault of the checkpointer breaks the store
+abbrev pub breaks_by : CheckpointFault → Bool
+breaks_by (checkpoint.WrongPhase p) = false
+breaks_by (checkpoint.Refused r) = breaks r
 
 -- The answers of a step that is lawful only if `Lawful` holds: a broken store answers Broken, any other one WrongPhase with
 -- the phase exactly if the step is not lawful.

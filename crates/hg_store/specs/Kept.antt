@@ -26,6 +26,7 @@ use Rattle.hg_checkpoint.specs.declared.phase.Phase.{Phase}
 use Rattle.hg_checkpoint.specs.declared.phase.Phase.TheVariants as phase
 use Rattle.hg_checkpoint.specs.Standing.{IsDraft, IsNext, Stands}
 use Rattle.hg_store.specs.declared.devices.Devices.{Devices}
+use Rattle.hg_store.specs.declared.store.TheConstants.{MOST_PENDING}
 use Rattle.hg_store.specs.Shown.{ShownStore, captured, live, saved}
 use Rattle.hg_store.specs.Store.{view_of}
 
@@ -87,7 +88,7 @@ module _ {D : Type 0} (g : disk.Ghosts D) where
     pub front : IsFront basis (detect.content (λ map. map) was)
     pub draft : IsDraft g s.checkpointer s.detector.words basis.now.checkpoint (parts_with s.checkpointer.next was) was.words
 
-  -- The same, and its pages are durable.
+  -- A checkpoint of the detector at the freeze is in progress, and its pages are durable.
   pub record IsRooting (s : Parts D g) (basis : Basis) : Type 0 where
     pub freezing : IsFreezing s basis
     pub next : Checkpoint
@@ -122,8 +123,8 @@ module _ {D : Type 0} (g : disk.Ghosts D) where
   -- parts. Over honest devices the store stands for a durable content.
   pub record IsSound (s : Parts D g) (pending_room : ℕ) : Type 0 where
     pub lawful : AtPresent MayBring s.detector
-    pub few : length s.pending ≤ 1024
-    pub room : 1024 ≤ pending_room
+    pub few : length s.pending ≤ MOST_PENDING
+    pub room : MOST_PENDING ≤ pending_room
     pub journal : s.is_broken ≡ false → journals.is_broken s.journal ≡ false
     pub words : s.is_broken ≡ false → pools.is_broken s.detector.words ≡ false
     pub checkpointer : s.is_broken ≡ false → s.checkpointer.is_broken ≡ false

@@ -271,7 +271,7 @@ IfDamaged result P = IfErr result (λ e. e.0 ≡ Damaged → P)
 abbrev pub IfFullSets : {T X : Type 0} → Result T (Refusal × X) → Type 0 → Type 0
 IfFullSets result P = IfErr result (λ e. e.0 ≡ FullSets → P)
 
--- The same of a call that hands nothing back.
+-- a call that hands nothing back is refused with Damaged only where P holds
 abbrev pub OnDamaged : {T : Type 0} → Result T Refusal → Type 0 → Type 0
 OnDamaged result P = result ≡ Err Damaged → P
 
@@ -467,12 +467,12 @@ module _ {D : Type 0} {g : disk.Ghosts D} where
   abbrev pub IfOpens : Journal D g → detect.ShownDetector (pool.ShownPool D) → Type 0 → Type 0
   IfOpens journal d P = (bodies : List (List ℕ)) → IsTrue g.is_honest → journals.Opens journal bodies → AtPresent (IsFaithful g) d → P
 
-  -- The same of a reader that has read some events, where P is said of these.
+  -- Over an honest disk, for a reader that has read some events, and a map that has the words, P holds of these events.
   abbrev pub IfAt : Journal D g → JournalReader → detect.ShownDetector (pool.ShownPool D) → (List Named → Type 0) → Type 0
   IfAt journal reader d P =
       (seen : List Named) → IsTrue g.is_honest → journals.IsAt journal reader seen → AtPresent (IsFaithful g) d → P seen
 
-  -- The same of one that has read none.
+  -- Over an honest disk, for a reader that has read no event, P holds.
   abbrev pub IfAtFirst : Journal D g → JournalReader → Type 0 → Type 0
   IfAtFirst journal reader P = IsTrue g.is_honest → journals.IsAt journal reader [] → P
 

@@ -120,6 +120,6 @@ module _ {D : Type 0} (g : disk.Ghosts D) where
   abbrev pub HasDriven : {Z : Type 0} → (old new : ShownStore D) → List Step → Step → Vec (StepAnswer D) Z → Type 0
   HasDriven old new done last answers = DriveDone g old new (done ++ last ∷ []) (told_of answers.items)
 
-  -- The same, on any devices.
+  -- On any devices the steps, and then the last one, were answered so.
   abbrev pub HasStepped : {Z : Type 0} → (old new : ShownStore D) → List Step → Step → Vec (StepAnswer D) Z → Type 0
   HasStepped old new done last answers = StepsDone g old new (done ++ last ∷ []) (told_of answers.items)

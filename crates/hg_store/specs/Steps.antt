@@ -19,6 +19,7 @@ use Rattle.hg_checkpoint.specs.declared.phase.Phase.{Phase}
 use Rattle.hg_store.specs.Answers.{IfRefused, IfWrongPhase, IsAllowed}
 use Rattle.hg_store.specs.Shown.{ShownStore, live}
 use Rattle.hg_store.specs.declared.steps.StepFault.{StepFault}
+use Rattle.hg_store.specs.declared.store.TheConstants.{MOST_PENDING}
 
 -- the refusals of an event that the rules accept: no room for its sets, or a refusal of its pages
 abbrev pub IsOfRoom : Refusal → Type 0
@@ -28,7 +29,7 @@ IsOfRoom r = (r ≡ refusal.FullSets) ⊎ ((r ≡ refusal.OutOfMemory) ⊎ MayRe
 abbrev pub ByVerdict : Verdict → ℕ → Result Answer Refusal → Type 0
 ByVerdict (IsDuplicate last) pending result = result ≡ Ok (Duplicate last)
 ByVerdict (Refuse refusal) pending result = result ≡ Err refusal
-ByVerdict Accept pending result = cond (nat_le 1024 pending) (result ≡ Err refusal.FullPending) ((result ≡ Ok Accepted) ⊎ ((r : Refusal) × (result ≡ Err r) × IsOfRoom r))
+ByVerdict Accept pending result = cond (nat_le MOST_PENDING pending) (result ≡ Err refusal.FullPending) ((result ≡ Ok Accepted) ⊎ ((r : Refusal) × (result ≡ Err r) × IsOfRoom r))
 
 -- A broken store answers Broken, any other one by the verdict.
 abbrev pub OfferAnswers : Content → Bool → ℕ → Named → Result Answer Refusal → Type 0
@@ -44,7 +45,7 @@ if_accepted n (Err refusal) = []
 pub record IsTaken {D : Type 0} (g : disk.Ghosts D) (s : ShownStore D) (n : Named) : Type 0 where
   pub works : s.is_broken ≡ false
   pub accepted : verdict (standing_of (live g s)) n ≡ Accept
-  pub room : length s.pending < 1024
+  pub room : length s.pending < MOST_PENDING
 
 -- Only the slots, the detector, the pending events and whether the store is broken may have changed.
 pub record SameBut {D : Type 0} (old new : ShownStore D) : Type 0 where

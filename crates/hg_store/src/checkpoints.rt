@@ -3,7 +3,7 @@
 ghost use Rattle.std.specs.Prelude.{◌≡◌, ◌≢◌, ◌⊎◌, ◌+◌, ◌<◌, ◌≤◌, ◌^◌, Err, true, false, IsTrue, OnOk, OnErr, IfOk};
 ghost use Rattle.hg_pool.specs.Calls.{HasWaited, IsStale};
 ghost use Rattle.hg_checkpoint.specs.declared.phase.Phase.TheVariants as phase;
-ghost use Rattle.hg_store.specs.Answers.{IfRefused, IsAllowed, failed_by};
+ghost use Rattle.hg_store.specs.Answers.{IfRefused, IsAllowed, breaks, breaks_by, failed_by, step_fault};
 ghost use Rattle.hg_store.specs.Shown.{HasNextNumber, IsFlushed, IsIn, live, phase_of, words};
 ghost use Rattle.hg_store.specs.Steps.{CheckpointDone};
 ghost use Rattle.hg_store.specs.Store.{HasOpenedFrozen, StandMeanwhile};
@@ -14,13 +14,41 @@ use crate::steps::{StepFault, StorePhase};
 use crate::store::Store;
 use hg_checkpoint::{Cause, CheckpointFault, Phase, head_of};
 use hg_disk::Disk;
+use hg_model::limits::MOST_EVENTS;
 use hg_pages::EncodedPage;
 use hg_pool::{Job, Put};
 use std::alloc::Global;
 use std::snapshot::Snapshot;
 
-/// The greatest number of a checkpoint: 2^58.
-const LAST_NUMBER: u64 = 1 << 58;
+// Whether a step that was refused for this cause breaks the store: a device failed.
+fn is_of_device(cause: Cause) -> bool
+    ensures { result ≡ breaks cause }
+{
+    match cause {
+        Cause::Broken => true,
+        Cause::Damaged => false,
+        Cause::DeviceFault => true,
+        Cause::FullEvents => false,
+        Cause::FullSlots => false,
+        Cause::OutOfMemory => false,
+    }
+}
+
+// Why a step was not made, by the fault of the checkpointer of a store that works and is in this phase. A device that
+// failed breaks the store.
+fn not_made(fault: CheckpointFault, phase: StorePhase, is_broken: &mut bool) -> StepFault
+    requires { is_broken.old ≡ false }
+    ensures told { result ≡ step_fault phase fault }
+    ensures broken { is_broken.new ≡ breaks_by fault }
+{
+    match fault {
+        CheckpointFault::WrongPhase(_) => StepFault::WrongPhase(phase),
+        CheckpointFault::Refused(cause) => {
+            *is_broken = is_of_device(cause);
+            StepFault::Refused(cause)
+        }
+    }
+}
 
 impl<D: Disk> Store<D> {
     // The phase of the store: its events and its next checkpoint.
@@ -43,14 +71,14 @@ impl<D: Disk> Store<D> {
     }
 
     /// Begins a checkpoint of the durable events; no event may be pending. The live map becomes the frozen one, and its
-    /// changed pages wait to be written. `FullEvents` if the newest root has the last number, 2^58; else `FullSlots` or
-    /// `OutOfMemory`. It calls no device.
+    /// changed pages wait to be written. `FullEvents` if the newest root has the last number, `MOST_EVENTS`; else
+    /// `FullSlots` or `OutOfMemory`. It calls no device.
     pub fn freeze(&mut self, alloc: Global) -> Result<(), StepFault>
         ensures done { CheckpointDone self.old self.new (phase_of self.old ≡ StorePhase.Idle) phase.Flushing result }
         ensures refused { OnErr result (self.new ≡ self.old) }
-        ensures last { OnOk result (self.old.progress.number < 2 ^ 58) }
+        ensures last { OnOk result (self.old.progress.number < MOST_EVENTS) }
         ensures no_call { failed_by result ≡ 0 }
-        ensures full { IfRefused (λ cause. cause ≡ Cause.FullEvents → 2 ^ 58 ≤ self.old.progress.number) result }
+        ensures full { IfRefused (λ cause. cause ≡ Cause.FullEvents → MOST_EVENTS ≤ self.old.progress.number) result }
         ensures number { OnOk result (HasNextNumber self.old self.new) }
         ensures devices { self.new.devices ≡ self.old.devices }
         ensures frozen { OnOk result (self.new.frozen ≡ self.old.detector) }
@@ -64,7 +92,7 @@ impl<D: Disk> Store<D> {
             return Err(StepFault::WrongPhase(phase));
         }
         let number = self.checkpointer.number();
-        if number >= LAST_NUMBER {
+        if number >= MOST_EVENTS {
             return Err(StepFault::Refused(Cause::FullEvents));
         }
         let _kept = self.detector.kept_reports();
@@ -137,13 +165,10 @@ impl<D: Disk> Store<D> {
         if self.is_broken {
             return Err(StepFault::Refused(Cause::Broken));
         }
+        let phase = self.phase_now();
         match self.checkpointer.seal_pages(self.detector.words_mut()) {
             Ok(()) => Ok(()),
-            Err(CheckpointFault::WrongPhase(_)) => Err(StepFault::WrongPhase(self.phase_now())),
-            Err(CheckpointFault::Refused(cause)) => {
-                self.is_broken = true;
-                Err(StepFault::Refused(cause))
-            }
+            Err(fault) => Err(not_made(fault, phase, &mut self.is_broken)),
         }
     }
 
@@ -160,13 +185,10 @@ impl<D: Disk> Store<D> {
         if self.is_broken {
             return Err(StepFault::Refused(Cause::Broken));
         }
+        let phase = self.phase_now();
         match self.checkpointer.prepare_root() {
             Ok(()) => Ok(()),
-            Err(CheckpointFault::WrongPhase(_)) => Err(StepFault::WrongPhase(self.phase_now())),
-            Err(CheckpointFault::Refused(cause)) => {
-                self.is_broken = true;
-                Err(StepFault::Refused(cause))
-            }
+            Err(fault) => Err(not_made(fault, phase, &mut self.is_broken)),
         }
     }
 
@@ -182,16 +204,10 @@ impl<D: Disk> Store<D> {
         if self.is_broken {
             return Err(StepFault::Refused(Cause::Broken));
         }
+        let phase = self.phase_now();
         match self.checkpointer.write_root(alloc, self.detector.words()) {
             Ok(()) => Ok(()),
-            Err(CheckpointFault::WrongPhase(_)) => Err(StepFault::WrongPhase(self.phase_now())),
-            Err(CheckpointFault::Refused(Cause::OutOfMemory)) => {
-                Err(StepFault::Refused(Cause::OutOfMemory))
-            }
-            Err(CheckpointFault::Refused(cause)) => {
-                self.is_broken = true;
-                Err(StepFault::Refused(cause))
-            }
+            Err(fault) => Err(not_made(fault, phase, &mut self.is_broken)),
         }
     }
 
@@ -210,13 +226,10 @@ impl<D: Disk> Store<D> {
         if self.is_broken {
             return Err(StepFault::Refused(Cause::Broken));
         }
+        let phase = self.phase_now();
         match self.checkpointer.open_root(self.detector.words_mut()) {
             Ok(number) => Ok(number),
-            Err(CheckpointFault::WrongPhase(_)) => Err(StepFault::WrongPhase(self.phase_now())),
-            Err(CheckpointFault::Refused(cause)) => {
-                self.is_broken = true;
-                Err(StepFault::Refused(cause))
-            }
+            Err(fault) => Err(not_made(fault, phase, &mut self.is_broken)),
         }
     }
 }

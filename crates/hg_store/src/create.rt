@@ -45,7 +45,7 @@ pub enum CreateFault {
 /// Room for all events that may wait for a commit.
 pub(crate) fn pending_room(alloc: Global) -> Result<Vec<Named>, Refusal>
     ensures none { IfOk result (λ pending. pending.items ≡ []) }
-    ensures room { IfOk result (λ pending. 1024 ≤ vec_capacity pending) }
+    ensures room { IfOk result (λ pending. MOST_PENDING ≤ vec_capacity pending) }
     ensures refusal { IfErr result (λ refusal. refusal ≡ Refusal.OutOfMemory) }
 {
     Ok(Vec::with_capacity(alloc, MOST_PENDING)?)
@@ -54,7 +54,7 @@ pub(crate) fn pending_room(alloc: Global) -> Result<Vec<Named>, Refusal>
 /// Room for all events that may wait for a commit, and the memory of a journal.
 fn rooms(alloc: Global) -> Result<(Vec<Named>, JournalRoom), Refusal>
     ensures none { IfOk result (λ rooms. rooms.0.items ≡ []) }
-    ensures room { IfOk result (λ rooms. 1024 ≤ vec_capacity rooms.0) }
+    ensures room { IfOk result (λ rooms. MOST_PENDING ≤ vec_capacity rooms.0) }
     ensures refusal { IfErr result (λ refusal. refusal ≡ Refusal.OutOfMemory) }
 {
     let pending = pending_room(alloc)?;
@@ -149,7 +149,7 @@ pub(crate) fn made<D: Disk>(
     pending: Vec<Named>,
 ) -> Store<D>
     requires none { pending.items ≡ [] }
-    requires room { 1024 ≤ vec_capacity pending }
+    requires room { MOST_PENDING ≤ vec_capacity pending }
     requires lawful { AtPresent MayBring detector }
     requires journal { journals.is_broken journal ≡ false }
     requires words { pools.is_broken detector.words ≡ false }
@@ -186,7 +186,7 @@ fn on_closed_roots<D: Disk>(
     pending: Vec<Named>,
 ) -> Store<D>
     requires none { pending.items ≡ [] }
-    requires room { 1024 ≤ vec_capacity pending }
+    requires room { MOST_PENDING ≤ vec_capacity pending }
     requires journal { journals.KeepsEvents journal [] }
     requires stands { Stands ⟦<D as Disk>⟧ roots None None }
     requires lawful { AtPresent MayBring detector }

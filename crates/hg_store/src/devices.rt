@@ -2,7 +2,7 @@
 
 ghost use Rattle.std.specs.Prelude.{◌≡◌};
 
-use hg_pages::MOST_SLOTS;
+pub use hg_pages::{MOST_SLOTS, SLOT_LEN};
 use hg_sets::MOST_SETS;
 
 /// The four devices of a store.

@@ -21,7 +21,7 @@ ghost use Rattle.hg_store.specs.Store.{IsIdle};
 use crate::create::{empty_detector, made, pending_room};
 use crate::devices::{Caps, Devices};
 use crate::replay::replay;
-use crate::store::Store;
+use crate::store::{MOST_PENDING, Store};
 use hg_checkpoint::{Checkpointer, lies_within, restored};
 use hg_detect::detector::Detector;
 use hg_disk::{Disk, DiskFault};
@@ -165,7 +165,7 @@ fn caught_up<D: Disk>(
     pending: Vec<Named>,
 ) -> Result<Store<D>, (Refusal, Journal<D>, Detector<Pool<D>>, RootPair<D>)>
     requires none { pending.items ≡ [] }
-    requires room { 1024 ≤ vec_capacity pending }
+    requires room { MOST_PENDING ≤ vec_capacity pending }
     requires works { journals.is_broken journal ≡ false }
     requires lawful { AtPresent MayBring detector }
     requires started { IsTrue D.is_honest → MayCatchUp journal detector roots number }
@@ -267,7 +267,7 @@ fn recovered<D: Disk>(
     requires sets { (1 ≤ caps.sets) × (caps.sets ≤ MOST_SETS) }
     requires slots { (1 ≤ caps.slots) × (caps.slots ≤ MOST_SLOTS) }
     requires none { pending.items ≡ [] }
-    requires room { 1024 ≤ vec_capacity pending }
+    requires room { MOST_PENDING ≤ vec_capacity pending }
     requires settled { Settled ⟦<D as Disk>⟧ devices devices }
     ensures content { IsTrue D.is_honest → IfOk result (IsRecovered ⟦<D as Disk>⟧ devices) }
     ensures sets { IsTrue D.is_honest → IfOk result (HasItsTable ⟦<D as Disk>⟧ caps.sets devices) }

@@ -44,7 +44,7 @@ fn follow<D: Disk>(detector: &mut Detector<Pool<D>>, named: &Named) -> Result<()
     ensures accepted { OnOk result (Accepts ⟦<D as Disk>⟧ detector.old named.now) }
     ensures content { FollowsIfFaithful ⟦<D as Disk>⟧ detector.old detector.new named.now result }
     ensures asked { AsksIfFaithful ⟦<D as Disk>⟧ detector.old detector.new named.now result }
-    ensures few { OnOk result ((content (live ⟦<D as Disk>⟧) detector.old).events < 2 ^ 58) }
+    ensures few { OnOk result ((content (live ⟦<D as Disk>⟧) detector.old).events < MOST_EVENTS) }
     ensures damaged { OnDamaged result (¬ Accepts ⟦<D as Disk>⟧ detector.old named.now) }
     ensures full { IsFullIfFaithful ⟦<D as Disk>⟧ detector.old detector.new named.now result }
     ensures lawful { AtPresent MayBring detector.new }

@@ -1,4 +1,4 @@
-use Rattle.std.proofs.Common.{◌≡◌, false, true, rules, subst, inl}
+use Rattle.std.proofs.Common.{◌≡◌, false, true, rules, subst, inl, ◌∙◌, sym, ap, refl}
 use Rattle.std.proofs.lemmas.Bool.{true≢false}
 use Rattle.hg_checkpoint.specs.declared.phase.Phase.{Phase}
 use Rattle.hg_checkpoint.specs.declared.phase.Phase.TheVariants as phase
@@ -7,6 +7,8 @@ use Rattle.hg_root.specs.Checkpoints.{root_of}
 use Rattle.hg_store.specs.Kept.{is_rooting}
 use Rattle.hg_store.proofs.Backing.{parts_stand}
 use Rattle.hg_store.proofs.Checkpointing.{rooted, rooting_failed, roots_images}
+use Rattle.hg_store.specs.Shown.{ShownStore, phase_of}
+use Rattle.hg_store.proofs.NotMade.{if_wrong, of_device, sound_by, step_not_made}
 use Rattle.hg_store.proofs.store.Store.prepare_root.Goals as goal
 
 pub returns-then-self-clause-images : goal.returns-then-self-clause-images
@@ -18,14 +20,8 @@ returns-in-Ok-clause-images g c honest =
     let w = k.1.works c.if-self.false in
     rw (← c.self.view_is) (roots_images g.D.Disk _ k.0 k.1 g.met.D.Disk.has_its_bytes c.prepare_root.new.self (c.prepare_root.ensures.any_moment k.0.now.checkpoint k.0.now.former w.stands.roots))
 
-pub returns-in-Err-WrongPhase-clause-images : goal.returns-in-Err-WrongPhase-clause-images
-returns-in-Err-WrongPhase-clause-images g c honest =
-    let k = c.self.invariant.stands honest in
-    let w = k.1.works c.if-self.false in
-    rw (← c.self.view_is) (roots_images g.D.Disk _ k.0 k.1 g.met.D.Disk.has_its_bytes c.prepare_root.new.self (c.prepare_root.ensures.any_moment k.0.now.checkpoint k.0.now.former w.stands.roots))
-
-pub returns-in-Err-Refused-clause-images : goal.returns-in-Err-Refused-clause-images
-returns-in-Err-Refused-clause-images g c honest =
+pub returns-in-Err-clause-images : goal.returns-in-Err-clause-images
+returns-in-Err-clause-images g c honest =
     let k = c.self.invariant.stands honest in
     let w = k.1.works c.if-self.false in
     rw (← c.self.view_is) (roots_images g.D.Disk _ k.0 k.1 g.met.D.Disk.has_its_bytes c.prepare_root.new.self (c.prepare_root.ensures.any_moment k.0.now.checkpoint k.0.now.former w.stands.roots))
@@ -53,18 +49,27 @@ invariant_of-self g c = record {
       );
 }
 
-pub invariant_of-self-in-Err-Refused : goal.invariant_of-self-in-Err-Refused
-invariant_of-self-in-Err-Refused g c = record {
-  lawful = c.self.invariant.lawful;
-  few = c.self.invariant.few;
-  room = c.self.invariant.room;
-  journal = λ no. absurd (true≢false no);
-  words = λ no. absurd (true≢false no);
-  checkpointer = λ no. absurd (true≢false no);
-  sealed = λ rooting. c.self.invariant.sealed (subst (λ (p : Phase). is_rooting p ≡ true) c.in-Err-Refused.ensures.refused_phase rooting);
-  stands = λ honest.
-      let k = c.self.invariant.stands honest in
-      let works : c.self.inside.is_broken ≡ false = c.if-self.false in
-      let w = k.1.works works in
-      (k.0, rooting_failed g.D.Disk _ k.0 k.1 g.met.D.Disk.has_its_bytes c.prepare_root.new.self (c.prepare_root.ensures.any_moment k.0.now.checkpoint k.0.now.former w.stands.roots));
-}
+pub invariant_of-self-in-Err : goal.invariant_of-self-in-Err
+invariant_of-self-in-Err g c =
+    sound_by g.D.Disk _ c.prepare_root.new.self c.self.inside.detector.words (Unit {0}) _ c.self.invariant _ c.self.inside.checkpointer.phase c.in-Err.fault c.not_made.new.is_broken c.if-self.false c.not_made.ensures.broken
+    c.in-Err.ensures.phase (if_wrong (Unit {0}) c.in-Err.fault (λ e. (e, refl)) c.in-Err.ensures.unchanged)
+    (of_device (Unit {0}) _ c.in-Err.fault c.in-Err.ensures.refusal) (λ lawful. record {
+      lawful = c.self.invariant.lawful;
+      few = c.self.invariant.few;
+      room = c.self.invariant.room;
+      journal = λ no. absurd (true≢false no);
+      words = λ no. absurd (true≢false no);
+      checkpointer = λ no. absurd (true≢false no);
+      sealed = λ rooting. c.self.invariant.sealed (subst (λ (p : Phase). is_rooting p ≡ true) c.in-Err.ensures.refused_phase rooting);
+      stands = λ honest.
+          let k = c.self.invariant.stands honest in
+          let works : c.self.inside.is_broken ≡ false = c.if-self.false in
+          let w = k.1.works works in
+          (k.0, rooting_failed g.D.Disk _ k.0 k.1 g.met.D.Disk.has_its_bytes c.prepare_root.new.self (c.prepare_root.ensures.any_moment k.0.now.checkpoint k.0.now.former w.stands.roots));
+    })
+
+pub returns-in-Err-clause-done : goal.returns-in-Err-clause-done
+returns-in-Err-clause-done g c =
+    rw (← c.self.view_is) (step_not_made g.D.Disk _ c.prepare_root.new.self c.self.inside.detector.words (Unit {0}) (Unit {0}) _ c.self.invariant _ phase.Prepared c.self.inside.checkpointer.phase c.in-Err.fault c.not_made.result c.phase_now-phase.result c.not_made.new.is_broken c.if-self.false
+    c.not_made.ensures.told (c.phase_now-phase.ensures ∙ ap (λ (s : ShownStore g.row.D.Denot). phase_of s) (sym c.self.view_is)) c.not_made.ensures.broken
+    c.in-Err.ensures.phase (if_wrong (Unit {0}) c.in-Err.fault (λ e. (e, refl)) c.in-Err.ensures.unchanged) (of_device (Unit {0}) _ c.in-Err.fault c.in-Err.ensures.refusal))
