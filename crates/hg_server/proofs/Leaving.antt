@@ -25,7 +25,7 @@ module _ {D : Type 0} (g : disk.Ghosts D) where
       → (told ≡ fault.Broken → IsTrue has_failed) → IsToldTruly g old new told
   told_truly old mid new has_failed told failed more is broken = let less = failed (is broken) in omega (arith, less, more)
 
-  -- the same of the devices before the store was opened, of which no call failed meanwhile
+  -- why serving ended early, by the devices before the store was opened, of which no call failed meanwhile
   pub serve_cause : (old start new : Devices D) (r : Refusal) → failures_of g start ≡ failures_of g old → IsServingFault g start new r → HasServeCause g old new r
   serve_cause old start new r same (inl is) = let less = is.1 in inr (inl (is.0, omega (arith, same, less)))
   serve_cause old start new r same (inr is) = inr (inr is)

@@ -21,15 +21,15 @@ use Rattle.hg_store.specs.Refusals.{IsTrueOf}
 use Rattle.hg_server.specs.declared.fault.ServingFault.{ServingFault}
 use Rattle.hg_server.specs.declared.fault.ServingFault.TheVariants as fault
 use Rattle.hg_server.specs.declared.serving.Outcome.{Outcome}
-use Rattle.hg_server.specs.declared.serving.Plan.{Plan}
+use Rattle.hg_server.specs.declared.settings.Settings.{Settings}
 
 -- how many connections were served, and the end line of a store with this content
 abbrev pub served_text : ℕ → Content → List ℕ
 served_text connections c = number_text (codes "served ") connections ++ line_text (counts_line c)
 
 -- all that a server prints if its store ends with this content
-abbrev pub serving_text : Plan → Content → List ℕ
-serving_text plan c = number_text (codes "ready ") plan.port ++ served_text plan.connections c
+abbrev pub serving_text : Settings → Content → List ℕ
+serving_text settings c = number_text (codes "ready ") settings.port ++ served_text settings.connections c
 
 -- the refusal of the same name
 abbrev pub refusal_of : ServingFault → Refusal
@@ -52,20 +52,24 @@ IsStatusOf (Ok store) status = status ≡ 0
 IsStatusOf (Err devices) status = status ≡ 3
 
 module _ {D : Type 0} (g : disk.Ghosts D) where
+  -- the end line of this store, with its line feed
+  abbrev pub end_text : ShownStore D → List ℕ
+  end_text s = line_text (counts_line (live g s))
+
   -- how many connections were served, and the end line of this store
-  abbrev pub served_by : Plan → ShownStore D → List ℕ
-  served_by plan s = served_text plan.connections (live g s)
+  abbrev pub served_by : Settings → ShownStore D → List ℕ
+  served_by settings s = served_text settings.connections (live g s)
 
   -- all that a server prints if its store ends as this one
-  abbrev pub serving_by : Plan → ShownStore D → List ℕ
-  serving_by plan s = serving_text plan (live g s)
+  abbrev pub serving_by : Settings → ShownStore D → List ℕ
+  serving_by settings s = serving_text settings (live g s)
 
   -- On success all of `serving_by` was written, and on an error a front of it.
-  abbrev pub PrintsAllOnOk : {W T E : Type 0} → Plan → ShownStore D → (old new : Outgoing W) → Result T E → Type 0
-  PrintsAllOnOk plan s old new ended = OnOk ended (Took old.calls new.calls (serving_by plan s))
+  abbrev pub PrintsAllOnOk : {W T E : Type 0} → Settings → ShownStore D → (old new : Outgoing W) → Result T E → Type 0
+  PrintsAllOnOk settings s old new ended = OnOk ended (Took old.calls new.calls (serving_by settings s))
 
-  abbrev pub PrintsFrontOnErr : {W T E : Type 0} → Plan → ShownStore D → (old new : Outgoing W) → Result T E → Type 0
-  PrintsFrontOnErr plan s old new ended = OnErr ended (TookFront old.calls new.calls (serving_by plan s))
+  abbrev pub PrintsFrontOnErr : {W T E : Type 0} → Settings → ShownStore D → (old new : Outgoing W) → Result T E → Type 0
+  PrintsFrontOnErr settings s old new ended = OnErr ended (TookFront old.calls new.calls (serving_by settings s))
 
   -- If the store `s` went on from its opening, so did the store `t` after it.
   abbrev pub StillWentOn : List (Devices D) → ShownStore D → List (Devices D) → ShownStore D → Type 0
@@ -98,8 +102,8 @@ module _ {D : Type 0} (g : disk.Ghosts D) where
     pub kept : EachImageAlong g opened moments new (IsOn first last)
 
   -- A server that came to its end: all was printed, and each accepted event is durable.
-  pub record EndsWell (plan : Plan) (old : Devices D) (moments : List (Devices D)) (store : ShownStore D) (calls_old calls_new : List WriteCall) : Type 0 where
-    pub printed : Took calls_old calls_new (serving_text plan (live g store))
+  pub record EndsWell (settings : Settings) (old : Devices D) (moments : List (Devices D)) (store : ShownStore D) (calls_old calls_new : List WriteCall) : Type 0 where
+    pub printed : Took calls_old calls_new (serving_text settings (live g store))
     pub served : IsTrue g.is_honest → Served old moments store.devices (live g store)
     pub settled : IsTrue g.is_honest → IsSettled store
     pub works : store.is_broken ≡ false
@@ -109,31 +113,31 @@ module _ {D : Type 0} (g : disk.Ghosts D) where
   HasServeCause old new r = (IsTrueOf g old r × CountedBy r (failures_of g old) (failures_of g new)) ⊎ IsServingFault old new r
 
   -- Nothing was written, and the devices were only looked at; or a front of what is due for the last content was written.
-  abbrev pub WroteServing : Plan → Devices D → List (Devices D) → Devices D → List WriteCall → List WriteCall → Type 0
-  WroteServing plan old moments new calls_old calls_new =
+  abbrev pub WroteServing : Settings → Devices D → List (Devices D) → Devices D → List WriteCall → List WriteCall → Type 0
+  WroteServing settings old moments new calls_old calls_new =
       ((calls_new ≡ calls_old) × (IsTrue g.is_honest → Recovers g old new))
-      ⊎ ((last : Content) × ((IsTrue g.is_honest → Served old moments new last) × TookFront calls_old calls_new (serving_text plan last)))
+      ⊎ ((last : Content) × ((IsTrue g.is_honest → Served old moments new last) × TookFront calls_old calls_new (serving_text settings last)))
 
   -- A server ended early. There was a cause; it was told, or telling it failed; and what stands and was written is as far as it came.
-  abbrev pub EndsEarly : Plan → Devices D → List (Devices D) → Devices D → List WriteCall → List WriteCall → List WriteCall → List WriteCall → Type 0
-  EndsEarly plan old moments new calls_old calls_new faults_old faults_new =
-      (r : Refusal) × (HasServeCause old new r × (IsTold faults_old faults_new r × WroteServing plan old moments new calls_old calls_new))
+  abbrev pub EndsEarly : Settings → Devices D → List (Devices D) → Devices D → List WriteCall → List WriteCall → List WriteCall → List WriteCall → Type 0
+  EndsEarly settings old moments new calls_old calls_new faults_old faults_new =
+      (r : Refusal) × (HasServeCause old new r × (IsTold faults_old faults_new r × WroteServing settings old moments new calls_old calls_new))
 
   -- With a store the server came to its end.
-  abbrev pub EndsWellOnOk : {W E : Type 0} → Plan → Devices D → List (Devices D) → (old new : Outgoing W) → Result (ShownStore D) E → Type 0
-  EndsWellOnOk plan devices moments old new ended = IfOk ended (λ s. EndsWell plan devices moments s old.calls new.calls)
+  abbrev pub EndsWellOnOk : {W E : Type 0} → Settings → Devices D → List (Devices D) → (old new : Outgoing W) → Result (ShownStore D) E → Type 0
+  EndsWellOnOk settings devices moments old new ended = IfOk ended (λ s. EndsWell settings devices moments s old.calls new.calls)
 
   -- Without one, what was written.
-  abbrev pub WroteServingOnErr : {W S : Type 0} → Plan → Devices D → List (Devices D) → (old new : Outgoing W) → Result S (Refusal × Devices D) → Type 0
-  WroteServingOnErr plan devices moments old new ended = IfErr ended (λ e. WroteServing plan devices moments e.1 old.calls new.calls)
+  abbrev pub WroteServingOnErr : {W S : Type 0} → Settings → Devices D → List (Devices D) → (old new : Outgoing W) → Result S (Refusal × Devices D) → Type 0
+  WroteServingOnErr settings devices moments old new ended = IfErr ended (λ e. WroteServing settings devices moments e.1 old.calls new.calls)
 
 -- For the command, which prints to one output and tells its faults on another.
 module _ {D W V : Type 0} (g : disk.Ghosts D) where
   -- With a store the server came to its end.
-  abbrev pub ServesWell : Plan → Devices D → (before after : Outputs W V) → Outcome D → Type 0
-  ServesWell plan devices before after outcome = EndsWellOnOk g plan devices outcome.moments before.output after.output outcome.ended
+  abbrev pub ServesWell : Settings → Devices D → (before after : Outputs W V) → Outcome D → Type 0
+  ServesWell settings devices before after outcome = EndsWellOnOk g settings devices outcome.moments before.output after.output outcome.ended
 
   -- Without one it ended early.
-  abbrev pub StopsEarly : Plan → Devices D → (before after : Outputs W V) → Outcome D → Type 0
-  StopsEarly plan devices before after outcome =
-      IfErr outcome.ended (λ left. EndsEarly g plan devices outcome.moments left before.output.calls after.output.calls before.faults.calls after.faults.calls)
+  abbrev pub StopsEarly : Settings → Devices D → (before after : Outputs W V) → Outcome D → Type 0
+  StopsEarly settings devices before after outcome =
+      IfErr outcome.ended (λ left. EndsEarly g settings devices outcome.moments left before.output.calls after.output.calls before.faults.calls after.faults.calls)

@@ -1,18 +1,19 @@
 //! The server: a listener, and workers in threads of their own.
 
-ghost use Rattle.std.specs.Prelude.{◌≡◌, ◌≤◌, Some, IfErr, IsTrue, OnOk, false};
-ghost use Rattle.hg_store.specs.Images.{failures_of};
+ghost use Rattle.std.specs.Prelude.{◌≡◌, Some, IfErr, IsTrue, OnOk, false};
 ghost use Rattle.hg_store.specs.Shown.{live};
 ghost use Rattle.hg_streams.specs.Faults.{IsStreamFault};
 ghost use Rattle.hg_store.specs.Limits.{IsFrameCount};
 ghost use Rattle.hg_desk.specs.Blanks.{IsBlankOf};
 ghost use Rattle.hg_desk.specs.Going.{FailedSince, WentOn, WentOnSince, began};
-ghost use Rattle.hg_server.specs.Serving.{AddsFrontOnErr, AddsOnOk, EndsWellOnOk, HasServeCause, IsServingFault, IsSettled, IsStatusOf, IsToldTruly, PrintsAllOnOk, PrintsFrontOnErr, ServesWell, StillWentOn, StopsEarly, WroteServingOnErr, served_by};
+ghost use Rattle.hg_server.specs.Serving.{AddsFrontOnErr, AddsOnOk, EndsWellOnOk, HasServeCause, IsServingFault, IsSettled, IsStatusOf, IsToldTruly, PrintsAllOnOk, PrintsFrontOnErr, ServesWell, StopsEarly, WroteServingOnErr, served_by};
 
+use crate::accepting::accept_all;
 use crate::ending::hold_end_line;
 use crate::fault::ServingFault;
+use crate::settings::Settings;
+use crate::settling::settle;
 use crate::worker::{Gate, Seat, worker};
-use crossbeam_channel::Sender;
 use hg_desk::moment::Moment;
 use hg_desk::share::{Column, Opening, Share};
 use hg_desk::shared::{Shared, TakenIn, gather};
@@ -22,91 +23,24 @@ use hg_store::devices::{Caps, Devices};
 use hg_store::store::Store;
 use hg_streams::output::{Output, Outputs};
 use hg_streams::printing::{print_now, print_number};
-use hg_streams::telling::tell;
+use hg_streams::telling::end_by_fault;
 use hg_trail::Trail;
 use std::alloc::{AllocError, Global};
-use std::io::{ErrorKind, Write};
+use std::io::Write;
 use std::marker::Brand;
-use std::net::{TcpListener, TcpStream};
+use std::net::TcpListener;
 use std::sync::Wait;
 use std::sync::ledger::Blank;
+use std::thread;
 use std::thread::Threads;
-use std::time::{Clock, Duration};
-use std::{io, thread};
-
-/// How a server runs.
-#[derive(Clone, Copy, Drop)]
-pub struct Plan {
-    /// The port that the listener has, which is printed.
-    pub port: u16,
-    /// How many pages may be in memory: 4 to 4,096.
-    pub frames: u16,
-    /// How many connections are taken.
-    pub connections: u16,
-    /// How many workers hold conversations.
-    pub workers: u16,
-    /// How long a client may say nothing before its connection ends, or for ever.
-    pub silence: Option<Duration>,
-}
+use std::time::Clock;
 
 /// Where a server takes its connections, how it runs, and what its workers ask between two holds of the lock.
 #[derive(Drop)]
 pub struct Door<'a, G> {
     pub listener: &'a TcpListener,
-    pub plan: Plan,
+    pub settings: Settings,
     pub gate: &'a G,
-}
-
-/// How long one write of replies may wait with no byte taken, in seconds.
-const WRITE_SECONDS: u64 = 30;
-
-/// How long the server waits before it listens on, where the system had no room for a connection, in milliseconds.
-const PAUSE_MILLISECONDS: u64 = 10;
-
-/// How often it does so in a row before it gives up: for ten seconds.
-const MOST_PAUSES: u16 = 1_000;
-
-/// Makes a connection ready for a worker.
-fn prepare(stream: &TcpStream, plan: Plan) -> io::Result<()> {
-    stream.set_nodelay(true)?;
-    stream.set_read_timeout(plan.silence)?;
-    stream.set_write_timeout(Some(Duration::from_secs(WRITE_SECONDS)))
-}
-
-/// Takes the next connection from the listener. `None` says that it ended before it was taken; it counts.
-fn accept<R: Clock>(rt: &R, listener: &TcpListener) -> Result<Option<TcpStream>, Refusal> {
-    for _ in 0..MOST_PAUSES {
-        match listener.accept() {
-            Ok((stream, _)) => return Ok(Some(stream)),
-            Err(error) => match error.kind() {
-                ErrorKind::Interrupted => {}
-                ErrorKind::ConnectionAborted => return Ok(None),
-                _ => thread::sleep(rt, Duration::from_millis(PAUSE_MILLISECONDS)),
-            },
-        }
-    }
-    Err(Refusal::DeviceFault)
-}
-
-/// Takes connections from the listener, and hands each to the workers. A connection that fails counts as taken. Tells whether all were
-/// taken.
-fn accept_all<R: Clock + Wait>(
-    rt: &R,
-    listener: &TcpListener,
-    plan: Plan,
-    to: Sender<TcpStream>,
-) -> bool {
-    for _ in 0..plan.connections {
-        let Ok(accepted) = accept(rt, listener) else {
-            return false;
-        };
-        if let Some(stream) = accepted {
-            if prepare(&stream, plan).is_ok() {
-                let _ = to.send(rt, stream);
-            }
-        }
-    }
-    true
 }
 
 /// Runs the workers until the connections are served: their shares, and whether all connections were taken.
@@ -128,7 +62,7 @@ fn run_workers<
     };
     let queue = &from;
     let listener = door.listener;
-    let plan = door.plan;
+    let settings = door.settings;
     let gate = door.gate;
     thread::join(
         rt,
@@ -150,7 +84,7 @@ fn run_workers<
                 },
             )
         },
-        move || accept_all(rt, listener, plan, to),
+        move || accept_all(rt, listener, settings, to),
     )
 }
 
@@ -168,60 +102,6 @@ fn take_in<D: Disk, A: Opening, B: Column>(
     match gather(shares, shared) {
         Ok(taken_in) => (taken_in, Ok(())),
         Err((_, shared, _)) => (shared.into_store(), Err(AllocError)),
-    }
-}
-
-/// How a failed commit is told: `Broken` where a device had failed before for a client, who was told; else as a device fault of the server.
-fn commit_fault(refusal: Refusal, has_failed: bool) -> ServingFault
-    ensures { result ≡ ServingFault.Broken → IsTrue has_failed }
-{
-    if has_failed && refusal == Refusal::Broken {
-        return ServingFault::Broken;
-    }
-    ServingFault::DeviceFault
-}
-
-/// Makes all accepted events of a store durable.
-fn commit_all<D: Disk>(
-    store: &mut Store<D>,
-    moments: &mut Trail<Moment<D>>,
-    has_failed: bool,
-) -> Result<(), ServingFault>
-    ensures went { StillWentOn ⟦<D as Disk>⟧ moments.old store.old moments.new store.new }
-    ensures device { failures_of ⟦<D as Disk>⟧ store.old.devices ≤ failures_of ⟦<D as Disk>⟧ store.new.devices }
-    ensures works { OnOk result (store.new.is_broken ≡ false) }
-    ensures settled { OnOk result (IsTrue D.is_honest → IsSettled ⟦<D as Disk>⟧ store.new) }
-    ensures broken { IfErr result (λ fault. fault ≡ ServingFault.Broken → IsTrue has_failed) }
-{
-    store.stands();
-    moments.push(Moment::of(&*store));
-    let committed = store.commit();
-    store.stands();
-    match committed {
-        Ok(_) => Ok(()),
-        Err(refusal) => Err(commit_fault(refusal, has_failed)),
-    }
-}
-
-/// Makes all accepted events of a store durable, where the workers were taken in. `are_all_taken` is false where the listener failed.
-fn settle<D: Disk>(
-    store: &mut Store<D>,
-    moments: &mut Trail<Moment<D>>,
-    has_failed: bool,
-    taken_in: Result<(), AllocError>,
-    are_all_taken: bool,
-) -> Result<(), ServingFault>
-    ensures went { StillWentOn ⟦<D as Disk>⟧ moments.old store.old moments.new store.new }
-    ensures device { failures_of ⟦<D as Disk>⟧ store.old.devices ≤ failures_of ⟦<D as Disk>⟧ store.new.devices }
-    ensures works { OnOk result (store.new.is_broken ≡ false) }
-    ensures settled { OnOk result (IsTrue D.is_honest → IsSettled ⟦<D as Disk>⟧ store.new) }
-    ensures broken { IfErr result (λ fault. fault ≡ ServingFault.Broken → IsTrue has_failed) }
-{
-    taken_in?;
-    commit_all(store, moments, has_failed)?;
-    match are_all_taken {
-        true => Ok(()),
-        false => Err(ServingFault::DeviceFault),
     }
 }
 
@@ -253,8 +133,8 @@ fn serve_by<
     durable: Blank,
     door: &Door<G>,
 ) -> Service<D, ServingFault>
-    requires accepted { IsBlankOf A.name A.parts door.now.plan.workers accepted }
-    requires durable { IsBlankOf B.name B.parts door.now.plan.workers durable }
+    requires accepted { IsBlankOf A.name A.parts door.now.settings.workers accepted }
+    requires durable { IsBlankOf B.name B.parts door.now.settings.workers durable }
     requires opening { ((live ⟦<D as Disk>⟧ store).events ≡ A.opening) × (store.durable ≡ B.opening) }
     requires start { A.start ≡ Some (began ⟦<D as Disk>⟧ store) }
     ensures went { WentOn ⟦<D as Disk>⟧ (began ⟦<D as Disk>⟧ store) result.moments result.store }
@@ -262,7 +142,7 @@ fn serve_by<
     ensures settled { OnOk result.ended (IsTrue D.is_honest → IsSettled ⟦<D as Disk>⟧ result.store) }
     ensures cause { IfErr result.ended (IsToldTruly ⟦<D as Disk>⟧ store.devices result.store.devices) }
 {
-    let count = usize::from(door.plan.workers);
+    let count = usize::from(door.settings.workers);
     store.stands();
     let (shared, shares) = match Shared::<D, A, B>::new(alloc, store, accepted, durable, count) {
         Ok(opened) => opened,
@@ -295,35 +175,19 @@ fn serve_by<
     }
 }
 
-/// The same with books that are opened here.
-fn serve_over<D: Disk + Send + Drop, G: Gate + Sync, R: Threads + Wait + Clock + Sync>(
-    rt: &R,
-    alloc: Global,
-    store: Store<D>,
-    door: &Door<G>,
-) -> Service<D, ServingFault>
-    ensures went { WentOn ⟦<D as Disk>⟧ (began ⟦<D as Disk>⟧ store) result.moments result.store }
-    ensures works { OnOk result.ended (result.store.is_broken ≡ false) }
-    ensures settled { OnOk result.ended (IsTrue D.is_honest → IsSettled ⟦<D as Disk>⟧ result.store) }
-    ensures cause { IfErr result.ended (IsToldTruly ⟦<D as Disk>⟧ store.devices result.store.devices) }
-{
-    let parts = u64::from(door.plan.workers);
-    serve_by::<D, Brand, Brand, G, R>(rt, alloc, store, Blank::new(parts), Blank::new(parts), door)
-}
-
 /// Prints what a server prints at its end.
 fn print_end<D: Disk, W: Write>(
     alloc: Global,
     store: &Store<D>,
-    plan: Plan,
+    settings: Settings,
     output: &mut Output<W>,
 ) -> Result<(), Refusal>
     requires works { store.now.is_broken ≡ false }
-    ensures printed { AddsOnOk output.old output.new (served_by ⟦<D as Disk>⟧ plan store.now) result }
-    ensures front { AddsFrontOnErr output.old output.new (served_by ⟦<D as Disk>⟧ plan store.now) result }
+    ensures printed { AddsOnOk output.old output.new (served_by ⟦<D as Disk>⟧ settings store.now) result }
+    ensures front { AddsFrontOnErr output.old output.new (served_by ⟦<D as Disk>⟧ settings store.now) result }
     ensures cause { IfErr result IsStreamFault }
 {
-    print_number(b"served ", u64::from(plan.connections), output)?;
+    print_number(b"served ", u64::from(settings.connections), output)?;
     let mut held = Vec::new(alloc);
     hold_end_line(store, &mut held)?;
     print_now(held.as_slice(), output)?;
@@ -346,23 +210,31 @@ fn serve_and_print<
     ensures went { WentOn ⟦<D as Disk>⟧ (began ⟦<D as Disk>⟧ store) result.moments result.store }
     ensures works { OnOk result.ended (result.store.is_broken ≡ false) }
     ensures settled { OnOk result.ended (IsTrue D.is_honest → IsSettled ⟦<D as Disk>⟧ result.store) }
-    ensures printed { PrintsAllOnOk ⟦<D as Disk>⟧ door.now.plan result.store output.old output.new result.ended }
-    ensures front { PrintsFrontOnErr ⟦<D as Disk>⟧ door.now.plan result.store output.old output.new result.ended }
+    ensures printed { PrintsAllOnOk ⟦<D as Disk>⟧ door.now.settings result.store output.old output.new result.ended }
+    ensures front { PrintsFrontOnErr ⟦<D as Disk>⟧ door.now.settings result.store output.old output.new result.ended }
     ensures cause { IfErr result.ended (IsServingFault ⟦<D as Disk>⟧ store.devices result.store.devices) }
 {
     store.stands();
-    if let Err(refusal) = print_number(b"ready ", u64::from(door.plan.port), output) {
+    if let Err(refusal) = print_number(b"ready ", u64::from(door.settings.port), output) {
         return Service {
             store,
             moments: Trail::new(),
             ended: Err(refusal),
         };
     }
+    let workers = u64::from(door.settings.workers);
     let Service {
         store,
         moments,
         ended,
-    } = serve_over(rt, alloc, store, door);
+    } = serve_by::<D, Brand, Brand, G, R>(
+        rt,
+        alloc,
+        store,
+        Blank::new(workers),
+        Blank::new(workers),
+        door,
+    );
     if let Err(fault) = ended {
         return Service {
             store,
@@ -370,7 +242,7 @@ fn serve_and_print<
             ended: Err(Refusal::from(fault)),
         };
     }
-    let ended = print_end(alloc, &store, door.plan, output);
+    let ended = print_end(alloc, &store, door.settings, output);
     Service {
         store,
         moments,
@@ -391,12 +263,12 @@ fn recover_and_serve<
     door: &Door<G>,
     output: &mut Output<W>,
 ) -> (Result<Store<D>, (Refusal, Devices<D>)>, Trail<Moment<D>>)
-    requires frames { IsFrameCount door.now.plan.frames }
-    ensures well { EndsWellOnOk ⟦<D as Disk>⟧ door.now.plan devices result.1 output.old output.new result.0 }
+    requires frames { IsFrameCount door.now.settings.frames }
+    ensures well { EndsWellOnOk ⟦<D as Disk>⟧ door.now.settings devices result.1 output.old output.new result.0 }
     ensures cause { IfErr result.0 (λ e. HasServeCause ⟦<D as Disk>⟧ devices e.1 e.0) }
-    ensures wrote { WroteServingOnErr ⟦<D as Disk>⟧ door.now.plan devices result.1 output.old output.new result.0 }
+    ensures wrote { WroteServingOnErr ⟦<D as Disk>⟧ door.now.settings devices result.1 output.old output.new result.0 }
 {
-    let store = match Store::recover(alloc, devices, door.plan.frames, Caps::profile()) {
+    let store = match Store::recover(alloc, devices, door.settings.frames, Caps::profile()) {
         Ok(store) => store,
         Err(refused) => return (Err(refused), Trail::new()),
     };
@@ -442,11 +314,11 @@ pub fn serve<
     door: &Door<G>,
     outputs: &mut Outputs<W, V>,
 ) -> Outcome<D>
-    requires frames { IsFrameCount door.now.plan.frames }
+    requires frames { IsFrameCount door.now.settings.frames }
     ensures status { IsStatusOf result.ended result.status }
-    ensures well { ServesWell ⟦<D as Disk>⟧ door.now.plan devices outputs.old outputs.new result }
+    ensures well { ServesWell ⟦<D as Disk>⟧ door.now.settings devices outputs.old outputs.new result }
     ensures quiet { OnOk result.ended (outputs.new.faults.calls ≡ outputs.old.faults.calls) }
-    ensures early { StopsEarly ⟦<D as Disk>⟧ door.now.plan devices outputs.old outputs.new result }
+    ensures early { StopsEarly ⟦<D as Disk>⟧ door.now.settings devices outputs.old outputs.new result }
 {
     let (ended, moments) = recover_and_serve(rt, alloc, devices, door, &mut outputs.output);
     match ended {
@@ -456,9 +328,9 @@ pub fn serve<
             moments,
         },
         Err((refusal, devices)) => {
-            tell(refusal, &mut outputs.faults);
+            let status = end_by_fault(refusal, &mut outputs.faults);
             Outcome {
-                status: 3,
+                status,
                 ended: Err(devices),
                 moments,
             }

@@ -12,6 +12,7 @@ use hg_protocol::feed::Feed;
 use hg_protocol::frame::Frame;
 use hg_protocol::put::put_reply;
 use hg_protocol::reply::Reply;
+use hg_streams::streams::PIECE_BYTES;
 use std::alloc::Global;
 use std::io::{ErrorKind, Read, Write};
 use std::mem::replace;
@@ -31,7 +32,7 @@ pub enum Pass {
     Stop,
 }
 
-/// Is asked between two holds of the lock. Tests order threads by it.
+/// Is asked between two holds of the lock, and may stop the thread that asks.
 pub trait Gate {
     fn at(&self, point: Point) -> Pass;
 }
@@ -45,9 +46,6 @@ impl Gate for OpenGate {
         Pass::Go
     }
 }
-
-/// How many bytes are read at once, and from how many bytes on replies are written out before the next frame is answered.
-const PIECE_BYTES: usize = 65_536;
 
 /// What becomes of a connection, and of its worker.
 #[derive(Clone, Copy, PartialEq, Eq, Drop)]

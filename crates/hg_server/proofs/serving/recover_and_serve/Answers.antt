@@ -29,7 +29,7 @@ returns-in-Ok-ended-clause-well g c =
     let now = c.serve_and_print-store.result.store in
     let moments = c.serve_and_print-store.result.moments in
     record {
-      printed = subst (λ r. OnOk r (Took c.args.output.now.calls c.serve_and_print-store.new.output.calls (serving_text c.args.door.now.plan (live g.D.Disk now)))) c.in-Ok-ended.is c.serve_and_print-store.ensures.printed;
+      printed = subst (λ r. OnOk r (Took c.args.output.now.calls c.serve_and_print-store.new.output.calls (serving_text c.args.door.now.settings (live g.D.Disk now)))) c.in-Ok-ended.is c.serve_and_print-store.ensures.printed;
       served = served g.D.Disk c.args.devices start now moments c.serve_and_print-store.ensures.went (λ honest. c.in-Ok.ensures.content honest) (λ honest. c.in-Ok.ensures.images honest);
       settled = subst (λ r. OnOk r (IsTrue g.D.Disk.is_honest → IsSettled g.D.Disk now)) c.in-Ok-ended.is c.serve_and_print-store.ensures.settled;
       works = subst (λ r. OnOk r (now.is_broken ≡ false)) c.in-Ok-ended.is c.serve_and_print-store.ensures.works;
@@ -40,11 +40,11 @@ returns-in-Err-ended-clause-wrote g c =
     let start = c.in-Ok.store in
     let now = c.serve_and_print-store.result.store in
     let moments = c.serve_and_print-store.result.moments in
-    subst (λ d. WroteServing g.D.Disk c.args.door.now.plan c.args.devices moments d c.args.output.now.calls c.serve_and_print-store.new.output.calls) (sym c.into_devices.ensures)
+    subst (λ d. WroteServing g.D.Disk c.args.door.now.settings c.args.devices moments d c.args.output.now.calls c.serve_and_print-store.new.output.calls) (sym c.into_devices.ensures)
     (inr (
       live g.D.Disk now,
       (
         served g.D.Disk c.args.devices start now moments c.serve_and_print-store.ensures.went (λ honest. c.in-Ok.ensures.content honest) (λ honest. c.in-Ok.ensures.images honest),
-        subst (λ r. OnErr r (TookFront c.args.output.now.calls c.serve_and_print-store.new.output.calls (serving_text c.args.door.now.plan (live g.D.Disk now)))) c.in-Err-ended.is c.serve_and_print-store.ensures.front,
+        subst (λ r. OnErr r (TookFront c.args.output.now.calls c.serve_and_print-store.new.output.calls (serving_text c.args.door.now.settings (live g.D.Disk now)))) c.in-Err-ended.is c.serve_and_print-store.ensures.front,
       ),
     ))

@@ -31,19 +31,19 @@ returns-in-Err-clause-cause g c = inr (inl c.in-Err.ensures.cause)
 pub returns-in-Err-ended-clause-cause : goal.returns-in-Err-ended-clause-cause
 returns-in-Err-ended-clause-cause g c =
     let old = c.args.store.devices in
-    let new = c.serve_over-store.result.store.devices in
-    let truly = IfErr-at_err (IsToldTruly g.D.Disk old new) c.in-Err-ended.is c.serve_over-store.ensures.cause in
+    let new = c.serve_by-store.result.store.devices in
+    let truly = IfErr-at_err (IsToldTruly g.D.Disk old new) c.in-Err-ended.is c.serve_by-store.ensures.cause in
     subst (λ (r : Refusal). IsServingFault g.D.Disk old new r) (sym c.from-in-Err-ended.ensures) (of_fault g.D.Disk old new c.in-Err-ended.fault truly)
 
 pub returns-clause-cause : goal.returns-clause-cause
 returns-clause-cause g c =
-    if_err_weaker IsStreamFault (IsServingFault g.D.Disk c.args.store.devices c.serve_over-store.result.store.devices) c.print_end-ended.result told c.print_end-ended.ensures.cause where
-      told : (r : Refusal) → IsStreamFault r → IsServingFault g.D.Disk c.args.store.devices c.serve_over-store.result.store.devices r
+    if_err_weaker IsStreamFault (IsServingFault g.D.Disk c.args.store.devices c.serve_by-store.result.store.devices) c.print_end-ended.result told c.print_end-ended.ensures.cause where
+      told : (r : Refusal) → IsStreamFault r → IsServingFault g.D.Disk c.args.store.devices c.serve_by-store.result.store.devices r
       told r (inl is) = inr (inr is)
       told r (inr is) = inr (inl is)
 
 pub returns-clause-went : goal.returns-clause-went
-returns-clause-went g c = c.serve_over-store.ensures.went
+returns-clause-went g c = c.serve_by-store.ensures.went
 
 took_ready : (old new : List WriteCall) (n m : ℕ) → n ≡ m → Took old new (number_text (codes "ready ") n) → Took old new (number_text (codes "ready ") m)
 took_ready old new n m same = subst (λ (k : ℕ). Took old new (number_text (codes "ready ") k)) same
@@ -54,38 +54,38 @@ returns-in-Err-clause-went g c =
 
 pub returns-in-Err-clause-front : goal.returns-in-Err-clause-front
 returns-in-Err-clause-front g c =
-    let plan = c.args.door.now.plan in
-    let line : List ℕ = number_text (codes "ready ") plan.port in
+    let settings = c.args.door.now.settings in
+    let line : List ℕ = number_text (codes "ready ") settings.port in
     let old = c.args.output.now.calls in
     let new = c.print_number.new.output.calls in
-    front_more old new line (served_text plan.connections (live g.D.Disk c.args.store)) (serving_text plan (live g.D.Disk c.args.store)) refl
+    front_more old new line (served_text settings.connections (live g.D.Disk c.args.store)) (serving_text settings (live g.D.Disk c.args.store)) refl
     (printed_front old new line (subst (λ (k : ℕ). IsPrintedNow old new (number_text (codes "ready ") k)) c.from.ensures c.print_number.ensures.calls))
 
 pub returns-in-Err-ended-clause-front : goal.returns-in-Err-ended-clause-front
 returns-in-Err-ended-clause-front g c =
-    let plan = c.args.door.now.plan in
-    let line : List ℕ = number_text (codes "ready ") plan.port in
+    let settings = c.args.door.now.settings in
+    let line : List ℕ = number_text (codes "ready ") settings.port in
     let old = c.args.output.now.calls in
     let mid = c.print_number.new.output.calls in
-    let last = live g.D.Disk c.serve_over-store.result.store in
-    front_more old mid line (served_text plan.connections last) (serving_text plan last) refl
-    (took_front old mid line (took_ready old mid c.from.result plan.port c.from.ensures c.in_default.ensures.printed))
+    let last = live g.D.Disk c.serve_by-store.result.store in
+    front_more old mid line (served_text settings.connections last) (serving_text settings last) refl
+    (took_front old mid line (took_ready old mid c.from.result settings.port c.from.ensures c.in_default.ensures.printed))
 
 pub returns-clause-printed : goal.returns-clause-printed
 returns-clause-printed g c =
-    let plan = c.args.door.now.plan in
+    let settings = c.args.door.now.settings in
     let old = c.args.output.now.calls in
     let mid = c.print_number.new.output.calls in
-    let last = live g.D.Disk c.serve_over-store.result.store in
+    let last = live g.D.Disk c.serve_by-store.result.store in
     on_ok_weaker c.print_end-ended.result
-    (λ printed. appends_on old mid c.print_end-ended.new.output.calls (number_text (codes "ready ") plan.port) (served_text plan.connections last)
-    (took_ready old mid c.from.result plan.port c.from.ensures c.in_default.ensures.printed) printed)
+    (λ printed. appends_on old mid c.print_end-ended.new.output.calls (number_text (codes "ready ") settings.port) (served_text settings.connections last)
+    (took_ready old mid c.from.result settings.port c.from.ensures c.in_default.ensures.printed) printed)
     c.print_end-ended.ensures.printed
 
 pub returns-clause-front : goal.returns-clause-front
 returns-clause-front g c =
-    let plan = c.args.door.now.plan in
+    let settings = c.args.door.now.settings in
     let old = c.args.output.now.calls in
     let mid = c.print_number.new.output.calls in
-    c.print_end-ended.ensures.front old (number_text (codes "ready ") plan.port)
-    (took_ready old mid c.from.result plan.port c.from.ensures c.in_default.ensures.printed)
+    c.print_end-ended.ensures.front old (number_text (codes "ready ") settings.port)
+    (took_ready old mid c.from.result settings.port c.from.ensures c.in_default.ensures.printed)

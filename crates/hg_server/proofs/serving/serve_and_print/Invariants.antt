@@ -1,7 +1,7 @@
 use Rattle.std.specs.Prelude.{Some}
 use Rattle.hg_store.specs.Shown.{live}
 use Rattle.hg_desk.specs.Going.{began}
-use Rattle.hg_server.proofs.serving.serve_over.Given as goal
+use Rattle.hg_server.proofs.serving.serve_and_print.Given as goal
 
 abbrev pub ghosts-serve_by-A-Ledger : goal.ghosts-serve_by-A-Ledger
 ghosts-serve_by-A-Ledger g a = record { name = a.accepted.name; parts = a.accepted.parts }

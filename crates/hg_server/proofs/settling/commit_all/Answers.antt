@@ -5,7 +5,7 @@ use Rattle.hg_pool.specs.Shown as pool
 use Rattle.hg_store.specs.declared.steps.Step.TheVariants.{Commit}
 use Rattle.hg_store.specs.declared.steps.StepResult.TheVariants.{Committed}
 use Rattle.hg_desk.proofs.Going.{step_went}
-use Rattle.hg_server.proofs.serving.commit_all.Goals as goal
+use Rattle.hg_server.proofs.settling.commit_all.Goals as goal
 
 pub returns-in-Ok-clause-went : goal.returns-in-Ok-clause-went
 returns-in-Ok-clause-went g c start went =

@@ -1,0 +1,18 @@
+//! What is asked of a server.
+
+use std::time::Duration;
+
+/// How a server runs.
+#[derive(Clone, Copy, Drop)]
+pub struct Settings {
+    /// The port that the listener has, which is printed.
+    pub port: u16,
+    /// How many pages may be in memory: 4 to 4,096.
+    pub frames: u16,
+    /// How many connections are taken.
+    pub connections: u16,
+    /// How many workers hold conversations.
+    pub workers: u16,
+    /// How long a client may say nothing before its connection ends, or for ever.
+    pub silence: Option<Duration>,
+}
