@@ -11,14 +11,12 @@ use crate::moment::Moment;
 use hg_checkpoint::Cause;
 use hg_disk::Disk;
 use hg_model::verdict::Refusal;
+use hg_store::devices::MOST_SLOTS;
 use hg_store::steps::{EncodedPage, Put, StepFault};
 use hg_store::store::Store;
 use hg_streams::output::Output;
 use std::alloc::Global;
 use std::snapshot::Snapshot;
-
-/// The most pages that are written for one checkpoint: as many as there may be slots.
-const MOST_PAGES: u32 = 1 << 20;
 
 /// The refusal that ends feeding where a step of a checkpoint was not made. The steps come in their order, so that no phase is wrong.
 fn refusal_of(fault: StepFault) -> Refusal
@@ -98,7 +96,7 @@ impl<D: Disk, W> Feeding<D, W> {
         Ok(true)
     }
 
-    /// Writes the pages of the frozen words.
+    /// Writes the pages of the frozen words. They are at most as many as there may be slots.
     fn write_pages(&mut self, output: &Output<W>) -> Result<(), Refusal>
         ensures stays { StaysFed ⟦<D as Disk>⟧ self.old.store self.new.store result }
         ensures frozen { self.new.store.frozen ≡ self.old.store.frozen }
@@ -106,7 +104,7 @@ impl<D: Disk, W> Feeding<D, W> {
         ensures kept { StaysKept ⟦<D as Disk>⟧ self.old output.now self.new output.now }
     {
         let mut pages = 0;
-        while pages < MOST_PAGES {
+        while pages < MOST_SLOTS {
             pages += 1;
             if !self.write_page(output)? {
                 return Ok(());
