@@ -4,9 +4,8 @@ use Rattle.hg_disk.specs.declared.disk.Disk as disk
 use Rattle.hg_disk.specs.Moments.{LeavesOnly}
 use Rattle.hg_disk.specs.State.{DiskState, IsImage}
 use Rattle.hg_disk.proofs.Moments.{joined}
-use Rattle.hg_pages.specs.Files.{disk_of}
+use Rattle.hg_pages.specs.Files.{WasRead, disk_of}
 use Rattle.hg_pages.specs.declared.slot_file.SlotFile.{SlotFile}
-use Rattle.hg_checkpoint.specs.Reading.{WasRead}
 
 module _ {D : Type 0} (g : disk.Ghosts D) where
   pub read_on : (n m : ℕ) (old mid new : SlotFile D) → WasRead g n old mid → WasRead g m mid new → WasRead g (n + m) old new

@@ -4,7 +4,6 @@ pub mod Phases
 pub mod Standing
 pub mod Calls
 pub mod Laws
-pub mod Reading
 pub mod NamedPages
 pub mod Restoring
 pub mod Capturing

@@ -1,11 +1,10 @@
 //! Whether the slots of a file have the pages that a root names.
 ghost use Rattle.std.specs.Prelude.{◌≡◌, ◌≤◌, ◌+◌, ◌*◌, ◌↔◌, All, IsTrue, IsErrOf, OnOk, length};
 ghost use Rattle.hg_pages.specs.Fault.{failures_after};
-ghost use Rattle.hg_pages.specs.Files.{disk_of, is_broken, known};
+ghost use Rattle.hg_pages.specs.Files.{WasRead, disk_of, is_broken, known};
 ghost use Rattle.hg_root.specs.Checkpoints.{LieWithin};
 ghost use Rattle.hg_root.specs.Lawful.{IsLawful};
 ghost use Rattle.hg_root.specs.Roots.{parts_of};
-ghost use Rattle.hg_checkpoint.specs.Reading.{WasRead};
 ghost use Rattle.hg_checkpoint.specs.NamedPages.{HasPageIn, HasPagesOf, LacksPage, LacksPages};
 
 use hg_disk::Disk;

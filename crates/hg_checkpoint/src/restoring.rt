@@ -3,10 +3,9 @@ ghost use Rattle.std.specs.Prelude.{◌≡◌, ◌<◌, ◌≤◌, length, IfErr
 ghost use Rattle.hg_detect.specs.Engine.{AtPresent};
 ghost use Rattle.hg_detect.specs.Shown.{content};
 ghost use Rattle.hg_cells.specs.Words.{failed_after};
-ghost use Rattle.hg_pages.specs.Files.{disk_of, known};
+ghost use Rattle.hg_pages.specs.Files.{WasRead, disk_of, known};
 ghost use Rattle.hg_root.specs.Lawful.{IsLawful};
 ghost use Rattle.hg_root.specs.Roots.{IsWhole, parts_of};
-ghost use Rattle.hg_checkpoint.specs.Reading.{WasRead};
 ghost use Rattle.hg_checkpoint.specs.Restoring.{AreLimits, FitsLimits, FitsSets, IsTrueCause, NamesBeyond, RestoresContent, detector_of, failures_after, file_in};
 ghost use Rattle.hg_checkpoint.specs.NamedPages.{HasPagesOf, entries_of};
 ghost use Rattle.hg_checkpoint.specs.declared.limits.Limits.{Limits as LimitsOf};

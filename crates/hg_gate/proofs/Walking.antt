@@ -8,6 +8,7 @@ use Rattle.hg_disk.specs.State.{DiskState, IsImage}
 use Rattle.hg_disk.specs.Moments.{LeavesOnly}
 use Rattle.hg_disk.proofs.Moments.{joined}
 use Rattle.hg_gate.specs.Batches.{header, open_gate, IsBody, IsBodyLength, sized, batch, spelled, IsLog}
+use Rattle.hg_gate.specs.Reading.{WasRead}
 use Rattle.hg_gate.specs.Scan.{IsTail, IsOpen, Walked}
 use Rattle.hg_gate.proofs.Crash.{spelled_push, each_push}
 use Rattle.hg_gate.proofs.Grammar.{sized_apart}
@@ -15,6 +16,25 @@ use Rattle.hg_gate.proofs.Grammar.{sized_apart}
 -- reads, one after the other
 pub read_on : {D : Type 0} (g : disk.Ghosts D) (old mid new : D) → LeavesOnly g old mid (IsImage (g.state old)) → g.state mid ≡ g.state old → LeavesOnly g mid new (IsImage (g.state mid)) → LeavesOnly g old new (IsImage (g.state old))
 read_on {D} g old mid new one same two = joined g old mid new (IsImage (g.state old)) one (subst (λ (s : DiskState). LeavesOnly g mid new (IsImage s)) same two)
+
+module _ {D : Type 0} (g : disk.Ghosts D) where
+  -- a disk that was not called
+  pub unread : (n : ℕ) (d : D) → WasRead g n d d
+  unread n d = record {
+    state = refl;
+    any_moment = record { later = []; has_gone = refl; first = λ image left. left; each = tt };
+    calls = omega arith;
+  }
+
+  pub at_most : (n k : ℕ) (old new : D) → n ≤ k → WasRead g n old new → WasRead g k old new
+  at_most n k old new few read = record { state = read.state; any_moment = read.any_moment; calls = omega (arith, few, read.calls) }
+
+  pub read_again : (n m k : ℕ) (old mid new : D) → n + m ≤ k → WasRead g n old mid → WasRead g m mid new → WasRead g k old new
+  read_again n m k old mid new few one two = record {
+    state = two.state ∙ one.state;
+    any_moment = read_on g old mid new one.any_moment one.state two.any_moment;
+    calls = omega (arith, few, one.calls, two.calls);
+  }
 
 batch_length : (body : List ℕ) → length (batch body) ≡ 5 + length body
 batch_length body = omega (arith, length-append (to_be_bytes w32 (length body)) body)

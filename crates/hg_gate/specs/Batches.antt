@@ -6,6 +6,7 @@ use Rattle.hg_disk.specs.Calls.{CallsAtMost}
 use Rattle.hg_disk.specs.Moments.{Leaves}
 use Rattle.hg_disk.specs.State.{DiskState}
 use Rattle.hg_disk.specs.declared.disk.Disk as disk
+use Rattle.hg_gate.specs.declared.batch.TheConstants.{MAX_BODY_LEN}
 
 -- "HGJRNL1" and a line feed
 abbrev pub header : List ℕ
@@ -28,7 +29,7 @@ pub record IsClosed (bytes : List ℕ) : Type 0 where
 
 -- the lengths of a body
 abbrev pub IsBodyLength : ℕ → Type 0
-IsBodyLength n = (1 ≤ n) × (n ≤ 23552)
+IsBodyLength n = (1 ≤ n) × (n ≤ MAX_BODY_LEN)
 
 -- a body has such a length
 abbrev pub IsBody : List ℕ → Type 0

@@ -3,4 +3,5 @@ pub mod Batches
 pub mod Fault
 pub mod Gated
 pub mod Log
+pub mod Reading
 pub mod Scan

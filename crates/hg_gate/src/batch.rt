@@ -1,6 +1,7 @@
 //! A batch: the bytes that one `append` adds to a log.
 ghost use Rattle.std.specs.Prelude.{◌≡◌, ◌≤◌, length, IfOk, IfErr};
 ghost use Rattle.hg_gate.specs.Batches.{IsBody};
+ghost use Rattle.hg_gate.specs.declared.batch.TheConstants.{MAX_BODY_LEN};
 
 /// The most bytes that a batch has.
 pub const MAX_BODY_LEN: usize = 23_552;
@@ -10,7 +11,7 @@ pub const MAX_BODY_LEN: usize = 23_552;
 pub struct Batch {
     body: Vec<u8>,
     ghost some: { 1 ≤ length body.items },
-    ghost fits: { length body.items ≤ 23552 },
+    ghost fits: { length body.items ≤ MAX_BODY_LEN },
 }
 
 impl Batch {

@@ -2,10 +2,11 @@
 ghost use Rattle.std.specs.Prelude.{◌≡◌, ◌+◌, ◌<◌, ◌≤◌, ◌^◌, ◌∷◌, [], ℕ, List, length, drop, false, IsTrue, OnOk, OnErr, IsErrOf, Err, IfOk, IfErr};
 ghost use Rattle.hg_disk.specs.State.{counted};
 ghost use Rattle.hg_disk.specs.Calls.{CallsAtMost};
-ghost use Rattle.hg_disk.specs.Moments.{AddsNoImage, LeavesTorn};
+ghost use Rattle.hg_disk.specs.Moments.{LeavesTorn};
 ghost use Rattle.std.specs.Int.{w64, to_be_bytes};
 ghost use Rattle.hg_gate.specs.Gated.{HasLength, IsNotOpen, LeavesClosed, ReplacesBody, TellsGate};
 ghost use Rattle.hg_gate.specs.Batches.{closed_gate, open_gate};
+ghost use Rattle.hg_gate.specs.Reading.{RefusesIfBroken, WasRead};
 ghost use Rattle.hg_gate.specs.Fault.{failures_after, IsBrokenOrDevice, IsDamagedOrDevice};
 
 use crate::fault::GateFault;
@@ -87,10 +88,8 @@ impl<D: Disk> Gated<D> {
         ensures fault { IfErr result IsBrokenOrDevice }
         ensures calls { CallsAtMost ⟦<D as Disk>⟧ 2 (disk_of self.old) (disk_of self.new) }
         ensures device { D.failures (disk_of self.new) ≡ failures_after result (D.failures (disk_of self.old)) }
-        ensures broken { IsErrOf result GateFault.Broken → IsTrue (is_broken self.old) }
         ensures breaks { OnErr result (IsTrue (is_broken self.new)) }
-        ensures refuses { IsTrue (is_broken self.old) → result ≡ Err GateFault.Broken }
-        ensures same { IsTrue (is_broken self.old) → self.new ≡ self.old }
+        ensures broken { RefusesIfBroken (is_broken self.old) GateFault.Broken self.old self.new result }
     {
         if self.is_broken {
             return Err(GateFault::Broken);
@@ -111,10 +110,8 @@ impl<D: Disk> Gated<D> {
         ensures fault { IfErr result IsBrokenOrDevice }
         ensures calls { CallsAtMost ⟦<D as Disk>⟧ 4 (disk_of self.old) (disk_of self.new) }
         ensures device { D.failures (disk_of self.new) ≡ failures_after result (D.failures (disk_of self.old)) }
-        ensures broken { IsErrOf result GateFault.Broken → IsTrue (is_broken self.old) }
         ensures breaks { OnErr result (IsTrue (is_broken self.new)) }
-        ensures refuses { IsTrue (is_broken self.old) → result ≡ Err GateFault.Broken }
-        ensures same { IsTrue (is_broken self.old) → self.new ≡ self.old }
+        ensures broken { RefusesIfBroken (is_broken self.old) GateFault.Broken self.old self.new result }
     {
         if self.is_broken {
             return Err(GateFault::Broken);
@@ -136,10 +133,8 @@ impl<D: Disk> Gated<D> {
         ensures fault { IfErr result IsBrokenOrDevice }
         ensures calls { CallsAtMost ⟦<D as Disk>⟧ 2 (disk_of self.old) (disk_of self.new) }
         ensures device { D.failures (disk_of self.new) ≡ failures_after result (D.failures (disk_of self.old)) }
-        ensures broken { IsErrOf result GateFault.Broken → IsTrue (is_broken self.old) }
         ensures breaks { OnErr result (IsTrue (is_broken self.new)) }
-        ensures refuses { IsTrue (is_broken self.old) → result ≡ Err GateFault.Broken }
-        ensures same { IsTrue (is_broken self.old) → self.new ≡ self.old }
+        ensures broken { RefusesIfBroken (is_broken self.old) GateFault.Broken self.old self.new result }
     {
         if self.is_broken {
             return Err(GateFault::Broken);
@@ -160,14 +155,10 @@ impl<D: Disk> Gated<D> {
 
         // The file stays as it is.
         ensures rests { (file : List ℕ) → Rests ⟦<D as Disk>⟧ self.old file → Rests ⟦<D as Disk>⟧ self.new file }
-        ensures state { D.state (disk_of self.new) ≡ D.state (disk_of self.old) }
-        ensures any_moment { AddsNoImage ⟦<D as Disk>⟧ (disk_of self.old) (disk_of self.new) }
-        ensures calls { CallsAtMost ⟦<D as Disk>⟧ 3 (disk_of self.old) (disk_of self.new) }
+        ensures reads { WasRead ⟦<D as Disk>⟧ 3 (disk_of self.old) (disk_of self.new) }
         ensures device { D.failures (disk_of self.new) ≡ failures_after result (D.failures (disk_of self.old)) }
         ensures works { is_broken self.new ≡ is_broken self.old }
-        ensures broken { IsErrOf result GateFault.Broken → IsTrue (is_broken self.old) }
-        ensures refuses { IsTrue (is_broken self.old) → result ≡ Err GateFault.Broken }
-        ensures same { IsTrue (is_broken self.old) → self.new ≡ self.old }
+        ensures broken { RefusesIfBroken (is_broken self.old) GateFault.Broken self.old self.new result }
     {
         if self.is_broken {
             return Err(GateFault::Broken);
@@ -202,9 +193,7 @@ fn is_open<D: Disk>(disk: &mut D) -> Result<bool, GateFault>
     ensures damaged { IsErrOf result GateFault.Damaged → (D.state disk.old).contents ≡ [] }
     ensures fault { IfErr result IsDamagedOrDevice }
     ensures device { D.failures disk.new ≡ failures_after result (D.failures disk.old) }
-    ensures calls { CallsAtMost ⟦<D as Disk>⟧ 1 disk.old disk.new }
-    ensures state { D.state disk.new ≡ D.state disk.old }
-    ensures any_moment { AddsNoImage ⟦<D as Disk>⟧ disk.old disk.new }
+    ensures reads { WasRead ⟦<D as Disk>⟧ 1 disk.old disk.new }
 {
     if disk.len() == 0 {
         return Err(GateFault::Damaged);
@@ -221,9 +210,7 @@ fn read_length<D: Disk>(disk: &mut D) -> Result<u64, GateFault>
     ensures damaged { IsTrue D.is_honest → IsErrOf result GateFault.Damaged → IsNotOpen (D.state disk.old).contents }
     ensures fault { IfErr result IsDamagedOrDevice }
     ensures device { D.failures disk.new ≡ failures_after result (D.failures disk.old) }
-    ensures calls { CallsAtMost ⟦<D as Disk>⟧ 1 disk.old disk.new }
-    ensures state { D.state disk.new ≡ D.state disk.old }
-    ensures any_moment { AddsNoImage ⟦<D as Disk>⟧ disk.old disk.new }
+    ensures reads { WasRead ⟦<D as Disk>⟧ 1 disk.old disk.new }
 {
     let file_len = disk.len();
     if file_len < BODY_AT {

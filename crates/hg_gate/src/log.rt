@@ -2,8 +2,9 @@
 ghost use Rattle.std.specs.Prelude.{◌≡◌, ◌⊎◌, ◌+◌, ◌≤◌, ◌^◌, ◌++◌, ◌∷◌, [], ℕ, List, length, vec_capacity, false, IsTrue, IfOk, IfErr, OnOk, OnErr, IsErrOf, Err};
 ghost use Rattle.hg_disk.specs.State.{IsDurable};
 ghost use Rattle.hg_disk.specs.Calls.{CallsAtMost};
-ghost use Rattle.hg_disk.specs.Moments.{AddsNoImage};
 ghost use Rattle.hg_gate.specs.Batches.{OneCallABatch, closed_gate, sized};
+ghost use Rattle.hg_gate.specs.declared.log.TheConstants.{MAX_FRAME};
+ghost use Rattle.hg_gate.specs.Reading.{RefusesIfBroken, WasRead};
 ghost use Rattle.hg_gate.specs.Fault.{failures_after, IsBrokenOrDevice, IsDamagedOrDevice};
 
 use crate::batch::{Batch, MAX_BODY_LEN};
@@ -32,14 +33,14 @@ pub struct Log<D: Disk> {
     is_broken: bool,
     buffer: Vec<u8>,
     ghost small: { end ≤ 2 ^ 62 },
-    ghost room: { 23557 ≤ vec_capacity buffer },
+    ghost room: { MAX_FRAME ≤ vec_capacity buffer },
 }
 
 /// The memory of a log, taken before its disk is called.
 #[derive(Drop)]
 pub struct LogRoom {
     buffer: Vec<u8>,
-    ghost room: { 23557 ≤ vec_capacity buffer },
+    ghost room: { MAX_FRAME ≤ vec_capacity buffer },
 }
 
 impl LogRoom {
@@ -127,12 +128,10 @@ impl<D: Disk> Log<D> {
         ensures fault { IfErr result (λ e. IsDamagedOrDevice e.0 ⊎ (e.0 ≡ GateFault.OutOfMemory)) }
         // At most as many device calls as the disk has bytes. On an honest disk that holds a log: at most one per batch,
         // and two more.
-        ensures calls { CallsAtMost ⟦<D as Disk>⟧ (length (D.state disk).contents) disk (disk_after result) }
+        ensures disk { WasRead ⟦<D as Disk>⟧ (length (D.state disk).contents) disk (disk_after result) }
         ensures one_a_batch { IsTrue D.is_honest → OneCallABatch ⟦<D as Disk>⟧ disk (disk_after result) }
 
         ensures device { D.failures (disk_after result) ≡ failures_of_making result (D.failures disk) }
-        ensures state { D.state (disk_after result) ≡ D.state disk }
-        ensures any_moment { AddsNoImage ⟦<D as Disk>⟧ disk (disk_after result) }
     {
         let buffer = match Vec::with_capacity(alloc, MAX_FRAME) {
             Ok(buffer) => buffer,
@@ -176,13 +175,9 @@ impl<D: Disk> Log<D> {
         ensures fault { IfErr result IsBrokenOrDevice }
         ensures calls { CallsAtMost ⟦<D as Disk>⟧ 4 (disk_of self.old) (disk_of self.new) }
         ensures device { D.failures (disk_of self.new) ≡ failures_after result (D.failures (disk_of self.old)) }
-        ensures broken { IsErrOf result GateFault.Broken → IsTrue (is_broken self.old) }
         ensures breaks { OnErr result (IsTrue (is_broken self.new)) }
         ensures works { OnOk result (is_broken self.new ≡ false) }
-
-        // A log that is broken stays as it is.
-        ensures refuses { IsTrue (is_broken self.old) → result ≡ Err GateFault.Broken }
-        ensures same { IsTrue (is_broken self.old) → self.new ≡ self.old }
+        ensures broken { RefusesIfBroken (is_broken self.old) GateFault.Broken self.old self.new result }
     {
         if self.is_broken {
             return Err(GateFault::Broken);
@@ -221,13 +216,9 @@ impl<D: Disk> Log<D> {
         ensures broken_or_not { is_broken self.new ≡ is_broken self.old }
         ensures reads { (bodies : List (List ℕ)) → Reads self.old bodies → Reads self.new bodies }
         ensures has { (bodies : List (List ℕ)) → Has self.old bodies → Has self.new bodies }
-        ensures state { D.state (disk_of self.new) ≡ D.state (disk_of self.old) }
-        ensures any_moment { AddsNoImage ⟦<D as Disk>⟧ (disk_of self.old) (disk_of self.new) }
-        ensures calls { CallsAtMost ⟦<D as Disk>⟧ 2 (disk_of self.old) (disk_of self.new) }
+        ensures disk { WasRead ⟦<D as Disk>⟧ 2 (disk_of self.old) (disk_of self.new) }
         ensures device { D.failures (disk_of self.new) ≡ failures_after result (D.failures (disk_of self.old)) }
-        ensures broken { IsErrOf result GateFault.Broken → IsTrue (is_broken self.old) }
-        ensures refuses { IsTrue (is_broken self.old) → result ≡ Err GateFault.Broken }
-        ensures same { IsTrue (is_broken self.old) → self.new ≡ self.old }
+        ensures broken { RefusesIfBroken (is_broken self.old) GateFault.Broken self.old self.new result }
     {
         if self.is_broken {
             return Err(GateFault::Broken);

@@ -2,9 +2,9 @@
 ghost use Rattle.std.specs.Prelude.{◌≡◌, ◌⊎◌, ◌+◌, ◌<◌, ◌≤◌, ◌↔◌, ◌^◌, ℕ, List, length, take, drop, IsTrue, IfOk, IfErr, OnOk, OnErr, IsErrOf};
 ghost use Rattle.hg_disk.specs.State.{Fills};
 ghost use Rattle.hg_disk.specs.Calls.{CallsAtMost};
-ghost use Rattle.hg_disk.specs.Moments.{AddsNoImage};
 ghost use Rattle.hg_gate.specs.Batches.{IsBodyLength, IsNoLog, OneCallABatch};
 ghost use Rattle.hg_gate.specs.Fault.{failures_after, IsDamagedOrDevice};
+ghost use Rattle.hg_gate.specs.Reading.{WasRead};
 ghost use Rattle.hg_gate.specs.Scan.{HasNoTail, IsNoTail, IsHead, EndsAt, Walked, HasBodyLength, batch_len};
 
 use crate::batch::MAX_BODY_LEN;
@@ -61,9 +61,7 @@ pub(crate) fn read_head<D: Disk>(disk: &mut D, at: u64) -> Result<Option<u32>, G
     ensures damaged { IsTrue D.is_honest → IsErrOf result GateFault.Damaged → HasNoTail at (D.state disk.old) }
     ensures fault { IfErr result IsDamagedOrDevice }
     ensures device { D.failures disk.new ≡ failures_after result (D.failures disk.old) }
-    ensures calls { CallsAtMost ⟦<D as Disk>⟧ 1 disk.old disk.new }
-    ensures state { D.state disk.new ≡ D.state disk.old }
-    ensures any_moment { AddsNoImage ⟦<D as Disk>⟧ disk.old disk.new }
+    ensures reads { WasRead ⟦<D as Disk>⟧ 1 disk.old disk.new }
 {
     let room = disk.len() - at;
     let count = room.min(HEAD_LEN as u64) as usize;
@@ -79,10 +77,8 @@ pub(crate) fn find_end<D: Disk>(disk: &mut D) -> Result<u64, GateFault>
     ensures damaged { IsTrue D.is_honest → IsErrOf result GateFault.Damaged → IsNoLog (D.state disk.old).contents }
     ensures fault { IfErr result IsDamagedOrDevice }
     ensures device { D.failures disk.new ≡ failures_after result (D.failures disk.old) }
-    ensures calls { CallsAtMost ⟦<D as Disk>⟧ (length (D.state disk.old).contents) disk.old disk.new }
+    ensures reads { WasRead ⟦<D as Disk>⟧ (length (D.state disk.old).contents) disk.old disk.new }
     ensures one_a_batch { IsTrue D.is_honest → OneCallABatch ⟦<D as Disk>⟧ disk.old disk.new }
-    ensures state { D.state disk.new ≡ D.state disk.old }
-    ensures any_moment { AddsNoImage ⟦<D as Disk>⟧ disk.old disk.new }
 {
     read_header(disk)?;
     let mut at = HEADER.len() as u64;
@@ -99,10 +95,8 @@ fn read_header<D: Disk>(disk: &mut D) -> Result<(), GateFault>
     ensures damaged { IsTrue D.is_honest → IsErrOf result GateFault.Damaged → IsNoLog (D.state disk.old).contents }
     ensures fault { IfErr result IsDamagedOrDevice }
     ensures device { D.failures disk.new ≡ failures_after result (D.failures disk.old) }
-    ensures calls { CallsAtMost ⟦<D as Disk>⟧ 1 disk.old disk.new }
+    ensures reads { WasRead ⟦<D as Disk>⟧ 1 disk.old disk.new }
     ensures few { CallsAtMost ⟦<D as Disk>⟧ (length (D.state disk.old).contents) disk.old disk.new }
-    ensures state { D.state disk.new ≡ D.state disk.old }
-    ensures any_moment { AddsNoImage ⟦<D as Disk>⟧ disk.old disk.new }
 {
     if disk.len() < HEADER.len() as u64 {
         return Err(GateFault::Damaged);
@@ -121,9 +115,7 @@ pub(crate) fn read_bytes<D: Disk>(disk: &mut D, at: u64, buf: &mut [u8]) -> Resu
     ensures bytes { IsTrue D.is_honest → OnOk result (Fills (D.state disk.old) at buf.old buf.new) }
     ensures fault { IfErr result (λ e. e ≡ GateFault.DeviceFault) }
     ensures device { D.failures disk.new ≡ failures_after result (D.failures disk.old) }
-    ensures calls { CallsAtMost ⟦<D as Disk>⟧ 1 disk.old disk.new }
-    ensures state { D.state disk.new ≡ D.state disk.old }
-    ensures any_moment { AddsNoImage ⟦<D as Disk>⟧ disk.old disk.new }
+    ensures reads { WasRead ⟦<D as Disk>⟧ 1 disk.old disk.new }
 {
     disk.read_at(at, buf)?;
     Ok(())
@@ -141,9 +133,7 @@ pub(crate) fn read_vec<D: Disk>(
     ensures len { IfOk result (λ v. length v.items ≡ len) }
     ensures fault { IfErr result (λ e. (e ≡ GateFault.DeviceFault) ⊎ (e ≡ GateFault.OutOfMemory)) }
     ensures device { D.failures disk.new ≡ failures_after result (D.failures disk.old) }
-    ensures calls { CallsAtMost ⟦<D as Disk>⟧ 1 disk.old disk.new }
-    ensures state { D.state disk.new ≡ D.state disk.old }
-    ensures any_moment { AddsNoImage ⟦<D as Disk>⟧ disk.old disk.new }
+    ensures reads { WasRead ⟦<D as Disk>⟧ 1 disk.old disk.new }
 {
     let mut bytes = vec![in alloc; 0; len]?;
     read_bytes(disk, at, &mut bytes)?;

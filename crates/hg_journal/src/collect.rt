@@ -2,8 +2,7 @@
 
 ghost use Rattle.std.specs.Prelude.{◌≡◌, ◌+◌, ◌-◌, ◌*◌, List, IfErr, OnOk, ◌++◌, ◌∷◌, [], false};
 ghost use Rattle.hg_model.specs.declared.event.Named.{Named as NamedOf};
-ghost use Rattle.hg_disk.specs.Calls.{CallsAtMost};
-ghost use Rattle.hg_disk.specs.Moments.{AddsNoImage};
+ghost use Rattle.hg_gate.specs.Reading.{WasRead};
 ghost use Rattle.hg_journal.specs.Journal.{IsOfReading, failed_after};
 ghost use Rattle.hg_journal.specs.Reading.{Collects, CollectsUndamaged, KeepsEvents, disk_of, is_broken};
 
@@ -28,10 +27,8 @@ pub fn collect<D: Disk>(
     ensures keeps { (events : List NamedOf) → KeepsEvents journal.old events → KeepsEvents journal.new events }
     ensures works { is_broken journal.new ≡ false }
     ensures refusal { IfErr result IsOfReading }
-    ensures calls { CallsAtMost ⟦<D as Disk>⟧ (2 * count) (disk_of journal.old) (disk_of journal.new) }
     ensures device { D.failures (disk_of journal.new) ≡ failed_after result (D.failures (disk_of journal.old)) }
-    ensures state { D.state (disk_of journal.new) ≡ D.state (disk_of journal.old) }
-    ensures any_moment { AddsNoImage ⟦<D as Disk>⟧ (disk_of journal.old) (disk_of journal.new) }
+    ensures disk { WasRead ⟦<D as Disk>⟧ (2 * count) (disk_of journal.old) (disk_of journal.new) }
 {
     let mut found = Vec::new(alloc);
     let mut reader = journal.events()?;

@@ -3,7 +3,8 @@ ghost use Rattle.std.specs.Prelude.{◌≡◌, ◌+◌, ◌≤◌, length, vec_c
 ghost use Rattle.std.specs.List.{AllByRecursion};
 ghost use Rattle.hg_disk.specs.State.{IsDurable};
 ghost use Rattle.hg_disk.specs.Calls.{CallsAtMost};
-ghost use Rattle.hg_disk.specs.Moments.{AddsNoImage};
+ghost use Rattle.hg_gate.specs.Reading.{WasRead};
+ghost use Rattle.hg_gate.specs.declared.batch.TheConstants.{MAX_BODY_LEN};
 ghost use Rattle.hg_gate.specs.Batch.{vec_of};
 ghost use Rattle.hg_gate.specs.Batches.{IsBody, OneCallABatch};
 ghost use Rattle.hg_records.specs.Records.{RecordFits};
@@ -26,7 +27,7 @@ const _: () = prove!(MAX_BATCH_EVENTS * MAX_RECORD_LEN <= MAX_BODY_LEN);
 pub struct Journal<D: Disk> {
     pub(crate) log: Log<D>,
     pub(crate) body: Vec<u8>,
-    ghost room: { 23552 ≤ vec_capacity body },
+    ghost room: { MAX_BODY_LEN ≤ vec_capacity body },
 }
 
 impl<D: Disk + Drop> Drop for Journal<D> {
@@ -42,7 +43,7 @@ impl<D: Disk + Drop> Drop for Journal<D> {
 pub struct JournalRoom {
     log: LogRoom,
     body: Vec<u8>,
-    ghost room: { 23552 ≤ vec_capacity body },
+    ghost room: { MAX_BODY_LEN ≤ vec_capacity body },
 }
 
 impl JournalRoom {
@@ -142,12 +143,10 @@ impl<D: Disk> Journal<D> {
         ensures fault { IfErr result (λ e. IsOfReading e.0) }
         // At most as many device calls as the disk has bytes. On an honest disk that holds a log: at most one per batch,
         // and two more.
-        ensures calls { CallsAtMost ⟦<D as Disk>⟧ (length (D.state disk).contents) disk (disk_after result) }
+        ensures disk { WasRead ⟦<D as Disk>⟧ (length (D.state disk).contents) disk (disk_after result) }
         ensures one_a_batch { IsTrue D.is_honest → OneCallABatch ⟦<D as Disk>⟧ disk (disk_after result) }
 
         ensures device { D.failures (disk_after result) ≡ failures_of_making result (D.failures disk) }
-        ensures state { D.state (disk_after result) ≡ D.state disk }
-        ensures any_moment { AddsNoImage ⟦<D as Disk>⟧ disk (disk_after result) }
     {
         let body = match Vec::with_capacity(alloc, MAX_BODY_LEN) {
             Ok(body) => body,

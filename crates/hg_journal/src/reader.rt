@@ -1,8 +1,7 @@
 //! Reading the events of a journal, one after the other.
 ghost use Rattle.std.specs.Prelude.{◌≡◌, ◌⊎◌, ◌<◌, ◌≤◌, ℕ, List, IsTrue, IfOk, IfErr, IfSome, IfNone, IsErrOf, Err};
 ghost use Rattle.hg_model.specs.declared.event.Named.{Named as NamedOf};
-ghost use Rattle.hg_disk.specs.Calls.{CallsAtMost};
-ghost use Rattle.hg_disk.specs.Moments.{AddsNoImage};
+ghost use Rattle.hg_gate.specs.Reading.{RefusesIfBroken, WasRead};
 ghost use Rattle.hg_records.specs.Records.{BeginsWith};
 ghost use Rattle.hg_records.specs.Lengths.{HasNoRecord};
 ghost use Rattle.hg_journal.specs.Journal.{IsOfReading, failed_after};
@@ -70,14 +69,10 @@ impl<D: Disk> Journal<D> {
         ensures again { StaysOnErr self.old reader.old self.new reader.new result }
         ensures keeps { (events : List NamedOf) → KeepsEvents self.old events → KeepsEvents self.new events }
         ensures opens { (bodies : List (List ℕ)) → Opens self.old bodies → Opens self.new bodies }
-        ensures state { D.state (disk_of self.new) ≡ D.state (disk_of self.old) }
-        ensures any_moment { AddsNoImage ⟦<D as Disk>⟧ (disk_of self.old) (disk_of self.new) }
+        ensures disk { WasRead ⟦<D as Disk>⟧ 2 (disk_of self.old) (disk_of self.new) }
         ensures fault { IfErr result (λ e. IsOfReading e ⊎ (e ≡ Refusal.Broken)) }
-        ensures calls { CallsAtMost ⟦<D as Disk>⟧ 2 (disk_of self.old) (disk_of self.new) }
         ensures device { D.failures (disk_of self.new) ≡ failed_after result (D.failures (disk_of self.old)) }
-        ensures broken { IsErrOf result Refusal.Broken → IsTrue (is_broken self.old) }
-        ensures refuses { IsTrue (is_broken self.old) → result ≡ Err Refusal.Broken }
-        ensures same { IsTrue (is_broken self.old) → self.new ≡ self.old }
+        ensures broken { RefusesIfBroken (is_broken self.old) Refusal.Broken self.old self.new result }
         ensures broken_or_not { is_broken self.new ≡ is_broken self.old }
     {
         if let Err(fault) = self.log.first_place() {
@@ -108,14 +103,10 @@ impl<D: Disk> Journal<D> {
         ensures broken_or_not { is_broken self.new ≡ is_broken self.old }
         ensures keeps { (events : List NamedOf) → KeepsEvents self.old events → KeepsEvents self.new events }
         ensures opens { (bodies : List (List ℕ)) → Opens self.old bodies → Opens self.new bodies }
-        ensures state { D.state (disk_of self.new) ≡ D.state (disk_of self.old) }
-        ensures any_moment { AddsNoImage ⟦<D as Disk>⟧ (disk_of self.old) (disk_of self.new) }
+        ensures disk { WasRead ⟦<D as Disk>⟧ 2 (disk_of self.old) (disk_of self.new) }
         ensures fault { IfErr result (λ e. IsOfReading e ⊎ (e ≡ Refusal.Broken)) }
-        ensures calls { CallsAtMost ⟦<D as Disk>⟧ 2 (disk_of self.old) (disk_of self.new) }
         ensures device { D.failures (disk_of self.new) ≡ failed_after result (D.failures (disk_of self.old)) }
-        ensures broken { IsErrOf result Refusal.Broken → IsTrue (is_broken self.old) }
-        ensures refuses { IsTrue (is_broken self.old) → result ≡ Err Refusal.Broken }
-        ensures same { IsTrue (is_broken self.old) → self.new ≡ self.old }
+        ensures broken { RefusesIfBroken (is_broken self.old) Refusal.Broken self.old self.new result }
     {
         if !self.find(reader)? {
             return Ok(None);
@@ -139,13 +130,10 @@ impl<D: Disk> Journal<D> {
 
         // The journal stays as it is.
         ensures broken_or_not { is_broken self.new ≡ is_broken self.old }
-        ensures state { D.state (disk_of self.new) ≡ D.state (disk_of self.old) }
-        ensures any_moment { AddsNoImage ⟦<D as Disk>⟧ (disk_of self.old) (disk_of self.new) }
+        ensures disk { WasRead ⟦<D as Disk>⟧ 2 (disk_of self.old) (disk_of self.new) }
         ensures fault { IfErr result (λ e. IsOfReading e ⊎ (e ≡ Refusal.Broken)) }
-        ensures calls { CallsAtMost ⟦<D as Disk>⟧ 2 (disk_of self.old) (disk_of self.new) }
         ensures device { D.failures (disk_of self.new) ≡ failed_after result (D.failures (disk_of self.old)) }
-        ensures broken { IsErrOf result Refusal.Broken → IsTrue (is_broken self.old) }
-        ensures refuses { IsTrue (is_broken self.old) → result ≡ Err Refusal.Broken }
+        ensures broken { RefusesIfBroken (is_broken self.old) Refusal.Broken self.old self.new result }
     {
         if !self.find(reader)? {
             return Ok(0);

@@ -2,10 +2,12 @@
 use Rattle.std.specs.Prelude.{◌≡◌, ◌<◌, ◌≤◌, ◌*◌, ◌^◌, ℕ, ◌==◌, List, ◌∷◌, ◌++◌, length, All, if◌then◌else◌}
 use Rattle.std.specs.List.{flat_map, AllByRecursion}
 use Rattle.std.specs.Int.{w32, w64, to_be_bytes}
+use Rattle.hg_model.specs.declared.limits.TheConstants.{GREATEST_THREAD}
 use Rattle.hg_sets.specs.Interning.{set_at}
 use Rattle.hg_cells.specs.declared.cell.Cell.{Cell}
 use Rattle.hg_cells.specs.declared.cell.Cell.TheVariants.{New, Exclusive, SharedRead, SharedModified}
 use Rattle.hg_disk.specs.Laws.{Holds}
+use Rattle.hg_pages.specs.declared.decoded.TheConstants.{MOST_PAGES}
 
 -- a state, whether it was reported, two zeros, and two numbers in four bytes each
 abbrev pub cell_of_parts : ℕ → ℕ → ℕ → ℕ → List ℕ
@@ -32,7 +34,7 @@ slot_text page cells = to_be_bytes w64 page ++ flat_map cell_text cells
 
 -- a page's number, and its cells
 pub record IsPage (page : ℕ) (cells : List Cell) : Type 0 where
-  pub number : page < 2 ^ 54
+  pub number : page < MOST_PAGES
   pub words : length cells ≡ 256
   pub fit : AllByRecursion CellFits cells
 
@@ -41,12 +43,12 @@ pub record IsSlot (page : ℕ) (cells : List Cell) (bytes : List ℕ) : Type 0 w
   pub page_is : IsPage page cells
   pub spelling : bytes ≡ slot_text page cells
 
--- The table has the set with this number, and the set can be the threads of a shared word: at least two numbers, each at
--- most 1023.
+-- The table has the set with this number, and the set can be the threads of a shared word: at least two numbers of
+-- threads.
 pub record IsThreadSet (sets : List (List ℕ)) (id : ℕ) : Type 0 where
   pub known : id < length sets
   pub several : 2 ≤ length (set_at sets id)
-  pub threads : All (λ t. t ≤ 1023) (set_at sets id)
+  pub threads : All (λ t. t ≤ GREATEST_THREAD) (set_at sets id)
 
 -- A cell names only a known segment, below this number, and known sets, those of the table.
 abbrev pub IsKnown : ℕ → List (List ℕ) → Cell → Type 0

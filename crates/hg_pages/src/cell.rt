@@ -6,13 +6,11 @@ ghost use Rattle.hg_pages.specs.Reading.{cell_with, number_at};
 ghost use Rattle.hg_pages.specs.Slots.{CellFits, IsKnown, IsThreadSet, cell_of_parts, cell_text};
 
 use hg_cells::Cell;
+use hg_model::limits::GREATEST_THREAD;
 use hg_sets::SetTable;
 
 /// How many bytes a cell has.
 pub(crate) const CELL_LEN: usize = 12;
-
-// The greatest number of a thread.
-const LAST_THREAD: u16 = 1023;
 
 // A state, whether it was reported, two zeros, and two numbers.
 fn parts(state: u8, reported: u8, first: u32, second: u32) -> [u8; CELL_LEN]
@@ -86,7 +84,7 @@ fn is_thread_set(sets: &SetTable, id: u32) -> bool
         return false;
     }
     let members = sets.members(id);
-    members.len() >= 2 && members[members.len() - 1] <= LAST_THREAD
+    members.len() >= 2 && members[members.len() - 1] <= GREATEST_THREAD
 }
 
 /// Whether a cell names only segments below this number, sets of the table, and sets of threads that may be shared.

@@ -5,7 +5,7 @@ ghost use Rattle.hg_pages.specs.Slots.{CellFits, IsSlot, cell_text, slot_text};
 ghost use Rattle.std.specs.List.{AllByRecursion};
 
 use crate::cell::{CELL_LEN, bytes_of};
-use crate::decoded::page_in;
+use crate::decoded::{MOST_PAGES, page_in};
 use hg_cells::{Cell, PAGE_WORDS, Page};
 use std::alloc::{AllocError, Global};
 use std::marker::Model;
@@ -29,12 +29,13 @@ impl Drop for EncodedPage {
 impl Model for EncodedPage {
     ghost use Rattle.std.specs.Prelude.{◌≡◌, length};
     ghost use Rattle.hg_pages.specs.Encoded.{Encoded};
+    ghost use Rattle.hg_pages.specs.declared.encoded.TheConstants.{SLOT_LEN};
 
     ghost Value = { Encoded };
 
     ghost view = { λ it. record { page = it.page; bytes = it.bytes.items } };
 
-    ghost invariant = { λ it. length it.bytes.items ≡ 3080 };
+    ghost invariant = { λ it. length it.bytes.items ≡ SLOT_LEN };
 }
 
 impl EncodedPage {
@@ -65,7 +66,7 @@ impl EncodedPage {
     /// Whether these are the bytes of the page with these cells. Takes no memory.
     pub fn has(&self, cells: &Page) -> bool
         ensures bytes { IsTrue result ↔ (self.now.bytes ≡ slot_text self.now.page cells.now) }
-        ensures slot { self.now.page < 2 ^ 54 → IsTrue result → IsSlot self.now.page cells.now self.now.bytes }
+        ensures slot { self.now.page < MOST_PAGES → IsTrue result → IsSlot self.now.page cells.now self.now.bytes }
     {
         is_text(&self.bytes, self.page, cells)
     }
@@ -107,7 +108,7 @@ fn is_text(bytes: &[u8], page: u64, cells: &Page) -> bool
 pub fn encode(alloc: Global, page: u64, cells: &Page) -> Result<EncodedPage, AllocError>
     ensures page { IfOk result (λ encoded. encoded.page ≡ page) }
     ensures bytes { IfOk result (λ encoded. encoded.bytes ≡ slot_text page cells.now) }
-    ensures slot { page < 2 ^ 54 → IfOk result (λ encoded. IsSlot page cells.now encoded.bytes) }
+    ensures slot { page < MOST_PAGES → IfOk result (λ encoded. IsSlot page cells.now encoded.bytes) }
 {
     let _lowest = cells.get(0);
     let mut bytes = Vec::with_capacity(alloc, SLOT_LEN)?;

@@ -64,7 +64,7 @@ impl<D: Disk + Drop> Drop for SlotFile<D> {
 }
 
 impl<D: Disk> SlotFile<D> {
-    ghost use Rattle.hg_pages.specs.Files.{KeepsOthers, LeavesKnown, LeavesOthers, GrowsToSlot, ReadsPage, StandsIn, TellsTrueDamage, disk_of, is_broken, known};
+    ghost use Rattle.hg_pages.specs.Files.{KeepsOthers, LeavesKnown, LeavesOthers, GrowsToSlot, ReadsPage, RefusesIfBroken, StandsIn, TellsTrueDamage, WasRead, disk_of, is_broken, known};
 
     /// The file on a disk, whatever its bytes are. It makes no device call.
     pub fn attach(disk: D) -> SlotFile<D>
@@ -149,11 +149,9 @@ impl<D: Disk> SlotFile<D> {
 
         ensures calls { CallsAtMost ⟦<D as Disk>⟧ 1 (disk_of self.old) (disk_of self.new) }
         ensures device { D.failures (disk_of self.new) ≡ failures_after_write result (D.failures (disk_of self.old)) }
-        ensures broken { IsErrOf result WriteFault.Broken → IsTrue (is_broken self.old) }
         ensures works { OnOk result (is_broken self.new ≡ false) }
         ensures breaks { OnErr result (IsTrue (is_broken self.new)) }
-        ensures refuses { IsTrue (is_broken self.old) → result ≡ Err WriteFault.Broken }
-        ensures same { IsTrue (is_broken self.old) → self.new ≡ self.old }
+        ensures broken { RefusesIfBroken WriteFault.Broken self.old self.new result }
     {
         if self.is_broken {
             return Err(WriteFault::Broken);
@@ -174,11 +172,9 @@ impl<D: Disk> SlotFile<D> {
         ensures any_moment { AddsNoImage ⟦<D as Disk>⟧ (disk_of self.old) (disk_of self.new) }
         ensures calls { CallsAtMost ⟦<D as Disk>⟧ 1 (disk_of self.old) (disk_of self.new) }
         ensures device { D.failures (disk_of self.new) ≡ failures_after_write result (D.failures (disk_of self.old)) }
-        ensures broken { IsErrOf result WriteFault.Broken → IsTrue (is_broken self.old) }
         ensures works { OnOk result (is_broken self.new ≡ false) }
         ensures breaks { OnErr result (IsTrue (is_broken self.new)) }
-        ensures refuses { IsTrue (is_broken self.old) → result ≡ Err WriteFault.Broken }
-        ensures same { IsTrue (is_broken self.old) → self.new ≡ self.old }
+        ensures broken { RefusesIfBroken WriteFault.Broken self.old self.new result }
     {
         if self.is_broken {
             return Err(WriteFault::Broken);
@@ -196,15 +192,9 @@ impl<D: Disk> SlotFile<D> {
         ensures read { IsTrue D.is_honest → IfOk result (StandsIn slot (known ⟦<D as Disk>⟧ self.old)) }
         ensures number { IfOk result (λ found. to_be_bytes w64 found.page ≡ take 8 found.bytes) }
         ensures damaged { IsErrOf result SlotFault.Damaged → IsOutside slot (known ⟦<D as Disk>⟧ self.old) }
-        ensures known { known ⟦<D as Disk>⟧ self.new ≡ known ⟦<D as Disk>⟧ self.old }
-        ensures state { D.state (disk_of self.new) ≡ D.state (disk_of self.old) }
-        ensures any_moment { AddsNoImage ⟦<D as Disk>⟧ (disk_of self.old) (disk_of self.new) }
-        ensures calls { CallsAtMost ⟦<D as Disk>⟧ 1 (disk_of self.old) (disk_of self.new) }
+        ensures stays { WasRead ⟦<D as Disk>⟧ 1 self.old self.new }
         ensures device { D.failures (disk_of self.new) ≡ failures_after result (D.failures (disk_of self.old)) }
-        ensures works { is_broken self.new ≡ is_broken self.old }
-        ensures broken { IsErrOf result SlotFault.Broken → IsTrue (is_broken self.old) }
-        ensures refuses { IsTrue (is_broken self.old) → result ≡ Err SlotFault.Broken }
-        ensures same { IsTrue (is_broken self.old) → self.new ≡ self.old }
+        ensures broken { RefusesIfBroken SlotFault.Broken self.old self.new result }
     {
         if self.is_broken {
             return Err(SlotFault::Broken);
@@ -231,15 +221,9 @@ impl<D: Disk> SlotFile<D> {
         // Even on a disk that lies, the cells name only known segments and sets.
         ensures named { IfOk result (AreKnown segments sets.now.sets) }
         ensures memory { ¬ IsErrOf result SlotFault.OutOfMemory }
-        ensures known { known ⟦<D as Disk>⟧ self.new ≡ known ⟦<D as Disk>⟧ self.old }
-        ensures state { D.state (disk_of self.new) ≡ D.state (disk_of self.old) }
-        ensures any_moment { AddsNoImage ⟦<D as Disk>⟧ (disk_of self.old) (disk_of self.new) }
-        ensures calls { CallsAtMost ⟦<D as Disk>⟧ 1 (disk_of self.old) (disk_of self.new) }
+        ensures stays { WasRead ⟦<D as Disk>⟧ 1 self.old self.new }
         ensures device { D.failures (disk_of self.new) ≡ failures_after result (D.failures (disk_of self.old)) }
-        ensures works { is_broken self.new ≡ is_broken self.old }
-        ensures broken { IsErrOf result SlotFault.Broken → IsTrue (is_broken self.old) }
-        ensures refuses { IsTrue (is_broken self.old) → result ≡ Err SlotFault.Broken }
-        ensures same { IsTrue (is_broken self.old) → self.new ≡ self.old }
+        ensures broken { RefusesIfBroken SlotFault.Broken self.old self.new result }
     {
         let mut bytes = [0; SLOT_LEN];
         self.fill(slot, &mut bytes)?;
@@ -256,15 +240,9 @@ impl<D: Disk> SlotFile<D> {
         ensures damaged { IsErrOf result SlotFault.Damaged → IsOutside slot (known ⟦<D as Disk>⟧ self.old) }
         ensures length { length bytes.new ≡ SLOT_LEN }
         ensures memory { ¬ IsErrOf result SlotFault.OutOfMemory }
-        ensures known { known ⟦<D as Disk>⟧ self.new ≡ known ⟦<D as Disk>⟧ self.old }
-        ensures state { D.state (disk_of self.new) ≡ D.state (disk_of self.old) }
-        ensures any_moment { AddsNoImage ⟦<D as Disk>⟧ (disk_of self.old) (disk_of self.new) }
-        ensures calls { CallsAtMost ⟦<D as Disk>⟧ 1 (disk_of self.old) (disk_of self.new) }
+        ensures stays { WasRead ⟦<D as Disk>⟧ 1 self.old self.new }
         ensures device { D.failures (disk_of self.new) ≡ failures_after result (D.failures (disk_of self.old)) }
-        ensures works { is_broken self.new ≡ is_broken self.old }
-        ensures broken { IsErrOf result SlotFault.Broken → IsTrue (is_broken self.old) }
-        ensures refuses { IsTrue (is_broken self.old) → result ≡ Err SlotFault.Broken }
-        ensures same { IsTrue (is_broken self.old) → self.new ≡ self.old }
+        ensures broken { RefusesIfBroken SlotFault.Broken self.old self.new result }
     {
         if self.is_broken {
             return Err(SlotFault::Broken);

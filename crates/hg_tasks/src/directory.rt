@@ -2,7 +2,7 @@
 ghost use Rattle.std.specs.Prelude.{◌≡◌, IfErr};
 
 use hg_disk::FileDisk;
-use hg_store::devices::Devices;
+use hg_store::devices::{Devices, MOST_SLOTS, SLOT_LEN};
 use std::fs::{File, OpenOptions, TryLockError};
 use std::io::{ErrorKind, Read};
 use std::os::fd::AsRawFd;
@@ -11,8 +11,8 @@ use std::random::RandomSource;
 use std::string::String;
 use std::{env, fs, io};
 
-/// The greatest length of a store's `pages`: that of 1,048,576 slots.
-const MAX_PAGES_LEN: u64 = 1_048_576 * 3_080;
+/// The greatest length of a store's `pages`: that of all slots.
+const MAX_PAGES_LEN: u64 = MOST_SLOTS as u64 * SLOT_LEN as u64;
 
 /// Why a store's files can't be used.
 #[derive(Clone, Copy, Drop)]

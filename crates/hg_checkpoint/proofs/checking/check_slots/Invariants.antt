@@ -1,6 +1,5 @@
 use Rattle.std.proofs.Common.{◌≡◌, length, take, All, IsTrue}
-use Rattle.hg_pages.specs.Files.{disk_of, known}
-use Rattle.hg_checkpoint.specs.Reading.{WasRead}
+use Rattle.hg_pages.specs.Files.{WasRead, disk_of, known}
 use Rattle.hg_checkpoint.specs.NamedPages.{HasSomePage}
 use Rattle.hg_checkpoint.proofs.checking.check_slots.Given as goal
 

@@ -15,24 +15,30 @@ returns-in_err-len-clause-damaged g c honest is =
     no_log (g.D.Disk.state c.args.disk.now).contents c.loop-len.at (c.loop-len.invariant.walked honest) (λ bodies tail.
     c.in_err-len.ensures.damaged honest (λ i. Err (same i)) bodies (subst (λ (s : DiskState). IsTail (drop c.loop-len.at s.contents) bodies) (sym c.loop-len.invariant.state) tail))
 
-pub returns-in_err-len-clause-any_moment : goal.returns-in_err-len-clause-any_moment
-returns-in_err-len-clause-any_moment g c =
-    read_on g.D.Disk c.args.disk.now c.loop-len.disk c.read_head.new.disk c.loop-len.invariant.any_moment c.loop-len.invariant.state c.read_head.ensures.any_moment
+pub returns-in_err-len-clause-reads : goal.returns-in_err-len-clause-reads
+returns-in_err-len-clause-reads g c = record {
+  state = c.read_head.ensures.reads.state ∙ c.loop-len.invariant.state;
+  any_moment = read_on g.D.Disk c.args.disk.now c.loop-len.disk c.read_head.new.disk c.loop-len.invariant.any_moment c.loop-len.invariant.state c.read_head.ensures.reads.any_moment;
+  calls = omega (arith, c.read_head.ensures.reads.calls, c.loop-len.invariant.calls, c.loop-len.invariant.within, c.loop-len.invariant.header);
+}
 
-pub returns-clause-any_moment : goal.returns-clause-any_moment
-returns-clause-any_moment g c =
-    read_on g.D.Disk c.args.disk.now c.loop-len.disk c.read_head.new.disk c.loop-len.invariant.any_moment c.loop-len.invariant.state c.read_head.ensures.any_moment
+pub returns-clause-reads : goal.returns-clause-reads
+returns-clause-reads g c = record {
+  state = c.read_head.ensures.reads.state ∙ c.loop-len.invariant.state;
+  any_moment = read_on g.D.Disk c.args.disk.now c.loop-len.disk c.read_head.new.disk c.loop-len.invariant.any_moment c.loop-len.invariant.state c.read_head.ensures.reads.any_moment;
+  calls = omega (arith, c.read_head.ensures.reads.calls, c.loop-len.invariant.calls, c.loop-len.invariant.within, c.loop-len.invariant.header);
+}
 
 pub returns-in_err-len-clause-one_a_batch : goal.returns-in_err-len-clause-one_a_batch
 returns-in_err-len-clause-one_a_batch g c honest bodies has =
     let so_far = c.loop-len.invariant.counted honest in
-    let one = c.read_head.ensures.calls in
+    let one = c.read_head.ensures.reads.calls in
     omega (arith, one, so_far.1, few_walked (g.D.Disk.state c.args.disk.now).contents c.loop-len.at bodies so_far.0 has)
 
 pub returns-clause-one_a_batch : goal.returns-clause-one_a_batch
 returns-clause-one_a_batch g c honest bodies has =
     let so_far = c.loop-len.invariant.counted honest in
-    let one = c.read_head.ensures.calls in
+    let one = c.read_head.ensures.reads.calls in
     omega (arith, one, so_far.1, few_walked (g.D.Disk.state c.args.disk.now).contents c.loop-len.at bodies so_far.0 has)
 
 pub overflow_add-at-in-Some : goal.overflow_add-at-in-Some
@@ -52,14 +58,14 @@ loop-len-preserved g c =
       walked = λ honest.
           let begins : IsOpen (drop c.loop-len.at file) c.in-Some.len = subst (IsHead (drop c.loop-len.at file)) c.in-Some.is (c.in_ok-len.ensures.head honest) in
           walk_on (g.D.Disk.state c.args.disk.now).contents c.loop-len.at c.in-Some.len (c.loop-len.invariant.walked honest) (subst (λ (l : List ℕ). IsOpen (drop c.loop-len.at l) c.in-Some.len) bytes begins);
-      calls = let one = c.read_head.ensures.calls in let before = c.loop-len.invariant.calls in let past = c.loop-len.invariant.header in omega (arith, one, before, past);
+      calls = let one = c.read_head.ensures.reads.calls in let before = c.loop-len.invariant.calls in let past = c.loop-len.invariant.header in omega (arith, one, before, past);
       counted = λ honest.
           let begins : IsOpen (drop c.loop-len.at file) c.in-Some.len = subst (IsHead (drop c.loop-len.at file)) c.in-Some.is (c.in_ok-len.ensures.head honest) in
           let so_far = c.loop-len.invariant.counted honest in
           let begun = subst (λ (l : List ℕ). IsOpen (drop c.loop-len.at l) c.in-Some.len) bytes begins in
-          let one = c.read_head.ensures.calls in
+          let one = c.read_head.ensures.reads.calls in
           (walk_on (g.D.Disk.state c.args.disk.now).contents c.loop-len.at c.in-Some.len so_far.0 begun, omega (arith, one, so_far.1, walk_counts (g.D.Disk.state c.args.disk.now).contents c.loop-len.at c.in-Some.len so_far.0 begun));
-      state = c.read_head.ensures.state ∙ c.loop-len.invariant.state;
+      state = c.read_head.ensures.reads.state ∙ c.loop-len.invariant.state;
       failures = c.in_ok-len.ensures.device ∙ c.loop-len.invariant.failures;
-      any_moment = read_on g.D.Disk c.args.disk.now c.loop-len.disk c.read_head.new.disk c.loop-len.invariant.any_moment c.loop-len.invariant.state c.read_head.ensures.any_moment;
+      any_moment = read_on g.D.Disk c.args.disk.now c.loop-len.disk c.read_head.new.disk c.loop-len.invariant.any_moment c.loop-len.invariant.state c.read_head.ensures.reads.any_moment;
     }

@@ -24,17 +24,32 @@ returns-in_err-next-clause-whole g c events honest keeps =
     unless_damaged c.from_residual-in_err-next.result
     (λ told. c.next.ensures.damaged read.seen honest read.at (grind arith) events (bytes_now g.D.Disk l.journal events (l.invariant.keeps events keeps)))
 
-pub returns-in_err-next-clause-any_moment : goal.returns-in_err-next-clause-any_moment
-returns-in_err-next-clause-any_moment g c =
-    then g.D.Disk (disk_of c.args.journal.now) (disk_of c.loop-number.journal) (disk_of c.next.new.self) c.loop-number.invariant.moments c.next.ensures.any_moment
+pub returns-in_err-next-clause-disk : goal.returns-in_err-next-clause-disk
+returns-in_err-next-clause-disk g c =
+    let l = c.loop-number in
+    record {
+      state = c.next.ensures.disk.state ∙ l.invariant.state;
+      any_moment = then g.D.Disk (disk_of c.args.journal.now) (disk_of l.journal) (disk_of c.next.new.self) l.invariant.moments c.next.ensures.disk.any_moment;
+      calls = omega (arith, c.next.ensures.disk.calls, l.invariant.calls, c.loop-number-test.true);
+    }
 
-pub returns-in-None-clause-any_moment : goal.returns-in-None-clause-any_moment
-returns-in-None-clause-any_moment g c =
-    then g.D.Disk (disk_of c.args.journal.now) (disk_of c.loop-number.journal) (disk_of c.next.new.self) c.loop-number.invariant.moments c.next.ensures.any_moment
+pub returns-in-None-clause-disk : goal.returns-in-None-clause-disk
+returns-in-None-clause-disk g c =
+    let l = c.loop-number in
+    record {
+      state = c.next.ensures.disk.state ∙ l.invariant.state;
+      any_moment = then g.D.Disk (disk_of c.args.journal.now) (disk_of l.journal) (disk_of c.next.new.self) l.invariant.moments c.next.ensures.disk.any_moment;
+      calls = omega (arith, c.next.ensures.disk.calls, l.invariant.calls, c.loop-number-test.true);
+    }
 
-pub returns-in_err-note-in-Some-clause-any_moment : goal.returns-in_err-note-in-Some-clause-any_moment
-returns-in_err-note-in-Some-clause-any_moment g c =
-    then g.D.Disk (disk_of c.args.journal.now) (disk_of c.loop-number.journal) (disk_of c.next.new.self) c.loop-number.invariant.moments c.next.ensures.any_moment
+pub returns-in_err-note-in-Some-clause-disk : goal.returns-in_err-note-in-Some-clause-disk
+returns-in_err-note-in-Some-clause-disk g c =
+    let l = c.loop-number in
+    record {
+      state = c.next.ensures.disk.state ∙ l.invariant.state;
+      any_moment = then g.D.Disk (disk_of c.args.journal.now) (disk_of l.journal) (disk_of c.next.new.self) l.invariant.moments c.next.ensures.disk.any_moment;
+      calls = omega (arith, c.next.ensures.disk.calls, l.invariant.calls, c.loop-number-test.true);
+    }
 
 pub returns-in-None-clause-events : goal.returns-in-None-clause-events
 returns-in-None-clause-events g c events honest keeps size =
@@ -48,9 +63,9 @@ loop-number-preserved g c =
     let l = c.loop-number in
     record {
       works = search rules;
-      state = c.next.ensures.state ∙ l.invariant.state;
-      moments = then g.D.Disk (disk_of c.args.journal.now) (disk_of l.journal) (disk_of c.next.new.self) l.invariant.moments c.next.ensures.any_moment;
-      calls = let one = c.next.ensures.calls in let before = l.invariant.calls in omega (arith, one, before);
+      state = c.next.ensures.disk.state ∙ l.invariant.state;
+      moments = then g.D.Disk (disk_of c.args.journal.now) (disk_of l.journal) (disk_of c.next.new.self) l.invariant.moments c.next.ensures.disk.any_moment;
+      calls = let one = c.next.ensures.disk.calls in let before = l.invariant.calls in omega (arith, one, before);
       failures = search rules;
       keeps = λ events keeps. c.next.ensures.keeps events (l.invariant.keeps events keeps);
       within = search rules;
@@ -70,9 +85,9 @@ loop-number-preserved-in-Continue-branch-4 g c =
     let l = c.loop-number in
     record {
       works = search rules;
-      state = c.next.ensures.state ∙ l.invariant.state;
-      moments = then g.D.Disk (disk_of c.args.journal.now) (disk_of l.journal) (disk_of c.next.new.self) l.invariant.moments c.next.ensures.any_moment;
-      calls = let one = c.next.ensures.calls in let before = l.invariant.calls in omega (arith, one, before);
+      state = c.next.ensures.disk.state ∙ l.invariant.state;
+      moments = then g.D.Disk (disk_of c.args.journal.now) (disk_of l.journal) (disk_of c.next.new.self) l.invariant.moments c.next.ensures.disk.any_moment;
+      calls = let one = c.next.ensures.disk.calls in let before = l.invariant.calls in omega (arith, one, before);
       failures = search rules;
       keeps = λ events keeps. c.next.ensures.keeps events (l.invariant.keeps events keeps);
       within = search rules;

@@ -33,7 +33,7 @@ returns-in-Err-clause-images g c honest =
     let second = c.attach-roots.ensures.second in
     subst (λ (n : Devices g.row.D.Denot). EachImage g.D.Disk old n (HasContentOf (read_of g.D.Disk old))) (sym c.handed_back.ensures)
     (read_alone g.D.Disk old _ c.requires.settled (record {
-      journal = c.in-Err.ensures.any_moment;
+      journal = c.in-Err.ensures.disk.any_moment;
       slots = same g.D.Disk old.slots;
       root0 = moved g.D.Disk old.root0 old.root0 _ old.root0 (IsImage (g.D.Disk.state old.root0)) refl (sym first) (same g.D.Disk old.root0);
       root1 = moved g.D.Disk old.root1 old.root1 _ old.root1 (IsImage (g.D.Disk.state old.root1)) refl (sym second) (same g.D.Disk old.root1);
@@ -62,7 +62,7 @@ returns-in-Ok-caught_up-clause-content g c honest =
         checkpoint = rooted.now.checkpoint;
         stands = record { former = rooted.now.former; newest = rooted.has_roots; stand = rooted.has_slots };
         events = has.1;
-        journal = subst (λ (s : DiskState). IsJournal s.contents has.1) c.in-Ok.ensures.state has.2;
+        journal = subst (λ (s : DiskState). IsJournal s.contents has.1) c.in-Ok.ensures.disk.state has.2;
         gives = has.3;
       },
       has.4,
@@ -82,7 +82,7 @@ returns-in-Ok-caught_up-clause-sets g c honest =
       stands = record { former = rooted.now.former; newest = rooted.has_roots; stand = rooted.has_slots };
       sets = subst (λ (s : Content). HasSets s (table_at c.args.caps.sets (root_of rooted.now.checkpoint)) (g.D.Disk.state old.journal).contents live store.detector.sets) rooted.started.content
           (subst (λ (t : Table). HasSets (detect.content (pools.live g.D.Disk) c.in-Ok-rooted.detector) t (g.D.Disk.state old.journal).contents live store.detector.sets) rooted.sets
-          (subst (λ (s : DiskState). HasSets (detect.content (pools.live g.D.Disk) c.in-Ok-rooted.detector) c.in-Ok-rooted.detector.sets s.contents live store.detector.sets) c.in-Ok.ensures.state
+          (subst (λ (s : DiskState). HasSets (detect.content (pools.live g.D.Disk) c.in-Ok-rooted.detector) c.in-Ok-rooted.detector.sets s.contents live store.detector.sets) c.in-Ok.ensures.disk.state
           (c.in-Ok-caught_up.ensures.sets honest)));
     }
 
@@ -97,7 +97,7 @@ returns-in-Ok-caught_up-clause-images g c honest =
     let words = c.in-Ok-rooted.detector.words in
     let P = HasSlots rooted.now in
     with_pages g.D.Disk old new c.requires.settled c.args.caps.sets c.in-Ok-rooted.number c.in-Ok-rooted.detector c.in-Ok-rooted.roots rooted
-    (then g.D.Disk old.journal (journals.disk_of c.in-Ok.journal) new.journal c.in-Ok.ensures.any_moment c.in-Ok-caught_up.ensures.journal)
+    (then g.D.Disk old.journal (journals.disk_of c.in-Ok.journal) new.journal c.in-Ok.ensures.disk.any_moment c.in-Ok-caught_up.ensures.journal)
     (moved g.D.Disk old.slots old.slots new.slots (pools.disk_of c.in-Ok-caught_up.store.detector.words) P refl (sym c.in-Ok-caught_up.ensures.slots)
     (joined g.D.Disk old.slots (pools.disk_of words) (pools.disk_of c.in-Ok-caught_up.store.detector.words) P
     (weaker g.D.Disk old.slots (pools.disk_of words) (IsImage (g.D.Disk.state old.slots)) P c.in-Ok-rooted.ensures.any_moment (settled_leaves P (g.D.Disk.state old.slots).contents (g.D.Disk.state old.slots) c.requires.settled.slots rooted.has_slots))
@@ -113,7 +113,7 @@ returns-in-Err-caught_up-clause-damaged g c honest told d has =
     (ap (λ d. g.D.Disk.state d) c.attach-roots.ensures.second ∙ c.requires.settled.root1)
     c.requires.settled.slots in
     c.in-Err-caught_up.ensures.damaged rooted.now honest rooted.started told has.events d
-    (subst (λ (s : DiskState). IsJournal s.contents has.events) (sym c.in-Ok.ensures.state) has.journal)
+    (subst (λ (s : DiskState). IsJournal s.contents has.events) (sym c.in-Ok.ensures.disk.state) has.journal)
     (subst (λ (s : Content). LeadFrom s has.events d) (rooted.only has.checkpoint has.stands) has.gives)
 
 pub returns-in-Err-caught_up-clause-full : goal.returns-in-Err-caught_up-clause-full
@@ -128,7 +128,7 @@ returns-in-Err-caught_up-clause-full g c honest told =
       record { former = rooted.now.former; newest = rooted.has_roots; stand = rooted.has_slots },
       subst (λ (s : Content). IsTooSmall s (table_at c.args.caps.sets (root_of rooted.now.checkpoint)) (g.D.Disk.state old.journal).contents) rooted.started.content
           (subst (λ (t : Table). IsTooSmall (detect.content (pools.live g.D.Disk) c.in-Ok-rooted.detector) t (g.D.Disk.state old.journal).contents) rooted.sets
-          (subst (λ (s : DiskState). IsTooSmall (detect.content (pools.live g.D.Disk) c.in-Ok-rooted.detector) c.in-Ok-rooted.detector.sets s.contents) c.in-Ok.ensures.state
+          (subst (λ (s : DiskState). IsTooSmall (detect.content (pools.live g.D.Disk) c.in-Ok-rooted.detector) c.in-Ok-rooted.detector.sets s.contents) c.in-Ok.ensures.disk.state
           (c.in-Err-caught_up.ensures.full honest told))),
     )
 
@@ -160,7 +160,7 @@ returns-in-Err-caught_up-clause-images g c honest =
     subst (λ (n : Devices g.row.D.Denot). EachImage g.D.Disk old n (HasContentOf (read_of g.D.Disk old))) (sym c.handed_back-in-Err-caught_up.ensures)
     (with_pages g.D.Disk old _ c.requires.settled c.args.caps.sets c.in-Ok-rooted.number c.in-Ok-rooted.detector c.in-Ok-rooted.roots rooted
     (moved g.D.Disk old.journal old.journal _ (journals.disk_of c.in-Err-caught_up.journal) (IsImage (g.D.Disk.state old.journal)) refl (sym c.into_disk.ensures)
-    (then g.D.Disk old.journal (journals.disk_of c.in-Ok.journal) (journals.disk_of c.in-Err-caught_up.journal) c.in-Ok.ensures.any_moment c.in-Err-caught_up.ensures.journal))
+    (then g.D.Disk old.journal (journals.disk_of c.in-Ok.journal) (journals.disk_of c.in-Err-caught_up.journal) c.in-Ok.ensures.disk.any_moment c.in-Err-caught_up.ensures.journal))
     (moved g.D.Disk old.slots old.slots _ (pools.disk_of now) P refl
     (sym (c.into_disks-slots.ensures ∙ ap (λ (f : SlotFile g.row.D.Denot). files.disk_of f) (c.into_disks.ensures ∙ ap (λ (w : pool.ShownPool g.row.D.Denot). w.file) c.into_words.ensures)))
     (joined g.D.Disk old.slots (pools.disk_of words) (pools.disk_of now) P
@@ -181,7 +181,7 @@ returns-in-Err-rooted-clause-images g c honest =
     let old = c.args.devices in
     subst (λ (n : Devices g.row.D.Denot). EachImage g.D.Disk old n (HasContentOf (read_of g.D.Disk old))) (sym c.handed_back-in-Err-rooted.ensures)
     (read_alone g.D.Disk old _ c.requires.settled (record {
-      journal = moved g.D.Disk old.journal old.journal _ (journals.disk_of c.in-Ok.journal) (IsImage (g.D.Disk.state old.journal)) refl (sym c.into_disk-in-Err-rooted.ensures) c.in-Ok.ensures.any_moment;
+      journal = moved g.D.Disk old.journal old.journal _ (journals.disk_of c.in-Ok.journal) (IsImage (g.D.Disk.state old.journal)) refl (sym c.into_disk-in-Err-rooted.ensures) c.in-Ok.ensures.disk.any_moment;
       slots = c.in-Err-rooted.ensures.any_moment;
       root0 = read_on g.D.Disk old.root0 (first_of c.attach-roots.result) _ (first_of c.in-Err-rooted.roots) c.attach-roots.ensures.first refl c.in-Err-rooted.ensures.first.any_moment;
       root1 = read_on g.D.Disk old.root1 (second_of c.attach-roots.result) _ (second_of c.in-Err-rooted.roots) c.attach-roots.ensures.second refl c.in-Err-rooted.ensures.second.any_moment;

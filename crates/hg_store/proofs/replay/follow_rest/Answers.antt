@@ -22,13 +22,13 @@ loop-number-init g c = record {
 }
 
 pub returns-in_err-named-clause-any_moment : goal.returns-in_err-named-clause-any_moment
-returns-in_err-named-clause-any_moment g c = then g.D.Disk (disk_of c.args.journal.now) (disk_of c.loop-number.journal) (disk_of c.next.new.self) c.loop-number.invariant.moments c.next.ensures.any_moment
+returns-in_err-named-clause-any_moment g c = then g.D.Disk (disk_of c.args.journal.now) (disk_of c.loop-number.journal) (disk_of c.next.new.self) c.loop-number.invariant.moments c.next.ensures.disk.any_moment
 
 pub returns-in_err-follow-in-Some-clause-any_moment : goal.returns-in_err-follow-in-Some-clause-any_moment
-returns-in_err-follow-in-Some-clause-any_moment g c = then g.D.Disk (disk_of c.args.journal.now) (disk_of c.loop-number.journal) (disk_of c.next.new.self) c.loop-number.invariant.moments c.next.ensures.any_moment
+returns-in_err-follow-in-Some-clause-any_moment g c = then g.D.Disk (disk_of c.args.journal.now) (disk_of c.loop-number.journal) (disk_of c.next.new.self) c.loop-number.invariant.moments c.next.ensures.disk.any_moment
 
 pub returns-in-None-clause-any_moment : goal.returns-in-None-clause-any_moment
-returns-in-None-clause-any_moment g c = then g.D.Disk (disk_of c.args.journal.now) (disk_of c.loop-number.journal) (disk_of c.next.new.self) c.loop-number.invariant.moments c.next.ensures.any_moment
+returns-in-None-clause-any_moment g c = then g.D.Disk (disk_of c.args.journal.now) (disk_of c.loop-number.journal) (disk_of c.next.new.self) c.loop-number.invariant.moments c.next.ensures.disk.any_moment
 
 pub returns-in_err-follow-in-Some-clause-went : goal.returns-in_err-follow-in-Some-clause-went
 returns-in_err-follow-in-Some-clause-went g c = went_on g.D.Disk c.args.detector.now.words c.loop-number.detector.words c.follow.new.detector.words c.loop-number.invariant.went c.follow.ensures.went
@@ -42,13 +42,13 @@ pub returns-in_err-follow-in-Some-clause-damaged : goal.returns-in_err-follow-in
 returns-in_err-follow-in-Some-clause-damaged g c seen honest at faithful told count events d is lead =
     let read = c.loop-number.invariant.read seen honest at faithful in
     no_content g.D.Disk c.loop-number.journal c.loop-number.reader seen c.args.detector.now c.loop-number.detector read c.next.new.self c.next.new.reader c.in-Some.named (rw c.in-Some.is at (c.in_ok-named.ensures.next (seen ++ read.since) honest read.at))
-    count (c.follow.ensures.damaged (search rules)) events d (subst (λ (s : DiskState). IsJournal s.contents events) (sym (c.next.ensures.state ∙ c.loop-number.invariant.state)) is) lead
+    count (c.follow.ensures.damaged (search rules)) events d (subst (λ (s : DiskState). IsJournal s.contents events) (sym (c.next.ensures.disk.state ∙ c.loop-number.invariant.state)) is) lead
 
 pub returns-in_err-follow-in-Some-clause-full : goal.returns-in_err-follow-in-Some-clause-full
 returns-in_err-follow-in-Some-clause-full g c seen honest at faithful told count =
     let read = c.loop-number.invariant.read seen honest at faithful in
     let full = c.follow.ensures.full (c.loop-number.invariant.faithful faithful) (search rules) in
-    subst (λ (s : DiskState). IsTooSmall (content_in g.D.Disk c.args.detector.now) c.args.detector.now.sets s.contents) (c.next.ensures.state ∙ c.loop-number.invariant.state)
+    subst (λ (s : DiskState). IsTooSmall (content_in g.D.Disk c.args.detector.now) c.args.detector.now.sets s.contents) (c.next.ensures.disk.state ∙ c.loop-number.invariant.state)
     (too_small g.D.Disk c.loop-number.journal c.loop-number.reader seen c.args.detector.now c.loop-number.detector read c.next.new.self c.next.new.reader c.in-Some.named (rw c.in-Some.is at (c.in_ok-named.ensures.next (seen ++ read.since) honest read.at))
     count _ full.0 full.1)
 
@@ -63,8 +63,8 @@ loop-number-preserved g c = record {
   lawful = search rules;
   faithful = λ f. c.follow.ensures.faithful (c.loop-number.invariant.faithful f);
   went = went_on g.D.Disk c.args.detector.now.words c.loop-number.detector.words c.follow.new.detector.words c.loop-number.invariant.went c.follow.ensures.went;
-  state = c.next.ensures.state ∙ c.loop-number.invariant.state;
-  moments = then g.D.Disk (disk_of c.args.journal.now) (disk_of c.loop-number.journal) (disk_of c.next.new.self) c.loop-number.invariant.moments c.next.ensures.any_moment;
+  state = c.next.ensures.disk.state ∙ c.loop-number.invariant.state;
+  moments = then g.D.Disk (disk_of c.args.journal.now) (disk_of c.loop-number.journal) (disk_of c.next.new.self) c.loop-number.invariant.moments c.next.ensures.disk.any_moment;
   failures = search rules;
   read = λ seen honest at faithful.
       let read = c.loop-number.invariant.read seen honest at faithful in

@@ -10,10 +10,10 @@ use Rattle.hg_store.proofs.Replaying.{too_few}
 use Rattle.hg_store.proofs.replay.skip.Goals as goal
 
 pub returns-in_err-passed-clause-any_moment : goal.returns-in_err-passed-clause-any_moment
-returns-in_err-passed-clause-any_moment g c = then g.D.Disk (disk_of c.args.journal.now) (disk_of c.loop-left.journal) (disk_of c.pass.new.self) c.loop-left.invariant.moments c.pass.ensures.any_moment
+returns-in_err-passed-clause-any_moment g c = then g.D.Disk (disk_of c.args.journal.now) (disk_of c.loop-left.journal) (disk_of c.pass.new.self) c.loop-left.invariant.moments c.pass.ensures.disk.any_moment
 
 pub returns-then-passed-eq0-clause-any_moment : goal.returns-then-passed-eq0-clause-any_moment
-returns-then-passed-eq0-clause-any_moment g c = then g.D.Disk (disk_of c.args.journal.now) (disk_of c.loop-left.journal) (disk_of c.pass.new.self) c.loop-left.invariant.moments c.pass.ensures.any_moment
+returns-then-passed-eq0-clause-any_moment g c = then g.D.Disk (disk_of c.args.journal.now) (disk_of c.loop-left.journal) (disk_of c.pass.new.self) c.loop-left.invariant.moments c.pass.ensures.disk.any_moment
 
 pub returns-in_err-passed-clause-damaged : goal.returns-in_err-passed-clause-damaged
 returns-in_err-passed-clause-damaged g c honest at told events is enough =
@@ -25,14 +25,14 @@ returns-then-passed-eq0-clause-damaged g c honest at told events is enough =
     let read = c.loop-left.invariant.read honest at in
     let keeps = c.in_ok-passed.ensures.at_end read.0 honest read.2 c.if-passed-eq0.true in
     let bytes = (g.D.Disk.state (disk_of c.args.journal.now)).contents in
-    let seen : IsJournal bytes read.0 = subst (λ (s : DiskState). IsJournal s.contents read.0) (c.pass.ensures.state ∙ c.loop-left.invariant.state) (bytes_now g.D.Disk c.pass.new.self read.0 keeps) in
+    let seen : IsJournal bytes read.0 = subst (λ (s : DiskState). IsJournal s.contents read.0) (c.pass.ensures.disk.state ∙ c.loop-left.invariant.state) (bytes_now g.D.Disk c.pass.new.self read.0 keeps) in
     too_few g.D.Disk read.0 events c.args.count (omega (arith, read.1, c.loop-left-test.true)) (one_reading bytes events read.0 is seen) enough
 
 pub loop-left-preserved : goal.loop-left-preserved
 loop-left-preserved g c = record {
   works = search rules;
-  state = c.pass.ensures.state ∙ c.loop-left.invariant.state;
-  moments = then g.D.Disk (disk_of c.args.journal.now) (disk_of c.loop-left.journal) (disk_of c.pass.new.self) c.loop-left.invariant.moments c.pass.ensures.any_moment;
+  state = c.pass.ensures.disk.state ∙ c.loop-left.invariant.state;
+  moments = then g.D.Disk (disk_of c.args.journal.now) (disk_of c.loop-left.journal) (disk_of c.pass.new.self) c.loop-left.invariant.moments c.pass.ensures.disk.any_moment;
   failures = search rules;
   few = search rules;
   read = λ honest at.

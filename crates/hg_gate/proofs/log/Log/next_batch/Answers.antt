@@ -6,7 +6,7 @@ use Rattle.hg_gate.specs.declared.fault.GateFault.{GateFault}
 use Rattle.hg_gate.specs.declared.fault.GateFault.TheVariants.{Damaged}
 use Rattle.hg_gate.specs.Batches.{IsClosed, spelled}
 use Rattle.hg_gate.specs.Scan.{IsHead, IsOpen}
-use Rattle.hg_gate.proofs.Walking.{read_on}
+use Rattle.hg_gate.proofs.Walking.{read_again}
 use Rattle.hg_gate.proofs.Reading.{tail_at, none_left, next_of, push_length}
 use Rattle.hg_gate.proofs.log.Log.next_batch.Goals as goal
 
@@ -25,13 +25,11 @@ returns-in_default-clause-next g c seen left honest h place =
       place ∙ ap (λ (l : List (List ℕ)). length (spelled l)) (sym (append-nil seen)),
     )
 
-pub returns-in_err-body-clause-any_moment : goal.returns-in_err-body-clause-any_moment
-returns-in_err-body-clause-any_moment g c =
-    read_on g.D.Disk c.args.self.now.disk c.read_head.new.disk c.read_vec.new.disk c.read_head.ensures.any_moment c.read_head.ensures.state c.read_vec.ensures.any_moment
+pub returns-in_err-body-clause-disk : goal.returns-in_err-body-clause-disk
+returns-in_err-body-clause-disk g c = read_again g.D.Disk 1 1 2 c.args.self.now.disk c.read_head.new.disk c.read_vec.new.disk (omega arith) c.read_head.ensures.reads c.read_vec.ensures.reads
 
-pub returns-clause-any_moment : goal.returns-clause-any_moment
-returns-clause-any_moment g c =
-    read_on g.D.Disk c.args.self.now.disk c.read_head.new.disk c.read_vec.new.disk c.read_head.ensures.any_moment c.read_head.ensures.state c.read_vec.ensures.any_moment
+pub returns-clause-disk : goal.returns-clause-disk
+returns-clause-disk g c = read_again g.D.Disk 1 1 2 c.args.self.now.disk c.read_head.new.disk c.read_vec.new.disk (omega arith) c.read_head.ensures.reads c.read_vec.ensures.reads
 
 pub returns-clause-next : goal.returns-clause-next
 returns-clause-next g c seen left honest h place =
@@ -40,7 +38,7 @@ returns-clause-next g c seen left honest h place =
     let begins : IsOpen (drop at file) c.in-Some.len = subst (IsHead (drop at file)) c.in-Some.is (c.in_ok-len.ensures.head honest) in
     let next = next_of (drop at file) c.in-Some.len left (tail_at file at seen left place h.has) begins in
     let read : c.in_ok-body.body.items ≡ take c.in-Some.len (drop (at + 5) file) =
-    c.in_ok-body.ensures.bytes honest ∙ ap (λ (s : DiskState). take c.in-Some.len (drop (at + 5) s.contents)) c.read_head.ensures.state in
+    c.in_ok-body.ensures.bytes honest ∙ ap (λ (s : DiskState). take c.in-Some.len (drop (at + 5) s.contents)) c.read_head.ensures.reads.state in
     let body : c.of.result.body.items ≡ next.body = c.of.ensures ∙ read ∙ ap (λ (l : List ℕ). take c.in-Some.len l) (sym (drop-drop 5 at file)) ∙ next.bytes in
     let size : length c.of.result.body.items ≡ c.in-Some.len = ap length body ∙ next.size in (
       (next.later, next.all ∙ ap (λ (l : List ℕ). l ∷ next.later) (sym body)),

@@ -19,4 +19,4 @@ returns-in-Some-clause-next g c seen honest h =
 pub returns-in-None-clause-damaged : goal.returns-in-None-clause-damaged
 returns-in-None-clause-damaged g c seen honest h same events is =
     let found = subst (λ (more : Bool). MatchBool more (IsAt c.find.new.self c.find.new.reader seen × (1 ≤ length (rest_of c.find.new.reader))) (KeepsEvents c.find.new.self seen)) c.if-not-branch.false (c.in_ok-find.ensures.found seen honest h) in
-    none_of g.D.Disk c.find.new.self c.find.new.reader seen found.0 found.1 c.in-None.ensures.none events (subst (λ (s : DiskState). IsJournal s.contents events) (sym c.find.ensures.state) is)
+    none_of g.D.Disk c.find.new.self c.find.new.reader seen found.0 found.1 c.in-None.ensures.none events (subst (λ (s : DiskState). IsJournal s.contents events) (sym c.find.ensures.disk.state) is)

@@ -18,7 +18,7 @@ returns-then-count-eq0-clause-damaged g c seen honest h same events is =
     let still : rest_of c.pass-count.new.self ≡ rest_of c.find.new.reader = subst (λ (n : ℕ). Passes n (rest_of c.find.new.reader) (rest_of c.pass-count.new.self)) c.if-count-eq0.true c.pass-count.ensures.passed in
     none_of g.D.Disk c.find.new.self c.find.new.reader seen found.0 found.1
     (λ named rest begins. c.pass-count.ensures.none (omega (arith, c.if-count-eq0.true, c.requires.some)) named rest (subst (λ (bytes : List ℕ). BeginsWith bytes named rest) (sym still) begins))
-    events (subst (λ (s : DiskState). IsJournal s.contents events) (sym c.find.ensures.state) is)
+    events (subst (λ (s : DiskState). IsJournal s.contents events) (sym c.find.ensures.disk.state) is)
 
 pub returns-clause-passed : goal.returns-clause-passed
 returns-clause-passed g c seen honest h some =

@@ -1,14 +1,26 @@
-use Rattle.std.proofs.Common.{◌*◌, ℕ, take, drop, ap, ◌∙◌, arith}
+use Rattle.std.proofs.Common.{◌*◌, ℕ, length, take, drop, refl, ap, ◌∙◌, arith, rules}
 use Rattle.hg_disk.proofs.Moments.{read_leaves}
 use Rattle.hg_pages.specs.Slots.{HasBytes}
 use Rattle.hg_pages.proofs.Keeping.{as_known, read_slot}
 use Rattle.hg_pages.proofs.slot_file.SlotFile.fill.Goals as goal
 
-pub returns-in_err-read_at-clause-any_moment : goal.returns-in_err-read_at-clause-any_moment
-returns-in_err-read_at-clause-any_moment g c = read_leaves g.D.Disk c.args.self.now.disk c.read_at.new.self c.read_at.ensures.state c.read_at.ensures.clock
+pub returns-in_err-read_at-clause-stays : goal.returns-in_err-read_at-clause-stays
+returns-in_err-read_at-clause-stays g c = record {
+  known = search rules;
+  state = c.read_at.ensures.state;
+  any_moment = read_leaves g.D.Disk c.args.self.now.disk c.read_at.new.self c.read_at.ensures.state c.read_at.ensures.clock;
+  calls = omega (arith, ap length c.read_at.ensures.clock);
+  works = refl;
+}
 
-pub returns-clause-any_moment : goal.returns-clause-any_moment
-returns-clause-any_moment g c = read_leaves g.D.Disk c.args.self.now.disk c.read_at.new.self c.read_at.ensures.state c.read_at.ensures.clock
+pub returns-clause-stays : goal.returns-clause-stays
+returns-clause-stays g c = record {
+  known = search rules;
+  state = c.read_at.ensures.state;
+  any_moment = read_leaves g.D.Disk c.args.self.now.disk c.read_at.new.self c.read_at.ensures.state c.read_at.ensures.clock;
+  calls = omega (arith, ap length c.read_at.ensures.clock);
+  works = refl;
+}
 
 pub returns-clause-read : goal.returns-clause-read
 returns-clause-read g c honest =

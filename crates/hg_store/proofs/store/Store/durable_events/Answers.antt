@@ -12,7 +12,7 @@ pub returns-then-self-clause-images : goal.returns-then-self-clause-images
 returns-then-self-clause-images g c = images_same g.D.Disk c.args.self.now.devices
 
 pub returns-clause-images : goal.returns-clause-images
-returns-clause-images g c = rw (← c.self.view_is) (images_left g.D.Disk _ (disk_of c.collect.new.journal) c.collect.ensures.any_moment)
+returns-clause-images g c = rw (← c.self.view_is) (images_left g.D.Disk _ (disk_of c.collect.new.journal) c.collect.ensures.disk.any_moment)
 
 pub invariant_of-self : goal.invariant_of-self
 invariant_of-self g c = record {
@@ -25,7 +25,7 @@ invariant_of-self g c = record {
   sealed = c.self.invariant.sealed;
   stands = λ honest.
       let k = c.self.invariant.stands honest in
-      (k.0, read_on g.D.Disk _ k.0 k.1 c.collect.new.journal c.collect.ensures.state (λ keeps. c.collect.ensures.keeps k.0.events keeps));
+      (k.0, read_on g.D.Disk _ k.0 k.1 c.collect.new.journal c.collect.ensures.disk.state (λ keeps. c.collect.ensures.keeps k.0.events keeps));
 }
 
 pub returns-clause-events : goal.returns-clause-events
