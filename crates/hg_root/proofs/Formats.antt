@@ -163,7 +163,7 @@ such_that_format {X = X} t r F test format = record {
       ap (λ r. r >>= λ y. cond (test y.0) (Some y) None) (format.again x rest fits.0) ∙ ap (λ b. cond b (Some (x, rest)) None) fits.1;
 }
 
--- the same with what fits said in other words
+-- a format, where what fits is said in other words
 pub as_format : {X : Type 0} (t : X → List ℕ) (r : Reader X) (F G : X → Type 0) → IsFormat t r F → ((x : X) → F x → G x) → ((x : X) → G x → F x) → IsFormat t r G
 as_format t r F G format to from = record {
   takes = λ bytes x rest fits e. let both = format.takes bytes x rest fits e in (both.0, to x both.1);

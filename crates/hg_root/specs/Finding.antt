@@ -25,7 +25,7 @@ root_in (Some root) = Some (parts_of root)
 abbrev pub IsWholeIn : Option Root → Type 0
 IsWholeIn found = IfSome found (λ r. IsWhole r × IsLawful (parts_of r))
 
--- The same of both roots.
+-- Both roots are whole and obey the rules.
 abbrev pub AreWhole : Newest → Type 0
 AreWhole found = IsWholeIn found.root × IsWholeIn found.former
 

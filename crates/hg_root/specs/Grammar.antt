@@ -19,11 +19,11 @@ header = 72 ∷ 71 ∷ 82 ∷ 79 ∷ 79 ∷ 84 ∷ 49 ∷ 10 ∷ []
 abbrev pub many_text : {X : Type 0} → (X → List ℕ) → List X → List ℕ
 many_text text items = to_be_bytes w32 (length items) ++ flat_map text items
 
--- the same with two bytes for the count
+-- their number in two bytes, and then each
 abbrev pub some_text : {X : Type 0} → (X → List ℕ) → List X → List ℕ
 some_text text items = to_be_bytes w16 (length items) ++ flat_map text items
 
--- the same with one byte for the count
+-- their number in one byte, and then each
 abbrev pub few_text : {X : Type 0} → (X → List ℕ) → List X → List ℕ
 few_text text items = length items ∷ flat_map text items
 

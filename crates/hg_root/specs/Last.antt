@@ -1,12 +1,13 @@
 -- The last segment of each thread. (No promise to a reader rests on this file.)
 use Rattle.std.specs.Prelude.{◌≡◌, ℕ, ◌<◌, ◌≤◌, Bool, ◌&&◌, List, length, Option, None, slice_index_or}
+use Rattle.hg_model.specs.declared.limits.TheConstants.{THREAD_NUMBERS}
 use Rattle.hg_model.specs.declared.segment.Segment.{Segment}
 use Rattle.hg_graph.specs.Restoring.{AreSegments, are_predecessors, former, has_former, has_thread}
 
 -- the table has it at each thread's number
 pub record IsLastTable (segments : List Segment) (lasts : List (Option ℕ)) : Type 0 where
-  pub len : length lasts ≡ 1024
-  pub each : (t : ℕ) → t < 1024 → slice_index_or lasts t None ≡ former segments t
+  pub len : length lasts ≡ THREAD_NUMBERS
+  pub each : (t : ℕ) → t < THREAD_NUMBERS → slice_index_or lasts t None ≡ former segments t
 
 -- P holds of each list of segments whose last ones are in the table.
 abbrev pub ForTable : List (Option ℕ) → (List Segment → Type 0) → Type 0

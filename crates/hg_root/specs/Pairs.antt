@@ -99,7 +99,8 @@ module _ {D : Type 0} (g : disk.Ghosts D) where
     pub known : IsKnown p.is_closed former
     pub newer_known : IsKnown p.is_other_closed root
 
-  -- The same, and the file that is written next is closed, with these bytes behind its gate.
+  -- The pair works, and both files are durable. The file that is written next is closed, with these bytes behind its gate; the other
+  -- has the newest open root, or is closed.
   pub record IsPrepared (p : RootPair D) (root : Option Parts) (rest : List ℕ) : Type 0 where
     pub gate : ℕ
     pub newer_file : List ℕ

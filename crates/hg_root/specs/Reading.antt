@@ -2,6 +2,7 @@
 use Rattle.std.specs.Prelude.{◌≡◌, ℕ, zero, suc, Bool, true, false, ◌&&◌, ◌||◌, ◌==◌, nat_lt, nat_le, List, [], ◌∷◌, length, map, take, drop, Option, Some, None, Result, Ok, Err, if◌then◌else◌}
 use Rattle.std.specs.Int.{Width, w16, w32, w64, byte_len, from_be_bytes}
 use Rattle.hg_graph.specs.Restoring.{former}
+use Rattle.hg_model.specs.declared.limits.TheConstants.{MOST_HELD, THREAD_NUMBERS}
 use Rattle.hg_model.specs.declared.held.HeldLock.{HeldLock}
 use Rattle.hg_model.specs.declared.segment.Segment.{Segment}
 use Rattle.hg_model.specs.declared.thread.ThreadState.{ThreadState}
@@ -68,9 +69,9 @@ rises [] = true
 rises (x ∷ []) = true
 rises (x ∷ y ∷ xs) = nat_lt x y && rises (y ∷ xs)
 
--- the locks rise, and there are at most 64
+-- the locks rise, and there are no more than a thread may hold
 abbrev pub are_held : List HeldLock → Bool
-are_held held = nat_le (length held) 64 && rises (map (λ h. h.lock) held)
+are_held held = nat_le (length held) MOST_HELD && rises (map (λ h. h.lock) held)
 
 -- the number is there, and is this one
 abbrev pub is_some_of : Option ℕ → ℕ → Bool
@@ -79,7 +80,7 @@ is_some_of (Some n) last = n == last
 
 -- a thread that a segment names, and its last segment
 abbrev pub is_last : List Segment → ℕ → ℕ → Bool
-is_last segments t last = nat_lt t 1024 && is_some_of (former segments t) last
+is_last segments t last = nat_lt t THREAD_NUMBERS && is_some_of (former segments t) last
 
 abbrev pub RawThread : Type 0
 RawThread = ℕ × (Bool × (ℕ × List HeldLock))

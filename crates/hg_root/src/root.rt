@@ -16,7 +16,10 @@ use crate::lasts::lasts_of;
 use crate::parts::{PageSlot, SourceCount};
 use crate::rules::{are_in_order, are_pages, are_reports, are_sources};
 use hg_cells::KeptReport;
-use hg_model::limits::{MOST_EVENTS, MOST_SEGMENTS, SOURCE_NUMBERS, THREAD_NUMBERS};
+use hg_model::limits::{
+    GREATEST_SOURCE, MOST_ACCESS_WORDS, MOST_EVENTS, MOST_REPORTS, MOST_SEGMENTS, SOURCE_NUMBERS,
+    THREAD_NUMBERS,
+};
 use hg_model::segment::Segment;
 use hg_model::sets::NumberSet;
 use hg_model::thread::ThreadState;
@@ -24,9 +27,6 @@ use hg_model::verdict::Refusal;
 use hg_rules::state::TraceState;
 use hg_sets::{MOST_SETS, SetTable};
 use std::alloc::{AllocError, Global};
-
-/// The greatest number of kept reports.
-const MOST_REPORTS: u64 = 65_536;
 
 /// A root: everything of a content but its words, and the slots of its pages.
 #[derive(Drop)]
@@ -92,7 +92,7 @@ fn are_numbers(alloc: Global, threads: &[ThreadState], named: &[u16]) -> Result<
 
 /// The last number of each source, by the source's number.
 fn last_numbers(alloc: Global, sources: &[SourceCount]) -> Result<Vec<u64>, AllocError>
-    requires { All (λ s. s.source ≤ 1023) sources.now }
+    requires { All (λ s. s.source ≤ GREATEST_SOURCE) sources.now }
     ensures len { IfOk result (λ last. length last.items ≡ SOURCE_NUMBERS) }
     ensures each { IfOk result (λ last. HaveLast sources.now last.items) }
 {
@@ -109,10 +109,14 @@ fn last_numbers(alloc: Global, sources: &[SourceCount]) -> Result<Vec<u64>, Allo
 fn are_counts(number: u64, events: u64, total: u64, kept: usize) -> bool
     ensures { IsTrue result ↔ AreCounts number events total kept }
 {
-    if number == 0 || number > MOST_EVENTS || events > MOST_EVENTS || total > 17 * events {
+    if number == 0
+        || number > MOST_EVENTS
+        || events > MOST_EVENTS
+        || total > MOST_ACCESS_WORDS as u64 * events
+    {
         return false;
     }
-    kept as u64 == total.min(MOST_REPORTS)
+    kept as u64 == total.min(MOST_REPORTS as u64)
 }
 
 /// The table of these sets, with room for 262,144.

@@ -6,18 +6,13 @@ ghost use Rattle.hg_root.specs.Lawful.{AreInOrder, HaveSent, HaveSlots, IsBefore
 use crate::parts::{PageSlot, SourceCount};
 use hg_cells::KeptReport;
 use hg_model::limits::{GREATEST_SOURCE, GREATEST_THREAD};
+use hg_pages::{MOST_PAGES, MOST_SLOTS};
 use hg_sets::SetTable;
 use std::alloc::{AllocError, Global};
 
-/// How many pages there may be: page numbers are below this.
-const PAGES: u64 = 1 << 54;
-
-/// How many slots there may be.
-const SLOTS: u32 = 1_048_576;
-
 /// Whether the members are threads of the profile, and this thread is one of them.
 fn are_threads_with(members: &[u16], thread: u16) -> bool
-    ensures { IsTrue result ↔ (Contains members.now thread × All (λ t. t ≤ 1023) members.now) }
+    ensures { IsTrue result ↔ (Contains members.now thread × All (λ t. t ≤ GREATEST_THREAD) members.now) }
 {
     let mut is_member = false;
     for member in members {
@@ -86,7 +81,7 @@ fn sources_rise(sources: &[SourceCount]) -> bool
 
 /// Whether each is a source of the profile that sent something.
 fn each_sent(sources: &[SourceCount]) -> bool
-    ensures { IsTrue result ↔ All (λ s. (s.source ≤ 1023) × (1 ≤ s.last)) sources.now }
+    ensures { IsTrue result ↔ All (λ s. (s.source ≤ GREATEST_SOURCE) × (1 ≤ s.last)) sources.now }
 {
     for source in sources {
         if source.source > GREATEST_SOURCE || source.last == 0 {
@@ -131,10 +126,10 @@ fn pages_rise(pages: &[PageSlot]) -> bool
 
 /// Whether each page and each slot is one of the profile.
 fn each_within(pages: &[PageSlot]) -> bool
-    ensures { IsTrue result ↔ All (λ p. (p.page < PAGES) × (p.slot < SLOTS)) pages.now }
+    ensures { IsTrue result ↔ All (λ p. (p.page < MOST_PAGES) × (p.slot < MOST_SLOTS)) pages.now }
 {
     for page in pages {
-        if page.page >= PAGES || page.slot >= SLOTS {
+        if page.page >= MOST_PAGES || page.slot >= MOST_SLOTS {
             return false;
         }
     }
@@ -164,5 +159,5 @@ pub(crate) fn are_pages(alloc: Global, pages: &[PageSlot]) -> Result<bool, Alloc
     if !pages_rise(pages) || !each_within(pages) {
         return Ok(false);
     }
-    have_own_slots(alloc, pages, SLOTS)
+    have_own_slots(alloc, pages, MOST_SLOTS)
 }

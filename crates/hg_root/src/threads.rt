@@ -24,7 +24,7 @@ fn do_rise(locks: &[HeldLock]) -> bool
     true
 }
 
-/// The locks of a thread, if they rise and are at most 64.
+/// The locks of a thread, if they rise and are no more than it may hold.
 fn held_of(locks: &[HeldLock]) -> Option<HeldLocks>
     ensures { MatchOption result (¬ AreHeld locks.now) (λ held. (held ≡ locks.now) × AreHeld locks.now) }
 {
