@@ -4,6 +4,8 @@ use Rattle.std.specs.Prelude.{Bool, true, false, Some, [], ◌∷◌, codes, pos
 use Rattle.clap.specs.Words.{App, Rule, Text, new_app, new_rule, with_rule, with_subcommand}
 use Rattle.clap.specs.declared.builder.action.ArgAction.TheVariants.{SetTrue}
 use Rattle.clap.specs.declared.builder.value_parser.ValueParser.TheVariants as parser
+use Rattle.hg_model.specs.declared.limits.TheConstants.{GREATEST_SOURCE}
+use Rattle.hg_options.specs.declared.limits.TheConstants.{GREATEST_PORT, LEAST_FRAMES, MOST_CONNECTIONS, MOST_EVERY, MOST_FRAMES, MOST_JOBS, MOST_SILENCE, MOST_WORKERS}
 
 -- a store's directory: any text but the empty one
 abbrev pub directory : Bool → Rule
@@ -16,7 +18,7 @@ directory required = record (new_rule (codes "DIR")) {
 abbrev pub source : Rule
 source = record (new_rule (codes "SOURCE")) {
   required = true;
-  parser = Some (parser.Signed (pos 0) (pos 1023));
+  parser = Some (parser.Signed (pos 0) (pos GREATEST_SOURCE));
 }
 
 -- a flag
@@ -40,7 +42,7 @@ checkpoint = flag (codes "checkpoint")
 -- how many pages of words may be in memory: 4 to 4,096, and 64 where nothing is said
 abbrev pub frames : Rule
 frames = record (option (codes "frames")) {
-  parser = Some (parser.Signed (pos 4) (pos 4096));
+  parser = Some (parser.Signed (pos LEAST_FRAMES) (pos MOST_FRAMES));
   defaults = codes "64" ∷ [];
 }
 
@@ -48,40 +50,40 @@ frames = record (option (codes "frames")) {
 abbrev pub port : Rule
 port = record (new_rule (codes "PORT")) {
   required = true;
-  parser = Some (parser.Signed (pos 1) (pos 65535));
+  parser = Some (parser.Signed (pos 1) (pos GREATEST_PORT));
 }
 
 -- how many connections a server takes
 abbrev pub connections : Rule
 connections = record (option (codes "connections")) {
   required = true;
-  parser = Some (parser.Signed (pos 1) (pos 65535));
+  parser = Some (parser.Signed (pos 1) (pos MOST_CONNECTIONS));
 }
 
 -- how many conversations it holds at once
 abbrev pub workers : Rule
 workers = record (option (codes "workers")) {
   required = true;
-  parser = Some (parser.Signed (pos 1) (pos 64));
+  parser = Some (parser.Signed (pos 1) (pos MOST_WORKERS));
 }
 
 -- after how many committed events a checkpoint begins: 1 to 1,048,576, and 4,096 where nothing is said
 abbrev pub every : Rule
 every = record (option (codes "every")) {
-  parser = Some (parser.Signed (pos 1) (pos 1048576));
+  parser = Some (parser.Signed (pos 1) (pos MOST_EVERY));
   defaults = codes "4096" ∷ [];
 }
 
 -- how many seconds a client may be silent
 abbrev pub silence : Rule
 silence = record (option (codes "silence")) {
-  parser = Some (parser.Signed (pos 1) (pos 65535));
+  parser = Some (parser.Signed (pos 1) (pos MOST_SILENCE));
 }
 
 -- how many threads read a trace: 1 to 64, and 1 where nothing is said
 abbrev pub jobs : Rule
 jobs = record (option (codes "jobs")) {
-  parser = Some (parser.Signed (pos 1) (pos 64));
+  parser = Some (parser.Signed (pos 1) (pos MOST_JOBS));
   defaults = codes "1" ∷ [];
 }
 

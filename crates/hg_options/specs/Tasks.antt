@@ -5,7 +5,9 @@ use Rattle.clap.specs.Words.{App, HasKind, IsAmong, Kinds, Row, Text, fault_of, 
 use Rattle.clap.specs.declared.error.Error.{Error}
 use Rattle.clap.specs.declared.error.kind.ErrorKind.{ErrorKind}
 use Rattle.clap.specs.declared.error.kind.ErrorKind.TheVariants as kind
+use Rattle.hg_model.specs.declared.limits.TheConstants.{GREATEST_SOURCE}
 use Rattle.hg_wire.specs.Lines.{operand_of}
+use Rattle.hg_options.specs.declared.limits.TheConstants.{DEFAULT_EVERY, DEFAULT_FRAMES, GREATEST_PORT, LEAST_FRAMES, MOST_CONNECTIONS, MOST_EVERY, MOST_FRAMES, MOST_JOBS, MOST_SILENCE, MOST_WORKERS}
 use Rattle.hg_options.specs.declared.task.Explaining.{Explaining}
 use Rattle.hg_options.specs.declared.task.Frames.{Frames}
 use Rattle.hg_options.specs.declared.task.Jobs.{Jobs}
@@ -29,21 +31,21 @@ IsNumber id low high other rows n = (Spells id rows n × (low ≤ n) × (n ≤ h
     ⊎ ((n ≡ other) × ((m : ℕ) → Spells id rows m → low ≤ m → m ≤ high → ⊥))
 
 abbrev pub AreFrames : List Row → Frames → Type 0
-AreFrames rows frames = IsNumber (codes "frames") 4 4096 64 rows frames.pages
+AreFrames rows frames = IsNumber (codes "frames") LEAST_FRAMES MOST_FRAMES DEFAULT_FRAMES rows frames.pages
 
 abbrev pub AreJobs : List Row → Jobs → Type 0
-AreJobs rows jobs = IsNumber (codes "jobs") 1 64 1 rows jobs.threads
+AreJobs rows jobs = IsNumber (codes "jobs") 1 MOST_JOBS 1 rows jobs.threads
 
 abbrev pub IsSource : List Row → Source → Type 0
-IsSource rows source = IsNumber (codes "SOURCE") 0 1023 0 rows source.number
+IsSource rows source = IsNumber (codes "SOURCE") 0 GREATEST_SOURCE 0 rows source.number
 
 pub record AreServing (rows : List Row) (serving : Serving) : Type 0 where
-  pub port : IsNumber (codes "PORT") 1 65535 1 rows serving.port
-  pub connections : IsNumber (codes "connections") 1 65535 1 rows serving.connections
-  pub workers : IsNumber (codes "workers") 1 64 1 rows serving.workers
+  pub port : IsNumber (codes "PORT") 1 GREATEST_PORT 1 rows serving.port
+  pub connections : IsNumber (codes "connections") 1 MOST_CONNECTIONS 1 rows serving.connections
+  pub workers : IsNumber (codes "workers") 1 MOST_WORKERS 1 rows serving.workers
   pub frames : AreFrames rows serving.frames
-  pub every : IsNumber (codes "every") 1 1048576 4096 rows serving.every
-  pub silence : IsNumber (codes "silence") 1 65535 0 rows serving.silence
+  pub every : IsNumber (codes "every") 1 MOST_EVERY DEFAULT_EVERY rows serving.every
+  pub silence : IsNumber (codes "silence") 1 MOST_SILENCE 0 rows serving.silence
 
 -- the flag was given
 abbrev pub IsFlag : Text → List Row → Bool → Type 0

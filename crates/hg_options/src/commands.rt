@@ -1,4 +1,4 @@
-//! The commands of `hgd`, their arguments and options.
+//! The commands of `hgd`, with their arguments and options.
 
 ghost use Rattle.std.specs.Prelude.{◌≡◌, IfOk, Ok, Some, map, true, false};
 ghost use Rattle.clap.specs.Words.{app_of, new_app, new_rule, rule_of};
@@ -6,153 +6,16 @@ ghost use Rattle.clap.specs.declared.builder.value_parser.ValueParser.TheVariant
 ghost use Rattle.hg_options.specs.CommandLine as spec;
 ghost use Rattle.hg_options.specs.Tools.{GainsArgument, GainsSubcommand, HasNoGlobals};
 
+use crate::arguments::{
+    ADDRESS, ALL_FLAG, CHECKPOINT_FLAG, CONNECTIONS_OPTION, DIRECTORY, EVERY_OPTION, FRAMES_OPTION,
+    JOBS_OPTION, NumberOption, PORT, SILENCE_OPTION, SOURCE, Switch, VERBOSE_FLAG, WORKERS_OPTION,
+};
 use crate::help::LANGUAGE;
+use crate::limits::GREATEST_PORT;
 use clap::builder::ValueParser;
 use clap::{Arg, ArgAction, Command};
+use hg_model::limits::GREATEST_SOURCE;
 use std::alloc::{AllocError, Global};
-
-/// The name of the argument for a store's directory.
-pub const DIRECTORY: &str = "DIR";
-
-/// The name of the argument for a source.
-pub const SOURCE: &str = "SOURCE";
-
-/// The name of the flag that asks for a checkpoint.
-pub const CHECKPOINT: &str = "checkpoint";
-
-/// The name of the option for the number of pages in memory.
-pub const FRAMES: &str = "frames";
-
-/// The name of the argument for a port.
-pub const PORT: &str = "PORT";
-
-/// The name of the option for the number of connections that are taken.
-pub const CONNECTIONS: &str = "connections";
-
-/// The name of the option for the number of workers.
-pub const WORKERS: &str = "workers";
-
-/// The name of the option for the number of committed events after which a checkpoint begins.
-pub const EVERY: &str = "every";
-
-/// The name of the option for the number of seconds that a client may be silent.
-pub const SILENCE: &str = "silence";
-
-/// The name of the option for the number of threads that read a trace.
-pub const JOBS: &str = "jobs";
-
-/// The name of the argument for the address of a word.
-pub const ADDRESS: &str = "ADDRESS";
-
-/// The name of the flag that asks for each line.
-pub const ALL: &str = "all";
-
-/// The name of the flag that asks for words.
-pub const VERBOSE: &str = "verbose";
-
-/// A flag as data.
-#[derive(Clone, Copy, Drop)]
-struct Switch {
-    name: &'static str,
-    help: &'static str,
-}
-
-/// An option whose value is a number, as data.
-#[derive(Clone, Copy, Drop)]
-struct NumberOption {
-    name: &'static str,
-    value: &'static str,
-    help: &'static str,
-    required: bool,
-    least: i64,
-    most: i64,
-    /// What it is where nothing is said: no text, or one.
-    otherwise: &'static [&'static str],
-}
-
-/// The flag for a checkpoint.
-const CHECKPOINT_FLAG: Switch = Switch {
-    name: CHECKPOINT,
-    help: "At the end make a checkpoint, so that the store opens faster",
-};
-
-/// The flag for each line.
-const ALL_FLAG: Switch = Switch {
-    name: ALL,
-    help: "Print each access, be it that it changes nothing",
-};
-
-/// The flag for the last line in words.
-const VERBOSE_FLAG: Switch = Switch {
-    name: VERBOSE,
-    help: "Say on standard error what a refused or bad line, or a fault, means",
-};
-
-/// How many pages a store may have in memory.
-const FRAMES_OPTION: NumberOption = NumberOption {
-    name: FRAMES,
-    value: "F",
-    help: "How many pages of words may be in memory",
-    required: false,
-    least: 4,
-    most: 4096,
-    otherwise: &["64"],
-};
-
-/// How many connections a server takes.
-const CONNECTIONS_OPTION: NumberOption = NumberOption {
-    name: CONNECTIONS,
-    value: "N",
-    help: "How many connections to take before the end",
-    required: true,
-    least: 1,
-    most: 65535,
-    otherwise: &[],
-};
-
-/// How many workers a server has.
-const WORKERS_OPTION: NumberOption = NumberOption {
-    name: WORKERS,
-    value: "W",
-    help: "How many conversations are held at once",
-    required: true,
-    least: 1,
-    most: 64,
-    otherwise: &[],
-};
-
-/// After how many committed events a checkpoint begins.
-const EVERY_OPTION: NumberOption = NumberOption {
-    name: EVERY,
-    value: "E",
-    help: "After how many committed events a checkpoint begins (without effect yet)",
-    required: false,
-    least: 1,
-    most: 1048576,
-    otherwise: &["4096"],
-};
-
-/// How many seconds a client may be silent.
-const SILENCE_OPTION: NumberOption = NumberOption {
-    name: SILENCE,
-    value: "SECONDS",
-    help: "How long a client may be silent before its connection ends [default: for ever]",
-    required: false,
-    least: 1,
-    most: 65535,
-    otherwise: &[],
-};
-
-/// How many threads read a trace.
-const JOBS_OPTION: NumberOption = NumberOption {
-    name: JOBS,
-    value: "N",
-    help: "How many threads read a large trace",
-    required: false,
-    least: 1,
-    most: 64,
-    otherwise: &["1"],
-};
 
 /// The directory of a store.
 fn directory<'a>(alloc: Global, required: bool) -> Arg<'a>
@@ -315,7 +178,13 @@ fn feed<'a>(alloc: Global) -> Result<Command<'a>, AllocError>
         "Reads a trace on standard input, and has a store accept its events",
     );
     let of_store = with_argument(Ok(begun), directory(alloc, true));
-    let source = number(alloc, SOURCE, 0, 1023, "The source whose events these are");
+    let source = number(
+        alloc,
+        SOURCE,
+        0,
+        GREATEST_SOURCE as i64,
+        "The source whose events these are",
+    );
     let from_source = with_argument(of_store, source);
     let with_checkpoint = with_argument(from_source, flag(alloc, CHECKPOINT_FLAG));
     let with_frames = with_argument(with_checkpoint, option(alloc, FRAMES_OPTION));
@@ -333,7 +202,13 @@ fn serve<'a>(alloc: Global) -> Result<Command<'a>, AllocError>
         "Takes events from clients that connect, and answers them",
     );
     let of_store = with_argument(Ok(begun), directory(alloc, true));
-    let port = number(alloc, PORT, 1, 65535, "The port of 127.0.0.1 to listen on");
+    let port = number(
+        alloc,
+        PORT,
+        1,
+        GREATEST_PORT as i64,
+        "The port of 127.0.0.1 to listen on",
+    );
     let at_port = with_argument(of_store, port);
     let with_connections = with_argument(at_port, option(alloc, CONNECTIONS_OPTION));
     let with_workers = with_argument(with_connections, option(alloc, WORKERS_OPTION));
@@ -370,7 +245,7 @@ fn with_subcommand<'a>(
     }
 }
 
-/// The same, unless memory was refused for the subcommand.
+/// A command with one subcommand more, unless memory was refused for one of the two or is refused now.
 fn with_command<'a>(
     command: Result<Command<'a>, AllocError>,
     added: Result<Command<'a>, AllocError>,

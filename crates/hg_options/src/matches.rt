@@ -4,12 +4,17 @@ ghost use Rattle.std.specs.Prelude.{◌≡◌, ◌≤◌, ℕ, Some, None, codes
 ghost use Rattle.clap.specs.Words.{first_of, found_of, rows_of};
 ghost use Rattle.hg_options.specs.Tasks.{AreFrames, AreJobs, AreServing, AsksFor, AsksOfStore, AsksToExplain, IsFlag, IsNumber, IsSource};
 
-use crate::commands::{
+use crate::arguments::{
     ADDRESS, ALL, CHECKPOINT, CONNECTIONS, DIRECTORY, EVERY, FRAMES, JOBS, PORT, SILENCE, SOURCE,
     VERBOSE, WORKERS,
 };
+use crate::limits::{
+    DEFAULT_EVERY, DEFAULT_FRAMES, GREATEST_PORT, LEAST_FRAMES, MOST_CONNECTIONS, MOST_EVERY,
+    MOST_FRAMES, MOST_JOBS, MOST_SILENCE, MOST_WORKERS,
+};
 use crate::task::{Explaining, Frames, Jobs, Misread, Serving, Source, StoreTask, Task};
 use clap::ArgMatches;
+use hg_model::limits::GREATEST_SOURCE;
 use hg_wire::number::number_of_token;
 
 /// The number that an argument spells, or `other` where it spells none from `low` to `high`.
@@ -28,7 +33,7 @@ fn number(given: &ArgMatches<'_>, id: &str, low: u16, high: u16, other: u16) -> 
     }
 }
 
-/// The same for a number of 32 bits.
+/// The number of 32 bits that an argument spells, or `other` where it spells none from `low` to `high`.
 fn wide_number(given: &ArgMatches<'_>, id: &str, low: u32, high: u32, other: u32) -> u32
     ensures { IsNumber id.now low high other (rows_of (found_of given.now)) result }
 {
@@ -49,7 +54,7 @@ fn frames(given: &ArgMatches<'_>) -> Frames
     ensures { AreFrames (rows_of (found_of given.now)) result }
 {
     Frames {
-        pages: number(given, FRAMES, 4, 4096, 64),
+        pages: number(given, FRAMES, LEAST_FRAMES, MOST_FRAMES, DEFAULT_FRAMES),
     }
 }
 
@@ -58,7 +63,7 @@ fn jobs(given: &ArgMatches<'_>) -> Jobs
     ensures { AreJobs (rows_of (found_of given.now)) result }
 {
     Jobs {
-        threads: number(given, JOBS, 1, 64, 1),
+        threads: number(given, JOBS, 1, MOST_JOBS, 1),
     }
 }
 
@@ -67,7 +72,7 @@ fn source(given: &ArgMatches<'_>) -> Source
     ensures { IsSource (rows_of (found_of given.now)) result }
 {
     Source {
-        number: number(given, SOURCE, 0, 1023, 0),
+        number: number(given, SOURCE, 0, GREATEST_SOURCE, 0),
     }
 }
 
@@ -75,14 +80,14 @@ fn source(given: &ArgMatches<'_>) -> Source
 fn serving(given: &ArgMatches<'_>) -> Serving
     ensures { AreServing (rows_of (found_of given.now)) result }
 {
-    let workers = number(given, WORKERS, 1, 64, 1);
+    let workers = number(given, WORKERS, 1, MOST_WORKERS, 1);
     Serving {
-        port: number(given, PORT, 1, 65535, 1),
-        connections: number(given, CONNECTIONS, 1, 65535, 1),
+        port: number(given, PORT, 1, GREATEST_PORT, 1),
+        connections: number(given, CONNECTIONS, 1, MOST_CONNECTIONS, 1),
         workers,
         frames: frames(given),
-        every: wide_number(given, EVERY, 1, 1_048_576, 4_096),
-        silence: number(given, SILENCE, 1, 65535, 0),
+        every: wide_number(given, EVERY, 1, MOST_EVERY, DEFAULT_EVERY),
+        silence: number(given, SILENCE, 1, MOST_SILENCE, 0),
     }
 }
 

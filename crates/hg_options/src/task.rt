@@ -1,6 +1,8 @@
 //! What a command line asks for.
 
 ghost use Rattle.std.specs.Prelude.{◌≤◌};
+ghost use Rattle.hg_model.specs.declared.limits.TheConstants.{GREATEST_SOURCE};
+ghost use Rattle.hg_options.specs.declared.limits.TheConstants.{LEAST_FRAMES, MOST_FRAMES, MOST_JOBS, MOST_WORKERS};
 
 use std::string::String;
 
@@ -62,21 +64,21 @@ pub struct Explaining {
 #[derive(Clone, Copy, Drop)]
 pub struct Jobs {
     pub threads: u16,
-    ghost fits: { (1 ≤ threads) × (threads ≤ 64) },
+    ghost fits: { (1 ≤ threads) × (threads ≤ MOST_JOBS) },
 }
 
 /// How many pages of words a store may have in memory: 4 to 4,096.
 #[derive(Clone, Copy, Drop)]
 pub struct Frames {
     pub pages: u16,
-    ghost fits: { (4 ≤ pages) × (pages ≤ 4096) },
+    ghost fits: { (LEAST_FRAMES ≤ pages) × (pages ≤ MOST_FRAMES) },
 }
 
 /// The number of a source: 0 to 1,023.
 #[derive(Clone, Copy, Drop)]
 pub struct Source {
     pub number: u16,
-    ghost fits: { number ≤ 1023 },
+    ghost fits: { number ≤ GREATEST_SOURCE },
 }
 
 /// How a store is served.
@@ -94,7 +96,7 @@ pub struct Serving {
     pub every: u32,
     /// How many seconds a client may be silent, or 0 for ever.
     pub silence: u16,
-    ghost fits: { (1 ≤ workers) × (workers ≤ 64) },
+    ghost fits: { (1 ≤ workers) × (workers ≤ MOST_WORKERS) },
 }
 
 /// Why a command line asks for nothing that can be done.

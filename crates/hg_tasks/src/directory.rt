@@ -21,9 +21,9 @@ pub enum Cause {
     OutOfMemory,
 }
 
-/// What a command does to a store.
+/// How the files of a store are opened: by what a command does to the store.
 #[derive(Clone, Copy, PartialEq, Eq, Drop)]
-pub enum Access {
+pub enum OpenMode {
     /// It makes the store. Files that are missing are made, and no other program may use the store meanwhile.
     Make,
     /// It adds events. No other program may use the store meanwhile.
@@ -85,14 +85,14 @@ fn open_file(
     rt: &HostRuntime,
     directory: &str,
     name: &'static str,
-    access: Access,
+    mode: OpenMode,
 ) -> Result<Option<File>, OpenFault> {
     let path = path_of(rt, directory, name)?;
     let mut options = OpenOptions::new();
     options
         .read(true)
-        .write(access != Access::Look)
-        .create(access == Access::Make);
+        .write(mode != OpenMode::Look)
+        .create(mode == OpenMode::Make);
     match options.open(rt, path.as_str()) {
         Ok(file) => match beside_streams(file) {
             Ok(file) => Ok(Some(file)),
@@ -108,11 +108,11 @@ fn open_file(
 }
 
 /// Locks a file for what is done to its store, at once or not at all.
-fn lock(file: &File, access: Access) -> Result<(), OpenFault>
+fn lock(file: &File, mode: OpenMode) -> Result<(), OpenFault>
     ensures { IfErr result (λ f. f.cause ≡ Cause.DeviceFault) }
 {
-    let locked = match access {
-        Access::Look => file.try_lock_shared(),
+    let locked = match mode {
+        OpenMode::Look => file.try_lock_shared(),
         _ => file.try_lock(),
     };
     match locked {
@@ -139,10 +139,10 @@ fn device(name: &'static str, file: Option<File>) -> Result<FileDisk, OpenFault>
 }
 
 /// Opens the journal, and locks it before anything of it is read.
-fn open_journal(rt: &HostRuntime, directory: &str, access: Access) -> Result<FileDisk, OpenFault> {
-    let file = open_file(rt, directory, "journal", access)?;
+fn open_journal(rt: &HostRuntime, directory: &str, mode: OpenMode) -> Result<FileDisk, OpenFault> {
+    let file = open_file(rt, directory, "journal", mode)?;
     if let Some(file) = &file {
-        lock(file, access)?;
+        lock(file, mode)?;
     }
     device("journal", file)
 }
@@ -195,14 +195,14 @@ fn sync(name: &'static str, file: &File) -> Result<(), OpenFault>
 
 /// Opens `pages`. `Make` makes the empty file durable: a new store has no page to write. `Look` gets a scratch copy, since opening a store
 /// may write pages. Where no copy can be made it gets `pages` itself, which is enough as long as all pages have room in memory.
-fn open_pages(rt: &HostRuntime, directory: &str, access: Access) -> Result<FileDisk, OpenFault> {
-    let pages = open_file(rt, directory, "pages", access)?;
-    if access == Access::Look {
+fn open_pages(rt: &HostRuntime, directory: &str, mode: OpenMode) -> Result<FileDisk, OpenFault> {
+    let pages = open_file(rt, directory, "pages", mode)?;
+    if mode == OpenMode::Look {
         if let Ok(copy) = scratch_copy(rt, &pages) {
             return device("pages", Some(copy));
         }
     }
-    if access == Access::Make {
+    if mode == OpenMode::Make {
         if let Some(file) = &pages {
             sync("pages", file)?;
         }
@@ -215,27 +215,27 @@ fn open_root(
     rt: &HostRuntime,
     directory: &str,
     name: &'static str,
-    access: Access,
+    mode: OpenMode,
 ) -> Result<FileDisk, OpenFault> {
-    device(name, open_file(rt, directory, name, access)?)
+    device(name, open_file(rt, directory, name, mode)?)
 }
 
 /// Opens the files.
 fn open_files(
     rt: &HostRuntime,
     directory: &str,
-    access: Access,
+    mode: OpenMode,
 ) -> Result<Devices<FileDisk>, OpenFault> {
     Ok(Devices {
-        journal: open_journal(rt, directory, access)?,
-        slots: open_pages(rt, directory, access)?,
-        root0: open_root(rt, directory, "root0", access)?,
-        root1: open_root(rt, directory, "root1", access)?,
+        journal: open_journal(rt, directory, mode)?,
+        slots: open_pages(rt, directory, mode)?,
+        root0: open_root(rt, directory, "root0", mode)?,
+        root1: open_root(rt, directory, "root1", mode)?,
     })
 }
 
-/// Opens the files of a store's directory: `journal`, `pages`, `root0` and `root1`. Only `Access::Make` makes files; for
-/// another access a file that is missing is read as an empty one. With `Access::Look` none of them is changed. The journal is
+/// Opens the files of a store's directory: `journal`, `pages`, `root0` and `root1`. Only `OpenMode::Make` makes files; for
+/// another mode a file that is missing is read as an empty one. With `OpenMode::Look` none of them is changed. The journal is
 /// locked, so that the store is used by one program that changes it, or by programs that look at it. `DeviceFault` says that a
 /// file can't be opened, or that another program uses the store.
 ///
@@ -243,12 +243,12 @@ fn open_files(
 pub fn open_directory(
     rt: &HostRuntime,
     directory: &str,
-    access: Access,
+    mode: OpenMode,
 ) -> Result<Devices<FileDisk>, OpenFault> {
     let first = File::open(rt, "/dev/null");
     let second = File::open(rt, "/dev/null");
     let third = File::open(rt, "/dev/null");
-    let devices = open_files(rt, directory, access);
+    let devices = open_files(rt, directory, mode);
     drop((first, second, third));
     devices
 }
@@ -277,7 +277,7 @@ pub fn make_directory(rt: &HostRuntime, directory: &str) -> Result<Devices<FileD
     // Where it can't be made, its files can't be opened.
     let _ = fs::create_dir(rt, directory);
     let above = path_of(rt, directory, "..")?;
-    let devices = open_directory(rt, directory, Access::Make)?;
+    let devices = open_directory(rt, directory, OpenMode::Make)?;
     sync_names(rt, directory, above.as_str())?;
     Ok(devices)
 }

@@ -3,7 +3,7 @@
 
 pub mod directory;
 pub mod events;
+pub mod faults;
 pub mod stores;
 pub mod streams;
 pub mod texts;
-pub mod told;

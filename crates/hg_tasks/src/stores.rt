@@ -1,27 +1,26 @@
 //! Commands on the store in a directory.
 
-use crate::directory::{Access, make_directory, open_directory};
+use crate::directory::{OpenMode, make_directory, open_directory};
 use crate::events::EventText;
-use crate::streams::{noted_outputs, plain_outputs};
-use crate::texts::Wanted;
-use crate::told::{FAULT, fail_to_open, tell_of_feeding, tell_of_listing};
+use crate::faults::{fail_to_open, tell_of_feeding, tell_of_listing};
+use crate::streams::{noted_outputs, noted_streams, plain_outputs, plain_streams};
 use hg_check::explain::commands::explain;
 use hg_check::explain::form::Form;
 use hg_commands::creating::create_store;
 use hg_commands::feeding::feed;
-use hg_commands::listing::{store_graph, store_reports};
-use hg_commands::plan::FeedPlan;
+use hg_commands::listing::list_store;
+use hg_commands::settings::FeedSettings;
 use hg_disk::FileDisk;
+use hg_options::limits::DEFAULT_FRAMES;
 use hg_options::task::{Explaining, Frames};
 use hg_store::devices::{Caps, Devices};
 use hg_store::store::Store;
 use hg_streams::input::Input;
-use hg_streams::output::{Output, Outputs};
-use hg_streams::telling::tell;
+use hg_streams::listing::Listing;
+use hg_streams::output::Output;
+use hg_streams::streams::Streams;
+use hg_streams::telling::end_by_fault;
 use hg_verbose::lines::Lines;
-use hg_verbose::noted::NotedReader;
-use std::alloc::Global;
-use std::io::Write;
 
 /// Makes the store.
 pub fn create_in(rt: &HostRuntime, directory: &str) -> u8 {
@@ -33,67 +32,60 @@ pub fn create_in(rt: &HostRuntime, directory: &str) -> u8 {
     create_store(rt.alloc(), devices, &mut outputs).status
 }
 
-/// Feeds the trace on standard input to the store on these devices.
-fn feed_plainly(rt: &HostRuntime, devices: Devices<FileDisk>, plan: FeedPlan) -> u8 {
-    let mut input = Input::new(rt.stdin());
-    let mut outputs = plain_outputs(rt);
-    feed(rt.alloc(), devices, plan, &mut input, &mut outputs).status
-}
-
-/// The same, and tells what the last line means.
-fn feed_told(rt: &HostRuntime, devices: Devices<FileDisk>, plan: FeedPlan, lines: Lines) -> u8 {
-    let mut input = Input::new(NotedReader::new(rt.stdin(), lines));
-    let mut outputs = noted_outputs(rt);
-    let outcome = feed(rt.alloc(), devices, plan, &mut input, &mut outputs);
+/// Feeds the trace on standard input to the store on these devices, and tells what the last line means.
+fn feed_and_tell(
+    rt: &HostRuntime,
+    devices: Devices<FileDisk>,
+    settings: FeedSettings,
+    lines: Lines,
+) -> u8 {
+    let mut streams = noted_streams(rt, lines);
+    let outcome = feed(rt.alloc(), devices, settings, &mut streams);
     let status = outcome.status;
-    tell_of_feeding(rt, &mut input.into_stream(), &outputs, outcome.devices);
+    let Streams {
+        input,
+        output,
+        faults,
+    } = streams;
+    tell_of_feeding(
+        rt,
+        &mut input.into_stream(),
+        &output,
+        &faults,
+        outcome.devices,
+    );
     status
 }
 
-/// Feeds the trace on standard input to the store, with a checkpoint at its end where one is asked for. Where there is no memory for a meaning
-/// it is left out.
-pub fn feed_in(rt: &HostRuntime, directory: &str, plan: FeedPlan, verbose: bool) -> u8 {
-    let devices = match open_directory(rt, directory, Access::Change) {
+/// Feeds the trace on standard input to the store, with a checkpoint at its end where one is asked for, and where `verbose` is set tells
+/// what the last line means. Where there is no memory for a meaning it is left out.
+pub fn feed_in(rt: &HostRuntime, directory: &str, settings: FeedSettings, verbose: bool) -> u8 {
+    let devices = match open_directory(rt, directory, OpenMode::Change) {
         Ok(devices) => devices,
         Err(fault) => return fail_to_open(rt, &fault, verbose),
     };
-    if !verbose {
-        return feed_plainly(rt, devices, plan);
+    if verbose {
+        if let Ok(lines) = Lines::new(rt.alloc()) {
+            return feed_and_tell(rt, devices, settings, lines);
+        }
     }
-    match Lines::new(rt.alloc()) {
-        Ok(lines) => feed_told(rt, devices, plan, lines),
-        Err(_) => feed_plainly(rt, devices, plan),
-    }
+    feed(rt.alloc(), devices, settings, &mut plain_streams(rt)).status
 }
 
-/// Prints what is wanted of the store on these devices, and answers the status and the devices.
-fn print_wanted<W: Write, V: Write>(
-    alloc: Global,
-    devices: Devices<FileDisk>,
-    wanted: Wanted,
-    frames: Frames,
-    outputs: &mut Outputs<W, V>,
-) -> (u8, Devices<FileDisk>) {
-    match wanted {
-        Wanted::Reports => store_reports(alloc, devices, frames.pages, outputs),
-        Wanted::Segments => store_graph(alloc, devices, frames.pages, outputs),
-    }
-}
-
-/// Prints what is wanted of the store.
+/// Prints what is asked for of the store.
 pub fn print_of_store(
     rt: &HostRuntime,
     directory: &str,
-    wanted: Wanted,
+    listing: Listing,
     frames: Frames,
     verbose: bool,
 ) -> u8 {
-    let devices = match open_directory(rt, directory, Access::Look) {
+    let devices = match open_directory(rt, directory, OpenMode::Look) {
         Ok(devices) => devices,
         Err(fault) => return fail_to_open(rt, &fault, verbose),
     };
     let mut outputs = noted_outputs(rt);
-    let (status, devices) = print_wanted(rt.alloc(), devices, wanted, frames, &mut outputs);
+    let (status, devices) = list_store(rt.alloc(), devices, frames.pages, listing, &mut outputs);
     if verbose {
         tell_of_listing(rt, &outputs, devices);
     }
@@ -102,30 +94,22 @@ pub fn print_of_store(
 
 /// Prints the life of a word by the store's events. They have no lines.
 pub fn explain_in(rt: &HostRuntime, directory: &str, explaining: Explaining) -> u8 {
-    let devices = match open_directory(rt, directory, Access::Look) {
+    let devices = match open_directory(rt, directory, OpenMode::Look) {
         Ok(devices) => devices,
         Err(fault) => return fail_to_open(rt, &fault, false),
     };
-    let mut faults = Output::new(rt.stderr());
-    let store = match Store::recover(rt.alloc(), devices, 64, Caps::profile()) {
+    let store = match Store::recover(rt.alloc(), devices, DEFAULT_FRAMES, Caps::profile()) {
         Ok(store) => store,
-        Err((refusal, _)) => {
-            tell(refusal, &mut faults);
-            return FAULT;
-        }
+        Err((refusal, _)) => return end_by_fault(refusal, &mut Output::new(rt.stderr())),
     };
     let form = Form {
         all: explaining.all,
         lines: false,
     };
-    let mut input = Input::new(EventText::new(rt.alloc(), store));
-    let mut output = Output::new(rt.stdout());
-    explain(
-        rt.alloc(),
-        explaining.address,
-        form,
-        &mut input,
-        &mut output,
-        &mut faults,
-    )
+    let mut streams = Streams {
+        input: Input::new(EventText::new(rt.alloc(), store)),
+        output: Output::new(rt.stdout()),
+        faults: Output::new(rt.stderr()),
+    };
+    explain(rt.alloc(), explaining.address, form, &mut streams)
 }

@@ -5,7 +5,7 @@ use Rattle.std.proofs.lemmas.Bool.{cases_Bool, cond-true, cond-false, eq-eqb, an
 use Rattle.hg_model.specs.declared.event.Event.{Event}
 use Rattle.hg_model.specs.declared.event.Event.TheVariants.{Fork, Join, Lock, RdLock, Unlock, Read, Write, Alloc, Free}
 use Rattle.hg_verbose.specs.declared.holds.Hold.{Hold}
-use Rattle.hg_verbose.specs.Holds.{IsHeld, LetsGo, Takes}
+use Rattle.hg_verbose.specs.Holds.{BeginsHold, IsHeld, LetsGo}
 
 -- an event that lets nothing go
 pub still_held : (e : Event) (earlier : List Event) (holds : List Hold) → ((h : Hold) → LetsGo e h → ⊥) → AllByRecursion (IsHeld earlier) holds → AllByRecursion (IsHeld (e ∷ earlier)) holds
@@ -13,7 +13,7 @@ still_held e earlier [] keeps all = tt
 still_held e earlier (h ∷ holds) keeps all = (inr (all.0, keeps h), still_held e earlier holds keeps all.1)
 
 -- an event that takes a lock
-pub one_more_held : (e : Event) (earlier : List Event) (holds : List Hold) (h : Hold) → ((h : Hold) → LetsGo e h → ⊥) → Takes e h → h.since ≡ length earlier + 1 → AllByRecursion (IsHeld earlier) holds
+pub one_more_held : (e : Event) (earlier : List Event) (holds : List Hold) (h : Hold) → ((h : Hold) → LetsGo e h → ⊥) → BeginsHold e h → h.since ≡ length earlier + 1 → AllByRecursion (IsHeld earlier) holds
     → AllByRecursion (IsHeld (e ∷ earlier)) (holds ++ h ∷ [])
 one_more_held e earlier [] h keeps takes since all = (inl (takes, since), tt)
 one_more_held e earlier (g ∷ holds) h keeps takes since all = (inr (all.0, keeps g), one_more_held e earlier holds h keeps takes since all.1)

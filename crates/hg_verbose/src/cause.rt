@@ -4,6 +4,9 @@ use crate::holds::Hold;
 use crate::past::Past;
 use crate::quoting::{put_number, put_numbers};
 use hg_model::event::Event;
+use hg_model::limits::{
+    GREATEST_ACCESS, GREATEST_BLOCK, GREATEST_THREAD, MOST_HELD, MOST_SEGMENTS,
+};
 use std::alloc::AllocError;
 use std::fmt::Write;
 use std::string::String;
@@ -75,22 +78,30 @@ fn put_not_alive(past: &Past, thread: u16, text: &mut String) -> Result<(), Allo
 /// Appends which number is above the limit.
 fn put_bad_number(event: Event, text: &mut String) -> Result<(), AllocError> {
     let (actor, other) = parties(event);
-    let thread = u64::from(if actor > 1023 { actor } else { other });
-    put_number(
+    let thread = u64::from(if actor > GREATEST_THREAD {
+        actor
+    } else {
+        other
+    });
+    let greatest = u64::from(GREATEST_THREAD);
+    put_numbers(
         "there is no thread ",
         thread,
-        ": threads are 0 to 1023",
+        ": threads are 0 to ",
+        greatest,
         text,
     )
 }
 
+/// Appends how long an access or a block may be.
 fn put_bad_length(event: Event, text: &mut String) -> Result<(), AllocError> {
     let (_, length) = place(event);
-    let why = match event {
-        Event::Read(_) | Event::Write(_) => " bytes are not 1 to 64, as an access has",
-        _ => " bytes are not 1 to 1024, as a block has",
+    let (most, what) = match event {
+        Event::Read(_) | Event::Write(_) => { (u64::from(GREATEST_ACCESS), ", as an access has") }
+        _ => (u64::from(GREATEST_BLOCK), ", as a block has"),
     };
-    put_number("", u64::from(length), why, text)
+    put_numbers("", u64::from(length), " bytes are not 1 to ", most, text)?;
+    text.push_str(what)
 }
 
 /// Appends how the number of a thread was used before.
@@ -137,6 +148,13 @@ fn put_not_held(past: &Past, thread: u16, lock: u16, text: &mut String) -> Resul
     put_hold(hold, text)
 }
 
+/// Appends that a thread holds as many locks as it may.
+fn put_full(thread: u16, text: &mut String) -> Result<(), AllocError> {
+    let most = MOST_HELD as u64;
+    put_numbers("thread ", u64::from(thread), " holds ", most, text)?;
+    text.push_str(" locks, and may hold no more")
+}
+
 /// Appends why an event was refused with a code of the trace rules, after those events.
 fn put_of_threads(
     past: &Past,
@@ -154,12 +172,7 @@ fn put_of_threads(
         12 => put_held(past, actor, other, text),
         13 => put_holders(past, other, text),
         14 => put_not_held(past, actor, other, text),
-        _ => put_number(
-            "thread ",
-            u64::from(actor),
-            " holds 64 locks, and may hold no more",
-            text,
-        ),
+        _ => put_full(actor, text),
     }
 }
 
@@ -174,10 +187,11 @@ fn put_past_the_end(event: Event, text: &mut String) -> Result<(), AllocError> {
 
 /// Appends that there may be no more segments.
 fn put_full_graph(past: &Past, text: &mut String) -> Result<(), AllocError> {
-    put_number(
+    put_numbers(
         "there are ",
         past.segments(),
-        " segments, and may be 1048576",
+        " segments, and may be ",
+        u64::from(MOST_SEGMENTS),
         text,
     )
 }

@@ -2,10 +2,8 @@
 
 use crate::holds::Holds;
 use hg_model::event::Event;
+use hg_model::limits::THREAD_NUMBERS;
 use std::alloc::{AllocError, Global};
-
-/// How many threads there may be.
-const THREADS: usize = 1024;
 
 /// What some accepted events left: which locks are held since when, and when each thread was forked and joined.
 #[derive(Drop)]
@@ -37,8 +35,8 @@ impl Past {
         Ok(Past {
             segments: 1,
             holds: Holds::new(alloc),
-            forked: vec![in alloc; 0; THREADS]?,
-            joined: vec![in alloc; 0; THREADS]?,
+            forked: vec![in alloc; 0; THREAD_NUMBERS]?,
+            joined: vec![in alloc; 0; THREAD_NUMBERS]?,
         })
     }
 

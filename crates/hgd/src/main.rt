@@ -1,21 +1,24 @@
 //! `hgd`: a detector of data races in traces of programs with threads.
 #![tactic(auto)]
 
-use hg_commands::plan::FeedPlan;
+use hg_commands::settings::FeedSettings;
 use hg_disk::FileDisk;
 use hg_model::verdict::Refusal;
+use hg_options::limits::DEFAULT_FRAMES;
 use hg_options::reading::read;
 use hg_options::task::{Frames, Jobs, Misread, Serving, StoreTask, Task};
-use hg_server::serving::{Door, Plan, serve};
+use hg_server::serving::{Door, serve};
+use hg_server::settings::Settings;
 use hg_server::worker::OpenGate;
 use hg_store::devices::Devices;
+use hg_streams::listing::Listing;
 use hg_streams::output::Outputs;
-use hg_streams::telling::tell;
-use hg_tasks::directory::{Access, Cause, open_directory};
+use hg_streams::telling::end_by_fault;
+use hg_tasks::directory::{Cause, OpenMode, open_directory};
+use hg_tasks::faults::{fail, fail_to_open};
 use hg_tasks::stores::{create_in, explain_in, feed_in, print_of_store};
 use hg_tasks::streams::plain_outputs;
-use hg_tasks::texts::{Wanted, explain_input, print_of_input};
-use hg_tasks::told::{FAULT, fail, fail_to_open};
+use hg_tasks::texts::{explain_input, print_of_input};
 use std::alloc::Global;
 use std::env;
 use std::io::{ErrorKind, Write};
@@ -60,7 +63,7 @@ enum Outcome<'a> {
     },
     /// The trace on standard input is to be read. Threads can be made in `main` alone.
     Text {
-        wanted: Wanted,
+        listing: Listing,
         jobs: Jobs,
         verbose: bool,
     },
@@ -81,19 +84,21 @@ fn perform_on_store<'a>(rt: &HostRuntime, directory: &'a str, task: StoreTask) -
             checkpoint,
             verbose,
         } => {
-            let plan = FeedPlan {
+            let settings = FeedSettings {
                 source: source.number,
                 frames: frames.pages,
                 checkpoint,
             };
-            feed_in(rt, directory, plan, verbose)
+            feed_in(rt, directory, settings, verbose)
         }
         StoreTask::Reports { frames, verbose } => {
-            print_of_store(rt, directory, Wanted::Reports, frames, verbose)
+            print_of_store(rt, directory, Listing::Reports, frames, verbose)
         }
         StoreTask::Graph { verbose } => {
-            let frames = Frames { pages: 64 };
-            print_of_store(rt, directory, Wanted::Segments, frames, verbose)
+            let frames = Frames {
+                pages: DEFAULT_FRAMES,
+            };
+            print_of_store(rt, directory, Listing::Segments, frames, verbose)
         }
         StoreTask::Explain { explaining } => explain_in(rt, directory, explaining),
         StoreTask::Serve { serving } => return Outcome::Serve { directory, serving },
@@ -113,12 +118,12 @@ fn perform<'a>(rt: &HostRuntime, words: &'a [String]) -> Outcome<'a> {
     };
     match task {
         Task::Check { jobs, verbose } => Outcome::Text {
-            wanted: Wanted::Reports,
+            listing: Listing::Reports,
             jobs,
             verbose,
         },
         Task::Graph { jobs, verbose } => Outcome::Text {
-            wanted: Wanted::Segments,
+            listing: Listing::Segments,
             jobs,
             verbose,
         },
@@ -151,10 +156,9 @@ fn serve_on<
 ) -> u8 {
     let address = SocketAddr::from((Ipv4Addr::LOCALHOST, serving.port));
     let Ok(listener) = TcpListener::bind(rt, address) else {
-        tell(Refusal::DeviceFault, &mut outputs.faults);
-        return FAULT;
+        return end_by_fault(Refusal::DeviceFault, &mut outputs.faults);
     };
-    let plan = Plan {
+    let settings = Settings {
         port: serving.port,
         frames: serving.frames.pages,
         connections: serving.connections,
@@ -163,7 +167,7 @@ fn serve_on<
     };
     let door = Door {
         listener: &listener,
-        plan,
+        settings,
         gate: &OpenGate,
     };
     serve(rt, alloc, devices, &door, outputs).status
@@ -176,7 +180,7 @@ fn serve_in<R: Threads + Wait + Clock + Net<Listener = TcpListener, Stream = Tcp
     directory: &str,
     serving: Serving,
 ) -> u8 {
-    let devices = match open_directory(rt, directory, Access::Change) {
+    let devices = match open_directory(rt, directory, OpenMode::Change) {
         Ok(devices) => devices,
         Err(fault) => return fail_to_open(rt, &fault, false),
     };
@@ -215,10 +219,10 @@ fn main(rt: HostRuntime) -> ExitCode {
     let status = match perform(&rt, words.as_slice()) {
         Outcome::Done { status } => status,
         Outcome::Text {
-            wanted,
+            listing,
             jobs,
             verbose,
-        } => print_of_input(&rt, wanted, jobs, &rt, verbose),
+        } => print_of_input(&rt, listing, jobs, &rt, verbose),
         Outcome::Serve { directory, serving } => serve_in(&rt, &rt, directory, serving),
     };
     ExitCode::from(status)

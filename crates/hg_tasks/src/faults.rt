@@ -5,7 +5,7 @@ use hg_disk::FileDisk;
 use hg_model::verdict::Refusal;
 use hg_store::devices::Devices;
 use hg_streams::output::{Output, Outputs};
-use hg_streams::telling::tell;
+use hg_streams::telling::end_by_fault;
 use hg_verbose::fault::{Source, damage, replay};
 use hg_verbose::last::{Last, last_of};
 use hg_verbose::lines::Lines;
@@ -15,9 +15,6 @@ use hg_verbose::past::Past;
 use std::alloc::AllocError;
 use std::io;
 use std::string::String;
-
-/// The status of a fault.
-pub const FAULT: u8 = 3;
 
 /// The refusal by which commands name a cause.
 fn refusal_of(cause: Cause) -> Refusal {
@@ -29,8 +26,7 @@ fn refusal_of(cause: Cause) -> Refusal {
 
 /// Tells why the program ends at a stream, a file or want of memory of its own, before a command or without one.
 pub fn fail(rt: &HostRuntime, cause: Cause) -> u8 {
-    tell(refusal_of(cause), &mut Output::new(rt.stderr()));
-    FAULT
+    end_by_fault(refusal_of(cause), &mut Output::new(rt.stderr()))
 }
 
 /// Tells why a store could not be opened, in words too where they are asked for.
@@ -81,13 +77,14 @@ fn tell_fault(rt: &HostRuntime, code: u64, sources: &[Source<'_>]) {
 pub fn tell_of_text<R, W, V>(
     rt: &HostRuntime,
     input: &mut NotedReader<R>,
-    outputs: &Outputs<NotedWriter<W>, NotedWriter<V>>,
+    output: &Output<NotedWriter<W>>,
+    faults: &Output<NotedWriter<V>>,
 ) {
-    match last_line(&outputs.output, &outputs.faults) {
+    match last_line(output, faults) {
         Some(Last::Fault { code }) => {
             let sources = [
                 source("standard input", input.error()),
-                source("standard output", outputs.output.stream().error()),
+                source("standard output", output.stream().error()),
             ];
             tell_fault(rt, code, &sources);
         }
@@ -171,12 +168,13 @@ fn print_of_fed_line(rt: &HostRuntime, last: Last, lines: &mut Lines, devices: D
 pub fn tell_of_feeding<R, W, V>(
     rt: &HostRuntime,
     input: &mut NotedReader<R>,
-    outputs: &Outputs<NotedWriter<W>, NotedWriter<V>>,
+    output: &Output<NotedWriter<W>>,
+    faults: &Output<NotedWriter<V>>,
     devices: Devices<FileDisk>,
 ) {
-    match last_line(&outputs.output, &outputs.faults) {
+    match last_line(output, faults) {
         Some(Last::Fault { code }) => {
-            let (input, output) = (input.error(), outputs.output.stream().error());
+            let (input, output) = (input.error(), output.stream().error());
             tell_fault_of_store(rt, code, input, output, "pages", devices);
         }
         Some(last) => print_of_fed_line(rt, last, input.lines(), devices),
