@@ -10,9 +10,9 @@ use crate::fitting::{COUNTS, have_spellings, sets_have_spellings};
 use hg_cells::words::Words;
 use hg_contents::laws::{a_detector_has_a_lawful_head, threads_have_small_numbers};
 use hg_detect::detector::Detector;
-use hg_model::limits::{MOST_EVENTS, SOURCE_NUMBERS};
+use hg_model::limits::SOURCE_NUMBERS;
 use hg_model::thread::ThreadState;
-use hg_root::{HeadParts, RootHead, SourceCount};
+use hg_root::{HeadParts, MOST_CHECKPOINTS, RootHead, SourceCount};
 use hg_rules::state::TraceState;
 use std::alloc::{AllocError, Global};
 
@@ -114,7 +114,7 @@ pub fn head_of<W: Words>(
     detector: &Detector<W>,
 ) -> Result<RootHead, HeadFault>
     requires least { 1 ≤ number }
-    requires most { number ≤ MOST_EVENTS }
+    requires most { number ≤ MOST_CHECKPOINTS }
     ensures text { IfOk result (λ head. head ≡ head_text (parts_with number detector.now)) }
     ensures lawful { FitsARoot W.cell_of detector.now → IsLawfulHead (parts_with number detector.now) }
     ensures damaged { IfDamaged result (¬ FitsARoot W.cell_of detector.now) }

@@ -1,6 +1,7 @@
 -- Which contents go into the head of a root.
 use Rattle.std.specs.Prelude.{◌≡◌, ◌<◌, ◌≤◌, ◌^◌, ℕ, List, length, map, filter, nat_lt, slice_index, All}
-use Rattle.hg_model.specs.declared.limits.TheConstants.{MOST_EVENTS, THREAD_NUMBERS}
+use Rattle.hg_root.specs.declared.root.TheConstants.{MOST_CHECKPOINTS}
+use Rattle.hg_model.specs.declared.limits.TheConstants.{THREAD_NUMBERS}
 use Rattle.hg_model.specs.Contents.{Content}
 use Rattle.hg_cells.specs.declared.cell.Cell.{Cell}
 use Rattle.hg_sets.specs.Interning.{AreSets}
@@ -27,7 +28,7 @@ pub record FitsARoot {W : Type 0} (cell_of : W → ℕ → Cell) (d : ShownDetec
 -- The parts of such a detector are a lawful head, with any number of a checkpoint.
 abbrev pub ADetectorHasALawfulHead : {W : Type 0} → (W → ℕ → Cell) → Type 0
 ADetectorHasALawfulHead {W} cell_of =
-    (d : ShownDetector W) (number : ℕ) → FitsARoot cell_of d → 1 ≤ number → number ≤ MOST_EVENTS
+    (d : ShownDetector W) (number : ℕ) → FitsARoot cell_of d → 1 ≤ number → number ≤ MOST_CHECKPOINTS
     → IsLawfulHead (head_parts number d.parts.events d.segments d.parts.threads d.sets d.total d.kept (source_counts (slice_index d.parts.last)))
 
 -- The root of a lawful content has the last number of each source.

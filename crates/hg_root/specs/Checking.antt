@@ -1,6 +1,7 @@
 -- The checks of the parts that were read. (No promise to a reader rests on this file, except on HaveLast.)
 use Rattle.std.specs.Global.{Vec}
 use Rattle.std.specs.Prelude.{◌≡◌, ℕ, ◌≤◌, ◌*◌, ◌==◌, List, [], ◌∷◌, length, map, min, slice_index, All, if◌then◌else◌}
+use Rattle.hg_root.specs.declared.root.TheConstants.{MOST_CHECKPOINTS}
 use Rattle.hg_model.specs.declared.limits.TheConstants.{MOST_ACCESS_WORDS, MOST_EVENTS, MOST_REPORTS}
 use Rattle.hg_model.specs.Restoring.{AreThreads}
 use Rattle.hg_model.specs.declared.segment.Segment.{Segment}
@@ -23,7 +24,7 @@ abbrev pub HaveLast : List SourceCount → List ℕ → Type 0
 HaveLast sources last = (source : ℕ) → slice_index last source ≡ last_number sources source
 
 pub record AreCounts (number events total kept : ℕ) : Type 0 where
-  pub is_number : (1 ≤ number) × (number ≤ MOST_EVENTS)
+  pub is_number : (1 ≤ number) × (number ≤ MOST_CHECKPOINTS)
   pub few_events : events ≤ MOST_EVENTS
   pub few_reports : total ≤ MOST_ACCESS_WORDS * events
   pub all_kept : kept ≡ min total MOST_REPORTS

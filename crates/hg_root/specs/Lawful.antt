@@ -2,6 +2,7 @@
 use Rattle.std.specs.Prelude.{◌≡◌, ◌≢◌, ◌⊎◌, ◌<◌, ◌≤◌, ◌+◌, ◌*◌, ◌%◌, ℕ, List, length, map, filter, min, sum, slice_get, Some, Contains, All, AllPairs}
 use Rattle.std.specs.List.{range_with_len}
 use Rattle.std.specs.List.Sorted.{IsStrictlyIncreasing}
+use Rattle.hg_root.specs.declared.root.TheConstants.{MOST_CHECKPOINTS}
 use Rattle.hg_model.specs.declared.limits.TheConstants.{GREATEST_SOURCE, GREATEST_THREAD, MOST_ACCESS_WORDS, MOST_EVENTS, MOST_HELD, MOST_REPORTS, MOST_SEGMENTS, THREAD_NUMBERS}
 use Rattle.hg_model.specs.Locks.{IsByRisingLock}
 use Rattle.hg_model.specs.Restoring.{AreThreads}
@@ -61,7 +62,7 @@ pub record HaveSlots (pages : List PageSlot) : Type 0 where
 -- the rules of the parts before the page table
 pub record IsLawfulHead (p : Parts) : Type 0 where
   pub fits : HeadFits p
-  pub number : (1 ≤ p.number) × (p.number ≤ MOST_EVENTS)
+  pub number : (1 ≤ p.number) × (p.number ≤ MOST_CHECKPOINTS)
   pub events : p.events ≤ MOST_EVENTS
   pub segment_count : (1 ≤ length p.segments) × (length p.segments ≤ MOST_SEGMENTS)
   pub segments : AreSegments p.segments

@@ -20,4 +20,4 @@ pub use head::RootHead;
 pub use head_parts::HeadParts;
 pub use pair::{Newest, RootPair};
 pub use parts::{PageSlot, SourceCount};
-pub use root::Root;
+pub use root::{MOST_CHECKPOINTS, Root};

@@ -28,10 +28,13 @@ use hg_rules::state::TraceState;
 use hg_sets::{MOST_SETS, SetTable};
 use std::alloc::{AllocError, Global};
 
+/// How many checkpoints a store may have had.
+pub const MOST_CHECKPOINTS: u64 = 1 << 58;
+
 /// A root: everything of a content but its words, and the slots of its pages.
 #[derive(Drop)]
 pub struct Root {
-    /// The number of the checkpoint, 1 to 2^58.
+    /// The number of the checkpoint, from 1 on.
     pub number: u64,
     /// The counts of events and segments, the threads with their locks, and the last number of each source.
     pub state: TraceState,
@@ -110,7 +113,7 @@ fn are_counts(number: u64, events: u64, total: u64, kept: usize) -> bool
     ensures { IsTrue result ↔ AreCounts number events total kept }
 {
     if number == 0
-        || number > MOST_EVENTS
+        || number > MOST_CHECKPOINTS
         || events > MOST_EVENTS
         || total > MOST_ACCESS_WORDS as u64 * events
     {

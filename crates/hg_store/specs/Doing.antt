@@ -1,6 +1,6 @@
 -- What each step does and answers.
 use Rattle.std.specs.Prelude.{◌≡◌, ◌+◌, ◌<◌, ◌≤◌, ◌^◌, ℕ, [], Bool, true, false, Option, Some, Result, OnOk, OnErr, IfOk, MatchOption}
-use Rattle.hg_model.specs.declared.limits.TheConstants.{MOST_EVENTS}
+use Rattle.hg_root.specs.declared.root.TheConstants.{MOST_CHECKPOINTS}
 use Rattle.hg_disk.specs.declared.disk.Disk as disk
 use Rattle.hg_journal.specs.Journal.{failed_after}
 use Rattle.hg_pages.specs.Encoded.{Encoded}
@@ -52,8 +52,8 @@ pub record SameNumbers {D : Type 0} (old new : ShownStore D) : Type 0 where
 pub record FreezeDone {D : Type 0} (old new : ShownStore D) (result : Result (Unit {0}) StepFault) : Type 0 where
   pub done : CheckpointDone old new (phase_of old ≡ store.Idle) phase.Flushing result
   pub refused : OnErr result (new ≡ old)
-  pub last : OnOk result (old.progress.number < MOST_EVENTS)
-  pub full : IfRefused (λ r. r ≡ cause.FullEvents → MOST_EVENTS ≤ old.progress.number) result
+  pub last : OnOk result (old.progress.number < MOST_CHECKPOINTS)
+  pub full : IfRefused (λ r. r ≡ cause.FullEvents → MOST_CHECKPOINTS ≤ old.progress.number) result
   pub number : OnOk result (HasNextNumber old new)
   pub devices : new.devices ≡ old.devices
   pub frozen : OnOk result (new.frozen ≡ old.detector)

@@ -14,9 +14,9 @@ use crate::steps::{StepFault, StorePhase};
 use crate::store::Store;
 use hg_checkpoint::{Cause, CheckpointFault, Phase, head_of};
 use hg_disk::Disk;
-use hg_model::limits::MOST_EVENTS;
 use hg_pages::EncodedPage;
 use hg_pool::{Job, Put};
+use hg_root::MOST_CHECKPOINTS;
 use std::alloc::Global;
 use std::snapshot::Snapshot;
 
@@ -71,14 +71,14 @@ impl<D: Disk> Store<D> {
     }
 
     /// Begins a checkpoint of the durable events; no event may be pending. The live map becomes the frozen one, and its
-    /// changed pages wait to be written. `FullEvents` if the newest root has the last number, `MOST_EVENTS`; else
+    /// changed pages wait to be written. `FullEvents` if the newest root has the last number, `MOST_CHECKPOINTS`; else
     /// `FullSlots` or `OutOfMemory`. It calls no device.
     pub fn freeze(&mut self, alloc: Global) -> Result<(), StepFault>
         ensures done { CheckpointDone self.old self.new (phase_of self.old ≡ StorePhase.Idle) phase.Flushing result }
         ensures refused { OnErr result (self.new ≡ self.old) }
-        ensures last { OnOk result (self.old.progress.number < MOST_EVENTS) }
+        ensures last { OnOk result (self.old.progress.number < MOST_CHECKPOINTS) }
         ensures no_call { failed_by result ≡ 0 }
-        ensures full { IfRefused (λ cause. cause ≡ Cause.FullEvents → MOST_EVENTS ≤ self.old.progress.number) result }
+        ensures full { IfRefused (λ cause. cause ≡ Cause.FullEvents → MOST_CHECKPOINTS ≤ self.old.progress.number) result }
         ensures number { OnOk result (HasNextNumber self.old self.new) }
         ensures devices { self.new.devices ≡ self.old.devices }
         ensures frozen { OnOk result (self.new.frozen ≡ self.old.detector) }
@@ -92,7 +92,7 @@ impl<D: Disk> Store<D> {
             return Err(StepFault::WrongPhase(phase));
         }
         let number = self.checkpointer.number();
-        if number >= MOST_EVENTS {
+        if number >= MOST_CHECKPOINTS {
             return Err(StepFault::Refused(Cause::FullEvents));
         }
         let _kept = self.detector.kept_reports();
