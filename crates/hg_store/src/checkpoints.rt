@@ -78,7 +78,7 @@ impl<D: Disk> Store<D> {
         ensures refused { OnErr result (self.new ≡ self.old) }
         ensures last { OnOk result (self.old.progress.number < MOST_CHECKPOINTS) }
         ensures no_call { failed_by result ≡ 0 }
-        ensures full { IfRefused (λ cause. cause ≡ Cause.FullEvents → MOST_CHECKPOINTS ≤ self.old.progress.number) result }
+        ensures full { IfRefused (λ r. r ≡ Cause.FullEvents → MOST_CHECKPOINTS ≤ self.old.progress.number) result }
         ensures number { OnOk result (HasNextNumber self.old self.new) }
         ensures devices { self.new.devices ≡ self.old.devices }
         ensures frozen { OnOk result (self.new.frozen ≡ self.old.detector) }
