@@ -4,7 +4,7 @@
 //! its own: what lets them go is one call.
 
 use crate::device::{DEVICES, Device, PerDevice};
-use crate::shelf::{Fuse, TestDisk, Image, copy_image, disk_with};
+use crate::shelf::{Fuse, Image, TestDisk, copy_image, disk_with};
 use hg_disk::{Answer, Call, MemDisk, Tear};
 use std::alloc::{AllocError, Global};
 

@@ -3,7 +3,7 @@
 use hg_gate::Gated;
 use hg_test_kit::answers::put_bytes;
 use hg_test_kit::device::Device;
-use hg_test_kit::shelf::{TestDisk, Shelf};
+use hg_test_kit::shelf::{Shelf, TestDisk};
 use hg_test_kit::text::Text;
 use hg_test_kit::tokens::{self, Halt, front};
 use std::alloc::{AllocError, Global};

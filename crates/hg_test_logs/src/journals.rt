@@ -5,7 +5,7 @@ use hg_journal::journal::{Journal, JournalReader, MAX_BATCH_EVENTS};
 use hg_model::event::Named;
 use hg_test_kit::device::Device;
 use hg_test_kit::events::{put_events, put_named};
-use hg_test_kit::shelf::{TestDisk, Shelf};
+use hg_test_kit::shelf::{Shelf, TestDisk};
 use hg_test_kit::text::Text;
 use hg_test_kit::tokens::{Halt, front};
 use std::alloc::{AllocError, Global};
@@ -44,7 +44,11 @@ fn append(journal: &mut Journal<TestDisk>, batch: &[Named], out: &mut Text) -> R
 }
 
 /// Makes a journal on a disk without a byte, or attaches one. A refusal hands the disk back.
-fn open(alloc: Global, disk: TestDisk, is_new: bool) -> Result<Journal<TestDisk>, (Halt, TestDisk)> {
+fn open(
+    alloc: Global,
+    disk: TestDisk,
+    is_new: bool,
+) -> Result<Journal<TestDisk>, (Halt, TestDisk)> {
     let opened = if is_new {
         if disk.len() > 0 {
             return Err((Halt::NotEmpty, disk));

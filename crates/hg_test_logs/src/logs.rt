@@ -4,7 +4,7 @@ use hg_disk::Disk;
 use hg_gate::{Batch, Log, LogPlace};
 use hg_test_kit::answers::put_bytes;
 use hg_test_kit::device::Device;
-use hg_test_kit::shelf::{TestDisk, Shelf};
+use hg_test_kit::shelf::{Shelf, TestDisk};
 use hg_test_kit::text::Text;
 use hg_test_kit::tokens::{self, Halt, front};
 use std::alloc::{AllocError, Global};
@@ -63,7 +63,11 @@ fn append(alloc: Global, log: &mut Log<TestDisk>, rest: &str, out: &mut Text) ->
 }
 
 /// Appends the batch that is next, or `end`.
-fn put_next(log: &mut Log<TestDisk>, place: &mut Option<LogPlace>, out: &mut Text) -> Result<(), Halt> {
+fn put_next(
+    log: &mut Log<TestDisk>,
+    place: &mut Option<LogPlace>,
+    out: &mut Text,
+) -> Result<(), Halt> {
     let Some(place) = place else {
         return Err(Halt::Closed);
     };

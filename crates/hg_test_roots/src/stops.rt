@@ -276,7 +276,12 @@ fn replacements_of<'a>(alloc: Global, tokens: &'a str) -> Option<Replacements<'a
     Some(Replacements { files, bodies })
 }
 
-fn put_steps(alloc: Global, replacements: &Replacements<'_>, tears: &[Tear], out: &mut Text) -> Option<()> {
+fn put_steps(
+    alloc: Global,
+    replacements: &Replacements<'_>,
+    tears: &[Tear],
+    out: &mut Text,
+) -> Option<()> {
     let stops = Stops {
         one: u64::MAX,
         other: u64::MAX,

@@ -18,7 +18,7 @@ use hg_store::steps::{Step, StepResult};
 use hg_store::store::Store;
 use hg_test_kit::device::PerDevice;
 use hg_test_kit::disks::Disks;
-use hg_test_kit::shelf::{Fuse, TestDisk, Image};
+use hg_test_kit::shelf::{Fuse, Image, TestDisk};
 use hg_test_kit::text::Text;
 use hg_test_kit::tokens::Halt;
 use std::alloc::{AllocError, Global};

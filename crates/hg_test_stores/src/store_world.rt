@@ -192,7 +192,12 @@ impl<M: Machine> StoreWorld<M> {
     }
 
     /// Stops the run of a store once, and leaves it.
-    fn stop_once(&mut self, device: Device, tokens: &mut Tokens, out: &mut Text) -> Result<(), Halt> {
+    fn stop_once(
+        &mut self,
+        device: Device,
+        tokens: &mut Tokens,
+        out: &mut Text,
+    ) -> Result<(), Halt> {
         let run = Run {
             origin: &self.origin,
             actions: self.machine.made(),

@@ -63,7 +63,12 @@ fn put_misspelt(place: usize, token: &[u8], text: &mut String) -> Result<(), All
 }
 
 /// Appends that a number has more bits than may stand at its place.
-fn put_too_great(place: usize, token: &[u8], bits: u8, text: &mut String) -> Result<(), AllocError> {
+fn put_too_great(
+    place: usize,
+    token: &[u8],
+    bits: u8,
+    text: &mut String,
+) -> Result<(), AllocError> {
     put_token(place, token, text)?;
     let most = greatest(bits);
     put_number(", is too great: at most ", most, " may stand there", text)
