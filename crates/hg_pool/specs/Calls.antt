@@ -21,10 +21,10 @@ use Rattle.hg_pool.specs.declared.frame.Frame.{Frame}
 use Rattle.hg_pool.specs.declared.job.Job.{Job}
 use Rattle.hg_pool.specs.declared.job.Put.{Put}
 use Rattle.hg_pool.specs.declared.job.Put.TheVariants as put
-use Rattle.hg_pool.specs.Answers.{IsFrozen, IsTaken, least_of, order_of, order_with}
-use Rattle.hg_pool.specs.Kept.{AreWithin, IsFaithful, IsWhole, SameMap}
+use Rattle.hg_pool.specs.Answers.{IsFrozen, IsTaken, IsTrueCause, least_of, order_of, order_with}
+use Rattle.hg_pool.specs.Kept.{AreWithin, IsFaithful, IsWhole, SameMap, Stays}
 use Rattle.hg_pool.specs.Maps.{IsSealed, bytes_of, copy_in, disk_of, frame_in, frozen, frozen_at, in_slot, is_broken, live}
-use Rattle.hg_pool.specs.Picking.{HasDirty, IsLeastFree}
+use Rattle.hg_pool.specs.Picking.{HasDirty, IsLeastFree, TakesLeastFree}
 use Rattle.hg_pool.specs.Shown.{ShownPool}
 use Rattle.hg_recency.specs.Entries.{IsFree}
 
@@ -227,6 +227,13 @@ module _ {D : Type 0} (g : disk.Ghosts D) where
   -- After a write or a sync the count of failed calls is that from before, and one more after the answer DeviceFault.
   abbrev pub CountsWrites : {T : Type 0} → (old new : ShownPool D) → Result T WriteFault → Type 0
   CountsWrites old new result = g.failures (disk_of new) ≡ failures_after_write result (g.failures (disk_of old))
+
+  -- Pages leave their frames or come into them, and changed ones are written first. No word changes.
+  pub record MovesPages {T : Type 0} (old new : ShownPool D) (result : Result T Refusal) : Type 0 where
+    pub takes : TakesLeastFree old new
+    pub stays : Stays g old new
+    pub refusal : IfErr result (IsTrueCause old new)
+    pub device : CountsFailures old new result
 
   -- If the pool was whole, the frozen map is the former live one.
   abbrev pub FreezesLive : (old new : ShownPool D) → Type 0

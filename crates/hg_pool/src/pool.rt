@@ -5,10 +5,10 @@ ghost use Rattle.hg_pool.specs.Maps.{copy_in, frame_in, frozen, is_broken, live}
 ghost use Rattle.hg_pool.specs.Kept.{CellsFrom, IsWhole, SameMap, Stays, Went};
 ghost use Rattle.hg_pool.specs.declared.frame.Frame.{Frame as FrameOf};
 ghost use Rattle.hg_cells.specs.declared.cell.Cell.TheVariants.{New};
-ghost use Rattle.hg_pool.specs.Answers.{IsTrueCause, order_of, order_with};
-ghost use Rattle.hg_pool.specs.Picking.{AreLeastFree, LacksSlots, TakesLeastFree};
+ghost use Rattle.hg_pool.specs.Answers.{order_of, order_with};
+ghost use Rattle.hg_pool.specs.Picking.{AreLeastFree, LacksSlots};
 ghost use Rattle.hg_pool.specs.Tables.{AreBelow, IsNameable};
-ghost use Rattle.hg_pool.specs.Calls.{CountsFailures, CountsWrites, FillsPage, FreezesOnOk, HasFreed, HasWaited, IsNextJob, IsStale, KeepsCopies, KeepsFirst, LoadsUndamaged, LosesWritten, MayChange, NamesDirty, SealsWhole, StayWithin, first_pool};
+ghost use Rattle.hg_pool.specs.Calls.{CountsWrites, FillsPage, FreezesOnOk, HasFreed, HasWaited, IsNextJob, IsStale, KeepsCopies, KeepsFirst, LoadsUndamaged, LosesWritten, MayChange, MovesPages, NamesDirty, SealsWhole, StayWithin, first_pool};
 
 use crate::fault::FreezeFault;
 use crate::frames::Frames;
@@ -113,27 +113,21 @@ impl<D: Disk> Pool<D> {
     /// changed page is written first: to the slot picked for it if it waits and is as it was frozen, else to the least free
     /// slot.
     pub fn evict(&mut self) -> Result<Option<u64>, Refusal>
-        ensures takes { TakesLeastFree self.old self.new }
-        ensures stays { Stays ⟦<D as Disk>⟧ self.old self.new }
+        ensures moves { MovesPages ⟦<D as Disk>⟧ self.old self.new result }
         ensures none { result ≡ Ok None → (self.new ≡ self.old) × (self.old.frames ≡ []) }
         ensures freed { IfOk result (HasFreed self.old self.new) }
         ensures kept { OnErr result (order_of self.new ≡ order_of self.old) }
-        ensures refusal { IfErr result (IsTrueCause self.old self.new) }
         ensures undamaged { IfErr result (λ r. r ≢ Refusal.Damaged) }
-        ensures device { CountsFailures ⟦<D as Disk>⟧ self.old self.new result }
     {
         self.parts.evict()
     }
 
     /// Frees a frame if all are taken.
     pub fn make_room(&mut self) -> Result<(), Refusal>
-        ensures takes { TakesLeastFree self.old self.new }
-        ensures stays { Stays ⟦<D as Disk>⟧ self.old self.new }
+        ensures moves { MovesPages ⟦<D as Disk>⟧ self.old self.new result }
         ensures room { OnOk result (length self.new.frames < self.new.most_frames) }
         ensures quiet { length self.old.frames < self.old.most_frames → self.new ≡ self.old }
-        ensures refusal { IfErr result (IsTrueCause self.old self.new) }
         ensures undamaged { IfErr result (λ r. r ≢ Refusal.Damaged) }
-        ensures device { CountsFailures ⟦<D as Disk>⟧ self.old self.new result }
     {
         self.parts.make_room()
     }
@@ -142,15 +136,12 @@ impl<D: Disk> Pool<D> {
     /// frame. The page used just before this call stays.
     pub fn load(&mut self, page: u64, segments: u32, sets: &SetTable) -> Result<(), Refusal>
         requires { page < MOST_PAGES }
-        ensures takes { TakesLeastFree self.old self.new }
-        ensures stays { Stays ⟦<D as Disk>⟧ self.old self.new }
+        ensures moves { MovesPages ⟦<D as Disk>⟧ self.old self.new result }
         ensures loaded { OnOk result (is_some (frame_in self.new.frames page) ≡ true) }
         ensures order { OnOk result (order_of self.new ≡ order_with self.old page) }
         ensures before { OnOk result (KeepsFirst self.old self.new) }
         ensures within { StayWithin segments (length sets.now.sets) self.old.frames self.new.frames }
-        ensures refusal { IfErr result (IsTrueCause self.old self.new) }
         ensures undamaged { LoadsUndamaged ⟦<D as Disk>⟧ self.old page segments sets.now.sets result }
-        ensures device { CountsFailures ⟦<D as Disk>⟧ self.old self.new result }
     {
         self.parts.load(page, segments, sets)
     }
