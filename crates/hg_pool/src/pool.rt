@@ -8,7 +8,7 @@ ghost use Rattle.hg_cells.specs.declared.cell.Cell.TheVariants.{New};
 ghost use Rattle.hg_pool.specs.Answers.{order_of, order_with};
 ghost use Rattle.hg_pool.specs.Picking.{AreLeastFree, LacksSlots};
 ghost use Rattle.hg_pool.specs.Tables.{AreBelow, IsNameable};
-ghost use Rattle.hg_pool.specs.Calls.{CountsWrites, FillsPage, FreezesOnOk, HasFreed, HasWaited, IsNextJob, IsStale, KeepsCopies, KeepsFirst, LoadsUndamaged, LosesWritten, MayChange, MovesPages, NamesDirty, SealsWhole, StayWithin, first_pool};
+ghost use Rattle.hg_pool.specs.Calls.{FillsPage, FreezesOnOk, HasFreed, HasWaited, IsNextJob, IsStale, KeepsCopies, KeepsFirst, LoadsUndamaged, LosesWritten, MayChange, MovesPages, NamesDirty, SealsWhole, StayWithin, WritesPages, first_pool};
 
 use crate::fault::FreezeFault;
 use crate::frames::Frames;
@@ -221,16 +221,13 @@ impl<D: Disk> Pool<D> {
     /// Writes a page to the slot that was picked for it: `Written` exactly if it waits and the bytes are those of its
     /// frozen cells. The pages in memory stay, with their cells. It makes one device call at most and takes no memory.
     pub fn put(&mut self, page: &EncodedPage) -> Result<Put, WriteFault>
-        ensures stays { Stays ⟦<D as Disk>⟧ self.old self.new }
+        ensures writes { WritesPages ⟦<D as Disk>⟧ self.old self.new result }
         ensures written { IfOk result (λ put. put ≡ Put.Written → HasWaited self.old page.now) }
         ensures stale { IfOk result (λ put. put ≡ Put.Stale → IsStale self.old page.now) }
         ensures nothing { IfOk result (λ put. put ≡ Put.Stale → self.new ≡ self.old) }
         ensures waiting { LosesWritten page.now.page self.old.waiting self.new.waiting result }
         ensures cells { CellsFrom self.old.frames self.new.frames }
         ensures order { order_of self.new ≡ order_of self.old }
-        ensures broken { IsErrOf result WriteFault.Broken → IsTrue (is_broken self.old) }
-        ensures breaks { OnErr result (IsTrue (is_broken self.new)) }
-        ensures device { CountsWrites ⟦<D as Disk>⟧ self.old self.new result }
     {
         self.parts.put(page)
     }
@@ -278,13 +275,10 @@ impl<D: Disk> Pool<D> {
     /// Makes the written pages durable. If no page waits, then after an `Ok` each image of the slots, read by the frozen
     /// table, gives the frozen map. It makes one device call and takes no memory.
     pub fn seal(&mut self) -> Result<(), WriteFault>
-        ensures stays { Stays ⟦<D as Disk>⟧ self.old self.new }
+        ensures writes { WritesPages ⟦<D as Disk>⟧ self.old self.new result }
         ensures sealed { SealsWhole ⟦<D as Disk>⟧ self.old self.new result }
         ensures marked { self.old.waiting ≡ [] → OnOk result (IsTrue self.new.is_sealed) }
         ensures rest { self.new ≡ record self.old { file = self.new.file; is_sealed = self.new.is_sealed } }
-        ensures broken { IsErrOf result WriteFault.Broken → IsTrue (is_broken self.old) }
-        ensures breaks { OnErr result (IsTrue (is_broken self.new)) }
-        ensures device { CountsWrites ⟦<D as Disk>⟧ self.old self.new result }
     {
         self.parts.seal()
     }
