@@ -1,5 +1,5 @@
 -- Definitions for the contracts of a pool's calls.
-use Rattle.std.specs.Prelude.{◌≡◌, ◌≢◌, ◌⊎◌, ◌↔◌, ◌+◌, ◌-◌, ◌/◌, ◌%◌, ◌<◌, ◌≤◌, ◌==◌, ◌&&◌, ◌++◌, ℕ, nat_eq, nat_le, nat_lt, List, [], ◌∷◌, length, take, get_or, Bool, true, false, Option, Some, None, Result, is_some, IsTrue, OnOk, IfOk, IfErr, MatchOption, if◌then◌else◌}
+use Rattle.std.specs.Prelude.{◌≡◌, ◌≢◌, ◌⊎◌, ◌↔◌, ◌+◌, ◌-◌, ◌/◌, ◌%◌, ◌<◌, ◌≤◌, ◌==◌, ◌&&◌, ◌++◌, ℕ, nat_eq, nat_le, nat_lt, List, [], ◌∷◌, length, take, get_or, Bool, true, false, Option, Some, None, Result, is_some, IsTrue, OnOk, OnErr, IfOk, IfErr, IsErrOf, MatchOption, if◌then◌else◌}
 use Rattle.std.specs.Set.{remove_key}
 use Rattle.hg_model.specs.declared.verdict.Refusal.{Refusal}
 use Rattle.hg_model.specs.declared.verdict.Refusal.TheVariants.{Damaged}
@@ -16,15 +16,16 @@ use Rattle.hg_pages.specs.Slots.{HasBytes, HasSlot, IsKnown, IsSlot, slot_text}
 use Rattle.hg_pages.specs.Tables as tables
 use Rattle.hg_pages.specs.Tables.{IsNamed, slot_in}
 use Rattle.hg_pages.specs.declared.fault.WriteFault.{WriteFault}
+use Rattle.hg_pages.specs.declared.fault.WriteFault.TheVariants.{Broken}
 use Rattle.hg_pages.specs.declared.slot_file.SlotFile.{SlotFile}
 use Rattle.hg_pool.specs.declared.frame.Frame.{Frame}
 use Rattle.hg_pool.specs.declared.job.Job.{Job}
 use Rattle.hg_pool.specs.declared.job.Put.{Put}
 use Rattle.hg_pool.specs.declared.job.Put.TheVariants as put
-use Rattle.hg_pool.specs.Answers.{IsFrozen, IsTaken, least_of, order_of, order_with}
-use Rattle.hg_pool.specs.Kept.{AreWithin, IsFaithful, IsWhole, SameMap}
+use Rattle.hg_pool.specs.Answers.{IsFrozen, IsTaken, IsTrueCause, least_of, order_of, order_with}
+use Rattle.hg_pool.specs.Kept.{AreWithin, IsFaithful, IsWhole, SameMap, Stays}
 use Rattle.hg_pool.specs.Maps.{IsSealed, bytes_of, copy_in, disk_of, frame_in, frozen, frozen_at, in_slot, is_broken, live}
-use Rattle.hg_pool.specs.Picking.{HasDirty, IsLeastFree}
+use Rattle.hg_pool.specs.Picking.{HasDirty, IsLeastFree, TakesLeastFree}
 use Rattle.hg_pool.specs.Shown.{ShownPool}
 use Rattle.hg_recency.specs.Entries.{IsFree}
 
@@ -227,6 +228,20 @@ module _ {D : Type 0} (g : disk.Ghosts D) where
   -- After a write or a sync the count of failed calls is that from before, and one more after the answer DeviceFault.
   abbrev pub CountsWrites : {T : Type 0} → (old new : ShownPool D) → Result T WriteFault → Type 0
   CountsWrites old new result = g.failures (disk_of new) ≡ failures_after_write result (g.failures (disk_of old))
+
+  -- Pages leave their frames or come into them, and changed ones are written first. No word changes.
+  pub record MovesPages {T : Type 0} (old new : ShownPool D) (result : Result T Refusal) : Type 0 where
+    pub takes : TakesLeastFree old new
+    pub stays : Stays g old new
+    pub refusal : IfErr result (IsTrueCause old new)
+    pub device : CountsFailures old new result
+
+  -- The file is written or synced. No word changes, and a pool whose write or sync failed is broken from then on.
+  pub record WritesPages {T : Type 0} (old new : ShownPool D) (result : Result T WriteFault) : Type 0 where
+    pub stays : Stays g old new
+    pub broken : IsErrOf result Broken → IsBroken old
+    pub breaks : OnErr result (IsBroken new)
+    pub device : CountsWrites old new result
 
   -- If the pool was whole, the frozen map is the former live one.
   abbrev pub FreezesLive : (old new : ShownPool D) → Type 0

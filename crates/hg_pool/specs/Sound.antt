@@ -1,5 +1,5 @@
 -- The invariant of a pool.
-use Rattle.std.specs.Prelude.{◌≡◌, ◌+◌, ◌≤◌, ◌<◌, ◌^◌, ℕ, Bool, true, false, List, [], length, Option, Some, None, is_some, IsTrue}
+use Rattle.std.specs.Prelude.{◌≡◌, ◌+◌, ◌≤◌, ◌<◌, ℕ, Bool, true, false, List, [], length, Option, Some, None, is_some, IsTrue}
 use Rattle.std.specs.Option.{unwrap_or}
 use Rattle.lru.specs.LruCache.{LruCache}
 use Rattle.hg_cells.specs.declared.cell.Cell.{Cell}

@@ -1,5 +1,5 @@
 -- Tables: their pages and slots, and a table in which a page was given a slot.
-use Rattle.std.specs.Prelude.{◌≡◌, ◌+◌, ◌≤◌, ◌<◌, ◌^◌, ◌==◌, ℕ, List, length, Some, All, is_some, if◌then◌else◌}
+use Rattle.std.specs.Prelude.{◌≡◌, ◌+◌, ◌≤◌, ◌<◌, ◌==◌, ℕ, List, length, Some, All, is_some, if◌then◌else◌}
 use Rattle.hg_pages.specs.declared.decoded.TheConstants.{MOST_PAGES}
 use Rattle.hg_pages.specs.declared.slot_file.TheConstants.{MOST_SLOTS}
 use Rattle.hg_pages.specs.Tables.{AreEntries, ShownTable, slot_in}

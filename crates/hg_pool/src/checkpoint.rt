@@ -1,10 +1,9 @@
 //! A checkpoint: the waiting pages are written, and then a root that names them is opened.
-ghost use Rattle.std.specs.Prelude.{◌≡◌, ◌⊎◌, ◌↔◌, ◌+◌, ◌<◌, ◌≤◌, ◌^◌, ◌==◌, [], true, Some, None, Ok, Err, is_some, IsTrue, OnOk, OnErr, IfOk, IsErrOf, MatchOption, if◌then◌else◌};
+ghost use Rattle.std.specs.Prelude.{◌≡◌, ◌⊎◌, ◌↔◌, ◌+◌, ◌<◌, ◌≤◌, ◌^◌, ◌==◌, [], true, Some, None, Ok, Err, is_some, IsTrue, OnOk, OnErr, IfOk, MatchOption, if◌then◌else◌};
 ghost use Rattle.hg_pages.specs.Tables.{slot_in};
-ghost use Rattle.hg_pool.specs.Maps.{is_broken};
-ghost use Rattle.hg_pool.specs.Kept.{CellsFrom, Stays};
+ghost use Rattle.hg_pool.specs.Kept.{CellsFrom};
 ghost use Rattle.hg_pool.specs.Answers.{IsFrozen, order_of};
-ghost use Rattle.hg_pool.specs.Calls.{CountsWrites, HasWaited, IsNextJob, IsStale, LosesWritten, SealsWhole, WaitsFor};
+ghost use Rattle.hg_pool.specs.Calls.{HasWaited, IsNextJob, IsStale, LosesWritten, SealsWhole, WaitsFor, WritesPages};
 
 use crate::job::{Job, Put};
 use crate::parts::Parts;
@@ -70,17 +69,14 @@ impl<D: Disk> Parts<D> {
         requires sound { IsSound self.old }
         ensures sound { IsSound self.new }
         ensures reached { IsReached self.old → IsReached self.new }
-        ensures stays { Stays ⟦<D as Disk>⟧ (shown_of self.old) (shown_of self.new) }
+        ensures writes { WritesPages ⟦<D as Disk>⟧ (shown_of self.old) (shown_of self.new) result }
         ensures written { IfOk result (λ put. put ≡ Put.Written → HasWaited (shown_of self.old) page.now) }
         ensures stale { IfOk result (λ put. put ≡ Put.Stale → IsStale (shown_of self.old) page.now) }
         ensures nothing { IfOk result (λ put. put ≡ Put.Stale → self.new ≡ self.old) }
         ensures waiting { LosesWritten page.now.page self.old.waiting.entries self.new.waiting.entries result }
-        ensures broken { IsErrOf result WriteFault.Broken → IsTrue (is_broken (shown_of self.old)) }
-        ensures breaks { OnErr result (IsTrue (is_broken (shown_of self.new))) }
         ensures cells { CellsFrom self.old.frames.entries self.new.frames.entries }
         ensures order { order_of (shown_of self.new) ≡ order_of (shown_of self.old) }
         ensures refused { OnErr result (self.new ≡ record self.old { file = self.new.file }) }
-        ensures device { CountsWrites ⟦<D as Disk>⟧ (shown_of self.old) (shown_of self.new) result }
     {
         match self.awaits(page) {
             None => Ok(Put::Stale),
@@ -97,13 +93,10 @@ impl<D: Disk> Parts<D> {
         requires sound { IsSound self.old }
         ensures sound { IsSound self.new }
         ensures reached { IsReached self.old → IsReached self.new }
-        ensures stays { Stays ⟦<D as Disk>⟧ (shown_of self.old) (shown_of self.new) }
+        ensures writes { WritesPages ⟦<D as Disk>⟧ (shown_of self.old) (shown_of self.new) result }
         ensures sealed { SealsWhole ⟦<D as Disk>⟧ (shown_of self.old) (shown_of self.new) result }
         ensures marked { self.old.waiting.entries ≡ [] → OnOk result (IsTrue self.new.is_sealed) }
         ensures rest { self.new ≡ record self.old { file = self.new.file; is_sealed = self.new.is_sealed } }
-        ensures broken { IsErrOf result WriteFault.Broken → IsTrue (is_broken (shown_of self.old)) }
-        ensures breaks { OnErr result (IsTrue (is_broken (shown_of self.new))) }
-        ensures device { CountsWrites ⟦<D as Disk>⟧ (shown_of self.old) (shown_of self.new) result }
     {
         self.file.seal()?;
         if self.waiting.len() == 0 {

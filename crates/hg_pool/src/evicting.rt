@@ -1,12 +1,12 @@
 //! Pages leave their frames. Changed pages are written first.
-ghost use Rattle.std.specs.Prelude.{◌≡◌, ◌≢◌, ◌⊎◌, ◌↔◌, ◌+◌, ◌-◌, ◌<◌, ◌≤◌, ◌^◌, [], ◌∷◌, ◌++◌, length, map, true, false, Some, None, Ok, Err, is_some, IsTrue, OnOk, OnErr, IfOk, IfErr, IsErrOf, ◌==◌, if◌then◌else◌};
+ghost use Rattle.std.specs.Prelude.{◌≡◌, ◌≢◌, ◌⊎◌, ◌↔◌, ◌+◌, ◌-◌, ◌<◌, ◌≤◌, ◌^◌, [], ◌∷◌, ◌++◌, length, map, true, false, Some, None, Ok, Err, is_some, IsTrue, OnOk, OnErr, IfOk, IfErr, ◌==◌, if◌then◌else◌};
 ghost use Rattle.hg_pages.specs.Tables.{IsNamed, slot_in};
 ghost use Rattle.hg_pool.specs.declared.frame.Frame.{Frame as FrameOf};
-ghost use Rattle.hg_pool.specs.Maps.{copy_in, frame_in, is_broken};
+ghost use Rattle.hg_pool.specs.Maps.{copy_in, frame_in};
 ghost use Rattle.hg_pool.specs.Kept.{CellsFrom, Stays};
 ghost use Rattle.hg_pool.specs.Answers.{IsTaken, IsTrueCause, order_of};
-ghost use Rattle.hg_pool.specs.Picking.{IsLeastFree, TakesLeastFree};
-ghost use Rattle.hg_pool.specs.Calls.{AreOfEither, ArePagesOf, CountsFailures, CountsWrites, EncodesFrame, HasFreed, IsBroken, IsClean, IsCleanIfUncopied, IsOfFrame, IsOfFrozen, IsWith, IsWithout, MayBegin, MayChange, order_with_room};
+ghost use Rattle.hg_pool.specs.Picking.{IsLeastFree};
+ghost use Rattle.hg_pool.specs.Calls.{AreOfEither, ArePagesOf, CountsFailures, EncodesFrame, HasFreed, IsBroken, IsClean, IsCleanIfUncopied, IsOfFrame, IsOfFrozen, IsWith, IsWithout, MayBegin, MayChange, MovesPages, WritesPages, order_with_room};
 
 use crate::parts::Parts;
 use hg_disk::Disk;
@@ -42,12 +42,9 @@ impl<D: Disk> Parts<D> {
         requires stands { IsOfFrozen ⟦<D as Disk>⟧ (shown_of self.old) encoded.now }
         requires as_frozen { IsOfFrame (shown_of self.old) encoded.now }
         ensures sound { IsSound self.new }
-        ensures stays { Stays ⟦<D as Disk>⟧ (shown_of self.old) (shown_of self.new) }
-        ensures device { CountsWrites ⟦<D as Disk>⟧ (shown_of self.old) (shown_of self.new) result }
+        ensures writes { WritesPages ⟦<D as Disk>⟧ (shown_of self.old) (shown_of self.new) result }
         ensures cells { CellsFrom self.old.frames.entries self.new.frames.entries }
-        ensures breaks { OnErr result (IsTrue (is_broken (shown_of self.new))) }
         ensures refuses { IsBroken (shown_of self.old) → (result ≡ Err WriteFault.Broken) × (self.new ≡ self.old) }
-        ensures broken { IsErrOf result WriteFault.Broken → IsTrue (is_broken (shown_of self.old)) }
         ensures order { map (λ e. e.0) self.new.frames.entries ≡ map (λ e. e.0) self.old.frames.entries }
         ensures slots { AreOfEither self.old.live.entries self.old.waiting.entries self.new.live.entries }
         ensures search { self.new.search_from ≡ self.old.search_from }
@@ -124,11 +121,8 @@ impl<D: Disk> Parts<D> {
         requires within { slot < self.old.slots }
         ensures sound { IsSound self.new }
         ensures reached { IsReached self.new }
-        ensures takes { TakesLeastFree (shown_of self.old) (shown_of self.new) }
-        ensures stays { Stays ⟦<D as Disk>⟧ (shown_of self.old) (shown_of self.new) }
-        ensures refusal { IfErr result (IsTrueCause (shown_of self.old) (shown_of self.new)) }
+        ensures moves { MovesPages ⟦<D as Disk>⟧ (shown_of self.old) (shown_of self.new) result }
         ensures undamaged { IfErr result (λ r. r ≢ Refusal.Damaged) }
-        ensures device { CountsFailures ⟦<D as Disk>⟧ (shown_of self.old) (shown_of self.new) result }
         ensures cells { CellsFrom self.old.frames.entries self.new.frames.entries }
         ensures order { map (λ e. e.0) self.new.frames.entries ≡ map (λ e. e.0) self.old.frames.entries }
         ensures clean { OnOk result (IsClean self.new.frames.entries page) }
@@ -155,11 +149,8 @@ impl<D: Disk> Parts<D> {
         requires as_frozen { copy_in self.old.copies.entries page ≡ None }
         ensures sound { IsSound self.new }
         ensures reached { IsReached self.new }
-        ensures takes { TakesLeastFree (shown_of self.old) (shown_of self.new) }
-        ensures stays { Stays ⟦<D as Disk>⟧ (shown_of self.old) (shown_of self.new) }
-        ensures refusal { IfErr result (IsTrueCause (shown_of self.old) (shown_of self.new)) }
+        ensures moves { MovesPages ⟦<D as Disk>⟧ (shown_of self.old) (shown_of self.new) result }
         ensures undamaged { IfErr result (λ r. r ≢ Refusal.Damaged) }
-        ensures device { CountsFailures ⟦<D as Disk>⟧ (shown_of self.old) (shown_of self.new) result }
         ensures cells { CellsFrom self.old.frames.entries self.new.frames.entries }
         ensures order { map (λ e. e.0) self.new.frames.entries ≡ map (λ e. e.0) self.old.frames.entries }
         ensures clean { OnOk result (IsClean self.new.frames.entries page) }
@@ -176,11 +167,8 @@ impl<D: Disk> Parts<D> {
         requires present { is_some (frame_in self.old.frames.entries page) ≡ true }
         ensures sound { IsSound self.new }
         ensures reached { IsReached self.new }
-        ensures takes { TakesLeastFree (shown_of self.old) (shown_of self.new) }
-        ensures stays { Stays ⟦<D as Disk>⟧ (shown_of self.old) (shown_of self.new) }
-        ensures refusal { IfErr result (IsTrueCause (shown_of self.old) (shown_of self.new)) }
+        ensures moves { MovesPages ⟦<D as Disk>⟧ (shown_of self.old) (shown_of self.new) result }
         ensures undamaged { IfErr result (λ r. r ≢ Refusal.Damaged) }
-        ensures device { CountsFailures ⟦<D as Disk>⟧ (shown_of self.old) (shown_of self.new) result }
         ensures cells { CellsFrom self.old.frames.entries self.new.frames.entries }
         ensures order { map (λ e. e.0) self.new.frames.entries ≡ map (λ e. e.0) self.old.frames.entries }
         ensures clean { OnOk result (IsClean self.new.frames.entries page) }
@@ -206,11 +194,8 @@ impl<D: Disk> Parts<D> {
         requires reached { IsReached self.old }
         ensures sound { IsSound self.new }
         ensures reached { IsReached self.new }
-        ensures takes { TakesLeastFree (shown_of self.old) (shown_of self.new) }
-        ensures stays { Stays ⟦<D as Disk>⟧ (shown_of self.old) (shown_of self.new) }
-        ensures refusal { IfErr result (IsTrueCause (shown_of self.old) (shown_of self.new)) }
+        ensures moves { MovesPages ⟦<D as Disk>⟧ (shown_of self.old) (shown_of self.new) result }
         ensures undamaged { IfErr result (λ r. r ≢ Refusal.Damaged) }
-        ensures device { CountsFailures ⟦<D as Disk>⟧ (shown_of self.old) (shown_of self.new) result }
         ensures cells { CellsFrom self.old.frames.entries self.new.frames.entries }
         ensures none { result ≡ Ok None → (self.new ≡ self.old) × (self.old.frames.entries ≡ []) }
         ensures freed { IfOk result (HasFreed (shown_of self.old) (shown_of self.new)) }
@@ -233,11 +218,8 @@ impl<D: Disk> Parts<D> {
         requires reached { IsReached self.old }
         ensures sound { IsSound self.new }
         ensures reached { IsReached self.new }
-        ensures takes { TakesLeastFree (shown_of self.old) (shown_of self.new) }
-        ensures stays { Stays ⟦<D as Disk>⟧ (shown_of self.old) (shown_of self.new) }
-        ensures refusal { IfErr result (IsTrueCause (shown_of self.old) (shown_of self.new)) }
+        ensures moves { MovesPages ⟦<D as Disk>⟧ (shown_of self.old) (shown_of self.new) result }
         ensures undamaged { IfErr result (λ r. r ≢ Refusal.Damaged) }
-        ensures device { CountsFailures ⟦<D as Disk>⟧ (shown_of self.old) (shown_of self.new) result }
         ensures cells { CellsFrom self.old.frames.entries self.new.frames.entries }
         ensures room { OnOk result (length self.new.frames.entries < self.new.frames.cap) }
         ensures quiet { length self.old.frames.entries < self.old.frames.cap → self.new ≡ self.old }

@@ -6,8 +6,7 @@ ghost use Rattle.hg_pool.specs.Frames.{HasCell};
 ghost use Rattle.hg_pool.specs.Maps.{frame_in};
 ghost use Rattle.hg_pool.specs.Kept.{AreWithin, Stays, Went};
 ghost use Rattle.hg_pool.specs.Answers.{IsTrueCause, order_of, order_with};
-ghost use Rattle.hg_pool.specs.Picking.{TakesLeastFree};
-ghost use Rattle.hg_pool.specs.Calls.{CountsFailures, FillsPage, KeepsFirst, LoadsUndamaged, MayChange, ReadsStored, ReadsUndamaged, StayWithin, UsesPage};
+ghost use Rattle.hg_pool.specs.Calls.{CountsFailures, FillsPage, KeepsFirst, LoadsUndamaged, MayChange, MovesPages, ReadsStored, ReadsUndamaged, StayWithin, UsesPage};
 
 use crate::parts::Parts;
 use hg_cells::{Cell, Page};
@@ -87,15 +86,12 @@ impl<D: Disk> Parts<D> {
         requires number { page < MOST_PAGES }
         ensures sound { IsSound self.new }
         ensures reached { IsReached self.new }
-        ensures takes { TakesLeastFree (shown_of self.old) (shown_of self.new) }
-        ensures stays { Stays ⟦<D as Disk>⟧ (shown_of self.old) (shown_of self.new) }
+        ensures moves { MovesPages ⟦<D as Disk>⟧ (shown_of self.old) (shown_of self.new) result }
         ensures loaded { OnOk result (is_some (frame_in self.new.frames.entries page) ≡ true) }
         ensures order { OnOk result (order_of (shown_of self.new) ≡ order_with (shown_of self.old) page) }
         ensures before { OnOk result (KeepsFirst (shown_of self.old) (shown_of self.new)) }
         ensures within { StayWithin segments (length sets.now.sets) self.old.frames.entries self.new.frames.entries }
-        ensures refusal { IfErr result (IsTrueCause (shown_of self.old) (shown_of self.new)) }
         ensures undamaged { LoadsUndamaged ⟦<D as Disk>⟧ (shown_of self.old) page segments sets.now.sets result }
-        ensures device { CountsFailures ⟦<D as Disk>⟧ (shown_of self.old) (shown_of self.new) result }
     {
         if self.use_page(page) {
             return Ok(());

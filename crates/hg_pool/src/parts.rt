@@ -5,7 +5,7 @@ ghost use Rattle.hg_pages.specs.Tables.{IsNamed};
 ghost use Rattle.hg_pool.specs.Maps.{bytes_of, is_broken};
 ghost use Rattle.hg_pool.specs.Kept.{BreaksByFailure, Stays};
 ghost use Rattle.hg_pool.specs.Answers.{IsFull};
-ghost use Rattle.hg_pool.specs.Calls.{CountsWrites, IsLeastSlot, KeepsSlotsBut, LeavesSlotsBut, SameBytes, StaysLong};
+ghost use Rattle.hg_pool.specs.Calls.{CountsWrites, IsLeastSlot, KeepsSlotsBut, LeavesSlotsBut, SameBytes, StaysLong, WritesPages};
 
 use crate::frames::Frames;
 use hg_cells::Page;
@@ -131,12 +131,9 @@ impl<D: Disk> Parts<D> {
         requires not_live { ¬ IsNamed self.old.live.entries slot }
         ensures rest { self.new ≡ record self.old { file = self.new.file } }
         ensures written { OnOk result (HasBytes slot page.now.bytes (bytes_of ⟦<D as Disk>⟧ (shown_of self.new))) }
-        ensures stays { Stays ⟦<D as Disk>⟧ (shown_of self.old) (shown_of self.new) }
-        ensures breaks { OnErr result (IsTrue (is_broken (shown_of self.new))) }
-        ensures broken { IsErrOf result WriteFault.Broken → IsTrue (is_broken (shown_of self.old)) }
+        ensures writes { WritesPages ⟦<D as Disk>⟧ (shown_of self.old) (shown_of self.new) result }
         ensures refuses { IsTrue (is_broken (shown_of self.old)) → result ≡ Err WriteFault.Broken }
         ensures same { IsTrue (is_broken (shown_of self.old)) → self.new ≡ self.old }
-        ensures device { CountsWrites ⟦<D as Disk>⟧ (shown_of self.old) (shown_of self.new) result }
     {
         self.write_slot(slot, page)
     }

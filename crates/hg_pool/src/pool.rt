@@ -5,10 +5,10 @@ ghost use Rattle.hg_pool.specs.Maps.{copy_in, frame_in, frozen, is_broken, live}
 ghost use Rattle.hg_pool.specs.Kept.{CellsFrom, IsWhole, SameMap, Stays, Went};
 ghost use Rattle.hg_pool.specs.declared.frame.Frame.{Frame as FrameOf};
 ghost use Rattle.hg_cells.specs.declared.cell.Cell.TheVariants.{New};
-ghost use Rattle.hg_pool.specs.Answers.{IsTrueCause, order_of, order_with};
-ghost use Rattle.hg_pool.specs.Picking.{AreLeastFree, LacksSlots, TakesLeastFree};
+ghost use Rattle.hg_pool.specs.Answers.{order_of, order_with};
+ghost use Rattle.hg_pool.specs.Picking.{AreLeastFree, LacksSlots};
 ghost use Rattle.hg_pool.specs.Tables.{AreBelow, IsNameable};
-ghost use Rattle.hg_pool.specs.Calls.{CountsFailures, CountsWrites, FillsPage, FreezesOnOk, HasFreed, HasWaited, IsNextJob, IsStale, KeepsCopies, KeepsFirst, LoadsUndamaged, LosesWritten, MayChange, NamesDirty, SealsWhole, StayWithin, first_pool};
+ghost use Rattle.hg_pool.specs.Calls.{FillsPage, FreezesOnOk, HasFreed, HasWaited, IsNextJob, IsStale, KeepsCopies, KeepsFirst, LoadsUndamaged, LosesWritten, MayChange, MovesPages, NamesDirty, SealsWhole, StayWithin, WritesPages, first_pool};
 
 use crate::fault::FreezeFault;
 use crate::frames::Frames;
@@ -113,27 +113,21 @@ impl<D: Disk> Pool<D> {
     /// changed page is written first: to the slot picked for it if it waits and is as it was frozen, else to the least free
     /// slot.
     pub fn evict(&mut self) -> Result<Option<u64>, Refusal>
-        ensures takes { TakesLeastFree self.old self.new }
-        ensures stays { Stays ⟦<D as Disk>⟧ self.old self.new }
+        ensures moves { MovesPages ⟦<D as Disk>⟧ self.old self.new result }
         ensures none { result ≡ Ok None → (self.new ≡ self.old) × (self.old.frames ≡ []) }
         ensures freed { IfOk result (HasFreed self.old self.new) }
         ensures kept { OnErr result (order_of self.new ≡ order_of self.old) }
-        ensures refusal { IfErr result (IsTrueCause self.old self.new) }
         ensures undamaged { IfErr result (λ r. r ≢ Refusal.Damaged) }
-        ensures device { CountsFailures ⟦<D as Disk>⟧ self.old self.new result }
     {
         self.parts.evict()
     }
 
     /// Frees a frame if all are taken.
     pub fn make_room(&mut self) -> Result<(), Refusal>
-        ensures takes { TakesLeastFree self.old self.new }
-        ensures stays { Stays ⟦<D as Disk>⟧ self.old self.new }
+        ensures moves { MovesPages ⟦<D as Disk>⟧ self.old self.new result }
         ensures room { OnOk result (length self.new.frames < self.new.most_frames) }
         ensures quiet { length self.old.frames < self.old.most_frames → self.new ≡ self.old }
-        ensures refusal { IfErr result (IsTrueCause self.old self.new) }
         ensures undamaged { IfErr result (λ r. r ≢ Refusal.Damaged) }
-        ensures device { CountsFailures ⟦<D as Disk>⟧ self.old self.new result }
     {
         self.parts.make_room()
     }
@@ -142,15 +136,12 @@ impl<D: Disk> Pool<D> {
     /// frame. The page used just before this call stays.
     pub fn load(&mut self, page: u64, segments: u32, sets: &SetTable) -> Result<(), Refusal>
         requires { page < MOST_PAGES }
-        ensures takes { TakesLeastFree self.old self.new }
-        ensures stays { Stays ⟦<D as Disk>⟧ self.old self.new }
+        ensures moves { MovesPages ⟦<D as Disk>⟧ self.old self.new result }
         ensures loaded { OnOk result (is_some (frame_in self.new.frames page) ≡ true) }
         ensures order { OnOk result (order_of self.new ≡ order_with self.old page) }
         ensures before { OnOk result (KeepsFirst self.old self.new) }
         ensures within { StayWithin segments (length sets.now.sets) self.old.frames self.new.frames }
-        ensures refusal { IfErr result (IsTrueCause self.old self.new) }
         ensures undamaged { LoadsUndamaged ⟦<D as Disk>⟧ self.old page segments sets.now.sets result }
-        ensures device { CountsFailures ⟦<D as Disk>⟧ self.old self.new result }
     {
         self.parts.load(page, segments, sets)
     }
@@ -230,16 +221,13 @@ impl<D: Disk> Pool<D> {
     /// Writes a page to the slot that was picked for it: `Written` exactly if it waits and the bytes are those of its
     /// frozen cells. The pages in memory stay, with their cells. It makes one device call at most and takes no memory.
     pub fn put(&mut self, page: &EncodedPage) -> Result<Put, WriteFault>
-        ensures stays { Stays ⟦<D as Disk>⟧ self.old self.new }
+        ensures writes { WritesPages ⟦<D as Disk>⟧ self.old self.new result }
         ensures written { IfOk result (λ put. put ≡ Put.Written → HasWaited self.old page.now) }
         ensures stale { IfOk result (λ put. put ≡ Put.Stale → IsStale self.old page.now) }
         ensures nothing { IfOk result (λ put. put ≡ Put.Stale → self.new ≡ self.old) }
         ensures waiting { LosesWritten page.now.page self.old.waiting self.new.waiting result }
         ensures cells { CellsFrom self.old.frames self.new.frames }
         ensures order { order_of self.new ≡ order_of self.old }
-        ensures broken { IsErrOf result WriteFault.Broken → IsTrue (is_broken self.old) }
-        ensures breaks { OnErr result (IsTrue (is_broken self.new)) }
-        ensures device { CountsWrites ⟦<D as Disk>⟧ self.old self.new result }
     {
         self.parts.put(page)
     }
@@ -287,13 +275,10 @@ impl<D: Disk> Pool<D> {
     /// Makes the written pages durable. If no page waits, then after an `Ok` each image of the slots, read by the frozen
     /// table, gives the frozen map. It makes one device call and takes no memory.
     pub fn seal(&mut self) -> Result<(), WriteFault>
-        ensures stays { Stays ⟦<D as Disk>⟧ self.old self.new }
+        ensures writes { WritesPages ⟦<D as Disk>⟧ self.old self.new result }
         ensures sealed { SealsWhole ⟦<D as Disk>⟧ self.old self.new result }
         ensures marked { self.old.waiting ≡ [] → OnOk result (IsTrue self.new.is_sealed) }
         ensures rest { self.new ≡ record self.old { file = self.new.file; is_sealed = self.new.is_sealed } }
-        ensures broken { IsErrOf result WriteFault.Broken → IsTrue (is_broken self.old) }
-        ensures breaks { OnErr result (IsTrue (is_broken self.new)) }
-        ensures device { CountsWrites ⟦<D as Disk>⟧ self.old self.new result }
     {
         self.parts.seal()
     }

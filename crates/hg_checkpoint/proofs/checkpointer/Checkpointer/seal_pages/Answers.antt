@@ -17,7 +17,7 @@ returns-in-Ok-clause-stands g c = λ now former stands.
     let old = c.args.self.now in
     let from = c.args.pool.now in
     let to = c.seal.new.self in
-    let went = c.seal.ensures.stays.went in
+    let went = c.seal.ensures.writes.stays.went in
     record {
       roots = subst (λ (phase : Phase). RootsStand g.D.Disk phase old.roots (root_of now) former old.body.value.items) c.in_default.ensures.phase.1.0 stands.roots;
       slots = at_end g.D.Disk (disk_of from) (disk_of to) (HasSlotsOf now former) (slots_stay g.D.Disk g.met.D.Disk.has_its_bytes from to now former went stands.names stands.slots);
@@ -28,7 +28,7 @@ pub returns-in-Err-seal-clause-stands : goal.returns-in-Err-seal-clause-stands
 returns-in-Err-seal-clause-stands g c = λ now former stands.
     let from = c.args.pool.now in
     let to = c.seal.new.self in
-    let went = c.seal.ensures.stays.went in
+    let went = c.seal.ensures.writes.stays.went in
     record {
       roots = stands.roots;
       slots = at_end g.D.Disk (disk_of from) (disk_of to) (HasSlotsOf now former) (slots_stay g.D.Disk g.met.D.Disk.has_its_bytes from to now former went stands.names stands.slots);
@@ -36,17 +36,17 @@ returns-in-Err-seal-clause-stands g c = λ now former stands.
     }
 
 pub returns-in-Ok-clause-any_moment : goal.returns-in-Ok-clause-any_moment
-returns-in-Ok-clause-any_moment g c = λ now former stands. slots_stay g.D.Disk g.met.D.Disk.has_its_bytes c.args.pool.now c.seal.new.self now former c.seal.ensures.stays.went stands.names stands.slots
+returns-in-Ok-clause-any_moment g c = λ now former stands. slots_stay g.D.Disk g.met.D.Disk.has_its_bytes c.args.pool.now c.seal.new.self now former c.seal.ensures.writes.stays.went stands.names stands.slots
 
 pub returns-in-Err-seal-clause-any_moment : goal.returns-in-Err-seal-clause-any_moment
-returns-in-Err-seal-clause-any_moment g c = λ now former stands. slots_stay g.D.Disk g.met.D.Disk.has_its_bytes c.args.pool.now c.seal.new.self now former c.seal.ensures.stays.went stands.names stands.slots
+returns-in-Err-seal-clause-any_moment g c = λ now former stands. slots_stay g.D.Disk g.met.D.Disk.has_its_bytes c.args.pool.now c.seal.new.self now former c.seal.ensures.writes.stays.went stands.names stands.slots
 
 pub returns-in-Ok-clause-next : goal.returns-in-Ok-clause-next
 returns-in-Ok-clause-next g c = λ now former parts cells stands draft.
     let old = c.args.self.now in
     let from = c.args.pool.now in
     let to = c.seal.new.self in
-    let went = c.seal.ensures.stays.went in
+    let went = c.seal.ensures.writes.stays.went in
     let nameable : IsNameable to.slots to.frozen = subst (λ (p : ShownPool g.row.D.Denot). IsNameable p.slots p.frozen) (sym c.seal.ensures.rest) c.ready_to_seal.ensures.nameable in
     let slots = at_end g.D.Disk (disk_of from) (disk_of to) (HasSlotsOf now former) (slots_stay g.D.Disk g.met.D.Disk.has_its_bytes from to now former went stands.names stands.slots) in
     let sealed = c.in-Ok.ensures.sealed draft.whole c.in_default.ensures.phase.1.1 in
@@ -65,4 +65,4 @@ returns-in-Ok-clause-elsewhere g c = λ now parts cells draft.
     let to = c.seal.new.self in
     let sealed = c.in-Ok.ensures.sealed draft.whole c.in_default.ensures.phase.1.1 in
     new_elsewhere parts to.frozen cells (frozen g.D.Disk to) (g.D.Disk.state (disk_of to)).contents (sealed (g.D.Disk.state (disk_of to)).contents (g.met.D.Disk.has_its_bytes (disk_of to)))
-    (λ w. c.seal.ensures.stays.went.frozen_is draft.whole w ∙ draft.words w)
+    (λ w. c.seal.ensures.writes.stays.went.frozen_is draft.whole w ∙ draft.words w)

@@ -1,4 +1,4 @@
-use Rattle.std.proofs.Common.{◌≡◌, ◌⊎◌, inl, inr, ◌<◌, ◌∙◌, ℕ, List, get_or, sym, ap, subst}
+use Rattle.std.proofs.Common.{rules, ◌≡◌, ◌⊎◌, inl, inr, ◌<◌, ◌∙◌, ℕ, List, get_or, sym, ap, subst}
 use Rattle.hg_cells.specs.declared.cell.Cell.{Cell}
 use Rattle.hg_cells.specs.declared.cell.Cell.TheVariants.{New}
 use Rattle.hg_pages.specs.Slots.{IsSlot}
@@ -23,5 +23,6 @@ pub write_waiting-requires-clause-as_frozen : goal.write_waiting-requires-clause
 write_waiting-requires-clause-as_frozen g c none f is =
     subst (λ (n : ℕ). IsSlot n f.cells c.in_ok-encoded.encoded.bytes) (sym c.in_ok-encoded.ensures.page) (c.in_ok-encoded.ensures.slot f (ap (λ (n : ℕ). frame_in c.args.self.now.frames.entries n) (sym c.in_ok-encoded.ensures.page) ∙ is))
 
-pub returns-clause-takes : goal.returns-clause-takes
-returns-clause-takes g c q s is = first_or_second (c.write_waiting.ensures.slots q s is)
+pub returns-clause-moves : goal.returns-clause-moves
+returns-clause-moves g c =
+    record { takes = λ q s is. first_or_second (c.write_waiting.ensures.slots q s is); stays = c.write_waiting.ensures.writes.stays; refusal = search rules; device = search rules }

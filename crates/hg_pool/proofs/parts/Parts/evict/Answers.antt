@@ -1,4 +1,4 @@
-use Rattle.std.proofs.Common.{◌≡◌, ◌<◌, ◌∙◌, ◌-◌, ℕ, nat_eq, List, [], ◌∷◌, ◌++◌, length, option_map, Option, Some, None, refl, sym, ap, subst, arith}
+use Rattle.std.proofs.Common.{rules, ◌≡◌, ◌<◌, ◌∙◌, ◌-◌, ℕ, nat_eq, List, [], ◌∷◌, ◌++◌, length, option_map, Option, Some, None, refl, sym, ap, subst, arith}
 use Rattle.std.specs.List.{IsDistinct}
 use Rattle.std.specs.Map.{keys_of}
 use Rattle.lru.specs.LruCache.{last_entry}
@@ -7,6 +7,7 @@ use Rattle.hg_pool.specs.Sound.{shown_of}
 use Rattle.hg_pool.proofs.Orders.{front_pages, got_there, last_get, last_of, none_last, removed_last, same_pages}
 use Rattle.hg_pool.proofs.Stepping.{cells_on, stays_on}
 use Rattle.hg_pool.specs.declared.parts.Parts.{Parts}
+use Rattle.hg_pool.specs.Maps.{disk_of}
 use Rattle.hg_pool.specs.Picking.{TakesLeastFree}
 use Rattle.hg_pool.specs.Reached.{IsReached}
 use Rattle.hg_pool.proofs.parts.Parts.evict.Goals as goal
@@ -33,9 +34,6 @@ clean-requires-clause-present g c =
     let es = c.args.self.now.frames.entries in
     let last = some_first (last_entry es) c.in-Some.page (sym c.in-Some.ensures) in
     got_there es (length es - 1) (c.in-Some.page, last.0) last.1
-
-pub returns-clause-stays : goal.returns-clause-stays
-returns-clause-stays g c = stays_on g.D.Disk (shown_of c.args.self.now) (shown_of c.clean.new.self) (shown_of c.let_go.new.self) c.clean.ensures.stays c.let_go.ensures.stays
 
 pub returns-clause-freed : goal.returns-clause-freed
 returns-clause-freed g c =
@@ -66,5 +64,12 @@ returns-clause-cells g c = cells_on c.args.self.now.frames.entries c.clean.new.s
 pub returns-clause-reached : goal.returns-clause-reached
 returns-clause-reached g c = subst (λ (x : Parts g.row.D.Denot). IsReached x) (sym c.let_go.ensures.rest) c.clean.ensures.reached
 
-pub returns-clause-takes : goal.returns-clause-takes
-returns-clause-takes g c = subst (λ (x : Parts g.row.D.Denot). TakesLeastFree (shown_of c.args.self.now) (shown_of x)) (sym c.let_go.ensures.rest) c.clean.ensures.takes
+pub returns-clause-moves : goal.returns-clause-moves
+returns-clause-moves g c =
+    let p = shown_of c.args.self.now in
+    record {
+      takes = subst (λ (x : Parts g.row.D.Denot). TakesLeastFree p (shown_of x)) (sym c.let_go.ensures.rest) c.clean.ensures.moves.takes;
+      stays = stays_on g.D.Disk p (shown_of c.clean.new.self) (shown_of c.let_go.new.self) c.clean.ensures.moves.stays c.let_go.ensures.stays;
+      refusal = search rules;
+      device = ap (λ (x : Parts g.row.D.Denot). g.D.Disk.failures (disk_of (shown_of x))) c.let_go.ensures.rest ∙ c.in_ok-clean.ensures.moves.device;
+    }

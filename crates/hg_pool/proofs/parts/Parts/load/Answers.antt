@@ -1,4 +1,4 @@
-use Rattle.std.proofs.Common.{◌∙◌, ◌-◌, ◌∷◌, ℕ, List, take, is_some, sym, ap, subst, get_or}
+use Rattle.std.proofs.Common.{rules, ◌∙◌, ◌-◌, ◌∷◌, ℕ, List, take, is_some, sym, ap, subst, get_or}
 use Rattle.std.proofs.lemmas.Result.{on_ok_weaker}
 use Rattle.hg_cells.specs.declared.cell.Cell.{Cell}
 use Rattle.hg_cells.specs.declared.cell.Cell.TheVariants.{New}
@@ -15,9 +15,6 @@ use Rattle.hg_pool.specs.Reached.{IsReached}
 use Rattle.hg_pool.specs.Picking.{TakesLeastFree}
 use Rattle.hg_pool.proofs.parts.Parts.load.Goals as goal
 
-pub returns-in_err-make_room-clause-stays : goal.returns-in_err-make_room-clause-stays
-returns-in_err-make_room-clause-stays g c = stays_on g.D.Disk (shown_of c.args.self.now) (shown_of c.use_page.new.self) (shown_of c.make_room.new.self) c.use_page.ensures.stays c.make_room.ensures.stays
-
 pub returns-then-use_page-clause-before : goal.returns-then-use_page-clause-before
 returns-then-use_page-clause-before g c other rest was = ap is_some (c.use_page.ensures.looks other) ∙ first_listed other c.args.self.now.frames.entries rest was
 
@@ -27,14 +24,14 @@ returns-then-use_page-clause-reached g c = subst (λ (x : Parts g.row.D.Denot). 
 pub make_room-requires-clause-reached : goal.make_room-requires-clause-reached
 make_room-requires-clause-reached g c = subst (λ (x : Parts g.row.D.Denot). IsReached x) (sym c.use_page.ensures.rest) c.requires.reached
 
-pub returns-in_err-make_room-clause-takes : goal.returns-in_err-make_room-clause-takes
-returns-in_err-make_room-clause-takes g c = subst (λ (x : Parts g.row.D.Denot). TakesLeastFree (shown_of x) (shown_of c.make_room.new.self)) c.use_page.ensures.rest c.make_room.ensures.takes
-
-pub returns-clause-stays : goal.returns-clause-stays
-returns-clause-stays g c =
-    stays_on g.D.Disk (shown_of c.args.self.now) (shown_of c.make_room.new.self) (shown_of c.read_in.new.self)
-    (stays_on g.D.Disk (shown_of c.args.self.now) (shown_of c.use_page.new.self) (shown_of c.make_room.new.self) c.use_page.ensures.stays c.make_room.ensures.stays)
-    c.read_in.ensures.stays
+pub returns-in_err-make_room-clause-moves : goal.returns-in_err-make_room-clause-moves
+returns-in_err-make_room-clause-moves g c =
+    record {
+      takes = subst (λ (x : Parts g.row.D.Denot). TakesLeastFree (shown_of x) (shown_of c.make_room.new.self)) c.use_page.ensures.rest c.make_room.ensures.moves.takes;
+      stays = stays_on g.D.Disk (shown_of c.args.self.now) (shown_of c.use_page.new.self) (shown_of c.make_room.new.self) c.use_page.ensures.stays c.make_room.ensures.moves.stays;
+      refusal = search rules;
+      device = search rules;
+    }
 
 pub returns-clause-before : goal.returns-clause-before
 returns-clause-before g c =
@@ -55,7 +52,7 @@ returns-clause-undamaged g c h known =
     let q = c.args.self.now in
     let room = c.make_room.new.self in
     let old : ShownPool g.row.D.Denot = shown_of q in
-    let stays = stays_on g.D.Disk old (shown_of c.use_page.new.self) (shown_of room) c.use_page.ensures.stays c.make_room.ensures.stays in
+    let stays = stays_on g.D.Disk old (shown_of c.use_page.new.self) (shown_of room) c.use_page.ensures.stays c.make_room.ensures.moves.stays in
     let missing = not_there (frame_in q.frames.entries c.args.page) (frame_in room.frames.entries c.args.page) (λ is. ap is_some (sym (c.use_page.ensures.looks c.args.page)) ∙ c.make_room.ensures.fewer c.args.page is)
     (sym c.use_page.ensures.answer ∙ c.if-use_page.false) in
     c.read_in.ensures.whole (stays.went.whole h) (known_there g.D.Disk old (shown_of room) c.args.page c.args.segments c.args.sets.now.sets stays h missing known)
@@ -63,10 +60,17 @@ returns-clause-undamaged g c h known =
 pub returns-clause-reached : goal.returns-clause-reached
 returns-clause-reached g c = subst (λ (x : Parts g.row.D.Denot). IsReached x) (sym c.read_in.ensures.rest) c.make_room.ensures.reached
 
-pub returns-clause-takes : goal.returns-clause-takes
-returns-clause-takes g c =
-    subst (λ (x : Parts g.row.D.Denot). TakesLeastFree (shown_of c.args.self.now) (shown_of x)) (sym c.read_in.ensures.rest)
-    (subst (λ (x : Parts g.row.D.Denot). TakesLeastFree (shown_of x) (shown_of c.make_room.new.self)) c.use_page.ensures.rest c.make_room.ensures.takes)
+pub returns-clause-moves : goal.returns-clause-moves
+returns-clause-moves g c =
+    record {
+      takes = subst (λ (x : Parts g.row.D.Denot). TakesLeastFree (shown_of c.args.self.now) (shown_of x)) (sym c.read_in.ensures.rest)
+          (subst (λ (x : Parts g.row.D.Denot). TakesLeastFree (shown_of x) (shown_of c.make_room.new.self)) c.use_page.ensures.rest c.make_room.ensures.moves.takes);
+      stays = stays_on g.D.Disk (shown_of c.args.self.now) (shown_of c.make_room.new.self) (shown_of c.read_in.new.self)
+          (stays_on g.D.Disk (shown_of c.args.self.now) (shown_of c.use_page.new.self) (shown_of c.make_room.new.self) c.use_page.ensures.stays c.make_room.ensures.moves.stays)
+          c.read_in.ensures.stays;
+      refusal = search rules;
+      device = search rules;
+    }
 
 pub returns-clause-within : goal.returns-clause-within
 returns-clause-within g c n m a b within =

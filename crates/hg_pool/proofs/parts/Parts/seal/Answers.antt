@@ -1,4 +1,4 @@
-use Rattle.std.proofs.Common.{◌≡◌, ℕ, true, List, [], ◌∷◌, length, refl, sym, ◌∙◌, arith}
+use Rattle.std.proofs.Common.{rules, ◌≡◌, ℕ, true, List, [], ◌∷◌, length, refl, sym, ◌∙◌, arith}
 use Rattle.hg_pool.specs.Sound.{shown_of}
 use Rattle.hg_pool.proofs.Breaking.{broke}
 use Rattle.hg_pool.proofs.Sealed.{seal_sealed, stays_sealed, usable}
@@ -8,20 +8,35 @@ none_of : (table : List (ℕ × ℕ)) → length table ≡ 0 → table ≡ []
 none_of [] is = refl
 none_of (e ∷ rest) is = absurd (omega (arith, is))
 
-pub returns-in_err-seal-clause-stays : goal.returns-in_err-seal-clause-stays
-returns-in_err-seal-clause-stays g c =
+pub returns-in_err-seal-clause-writes : goal.returns-in_err-seal-clause-writes
+returns-in_err-seal-clause-writes g c =
     let p = c.args.self.now in
-    stays_sealed g.D.Disk (shown_of p) c.seal.new.self p.is_sealed c.seal.ensures.any_moment (λ works. absurd (cc (sym c.in_err-seal.ensures.breaks ∙ works))) (broke g.D.Disk p.file c.seal.new.self c.seal.result c.seal.ensures.device c.seal.ensures.works c.seal.ensures.breaks c.seal.ensures.broken.broken c.seal.ensures.broken.refuses) c.seal.ensures.known (λ marked. marked)
+    record {
+      stays = stays_sealed g.D.Disk (shown_of p) c.seal.new.self p.is_sealed c.seal.ensures.any_moment (λ works. absurd (cc (sym c.in_err-seal.ensures.breaks ∙ works))) (broke g.D.Disk p.file c.seal.new.self c.seal.result c.seal.ensures.device c.seal.ensures.works c.seal.ensures.breaks c.seal.ensures.broken.broken c.seal.ensures.broken.refuses) c.seal.ensures.known (λ marked. marked);
+      broken = search rules;
+      breaks = search rules;
+      device = search rules;
+    }
 
-pub returns-then-len-eq0-clause-stays : goal.returns-then-len-eq0-clause-stays
-returns-then-len-eq0-clause-stays g c =
+pub returns-then-len-eq0-clause-writes : goal.returns-then-len-eq0-clause-writes
+returns-then-len-eq0-clause-writes g c =
     let p = c.args.self.now in
-    stays_sealed g.D.Disk (shown_of p) c.seal.new.self true c.seal.ensures.any_moment (λ _. usable p.file.is_broken c.in_ok-seal.was c.seal.ensures.broken.refuses) (broke g.D.Disk p.file c.seal.new.self c.seal.result c.seal.ensures.device c.seal.ensures.works c.seal.ensures.breaks c.seal.ensures.broken.broken c.seal.ensures.broken.refuses) c.seal.ensures.known (λ marked. refl)
+    record {
+      stays = stays_sealed g.D.Disk (shown_of p) c.seal.new.self true c.seal.ensures.any_moment (λ _. usable p.file.is_broken c.in_ok-seal.was c.seal.ensures.broken.refuses) (broke g.D.Disk p.file c.seal.new.self c.seal.result c.seal.ensures.device c.seal.ensures.works c.seal.ensures.breaks c.seal.ensures.broken.broken c.seal.ensures.broken.refuses) c.seal.ensures.known (λ marked. refl);
+      broken = search rules;
+      breaks = search rules;
+      device = search rules;
+    }
 
-pub returns-else-len-eq0-clause-stays : goal.returns-else-len-eq0-clause-stays
-returns-else-len-eq0-clause-stays g c =
+pub returns-else-len-eq0-clause-writes : goal.returns-else-len-eq0-clause-writes
+returns-else-len-eq0-clause-writes g c =
     let p = c.args.self.now in
-    stays_sealed g.D.Disk (shown_of p) c.seal.new.self p.is_sealed c.seal.ensures.any_moment (λ _. usable p.file.is_broken c.in_ok-seal.was c.seal.ensures.broken.refuses) (broke g.D.Disk p.file c.seal.new.self c.seal.result c.seal.ensures.device c.seal.ensures.works c.seal.ensures.breaks c.seal.ensures.broken.broken c.seal.ensures.broken.refuses) c.seal.ensures.known (λ marked. marked)
+    record {
+      stays = stays_sealed g.D.Disk (shown_of p) c.seal.new.self p.is_sealed c.seal.ensures.any_moment (λ _. usable p.file.is_broken c.in_ok-seal.was c.seal.ensures.broken.refuses) (broke g.D.Disk p.file c.seal.new.self c.seal.result c.seal.ensures.device c.seal.ensures.works c.seal.ensures.breaks c.seal.ensures.broken.broken c.seal.ensures.broken.refuses) c.seal.ensures.known (λ marked. marked);
+      broken = search rules;
+      breaks = search rules;
+      device = search rules;
+    }
 
 pub returns-then-len-eq0-clause-sealed : goal.returns-then-len-eq0-clause-sealed
 returns-then-len-eq0-clause-sealed g c h none = seal_sealed g.D.Disk (shown_of c.args.self.now) c.seal.new.self true h none c.seal.ensures.known c.in_ok-seal.ensures.durable

@@ -25,7 +25,7 @@ write_undamaged of_write.Broken e = cc
 
 pub returns-in_err-write_unnamed-clause-stays : goal.returns-in_err-write_unnamed-clause-stays
 returns-in_err-write_unnamed-clause-stays g c =
-    stays_on g.D.Disk (shown_of c.args.self.now) (shown_of c.reserve_live.new.self) (shown_of c.write_unnamed.new.self) c.reserve_live.ensures.stays c.write_unnamed.ensures.stays
+    stays_on g.D.Disk (shown_of c.args.self.now) (shown_of c.reserve_live.new.self) (shown_of c.write_unnamed.new.self) c.reserve_live.ensures.stays c.write_unnamed.ensures.writes.stays
 
 pub move_live-requires-clause-stands : goal.move_live-requires-clause-stands
 move_live-requires-clause-stands g c f is =
@@ -40,7 +40,7 @@ move_live-requires-clause-unpicked g c named =
 pub returns-clause-stays : goal.returns-clause-stays
 returns-clause-stays g c =
     stays_on g.D.Disk (shown_of c.args.self.now) (shown_of c.reserve_live.new.self) (shown_of c.move_live.new.self) c.reserve_live.ensures.stays
-    (stays_on g.D.Disk (shown_of c.reserve_live.new.self) (shown_of c.write_unnamed.new.self) (shown_of c.move_live.new.self) c.write_unnamed.ensures.stays c.move_live.ensures.stays)
+    (stays_on g.D.Disk (shown_of c.reserve_live.new.self) (shown_of c.write_unnamed.new.self) (shown_of c.move_live.new.self) c.write_unnamed.ensures.writes.stays c.move_live.ensures.stays)
 
 pub returns-clause-cells : goal.returns-clause-cells
 returns-clause-cells g c =

@@ -18,9 +18,16 @@ returns-clause-reached g c =
     (λ looks. reached_moved p new.live.entries c.args.page c.args.slot from c.requires.least below looks)
     (λ same. reached_still p new.live.entries c.args.slot from c.requires.least (λ s lt. (below s lt).0) same))
 
-pub returns-clause-takes : goal.returns-clause-takes
-returns-clause-takes g c q s is =
+pub returns-clause-moves : goal.returns-clause-moves
+returns-clause-moves g c =
     let p = shown_of c.args.self.now in
     let live = c.write_changed.new.self.live.entries in
-    of_either c.write_changed.result c.write_changed.ensures.slots c.write_changed.ensures.refused (λ looks. takes_moved p live c.args.page c.args.slot c.requires.least looks q s is)
-    (λ same. inl (sym (ap (λ (es : List (ℕ × ℕ)). slot_in es q) same) ∙ is))
+    let did = c.write_changed.ensures in
+    record {
+      takes = λ q s is.
+          of_either c.write_changed.result did.slots did.refused (λ looks. takes_moved p live c.args.page c.args.slot c.requires.least looks q s is)
+          (λ same. inl (sym (ap (λ (es : List (ℕ × ℕ)). slot_in es q) same) ∙ is));
+      stays = did.stays;
+      refusal = did.refusal;
+      device = did.device;
+    }

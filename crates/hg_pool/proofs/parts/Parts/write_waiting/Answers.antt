@@ -1,4 +1,4 @@
-use Rattle.std.proofs.Common.{◌≡◌, ◌⊎◌, inl, inr, ◌+◌, ◌<◌, ◌==◌, ◌∙◌, ℕ, Bool, true, false, List, length, Some, None, is_some, get_or, if◌then◌else◌, refl, sym, ap, subst, arith}
+use Rattle.std.proofs.Common.{rules, ◌≡◌, ◌⊎◌, inl, inr, ◌+◌, ◌<◌, ◌==◌, ◌∙◌, ℕ, Bool, true, false, List, length, Some, None, is_some, get_or, if◌then◌else◌, refl, sym, ap, subst, arith}
 use Rattle.hg_cells.specs.declared.cell.Cell.{Cell}
 use Rattle.hg_cells.specs.declared.cell.Cell.TheVariants.{New}
 use Rattle.hg_pages.specs.Slots.{HasSlot}
@@ -24,14 +24,24 @@ moved page slot live waiting new waits looks q s is = by (page == q) refl (sym (
     by true test found = inr (ap (λ (n : ℕ). slot_in waiting n) (sym (same_number page q test)) ∙ waits ∙ found)
     by false test found = inl found
 
-pub returns-then-release-clause-stays : goal.returns-then-release-clause-stays
-returns-then-release-clause-stays g c =
-    stays_on g.D.Disk (shown_of c.args.self.now) (shown_of c.write_unnamed.new.self) (shown_of c.move_live.new.self) c.write_unnamed.ensures.stays
-    (stays_on g.D.Disk (shown_of c.write_unnamed.new.self) (shown_of c.release.new.self) (shown_of c.move_live.new.self) c.release.ensures.stays c.move_live.ensures.stays)
+pub returns-then-release-clause-writes : goal.returns-then-release-clause-writes
+returns-then-release-clause-writes g c =
+    record {
+      stays = stays_on g.D.Disk (shown_of c.args.self.now) (shown_of c.write_unnamed.new.self) (shown_of c.move_live.new.self) c.write_unnamed.ensures.writes.stays
+          (stays_on g.D.Disk (shown_of c.write_unnamed.new.self) (shown_of c.release.new.self) (shown_of c.move_live.new.self) c.release.ensures.stays c.move_live.ensures.stays);
+      broken = search rules;
+      breaks = search rules;
+      device = search rules;
+    }
 
-pub returns-else-release-clause-stays : goal.returns-else-release-clause-stays
-returns-else-release-clause-stays g c =
-    stays_on g.D.Disk (shown_of c.args.self.now) (shown_of c.write_unnamed.new.self) (shown_of c.release.new.self) c.write_unnamed.ensures.stays c.release.ensures.stays
+pub returns-else-release-clause-writes : goal.returns-else-release-clause-writes
+returns-else-release-clause-writes g c =
+    record {
+      stays = stays_on g.D.Disk (shown_of c.args.self.now) (shown_of c.write_unnamed.new.self) (shown_of c.release.new.self) c.write_unnamed.ensures.writes.stays c.release.ensures.stays;
+      broken = search rules;
+      breaks = search rules;
+      device = search rules;
+    }
 
 pub release-requires-clause-stands : goal.release-requires-clause-stands
 release-requires-clause-stands g c =

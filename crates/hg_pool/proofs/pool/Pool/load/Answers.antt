@@ -3,7 +3,7 @@ use Rattle.hg_pages.specs.Slots.{IsKnown}
 use Rattle.hg_pool.specs.Kept.{AreWithin, IsWhole}
 use Rattle.hg_pool.specs.Maps.{live}
 use Rattle.hg_pool.specs.Shown.{ShownPool}
-use Rattle.hg_pool.specs.Picking.{TakesLeastFree}
+use Rattle.hg_pool.specs.Calls.{MovesPages}
 use Rattle.hg_pool.specs.Sound.{shown_of}
 use Rattle.hg_pool.proofs.pool.Pool.load.Goals as goal
 
@@ -16,5 +16,5 @@ returns-clause-undamaged g c h known =
     c.load.ensures.undamaged (subst (λ (p : ShownPool g.row.D.Denot). IsWhole g.D.Disk p) (sym c.self.view_is) h)
     (subst (λ (p : ShownPool g.row.D.Denot). (w : ℕ) → w / 256 ≡ c.args.page → IsKnown c.args.segments c.args.sets.now.sets (live g.D.Disk p w)) (sym c.self.view_is) known)
 
-pub returns-clause-takes : goal.returns-clause-takes
-returns-clause-takes g c = subst (λ (p : ShownPool g.row.D.Denot). TakesLeastFree p (shown_of c.load.new.self)) c.self.view_is c.load.ensures.takes
+pub returns-clause-moves : goal.returns-clause-moves
+returns-clause-moves g c = subst (λ (p : ShownPool g.row.D.Denot). MovesPages g.D.Disk p (shown_of c.load.new.self) c.load.result) c.self.view_is c.load.ensures.moves

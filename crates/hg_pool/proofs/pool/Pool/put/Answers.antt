@@ -5,7 +5,9 @@ use Rattle.hg_pages.specs.Tables.{slot_in}
 use Rattle.hg_pool.specs.declared.job.Put.TheVariants.{Stale}
 use Rattle.hg_pool.specs.Answers.{IsFrozen}
 use Rattle.hg_pool.specs.Kept.{CellsFrom}
+use Rattle.hg_pool.specs.Calls.{WritesPages}
 use Rattle.hg_pool.specs.Shown.{ShownPool}
+use Rattle.hg_pool.specs.Sound.{shown_of}
 use Rattle.hg_pool.proofs.pool.Pool.put.Goals as goal
 
 pub returns-clause-stale : goal.returns-clause-stale
@@ -19,3 +21,6 @@ invariant_of-self g c = (c.put.ensures.sound, c.put.ensures.reached c.self.invar
 
 pub returns-clause-cells : goal.returns-clause-cells
 returns-clause-cells g c = subst (λ (p : ShownPool g.row.D.Denot). CellsFrom p.frames c.put.new.self.frames.entries) c.self.view_is c.put.ensures.cells
+
+pub returns-clause-writes : goal.returns-clause-writes
+returns-clause-writes g c = subst (λ (p : ShownPool g.row.D.Denot). WritesPages g.D.Disk p (shown_of c.put.new.self) c.put.result) c.self.view_is c.put.ensures.writes

@@ -14,30 +14,30 @@ returns-then-self-clause-images g c honest = let k = c.self.invariant.stands hon
 pub returns-in-Ok-clause-images : goal.returns-in-Ok-clause-images
 returns-in-Ok-clause-images g c honest =
     let k = c.self.invariant.stands honest in
-    let stays = subst (λ (p : Pool g.row.D.Denot). Stays g.D.Disk p c.put.new.self) c.words_mut.ensures.value c.put.ensures.stays in
+    let stays = subst (λ (p : Pool g.row.D.Denot). Stays g.D.Disk p c.put.new.self) c.words_mut.ensures.value c.put.ensures.writes.stays in
     rw (← c.self.view_is) (put_images g.D.Disk _ k.0 k.1 g.met.D.Disk.has_its_bytes c.put.new.self c.if-self.false stays)
 
 pub returns-in-Err-clause-images : goal.returns-in-Err-clause-images
 returns-in-Err-clause-images g c honest =
     let k = c.self.invariant.stands honest in
-    let stays = subst (λ (p : Pool g.row.D.Denot). Stays g.D.Disk p c.put.new.self) c.words_mut.ensures.value c.put.ensures.stays in
+    let stays = subst (λ (p : Pool g.row.D.Denot). Stays g.D.Disk p c.put.new.self) c.words_mut.ensures.value c.put.ensures.writes.stays in
     rw (← c.self.view_is) (put_images g.D.Disk _ k.0 k.1 g.met.D.Disk.has_its_bytes c.put.new.self c.if-self.false stays)
 
 pub returns-in-Ok-clause-live : goal.returns-in-Ok-clause-live
 returns-in-Ok-clause-live g c honest =
     let k = c.self.invariant.stands honest in
-    let stays = subst (λ (p : Pool g.row.D.Denot). Stays g.D.Disk p c.put.new.self) c.words_mut.ensures.value c.put.ensures.stays in
+    let stays = subst (λ (p : Pool g.row.D.Denot). Stays g.D.Disk p c.put.new.self) c.words_mut.ensures.value c.put.ensures.writes.stays in
     rw (← c.self.view_is) (same_content g.D.Disk c.self.inside.detector c.put.new.self (stays.live_is k.1.faithful.whole))
 
 pub returns-in-Err-clause-live : goal.returns-in-Err-clause-live
 returns-in-Err-clause-live g c honest =
     let k = c.self.invariant.stands honest in
-    let stays = subst (λ (p : Pool g.row.D.Denot). Stays g.D.Disk p c.put.new.self) c.words_mut.ensures.value c.put.ensures.stays in
+    let stays = subst (λ (p : Pool g.row.D.Denot). Stays g.D.Disk p c.put.new.self) c.words_mut.ensures.value c.put.ensures.writes.stays in
     rw (← c.self.view_is) (same_content g.D.Disk c.self.inside.detector c.put.new.self (stays.live_is k.1.faithful.whole))
 
 pub invariant_of-self : goal.invariant_of-self
 invariant_of-self g c =
-    let stays = subst (λ (p : Pool g.row.D.Denot). Stays g.D.Disk p c.put.new.self) c.words_mut.ensures.value c.put.ensures.stays in
+    let stays = subst (λ (p : Pool g.row.D.Denot). Stays g.D.Disk p c.put.new.self) c.words_mut.ensures.value c.put.ensures.writes.stays in
     record {
       lawful = within_still _ _ _ _ (subst (λ (p : Pool g.row.D.Denot). CellsFrom p.frames c.put.new.self.frames) c.words_mut.ensures.value c.put.ensures.cells) c.self.invariant.lawful;
       few = c.self.invariant.few;
@@ -51,7 +51,7 @@ invariant_of-self g c =
 
 pub invariant_of-self-in-Err : goal.invariant_of-self-in-Err
 invariant_of-self-in-Err g c =
-    let stays = subst (λ (p : Pool g.row.D.Denot). Stays g.D.Disk p c.put.new.self) c.words_mut.ensures.value c.put.ensures.stays in
+    let stays = subst (λ (p : Pool g.row.D.Denot). Stays g.D.Disk p c.put.new.self) c.words_mut.ensures.value c.put.ensures.writes.stays in
     record {
       lawful = within_still _ _ _ _ (subst (λ (p : Pool g.row.D.Denot). CellsFrom p.frames c.put.new.self.frames) c.words_mut.ensures.value c.put.ensures.cells) c.self.invariant.lawful;
       few = c.self.invariant.few;
