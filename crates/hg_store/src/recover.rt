@@ -322,9 +322,9 @@ impl<D: Disk> Store<D> {
     /// the events of the journal behind it. If no root is open, it follows all events from the empty trace on.
     ///
     /// A refusal hands the devices back. `Damaged`: their bytes have no content. `FullSets`: the sets of the root, with
-    /// those of the events, are more than `caps.sets`. `FullSlots`: the root names a slot at `caps.slots` or above, or more
-    /// pages were changed than there is room for. `DeviceFault`: a device failed. Or `OutOfMemory`. A crash inside it
-    /// leaves an image with the content of one that the devices had before.
+    /// those of the events, are more than `caps.sets`. `FullSlots`: the root names a slot at `caps.slots` or above, or each
+    /// slot below it has a page, since the events changed so many. `DeviceFault`: one device call failed. Or `OutOfMemory`.
+    /// A crash inside it leaves an image with the content of one that the devices had before.
     ///
     /// The journal and both roots are synced and read, and nothing else: their bytes stay, and so do those of each slot that
     /// the newest root names. Only where the sync of a device fails it is open which of its images a read gives. A root is
