@@ -24,7 +24,7 @@ told_as _ = refl
 
 -- those that failed in a recovery
 pub recovery_is_counted : (r : Refusal) (old new : ℕ) → CountedBy r old new → IsCounted r old new
-recovery_is_counted r old new h = inl (h ∙ ap (λ (n : ℕ). n + old) (told_as r))
+recovery_is_counted r old new h = ⊎_elim (λ a. inl (a ∙ ap (λ (n : ℕ). n + old) (told_as r))) (λ b. inr b) h
 
 -- and with as many others
 pub counted_with : (r : Refusal) (old new more : ℕ) → IsCounted r old new → IsCounted r (old + more) (new + more)
