@@ -1,6 +1,7 @@
 -- Definitions for the contracts of a checkpoint's calls.
 use Rattle.std.specs.Prelude.{◌≡◌, ◌⊎◌, ◌++◌, ◌+◌, ℕ, List, [], false, Option, Some, Vec, IsTrue, IsOk, OnOk, IfOk, Result}
 use Rattle.hg_disk.specs.declared.disk.Disk as disk
+use Rattle.hg_disk.specs.Calls.{CallsAtMost}
 use Rattle.hg_disk.specs.Moments.{LeavesOnly}
 use Rattle.hg_cells.specs.declared.cell.Cell.{Cell}
 use Rattle.hg_pool.specs.Kept.{IsWhole}
@@ -80,6 +81,11 @@ module _ {D : Type 0} {g : disk.Ghosts D} where
   -- n calls of the root files failed.
   abbrev pub CountsRoots : (old new : Checkpointer D g) → ℕ → Type 0
   CountsRoots old new n = pairs.failures g new.roots ≡ n + pairs.failures g old.roots
+
+  -- Each of the root files was called at most so often.
+  abbrev pub RootCallsAtMost : ℕ → (old new : Checkpointer D g) → Type 0
+  RootCallsAtMost most old new =
+      CallsAtMost g most (pairs.first_of old.roots) (pairs.first_of new.roots) × CallsAtMost g most (pairs.second_of old.roots) (pairs.second_of new.roots)
 
   -- The newest checkpoint still stands.
   abbrev pub StaysStanding : Checkpointer D g → ShownPool D → (new : Checkpointer D g) → (new_pool : ShownPool D) → Type 0

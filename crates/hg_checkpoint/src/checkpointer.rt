@@ -53,7 +53,7 @@ impl<D: Disk + Drop> Drop for Checkpointer<D> {
 }
 
 impl<D: Disk> Checkpointer<D> {
-    ghost use Rattle.hg_checkpoint.specs.Calls.{AnswersNumber, ChangesHead, CountsRoots, DraftIsNewElsewhere, DraftIsNext, IsAllowedIn, IsAllowedToSeal, IsDrafted, IsOfDevice, IsOfFreezing, IsOfSealing, IsOfWriting, KeepsBodyAndHead, KeepsFile, KeepsHead, KeepsRootsAndHead, LeavesEither, LeavesRoots, LeavesSlots, OpensNext, RootsStayOnOk, SealsSurely, SpellsBody, StandsBy, StaysNext, StaysNextOver, StaysOrBreaks, StaysStanding};
+    ghost use Rattle.hg_checkpoint.specs.Calls.{AnswersNumber, ChangesHead, CountsRoots, DraftIsNewElsewhere, DraftIsNext, IsAllowedIn, IsAllowedToSeal, IsDrafted, IsOfDevice, IsOfFreezing, IsOfSealing, IsOfWriting, KeepsBodyAndHead, KeepsFile, KeepsHead, KeepsRootsAndHead, LeavesEither, LeavesRoots, LeavesSlots, OpensNext, RootCallsAtMost, RootsStayOnOk, SealsSurely, SpellsBody, StandsBy, StaysNext, StaysNextOver, StaysOrBreaks, StaysStanding};
 
     // Whether a call of this phase is allowed.
     fn ready(&self, phase: Phase) -> Result<(), CheckpointFault>
@@ -237,6 +237,7 @@ impl<D: Disk> Checkpointer<D> {
         ensures any_moment { LeavesRoots self.old self.new }
         ensures device { BreaksBy self.new.is_broken result }
         ensures count { CountsRoots self.old self.new (failed_calls result) }
+        ensures calls { RootCallsAtMost 2 self.old self.new }
         ensures breaks { OnErr result ((self.new ≡ self.old) ⊎ IsTrue self.new.is_broken) }
         ensures rest { KeepsBodyAndHead self.old self.new }
         ensures next { StaysNext self.old self.new }
@@ -268,6 +269,7 @@ impl<D: Disk> Checkpointer<D> {
         ensures any_moment { LeavesRoots self.old self.new }
         ensures device { BreaksBy self.new.is_broken result }
         ensures count { CountsRoots self.old self.new (failed_calls result) }
+        ensures calls { RootCallsAtMost 4 self.old self.new }
         ensures refused { IfRefused (λ cause. cause ≡ Cause.OutOfMemory → self.new ≡ self.old) result }
         ensures breaks { OnErr result ((self.new ≡ self.old) ⊎ IsTrue self.new.is_broken) }
         ensures rest { KeepsHead self.old self.new }
@@ -307,6 +309,7 @@ impl<D: Disk> Checkpointer<D> {
         ensures same_pool { OnErr result (pool.new ≡ pool.old) }
         ensures device { BreaksBy self.new.is_broken result }
         ensures count { CountsRoots self.old self.new (failed_calls result) }
+        ensures calls { RootCallsAtMost 2 self.old self.new }
         ensures breaks { OnErr result ((self.new ≡ self.old) ⊎ IsTrue self.new.is_broken) }
         ensures stands { OpensNext self.old pool.old self.new pool.new result }
         ensures any_moment { LeavesEither self.old pool.old self.new }
