@@ -9,7 +9,7 @@ use Rattle.hg_store.specs.declared.steps.StorePhase.TheVariants as store
 use Rattle.hg_store.specs.Kept.{is_rooting}
 use Rattle.hg_pool.specs.Kept.{AreWithin}
 use Rattle.hg_pool.specs.Maps.{live}
-use Rattle.hg_pool.specs.declared.frame.Frame.{Frame}
+use Rattle.hg_pool.specs.Shown.{Frame}
 use Rattle.hg_contents.proofs.lawful.Staying.{fits_a_root}
 use Rattle.hg_store.proofs.Freezing.{draft_of, frozen_as, head, idle_phase, known, now}
 use Rattle.hg_store.proofs.Staying.{same_content}

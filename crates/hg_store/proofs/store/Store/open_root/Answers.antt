@@ -4,8 +4,7 @@ use Rattle.hg_checkpoint.specs.declared.phase.Phase.{Phase}
 use Rattle.hg_checkpoint.specs.declared.phase.Phase.TheVariants as phase
 use Rattle.hg_pool.specs.Kept.{AreWithin}
 use Rattle.hg_pool.specs.Maps.{disk_of, is_broken, live}
-use Rattle.hg_pool.specs.Shown.{ShownPool as Pool}
-use Rattle.hg_pool.specs.declared.frame.Frame.{Frame}
+use Rattle.hg_pool.specs.Shown.{Frame, ShownPool as Pool}
 use Rattle.hg_store.specs.Kept.{is_rooting}
 use Rattle.hg_store.proofs.Backing.{parts_stand}
 use Rattle.hg_store.proofs.Going.{progress_at}

@@ -5,8 +5,7 @@ use Rattle.hg_checkpoint.specs.declared.phase.Phase.{Phase}
 use Rattle.hg_checkpoint.specs.declared.phase.Phase.TheVariants as phase
 use Rattle.hg_store.proofs.Going.{progress_at}
 use Rattle.hg_pool.specs.Kept.{AreWithin, Stays}
-use Rattle.hg_pool.specs.Shown.{ShownPool as Pool}
-use Rattle.hg_pool.specs.declared.frame.Frame.{Frame}
+use Rattle.hg_pool.specs.Shown.{Frame, ShownPool as Pool}
 use Rattle.hg_store.specs.Kept.{is_rooting}
 use Rattle.hg_store.proofs.Backing.{parts_stand}
 use Rattle.hg_store.proofs.Checkpointing.{seal_images, sealed, sealing_failed}
