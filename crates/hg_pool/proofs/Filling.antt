@@ -34,7 +34,7 @@ went_filled {D} g old frames cap page e look dirty same_cap settled =
         clean = λ f is clean. let same : e ≡ f = cc (sym here ∙ is) in absurd (cc (sym dirty ∙ ap (λ (x : Frame). x.is_dirty) same ∙ clean));
       };
     } in
-    went_by g old new (still_file g old new refl refl (λ q s is. is) (λ sealed. sealed) (λ sealed. refl) (same_cap, refl)) (λ s b named has. has)
+    went_by g old new (still_file g old new refl refl (λ q s is. is) (λ sealed. sealed) (λ sealed. refl) (same_cap, refl) (λ none. none)) (λ s b named has. has)
     (each_page (λ q. Same q old new ⊎ (IsWhole g old → Here g q old new)) page (inr at)
     (λ q apart. inl (record { frames = look q ∙ if_false (page == q) (Some e) (frame_in old.frames q) apart; live = refl; frozen = refl; waiting = refl; copies = refl })))
 

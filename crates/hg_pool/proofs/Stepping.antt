@@ -192,14 +192,14 @@ either (Err error) a b ok err = err b
 
 -- a pool that was not changed
 pub stays_nowhere : {D : Type 0} (g : disk.Ghosts D) (p : ShownPool D) → Stays g p p
-stays_nowhere g p = stays_all g p p (still_file g p p refl refl (λ q s there. there) (λ sealed. sealed) (λ sealed. refl) (refl, refl)) (λ s b named has. has) (λ q. record { frames = refl; live = refl; frozen = refl; waiting = refl; copies = refl })
+stays_nowhere g p = stays_all g p p (still_file g p p refl refl (λ q s there. there) (λ sealed. sealed) (λ sealed. refl) (refl, refl) (λ none. none)) (λ s b named has. has) (λ q. record { frames = refl; live = refl; frozen = refl; waiting = refl; copies = refl })
 
 -- a copy more
 pub stays_copied : {D : Type 0} (g : disk.Ghosts D) (old : ShownPool D) (copies : List (ℕ × List Cell)) (page slot : ℕ) (f : Frame) (cells : List Cell) → ((q : ℕ) → copy_in copies q ≡ (if page == q then Some cells else copy_in old.copies q))
     → slot_in old.waiting page ≡ Some slot → copy_in old.copies page ≡ None → frame_in old.frames page ≡ Some f → cells ≡ f.cells → Stays g old (record old { copies = copies })
 stays_copied {D} g old copies page slot f cells look waits none there same =
     let new : ShownPool D = record old { copies = copies } in
-    stays_at g old new page (still_file g old new refl refl (λ q s is. is) (λ sealed. sealed) (λ sealed. refl) (refl, refl)) (λ s b named has. has)
+    stays_at g old new page (still_file g old new refl refl (λ q s is. is) (λ sealed. sealed) (λ sealed. refl) (refl, refl) (λ none. none)) (λ s b named has. has)
     (λ q apart. record { frames = refl; live = refl; frozen = refl; waiting = refl; copies = look q ∙ if_false (page == q) (Some cells) (copy_in old.copies q) apart })
     (λ h i lt. refl)
     (λ h. record {

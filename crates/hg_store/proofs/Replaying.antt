@@ -1,5 +1,5 @@
 -- How far a journal was followed.
-use Rattle.std.proofs.Common.{◌≡◌, ℕ, ◌+◌, ◌<◌, ◌≤◌, List, [], ◌∷◌, ◌++◌, length, drop, All, Some, None, if◌then◌else◌, OnOk, Result, Ok, Err, refl, sym, ap, ◌∙◌, subst, arith, append_assoc}
+use Rattle.std.proofs.Common.{◌≡◌, inl, inr, ℕ, ◌+◌, ◌<◌, ◌≤◌, List, [], ◌∷◌, ◌++◌, length, drop, All, Option, Some, None, if◌then◌else◌, OnOk, Result, Ok, Err, refl, sym, ap, ◌∙◌, subst, arith, append_assoc}
 use Rattle.std.specs.List.{AllByRecursion}
 use Rattle.std.proofs.lemmas.List.Elements.{All-drop, All-from_recursion, recursion_from_All}
 use Rattle.hg_records.specs.Records.{RecordFits}
@@ -17,7 +17,8 @@ use Rattle.hg_model.specs.declared.verdict.Verdict.TheVariants.{Accept, Duplicat
 use Rattle.hg_model.specs.Contents.{Content}
 use Rattle.hg_model.specs.Verdicts.{verdict, standing_of}
 use Rattle.hg_model.specs.Change.{after, followed, is_accept}
-use Rattle.hg_sets.specs.Interning.{Table}
+use Rattle.hg_sets.specs.Interning.{Interns, Table}
+use Rattle.hg_sets.specs.declared.fault.SetFault.{SetFault}
 use Rattle.hg_sets.specs.declared.fault.SetFault.TheVariants.{Full}
 use Rattle.hg_detect.specs.Engine.{AtPresent}
 use Rattle.hg_detect.specs.Making.{Asks, sets_asked}
@@ -234,3 +235,21 @@ fills_spelled (n ∷ events) c t last filled state fits all (accepted, mid, asks
 -- those of a journal behind some have records too
 pub fits_behind : (n : ℕ) (events : List Named) → AllByRecursion RecordFits events → AllByRecursion RecordFits (drop n events)
 fits_behind n events fits = recursion_from_All RecordFits (drop n events) (All-drop RecordFits n events (All-from_recursion RecordFits events fits))
+
+-- A table of sets keeps its limit.
+interns_limit : (old mid : Table) (set : List ℕ) (id : ℕ) → Interns old set (Ok id) mid → mid.limit ≡ old.limit
+interns_limit old mid set id (inl found) = ap (λ (t : Table). t.limit) found.3
+interns_limit old mid set id (inr added) = ap (λ (t : Table). t.limit) added.1.2
+
+none_is_not_some : {A : Type 0} (fault : SetFault) → ◌≡◌ {A = Option SetFault} None (Some fault) → A
+none_is_not_some fault is = absurd (cc)
+
+asks_limit : (sets : List (List ℕ)) (old new : Table) → Asks old sets None new → new.limit ≡ old.limit
+asks_limit [] old new same = ap (λ (t : Table). t.limit) same
+asks_limit (set ∷ sets) old new (inl one) = asks_limit sets one.1 new one.3 ∙ interns_limit old one.1 set one.0 one.2
+asks_limit (set ∷ sets) old new (inr refused) = none_is_not_some refused.0 refused.2
+
+pub fills_limit : (events : List Named) (c : Content) (t : Table) (last : Content) (filled : Table) → Fills events c t last filled → filled.limit ≡ t.limit
+fills_limit [] c t last filled (same, is) = ap (λ (x : Table). x.limit) is
+fills_limit (n ∷ events) c t last filled (accepted, mid, asks, rest) =
+    fills_limit events (after c n) mid last filled rest ∙ asks_limit (sets_asked c n.event) t mid asks

@@ -46,8 +46,9 @@ use Rattle.hg_store.specs.Shown.{ShownStore}
 use Rattle.hg_store.specs.Answers.{failed_in}
 use Rattle.hg_store.specs.declared.create.CreateFault.{CreateFault}
 use Rattle.hg_store.specs.declared.create.CreateFault.TheVariants.{NotEmpty, Refused}
+use Rattle.hg_store.specs.declared.devices.Caps.{Caps}
 use Rattle.hg_store.specs.declared.devices.Devices.{Devices}
-use Rattle.hg_store.specs.Images.{FailuresBecome, failures_of, read_of}
+use Rattle.hg_store.specs.Images.{FailuresBecome, FilesReadSame, failures_of, read_of}
 use Rattle.hg_store.specs.Store.{IsFresh}
 
 -- what the devices of a new store read: the journal's header and a closed gate, no slot, and closed roots
@@ -74,6 +75,18 @@ pub record Stay {D : Type 0} (g : disk.Ghosts D) (old new : Devices D) : Type 0 
   pub slots : LeavesOnly g old.slots new.slots (IsImage (g.state old.slots))
   pub root0 : LeavesOnly g old.root0 new.root0 (IsImage (g.state old.root0))
   pub root1 : LeavesOnly g old.root1 new.root1 (IsImage (g.state old.root1))
+
+-- The detector keeps at most so many pages in memory, and has room for so many slots and sets.
+pub record HasSize {D : Type 0} (most : ℕ) (caps : Caps) (d : detect.ShownDetector (pool.ShownPool D)) : Type 0 where
+  pub frames : d.words.most_frames ≡ most
+  pub slots : d.words.slots ≡ caps.slots
+  pub sets : d.sets.limit ≡ caps.sets
+
+-- The store has the frames and the slots that were asked for, and over honest devices room for the sets that were.
+pub record HasLimits {D : Type 0} (g : disk.Ghosts D) (most : ℕ) (caps : Caps) (s : ShownStore D) : Type 0 where
+  pub frames : s.detector.words.most_frames ≡ most
+  pub slots : s.detector.words.slots ≡ caps.slots
+  pub sets : IsTrue g.is_honest → s.detector.sets.limit ≡ caps.sets
 
 -- The rules accept the event after this content.
 abbrev pub IsAccepted : Content → Named → Type 0
@@ -360,6 +373,11 @@ module _ {D : Type 0} (g : disk.Ghosts D) where
 
   abbrev pub CountsRecovery : Devices D → Result (ShownStore D) (Refusal × Devices D) → Type 0
   CountsRecovery devices result = CountsRecovered result (failures_of g devices) (failures_of g (made_of result))
+
+  -- Unless a device failed, a read of the journal, and of each root, gives what it gave.
+  abbrev pub ReadsSameOrFault : Devices D → Result (ShownStore D) (Refusal × Devices D) → Type 0
+  ReadsSameOrFault devices (Ok s) = FilesReadSame g devices s.devices
+  ReadsSameOrFault devices (Err e) = e.0 ≢ DeviceFault → FilesReadSame g devices e.1
 
   -- what a pair of roots leads to, where each has on it what it reads
   abbrev pub IfSettled : RootPair D → (List ℕ → List ℕ → Type 0) → Type 0

@@ -14,8 +14,8 @@ ghost use Rattle.hg_root.specs.Checkpoints.{LieWithin};
 ghost use Rattle.hg_root.specs.Finding.{AreWhole, HasNoNewest, IsNewestOf, IsOnlyOf, IsWholeIn, WasRead, number_in, root_in};
 ghost use Rattle.hg_root.specs.Pairs.{IsWorking, failures, first_of, second_of};
 ghost use Rattle.hg_checkpoint.specs.Restoring.{file_in};
-ghost use Rattle.hg_store.specs.Images.{FailuresBecome, KeepContent, LeavesOld, Recovers, read_of};
-ghost use Rattle.hg_store.specs.Recovering.{CantCatchUp, CantFill, CantRoot, CatchesUp, CountsCatching, CountsFailures, CountsInFile, CountsRecovery, CountsRooting, FillsSets, HasCheckpointOf, HasFewSets, HasItsTable, HasNoCheckpointOf, HasNoContent, HasNoneIn, IfDamaged, IfFullSets, IsNewestRoot, IsOfRecovery, IsOfRoots, IsOnlyRoot, IsReady, IsRecovered, IsRootedAt, IsTooFew, LacksRoom, MayCatchUp, NamesPages, OnDamaged, PairStands, Settled, StandIfSettled, StartsAt, Stay, first_after, journal_after, made_of, roots_of, second_after, slots_of, table_at, words_after};
+ghost use Rattle.hg_store.specs.Images.{EachReadsOrFailed, FailuresBecome, FilesWereRead, KeepContent, KeepsFiles, KeepsSlots, LeavesOld, ReadsSlots, Recovers, RootCallsAtMost, read_of};
+ghost use Rattle.hg_store.specs.Recovering.{CantCatchUp, CantFill, CantRoot, CatchesUp, CountsCatching, CountsFailures, CountsInFile, CountsRecovery, CountsRooting, FillsSets, HasCheckpointOf, HasFewSets, HasItsTable, HasLimits, HasNoCheckpointOf, HasNoContent, HasNoneIn, HasSize, IfDamaged, IfFullSets, IsNewestRoot, IsOfRecovery, IsOfRoots, IsOnlyRoot, IsReady, IsRecovered, IsRootedAt, IsTooFew, LacksRoom, MayCatchUp, NamesPages, OnDamaged, PairStands, ReadsSameOrFault, Settled, StandIfSettled, StartsAt, Stay, first_after, journal_after, made_of, roots_of, second_after, slots_of, table_at, words_after};
 ghost use Rattle.hg_store.specs.Store.{IsIdle};
 
 use crate::create::{empty_detector, made, pending_room};
@@ -43,6 +43,7 @@ fn sync_all<D: Disk>(devices: &mut Devices<D>) -> Result<(), DiskFault>
     ensures first_calls { CallsAtMost ⟦<D as Disk>⟧ 1 devices.old.root0 devices.new.root0 }
     ensures second_calls { CallsAtMost ⟦<D as Disk>⟧ 1 devices.old.root1 devices.new.root1 }
     ensures stay { Stay ⟦<D as Disk>⟧ devices.old devices.new }
+    ensures bytes { EachReadsOrFailed ⟦<D as Disk>⟧ devices.old devices.new }
 {
     devices.journal.sync()?;
     devices.slots.sync()?;
@@ -138,6 +139,7 @@ fn detector_of<D: Disk>(
     ensures faithful { IsTrue D.is_honest → IfOk result (AtPresent (IsFaithful ⟦<D as Disk>⟧)) }
     ensures ready { IsTrue D.is_honest → IfOk result (IsReady ⟦<D as Disk>⟧) }
     ensures names { NamesPages (root_in found) result }
+    ensures size { IfOk result (HasSize frames caps) }
     ensures state { D.state (files.disk_of (file_in result)) ≡ D.state (files.disk_of file) }
     ensures any_moment { LeavesOld ⟦<D as Disk>⟧ (files.disk_of file) (files.disk_of (file_in result)) }
     ensures unbroken { files.is_broken (file_in result) ≡ false }
@@ -176,6 +178,7 @@ fn caught_up<D: Disk>(
     ensures full { IsTrue D.is_honest → CantFill journal detector result }
     ensures refusal { IfErr result (λ e. IsOfRecovery e.0) }
     ensures device { CountsCatching journal detector result }
+    ensures state { D.state (journal_after result) ≡ D.state (journals.disk_of journal) }
     ensures journal { LeavesOld ⟦<D as Disk>⟧ (journals.disk_of journal) (journal_after result) }
     ensures went { Went ⟦<D as Disk>⟧ detector.words (words_after result) }
     ensures slots { IfOk result (λ store. store.devices.slots ≡ pools.disk_of store.detector.words) }
@@ -210,6 +213,7 @@ fn rooted<D: Disk>(
     requires works { IsWorking roots }
     ensures rooted { IsTrue D.is_honest → IsRootedAt ⟦<D as Disk>⟧ caps.sets roots slots result }
     ensures lawful { IfOk result (λ r. AtPresent MayBring r.0) }
+    ensures size { IfOk result (λ r. HasSize frames caps r.0) }
     ensures damaged { IsTrue D.is_honest → CantRoot ⟦<D as Disk>⟧ roots slots result }
     ensures full { IsTrue D.is_honest → IfErr result (λ e. LacksRoom ⟦<D as Disk>⟧ caps.sets caps.slots roots e.0) }
     ensures refusal { IfErr result (λ e. IsOfRecovery e.0) }
@@ -271,11 +275,14 @@ fn recovered<D: Disk>(
     requires settled { Settled ⟦<D as Disk>⟧ devices devices }
     ensures content { IsTrue D.is_honest → IfOk result (IsRecovered ⟦<D as Disk>⟧ devices) }
     ensures sets { IsTrue D.is_honest → IfOk result (HasItsTable ⟦<D as Disk>⟧ caps.sets devices) }
+    ensures limits { IfOk result (HasLimits ⟦<D as Disk>⟧ frames caps) }
     ensures idle { IfOk result IsIdle }
     ensures damaged { IsTrue D.is_honest → IfDamaged result (HasNoContent (read_of ⟦<D as Disk>⟧ devices)) }
     ensures full { IsTrue D.is_honest → IfFullSets result (HasFewSets caps.sets (read_of ⟦<D as Disk>⟧ devices)) }
     ensures refusal { IfErr result (λ e. IsOfRecovery e.0) }
     ensures device { CountsRecovery ⟦<D as Disk>⟧ devices result }
+    ensures files { FilesWereRead ⟦<D as Disk>⟧ devices (made_of result) }
+    ensures slots { IsTrue D.is_honest → ReadsSlots ⟦<D as Disk>⟧ devices (made_of result) }
     ensures images { IsTrue D.is_honest → KeepContent ⟦<D as Disk>⟧ devices (made_of result) }
 {
     let Devices {
@@ -315,6 +322,10 @@ impl<D: Disk> Store<D> {
     /// pages were changed than there is room for. `DeviceFault`: a device failed. Or `OutOfMemory`. A crash inside it
     /// leaves an image with the content of one that the devices had before.
     ///
+    /// The journal and both roots are synced and read, and nothing else: their bytes stay, and so do those of each slot that
+    /// the newest root names. Only where the sync of a device fails it is open which of its images a read gives. A root is
+    /// called four times at most.
+    ///
     /// `frames` is the greatest number of pages in memory, 4 to 4,096.
     pub fn recover(
         alloc: Global,
@@ -327,11 +338,18 @@ impl<D: Disk> Store<D> {
         requires slots { (1 ≤ caps.slots) × (caps.slots ≤ MOST_SLOTS) }
         ensures content { IsTrue D.is_honest → IfOk result (IsRecovered ⟦<D as Disk>⟧ devices) }
         ensures sets { IsTrue D.is_honest → IfOk result (HasItsTable ⟦<D as Disk>⟧ caps.sets devices) }
+        ensures limits { IfOk result (HasLimits ⟦<D as Disk>⟧ frames caps) }
         ensures idle { IfOk result IsIdle }
         ensures damaged { IsTrue D.is_honest → IfDamaged result (HasNoContent (read_of ⟦<D as Disk>⟧ devices)) }
         ensures full { IsTrue D.is_honest → IfFullSets result (HasFewSets caps.sets (read_of ⟦<D as Disk>⟧ devices)) }
         ensures refusal { IfErr result (λ e. IsOfRecovery e.0) }
         ensures device { CountsRecovery ⟦<D as Disk>⟧ devices result }
+        ensures calls { RootCallsAtMost ⟦<D as Disk>⟧ 4 devices (made_of result) }
+
+        // Over any devices the journal and the roots keep their bytes; so does each slot that the newest root names.
+        ensures files { KeepsFiles ⟦<D as Disk>⟧ devices (made_of result) }
+        ensures bytes { ReadsSameOrFault ⟦<D as Disk>⟧ devices result }
+        ensures slots { IsTrue D.is_honest → KeepsSlots ⟦<D as Disk>⟧ devices (made_of result) }
 
         // A crash at any moment, also afterwards, leaves an image with the content of one that the devices had before.
         ensures images { IsTrue D.is_honest → Recovers ⟦<D as Disk>⟧ devices (made_of result) }

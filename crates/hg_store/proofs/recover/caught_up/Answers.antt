@@ -72,3 +72,6 @@ returns-clause-first g c = rw c.made.ensures.devices (ap (λ (r : RootPair g.row
 
 pub returns-clause-second : goal.returns-clause-second
 returns-clause-second g c = rw c.made.ensures.devices (ap (λ (r : RootPair g.row.D.Denot). second_of r) c.new-checkpointer.ensures.roots)
+
+pub returns-clause-state : goal.returns-clause-state
+returns-clause-state g c = rw c.made.ensures.devices c.replay.ensures.state

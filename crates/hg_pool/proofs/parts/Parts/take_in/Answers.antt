@@ -50,7 +50,7 @@ returns-clause-stays g c =
     ap (λ (o : Option Frame). in_frame_or o (in_slot (bytes_of g.D.Disk old) (slot_in old.live page) i) i) here
     ∙ c.requires.stands h i lt
     ∙ sym (ap (λ (o : Option Frame). in_frame_or o (in_slot (bytes_of g.D.Disk old) (slot_in old.live page) i) i) c.requires.absent) in
-    stays_at g.D.Disk old new page (still_file g.D.Disk old new refl refl (λ q s there. there) (λ sealed. sealed) (λ sealed. refl) (ap (λ (x : LruCache ℕ Frame). x.cap) c.in_ok-put.ensures.entries, refl)) (λ s b named has. has)
+    stays_at g.D.Disk old new page (still_file g.D.Disk old new refl refl (λ q s there. there) (λ sealed. sealed) (λ sealed. refl) (ap (λ (x : LruCache ℕ Frame). x.cap) c.in_ok-put.ensures.entries, refl) (λ none. none)) (λ s b named has. has)
     (λ q test. record { frames = look q ∙ if_false (page == q) (Some fresh) (frame_in p.frames.entries q) test; live = refl; frozen = refl; waiting = refl; copies = refl })
     live
     (λ h. record {

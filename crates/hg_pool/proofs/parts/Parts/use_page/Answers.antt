@@ -26,7 +26,7 @@ pub returns-clause-stays : goal.returns-clause-stays
 returns-clause-stays g c =
     let old : ShownPool g.row.D.Denot = shown_of c.args.self.now in
     let new : ShownPool g.row.D.Denot = record old { frames = c.promote.new.self.entries; most_frames = c.promote.new.self.cap } in
-    stays_all g.D.Disk old new (still_file g.D.Disk old new refl refl (λ q s there. there) (λ sealed. sealed) (λ sealed. refl) (ap (λ (x : LruCache ℕ Frame). x.cap) c.promote.ensures.entries, refl)) (λ s b named has. has)
+    stays_all g.D.Disk old new (still_file g.D.Disk old new refl refl (λ q s there. there) (λ sealed. sealed) (λ sealed. refl) (ap (λ (x : LruCache ℕ Frame). x.cap) c.promote.ensures.entries, refl) (λ none. none)) (λ s b named has. has)
     (λ q. record { frames = returns-clause-looks g c q; live = refl; frozen = refl; waiting = refl; copies = refl })
 
 pub returns-clause-order : goal.returns-clause-order
