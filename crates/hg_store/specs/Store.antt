@@ -43,10 +43,6 @@ module _ {D : Type 0} (g : disk.Ghosts D) where
   abbrev pub JournalCallsAtMost : ℕ → (old new : ShownStore D) → Type 0
   JournalCallsAtMost most old new = CallsAtMost g most old.devices.journal new.devices.journal
 
-  -- Each root file was called at most this often.
-  abbrev pub RootCallsAtMost : ℕ → (old new : ShownStore D) → Type 0
-  RootCallsAtMost most old new = CallsAtMost g most old.devices.root0 new.devices.root0 × CallsAtMost g most old.devices.root1 new.devices.root1
-
   -- The root of this number is the newest one, with the content at the freeze.
   abbrev pub HasOpenedFrozen : (old new : ShownStore D) → ℕ → Type 0
   HasOpenedFrozen old new n = HasOpened g new.devices n (captured g old)

@@ -8,8 +8,8 @@ ghost use Rattle.hg_checkpoint.specs.declared.phase.Phase.TheVariants as phase;
 ghost use Rattle.hg_store.specs.Answers.{IfRefused, IsAllowed, breaks, breaks_by, failed_by, step_fault};
 ghost use Rattle.hg_store.specs.Shown.{HasNextNumber, IsFlushed, IsIn, live, phase_of, words};
 ghost use Rattle.hg_store.specs.Steps.{CheckpointDone};
-ghost use Rattle.hg_store.specs.Store.{HasOpenedFrozen, RootCallsAtMost, StandMeanwhile};
-ghost use Rattle.hg_store.specs.Images.{FailuresGrowBy};
+ghost use Rattle.hg_store.specs.Store.{HasOpenedFrozen, StandMeanwhile};
+ghost use Rattle.hg_store.specs.Images.{FailuresGrowBy, RootCallsAtMost};
 ghost use Rattle.hg_store.specs.Doing.{BeginsWhenIdle, IsFirstWaiting, SameNumbers, SameRoots, SameWords};
 
 use crate::steps::{StepFault, StorePhase};
@@ -180,7 +180,7 @@ impl<D: Disk> Store<D> {
         ensures frozen { self.new.frozen ≡ self.old.frozen }
         ensures slots { SameWords self.old self.new }
         ensures number { SameNumbers self.old self.new }
-        ensures calls { RootCallsAtMost ⟦<D as Disk>⟧ 2 self.old self.new }
+        ensures calls { RootCallsAtMost ⟦<D as Disk>⟧ 2 self.old.devices self.new.devices }
         ensures device { FailuresGrowBy ⟦<D as Disk>⟧ self.old.devices self.new.devices (failed_by result) }
         ensures images { IsTrue D.is_honest → StandMeanwhile ⟦<D as Disk>⟧ self.old self.new self.old.in_doubt }
     {
@@ -200,7 +200,7 @@ impl<D: Disk> Store<D> {
         ensures frozen { self.new.frozen ≡ self.old.frozen }
         ensures slots { SameWords self.old self.new }
         ensures number { SameNumbers self.old self.new }
-        ensures calls { RootCallsAtMost ⟦<D as Disk>⟧ 4 self.old self.new }
+        ensures calls { RootCallsAtMost ⟦<D as Disk>⟧ 4 self.old.devices self.new.devices }
         ensures device { FailuresGrowBy ⟦<D as Disk>⟧ self.old.devices self.new.devices (failed_by result) }
         ensures images { IsTrue D.is_honest → StandMeanwhile ⟦<D as Disk>⟧ self.old self.new self.old.in_doubt }
     {
@@ -222,7 +222,7 @@ impl<D: Disk> Store<D> {
         ensures number { IfOk result (λ n. (n ≡ self.old.progress.next) × (self.new.progress.number ≡ n)) }
         ensures slots { self.new.devices.slots ≡ self.old.devices.slots }
         ensures checkpoint { IsTrue D.is_honest → IfOk result (HasOpenedFrozen ⟦<D as Disk>⟧ self.old self.new) }
-        ensures calls { RootCallsAtMost ⟦<D as Disk>⟧ 2 self.old self.new }
+        ensures calls { RootCallsAtMost ⟦<D as Disk>⟧ 2 self.old.devices self.new.devices }
         ensures device { FailuresGrowBy ⟦<D as Disk>⟧ self.old.devices self.new.devices (failed_by result) }
         ensures live { live ⟦<D as Disk>⟧ self.new ≡ live ⟦<D as Disk>⟧ self.old }
         ensures images { IsTrue D.is_honest → StandMeanwhile ⟦<D as Disk>⟧ self.old self.new self.old.in_doubt }
