@@ -16,6 +16,10 @@ cell_at (Some cells) place = slice_index_or cells place New
 abbrev pub page_of : PagedWords → ℕ → Option (List Cell)
 page_of words number = option_map (λ page. page.value) (get nat_eq words.pages number)
 
+-- the page of the number is present, and has these cells
+abbrev pub IsPageOf : PagedWords → ℕ → List Cell → Type 0
+IsPageOf words number cells = page_of words number ≡ Some cells
+
 -- a word is new where its page is absent
 abbrev pub cell_in : PagedWords → ℕ → Cell
 cell_in words w = cell_at (page_of words (w / 256)) (w % 256)

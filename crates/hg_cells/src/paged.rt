@@ -4,7 +4,7 @@ ghost use Rattle.std.specs.Prelude.{◌≡◌, ℕ, ◌+◌, ◌/◌, ◌<◌, �
 ghost use Rattle.indexmap.specs.IndexMap.{get};
 ghost use Rattle.hg_model.specs.declared.verdict.Refusal.TheVariants.{OutOfMemory};
 ghost use Rattle.hg_cells.specs.declared.cell.Cell.TheVariants.{New};
-ghost use Rattle.hg_cells.specs.Paged.{AreInPage, AreWithin, FillsWords, HasPage, PageHasCell, StandsIn, cell_in, page_of};
+ghost use Rattle.hg_cells.specs.Paged.{AreInPage, AreWithin, FillsWords, HasPage, IsPageOf, PageHasCell, StandsIn, cell_in, page_of};
 ghost use Rattle.hg_cells.specs.PagedLaws.{each_within, more_within, never_full};
 
 use crate::run::{Run, run_in};
@@ -95,7 +95,7 @@ impl PagedWords {
     /// The page of that number, if it is present.
     #[inline]
     fn page(&self, number: u64) -> Option<&Page>
-        ensures { MatchOption result (page_of self.now number ≡ None) (λ page. page_of self.now number ≡ Some page.now) }
+        ensures { MatchOption result (page_of self.now number ≡ None) (λ page. IsPageOf self.now number page.now) }
     {
         if let Some((key, page)) = self.pages.get_index(self.hint(number)) {
             if *key == number {
@@ -193,7 +193,9 @@ impl Words for PagedWords {
 
     ghost may_fill = { AreInPage };
 
-    ghost may_refuse = { λ r. r ≡ OutOfMemory };
+    ghost may_refuse = { λ _ r. r ≡ OutOfMemory };
+
+    ghost reads_true = { λ _ _ _. Unit {0} };
 
     ghost brings_more = { more_within };
 
@@ -209,7 +211,7 @@ impl Words for PagedWords {
 
     ghost went_on = { λ _ _ _ _ _. tt };
 
-    ghost not_full = { never_full };
+    ghost not_full = { λ _. never_full };
 
     fn bring(&mut self, at: u64, len: u16, segments: u32, sets: &SetTable) -> Result<(), Refusal> {
         let (first, last) = pages_of(at, len);

@@ -1,11 +1,11 @@
 //! Shadow memory, as the detector sees it.
 
-ghost use Rattle.std.specs.Prelude.{◌≡◌, ◌+◌, ◌^◌, ◌<◌, ◌≤◌, ◌==◌, ◌⊎◌, ℕ, length, OnOk, IfErr, IfSome, IsTrue, if◌then◌else◌};
+ghost use Rattle.std.specs.Prelude.{◌≡◌, ◌≢◌, ◌+◌, ◌^◌, ◌<◌, ◌≤◌, ◌==◌, ◌⊎◌, ℕ, List, length, OnOk, IfErr, IfSome, IsTrue, if◌then◌else◌};
 ghost use Rattle.hg_model.specs.History.{overlaps};
 ghost use Rattle.hg_cells.specs.Cells.{IsWithin};
-ghost use Rattle.hg_cells.specs.Words.{AreNewOrOwned, ForOverlapped, ForWords, HasCellWithin, HaveCell, IsWithinWhere, KeepsLaw, KeepsLawFor, KeepsLawFrom, SameCells, failed_after};
+ghost use Rattle.hg_cells.specs.Words.{AreNewOrOwned, ForOverlapped, ForWords, HasCellWithin, HaveCell, IsWithinWhere, KeepsLaw, KeepsLawFor, KeepsLawFrom, KeepsTrue, SameCells, failed_after};
 ghost use Rattle.hg_model.specs.declared.verdict.Refusal.{Refusal as RefusalOf};
-ghost use Rattle.hg_model.specs.declared.verdict.Refusal.TheVariants.{FullSets};
+ghost use Rattle.hg_model.specs.declared.verdict.Refusal.TheVariants.{Damaged, FullSets, OutOfMemory};
 ghost use Rattle.hg_cells.specs.declared.cell.Cell.{Cell as CellOf};
 ghost use Rattle.hg_cells.specs.declared.cell.Cell.TheVariants.{New};
 
@@ -39,8 +39,12 @@ pub trait Words {
     /// So many words from this one on may be given one cell at once.
     ghost may_fill: { Self → ℕ → ℕ → Type 0 };
 
-    /// The refusals that `bring` and `keep` may answer.
-    ghost may_refuse: { RefusalOf → Type 0 };
+    /// The refusals that `bring` may answer, by the map as it is then.
+    ghost may_refuse: { Self → RefusalOf → Type 0 };
+
+    /// The map has what was written, and the cells of each page can be read back from where they stand, with this many
+    /// segments and these sets.
+    ghost reads_true: { Self → ℕ → List (List ℕ) → Type 0 };
 
     /// What else calls of the map keep, from its state before them to its state after: what a crash may leave of its file, say.
     /// The detector passes it on.
@@ -61,11 +65,12 @@ pub trait Words {
         ensures named { OnOk result (ForOverlapped at len (HasCellWithin segments sets.now (cell_of self.new))) }
         ensures lawful { KeepsLawFrom segments (length sets.now.sets) (may_bring self.old) (may_bring self.new) }
         ensures faithful { KeepsLaw (is_faithful self.old) (is_faithful self.new) }
-        ensures refusal { IfErr result may_refuse }
+        ensures refusal { IfErr result (may_refuse self.new) }
+        ensures undamaged { reads_true self.old segments sets.now.sets → IfErr result (λ r. r ≢ Damaged) }
         ensures went { went self.old self.new }
         ensures failures { failures self.new ≡ failed_after result (failures self.old) };
 
-    /// Makes settable the words that `len` bytes from `at` on overlap.
+    /// Makes settable the words that `len` bytes from `at` on overlap. It refuses for want of memory alone.
     fn keep(&mut self, at: u64, len: u16) -> Result<(), Refusal>
         requires brought { ForOverlapped at len (is_brought self.old) }
         requires some { 0 < len }
@@ -75,7 +80,7 @@ pub trait Words {
         ensures kept { OnOk result (ForOverlapped at len (is_kept self.new)) }
         ensures lawful { KeepsLaw (may_bring self.old) (may_bring self.new) }
         ensures faithful { KeepsLaw (is_faithful self.old) (is_faithful self.new) }
-        ensures refusal { IfErr result may_refuse }
+        ensures refusal { IfErr result (λ r. r ≡ OutOfMemory) }
         ensures went { went self.old self.new }
         ensures failures { failures self.new ≡ failed_after result (failures self.old) };
 
@@ -107,6 +112,7 @@ pub trait Words {
         ensures unchanged { (n m : ℕ) → is_faithful self.old n m → SameCells (cell_of self.old) (cell_of self.new) }
         ensures lawful { KeepsLaw (may_bring self.old) (may_bring self.new) }
         ensures faithful { KeepsLaw (is_faithful self.old) (is_faithful self.new) }
+        ensures true_still { KeepsTrue (reads_true self.old) (reads_true self.new) }
         ensures went { went self.old self.new }
         ensures failures { failures self.new ≡ failures self.old };
 
@@ -198,5 +204,5 @@ pub trait Words {
     ghost went_on: { (old mid new : Self) → went old mid → went mid new → went old new };
 
     /// The map never refuses for a full table of sets.
-    ghost not_full: { may_refuse FullSets → ⊥ };
+    ghost not_full: { (words : Self) → may_refuse words FullSets → ⊥ };
 }

@@ -23,10 +23,12 @@ admitted {W} cell_of e d n sound shows accepts =
     (ap (λ (k : ℕ). verdict (record (standing e.state) { segments = k }) n) (sym sound.segments) ∙ accept_is (verdict (standing e.state) n) accepts)
 
 -- the answer where the event is accepted
-pub answered : {W : Type 0} (g : words.Ghosts W) (old : ShownDetector W) (n : Named) → Accepts g.cell_of old n → IsAnswered g old n (Ok Accepted)
-answered g old n accepts = subst (λ (v : Verdict). Applies v g.may_refuse (Ok Accepted)) (sym accepts) tt
+pub answered : {W : Type 0} (g : words.Ghosts W) (old new : ShownDetector W) (n : Named) → Accepts g.cell_of old n → IsAnswered g old n (Ok Accepted) new
+answered g old new n accepts = subst (λ (v : Verdict). Applies v (g.may_refuse new.words) (Ok Accepted)) (sym accepts) tt
 
 -- the answer where there is no room for it
-pub answered_refused : {W : Type 0} (g : words.Ghosts W) (old : ShownDetector W) (n : Named) (answer : Result Answer Refusal) (r : Refusal) → IsErrAnd answer (λ x. x ≡ r) → Accepts g.cell_of old n → LacksRoom g.may_refuse r → IsAnswered g old n answer
-answered_refused g old n (Ok a) r refused accepts lacks = absurd refused
-answered_refused g old n (Err x) r refused accepts lacks = subst (λ (v : Verdict). Applies v g.may_refuse (Err x)) (sym accepts) (subst (λ (y : Refusal). LacksRoom g.may_refuse y) (sym refused) lacks)
+pub answered_refused : {W : Type 0} (g : words.Ghosts W) (old new : ShownDetector W) (n : Named) (answer : Result Answer Refusal) (r : Refusal) → IsErrAnd answer (λ x. x ≡ r)
+    → Accepts g.cell_of old n → LacksRoom (g.may_refuse new.words) r → IsAnswered g old n answer new
+answered_refused g old new n (Ok a) r refused accepts lacks = absurd refused
+answered_refused g old new n (Err x) r refused accepts lacks =
+    subst (λ (v : Verdict). Applies v (g.may_refuse new.words) (Err x)) (sym accepts) (subst (λ (y : Refusal). LacksRoom (g.may_refuse new.words) y) (sym refused) lacks)

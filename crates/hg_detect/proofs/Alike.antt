@@ -185,7 +185,7 @@ alike_refused segments old new a cell_of cell first n r some alike cause h =
     each = λ refused asked. alike_asked segments old new a cell_of cell first n refused some asked alike
 
     without : AsksBy old one (Err refusal.OutOfMemory) new → AsksBy old all (Err refusal.OutOfMemory) new
-    without = λ k. ⊎_elim (λ same. inl same) (λ asked. inr (⊎_elim (λ done. inl (each None done)) (λ short. inr (each (Some fault.OutOfMemory) short.0, short.1)) asked)) k
+    without = λ k. ⊎_elim (λ same. inl same) (λ asked. inr (asked.0, ⊎_elim (λ done. inl (each None done)) (λ short. inr (each (Some fault.OutOfMemory) short)) asked.1)) k
 
 -- each of the words is new or the segment's own
 abbrev pub AreOwnable : (ℕ → Cell) → ℕ → ℕ → ℕ → Type 0

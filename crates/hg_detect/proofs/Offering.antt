@@ -1,8 +1,9 @@
 -- What the offer of an event gives, by how it went.
 use Rattle.std.proofs.Common.{◌≡◌, ◌≤◌, ◌∷◌, ℕ, Result, Ok, Err, length, refl, sym, ap, ◌∙◌, subst}
-use Rattle.std.specs.Prelude.{IsErrAnd, if◌then◌else◌}
+use Rattle.std.specs.Prelude.{◌≢◌, IsErrAnd, if◌then◌else◌}
 use Rattle.hg_model.specs.declared.event.Named.{Named}
 use Rattle.hg_model.specs.declared.verdict.Refusal.{Refusal}
+use Rattle.hg_model.specs.declared.verdict.Refusal.TheVariants.{Damaged}
 use Rattle.hg_model.specs.declared.verdict.Verdict.{Verdict}
 use Rattle.hg_model.specs.declared.verdict.Verdict.TheVariants.{Accept, Duplicate, Refuse}
 use Rattle.hg_model.specs.Change.{after}
@@ -14,7 +15,7 @@ use Rattle.hg_detect.specs.declared.detector.Answer.{Answer}
 use Rattle.hg_detect.specs.declared.detector.Answer.TheVariants as answers
 use Rattle.hg_detect.specs.declared.engine.Engine.{Engine}
 use Rattle.hg_detect.specs.Answering.{AnswersOffer, Applies, Becomes, IsAnswered, KeepsSummary, is_accepted}
-use Rattle.hg_detect.specs.Engine.{Answers, AtPresent, IsSound, LacksRoom, shown_of}
+use Rattle.hg_detect.specs.Engine.{Answers, AtPresent, IsSound, LacksRoom, ReadsTrue, shown_of}
 use Rattle.hg_detect.specs.Shown.{Accepts, Advances, AsksFor, SameContent, ShownDetector, content, verdict_on}
 use Rattle.hg_detect.proofs.Admitting.{answered, answered_refused}
 
@@ -25,9 +26,9 @@ accepts_of (Refuse r) may_refuse h = absurd (cc)
 
 -- What the answer and the content say of the summary of a trace.
 summary_kept : {W : Type 0} (g : words.Ghosts W) (old : ShownDetector W) (n : Named) (answer : Result Answer Refusal) (new : ShownDetector W)
-    → IsAnswered g old n answer → Becomes g old n answer new → KeepsSummary g old n answer new
+    → IsAnswered g old n answer new → Becomes g old n answer new → KeepsSummary g old n answer new
 summary_kept g old n answer new is becomes = λ past faithful accepted was_summary was.
-    let now : Accepts g.cell_of old n = accepts_of (verdict_on g.cell_of old n) g.may_refuse (subst (λ (r : Result Answer Refusal). IsAnswered g old n r) was is) in
+    let now : Accepts g.cell_of old n = accepts_of (verdict_on g.cell_of old n) (g.may_refuse new.words) (subst (λ (r : Result Answer Refusal). IsAnswered g old n r new) was is) in
     let follows : IsAccepted (n ∷ past) = (accepted, ap (λ (c : Content). verdict (standing_of c) n) (sym was_summary) ∙ now) in
     let goes : content g.cell_of new ≡ after (content g.cell_of old) n =
     subst (λ (r : Result Answer Refusal). content g.cell_of new ≡ (if is_accepted r then after (content g.cell_of old) n else content g.cell_of old)) was (becomes faithful)
@@ -39,9 +40,10 @@ pub offer_accepted : {W : Type 0} (g : words.Ghosts W) (old new : ShownDetector 
     → (AtPresent g.is_faithful old → Advances g.cell_of old n new) → (AtPresent g.is_faithful old → AsksFor g.cell_of old n.event (Ok tt) new) → length old.kept ≤ 65536
     → AtPresent g.may_bring new → (AtPresent g.is_faithful old → AtPresent g.is_faithful new) → g.went old.words new.words → AnswersOffer g old n (Ok answers.Accepted) new
 offer_accepted g old new n accepts goes asked few lawful faithful went =
-    let is = answered g old n accepts in
+    let is = answered g old new n accepts in
     record {
       answered = is;
+      undamaged = λ accepts_it true_map. tt;
       content = goes;
       summary = summary_kept g old n (Ok answers.Accepted) new is goes;
       sets = λ h accepts_it. asked h;
@@ -61,13 +63,14 @@ engine_accepted {W} g e e' d n shows sound accepts a went =
 
 -- An event that the rules accept, and that was refused.
 pub offer_lacks_room : {W : Type 0} (g : words.Ghosts W) (old new : ShownDetector W) (n : Named) (answer : Result Answer Refusal) (r : Refusal) → IsErrAnd answer (λ x. x ≡ r) → Accepts g.cell_of old n
-    → (AtPresent g.is_faithful old → SameContent g.cell_of old new) → (AtPresent g.is_faithful old → AsksFor g.cell_of old n.event (Err r) new) → LacksRoom g.may_refuse r
-    → AtPresent g.may_bring new → (AtPresent g.is_faithful old → AtPresent g.is_faithful new) → g.went old.words new.words → AnswersOffer g old n answer new
-offer_lacks_room g old new n (Ok a) r refused accepts stays asked lacks lawful faithful went = absurd refused
-offer_lacks_room g old new n (Err x) r refused accepts stays asked lacks lawful faithful went =
-    let is = answered_refused g old n (Err x) r refused accepts lacks in
+    → (AtPresent g.is_faithful old → SameContent g.cell_of old new) → (AtPresent g.is_faithful old → AsksFor g.cell_of old n.event (Err r) new) → LacksRoom (g.may_refuse new.words) r
+    → (ReadsTrue g old → r ≢ Damaged) → AtPresent g.may_bring new → (AtPresent g.is_faithful old → AtPresent g.is_faithful new) → g.went old.words new.words → AnswersOffer g old n answer new
+offer_lacks_room g old new n (Ok a) r refused accepts stays asked lacks undamaged lawful faithful went = absurd refused
+offer_lacks_room g old new n (Err x) r refused accepts stays asked lacks undamaged lawful faithful went =
+    let is = answered_refused g old new n (Err x) r refused accepts lacks in
     record {
       answered = is;
+      undamaged = λ accepts_it true_map. subst (λ (y : Refusal). y ≢ Damaged) (sym refused) (undamaged true_map);
       content = stays;
       summary = summary_kept g old n (Err x) new is stays;
       sets = λ h accepts_it. subst (λ (y : Refusal). AsksFor g.cell_of old n.event (Err y) new) (sym refused) (asked h);
@@ -83,15 +86,16 @@ pub engine_refused : {W : Type 0} (g : words.Ghosts W) (e e' : Engine W) (d : Sh
     → Accepts g.cell_of d n → Answers g e n (Err r) e' → g.went e.words e'.words → AnswersOffer g d n answer (shown_of e')
 engine_refused {W} g e e' d n answer r refused shows accepts a went =
     subst (λ (x : ShownDetector W). AnswersOffer g x n answer (shown_of e')) shows
-    (offer_lacks_room g (shown_of e) (shown_of e') n answer r refused (subst (λ (x : ShownDetector W). Accepts g.cell_of x n) (sym shows) accepts) a.refused a.asked a.cause a.lawful a.faithful went)
+    (offer_lacks_room g (shown_of e) (shown_of e') n answer r refused (subst (λ (x : ShownDetector W). Accepts g.cell_of x n) (sym shows) accepts) a.refused a.asked a.cause a.undamaged a.lawful a.faithful went)
 
 -- An event that was sent before.
 pub offer_again : {W : Type 0} (g : words.Ghosts W) (old : ShownDetector W) (n : Named) (k : ℕ) → verdict_on g.cell_of old n ≡ Duplicate k → AtPresent g.may_bring old → g.went old.words old.words
     → AnswersOffer g old n (Ok (answers.Duplicate k)) old
 offer_again g old n k is lawful went =
-    let applies : IsAnswered g old n (Ok (answers.Duplicate k)) = subst (λ (v : Verdict). Applies v g.may_refuse (Ok (answers.Duplicate k))) (sym is) refl in
+    let applies : IsAnswered g old n (Ok (answers.Duplicate k)) old = subst (λ (v : Verdict). Applies v (g.may_refuse old.words) (Ok (answers.Duplicate k))) (sym is) refl in
     record {
       answered = applies;
+      undamaged = λ accepts true_map. tt;
       content = λ h. refl;
       summary = summary_kept g old n (Ok (answers.Duplicate k)) old applies (λ h. refl);
       sets = λ h accepts. absurd (cc);
@@ -106,9 +110,10 @@ offer_again g old n k is lawful went =
 pub offer_refused : {W : Type 0} (g : words.Ghosts W) (old : ShownDetector W) (n : Named) (r : Refusal) → verdict_on g.cell_of old n ≡ Refuse r → AtPresent g.may_bring old → g.went old.words old.words
     → AnswersOffer g old n (Err r) old
 offer_refused g old n r is lawful went =
-    let applies : IsAnswered g old n (Err r) = subst (λ (v : Verdict). Applies v g.may_refuse (Err r)) (sym is) refl in
+    let applies : IsAnswered g old n (Err r) old = subst (λ (v : Verdict). Applies v (g.may_refuse old.words) (Err r)) (sym is) refl in
     record {
       answered = applies;
+      undamaged = λ accepts true_map. absurd (cc);
       content = λ h. refl;
       summary = summary_kept g old n (Err r) old applies (λ h. refl);
       sets = λ h accepts. absurd (cc);

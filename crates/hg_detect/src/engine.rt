@@ -1,6 +1,6 @@
 //! The parts of a detector, and what an accepted event does to them.
 
-ghost use Rattle.std.specs.Prelude.{◌≡◌, ◌⊎◌, ℕ, ◌+◌, ◌-◌, ◌/◌, ◌*◌, ◌≤◌, ◌<◌, ◌^◌, [], ◌∷◌, All, IfOk, length, vec_capacity, IfErr, OnOk, Ok, Err, ◌==◌};
+ghost use Rattle.std.specs.Prelude.{◌≡◌, ◌≢◌, ◌⊎◌, ℕ, ◌+◌, ◌-◌, ◌/◌, ◌*◌, ◌≤◌, ◌<◌, ◌^◌, [], ◌∷◌, All, IfOk, length, vec_capacity, IfErr, OnOk, Ok, Err, ◌==◌};
 ghost use Rattle.std.specs.List.{list_any};
 ghost use Rattle.hg_graph.specs.Graph.{names};
 ghost use Rattle.hg_model.specs.Segments.{of_thread};
@@ -13,7 +13,7 @@ ghost use Rattle.hg_cells.specs.declared.cell.Cell.TheVariants.{New};
 ghost use Rattle.hg_cells.specs.Cells.{IsWithin};
 ghost use Rattle.hg_cells.specs.Words.{ForWords, KeepsLaw, failed_after};
 ghost use Rattle.hg_detect.specs.Shown.{HasRoom, IsReportAt, content, shown_with};
-ghost use Rattle.hg_detect.specs.Engine.{Answers, AsksForAccess, AsksForCell, AtPresent, HasPlan, IsPlannedBy, IsSound, KeepsCells, shown_of};
+ghost use Rattle.hg_detect.specs.Engine.{Answers, AsksForAccess, AsksForCell, AtPresent, HasPlan, IsPlannedBy, IsSound, KeepsCells, LacksRoom, ReadsTrue, shown_of};
 
 use crate::access::NamedAccess;
 use crate::kept::reserve_reports;
@@ -175,7 +175,8 @@ impl<W: Words> Engine<W> {
         ensures len { OnOk result (length self.new.plan.items ≡ end - first) }
         ensures room { OnOk result (HasRoom self.new.kept.items (vec_capacity self.new.kept) self.new.plan.items) }
         ensures asked { AsksForAccess ⟦<W as Words>⟧ self.old access.now write first end result self.new }
-        ensures refusal { IfErr result (λ r. (r ≡ Refusal.FullSets) ⊎ (r ≡ Refusal.OutOfMemory) ⊎ W.may_refuse r) }
+        ensures refusal { IfErr result (LacksRoom (W.may_refuse self.new.words)) }
+        ensures undamaged { ReadsTrue ⟦<W as Words>⟧ (shown_of self.old) → IfErr result (λ r. r ≢ Refusal.Damaged) }
         ensures went { W.went self.old.words self.new.words }
         ensures failures { W.failures self.new.words ≡ failed_after result (W.failures self.old.words) }
     {

@@ -4,6 +4,7 @@ use Rattle.lru.specs.LruCache.{LruCache}
 use Rattle.hg_disk.specs.declared.disk.Disk as disk
 use Rattle.hg_cells.specs.declared.cell.Cell.{Cell}
 use Rattle.hg_cells.specs.declared.cell.Cell.TheVariants.{New}
+use Rattle.hg_pages.specs.Slots.{IsKnown}
 use Rattle.hg_pages.specs.Tables as tables
 use Rattle.hg_pages.specs.Tables.{IsNamed, slot_in}
 use Rattle.hg_pages.proofs.Decoding.{stored}
@@ -14,7 +15,7 @@ use Rattle.hg_pool.specs.Shown.{ShownPool}
 use Rattle.hg_pool.specs.Sound.{AreSound}
 use Rattle.hg_pool.specs.Tables.{FindsBelow}
 use Rattle.hg_pool.proofs.Changing.{FileStep, Here, LiveHere, Same, SlotsStay, live_by, still_file, went_by}
-use Rattle.hg_pool.specs.OfWords.{went_on}
+use Rattle.hg_pool.specs.OfWords.{ReadsTrue, went_on}
 use Rattle.hg_cache.proofs.Lookups.{if_false, if_true, itself, same_number}
 
 -- one page, and each other
@@ -212,6 +213,12 @@ stays_copied {D} g old copies page slot f cells look waits none there same =
 -- steps one after the other
 pub stays_on : {D : Type 0} (g : disk.Ghosts D) (old mid new : ShownPool D) → Stays g old mid → Stays g mid new → Stays g old new
 stays_on g old mid new one two = record { went = went_on g old mid new one.went two.went; live_is = λ h w. two.live_is (one.went.whole h) w ∙ one.live_is h w }
+
+-- what can be read back still can be, where no word changes
+pub true_on : {D : Type 0} (g : disk.Ghosts D) (old new : ShownPool D) (segments : ℕ) (sets : List (List ℕ)) → Stays g old new
+    → ReadsTrue g old segments sets → ReadsTrue g new segments sets
+true_on g old new segments sets stays h =
+    (stays.went.whole h.0, λ w. subst (IsKnown segments sets) (sym (stays.live_is h.0 w)) (h.1 w))
 
 -- another list of the live table's entries, which is the same
 pub stays_live : {D : Type 0} (g : disk.Ghosts D) (old : ShownPool D) (live : List (ℕ × ℕ)) → live ≡ old.live → Stays g old (record old { live = live })

@@ -25,13 +25,13 @@ abbrev pub IsFull : {D : Type 0} → ShownPool D → Type 0
 IsFull p = (slot : ℕ) → slot < p.slots → IsTaken p slot
 
 -- A refusal is told only if its cause holds in the pool as it is then: an eviction may have taken the last slot.
-abbrev pub IsTrueCause : {D : Type 0} → ShownPool D → ShownPool D → Refusal → Type 0
-IsTrueCause old new refusal.Broken = IsTrue (is_broken new)
-IsTrueCause old new refusal.FullSlots = IsFull new
-IsTrueCause old new refusal.DeviceFault = Unit {0}
-IsTrueCause old new refusal.OutOfMemory = Unit {0}
-IsTrueCause old new refusal.Damaged = Unit {0}
-IsTrueCause old new _ = ⊥
+abbrev pub IsTrueCause : {D : Type 0} → ShownPool D → Refusal → Type 0
+IsTrueCause p refusal.Broken = IsTrue (is_broken p)
+IsTrueCause p refusal.FullSlots = IsFull p
+IsTrueCause p refusal.DeviceFault = Unit {0}
+IsTrueCause p refusal.OutOfMemory = Unit {0}
+IsTrueCause p refusal.Damaged = Unit {0}
+IsTrueCause p _ = ⊥
 
 -- the first page of a table
 abbrev pub least_of : List (ℕ × ℕ) → Option ℕ

@@ -216,7 +216,7 @@ module _ {D : Type 0} (g : disk.Ghosts D) where
   pub record MovesPages {T : Type 0} (old new : ShownPool D) (result : Result T Refusal) : Type 0 where
     pub takes : TakesLeastFree old new
     pub stays : Stays g old new
-    pub refusal : IfErr result (IsTrueCause old new)
+    pub refusal : IfErr result (IsTrueCause new)
     pub device : CountsFailures old new result
 
   -- The file is written or synced. No word changes, and a pool whose write or sync failed is broken from then on.

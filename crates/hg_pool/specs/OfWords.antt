@@ -1,5 +1,6 @@
 -- A pool as the detector's map of words: what its parts mean, and the laws.
 use Rattle.std.proofs.Common.{arith, inl, inr, ◌<◌, ◌≡◌, ◌⊎◌, ◌≤◌, ◌+◌, ◌/◌, ◌%◌, ◌∙◌, ℕ, true, List, [], ◌∷◌, length, get_or, Some, None, is_some, refl, sym, subst}
+use Rattle.std.specs.Prelude.{◌≢◌, IfErr, Result}
 use Rattle.hg_disk.specs.declared.disk.Disk as disk
 use Rattle.hg_disk.specs.State.{DiskState}
 use Rattle.hg_disk.specs.Moments.{EachLeaves, GoesOn}
@@ -9,9 +10,10 @@ use Rattle.hg_cells.specs.Cells.{IsWithin}
 use Rattle.hg_cells.specs.PagedLaws.{within_more}
 use Rattle.hg_model.specs.declared.verdict.Refusal.{Refusal}
 use Rattle.hg_model.specs.declared.verdict.Refusal.TheVariants as refusal
-use Rattle.hg_pages.specs.Slots.{HasBytes}
+use Rattle.hg_pages.specs.Slots.{HasBytes, IsKnown}
 use Rattle.hg_pages.specs.Tables.{slot_in}
-use Rattle.hg_pool.specs.Kept.{AreWithin, BreaksByFailure, Extends, IsFaithful, KeepsNamed, Went}
+use Rattle.hg_pool.specs.Answers.{IsTrueCause}
+use Rattle.hg_pool.specs.Kept.{AreWithin, BreaksByFailure, Extends, IsFaithful, IsWhole, KeepsNamed, Went}
 use Rattle.hg_pool.specs.Maps.{copy_in, disk_of, frame_in, is_broken, live}
 use Rattle.hg_pool.specs.Shown.{ShownPool}
 
@@ -35,17 +37,9 @@ IsKept p w = IsBrought p w × IsSettled p (w / 256)
 abbrev pub MayFill : {D : Type 0} → ShownPool D → ℕ → ℕ → Type 0
 MayFill p first count = IsKept p first × (first % 256 + count ≤ 256)
 
--- the refusals of a pool: want of memory, no free slot, and those of the file
-abbrev pub MayRefuse : Refusal → Type 0
-MayRefuse refusal.OutOfMemory = Unit {0}
-MayRefuse refusal.FullSlots = Unit {0}
-MayRefuse refusal.Damaged = Unit {0}
-MayRefuse refusal.Broken = Unit {0}
-MayRefuse refusal.DeviceFault = Unit {0}
-MayRefuse _ = ⊥
-
-pub never_full : MayRefuse refusal.FullSets → ⊥
-never_full refused = refused
+-- a full table of sets is no cause of a pool's refusals
+pub never_full : {D : Type 0} (p : ShownPool D) → IsTrueCause p refusal.FullSets → ⊥
+never_full p refused = refused
 
 pub brings_more : {D : Type 0} (p : ShownPool D) (segments sets more_segments more_sets : ℕ) → segments ≤ more_segments → sets ≤ more_sets → MayBring p segments sets → MayBring p more_segments more_sets
 brings_more p segments sets more_segments more_sets a b within q f is i = within_more segments sets more_segments more_sets (get_or f.cells i New) a b (within q f is i)
@@ -55,6 +49,14 @@ each_unit [] = tt
 each_unit (s ∷ earlier) = (λ _ _. tt, each_unit earlier)
 
 module _ {D : Type 0} (g : disk.Ghosts D) where
+  -- The maps have what was written, and the live cells name only known segments, below this number, and known sets.
+  abbrev pub ReadsTrue : ShownPool D → ℕ → List (List ℕ) → Type 0
+  ReadsTrue p segments sets = IsWhole g p × ((w : ℕ) → IsKnown segments sets (live g p w))
+
+  -- No page of such maps is found damaged.
+  abbrev pub FindsNoDamage : {T : Type 0} → ShownPool D → ℕ → List (List ℕ) → Result T Refusal → Type 0
+  FindsNoDamage p segments sets result = ReadsTrue p segments sets → IfErr result (λ r. r ≢ refusal.Damaged)
+
   pub more_faithful : (p : ShownPool D) (segments sets more_segments more_sets : ℕ) → segments ≤ more_segments → sets ≤ more_sets → IsFaithful g p segments sets → IsFaithful g p more_segments more_sets
   more_faithful p segments sets more_segments more_sets a b h = record { whole = h.whole; within = λ w. within_more segments sets more_segments more_sets (live g p w) a b (h.within w) }
 

@@ -68,7 +68,7 @@ impl<D: Disk> Parts<D> {
         requires within { slot < self.old.slots }
         ensures sound { IsSound self.new }
         ensures stays { Stays ⟦<D as Disk>⟧ (shown_of self.old) (shown_of self.new) }
-        ensures refusal { IfErr result (IsTrueCause (shown_of self.old) (shown_of self.new)) }
+        ensures refusal { IfErr result (IsTrueCause (shown_of self.new)) }
         ensures undamaged { IfErr result (λ r. r ≢ Refusal.Damaged) }
         ensures device { CountsFailures ⟦<D as Disk>⟧ (shown_of self.old) (shown_of self.new) result }
         ensures cells { CellsFrom self.old.frames.entries self.new.frames.entries }

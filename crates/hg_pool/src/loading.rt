@@ -28,7 +28,7 @@ impl<D: Disk> Parts<D> {
         ensures cells { ReadsStored ⟦<D as Disk>⟧ (shown_of self.new) page result }
         ensures named { IfOk result (λ cells. (i : ℕ) → IsWithin segments (length sets.now.sets) (get_or cells i New)) }
         ensures whole { ReadsUndamaged ⟦<D as Disk>⟧ (shown_of self.old) page segments sets.now.sets result }
-        ensures refusal { IfErr result (IsTrueCause (shown_of self.old) (shown_of self.new)) }
+        ensures refusal { IfErr result (IsTrueCause (shown_of self.new)) }
         ensures device { CountsFailures ⟦<D as Disk>⟧ (shown_of self.old) (shown_of self.new) result }
     {
         match self.live.get(page) {
@@ -52,7 +52,7 @@ impl<D: Disk> Parts<D> {
         ensures order { OnOk result (order_of (shown_of self.new) ≡ page ∷ order_of (shown_of self.old)) }
         ensures within { StayWithin segments (length sets.now.sets) self.old.frames.entries self.new.frames.entries }
         ensures whole { ReadsUndamaged ⟦<D as Disk>⟧ (shown_of self.old) page segments sets.now.sets result }
-        ensures refusal { IfErr result (IsTrueCause (shown_of self.old) (shown_of self.new)) }
+        ensures refusal { IfErr result (IsTrueCause (shown_of self.new)) }
         ensures device { CountsFailures ⟦<D as Disk>⟧ (shown_of self.old) (shown_of self.new) result }
     {
         let cells = self.read(page, segments, sets)?;

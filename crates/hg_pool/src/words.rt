@@ -4,7 +4,7 @@ ghost use Rattle.hg_cells.specs.Cells.{IsWithin};
 ghost use Rattle.hg_pool.specs.Maps.{disk_of, frame_in, live};
 ghost use Rattle.hg_pool.specs.Kept.{AreWithin, IsFaithful, Stays, Went};
 ghost use Rattle.hg_pool.specs.Answers.{IsTrueCause, order_of, order_with};
-ghost use Rattle.hg_pool.specs.OfWords.{IsSettled};
+ghost use Rattle.hg_pool.specs.OfWords.{FindsNoDamage, IsSettled};
 ghost use Rattle.hg_cache.specs.Frames.{HasCell};
 ghost use Rattle.hg_pool.specs.Calls.{ArePagesOf, CountsFailures, FillsWords, StayWithin, StaysFaithfulWith};
 
@@ -49,7 +49,8 @@ impl<D: Disk> Pool<D> {
         ensures first { OnOk result (is_some (frame_in self.new.frames first) ≡ true) }
         ensures last { OnOk result (is_some (frame_in self.new.frames last) ≡ true) }
         ensures within { StayWithin segments (length sets.now.sets) self.old.frames self.new.frames }
-        ensures refusal { IfErr result (IsTrueCause self.old self.new) }
+        ensures refusal { IfErr result (IsTrueCause self.new) }
+        ensures undamaged { FindsNoDamage ⟦<D as Disk>⟧ self.old segments sets.now.sets result }
         ensures device { CountsFailures ⟦<D as Disk>⟧ self.old self.new result }
     {
         self.load(first, segments, sets)?;
@@ -194,7 +195,9 @@ impl<D: Disk> Words for Pool<D> {
 
     ghost may_fill = { of.MayFill };
 
-    ghost may_refuse = { of.MayRefuse };
+    ghost may_refuse = { IsTrueCause };
+
+    ghost reads_true = { of.ReadsTrue ⟦<D as Disk>⟧ };
 
     ghost went = { Went ⟦<D as Disk>⟧ };
 

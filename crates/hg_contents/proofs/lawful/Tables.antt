@@ -90,10 +90,10 @@ tables c n old new refused has asks all = asks_fit old (sets_asked c n.event) re
 
 -- ---- answers
 
-either_fits : (old : Table) (sets : List (List ℕ)) (r : Refusal) (new : Table) → (new ≡ old) ⊎ (Asks old sets None new ⊎ (Asks old sets (Some OutOfMemory) new × (r ≡ refusal.OutOfMemory))) → AllByRecursion SetFits sets → AreFitting old → AreFitting new
+either_fits : (old : Table) (sets : List (List ℕ)) (r : Refusal) (new : Table) → (new ≡ old) ⊎ ((r ≡ refusal.OutOfMemory) × (Asks old sets None new ⊎ Asks old sets (Some OutOfMemory) new)) → AllByRecursion SetFits sets → AreFitting old → AreFitting new
 either_fits old sets r new (inl same) each all = subst AreFitting (sym same) all
-either_fits old sets r new (inr (inl asks)) each all = asks_fit old sets None new asks each all
-either_fits old sets r new (inr (inr part)) each all = asks_fit old sets (Some OutOfMemory) new part.0 each all
+either_fits old sets r new (inr (short, inl asks)) each all = asks_fit old sets None new asks each all
+either_fits old sets r new (inr (short, inr part)) each all = asks_fit old sets (Some OutOfMemory) new part each all
 
 answer_fits : (old : Table) (sets : List (List ℕ)) (answer : Result (Unit {0}) Refusal) (new : Table) → AsksBy old sets answer new → AllByRecursion SetFits sets → AreFitting old → AreFitting new
 answer_fits old sets (Ok u) new asks each all = asks_fit old sets None new asks each all

@@ -6,6 +6,7 @@ pub returns-in_err-accept-in-Accept : goal.returns-in_err-accept-in-Accept
 returns-in_err-accept-in-Accept g c =
     offer_lacks_room g.W.Words c.args.self.now c.accept.new.self c.args.named c.from_residual.result c.in_err-accept-in-Accept.field-0.0 c.from_residual.ensures.1 (sym c.verdict.ensures ∙ c.in-Accept.is)
     c.in_err-accept-in-Accept.ensures.unchanged c.in_err-accept-in-Accept.ensures.sets c.in_err-accept-in-Accept.ensures.cause
+    c.in_err-accept-in-Accept.ensures.undamaged
     c.accept.ensures.lawful c.accept.ensures.faithful c.accept.ensures.went
 
 pub returns-in_ok-accept-in-Accept : goal.returns-in_ok-accept-in-Accept

@@ -1,17 +1,18 @@
 use Rattle.std.proofs.Common.{◌≡◌, ◌⊎◌, ◌+◌, ◌-◌, ◌/◌, ◌<◌, ◌≤◌, ◌++◌, ℕ, length, take, replicate, add-zero, Ok, Err, IfOk, OnOk, IfErr, None, inl, inr, ⊎_elim, refl, sym, ap, ◌∙◌, subst, arith}
+use Rattle.std.specs.Prelude.{◌≢◌}
 use Rattle.std.proofs.lemmas.List.{append-nil, length-replicate, take_all}
 use Rattle.hg_model.specs.Accessing.{access_event}
 use Rattle.hg_model.specs.Verdicts.{standing, verdict}
 use Rattle.hg_model.specs.declared.verdict.Refusal.TheVariants as refusal
 use Rattle.hg_cells.specs.Cells.{meaning}
-use Rattle.hg_detect.specs.Engine.{actor_of, named_of, shown_of}
+use Rattle.hg_detect.specs.Engine.{LacksRoom, actor_of, named_of, shown_of}
 use Rattle.hg_detect.specs.Making.{Asks, AsksBy, sets_in}
 use Rattle.hg_detect.specs.Planning.{IsPlanned, touched_by}
 use Rattle.hg_detect.specs.Shown.{found}
 use Rattle.hg_detect.proofs.Accesses.{asked_from}
 use Rattle.hg_detect.proofs.Alike.{alike_planned, alike_given, alike_found, alike_asked, alike_refused, alike_within, quiet}
 use Rattle.hg_detect.proofs.Passing.{access_passes, few_events, few_words}
-use Rattle.hg_detect.proofs.Answering.{KeepsEngine, access_answers, refused_answers, sets_changed}
+use Rattle.hg_detect.proofs.Answering.{KeepsEngine, access_answers, never_damaged, refused_answers, sets_changed}
 use Rattle.hg_detect.proofs.Reports.{found_few}
 use Rattle.hg_detect.proofs.engine.Engine.access_alike.Goals as goal
 
@@ -80,7 +81,8 @@ returns-in_err-planned-clause-answers g c =
     same k laws.brings_more laws.more_faithful laws.faithful_within c.requires.sound c.requires.lawful
     (λ h. asked_from words.cell_of (shown_of old) (access_event c.args.named.write c.args.named.access) c.args.named.write a actor _ c.from_residual.result (Err r) c.plan_for.new.self.sets refl passed.some refl refl same
     (alike_refused old.graph old.sets c.plan_for.new.self.sets actor (words.cell_of old.words) c.args.cell first n r some alike cause asked))
-    (subst (λ x. IfErr x (λ e. (e ≡ refusal.FullSets) ⊎ ((e ≡ refusal.OutOfMemory) ⊎ words.may_refuse e))) (sym same) (⊎_elim (λ full. inl full) (λ out. inr (inl out)) cause))
+    (subst (λ x. IfErr x (LacksRoom (words.may_refuse c.plan_for.new.self.words))) (sym same) (⊎_elim (λ full. inl full) (λ out. inr (inl out)) cause))
+    (λ t. subst (λ x. IfErr x (λ e. e ≢ refusal.Damaged)) (sym same) (never_damaged r cause))
 
 pub returns-then-are_same-clause-answers : goal.returns-then-are_same-clause-answers
 returns-then-are_same-clause-answers g c =
@@ -193,8 +195,9 @@ returns-in_err-reserve_reports-clause-answers g c =
     let same : c.from_residual-in_err-reserve_reports.result ≡ Err refusal.OutOfMemory = grind arith in
     refused_answers words old roomy (named_of c.args.named) c.from_residual-in_err-reserve_reports.result refusal.OutOfMemory
     same roomier laws.brings_more laws.more_faithful laws.faithful_within c.requires.sound c.requires.lawful
-    (λ h. asked_from words.cell_of (shown_of old) (access_event c.args.named.write c.args.named.access) c.args.named.write a actor _ c.from_residual-in_err-reserve_reports.result (Err refusal.OutOfMemory) mid.sets refl passed.some refl refl same (inr (inl asked)))
-    (subst (λ x. IfErr x (λ e. (e ≡ refusal.FullSets) ⊎ ((e ≡ refusal.OutOfMemory) ⊎ words.may_refuse e))) (sym same) (inr (inl refl)))
+    (λ h. asked_from words.cell_of (shown_of old) (access_event c.args.named.write c.args.named.access) c.args.named.write a actor _ c.from_residual-in_err-reserve_reports.result (Err refusal.OutOfMemory) mid.sets refl passed.some refl refl same (inr (refl, inl asked)))
+    (subst (λ x. IfErr x (LacksRoom (words.may_refuse mid.words))) (sym same) (inr (inl refl)))
+    (λ t. subst (λ x. IfErr x (λ e. e ≢ refusal.Damaged)) (sym same) (never_damaged refusal.OutOfMemory (inr refl)))
 
 pub add_reports-reports-requires-clause-fits : goal.add_reports-reports-requires-clause-fits
 add_reports-reports-requires-clause-fits g c =

@@ -1,8 +1,9 @@
 use Rattle.std.proofs.Common.{◌≡◌, ◌+◌, ◌/◌, ℕ, Ok, Err, refl, sym, ap, ◌∙◌, subst, arith, length, take, ◌++◌, All}
-use Rattle.std.specs.Prelude.{vec_capacity}
+use Rattle.std.specs.Prelude.{◌≢◌, IfErr, vec_capacity}
+use Rattle.hg_model.specs.declared.verdict.Refusal.TheVariants.{Damaged}
 use Rattle.hg_model.specs.Accessing.{access_event, access_named}
 use Rattle.hg_model.specs.Verdicts.{standing}
-use Rattle.hg_detect.specs.Engine.{actor_of, shown_of}
+use Rattle.hg_detect.specs.Engine.{LacksRoom, actor_of, shown_of}
 use Rattle.hg_detect.specs.Shown.{HasRoom, found, given}
 use Rattle.hg_cells.specs.Cells.{IsWithin}
 use Rattle.hg_detect.proofs.Accesses.{asked_from, last_word}
@@ -37,7 +38,8 @@ returns-in_err-prepare-clause-answers g c =
     refused_answers words old c.prepare.new.self (access_named c.args.source c.args.number c.args.write c.args.access) c.from_residual.result c.in_err-prepare.field-0.0
     fails k g.met.W.Words.brings_more g.met.W.Words.more_faithful g.met.W.Words.faithful_within c.requires.sound c.requires.lawful
     (λ h. asked_from words.cell_of (shown_of old) (access_event c.args.write c.args.access) c.args.write a (actor_of old a c.args.write) _ c.from_residual.result c.prepare.result c.prepare.new.self.sets refl passed.some refl (last_word a c.from.result c.from.ensures passed.some) same (p.asked (length old.graph) (length old.sets.sets) h))
-    (grind arith)
+    (subst (λ x. IfErr x (LacksRoom (words.may_refuse c.prepare.new.self.words))) (sym same) p.refusal)
+    (λ t. subst (λ x. IfErr x (λ r. r ≢ Damaged)) (sym same) (p.undamaged t))
 
 pub overflow_add-self : goal.overflow_add-self
 overflow_add-self g c =

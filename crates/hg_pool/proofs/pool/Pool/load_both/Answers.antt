@@ -1,4 +1,8 @@
-use Rattle.hg_pool.proofs.Stepping.{stays_on}
+use Rattle.std.proofs.Common.{◌≡◌, Err, Result, sym, subst, arith}
+use Rattle.std.specs.Prelude.{◌≢◌, IfErr}
+use Rattle.hg_model.specs.declared.verdict.Refusal.{Refusal}
+use Rattle.hg_model.specs.declared.verdict.Refusal.TheVariants.{Damaged}
+use Rattle.hg_pool.proofs.Stepping.{stays_on, true_on}
 use Rattle.hg_pool.proofs.pool.Pool.load_both.Goals as goal
 
 pub returns-clause-stays : goal.returns-clause-stays
@@ -6,3 +10,13 @@ returns-clause-stays g c = stays_on g.D.Disk c.args.self.now c.load.new.self c.l
 
 pub returns-clause-within : goal.returns-clause-within
 returns-clause-within g c n m a b within = c.load-2.ensures.within n m a b (c.load.ensures.within n m a b within)
+
+pub returns-in_err-load-clause-undamaged : goal.returns-in_err-load-clause-undamaged
+returns-in_err-load-clause-undamaged g c h =
+    let same : c.from_residual.result ≡ Err c.in_err-load.field-0.0 = grind arith in
+    subst (λ (x : Result (Unit {0}) Refusal). IfErr x (λ r. r ≢ Damaged)) (sym same) (c.in_err-load.ensures.undamaged h.0 (λ w is. h.1 w))
+
+pub returns-clause-undamaged : goal.returns-clause-undamaged
+returns-clause-undamaged g c h =
+    let there = true_on g.D.Disk c.args.self.now c.load.new.self c.args.segments c.args.sets.now.sets c.load.ensures.moves.stays h in
+    c.load-2.ensures.undamaged there.0 (λ w is. there.1 w)

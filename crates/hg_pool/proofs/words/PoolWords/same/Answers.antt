@@ -11,6 +11,7 @@ use Rattle.hg_pages.specs.Tables.{slot_in}
 use Rattle.hg_pool.specs.OfWords.{MayBring}
 use Rattle.hg_pool.specs.Shown.{ShownPool}
 use Rattle.hg_pool.proofs.Overlapping.{got}
+use Rattle.hg_pool.proofs.Stepping.{true_on}
 use Rattle.hg_pool.proofs.words.PoolWords.same.Goals as goal
 
 -- words of one page that have a cell there have it in the live map
@@ -42,3 +43,6 @@ returns-clause-named g c =
     let count = c.args.count in
     let some : 0 < count = omega (arith, c.if-count-eq0.false) in
     IfSome_then c.ask.result {Q = IsWithinWhere (MayBring p)} c.ask.ensures.cells (λ cell has. page_has p first count cell some has)
+
+pub returns-clause-true_still : goal.returns-clause-true_still
+returns-clause-true_still g c segments sets h = true_on g.D.Disk c.args.self.now c.ask.new.self segments sets c.ask.ensures.stays h
