@@ -5,13 +5,13 @@ use Rattle.hg_disk.specs.declared.disk.Disk as disk
 use Rattle.hg_cells.specs.declared.cell.Cell.{Cell}
 use Rattle.hg_pages.specs.Tables as tables
 use Rattle.hg_pages.specs.Tables.{slot_in}
-use Rattle.hg_pool.specs.declared.frame.Frame.{Frame}
+use Rattle.hg_cache.specs.declared.frame.Frame.{Frame}
 use Rattle.hg_pool.specs.Kept.{IsWhole, Went}
 use Rattle.hg_pool.specs.Maps.{bytes_of, copy_in, frame_in, frozen_by, in_slot, live_at}
 use Rattle.hg_pool.specs.Shown.{ShownPool}
 use Rattle.hg_pool.specs.Sound.{AreSound}
 use Rattle.hg_pool.proofs.Changing.{Here, Same, still_file, went_by}
-use Rattle.hg_pool.proofs.Lookups.{if_false, if_true, itself, same_number}
+use Rattle.hg_cache.proofs.Lookups.{if_false, if_true, itself, same_number}
 use Rattle.hg_pool.proofs.Stepping.{each_page, sound_frames}
 
 -- the present cells of a page that does not wait, or was copied, are not the frozen ones

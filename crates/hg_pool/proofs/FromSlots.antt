@@ -15,7 +15,7 @@ use Rattle.hg_pages.specs.Files as files
 use Rattle.hg_pages.specs.Slots.{AreKnown, HasBytes, HasPage, IsKnown}
 use Rattle.hg_pages.specs.Tables.{slot_in}
 use Rattle.hg_pages.proofs.Decoding.{stored}
-use Rattle.hg_pool.specs.declared.frame.Frame.{Frame}
+use Rattle.hg_cache.specs.declared.frame.Frame.{Frame}
 use Rattle.hg_pool.specs.Kept.{AreWithin, CellsFrom, HasSome, IsWhole, Stays}
 use Rattle.hg_pool.specs.Maps.{bytes_of, disk_of, frame_in, in_frame_or, in_slot, is_broken, live}
 use Rattle.hg_pool.specs.Shown.{ShownPool}

@@ -9,14 +9,14 @@ use Rattle.hg_pages.specs.Slots.{HasSlot}
 use Rattle.hg_pages.specs.Tables as tables
 use Rattle.hg_pages.specs.Tables.{IsNamed, slot_in}
 use Rattle.hg_pages.proofs.Decoding.{stored}
-use Rattle.hg_pool.specs.declared.frame.Frame.{Frame}
+use Rattle.hg_cache.specs.declared.frame.Frame.{Frame}
 use Rattle.hg_pool.specs.Kept.{Stays}
 use Rattle.hg_pool.specs.Maps.{bytes_of, copy_in, frame_in, frozen_at, frozen_by, in_frame_or, in_slot, live_at}
 use Rattle.hg_pool.specs.Shown.{ShownPool}
 use Rattle.hg_pool.specs.Sound.{AreSound}
 use Rattle.hg_pool.specs.Tables.{FindsBelow, IsSetAt}
 use Rattle.hg_pool.proofs.Changing.{LiveHere, still_file}
-use Rattle.hg_pool.proofs.Lookups.{if_false, if_true, itself, same_number}
+use Rattle.hg_cache.proofs.Lookups.{if_false, if_true, itself, same_number}
 use Rattle.hg_pool.proofs.Stepping.{frozen_from_live, stays_at}
 
 ok_of : {T E A : Type 0} (result : Result T E) → IsOk result → OnOk result A → A

@@ -8,7 +8,7 @@ use Rattle.hg_pages.specs.Slots.{IsKnown}
 use Rattle.hg_pages.specs.Tables as tables
 use Rattle.hg_pages.specs.Tables.{IsNamed, slot_in}
 use Rattle.hg_pages.proofs.Decoding.{stored}
-use Rattle.hg_pool.specs.declared.frame.Frame.{Frame}
+use Rattle.hg_cache.specs.declared.frame.Frame.{Frame}
 use Rattle.hg_pool.specs.Kept.{CellsFrom, IsWhole, Stays}
 use Rattle.hg_pool.specs.Maps.{bytes_of, copy_in, frame_in, frozen_at, frozen_by, in_frame_or, in_slot}
 use Rattle.hg_pool.specs.Shown.{ShownPool}
@@ -16,7 +16,7 @@ use Rattle.hg_pool.specs.Sound.{AreSound}
 use Rattle.hg_pool.specs.Tables.{FindsBelow}
 use Rattle.hg_pool.proofs.Changing.{FileStep, Here, LiveHere, Same, SlotsStay, live_by, still_file, went_by}
 use Rattle.hg_pool.specs.OfWords.{ReadsTrue, went_on}
-use Rattle.hg_pool.proofs.Lookups.{if_false, if_true, itself, same_number}
+use Rattle.hg_cache.proofs.Lookups.{if_false, if_true, itself, same_number}
 
 -- one page, and each other
 pub each_page : (P : ℕ → Type 0) (page : ℕ) → P page → ((q : ℕ) → (page == q) ≡ false → P q) → (q : ℕ) → P q

@@ -8,7 +8,7 @@ use Rattle.hg_pages.specs.Slots.{HasBytes, HasSlot, IsSlot}
 use Rattle.hg_pages.specs.Tables.{IsNamed}
 use Rattle.hg_pages.specs.declared.slot_file.SlotFile.{SlotFile}
 use Rattle.hg_pool.specs.Kept.{BreaksByFailure, Stays}
-use Rattle.hg_pool.specs.declared.frame.Frame.{Frame}
+use Rattle.hg_cache.specs.declared.frame.Frame.{Frame}
 use Rattle.hg_pages.specs.Tables.{slot_in}
 use Rattle.hg_pool.specs.Maps.{bytes_of, copy_in, disk_of, frame_in, frozen_at, frozen_by, in_copy_or, in_frame_or, in_slot, is_broken, live_at}
 use Rattle.hg_pool.specs.Shown.{ShownPool}

@@ -7,7 +7,7 @@ use Rattle.hg_cells.specs.declared.cell.Cell.TheVariants.{New}
 use Rattle.hg_cells.specs.Cells.{IsWithin}
 use Rattle.hg_pages.specs.Slots.{HasBytes, HasSlot}
 use Rattle.hg_pages.specs.Tables.{IsNamed, slot_in}
-use Rattle.hg_pool.specs.declared.frame.Frame.{Frame}
+use Rattle.hg_cache.specs.declared.frame.Frame.{Frame}
 use Rattle.hg_pool.specs.Maps.{GivesCells, bytes_of, disk_of, frame_in, frozen, in_slot, is_broken, live}
 use Rattle.hg_pool.specs.Shown.{ShownPool}
 

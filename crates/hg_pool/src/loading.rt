@@ -2,7 +2,7 @@
 ghost use Rattle.std.specs.Prelude.{◌≡◌, ◌≢◌, ◌⊎◌, ◌+◌, ◌/◌, ◌<◌, ◌≤◌, ◌^◌, ◌==◌, ℕ, ◌∷◌, length, get_or, true, Some, None, is_some, OnOk, IfOk, IfErr, IfSome, if◌then◌else◌};
 ghost use Rattle.hg_cells.specs.declared.cell.Cell.TheVariants.{New};
 ghost use Rattle.hg_cells.specs.Cells.{IsWithin};
-ghost use Rattle.hg_pool.specs.Frames.{HasCell};
+ghost use Rattle.hg_cache.specs.Frames.{HasCell};
 ghost use Rattle.hg_pool.specs.Maps.{frame_in};
 ghost use Rattle.hg_pool.specs.Kept.{AreWithin, Stays, Went};
 ghost use Rattle.hg_pool.specs.Answers.{IsTrueCause, order_of, order_with};

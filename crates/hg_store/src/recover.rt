@@ -59,6 +59,7 @@ fn newest<D: Disk>(alloc: Global, roots: &mut RootPair<D>) -> Result<Newest, Ref
     ensures whole { IfOk result AreWhole }
     ensures stands { IsTrue D.is_honest → PairStands ⟦<D as Disk>⟧ roots.old roots.new result }
     ensures damaged { IsTrue D.is_honest → OnDamaged result (HasNoNewest ⟦<D as Disk>⟧ roots.old) }
+    ensures works { OnOk result (IsWorking roots.new) }
     ensures refusal { IfErr result IsOfRoots }
     ensures first { WasRead ⟦<D as Disk>⟧ (first_of roots.old) (first_of roots.new) }
     ensures second { WasRead ⟦<D as Disk>⟧ (second_of roots.old) (second_of roots.new) }
@@ -95,6 +96,7 @@ fn standing<D: Disk>(
     ensures whole { IfOk result IsWholeIn }
     ensures stands { IsTrue D.is_honest → StandIfSettled ⟦<D as Disk>⟧ roots.old roots.new file.now result }
     ensures damaged { IsTrue D.is_honest → OnDamaged result (HasNoneIn ⟦<D as Disk>⟧ roots.old file.now) }
+    ensures works { OnOk result (IsWorking roots.new) }
     ensures refusal { IfErr result IsOfRoots }
     ensures first { WasRead ⟦<D as Disk>⟧ (first_of roots.old) (first_of roots.new) }
     ensures second { WasRead ⟦<D as Disk>⟧ (second_of roots.old) (second_of roots.new) }
@@ -172,6 +174,7 @@ fn caught_up<D: Disk>(
     requires works { journals.is_broken journal ≡ false }
     requires unbroken { pools.is_broken detector.words ≡ false }
     requires rests { IsAtRest detector.words }
+    requires roots_work { IsWorking roots }
     requires lawful { AtPresent MayBring detector }
     requires started { IsTrue D.is_honest → MayCatchUp journal detector roots number }
     ensures content { CatchesUp journal detector roots number result }
@@ -219,6 +222,7 @@ fn rooted<D: Disk>(
     ensures unbroken { IfOk result (λ r. pools.is_broken r.0.words ≡ false) }
     ensures damaged { IsTrue D.is_honest → CantRoot ⟦<D as Disk>⟧ roots slots result }
     ensures full { IsTrue D.is_honest → IfErr result (λ e. LacksRoom ⟦<D as Disk>⟧ caps.sets caps.slots roots e.0) }
+    ensures roots_work { IfOk result (λ r. IsWorking r.1) }
     ensures refusal { IfErr result (λ e. IsOfRecovery e.0) }
     ensures state { D.state (slots_of result) ≡ D.state slots }
     ensures any_moment { LeavesOld ⟦<D as Disk>⟧ slots (slots_of result) }

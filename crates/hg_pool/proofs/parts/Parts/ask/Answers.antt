@@ -3,13 +3,13 @@ use Rattle.std.proofs.lemmas.Option.{IfSome_then}
 use Rattle.std.specs.Map.{keys_of}
 use Rattle.std.specs.Set.{remove_key}
 use Rattle.lru.specs.LruCache.{LruCache}
-use Rattle.hg_pool.specs.declared.frame.Frame.{Frame}
+use Rattle.hg_cache.specs.declared.frame.Frame.{Frame}
 use Rattle.hg_pool.specs.Maps.{frame_in}
 use Rattle.hg_pool.specs.Shown.{ShownPool}
 use Rattle.hg_pool.specs.Sound.{shown_of}
 use Rattle.hg_pool.proofs.Changing.{still_file}
-use Rattle.hg_pool.proofs.Lookups.{if_true, looked_promoted}
-use Rattle.hg_pool.proofs.Orders.{order_used}
+use Rattle.hg_cache.proofs.Lookups.{if_true, looked_promoted}
+use Rattle.hg_cache.proofs.Orders.{order_used}
 use Rattle.hg_pool.proofs.Stepping.{sound_frames, stays_all}
 use Rattle.hg_pool.proofs.parts.Parts.ask.Goals as goal
 

@@ -3,13 +3,13 @@ use Rattle.lru.specs.LruCache.{LruCache}
 use Rattle.hg_cells.specs.declared.cell.Cell.{Cell}
 use Rattle.hg_cells.specs.declared.cell.Cell.TheVariants.{New}
 use Rattle.hg_pages.specs.Tables.{slot_in}
-use Rattle.hg_pool.specs.declared.frame.Frame.{Frame}
+use Rattle.hg_cache.specs.declared.frame.Frame.{Frame}
 use Rattle.hg_pool.specs.Maps.{bytes_of, frame_in, in_frame_or, in_slot}
 use Rattle.hg_pool.specs.Shown.{ShownPool}
 use Rattle.hg_pool.specs.Sound.{shown_of}
 use Rattle.hg_pool.specs.Kept.{IsWhole}
 use Rattle.hg_pool.proofs.Changing.{LiveHere, still_file}
-use Rattle.hg_pool.proofs.Lookups.{if_false, if_true, itself, looked_removed}
+use Rattle.hg_cache.proofs.Lookups.{if_false, if_true, itself, looked_removed}
 use Rattle.hg_pool.proofs.Stepping.{cells_gone, clean_apart, frozen_from_live, sound_frames, stays_at}
 use Rattle.hg_pool.proofs.parts.Parts.let_go.Goals as goal
 
