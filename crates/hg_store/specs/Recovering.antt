@@ -395,6 +395,10 @@ module _ {D : Type 0} (g : disk.Ghosts D) where
   LacksSlots cap old new =
       HasRootThat (NamesAbove cap) (g.state old.root0).contents (g.state old.root1).contents ⊎ HasFullSlots cap new.slots
 
+  -- FullSlots is told only where slots are lacking.
+  abbrev pub LacksSlotsIfFull : ℕ → Devices D → Result (ShownStore D) (Refusal × Devices D) → Type 0
+  LacksSlotsIfFull cap devices result = IfFullSlots result (LacksSlots cap devices (made_of result))
+
   -- Unless a device failed, a read of the journal, and of each root, gives what it gave.
   abbrev pub ReadsSameOrFault : Devices D → Result (ShownStore D) (Refusal × Devices D) → Type 0
   ReadsSameOrFault devices (Ok s) = FilesReadSame g devices s.devices
@@ -550,8 +554,8 @@ module _ {D : Type 0} {g : disk.Ghosts D} where
       → ¬ LeadFrom (detect.content (pools.live g) d) events c
 
   -- They do not, if that content is a lawful state.
-  abbrev pub LeadsNowhereIfLawful : Journal D g → detect.ShownDetector (pool.ShownPool D) → Type 0
-  LeadsNowhereIfLawful journal d = IsLawfulState (detect.content (pools.live g) d) → LeadsNowhere journal d
+  abbrev pub CantLeadOn : Journal D g → detect.ShownDetector (pool.ShownPool D) → Type 0
+  CantLeadOn journal d = IsLawfulState (detect.content (pools.live g) d) → LeadsNowhere journal d
 
   -- The events of the journal took the first table of sets to the second.
   abbrev pub FillsSets : Journal D g → (old new : detect.ShownDetector (pool.ShownPool D)) → Type 0
@@ -564,7 +568,7 @@ module _ {D : Type 0} {g : disk.Ghosts D} where
 
   -- Behind this many events Damaged is told only if no events lead on, and FullSets only if the table is too small.
   abbrev pub IsDamagedFrom : Journal D g → detect.ShownDetector (pool.ShownPool D) → Result (Unit {0}) Refusal → List Named → Type 0
-  IsDamagedFrom journal d result seen = result ≡ Err Damaged → length seen ≡ (detect.content (pools.live g) d).events → LeadsNowhereIfLawful journal d
+  IsDamagedFrom journal d result seen = result ≡ Err Damaged → length seen ≡ (detect.content (pools.live g) d).events → CantLeadOn journal d
 
   abbrev pub IsFullFrom : Journal D g → detect.ShownDetector (pool.ShownPool D) → Result (Unit {0}) Refusal → List Named → Type 0
   IsFullFrom journal d result seen = result ≡ Err FullSets → length seen ≡ (detect.content (pools.live g) d).events → LacksSets journal d

@@ -15,7 +15,7 @@ ghost use Rattle.hg_root.specs.Finding.{AreWhole, HasNoNewest, IsNewestOf, IsOnl
 ghost use Rattle.hg_root.specs.Pairs.{IsWorking, failures, first_of, second_of};
 ghost use Rattle.hg_checkpoint.specs.Restoring.{file_in};
 ghost use Rattle.hg_store.specs.Images.{EachReadsOrFailed, FailuresBecome, FilesWereRead, KeepContent, KeepsFiles, KeepsSlots, LeavesOld, ReadsSlots, Recovers, RootCallsAtMost, read_of};
-ghost use Rattle.hg_store.specs.Recovering.{CantCatchUp, CantFill, CantRoot, CantTakeSlot, CatchesUp, CountsCatching, CountsFailures, CountsInFile, CountsRecovery, CountsRooting, FillsSets, HasCheckpointOf, HasFewSets, HasItsTable, HasLimits, HasNoCheckpointOf, HasNoContent, HasNoneIn, HasSize, IfDamaged, IfFullSets, IfFullSlots, IsAtRest, IsNewestRoot, IsOfRecovery, IsOfRoots, IsOnlyRoot, IsReady, IsRecovered, IsRootedAt, IsTooFew, LacksRoom, LacksSlots, MayCatchUp, NamesPages, OnDamaged, PairStands, ReadsSameOrFault, Settled, StandIfSettled, StartsAt, Stay, first_after, journal_after, made_of, roots_of, second_after, slots_of, table_at, words_after};
+ghost use Rattle.hg_store.specs.Recovering.{CantCatchUp, CantFill, CantRoot, CantTakeSlot, CatchesUp, CountsCatching, CountsFailures, CountsInFile, CountsRecovery, CountsRooting, FillsSets, HasCheckpointOf, HasFewSets, HasItsTable, HasLimits, HasNoCheckpointOf, HasNoContent, HasNoneIn, HasSize, IfDamaged, IfFullSets, IsAtRest, IsNewestRoot, IsOfRecovery, IsOfRoots, IsOnlyRoot, IsReady, IsRecovered, IsRootedAt, IsTooFew, LacksRoom, LacksSlotsIfFull, MayCatchUp, NamesPages, OnDamaged, PairStands, ReadsSameOrFault, Settled, StandIfSettled, StartsAt, Stay, first_after, journal_after, made_of, roots_of, second_after, slots_of, table_at, words_after};
 ghost use Rattle.hg_store.specs.Store.{IsIdle};
 
 use crate::create::{empty_detector, made, pending_room};
@@ -286,7 +286,7 @@ fn recovered<D: Disk>(
     ensures idle { IfOk result IsIdle }
     ensures damaged { IsTrue D.is_honest → IfDamaged result (HasNoContent (read_of ⟦<D as Disk>⟧ devices)) }
     ensures full { IsTrue D.is_honest → IfFullSets result (HasFewSets caps.sets (read_of ⟦<D as Disk>⟧ devices)) }
-    ensures full_slots { IsTrue D.is_honest → IfFullSlots result (LacksSlots ⟦<D as Disk>⟧ caps.slots devices (made_of result)) }
+    ensures full_slots { IsTrue D.is_honest → LacksSlotsIfFull ⟦<D as Disk>⟧ caps.slots devices result }
     ensures refusal { IfErr result (λ e. IsOfRecovery e.0) }
     ensures device { CountsRecovery ⟦<D as Disk>⟧ devices result }
     ensures files { FilesWereRead ⟦<D as Disk>⟧ devices (made_of result) }
@@ -326,13 +326,13 @@ impl<D: Disk> Store<D> {
     /// the events of the journal behind it. If no root is open, it follows all events from the empty trace on.
     ///
     /// A refusal hands the devices back. `Damaged`: their bytes have no content. `FullSets`: the sets of the root, with
-    /// those of the events, are more than `caps.sets`. `FullSlots`: the root names a slot at `caps.slots` or above, or each
-    /// slot below it has a page, since the events changed so many. `DeviceFault`: one device call failed. Or `OutOfMemory`.
-    /// A crash inside it leaves an image with the content of one that the devices had before.
+    /// those of the events, are more than `caps.sets`. `FullSlots`: the root names a slot at `caps.slots` or above, or
+    /// each slot below it has a page, since the events changed so many. `DeviceFault`: one device call failed. Or
+    /// `OutOfMemory`. A crash inside it leaves an image with the content of one that the devices had before.
     ///
-    /// The journal and both roots are synced and read, and nothing else: their bytes stay, and so do those of each slot that
-    /// the newest root names. Only where the sync of a device fails it is open which of its images a read gives. A root is
-    /// called four times at most.
+    /// The journal and both roots are synced and read, and nothing else: their bytes stay, and so do those of each slot
+    /// that the newest root names. Only where the sync of a device fails it is open which of its images a read gives. A
+    /// root is called four times at most.
     ///
     /// `frames` is the greatest number of pages in memory, 4 to 4,096.
     pub fn recover(
@@ -350,7 +350,7 @@ impl<D: Disk> Store<D> {
         ensures idle { IfOk result IsIdle }
         ensures damaged { IsTrue D.is_honest → IfDamaged result (HasNoContent (read_of ⟦<D as Disk>⟧ devices)) }
         ensures full { IsTrue D.is_honest → IfFullSets result (HasFewSets caps.sets (read_of ⟦<D as Disk>⟧ devices)) }
-        ensures full_slots { IsTrue D.is_honest → IfFullSlots result (LacksSlots ⟦<D as Disk>⟧ caps.slots devices (made_of result)) }
+        ensures full_slots { IsTrue D.is_honest → LacksSlotsIfFull ⟦<D as Disk>⟧ caps.slots devices result }
         ensures refusal { IfErr result (λ e. IsOfRecovery e.0) }
         ensures device { CountsRecovery ⟦<D as Disk>⟧ devices result }
         ensures calls { RootCallsAtMost ⟦<D as Disk>⟧ 4 devices (made_of result) }

@@ -12,7 +12,7 @@ ghost use Rattle.hg_pool.specs.Kept.{Went};
 ghost use Rattle.hg_pool.specs.Maps as pools;
 ghost use Rattle.hg_pool.specs.Maps.{live};
 ghost use Rattle.hg_pool.specs.OfWords.{MayBring};
-ghost use Rattle.hg_store.specs.Recovering.{Accepts, AsksIfFaithful, CountsFailures, CountsReplay, CountsWords, FillsSets, Follows, FollowsIfFaithful, HasFewer, HasPassed, IfAt, IfAtFirst, IfOpens, IsDamagedFrom, IsDamagedIfReady, IsFullFrom, IsFullIfFaithful, IsOfRecovery, LacksSets, LeadsNowhereIfLawful, LeadsTo, OnDamaged, OnFullSets, OnFullSlots, StaysFaithful, WorksOrFault};
+ghost use Rattle.hg_store.specs.Recovering.{Accepts, AsksIfFaithful, CantLeadOn, CountsFailures, CountsReplay, CountsWords, FillsSets, Follows, FollowsIfFaithful, HasFewer, HasPassed, IfAt, IfAtFirst, IfOpens, IsDamagedFrom, IsDamagedIfReady, IsFullFrom, IsFullIfFaithful, IsOfRecovery, LacksSets, LeadsTo, OnDamaged, OnFullSets, OnFullSlots, StaysFaithful, WorksOrFault};
 ghost use Rattle.hg_store.specs.Images.{LeavesOld};
 
 use hg_detect::detector::Detector;
@@ -119,7 +119,7 @@ pub(crate) fn replay<D: Disk>(
     requires unbroken { pools.is_broken detector.old.words ≡ false }
     ensures replayed { IfOpens journal.old detector.old (OnOk result (LeadsTo journal.new detector.old detector.new)) }
     ensures sets { IfOpens journal.old detector.old (OnOk result (FillsSets journal.old detector.old detector.new)) }
-    ensures damaged { IfOpens journal.old detector.old (OnDamaged result (LeadsNowhereIfLawful journal.old detector.old)) }
+    ensures damaged { IfOpens journal.old detector.old (OnDamaged result (CantLeadOn journal.old detector.old)) }
     ensures full { IfOpens journal.old detector.old (OnFullSets result (LacksSets journal.old detector.old)) }
     ensures slots { OnFullSlots result (IsFull detector.new.words) }
     ensures unbroken { WorksOrFault result detector.new.words }
