@@ -24,14 +24,13 @@ use Rattle.hg_contents.specs.Images.{HasContent, Image, LeadFrom}
 use Rattle.hg_contents.specs.Stores.{IsLeft}
 use Rattle.hg_store.specs.declared.devices.Devices.{Devices}
 use Rattle.hg_store.specs.Images.{EachImage, EachReadsOrFailed, FilesReadSame, FilesWereRead, HasContentOf, HasContentOfOne, IsOnlyRead, KeepsCheckpoint, KeepsFiles, KeepsSlot, KeepsSlots, ReadsSlots, Recovers, RootCallsAtMost, read_of, states_of}
-use Rattle.hg_store.specs.Recovering.{CountedBy, IsRooted, ReadsSameOrFault, Settled, Stay, made_of}
+use Rattle.hg_store.specs.Recovering.{CountedBy, HasRootThat, IsRooted, LacksSlots, NamesAbove, ReadsSameOrFault, Settled, Stay, made_of}
 use Rattle.hg_store.specs.Shown.{ShownStore}
 use Rattle.hg_store.proofs.Rooting.{settled_leaves}
 
 -- other calls failed before
 pub counted_so : (r : Refusal) (old new a b more : ℕ) → CountedBy r old new → a ≡ old + more → b ≡ new + more → CountedBy r a b
-counted_so r old new a b more (inl is) one two = inl (omega (arith, is, one, two))
-counted_so r old new a b more (inr is) one two = inr (is.0, omega (arith, is.1, one, two))
+counted_so r old new a b more is one two = omega (arith, is, one, two)
 
 one_image : (s : DiskState) (image : List ℕ) → s ≡ settled s.contents → IsImage s image → image ≡ s.contents
 one_image s image is left =
@@ -249,6 +248,12 @@ module _ {D : Type 0} (g : disk.Ghosts D) where
   pub same_or_fault : (old : Devices D) (result : Result (ShownStore D) (Refusal × Devices D)) → FilesReadSame g old (made_of result) → ReadsSameOrFault g old result
   same_or_fault old (Ok s) is = is
   same_or_fault old (Err e) is = λ _. is
+
+  -- the roots' bytes of a refusal for want of slots are those from before the syncs
+  pub lacks_before : (cap : ℕ) (old mid new : Devices D) → Settled g old mid → LacksSlots g cap mid new → LacksSlots g cap old new
+  lacks_before cap old mid new at (inl above) =
+      inl (subst (λ (x : Image). HasRootThat (NamesAbove cap) x.root0 x.root1) (reads_same g old mid at) above)
+  lacks_before cap old mid new at (inr full) = inr full
 
   pub few_calls : (a b : D) → CallsAtMost g 1 a b → CallsAtMost g 4 a b
   few_calls a b one = omega (arith, one)

@@ -15,7 +15,7 @@ ghost use Rattle.hg_root.specs.Finding.{AreWhole, HasNoNewest, IsNewestOf, IsOnl
 ghost use Rattle.hg_root.specs.Pairs.{IsWorking, failures, first_of, second_of};
 ghost use Rattle.hg_checkpoint.specs.Restoring.{file_in};
 ghost use Rattle.hg_store.specs.Images.{EachReadsOrFailed, FailuresBecome, FilesWereRead, KeepContent, KeepsFiles, KeepsSlots, LeavesOld, ReadsSlots, Recovers, RootCallsAtMost, read_of};
-ghost use Rattle.hg_store.specs.Recovering.{CantCatchUp, CantFill, CantRoot, CatchesUp, CountsCatching, CountsFailures, CountsInFile, CountsRecovery, CountsRooting, FillsSets, HasCheckpointOf, HasFewSets, HasItsTable, HasLimits, HasNoCheckpointOf, HasNoContent, HasNoneIn, HasSize, IfDamaged, IfFullSets, IsNewestRoot, IsOfRecovery, IsOfRoots, IsOnlyRoot, IsReady, IsRecovered, IsRootedAt, IsTooFew, LacksRoom, MayCatchUp, NamesPages, OnDamaged, PairStands, ReadsSameOrFault, Settled, StandIfSettled, StartsAt, Stay, first_after, journal_after, made_of, roots_of, second_after, slots_of, table_at, words_after};
+ghost use Rattle.hg_store.specs.Recovering.{CantCatchUp, CantFill, CantRoot, CantTakeSlot, CatchesUp, CountsCatching, CountsFailures, CountsInFile, CountsRecovery, CountsRooting, FillsSets, HasCheckpointOf, HasFewSets, HasItsTable, HasLimits, HasNoCheckpointOf, HasNoContent, HasNoneIn, HasSize, IfDamaged, IfFullSets, IfFullSlots, IsAtRest, IsNewestRoot, IsOfRecovery, IsOfRoots, IsOnlyRoot, IsReady, IsRecovered, IsRootedAt, IsTooFew, LacksRoom, LacksSlots, MayCatchUp, NamesPages, OnDamaged, PairStands, ReadsSameOrFault, Settled, StandIfSettled, StartsAt, Stay, first_after, journal_after, made_of, roots_of, second_after, slots_of, table_at, words_after};
 ghost use Rattle.hg_store.specs.Store.{IsIdle};
 
 use crate::create::{empty_detector, made, pending_room};
@@ -142,6 +142,7 @@ fn detector_of<D: Disk>(
     ensures ready { IsTrue D.is_honest → IfOk result (IsReady ⟦<D as Disk>⟧) }
     ensures names { NamesPages (root_in found) result }
     ensures size { IfOk result (HasSize frames caps) }
+    ensures rests { IfOk result (λ d. IsAtRest d.words) }
     ensures state { D.state (files.disk_of (file_in result)) ≡ D.state (files.disk_of file) }
     ensures any_moment { LeavesOld ⟦<D as Disk>⟧ (files.disk_of file) (files.disk_of (file_in result)) }
     ensures unbroken { files.is_broken (file_in result) ≡ false }
@@ -171,6 +172,8 @@ fn caught_up<D: Disk>(
     requires none { pending.items ≡ [] }
     requires room { MOST_PENDING ≤ vec_capacity pending }
     requires works { journals.is_broken journal ≡ false }
+    requires unbroken { pools.is_broken detector.words ≡ false }
+    requires rests { IsAtRest detector.words }
     requires roots_work { IsWorking roots }
     requires lawful { AtPresent MayBring detector }
     requires started { IsTrue D.is_honest → MayCatchUp journal detector roots number }
@@ -179,6 +182,7 @@ fn caught_up<D: Disk>(
     ensures idle { IfOk result IsIdle }
     ensures sets { IsTrue D.is_honest → IfOk result (λ store. FillsSets journal detector store.detector) }
     ensures full { IsTrue D.is_honest → CantFill journal detector result }
+    ensures full_slots { IsTrue D.is_honest → CantTakeSlot detector result }
     ensures refusal { IfErr result (λ e. IsOfRecovery e.0) }
     ensures device { CountsCatching journal detector result }
     ensures state { D.state (journal_after result) ≡ D.state (journals.disk_of journal) }
@@ -193,9 +197,6 @@ fn caught_up<D: Disk>(
     match replay(&mut journal, &mut detector) {
         Ok(()) => {}
         Err(refusal) => return Err((refusal, journal, detector, roots)),
-    }
-    if detector.words().is_broken() {
-        return Err((Refusal::DeviceFault, journal, detector, roots));
     }
     let checkpointer = Checkpointer::new(alloc, roots, number);
     Ok(made(journal, detector, checkpointer, pending))
@@ -217,6 +218,8 @@ fn rooted<D: Disk>(
     ensures rooted { IsTrue D.is_honest → IsRootedAt ⟦<D as Disk>⟧ caps.sets roots slots result }
     ensures lawful { IfOk result (λ r. AtPresent MayBring r.0) }
     ensures size { IfOk result (λ r. HasSize frames caps r.0) }
+    ensures rests { IfOk result (λ r. IsAtRest r.0.words) }
+    ensures unbroken { IfOk result (λ r. pools.is_broken r.0.words ≡ false) }
     ensures damaged { IsTrue D.is_honest → CantRoot ⟦<D as Disk>⟧ roots slots result }
     ensures full { IsTrue D.is_honest → IfErr result (λ e. LacksRoom ⟦<D as Disk>⟧ caps.sets caps.slots roots e.0) }
     ensures roots_work { IfOk result (λ r. IsWorking r.1) }
@@ -283,6 +286,7 @@ fn recovered<D: Disk>(
     ensures idle { IfOk result IsIdle }
     ensures damaged { IsTrue D.is_honest → IfDamaged result (HasNoContent (read_of ⟦<D as Disk>⟧ devices)) }
     ensures full { IsTrue D.is_honest → IfFullSets result (HasFewSets caps.sets (read_of ⟦<D as Disk>⟧ devices)) }
+    ensures full_slots { IsTrue D.is_honest → IfFullSlots result (LacksSlots ⟦<D as Disk>⟧ caps.slots devices (made_of result)) }
     ensures refusal { IfErr result (λ e. IsOfRecovery e.0) }
     ensures device { CountsRecovery ⟦<D as Disk>⟧ devices result }
     ensures files { FilesWereRead ⟦<D as Disk>⟧ devices (made_of result) }
@@ -322,9 +326,9 @@ impl<D: Disk> Store<D> {
     /// the events of the journal behind it. If no root is open, it follows all events from the empty trace on.
     ///
     /// A refusal hands the devices back. `Damaged`: their bytes have no content. `FullSets`: the sets of the root, with
-    /// those of the events, are more than `caps.sets`. `FullSlots`: the root names a slot at `caps.slots` or above, or more
-    /// pages were changed than there is room for. `DeviceFault`: a device failed. Or `OutOfMemory`. A crash inside it
-    /// leaves an image with the content of one that the devices had before.
+    /// those of the events, are more than `caps.sets`. `FullSlots`: the root names a slot at `caps.slots` or above, or each
+    /// slot below it has a page, since the events changed so many. `DeviceFault`: one device call failed. Or `OutOfMemory`.
+    /// A crash inside it leaves an image with the content of one that the devices had before.
     ///
     /// The journal and both roots are synced and read, and nothing else: their bytes stay, and so do those of each slot that
     /// the newest root names. Only where the sync of a device fails it is open which of its images a read gives. A root is
@@ -346,6 +350,7 @@ impl<D: Disk> Store<D> {
         ensures idle { IfOk result IsIdle }
         ensures damaged { IsTrue D.is_honest → IfDamaged result (HasNoContent (read_of ⟦<D as Disk>⟧ devices)) }
         ensures full { IsTrue D.is_honest → IfFullSets result (HasFewSets caps.sets (read_of ⟦<D as Disk>⟧ devices)) }
+        ensures full_slots { IsTrue D.is_honest → IfFullSlots result (LacksSlots ⟦<D as Disk>⟧ caps.slots devices (made_of result)) }
         ensures refusal { IfErr result (λ e. IsOfRecovery e.0) }
         ensures device { CountsRecovery ⟦<D as Disk>⟧ devices result }
         ensures calls { RootCallsAtMost ⟦<D as Disk>⟧ 4 devices (made_of result) }

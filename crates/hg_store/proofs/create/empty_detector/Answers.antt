@@ -1,7 +1,8 @@
-use Rattle.std.proofs.Common.{◌≡◌, ◌∙◌, length, sym, ap, subst, rules}
+use Rattle.std.proofs.Common.{◌≡◌, ◌∙◌, length, refl, sym, ap, subst, rules}
 use Rattle.hg_pool.specs.Kept.{IsFaithful}
 use Rattle.hg_sets.specs.Interning.{Table}
 use Rattle.hg_pool.specs.Shown as pool
+use Rattle.hg_store.specs.Recovering.{IsAtRest}
 use Rattle.hg_store.proofs.Making.{empty_faithful}
 use Rattle.hg_store.proofs.create.empty_detector.Goals as goal
 
@@ -25,3 +26,7 @@ returns-in-Ok-clause-size g c =
       slots = ap (λ (p : pool.ShownPool g.row.D.Denot). p.slots) words;
       sets = ap (λ (t : Table). t.limit) c.in-Ok.ensures.sets;
     }
+
+pub returns-in-Ok-clause-rests : goal.returns-in-Ok-clause-rests
+returns-in-Ok-clause-rests g c =
+    subst (λ (p : pool.ShownPool g.row.D.Denot). IsAtRest p) (sym (c.in-Ok.ensures.words ∙ c.in_ok-pool.ensures.pool)) (record { none_waits = refl; frozen = λ page slot names. names })

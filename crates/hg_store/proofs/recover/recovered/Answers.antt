@@ -1,4 +1,4 @@
-use Rattle.std.proofs.Common.{◌∙◌, inl, inr, ◌+◌, refl, sym, ap, subst, arith}
+use Rattle.std.proofs.Common.{◌∙◌, inl, inr, ℕ, ◌+◌, refl, sym, ap, subst, arith}
 use Rattle.hg_model.specs.Contents.{Content}
 use Rattle.hg_sets.specs.Interning.{Table}
 use Rattle.hg_detect.specs.Shown as detect
@@ -18,10 +18,11 @@ use Rattle.hg_contents.specs.Images.{LeadFrom}
 use Rattle.hg_checkpoint.proofs.Staying.{slots_stay}
 use Rattle.hg_store.specs.declared.devices.Devices.{Devices}
 use Rattle.hg_store.specs.Images.{EachImage, FilesWereRead, HasContentOf, failures_of, read_of}
-use Rattle.hg_store.specs.Recovering.{HasSets, IsTooSmall, table_at}
+use Rattle.hg_store.specs.Recovering.{HasFullSlots, HasRootThat, HasSets, IsTooSmall, NamesAbove, table_at}
 use Rattle.hg_store.proofs.Recovering.{checkpoint_kept, counted_so, moved, read_alone, read_on, read_to, root_read, uncalled, uncalled_root, with_pages}
 use Rattle.hg_store.proofs.Replaying.{fills_limit}
 use Rattle.hg_store.proofs.Rooting.{settled_leaves}
+use Rattle.hg_store.proofs.Telling.{reading_takes_none}
 use Rattle.hg_store.proofs.recover.recovered.Goals as goal
 
 pub returns-in-Err-clause-damaged : goal.returns-in-Err-clause-damaged
@@ -272,3 +273,19 @@ pub returns-in-Err-rooted-clause-slots : goal.returns-in-Err-rooted-clause-slots
 returns-in-Err-rooted-clause-slots g c honest =
     let old = c.args.devices in
     inl (read_to g.D.Disk old.slots c.in-Err-rooted.slots _ (ap (λ (n : Devices g.row.D.Denot). n.slots) c.handed_back-in-Err-rooted.ensures) (record { state = c.in-Err-rooted.ensures.state; images = c.in-Err-rooted.ensures.any_moment }))
+
+pub returns-in-Err-clause-full_slots : goal.returns-in-Err-clause-full_slots
+returns-in-Err-clause-full_slots g c honest told = reading_takes_none c.in-Err.refusal c.in-Err.ensures.fault told
+
+pub returns-in-Err-rooted-clause-full_slots : goal.returns-in-Err-rooted-clause-full_slots
+returns-in-Err-rooted-clause-full_slots g c honest told =
+    let above = (c.in-Err-rooted.ensures.full honest).slots told in
+    let P = NamesAbove c.args.caps.slots in
+    inl (subst (λ x. HasRootThat P (g.D.Disk.state x).contents (g.D.Disk.state c.args.devices.root1).contents) c.attach-roots.ensures.first
+    (subst (λ x. HasRootThat P (g.D.Disk.state (first_of c.attach-roots.result)).contents (g.D.Disk.state x).contents) c.attach-roots.ensures.second above))
+
+pub returns-in-Err-caught_up-clause-full_slots : goal.returns-in-Err-caught_up-clause-full_slots
+returns-in-Err-caught_up-clause-full_slots g c honest told =
+    let slots = c.into_disks-slots.ensures ∙ ap (λ (f : SlotFile g.row.D.Denot). files.disk_of f) (c.into_disks.ensures ∙ ap (λ (w : pool.ShownPool g.row.D.Denot). w.file) c.into_words.ensures) in
+    inr (subst (λ x. HasFullSlots g.D.Disk c.args.caps.slots x) (sym (ap (λ (n : Devices g.row.D.Denot). n.slots) c.handed_back-in-Err-caught_up.ensures ∙ slots))
+    (subst (λ (n : ℕ). HasFullSlots g.D.Disk n (pools.disk_of c.in-Err-caught_up.detector.words)) c.in-Ok-rooted.ensures.size.slots (c.in-Err-caught_up.ensures.full_slots honest told)))

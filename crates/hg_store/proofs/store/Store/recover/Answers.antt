@@ -1,13 +1,14 @@
 use Rattle.std.proofs.Common.{◌≡◌, refl, subst}
 use Rattle.std.specs.Prelude.{IfErr, IfOk}
 use Rattle.hg_model.specs.Contents.{Content}
-use Rattle.hg_model.specs.declared.verdict.Refusal.TheVariants.{Damaged, FullSets}
+use Rattle.hg_model.specs.declared.verdict.Refusal.TheVariants.{Damaged, FullSets, FullSlots}
 use Rattle.hg_detect.specs.Shown.{content}
 use Rattle.hg_pool.specs.Maps.{live}
 use Rattle.hg_contents.specs.Images.{HasContent, Image}
-use Rattle.hg_store.specs.Recovering.{HasFewSets, HasTable}
+use Rattle.hg_store.specs.Recovering.{HasFewSets, HasTable, LacksSlots, made_of}
 use Rattle.hg_store.specs.Store.{IsFresh}
-use Rattle.hg_store.proofs.Recovering.{few_calls, files_read, files_synced, only_synced, read_once, reads_same, same_or_fault, same_read, same_settled, slots_read, slots_synced, synced_first}
+use Rattle.hg_store.proofs.Recovering.{few_calls, files_read, files_synced, lacks_before, only_synced, read_once, reads_same, same_or_fault, same_read, same_settled, slots_read, slots_synced, synced_first}
+use Rattle.hg_store.proofs.Making.{if_err}
 use Rattle.hg_store.proofs.store.Store.recover.Goals as goal
 
 pub returns-in-Err-clause-images : goal.returns-in-Err-clause-images
@@ -79,3 +80,9 @@ pub returns-in-Ok-pending_room-clause-calls : goal.returns-in-Ok-pending_room-cl
 returns-in-Ok-pending_room-clause-calls g c =
     let read = c.recovered.ensures.files in
     (read_once g.D.Disk _ _ _ c.sync_all.ensures.first_calls read.root0, read_once g.D.Disk _ _ _ c.sync_all.ensures.second_calls read.root1)
+
+pub returns-in-Ok-pending_room-clause-full_slots : goal.returns-in-Ok-pending_room-clause-full_slots
+returns-in-Ok-pending_room-clause-full_slots g c honest =
+    let mid = c.sync_all.new.devices in
+    if_err (λ e. e.0 ≡ FullSlots → LacksSlots g.D.Disk c.args.caps.slots mid (made_of c.recovered.result)) (λ e. e.0 ≡ FullSlots → LacksSlots g.D.Disk c.args.caps.slots c.args.devices (made_of c.recovered.result)) c.recovered.result
+    (λ e lacks told. lacks_before g.D.Disk c.args.caps.slots c.args.devices mid _ c.in-Ok.ensures.settled (lacks told)) (c.recovered.ensures.full_slots honest)
