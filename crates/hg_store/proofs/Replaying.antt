@@ -279,7 +279,7 @@ words_counted (Err r) old new count = count ∙ words_failed r old
 
 none_more : (result : Result (Unit {0}) Refusal) (n : ℕ) → (result ≡ Err refusal.DeviceFault → ⊥) → words.failed_after result n ≡ n
 none_more (Ok value) n other = refl
-none_more (Err r) n other = let none = none_failed r (λ is. other (ap (λ (x : Refusal). Err x) is)) in words_failed r n ∙ ap (λ (m : ℕ). m + n) none
+none_more (Err r) n other = let none = none_failed r (λ is. other (ap (λ (x : Refusal). Err x) is)) in let told = words_failed r n in let same : words.after_refusal r n ≡ n = omega (arith, told, none) in same
 
 -- the table of sets behind an event that was accepted, and behind one that it had no room for
 pub asked_on_ok : (result : Result (Unit {0}) Refusal) (t u : Table) (sets : List (List ℕ)) → AsksBy t sets result u → OnOk result (Asks t sets None u)
@@ -319,7 +319,7 @@ module _ {D : Type 0} (g : disk.Ghosts D) where
       of_pool p r (λ broken. is_not_broken (works (λ told. absurd (cc (sym told ∙ ap (λ (x : Refusal). Err x) broken)))) (subst (λ (x : Refusal). IsTrueCause p x) broken cause)) cause
     where
       is_not_broken : is_broken p ≡ false → IsTrue (is_broken p) → ⊥
-      is_not_broken no yes = false≢true (sym no ∙ yes)
+      is_not_broken works_now breaks_now = false≢true (sym works_now ∙ breaks_now)
 
   pub full_of : (p : pool.ShownPool D) → LacksRoom (IsTrueCause p) refusal.FullSlots → IsFull p
   full_of p (inl sets) = absurd (cc sets)

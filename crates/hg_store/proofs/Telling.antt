@@ -1,7 +1,7 @@
 -- What a refusal tells of the calls behind it.
-use Rattle.std.proofs.Common.{◌≡◌, ◌∙◌, ℕ, ◌+◌, inl, inr, sym, arith}
+use Rattle.std.proofs.Common.{◌≡◌, ◌⊎◌, ◌∙◌, ℕ, ◌+◌, inl, inr, sym, arith}
 use Rattle.hg_model.specs.declared.verdict.Refusal.{Refusal}
-use Rattle.hg_model.specs.declared.verdict.Refusal.TheVariants.{FullSlots}
+use Rattle.hg_model.specs.declared.verdict.Refusal.TheVariants.{Broken, FullSlots}
 use Rattle.hg_journal.specs.Journal.{IsOfReading}
 use Rattle.hg_store.specs.Recovering.{CountedBy, IsOfRecovery}
 
@@ -19,3 +19,7 @@ pub reading_takes_none : {A : Type 0} (r : Refusal) → IsOfReading r → r ≡ 
 reading_takes_none r (inl damaged) told = absurd (cc (sym damaged ∙ told))
 reading_takes_none r (inr (inl fault)) told = absurd (cc (sym fault ∙ told))
 reading_takes_none r (inr (inr memory)) told = absurd (cc (sym memory ∙ told))
+
+pub next_takes_none : {A : Type 0} (r : Refusal) → IsOfReading r ⊎ (r ≡ Broken) → r ≡ FullSlots → A
+next_takes_none r (inl reading) told = reading_takes_none r reading told
+next_takes_none r (inr broken) told = absurd (cc (sym broken ∙ told))

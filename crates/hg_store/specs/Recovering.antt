@@ -1,5 +1,5 @@
 -- The answers when a store is made or recovered.
-use Rattle.std.specs.Prelude.{◌≡◌, ◌≢◌, ◌⊎◌, ◌++◌, ◌+◌, ◌<◌, ℕ, ◌≤◌, List, [], ◌∷◌, All, length, drop, Option, Some, None, IsTrue, Result, Ok, Err, IfOk, IfErr, IfSome, OnOk}
+use Rattle.std.specs.Prelude.{◌≡◌, ◌≢◌, ◌⊎◌, ◌++◌, ◌+◌, ◌<◌, ℕ, ◌≤◌, List, [], ◌∷◌, All, length, drop, Option, Some, None, false, IsTrue, Result, Ok, Err, IfOk, IfErr, IfSome, OnOk}
 use Rattle.hg_model.specs.declared.event.Named.{Named}
 use Rattle.hg_model.specs.declared.verdict.Refusal.{Refusal}
 use Rattle.hg_model.specs.declared.verdict.Refusal.TheVariants.{Damaged, FullSets, FullSlots, DeviceFault, OutOfMemory}

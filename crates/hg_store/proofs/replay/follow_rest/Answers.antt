@@ -6,7 +6,7 @@ use Rattle.hg_journal.specs.Reading.{disk_of}
 use Rattle.hg_pool.specs.OfWords.{went_nowhere, went_on}
 use Rattle.hg_store.specs.Recovering.{IsTooSmall}
 use Rattle.hg_store.proofs.Replaying.{content_in, counted, no_content, read_more, read_none, too_small}
-use Rattle.hg_store.proofs.Telling.{reading_takes_none}
+use Rattle.hg_store.proofs.Telling.{next_takes_none}
 use Rattle.hg_store.proofs.replay.follow_rest.Goals as goal
 
 pub loop-number-init : goal.loop-number-init
@@ -86,7 +86,7 @@ loop-number-preserved g c = record {
 }
 
 pub returns-in_err-named-clause-slots : goal.returns-in_err-named-clause-slots
-returns-in_err-named-clause-slots g c told = reading_takes_none c.in_err-named.field-0.0 c.in_err-named.ensures.refusal (search rules)
+returns-in_err-named-clause-slots g c told = next_takes_none c.in_err-named.field-0.0 c.in_err-named.ensures.fault (search rules)
 
 pub returns-in_err-follow-in-Some-clause-slots : goal.returns-in_err-follow-in-Some-clause-slots
 returns-in_err-follow-in-Some-clause-slots g c told = c.follow.ensures.slots (search rules)

@@ -85,4 +85,4 @@ pub returns-in-Ok-pending_room-clause-full_slots : goal.returns-in-Ok-pending_ro
 returns-in-Ok-pending_room-clause-full_slots g c honest =
     let mid = c.sync_all.new.devices in
     if_err (λ e. e.0 ≡ FullSlots → LacksSlots g.D.Disk c.args.caps.slots mid (made_of c.recovered.result)) (λ e. e.0 ≡ FullSlots → LacksSlots g.D.Disk c.args.caps.slots c.args.devices (made_of c.recovered.result)) c.recovered.result
-    (λ e lacks told. lacks_before g.D.Disk c.args.caps.slots c.args.devices mid _ c.in-Ok.ensures.settled (lacks told)) (c.recovered.ensures.full_slots honest)
+    (λ e lacks told. lacks_before g.D.Disk c.args.caps.slots c.args.devices mid (made_of c.recovered.result) c.in-Ok.ensures.settled (lacks told)) (c.recovered.ensures.full_slots honest)
