@@ -1,8 +1,9 @@
 -- Faults that are passed on, and the failed calls that they tell.
-use Rattle.std.proofs.Common.{◌≡◌, ◌∙◌, ◌+◌, ℕ, Bool, true, false, if◌then◌else◌, Err, sym, ap, arith}
+use Rattle.std.proofs.Common.{◌≡◌, ◌∙◌, ◌+◌, length, ℕ, Bool, true, false, if◌then◌else◌, Err, sym, ap, arith}
+use Rattle.hg_disk.specs.Calls.{CallsAtMost}
 use Rattle.hg_disk.specs.declared.disk.Disk as disk
 use Rattle.hg_root.specs.Fault.{after_fault}
-use Rattle.hg_root.specs.Pairs.{failures, newer, older}
+use Rattle.hg_root.specs.Pairs.{failures, first_of, newer, older, second_of}
 use Rattle.hg_root.specs.declared.fault.RootFault.{RootFault}
 use Rattle.hg_root.specs.declared.fault.RootFault.TheVariants as fault
 use Rattle.hg_root.specs.declared.pair.RootPair.{RootPair}
@@ -41,3 +42,15 @@ module _ {D : Type 0} (g : disk.Ghosts D) where
       → failures g new ≡ failed_in r + failures g old
   counted_fault old new f r told turn same count =
       counted old new (failed_in r) turn same (count ∙ told_after f (g.failures (older old)) ∙ ap (λ (s : Cause). failed_in s + g.failures (older old)) (sym told))
+
+  called_in : (t u : Bool) → u ≡ t → (o o_new n n_new : D) (most : ℕ) → n_new ≡ n → CallsAtMost g most o o_new
+      → CallsAtMost g most (if t then n else o) (if u then n_new else o_new) × CallsAtMost g most (if t then o else n) (if u then o_new else n_new)
+  called_in true true same o p n m most quiet calls = (omega (arith, ap (λ d. length (g.past d)) quiet), calls)
+  called_in false false same o p n m most quiet calls = (calls, omega (arith, ap (λ d. length (g.past d)) quiet))
+  called_in true false same o p n m most quiet calls = absurd (cc same)
+  called_in false true same o p n m most quiet calls = absurd (cc same)
+
+  -- the calls of the older file are the only ones
+  pub root_calls : (old new : RootPair D) (most : ℕ) → new.is_turned ≡ old.is_turned → newer new ≡ newer old → CallsAtMost g most (older old) (older new)
+      → CallsAtMost g most (first_of old) (first_of new) × CallsAtMost g most (second_of old) (second_of new)
+  root_calls old new most turn same calls = called_in old.is_turned new.is_turned turn (older old) (older new) (newer old) (newer new) most same calls

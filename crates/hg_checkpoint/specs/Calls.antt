@@ -1,6 +1,7 @@
 -- Definitions for the contracts of a checkpoint's calls.
 use Rattle.std.specs.Prelude.{◌≡◌, ◌⊎◌, ◌++◌, ◌+◌, ℕ, List, [], false, Option, Some, Vec, IsTrue, IsOk, OnOk, IfOk, Result}
 use Rattle.hg_disk.specs.declared.disk.Disk as disk
+use Rattle.hg_disk.specs.Calls.{CallsAtMost}
 use Rattle.hg_disk.specs.Moments.{LeavesOnly}
 use Rattle.hg_cells.specs.declared.cell.Cell.{Cell}
 use Rattle.hg_pool.specs.Kept.{IsWhole}
@@ -18,20 +19,26 @@ use Rattle.hg_checkpoint.specs.Tables.{pages_of}
 use Rattle.hg_checkpoint.specs.declared.cause.Cause.{Cause}
 use Rattle.hg_checkpoint.specs.declared.cause.Cause.TheVariants.{Broken, DeviceFault, FullSlots, OutOfMemory}
 use Rattle.hg_checkpoint.specs.declared.checkpointer.Checkpointer.{Checkpointer}
+use Rattle.hg_checkpoint.specs.declared.phase.CheckpointFault.{CheckpointFault}
+use Rattle.hg_checkpoint.specs.declared.phase.Phase.{Phase}
 use Rattle.hg_checkpoint.specs.declared.phase.Phase.TheVariants.{Flushing}
+use Rattle.hg_checkpoint.specs.Phases.{IsAllowed}
 
--- A device failed, earlier or now.
+-- A device failed.
 abbrev pub IsOfDevice : Cause → Type 0
-IsOfDevice cause = (cause ≡ Broken) ⊎ (cause ≡ DeviceFault)
+IsOfDevice cause = cause ≡ DeviceFault
 
--- The causes of a refused freeze: a device failed earlier, memory was refused, or there are fewer free slots than changed
--- pages.
+-- The causes of a refused freeze: memory was refused, or there are fewer free slots than changed pages.
 abbrev pub IsOfFreezing : {D : Type 0} → ShownPool D → Cause → Type 0
-IsOfFreezing pool cause = (cause ≡ Broken) ⊎ ((cause ≡ OutOfMemory) ⊎ ((cause ≡ FullSlots) × LacksSlots pool))
+IsOfFreezing pool cause = (cause ≡ OutOfMemory) ⊎ ((cause ≡ FullSlots) × LacksSlots pool)
+
+-- The causes of a refused seal: the file of slots failed, earlier or now.
+abbrev pub IsOfSealing : {D : Type 0} → ShownPool D → Cause → Type 0
+IsOfSealing pool cause = (cause ≡ DeviceFault) ⊎ ((cause ≡ Broken) × IsTrue (is_broken pool))
 
 -- The causes of a refused writing of a root: memory was refused, or a device failed.
 abbrev pub IsOfWriting : Cause → Type 0
-IsOfWriting cause = (cause ≡ OutOfMemory) ⊎ IsOfDevice cause
+IsOfWriting cause = (cause ≡ OutOfMemory) ⊎ (cause ≡ DeviceFault)
 
 -- The file of slots, the pages in memory and the root's table stay the same.
 abbrev pub KeepsFile : {D : Type 0} → (old new : ShownPool D) → Type 0
@@ -55,17 +62,17 @@ module _ {D : Type 0} {g : disk.Ghosts D} where
   abbrev pub StandsBy : RootPair D → Checkpointer D g → Type 0
   StandsBy roots c = (root former : Option Parts) → pairs.Stands g roots root former → RootsStand g c.phase c.roots root former c.body.value.items
 
+  -- The call is allowed in this phase alone, and is then refused for these causes alone.
+  abbrev pub IsAllowedIn : {T : Type 0} → Phase → (Cause → Type 0) → Checkpointer D g → Result T CheckpointFault → Type 0
+  IsAllowedIn phase Causes c result = IsAllowed c.is_broken c.phase (c.phase ≡ phase) Causes result
+
   -- The pages are written, and none waits.
   abbrev pub IsFlushed : Checkpointer D g → ShownPool D → Type 0
   IsFlushed c pool = (c.phase ≡ Flushing) × (pool.waiting ≡ [])
 
-  -- A call of the checkpointer or of the pool failed before.
-  abbrev pub IsOneBroken : Checkpointer D g → ShownPool D → Type 0
-  IsOneBroken c pool = IsTrue c.is_broken ⊎ IsTrue (is_broken pool)
-
-  -- A call of the checkpointer or of its roots failed before.
-  abbrev pub AreRootsBroken : Checkpointer D g → Type 0
-  AreRootsBroken c = IsTrue c.is_broken ⊎ IsTrue (pairs.is_broken c.roots)
+  -- The call is allowed once all pages are written, and is then refused for these causes alone.
+  abbrev pub IsAllowedToSeal : {T : Type 0} → (Cause → Type 0) → Checkpointer D g → ShownPool D → Result T CheckpointFault → Type 0
+  IsAllowedToSeal Causes c pool result = IsAllowed c.is_broken c.phase (IsFlushed c pool) Causes result
 
   -- Nothing has changed, or both are broken.
   abbrev pub StaysOrBreaks : Checkpointer D g → ShownPool D → (new : Checkpointer D g) → (new_pool : ShownPool D) → Type 0
@@ -74,6 +81,11 @@ module _ {D : Type 0} {g : disk.Ghosts D} where
   -- n calls of the root files failed.
   abbrev pub CountsRoots : (old new : Checkpointer D g) → ℕ → Type 0
   CountsRoots old new n = pairs.failures g new.roots ≡ n + pairs.failures g old.roots
+
+  -- Each of the root files was called at most so often.
+  abbrev pub RootCallsAtMost : ℕ → (old new : Checkpointer D g) → Type 0
+  RootCallsAtMost most old new =
+      CallsAtMost g most (pairs.first_of old.roots) (pairs.first_of new.roots) × CallsAtMost g most (pairs.second_of old.roots) (pairs.second_of new.roots)
 
   -- The newest checkpoint still stands.
   abbrev pub StaysStanding : Checkpointer D g → ShownPool D → (new : Checkpointer D g) → (new_pool : ShownPool D) → Type 0

@@ -7,11 +7,15 @@ use Rattle.hg_checkpoint.specs.declared.phase.CheckpointFault.{CheckpointFault}
 use Rattle.hg_checkpoint.specs.declared.phase.CheckpointFault.TheVariants.{Refused, WrongPhase}
 
 -- The answers of a call that is allowed only if `Allowed` holds: Broken if a device call failed before it, else WrongPhase
--- with the phase exactly if it is not allowed.
-abbrev pub IsAllowed : {T : Type 0} → Bool → Phase → Type 0 → Result T CheckpointFault → Type 0
-IsAllowed broken phase Allowed (Ok value) = (broken ≡ false) × Allowed
-IsAllowed broken phase Allowed (Err (WrongPhase p)) = (broken ≡ false) × (¬ Allowed) × (p ≡ phase)
-IsAllowed broken phase Allowed (Err (Refused r)) = ((broken ≡ true) × (r ≡ cause.Broken)) ⊎ ((broken ≡ false) × Allowed)
+-- with the phase exactly if it is not allowed. An allowed one is refused for one of these causes alone.
+abbrev pub IsAllowed : {T : Type 0} → Bool → Phase → Type 0 → (Cause → Type 0) → Result T CheckpointFault → Type 0
+IsAllowed broken phase Allowed Causes (Ok value) = (broken ≡ false) × Allowed
+IsAllowed broken phase Allowed Causes (Err (WrongPhase p)) = (broken ≡ false) × (¬ Allowed) × (p ≡ phase)
+IsAllowed broken phase Allowed Causes (Err (Refused r)) = ((broken ≡ true) × (r ≡ cause.Broken)) ⊎ ((broken ≡ false) × Allowed × Causes r)
+
+-- no refusal
+abbrev pub Never : Cause → Type 0
+Never cause = ⊥
 
 -- P holds after a WrongPhase.
 abbrev pub IfWrongPhase : {T : Type 0} → Type 0 → Result T CheckpointFault → Type 0

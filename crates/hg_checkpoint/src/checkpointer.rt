@@ -6,7 +6,7 @@ ghost use Rattle.hg_pool.specs.Kept.{IsWhole, SameMap};
 ghost use Rattle.hg_pool.specs.Maps.{disk_of, frozen, is_broken, live};
 ghost use Rattle.hg_pool.specs.Tables.{IsNameable};
 ghost use Rattle.hg_root.specs.Pairs as pairs;
-ghost use Rattle.hg_checkpoint.specs.Phases.{BreaksBy, IfRefused, IfWrongPhase, IsAllowed, failed_calls};
+ghost use Rattle.hg_checkpoint.specs.Phases.{BreaksBy, IfRefused, IfWrongPhase, Never, failed_calls};
 ghost use Rattle.hg_checkpoint.specs.declared.phase.Phase.TheVariants.{Idle};
 
 use crate::cause::Cause;
@@ -32,6 +32,7 @@ pub struct Checkpointer<D: Disk> {
     /// Whether a device call of a checkpoint failed.
     is_broken: bool,
     ghost headed: { phase ≢ Idle → is_some head ≡ true },
+    ghost roots_work: { is_broken ≡ false → pairs.IsWorking roots },
 }
 
 impl<D: Disk + Drop> Drop for Checkpointer<D> {
@@ -52,15 +53,13 @@ impl<D: Disk + Drop> Drop for Checkpointer<D> {
 }
 
 impl<D: Disk> Checkpointer<D> {
-    ghost use Rattle.hg_checkpoint.specs.Calls.{AnswersNumber, AreRootsBroken, ChangesHead, CountsRoots, DraftIsNewElsewhere, DraftIsNext, IsDrafted, IsFlushed, IsOfDevice, IsOfFreezing, IsOfWriting, IsOneBroken, KeepsBodyAndHead, KeepsFile, KeepsHead, KeepsRootsAndHead, LeavesEither, LeavesRoots, LeavesSlots, OpensNext, RootsStayOnOk, SealsSurely, SpellsBody, StandsBy, StaysNext, StaysNextOver, StaysOrBreaks, StaysStanding};
+    ghost use Rattle.hg_checkpoint.specs.Calls.{AnswersNumber, ChangesHead, CountsRoots, DraftIsNewElsewhere, DraftIsNext, IsAllowedIn, IsAllowedToSeal, IsDrafted, IsOfDevice, IsOfFreezing, IsOfSealing, IsOfWriting, KeepsBodyAndHead, KeepsFile, KeepsHead, KeepsRootsAndHead, LeavesEither, LeavesRoots, LeavesSlots, OpensNext, RootCallsAtMost, RootsStayOnOk, SealsSurely, SpellsBody, StandsBy, StaysNext, StaysNextOver, StaysOrBreaks, StaysStanding};
 
     // Whether a call of this phase is allowed.
     fn ready(&self, phase: Phase) -> Result<(), CheckpointFault>
-        ensures phase { IsAllowed self.now.is_broken self.now.phase (self.now.phase ≡ phase) result }
+        ensures phase { IsAllowedIn phase Never self.now result }
         ensures device { BreaksBy self.now.is_broken result }
         ensures no_call { failed_calls result ≡ 0 }
-        ensures refusal { IfRefused (λ cause. cause ≡ Cause.Broken) result }
-        ensures broken { IfRefused (λ _. IsTrue self.now.is_broken) result }
     {
         if self.is_broken {
             return Err(CheckpointFault::Refused(Cause::Broken));
@@ -88,6 +87,7 @@ impl<D: Disk> Checkpointer<D> {
     /// A checkpointer without a checkpoint in progress. `number` is that of the newest root of the pair, or 0 if there is
     /// none.
     pub fn new(alloc: Global, roots: RootPair<D>, number: u64) -> Checkpointer<D>
+        requires works { pairs.IsWorking roots }
         ensures roots { result.roots ≡ roots }
         ensures number { result.number ≡ number }
         ensures phase { result.phase ≡ Phase.Idle }
@@ -132,9 +132,8 @@ impl<D: Disk> Checkpointer<D> {
         head: RootHead,
         number: u64,
     ) -> Result<(), CheckpointFault>
-        ensures phase { IsAllowed self.old.is_broken self.old.phase (self.old.phase ≡ Phase.Idle) result }
+        ensures phase { IsAllowedIn Phase.Idle (IsOfFreezing pool.old) self.old result }
         ensures frozen { OnOk result (self.new.phase ≡ Phase.Flushing) }
-        ensures refusal { IfRefused (IsOfFreezing pool.old) result }
         ensures refused { OnErr result ((self.new ≡ self.old) × (pool.new ≡ pool.old)) }
         ensures no_call { failed_calls result ≡ 0 }
         ensures head { OnOk result ((self.new.head ≡ Some head) × (self.new.next ≡ number)) }
@@ -174,15 +173,13 @@ impl<D: Disk> Checkpointer<D> {
 
     /// Makes the pages of the frozen map durable, once all are written. It makes one device call and takes no memory.
     pub fn seal_pages(&mut self, pool: &mut Pool<D>) -> Result<(), CheckpointFault>
-        ensures phase { IsAllowed self.old.is_broken self.old.phase (IsFlushed self.old pool.old) result }
+        ensures phase { IsAllowedToSeal (IsOfSealing pool.old) self.old pool.old result }
         ensures unchanged { IfWrongPhase ((self.new ≡ self.old) × (pool.new ≡ pool.old)) result }
         ensures sealed { OnOk result ((self.new.phase ≡ Phase.Sealed) × IsTrue pool.new.is_sealed) }
         ensures works { OnOk result (self.new.is_broken ≡ false) }
         ensures refused_phase { OnErr result (self.new.phase ≡ self.old.phase) }
         ensures succeeds { SealsSurely self.old pool.old pool.new result }
         ensures device { BreaksBy self.new.is_broken result }
-        ensures refusal { IfRefused IsOfDevice result }
-        ensures broken { IfRefused (λ cause. cause ≡ Cause.Broken → IsOneBroken self.old pool.old) result }
         ensures count { D.failures (disk_of pool.new) ≡ failed_calls result + D.failures (disk_of pool.old) }
         ensures breaks { OnErr result (StaysOrBreaks self.old pool.old self.new pool.new) }
         ensures rest { KeepsRootsAndHead self.old self.new }
@@ -210,11 +207,9 @@ impl<D: Disk> Checkpointer<D> {
 
     // Whether the pages may be sealed: all are written.
     fn ready_to_seal(&self, pool: &Pool<D>) -> Result<(), CheckpointFault>
-        ensures phase { IsAllowed self.now.is_broken self.now.phase (IsFlushed self.now pool.now) result }
+        ensures phase { IsAllowedToSeal Never self.now pool.now result }
         ensures device { BreaksBy self.now.is_broken result }
         ensures no_call { failed_calls result ≡ 0 }
-        ensures refusal { IfRefused (λ cause. cause ≡ Cause.Broken) result }
-        ensures broken { IfRefused (λ _. IsTrue self.now.is_broken) result }
         ensures nameable { IsNameable pool.now.slots pool.now.frozen }
     {
         let _table = pool.frozen_table();
@@ -233,7 +228,7 @@ impl<D: Disk> Checkpointer<D> {
     /// Closes the file that the next root goes to. It makes at most two device calls, and none if the file is closed
     /// already.
     pub fn prepare_root(&mut self) -> Result<(), CheckpointFault>
-        ensures phase { IsAllowed self.old.is_broken self.old.phase (self.old.phase ≡ Phase.Sealed) result }
+        ensures phase { IsAllowedIn Phase.Sealed IsOfDevice self.old result }
         ensures unchanged { IfWrongPhase (self.new ≡ self.old) result }
         ensures prepared { OnOk result (self.new.phase ≡ Phase.Prepared) }
         ensures works { OnOk result (self.new.is_broken ≡ false) }
@@ -242,8 +237,7 @@ impl<D: Disk> Checkpointer<D> {
         ensures any_moment { LeavesRoots self.old self.new }
         ensures device { BreaksBy self.new.is_broken result }
         ensures count { CountsRoots self.old self.new (failed_calls result) }
-        ensures refusal { IfRefused IsOfDevice result }
-        ensures broken { IfRefused (λ cause. cause ≡ Cause.Broken → AreRootsBroken self.old) result }
+        ensures calls { RootCallsAtMost 2 self.old self.new }
         ensures breaks { OnErr result ((self.new ≡ self.old) ⊎ IsTrue self.new.is_broken) }
         ensures rest { KeepsBodyAndHead self.old self.new }
         ensures next { StaysNext self.old self.new }
@@ -266,7 +260,7 @@ impl<D: Disk> Checkpointer<D> {
     /// Makes the body of the root, which names the pages of the frozen table, and writes it behind the closed gate of its
     /// file. It makes four device calls at most. If memory is refused, nothing is changed and the call can be made again.
     pub fn write_root(&mut self, alloc: Global, pool: &Pool<D>) -> Result<(), CheckpointFault>
-        ensures phase { IsAllowed self.old.is_broken self.old.phase (self.old.phase ≡ Phase.Prepared) result }
+        ensures phase { IsAllowedIn Phase.Prepared IsOfWriting self.old result }
         ensures unchanged { IfWrongPhase (self.new ≡ self.old) result }
         ensures written { OnOk result (self.new.phase ≡ Phase.Written) }
         ensures works { OnOk result (self.new.is_broken ≡ false) }
@@ -275,9 +269,8 @@ impl<D: Disk> Checkpointer<D> {
         ensures any_moment { LeavesRoots self.old self.new }
         ensures device { BreaksBy self.new.is_broken result }
         ensures count { CountsRoots self.old self.new (failed_calls result) }
-        ensures refusal { IfRefused IsOfWriting result }
+        ensures calls { RootCallsAtMost 4 self.old self.new }
         ensures refused { IfRefused (λ cause. cause ≡ Cause.OutOfMemory → self.new ≡ self.old) result }
-        ensures broken { IfRefused (λ cause. cause ≡ Cause.Broken → AreRootsBroken self.old) result }
         ensures breaks { OnErr result ((self.new ≡ self.old) ⊎ IsTrue self.new.is_broken) }
         ensures rest { KeepsHead self.old self.new }
         ensures next { StaysNextOver pool.now self.old self.new }
@@ -305,7 +298,7 @@ impl<D: Disk> Checkpointer<D> {
     /// its number. It makes two device calls at most.
     pub fn open_root(&mut self, pool: &mut Pool<D>) -> Result<u64, CheckpointFault>
         requires sealed { self.old.phase ≡ Phase.Written → IsTrue pool.old.is_sealed }
-        ensures phase { IsAllowed self.old.is_broken self.old.phase (self.old.phase ≡ Phase.Written) result }
+        ensures phase { IsAllowedIn Phase.Written IsOfDevice self.old result }
         ensures unchanged { IfWrongPhase (self.new ≡ self.old) result }
         ensures opened { OnOk result (self.new.phase ≡ Phase.Idle) }
         ensures works { OnOk result (self.new.is_broken ≡ false) }
@@ -316,8 +309,7 @@ impl<D: Disk> Checkpointer<D> {
         ensures same_pool { OnErr result (pool.new ≡ pool.old) }
         ensures device { BreaksBy self.new.is_broken result }
         ensures count { CountsRoots self.old self.new (failed_calls result) }
-        ensures refusal { IfRefused IsOfDevice result }
-        ensures broken { IfRefused (λ cause. cause ≡ Cause.Broken → AreRootsBroken self.old) result }
+        ensures calls { RootCallsAtMost 2 self.old self.new }
         ensures breaks { OnErr result ((self.new ≡ self.old) ⊎ IsTrue self.new.is_broken) }
         ensures stands { OpensNext self.old pool.old self.new pool.new result }
         ensures any_moment { LeavesEither self.old pool.old self.new }

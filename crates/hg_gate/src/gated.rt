@@ -88,6 +88,7 @@ impl<D: Disk> Gated<D> {
         ensures fault { IfErr result IsBrokenOrDevice }
         ensures calls { CallsAtMost ⟦<D as Disk>⟧ 2 (disk_of self.old) (disk_of self.new) }
         ensures device { D.failures (disk_of self.new) ≡ failures_after result (D.failures (disk_of self.old)) }
+        ensures works { OnOk result (is_broken self.new ≡ false) }
         ensures breaks { OnErr result (IsTrue (is_broken self.new)) }
         ensures broken { RefusesIfBroken (is_broken self.old) GateFault.Broken self.old self.new result }
     {
@@ -110,6 +111,7 @@ impl<D: Disk> Gated<D> {
         ensures fault { IfErr result IsBrokenOrDevice }
         ensures calls { CallsAtMost ⟦<D as Disk>⟧ 4 (disk_of self.old) (disk_of self.new) }
         ensures device { D.failures (disk_of self.new) ≡ failures_after result (D.failures (disk_of self.old)) }
+        ensures works { OnOk result (is_broken self.new ≡ false) }
         ensures breaks { OnErr result (IsTrue (is_broken self.new)) }
         ensures broken { RefusesIfBroken (is_broken self.old) GateFault.Broken self.old self.new result }
     {
@@ -133,6 +135,7 @@ impl<D: Disk> Gated<D> {
         ensures fault { IfErr result IsBrokenOrDevice }
         ensures calls { CallsAtMost ⟦<D as Disk>⟧ 2 (disk_of self.old) (disk_of self.new) }
         ensures device { D.failures (disk_of self.new) ≡ failures_after result (D.failures (disk_of self.old)) }
+        ensures works { OnOk result (is_broken self.new ≡ false) }
         ensures breaks { OnErr result (IsTrue (is_broken self.new)) }
         ensures broken { RefusesIfBroken (is_broken self.old) GateFault.Broken self.old self.new result }
     {

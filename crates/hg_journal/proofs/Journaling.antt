@@ -206,3 +206,8 @@ told_damaged fault.Broken same = absurd cc
 told_damaged fault.Damaged same = refl
 told_damaged fault.DeviceFault same = absurd cc
 told_damaged fault.OutOfMemory same = absurd cc
+
+-- none more
+pub no_more : {D : Type 0} {g : disk.Ghosts D} (j : Journal D g) (r : JournalReader) (seen more : List Named) → length more ≡ 0 → IsAt j r (seen ++ more) → IsAt j r seen
+no_more j r seen [] none at = subst (λ (events : List Named). IsAt j r events) (append-nil seen) at
+no_more j r seen (n ∷ more) none at = absurd (omega (arith, none))

@@ -127,6 +127,7 @@ impl<D: Disk> Journal<D> {
         ensures passed { ReadsMore self.old reader.old self.new reader.new result }
         ensures at_end { HasReadAll self.old reader.old self.new result }
         ensures damaged { TellsTrueDamage self.old reader.old result }
+        ensures again { CanBeTriedAgain self.old reader.old self.new reader.new result }
 
         // The journal stays as it is.
         ensures broken_or_not { is_broken self.new ≡ is_broken self.old }

@@ -5,7 +5,7 @@ use Rattle.hg_disk.specs.declared.disk.Disk as disk
 use Rattle.hg_cells.specs.declared.cell.Cell.{Cell}
 use Rattle.hg_pages.specs.Tables as tables
 use Rattle.hg_pages.specs.Tables.{IsNamed, slot_in}
-use Rattle.hg_pool.specs.declared.frame.Frame.{Frame}
+use Rattle.hg_cache.specs.declared.frame.Frame.{Frame}
 use Rattle.hg_pool.specs.Answers.{IsTaken}
 use Rattle.hg_pool.specs.Kept.{IsWhole, SameMap}
 use Rattle.hg_pool.specs.Maps.{bytes_of, copy_in, frame_in, frozen, frozen_at, frozen_by, in_copy_or, in_frame_or, in_slot, live, live_at}

@@ -61,6 +61,7 @@ module _ {D : Type 0} (g : disk.Ghosts D) where
     pub sealed : IsTrue old.is_sealed → IsTrue new.is_sealed
     pub sealed_table : IsTrue old.is_sealed → new.frozen ≡ old.frozen
     pub limits : (new.most_frames ≡ old.most_frames) × (new.slots ≡ old.slots)
+    pub none_waits : old.waiting ≡ [] → new.waiting ≡ []
 
   live_slot_same : (q : ℕ) (old new : ShownPool D) → SlotsStay old new → IsWhole g old → (i : ℕ) → i < 256 → in_slot (bytes_of g new) (slot_in old.live q) i ≡ in_slot (bytes_of g old) (slot_in old.live q) i
   live_slot_same q old new stay h i lt =
@@ -114,6 +115,7 @@ module _ {D : Type 0} (g : disk.Ghosts D) where
     sealed = file.sealed;
     sealed_table = file.sealed_table;
     limits = file.limits;
+    none_waits = file.none_waits;
   }
 
   live_here_by : (q : ℕ) (old new : ShownPool D) → SlotsStay old new → IsWhole g old → Same q old new ⊎ (IsWhole g old → LiveHere q old new) → LiveHere q old new
@@ -124,8 +126,8 @@ module _ {D : Type 0} (g : disk.Ghosts D) where
   live_by old new stay each h w = live_here_by (w / 256) old new stay h (each (w / 256)) (w % 256) (small w)
 
   -- where the file is as it was
-  pub still_file : (old new : ShownPool D) → new.file ≡ old.file → new.root ≡ old.root → Extends old.frozen new.frozen → (IsTrue old.is_sealed → IsTrue new.is_sealed) → (IsTrue old.is_sealed → new.frozen ≡ old.frozen) → (new.most_frames ≡ old.most_frames) × (new.slots ≡ old.slots) → FileStep old new
-  still_file old new file root frozen sealed sealed_table limits =
+  pub still_file : (old new : ShownPool D) → new.file ≡ old.file → new.root ≡ old.root → Extends old.frozen new.frozen → (IsTrue old.is_sealed → IsTrue new.is_sealed) → (IsTrue old.is_sealed → new.frozen ≡ old.frozen) → (new.most_frames ≡ old.most_frames) × (new.slots ≡ old.slots) → (old.waiting ≡ [] → new.waiting ≡ []) → FileStep old new
+  still_file old new file root frozen sealed sealed_table limits none_waits =
       let same : disk_of new ≡ disk_of old = λ k. (file k).disk in
       record {
         goes = ([], ap (λ (d : D). g.state d ∷ g.past d) same);
@@ -139,12 +141,13 @@ module _ {D : Type 0} (g : disk.Ghosts D) where
         sealed = sealed;
         sealed_table = sealed_table;
         limits = limits;
+        none_waits = none_waits;
       }
 
   -- where a call of the file adds no image
   pub quiet_file : (old new : ShownPool D) → LeavesOnly g (disk_of old) (disk_of new) (IsImage (g.state (disk_of old))) → (is_broken new ≡ false → is_broken old ≡ false) → BreaksByFailure g old new → new.root ≡ old.root → Extends old.frozen new.frozen
-      → (IsTrue old.is_sealed → IsTrue new.is_sealed) → (IsTrue old.is_sealed → new.frozen ≡ old.frozen) → (new.most_frames ≡ old.most_frames) × (new.slots ≡ old.slots) → FileStep old new
-  quiet_file old new only works breaks root frozen sealed sealed_table limits = record {
+      → (IsTrue old.is_sealed → IsTrue new.is_sealed) → (IsTrue old.is_sealed → new.frozen ≡ old.frozen) → (new.most_frames ≡ old.most_frames) × (new.slots ≡ old.slots) → (old.waiting ≡ [] → new.waiting ≡ []) → FileStep old new
+  quiet_file old new only works breaks root frozen sealed sealed_table limits none_waits = record {
     goes = (only.later, only.has_gone);
     works = works;
     breaks = breaks;
@@ -156,6 +159,7 @@ module _ {D : Type 0} (g : disk.Ghosts D) where
     sealed = sealed;
     sealed_table = sealed_table;
     limits = limits;
+    none_waits = none_waits;
   }
 
   -- where a page is written to a slot that no table of the root or of the frozen map names
@@ -163,8 +167,8 @@ module _ {D : Type 0} (g : disk.Ghosts D) where
       → ((other : ℕ) (bytes : List ℕ) → other ≢ slot → Leaves (HasBytes other bytes) (g.state (disk_of old)) → LeavesOnly g (disk_of old) (disk_of new) (HasBytes other bytes))
       → ((n : ℕ) → Leaves (λ image. n ≤ length image) (g.state (disk_of old)) → LeavesOnly g (disk_of old) (disk_of new) (λ image. n ≤ length image))
       → (is_broken new ≡ false → is_broken old ≡ false) → BreaksByFailure g old new → new.root ≡ old.root → Extends old.frozen new.frozen
-      → (IsTrue old.is_sealed → IsTrue new.is_sealed) → (IsTrue old.is_sealed → new.frozen ≡ old.frozen) → (new.most_frames ≡ old.most_frames) × (new.slots ≡ old.slots) → FileStep old new
-  written_file old new slot not_root not_frozen moments long works breaks root frozen sealed sealed_table limits =
+      → (IsTrue old.is_sealed → IsTrue new.is_sealed) → (IsTrue old.is_sealed → new.frozen ≡ old.frozen) → (new.most_frames ≡ old.most_frames) × (new.slots ≡ old.slots) → (old.waiting ≡ [] → new.waiting ≡ []) → FileStep old new
+  written_file old new slot not_root not_frozen moments long works breaks root frozen sealed sealed_table limits none_waits =
       let all = long 0 (λ image is. omega arith) in
       record {
         goes = (all.later, all.has_gone);
@@ -178,4 +182,5 @@ module _ {D : Type 0} (g : disk.Ghosts D) where
         sealed = sealed;
         sealed_table = sealed_table;
         limits = limits;
+        none_waits = none_waits;
       }

@@ -1,14 +1,15 @@
 -- The pages that were changed are collected.
-use Rattle.std.proofs.Common.{◌≡◌, ◌⊎◌, inl, inr, ◌+◌, ◌≤◌, ◌<◌, ◌==◌, ◌∙◌, ℕ, nat_eq, Bool, true, false, List, [], ◌∷◌, length, is_some, Option, Some, if◌then◌else◌, refl, sym, ap, arith}
-use Rattle.std.specs.List.{AllByRecursion, IsDistinct}
+use Rattle.std.proofs.Common.{◌≡◌, ◌⊎◌, inl, inr, ◌+◌, ◌≤◌, ◌<◌, ◌==◌, ◌∙◌, ℕ, zero, suc, nat_eq, Bool, true, false, List, [], ◌∷◌, drop, length, slice_get, option_map, is_some, Option, Some, None, if◌then◌else◌, refl, sym, ap, arith}
+use Rattle.std.specs.List.{IsDistinct}
 use Rattle.std.specs.Map.{keys_of}
 use Rattle.std.proofs.lemmas.Map.Keys.{IsDistinct-head, IsDistinct-tail}
 use Rattle.hg_pages.specs.Tables.{slot_in}
-use Rattle.hg_pool.specs.declared.frame.Frame.{Frame}
+use Rattle.hg_cache.specs.declared.frame.Frame.{Frame}
+use Rattle.hg_cache.specs.Frames.{page_behind}
 use Rattle.hg_pool.specs.Maps.{frame_in}
 use Rattle.hg_pool.specs.Picking.{HasDirty}
-use Rattle.hg_pool.proofs.Lookups.{if_false, if_true, itself, same_number, turned}
-use Rattle.hg_pool.proofs.Orders.{is_listed, listed}
+use Rattle.hg_cache.proofs.Lookups.{if_false, if_true, itself, same_number, turned}
+use Rattle.hg_cache.proofs.Orders.{is_listed, none_listed}
 
 -- The table has the changed pages of all but those that are left.
 pub record IsCollecting (all left : List (ℕ × Frame)) (table : List (ℕ × ℕ)) (place : ℕ) : Type 0 where
@@ -31,17 +32,13 @@ begun all distinct = record {
   few = omega arith;
 }
 
-none_behind : (q : ℕ) (ks : List ℕ) → AllByRecursion (λ k. nat_eq q k ≡ false) ks → listed q ks ≡ false
-none_behind q [] all = refl
-none_behind q (k ∷ ks) all = if_false (q == k) true (listed q ks) all.0 ∙ none_behind q ks all.1
-
 -- the key of the first is no key behind it
 first_apart : (page : ℕ) (frame : Frame) (left : List (ℕ × Frame)) (q : ℕ) (f : Frame) → IsDistinct nat_eq (keys_of ((page, frame) ∷ left)) → frame_in left q ≡ Some f → (q == page) ≡ false
 first_apart page frame left q f distinct is = by (q == page) refl
   where
     by : (b : Bool) → (q == page) ≡ b → (q == page) ≡ false
     by true test =
-        let none = is_listed page left ∙ none_behind page (keys_of left) (IsDistinct-head nat_eq page (keys_of left) distinct) in
+        let none = is_listed page left ∙ none_listed page (keys_of left) (IsDistinct-head nat_eq page (keys_of left) distinct) in
         absurd (cc (sym (ap is_some is) ∙ ap (λ (n : ℕ). is_some (frame_in left n)) (same_number q page test) ∙ none))
     by false test = test
 
@@ -97,3 +94,45 @@ all_collected all table place s q = (s.among q, λ dirty. last (s.each q dirty))
     last : (is_some (slot_in table q) ≡ true) ⊎ HasDirty [] q → is_some (slot_in table q) ≡ true
     last (inl there) = there
     last (inr there) = absurd (cc there.1)
+
+-- The pages are gone through in the order of their use. The page at a place has a frame there,
+pub got_page : (o : Option (ℕ × Frame)) (page : ℕ) → option_map (λ e. e.0) o ≡ Some page → (f : Frame) × (o ≡ Some (page, f))
+got_page None page is = absurd (cc is)
+got_page (Some e) page is = let same : e.0 ≡ page = cc is in (e.1, ap (λ (n : ℕ). Some (n, e.1)) same)
+
+-- which is the frame of the page,
+pub frame_of_got : (es : List (ℕ × Frame)) (k page : ℕ) (f : Frame) → IsDistinct nat_eq (keys_of es) → slice_get es k ≡ Some (page, f) → frame_in es page ≡ Some f
+frame_of_got [] k page f distinct is = absurd (cc is)
+frame_of_got (e ∷ es) zero page f distinct is =
+    let same : e ≡ (page, f) = cc is in
+    if_true (page == e.0) (Some e.1) (frame_in es page) (ap (λ (x : ℕ × Frame). page == x.0) same ∙ itself page) ∙ ap (λ (x : ℕ × Frame). Some x.1) same
+frame_of_got (e ∷ es) (suc k) page f distinct is =
+    let rest = frame_of_got es k page f (IsDistinct-tail nat_eq e.0 (keys_of es) distinct) is in
+    if_false (page == e.0) (Some e.1) (frame_in es page) (first_apart e.0 e.1 es page f distinct rest) ∙ rest
+
+-- and the page at the next place is the one behind it.
+pub next_page : (es : List (ℕ × Frame)) (k page : ℕ) (f : Frame) → IsDistinct nat_eq (keys_of es) → slice_get es k ≡ Some (page, f) → page_behind page es ≡ option_map (λ e. e.0) (slice_get es (suc k))
+next_page [] k page f distinct is = absurd (cc is)
+next_page (e ∷ es) zero page f distinct is =
+    let same : e ≡ (page, f) = cc is in
+    if_true (page == e.0) (option_map (λ x. x.0) (slice_get es 0)) (page_behind page es) (ap (λ (x : ℕ × Frame). page == x.0) same ∙ itself page)
+next_page (e ∷ es) (suc k) page f distinct is =
+    let tail = IsDistinct-tail nat_eq e.0 (keys_of es) distinct in
+    if_false (page == e.0) (option_map (λ x. x.0) (slice_get es 0)) (page_behind page es) (first_apart e.0 e.1 es page f distinct (frame_of_got es k page f tail is))
+    ∙ next_page es k page f tail is
+
+-- the entries from a place on
+pub rest_from : (es : List (ℕ × Frame)) (k : ℕ) (e : ℕ × Frame) → slice_get es k ≡ Some e → drop k es ≡ e ∷ drop (suc k) es
+rest_from [] k e is = absurd (cc is)
+rest_from (f ∷ es) zero e is = let same : f ≡ e = cc is in ap (λ (x : ℕ × Frame). x ∷ es) same
+rest_from (f ∷ es) (suc k) e is = rest_from es k e is
+
+pub none_from : (es : List (ℕ × Frame)) (k : ℕ) → option_map (λ e. e.0) (slice_get es k) ≡ None → drop k es ≡ []
+none_from [] zero is = refl
+none_from [] (suc k) is = refl
+none_from (f ∷ es) zero is = absurd (cc is)
+none_from (f ∷ es) (suc k) is = none_from es k is
+
+pub no_page : (o : Option ℕ) → ((page : ℕ) → o ≡ Some page → ⊥) → o ≡ None
+no_page None not = refl
+no_page (Some page) not = absurd (not page refl)

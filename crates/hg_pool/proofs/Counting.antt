@@ -4,7 +4,7 @@ use Rattle.std.specs.List.{AllByRecursion, IsDistinct}
 use Rattle.std.proofs.lemmas.Map.Keys.{IsDistinct-cons, IsDistinct-head, IsDistinct-tail}
 use Rattle.std.specs.Map.{lookup, remove_entry, keys_of}
 use Rattle.hg_pages.specs.Tables.{slot_in}
-use Rattle.hg_pool.proofs.Lookups.{itself, looked_removed, same_number}
+use Rattle.hg_cache.proofs.Lookups.{itself, looked_removed, same_number}
 
 module _ {X : Type 0} where
   one_less : (page : ℕ) (es : List (ℕ × X)) → length es ≤ suc (length (remove_entry (nat_eq page) es))

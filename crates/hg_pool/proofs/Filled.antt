@@ -8,11 +8,11 @@ use Rattle.hg_cells.specs.declared.cell.Cell.TheVariants.{New}
 use Rattle.hg_cells.specs.Cells.{IsWithin}
 use Rattle.hg_cells.specs.Pages.{filled}
 use Rattle.hg_pages.specs.Tables.{slot_in}
-use Rattle.hg_pool.specs.declared.frame.Frame.{Frame}
+use Rattle.hg_cache.specs.declared.frame.Frame.{Frame}
 use Rattle.hg_pool.specs.Kept.{AreWithin, IsFaithful, Went}
 use Rattle.hg_pool.specs.Maps.{bytes_of, frame_in, in_frame_or, in_slot, live}
 use Rattle.hg_pool.specs.Shown.{ShownPool}
-use Rattle.hg_pool.proofs.Lookups.{same_number, turned}
+use Rattle.hg_cache.proofs.Lookups.{same_number, turned}
 use Rattle.hg_pool.proofs.Stepping.{the_some}
 
 -- The frames after words of one page were given a cell.

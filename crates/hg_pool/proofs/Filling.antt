@@ -5,13 +5,13 @@ use Rattle.hg_disk.specs.declared.disk.Disk as disk
 use Rattle.hg_cells.specs.declared.cell.Cell.{Cell}
 use Rattle.hg_pages.specs.Tables as tables
 use Rattle.hg_pages.specs.Tables.{slot_in}
-use Rattle.hg_pool.specs.declared.frame.Frame.{Frame}
+use Rattle.hg_cache.specs.declared.frame.Frame.{Frame}
 use Rattle.hg_pool.specs.Kept.{IsWhole, Went}
 use Rattle.hg_pool.specs.Maps.{bytes_of, copy_in, frame_in, frozen_by, in_slot, live_at}
 use Rattle.hg_pool.specs.Shown.{ShownPool}
 use Rattle.hg_pool.specs.Sound.{AreSound}
 use Rattle.hg_pool.proofs.Changing.{Here, Same, still_file, went_by}
-use Rattle.hg_pool.proofs.Lookups.{if_false, if_true, itself, same_number}
+use Rattle.hg_cache.proofs.Lookups.{if_false, if_true, itself, same_number}
 use Rattle.hg_pool.proofs.Stepping.{each_page, sound_frames}
 
 -- the present cells of a page that does not wait, or was copied, are not the frozen ones
@@ -34,7 +34,7 @@ went_filled {D} g old frames cap page e look dirty same_cap settled =
         clean = λ f is clean. let same : e ≡ f = cc (sym here ∙ is) in absurd (cc (sym dirty ∙ ap (λ (x : Frame). x.is_dirty) same ∙ clean));
       };
     } in
-    went_by g old new (still_file g old new refl refl (λ q s is. is) (λ sealed. sealed) (λ sealed. refl) (same_cap, refl)) (λ s b named has. has)
+    went_by g old new (still_file g old new refl refl (λ q s is. is) (λ sealed. sealed) (λ sealed. refl) (same_cap, refl) (λ none. none)) (λ s b named has. has)
     (each_page (λ q. Same q old new ⊎ (IsWhole g old → Here g q old new)) page (inr at)
     (λ q apart. inl (record { frames = look q ∙ if_false (page == q) (Some e) (frame_in old.frames q) apart; live = refl; frozen = refl; waiting = refl; copies = refl })))
 

@@ -15,7 +15,7 @@ use Rattle.hg_pages.specs.Files as files
 use Rattle.hg_pages.specs.Slots.{AreKnown, HasBytes, HasPage, IsKnown}
 use Rattle.hg_pages.specs.Tables.{slot_in}
 use Rattle.hg_pages.proofs.Decoding.{stored}
-use Rattle.hg_pool.specs.declared.frame.Frame.{Frame}
+use Rattle.hg_cache.specs.declared.frame.Frame.{Frame}
 use Rattle.hg_pool.specs.Kept.{AreWithin, CellsFrom, HasSome, IsWhole, Stays}
 use Rattle.hg_pool.specs.Maps.{bytes_of, disk_of, frame_in, in_frame_or, in_slot, is_broken, live}
 use Rattle.hg_pool.specs.Shown.{ShownPool}
@@ -76,7 +76,7 @@ module _ {D : Type 0} (g : disk.Ghosts D) where
   pub stays_read : (old : ShownPool D) (file : SlotFile D) → LeavesOnly g (disk_of old) (files.disk_of file) (IsImage (g.state (disk_of old))) → files.is_broken file ≡ is_broken old → g.failures (disk_of old) ≤ g.failures (files.disk_of file) → files.known g file ≡ bytes_of g old → Stays g old (record old { file = file })
   stays_read old file only works more known =
       let new : ShownPool D = record old { file = file } in
-      stays_all g old new (quiet_file g old new only (λ now. sym works ∙ now) (more, inl works) refl (λ q s is. is) (λ sealed. sealed) (λ sealed. refl) (refl, refl))
+      stays_all g old new (quiet_file g old new only (λ now. sym works ∙ now) (more, inl works) refl (λ q s is. is) (λ sealed. sealed) (λ sealed. refl) (refl, refl) (λ none. none))
       (λ s bytes named has. subst (λ (l : List ℕ). HasBytes s bytes l) (sym known) has)
       (λ q. record { frames = refl; live = refl; frozen = refl; waiting = refl; copies = refl })
 

@@ -2,12 +2,10 @@ pub mod Breaking
 pub mod Changing
 pub mod Slots
 pub mod Naming
-pub mod Lookups
 pub mod Counting
 pub mod Stepping
 pub mod Moving
 pub mod Writing
-pub mod Orders
 pub mod FromSlots
 pub mod Filling
 pub mod Sealed
@@ -17,5 +15,4 @@ pub mod Begun
 pub mod Given
 pub mod Filled
 pub mod Overlapping
-pub mod Framing
 pub mod Reaching

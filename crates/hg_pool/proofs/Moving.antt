@@ -9,14 +9,14 @@ use Rattle.hg_pages.specs.Slots.{HasSlot}
 use Rattle.hg_pages.specs.Tables as tables
 use Rattle.hg_pages.specs.Tables.{IsNamed, slot_in}
 use Rattle.hg_pages.proofs.Decoding.{stored}
-use Rattle.hg_pool.specs.declared.frame.Frame.{Frame}
+use Rattle.hg_cache.specs.declared.frame.Frame.{Frame}
 use Rattle.hg_pool.specs.Kept.{Stays}
 use Rattle.hg_pool.specs.Maps.{bytes_of, copy_in, frame_in, frozen_at, frozen_by, in_frame_or, in_slot, live_at}
 use Rattle.hg_pool.specs.Shown.{ShownPool}
 use Rattle.hg_pool.specs.Sound.{AreSound}
 use Rattle.hg_pool.specs.Tables.{FindsBelow, IsSetAt}
 use Rattle.hg_pool.proofs.Changing.{LiveHere, still_file}
-use Rattle.hg_pool.proofs.Lookups.{if_false, if_true, itself, same_number}
+use Rattle.hg_cache.proofs.Lookups.{if_false, if_true, itself, same_number}
 use Rattle.hg_pool.proofs.Stepping.{frozen_from_live, stays_at}
 
 ok_of : {T E A : Type 0} (result : Result T E) → IsOk result → OnOk result A → A
@@ -108,7 +108,7 @@ stays_moved {D} g old live frames cap page slot f look there frames_look same_ca
     let slot_here : slot_in live page ≡ Some slot = look page ∙ if_true (page == page) (Some slot) (slot_in old.live page) (itself page) in
     let same : LiveHere g page old new = λ i lt.
     (λ k. in_frame_or (here k) (in_slot (bytes_of g old) (slot_in live page) i) i) ∙ sym (λ k. in_frame_or (there k) (in_slot (bytes_of g old) (slot_in old.live page) i) i) in
-    stays_at g old new page (still_file g old new refl refl (λ q s is. is) (λ sealed. sealed) (λ sealed. refl) (same_cap, refl)) (λ s b named has. has)
+    stays_at g old new page (still_file g old new refl refl (λ q s is. is) (λ sealed. sealed) (λ sealed. refl) (same_cap, refl) (λ none. none)) (λ s b named has. has)
     (λ q apart. record {
       frames = frames_look q ∙ if_false (page == q) (Some clean) (frame_in old.frames q) apart;
       live = look q ∙ if_false (page == q) (Some slot) (slot_in old.live q) apart;
@@ -190,7 +190,7 @@ stays_released {D} g old frozen waiting copies page slot look waits unwritten wa
     let new : ShownPool D = record old { frozen = frozen; waiting = waiting; copies = copies } in
     let slot_here : slot_in frozen page ≡ Some slot = look page ∙ if_true (page == page) (Some slot) (slot_in old.frozen page) (itself page) in
     let none_here : slot_in waiting page ≡ None = waiting_look page ∙ if_true (page == page) None (slot_in old.waiting page) (itself page) in
-    stays_at g old new page (still_file g old new refl refl (λ q s is. by q s is (page == q) refl) (λ sealed. sealed) (λ sealed. absurd (cc (sym waits ∙ ap (λ (es : List (ℕ × ℕ)). slot_in es page) (none_waits sealed)))) (refl, refl)) (λ s b named has. has)
+    stays_at g old new page (still_file g old new refl refl (λ q s is. by q s is (page == q) refl) (λ sealed. sealed) (λ sealed. absurd (cc (sym waits ∙ ap (λ (es : List (ℕ × ℕ)). slot_in es page) (none_waits sealed)))) (refl, refl) (λ none. absurd (cc (sym waits ∙ ap (λ (es : List (ℕ × ℕ)). slot_in es page) none)))) (λ s b named has. has)
     (λ q apart. record {
       frames = refl;
       live = refl;

@@ -7,7 +7,7 @@ use Rattle.hg_pages.specs.Tables.{IsNamed, slot_in}
 use Rattle.hg_pool.specs.Answers.{IsTaken}
 use Rattle.hg_pool.specs.Picking.{ArePicks}
 use Rattle.hg_pool.specs.Shown.{ShownPool}
-use Rattle.hg_pool.proofs.Lookups.{if_false, if_true, itself, same_number}
+use Rattle.hg_cache.proofs.Lookups.{if_false, if_true, itself, same_number}
 
 some_if : (b : Bool) (s : ℕ) (o : Option ℕ) → is_some (if b then Some s else o) ≡ (if b then true else is_some o)
 some_if true s o = refl

@@ -5,7 +5,7 @@ use Rattle.hg_pages.specs.Tables.{IsNamed, slot_in}
 use Rattle.hg_pool.specs.Answers.{IsTaken}
 use Rattle.hg_pool.specs.Picking.{IsLeastFree}
 use Rattle.hg_pool.specs.Shown.{ShownPool}
-use Rattle.hg_pool.proofs.Lookups.{if_false, same_number}
+use Rattle.hg_cache.proofs.Lookups.{if_false, same_number}
 
 module _ {D : Type 0} (p : ShownPool D) where
   -- a search from a slot below which each is named

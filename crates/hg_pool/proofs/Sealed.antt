@@ -57,6 +57,6 @@ module _ {D : Type 0} (g : disk.Ghosts D) where
       → (IsTrue old.is_sealed → IsTrue sealed) → Stays g old (record old { file = file; is_sealed = sealed })
   stays_sealed old file sealed only works breaks known mark =
       let new : ShownPool D = record old { file = file; is_sealed = sealed } in
-      stays_all g old new (quiet_file g old new only works breaks refl (λ q s is. is) mark (λ sealed. refl) (refl, refl))
+      stays_all g old new (quiet_file g old new only works breaks refl (λ q s is. is) mark (λ sealed. refl) (refl, refl) (λ none. none))
       (λ s bytes named has. subst (λ (l : List ℕ). HasBytes s bytes l) (sym known) has)
       (λ q. record { frames = refl; live = refl; frozen = refl; waiting = refl; copies = refl })

@@ -8,7 +8,7 @@ use Rattle.hg_pages.specs.Slots.{IsKnown}
 use Rattle.hg_pages.specs.Tables as tables
 use Rattle.hg_pages.specs.Tables.{IsNamed, slot_in}
 use Rattle.hg_pages.proofs.Decoding.{stored}
-use Rattle.hg_pool.specs.declared.frame.Frame.{Frame}
+use Rattle.hg_cache.specs.declared.frame.Frame.{Frame}
 use Rattle.hg_pool.specs.Kept.{CellsFrom, IsWhole, Stays}
 use Rattle.hg_pool.specs.Maps.{bytes_of, copy_in, frame_in, frozen_at, frozen_by, in_frame_or, in_slot}
 use Rattle.hg_pool.specs.Shown.{ShownPool}
@@ -16,7 +16,7 @@ use Rattle.hg_pool.specs.Sound.{AreSound}
 use Rattle.hg_pool.specs.Tables.{FindsBelow}
 use Rattle.hg_pool.proofs.Changing.{FileStep, Here, LiveHere, Same, SlotsStay, live_by, still_file, went_by}
 use Rattle.hg_pool.specs.OfWords.{ReadsTrue, went_on}
-use Rattle.hg_pool.proofs.Lookups.{if_false, if_true, itself, same_number}
+use Rattle.hg_cache.proofs.Lookups.{if_false, if_true, itself, same_number}
 
 -- one page, and each other
 pub each_page : (P : ℕ → Type 0) (page : ℕ) → P page → ((q : ℕ) → (page == q) ≡ false → P q) → (q : ℕ) → P q
@@ -193,14 +193,14 @@ either (Err error) a b ok err = err b
 
 -- a pool that was not changed
 pub stays_nowhere : {D : Type 0} (g : disk.Ghosts D) (p : ShownPool D) → Stays g p p
-stays_nowhere g p = stays_all g p p (still_file g p p refl refl (λ q s there. there) (λ sealed. sealed) (λ sealed. refl) (refl, refl)) (λ s b named has. has) (λ q. record { frames = refl; live = refl; frozen = refl; waiting = refl; copies = refl })
+stays_nowhere g p = stays_all g p p (still_file g p p refl refl (λ q s there. there) (λ sealed. sealed) (λ sealed. refl) (refl, refl) (λ none. none)) (λ s b named has. has) (λ q. record { frames = refl; live = refl; frozen = refl; waiting = refl; copies = refl })
 
 -- a copy more
 pub stays_copied : {D : Type 0} (g : disk.Ghosts D) (old : ShownPool D) (copies : List (ℕ × List Cell)) (page slot : ℕ) (f : Frame) (cells : List Cell) → ((q : ℕ) → copy_in copies q ≡ (if page == q then Some cells else copy_in old.copies q))
     → slot_in old.waiting page ≡ Some slot → copy_in old.copies page ≡ None → frame_in old.frames page ≡ Some f → cells ≡ f.cells → Stays g old (record old { copies = copies })
 stays_copied {D} g old copies page slot f cells look waits none there same =
     let new : ShownPool D = record old { copies = copies } in
-    stays_at g old new page (still_file g old new refl refl (λ q s is. is) (λ sealed. sealed) (λ sealed. refl) (refl, refl)) (λ s b named has. has)
+    stays_at g old new page (still_file g old new refl refl (λ q s is. is) (λ sealed. sealed) (λ sealed. refl) (refl, refl) (λ none. none)) (λ s b named has. has)
     (λ q apart. record { frames = refl; live = refl; frozen = refl; waiting = refl; copies = look q ∙ if_false (page == q) (Some cells) (copy_in old.copies q) apart })
     (λ h i lt. refl)
     (λ h. record {

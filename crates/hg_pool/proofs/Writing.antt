@@ -8,7 +8,7 @@ use Rattle.hg_pages.specs.Slots.{HasBytes, HasSlot, IsSlot}
 use Rattle.hg_pages.specs.Tables.{IsNamed}
 use Rattle.hg_pages.specs.declared.slot_file.SlotFile.{SlotFile}
 use Rattle.hg_pool.specs.Kept.{BreaksByFailure, Stays}
-use Rattle.hg_pool.specs.declared.frame.Frame.{Frame}
+use Rattle.hg_cache.specs.declared.frame.Frame.{Frame}
 use Rattle.hg_pages.specs.Tables.{slot_in}
 use Rattle.hg_pool.specs.Maps.{bytes_of, copy_in, disk_of, frame_in, frozen_at, frozen_by, in_copy_or, in_frame_or, in_slot, is_broken, live_at}
 use Rattle.hg_pool.specs.Shown.{ShownPool}
@@ -34,7 +34,7 @@ module _ {D : Type 0} (g : disk.Ghosts D) (old : ShownPool D) (file : SlotFile D
       → ((n : ℕ) → Leaves (λ image. n ≤ length image) (g.state (disk_of old)) → LeavesOnly g (disk_of old) (disk_of after) (λ image. n ≤ length image))
       → (is_broken after ≡ false → is_broken old ≡ false) → BreaksByFailure g old after → Stays g old after
   stays_written moments long works breaks =
-      stays_all g old after (written_file g old after slot not_root not_frozen moments long works breaks refl (λ q s is. is) (λ sealed. sealed) (λ sealed. refl) (refl, refl)) stay same
+      stays_all g old after (written_file g old after slot not_root not_frozen moments long works breaks refl (λ q s is. is) (λ sealed. sealed) (λ sealed. refl) (refl, refl) (λ none. none)) stay same
 
 -- what was written stands there
 pub stands : (slot page : ℕ) (cells : List Cell) (bytes file : List ℕ) → IsSlot page cells bytes → HasBytes slot bytes file → HasSlot slot page cells file

@@ -7,7 +7,7 @@ use Rattle.hg_cells.specs.declared.cell.Cell.{Cell}
 use Rattle.hg_pages.specs.Tables.{IsNamed}
 use Rattle.hg_pool.specs.declared.fault.FreezeFault.{FreezeFault}
 use Rattle.hg_pool.specs.declared.fault.FreezeFault.TheVariants as fault
-use Rattle.hg_pool.specs.declared.frame.Frame.{Frame}
+use Rattle.hg_cache.specs.declared.frame.Frame.{Frame}
 use Rattle.hg_pool.specs.Maps.{copy_in, frame_in, is_broken}
 use Rattle.hg_pool.specs.Shown.{ShownPool}
 

@@ -19,7 +19,7 @@ use Rattle.hg_pages.specs.Tables.{IsNamed, slot_in}
 use Rattle.hg_pages.specs.declared.fault.WriteFault.{WriteFault}
 use Rattle.hg_pages.specs.declared.fault.WriteFault.TheVariants.{Broken}
 use Rattle.hg_pages.specs.declared.slot_file.SlotFile.{SlotFile}
-use Rattle.hg_pool.specs.declared.frame.Frame.{Frame}
+use Rattle.hg_cache.specs.declared.frame.Frame.{Frame}
 use Rattle.hg_pool.specs.declared.job.Job.{Job}
 use Rattle.hg_pool.specs.declared.job.Put.{Put}
 use Rattle.hg_pool.specs.declared.job.Put.TheVariants as put
@@ -28,7 +28,6 @@ use Rattle.hg_pool.specs.Kept.{AreWithin, IsFaithful, IsWhole, SameMap, Stays}
 use Rattle.hg_pool.specs.Maps.{IsSealed, bytes_of, copy_in, disk_of, frame_in, frozen, frozen_at, in_slot, is_broken, live}
 use Rattle.hg_pool.specs.Picking.{HasDirty, IsLeastFree, TakesLeastFree}
 use Rattle.hg_pool.specs.Shown.{ShownPool}
-use Rattle.hg_recency.specs.Entries.{IsFree}
 
 -- The new table has no slot for this page; each other page keeps its own.
 abbrev pub IsWithout : (page : ℕ) → (old new : List (ℕ × ℕ)) → Type 0
@@ -58,18 +57,6 @@ KeepsCopies old new = (q : ℕ) → is_some (copy_in old q) ≡ true → is_some
 -- counts.
 abbrev pub StayWithin : (segments sets : ℕ) → (old new : List (ℕ × Frame)) → Type 0
 StayWithin segments sets old new = (n m : ℕ) → segments ≤ n → sets ≤ m → AreWithin old n m → AreWithin new n m
-
--- The frame of the page has its cells but is clean now; each other page keeps its frame.
-abbrev pub CleansFrame : (page : ℕ) → (old new : List (ℕ × Frame)) → Type 0
-CleansFrame page old new =
-    (f : Frame) → frame_in old page ≡ Some f
-    → (q : ℕ) → frame_in new q ≡ (if page == q then Some (record f { is_dirty = false }) else frame_in old q)
-
--- The frame of the page has the cell from `from` up to `to`, and is dirty; each other page keeps its frame.
-abbrev pub FillsFrame : (page from to : ℕ) → Cell → (old new : List (ℕ × Frame)) → Type 0
-FillsFrame page from to cell old new =
-    (f : Frame) → frame_in old page ≡ Some f
-    → (q : ℕ) → frame_in new q ≡ (if page == q then Some (record { cells = filled f.cells from to cell; is_dirty = true }) else frame_in old q)
 
 -- The frame of the page had 256 cells. It has the cell from `from` up to `to`, and is dirty; each other page keeps its
 -- frame.
@@ -112,10 +99,6 @@ IsSlotOf page slot frozen = (t : tables.ShownTable) → frozen ≡ Some t → (o
 abbrev pub MayBegin : (root frozen : List (ℕ × ℕ)) → (found : ℕ) → (former : Option ℕ) → (from : ℕ) → Type 0
 MayBegin root frozen found former from =
     (slot : ℕ) → slot < from → (slot < found) × (former ≡ Some slot → IsNamed root slot ⊎ IsNamed frozen slot)
-
--- The place is one of so many, and no page is in it.
-abbrev pub IsFreePlace : (places most : ℕ) → List (ℕ × ℕ) → (place : ℕ) → Type 0
-IsFreePlace places most order place = (place < places) × (place < most) × IsFree place order
 
 -- If a page in memory is encoded, the bytes are its slot with these cells.
 abbrev pub EncodesFrame : {E : Type 0} → List (ℕ × Frame) → (page : ℕ) → Result Encoded E → Type 0

@@ -1,5 +1,5 @@
 -- What each call of a pool leaves as it was.
-use Rattle.std.specs.Prelude.{◌≡◌, ◌⊎◌, ◌≤◌, ◌<◌, ℕ, false, List, length, Some, IsTrue, get_or}
+use Rattle.std.specs.Prelude.{◌≡◌, ◌⊎◌, ◌≤◌, ◌<◌, ℕ, false, List, [], length, Some, IsTrue, get_or}
 use Rattle.hg_disk.specs.declared.disk.Disk as disk
 use Rattle.hg_disk.specs.Moments.{GoesOn, Leaves, LeavesOnly}
 use Rattle.hg_cells.specs.declared.cell.Cell.{Cell}
@@ -7,7 +7,7 @@ use Rattle.hg_cells.specs.declared.cell.Cell.TheVariants.{New}
 use Rattle.hg_cells.specs.Cells.{IsWithin}
 use Rattle.hg_pages.specs.Slots.{HasBytes, HasSlot}
 use Rattle.hg_pages.specs.Tables.{IsNamed, slot_in}
-use Rattle.hg_pool.specs.declared.frame.Frame.{Frame}
+use Rattle.hg_cache.specs.declared.frame.Frame.{Frame}
 use Rattle.hg_pool.specs.Maps.{GivesCells, bytes_of, disk_of, frame_in, frozen, in_slot, is_broken, live}
 use Rattle.hg_pool.specs.Shown.{ShownPool}
 
@@ -55,7 +55,7 @@ module _ {D : Type 0} (g : disk.Ghosts D) where
 
   -- What each call but `freeze` and `root_opened` keeps, of the checkpoint that is being written and of the newest root:
   -- the frozen map, and the root's table. The slots that the two tables name stay in each image. Once the frozen map is
-  -- sealed, no page waits, so its table stays as it is.
+  -- sealed, no page waits, so its table stays as it is. Where no page waits, none does afterwards.
   pub record Went (old new : ShownPool D) : Type 0 where
     pub goes : GoesOn g (disk_of old) (disk_of new)
     pub works : is_broken new ≡ false → is_broken old ≡ false
@@ -70,6 +70,7 @@ module _ {D : Type 0} (g : disk.Ghosts D) where
     pub sealed : IsTrue old.is_sealed → IsTrue new.is_sealed
     pub sealed_table : IsTrue old.is_sealed → new.frozen ≡ old.frozen
     pub limits : (new.most_frames ≡ old.most_frames) × (new.slots ≡ old.slots)
+    pub none_waits : old.waiting ≡ [] → new.waiting ≡ []
 
   -- What each call keeps that changes no word: the live map too, if the pool is whole.
   pub record Stays (old new : ShownPool D) : Type 0 where

@@ -4,7 +4,6 @@ pub mod Kept
 pub mod Answers
 pub mod Picking
 pub mod Tables
-pub mod Frames
 pub mod Sound
 pub mod Reached
 pub mod Calls

@@ -9,12 +9,9 @@ use Rattle.hg_pages.specs.Files as files
 use Rattle.hg_pages.specs.Slots.{HasSlot}
 use Rattle.hg_pages.specs.Stored.{cell_in_slot}
 use Rattle.hg_pages.specs.Tables.{slot_in}
-use Rattle.hg_pool.specs.declared.frame.Frame.{Frame}
+pub use Rattle.hg_cache.specs.Frames.{frame_in}
+use Rattle.hg_cache.specs.declared.frame.Frame.{Frame}
 use Rattle.hg_pool.specs.Shown.{ShownPool}
-
--- the frame of a page, if the page is in memory
-abbrev pub frame_in : List (ℕ × Frame) → ℕ → Option Frame
-frame_in frames page = lookup (nat_eq page) frames
 
 -- the frozen cells of a page, if they were copied
 abbrev pub copy_in : List (ℕ × List Cell) → ℕ → Option (List Cell)

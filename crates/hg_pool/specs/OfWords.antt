@@ -78,6 +78,7 @@ module _ {D : Type 0} (g : disk.Ghosts D) where
     sealed = λ was. was;
     sealed_table = λ was. refl;
     limits = (refl, refl);
+    none_waits = λ none. none;
   }
 
   goes_join : (old mid new : D) → GoesOn g old mid → GoesOn g mid new → GoesOn g old new
@@ -120,4 +121,5 @@ module _ {D : Type 0} (g : disk.Ghosts D) where
     sealed = λ was. two.sealed (one.sealed was);
     sealed_table = λ was. two.sealed_table (one.sealed was) ∙ one.sealed_table was;
     limits = (two.limits.0 ∙ one.limits.0, two.limits.1 ∙ one.limits.1);
+    none_waits = λ none. two.none_waits (one.none_waits none);
   }

@@ -2,7 +2,7 @@
 use Rattle.std.specs.Prelude.{ℕ, List, Bool}
 use Rattle.hg_cells.specs.declared.cell.Cell.{Cell}
 use Rattle.hg_pages.specs.declared.slot_file.SlotFile.{SlotFile}
-use Rattle.hg_pool.specs.declared.frame.Frame.{Frame}
+pub use Rattle.hg_cache.specs.declared.frame.Frame.{Frame}
 
 -- The file of slots. The tables of the newest root, of the frozen map and of the live one: pages and their slots. The pages
 -- that wait to be written for the frozen map, each with the slot that was picked for it. The frozen cells of waiting pages

@@ -7,7 +7,7 @@ use Rattle.hg_pages.specs.declared.decoded.TheConstants.{MOST_PAGES}
 use Rattle.hg_pages.specs.declared.slot_file.TheConstants.{MOST_SLOTS}
 use Rattle.hg_pages.specs.Tables as tables
 use Rattle.hg_pages.specs.Tables.{IsNamed, slot_in}
-use Rattle.hg_pool.specs.declared.frame.Frame.{Frame}
+use Rattle.hg_cache.specs.declared.frame.Frame.{Frame}
 use Rattle.hg_pool.specs.declared.parts.Parts.{Parts}
 use Rattle.hg_pool.specs.Maps.{copy_in, frame_in}
 use Rattle.hg_pool.specs.Shown.{ShownPool}

@@ -2,13 +2,13 @@
 ghost use Rattle.std.specs.Prelude.{◌≡◌, ◌≢◌, ◌⊎◌, ◌↔◌, ◌+◌, ◌-◌, ◌<◌, ◌≤◌, ◌^◌, [], ◌∷◌, ◌++◌, length, map, true, false, Some, None, Ok, Err, is_some, IsTrue, OnOk, OnErr, IfOk, IfErr, ◌==◌, if◌then◌else◌};
 ghost use Rattle.hg_disk.specs.Calls.{CallsAtMost};
 ghost use Rattle.hg_pages.specs.Tables.{IsNamed, slot_in};
-ghost use Rattle.hg_pool.specs.declared.frame.Frame.{Frame as FrameOf};
 ghost use Rattle.hg_pool.specs.Maps.{copy_in, disk_of, frame_in};
 ghost use Rattle.hg_pool.specs.Kept.{CellsFrom, Stays};
 ghost use Rattle.hg_pool.specs.Answers.{IsTaken, IsTrueCause, order_of};
 ghost use Rattle.hg_pool.specs.Picking.{HasDirty, IsLeastFree};
 ghost use Rattle.hg_pool.specs.Calls.{AreOfEither, ArePagesOf, CountsFailures, EncodesFrame, HasChanged, HasFreed, IsBroken, IsClean, IsCleanIfUncopied, IsOfFrame, IsOfFrozen, IsWith, IsWithout, LeavesUnwritten, MayBegin, MayChange, MovesPages, WritesPages, order_with_room};
 
+use crate::changed::is_changed;
 use crate::parts::Parts;
 use hg_disk::Disk;
 use hg_model::verdict::Refusal;
@@ -134,16 +134,6 @@ impl<D: Disk> Parts<D> {
         self.write_changed(page, slot)
     }
 
-    // Whether a page in memory was changed.
-    fn is_dirty(&self, page: u64) -> bool
-        ensures { (f : FrameOf) → frame_in self.now.frames.entries page ≡ Some f → result ≡ f.is_dirty }
-    {
-        match self.frames.get(page) {
-            Some(frame) => frame.is_dirty,
-            None => false,
-        }
-    }
-
     // Writes a waiting page that is as it was frozen, to the slot that was picked for it.
     fn clean_waiting(&mut self, page: u64, slot: u32) -> Result<(), Refusal>
         requires sound { IsSound self.old }
@@ -177,7 +167,7 @@ impl<D: Disk> Parts<D> {
         ensures quiet { IsClean self.old.frames.entries page → self.new ≡ self.old }
         ensures changed { OnErr result (HasDirty self.old.frames.entries page) }
     {
-        if !self.is_dirty(page) {
+        if !is_changed(&self.frames, page) {
             return Ok(());
         }
         if let Some(slot) = self.waiting.get(page) {

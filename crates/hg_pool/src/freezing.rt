@@ -6,6 +6,7 @@ ghost use Rattle.hg_pool.specs.Kept.{IsWhole, SameMap};
 ghost use Rattle.hg_pool.specs.Picking.{AreLeastFree, ArePicks, AreTooFew, HasDirty, LacksSlots};
 ghost use Rattle.hg_pool.specs.Calls.{AreFree, AreLeft, AreTakenFrom, FreezesLive, FreezesOnOk, HasRoomFor, IsFirstFree, NamesDirty};
 
+use crate::changed::changed_pages;
 use crate::fault::FreezeFault;
 use crate::parts::Parts;
 use hg_disk::Disk;
@@ -99,7 +100,7 @@ impl<D: Disk> Parts<D> {
     {
         self.search_from = 0;
         let _count = self.frames.len();
-        let changed = self.frames.changed(self.alloc)?;
+        let changed = changed_pages(self.alloc, &self.frames)?;
         let _entries = changed.entries();
         let waiting = self.pick(&changed)?;
         let mut frozen = without(self.alloc, &self.live, &changed)?;

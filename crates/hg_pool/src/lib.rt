@@ -1,12 +1,11 @@
 //! A pool of frames over a file of slots, with two maps of words: the live one, and the one at the last freeze.
 #![tactic(auto)]
 
+mod changed;
 mod checkpoint;
 mod copies;
 mod evicting;
 mod fault;
-mod frame;
-mod frames;
 mod freezing;
 mod job;
 pub mod laws;
@@ -17,6 +16,5 @@ mod steps;
 mod words;
 
 pub use fault::FreezeFault;
-pub use frame::Frame;
 pub use job::{Job, Put};
 pub use pool::Pool;

@@ -3,7 +3,7 @@ ghost use Rattle.std.specs.Prelude.{◌≡◌, ◌≢◌, ◌⊎◌, ◌+◌, �
 ghost use Rattle.hg_disk.specs.Calls.{CallsAtMost};
 ghost use Rattle.hg_cells.specs.declared.cell.Cell.TheVariants.{New};
 ghost use Rattle.hg_cells.specs.Cells.{IsWithin};
-ghost use Rattle.hg_pool.specs.Frames.{HasCell};
+ghost use Rattle.hg_cache.specs.Frames.{HasCell};
 ghost use Rattle.hg_pool.specs.Maps.{disk_of, frame_in};
 ghost use Rattle.hg_pool.specs.Kept.{AreWithin, Stays, Went};
 ghost use Rattle.hg_pool.specs.Answers.{IsTrueCause, order_of, order_with};

@@ -8,7 +8,7 @@ ghost use Rattle.hg_pool.specs.Kept.{BreaksByFailure, Stays};
 ghost use Rattle.hg_pool.specs.Answers.{IsFull};
 ghost use Rattle.hg_pool.specs.Calls.{CountsWrites, IsLeastSlot, KeepsSlotsBut, LeavesSlotsBut, SameBytes, StaysLong, WritesPages};
 
-use crate::frames::Frames;
+use hg_cache::Frames;
 use hg_cells::Page;
 use hg_disk::Disk;
 use hg_pages::{EncodedPage, SlotFile, Table, WriteFault};

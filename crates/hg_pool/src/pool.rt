@@ -3,7 +3,7 @@ ghost use Rattle.std.specs.Prelude.{◌≡◌, ◌≢◌, ◌⊎◌, ◌↔◌, 
 ghost use Rattle.hg_pages.specs.Tables.{slot_in};
 ghost use Rattle.hg_pool.specs.Maps.{copy_in, frame_in, frozen, is_broken, live};
 ghost use Rattle.hg_pool.specs.Kept.{CellsFrom, IsWhole, SameMap, Stays, Went};
-ghost use Rattle.hg_pool.specs.declared.frame.Frame.{Frame as FrameOf};
+ghost use Rattle.hg_cache.specs.declared.frame.Frame.{Frame as FrameOf};
 ghost use Rattle.hg_cells.specs.declared.cell.Cell.TheVariants.{New};
 ghost use Rattle.hg_pool.specs.Answers.{order_of, order_with};
 ghost use Rattle.hg_pool.specs.Picking.{AreLeastFree, LacksSlots};
@@ -11,9 +11,9 @@ ghost use Rattle.hg_pool.specs.Tables.{AreBelow, IsNameable};
 ghost use Rattle.hg_pool.specs.Calls.{FillsPage, FreezesOnOk, HasChanged, HasFreed, HasWaited, IsNextJob, IsStale, KeepsCopies, KeepsFirst, LeavesUnwritten, LoadsUndamaged, LosesWritten, MayChange, MovesPages, NamesDirty, SealsWhole, StayWithin, WritesPages, first_pool};
 
 use crate::fault::FreezeFault;
-use crate::frames::Frames;
 use crate::job::{Job, Put};
 use crate::parts::Parts;
+use hg_cache::Frames;
 use hg_cells::{Cell, Page};
 use hg_disk::Disk;
 use hg_model::verdict::Refusal;

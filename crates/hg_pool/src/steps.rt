@@ -4,15 +4,15 @@ ghost use Rattle.std.specs.Map.{remove_entry};
 ghost use Rattle.lru.specs.LruCache.{promoted};
 ghost use Rattle.hg_pages.specs.Tables.{IsNamed, ShownTable as TableOf, slot_in};
 ghost use Rattle.hg_pool.specs.Tables.{IsSetAt};
-ghost use Rattle.hg_pool.specs.declared.frame.Frame.{Frame as FrameOf};
+ghost use Rattle.hg_cache.specs.declared.frame.Frame.{Frame as FrameOf};
 ghost use Rattle.hg_pool.specs.Maps.{copy_in, frame_in};
 ghost use Rattle.hg_pool.specs.Kept.{CellsFrom, Stays};
 ghost use Rattle.hg_pool.specs.Answers.{order_of};
 ghost use Rattle.hg_pool.specs.Calls.{AreStoredIfWhole, HasRoomForOne, IsSlotOf, IsWith, IsWithout, KeepsCopies, MayChange, SlotHasFrame, SlotHasFrozen, clean_frame, order_used};
 
 use crate::copies::add_copy;
-use crate::frame::Frame;
 use crate::parts::Parts;
+use hg_cache::Frame;
 use hg_cells::Page;
 use hg_disk::Disk;
 use hg_model::verdict::Refusal;

@@ -5,11 +5,11 @@ ghost use Rattle.hg_pool.specs.Maps.{disk_of, frame_in, live};
 ghost use Rattle.hg_pool.specs.Kept.{AreWithin, IsFaithful, Stays, Went};
 ghost use Rattle.hg_pool.specs.Answers.{IsTrueCause, order_of, order_with};
 ghost use Rattle.hg_pool.specs.OfWords.{FindsNoDamage, IsSettled};
-ghost use Rattle.hg_pool.specs.Frames.{HasCell};
+ghost use Rattle.hg_cache.specs.Frames.{HasCell};
 ghost use Rattle.hg_pool.specs.Calls.{ArePagesOf, CountsFailures, FillsWords, StayWithin, StaysFaithfulWith};
 
-use crate::frame::Frame;
 use crate::pool::Pool;
+use hg_cache::Frame;
 use hg_cells::run::{Run, run_in};
 use hg_cells::words::Words;
 use hg_cells::{Cell, PAGE_BYTES, PAGE_WORDS};

@@ -10,7 +10,7 @@ use crate::sink::Sink;
 use hg_model::verdict::Refusal;
 use hg_streams::input::Input;
 use hg_streams::output::Output;
-use hg_streams::streams::PIECE_BYTES;
+use hg_streams::streams::{MOST_READS, PIECE_BYTES};
 use hg_wire::reader::EventReader;
 use std::alloc::Global;
 use std::io::Read;
@@ -19,9 +19,6 @@ use std::thread::Threads;
 
 /// How many bytes are read at once where several threads parse them.
 const LARGE_PIECE: usize = 2_097_152;
-
-/// After how many reads an input counts as failed.
-const MOST_READS: u64 = 1 << 32;
 
 /// A reader, and the buffer for a piece.
 #[derive(Drop)]

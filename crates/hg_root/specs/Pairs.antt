@@ -195,5 +195,6 @@ module _ {D : Type 0} (g : disk.Ghosts D) where
     pub calls : CallsAtMost g most (older old) (older new)
     pub device : g.failures (older new) ≡ failures_after result (g.failures (older old))
     pub broken : IsErrOf result Broken → IsTrue (is_broken old)
+    pub works : is_broken old ≡ false → OnOk result (is_broken new ≡ false)
     pub breaks : OnErr result (IsTrue (is_broken new))
     pub same : IsTrue (is_broken old) → new ≡ old

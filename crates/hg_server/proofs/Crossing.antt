@@ -9,7 +9,7 @@ use Rattle.std.proofs.Crossing.{crosses}
 use Rattle.hg_pool.specs.contracts.pool.Pool as pool
 use Rattle.hg_pool.specs.contracts.pool.Pool.TheInside as inside
 use Rattle.hg_pool.specs.contracts.parts.Parts as parts
-use Rattle.hg_pool.proofs.frames.Frames.TheSendSync as frames
+use Rattle.hg_cache.proofs.frames.Frames.TheSendSync as frames
 use Rattle.hg_pages.proofs.table.Table.TheSendSync as table
 use Rattle.hg_disk.specs.declared.disk.Disk as disk
 use Rattle.hg_cells.proofs.page.Page.TheSendSync as page

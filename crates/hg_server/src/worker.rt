@@ -12,7 +12,7 @@ use hg_protocol::feed::Feed;
 use hg_protocol::frame::Frame;
 use hg_protocol::put::put_reply;
 use hg_protocol::reply::Reply;
-use hg_streams::streams::PIECE_BYTES;
+use hg_streams::streams::{MOST_READS, PIECE_BYTES};
 use std::alloc::Global;
 use std::io::{ErrorKind, Read, Write};
 use std::mem::replace;
@@ -177,7 +177,8 @@ impl<S: Write> Talk<S> {
     }
 }
 
-/// Holds one conversation to its end: until the client ends it, or breaks its rules, or the connection fails, or the gate says stop.
+/// Holds one conversation to its end: until the client ends it, or breaks its rules, or the connection fails, or the gate says stop,
+/// or after 2^32 reads.
 fn converse<D: Disk, A: Opening, B: Column, S: Read + Write + Drop, G: Gate, R: Wait>(
     seat: &mut Seat<D, A, B, G, R>,
     stream: S,
@@ -187,7 +188,7 @@ fn converse<D: Disk, A: Opening, B: Column, S: Read + Write + Drop, G: Gate, R: 
     ensures durable { seat.old.share.durable ≤ seat.new.share.durable }
 {
     let mut talk = Talk::new(seat.alloc, stream);
-    for _ in seat.rt.forever() {
+    for _ in 0..MOST_READS {
         let len = match talk.stream.read(piece) {
             Ok(0) => break,
             Ok(len) => len,

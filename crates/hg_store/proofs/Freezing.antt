@@ -1,5 +1,7 @@
 -- A store goes on by a freeze.
-use Rattle.std.proofs.Common.{◌≡◌, ◌∙◌, ◌+◌, ◌<◌, ℕ, List, [], ◌∷◌, Bool, false, length, Option, Some, None, refl, sym, ap, subst, arith}
+use Rattle.std.proofs.Common.{◌≡◌, ◌∙◌, inl, inr, ⊎_elim, ◌+◌, ◌<◌, ℕ, List, [], ◌∷◌, Bool, false, length, Option, Some, None, Err, refl, sym, ap, subst, arith}
+use Rattle.std.specs.Prelude.{◌≢◌}
+use Rattle.std.proofs.lemmas.Bool.{true≢false}
 use Rattle.std.proofs.lemmas.List.{append-nil}
 use Rattle.hg_model.specs.declared.event.Named.{Named}
 use Rattle.hg_model.specs.Contents.{Content}
@@ -23,13 +25,22 @@ use Rattle.hg_contents.specs.Choices.{Basis, HasBothSlots, HasEvents}
 use Rattle.hg_contents.specs.Images.{Gives}
 use Rattle.hg_contents.specs.Maps.{IsKnownTo}
 use Rattle.hg_contents.proofs.lawful.Sharing.{live_known}
+use Rattle.hg_pool.specs.Picking.{LacksSlots}
+use Rattle.hg_root.specs.declared.root.TheConstants.{MOST_CHECKPOINTS}
+use Rattle.hg_checkpoint.specs.Calls as calls
 use Rattle.hg_checkpoint.specs.Capturing.{parts_with}
+use Rattle.hg_checkpoint.specs.Phases as phases
+use Rattle.hg_checkpoint.specs.declared.cause.Cause.{Cause}
+use Rattle.hg_checkpoint.specs.declared.cause.Cause.TheVariants as cause
+use Rattle.hg_checkpoint.specs.declared.phase.CheckpointFault.TheVariants as fault
 use Rattle.hg_checkpoint.specs.declared.checkpointer.Checkpointer.{Checkpointer}
 use Rattle.hg_checkpoint.specs.declared.phase.Phase.{Phase}
 use Rattle.hg_checkpoint.specs.declared.phase.Phase.TheVariants as phase
 use Rattle.hg_checkpoint.specs.Standing as checkpoints
 use Rattle.hg_store.specs.Kept.{IsFreezing, IsFront, IsInProgress, Parts, Standing, devices_of, shown_of}
-use Rattle.hg_store.specs.Shown.{live, phase_by, saved}
+use Rattle.hg_store.specs.Answers.{IfRefused, IsAllowed, IsOfFreezing}
+use Rattle.hg_store.specs.Shown.{ShownStore, live, phase_by, phase_of, saved, words}
+use Rattle.hg_store.specs.declared.steps.StepFault.TheVariants as step
 use Rattle.hg_store.specs.declared.steps.StorePhase.TheVariants as store
 use Rattle.hg_disk.proofs.Moments.{started}
 use Rattle.hg_store.specs.declared.devices.Devices.{Devices}
@@ -45,6 +56,31 @@ idle_phase phase.Flushing pending is = absurd (cc is)
 idle_phase phase.Sealed pending is = absurd (cc is)
 idle_phase phase.Prepared pending is = absurd (cc is)
 idle_phase phase.Written pending is = absurd (cc is)
+
+-- a freeze that the checkpointer refused, of a store that works and rests
+pub freeze_refused : {D : Type 0} (T U : Type 0) (s : ShownStore D) (p : pool.ShownPool D) (b : Bool) (at : Phase) (Lawful : Type 0) (r : Cause) → s.is_broken ≡ false → phase_of s ≡ store.Idle
+    → s.progress.number < MOST_CHECKPOINTS → p ≡ words s → b ≡ false → phases.IsAllowed {T = U} b at Lawful (calls.IsOfFreezing p) (Err (fault.Refused r)) → IsAllowed {T = T} s (phase_of s ≡ store.Idle) (IsOfFreezing s) (Err (step.Refused r))
+freeze_refused T U s p b at Lawful r works idle few is own (inl broken) = absurd (true≢false (sym broken.0 ∙ own))
+freeze_refused {D} T U s p b at Lawful r works idle few is own (inr may) = inr (
+  works,
+  (
+    idle,
+    ⊎_elim
+        (λ none. subst (λ (x : Cause). IsOfFreezing s x) (sym none) few)
+        (λ full. subst (λ (x : Cause). IsOfFreezing s x) (sym full.0) (few, subst (λ (q : pool.ShownPool D). LacksSlots q) is full.1))
+        may.1.1,
+  ),
+)
+
+-- no device failed in it
+pub freeze_is_quiet : {D : Type 0} (T U : Type 0) (p : pool.ShownPool D) (b : Bool) (at : Phase) (Lawful : Type 0) (r : Cause) → phases.IsAllowed {T = U} b at Lawful (calls.IsOfFreezing p) (Err (fault.Refused r)) → IfRefused {T = T} (λ x. x ≢ cause.DeviceFault) (Err (step.Refused r))
+freeze_is_quiet T U p b at Lawful r (inl broken) device = absurd (cc (sym broken.1 ∙ device))
+freeze_is_quiet T U p b at Lawful r (inr may) device = ⊎_elim (λ none. absurd (cc (sym none ∙ device))) (λ full. absurd (cc (sym full.0 ∙ device))) may.1.1
+
+-- and no part was without a spelling
+pub freeze_is_spelled : {D : Type 0} (T U : Type 0) (p : pool.ShownPool D) (b : Bool) (at : Phase) (Lawful : Type 0) (r : Cause) → phases.IsAllowed {T = U} b at Lawful (calls.IsOfFreezing p) (Err (fault.Refused r)) → IfRefused {T = T} (λ x. x ≢ cause.Damaged) (Err (step.Refused r))
+freeze_is_spelled T U p b at Lawful r (inl broken) damaged = absurd (cc (sym broken.1 ∙ damaged))
+freeze_is_spelled T U p b at Lawful r (inr may) damaged = ⊎_elim (λ none. absurd (cc (sym none ∙ damaged))) (λ full. absurd (cc (sym full.0 ∙ damaged))) may.1.1
 
 -- the draft by the number that the checkpointer noted
 pub draft_of : {D : Type 0} (g : disk.Ghosts D) (c : Checkpointer D g) (w : pool.ShownPool D) (to : Option Checkpoint) (was : detect.ShownDetector (ℕ → Cell)) (number : ℕ) → c.next ≡ number

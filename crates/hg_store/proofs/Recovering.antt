@@ -1,27 +1,36 @@
 -- A store that is recovered: what its devices leave meanwhile, and the content that it has.
-use Rattle.std.proofs.Common.{◌≡◌, inl, inr, ◌+◌, ℕ, List, refl, sym, ap, subst, arith}
+use Rattle.std.proofs.Common.{◌≡◌, ◌∙◌, inl, inr, ◌+◌, ℕ, List, get_or, All, Option, Some, None, Result, Ok, Err, refl, sym, ap, subst, arith}
+use Rattle.std.specs.Prelude.{IfSome}
 use Rattle.hg_model.specs.Contents.{Content}
 use Rattle.hg_model.specs.declared.verdict.Refusal.{Refusal}
 use Rattle.hg_detect.specs.Shown as detect
+use Rattle.hg_disk.specs.Calls.{CallsAtMost}
 use Rattle.hg_disk.specs.State.{DiskState, IsImage, settled}
 use Rattle.hg_disk.specs.Moments.{LeavesOnly}
 use Rattle.hg_disk.specs.declared.disk.Disk as disk
 use Rattle.hg_disk.proofs.Moments.{at_end, may_leave, stays, still}
+use Rattle.hg_disk.proofs.Staying.{same, then}
 use Rattle.hg_journal.specs.Journal.{IsJournal}
+use Rattle.hg_pages.specs.Slots.{HasBytes}
+use Rattle.hg_pool.specs.Kept.{Went}
+use Rattle.hg_pool.specs.Maps as pools
 use Rattle.hg_pool.specs.Shown as pool
-use Rattle.hg_root.specs.Checkpoints.{HasCheckpoint}
+use Rattle.hg_checkpoint.specs.Tables.{NamesOf}
+use Rattle.hg_root.specs.Checkpoints.{Checkpoint, HasCheckpoint}
+use Rattle.hg_root.specs.Finding.{WasRead}
 use Rattle.hg_root.specs.declared.pair.RootPair.{RootPair}
 use Rattle.hg_contents.specs.Choices.{HasSlots}
 use Rattle.hg_contents.specs.Images.{HasContent, Image, LeadFrom}
 use Rattle.hg_contents.specs.Stores.{IsLeft}
 use Rattle.hg_store.specs.declared.devices.Devices.{Devices}
-use Rattle.hg_store.specs.Images.{EachImage, HasContentOf, HasContentOfOne, Recovers, read_of, states_of}
-use Rattle.hg_store.specs.Recovering.{CountedBy, IsRooted, Settled, Stay}
+use Rattle.hg_store.specs.Images.{EachImage, EachReadsOrFailed, FilesReadSame, FilesWereRead, HasContentOf, HasContentOfOne, IsOnlyRead, KeepsCheckpoint, KeepsFiles, KeepsSlot, KeepsSlots, ReadsSlots, Recovers, RootCallsAtMost, read_of, states_of}
+use Rattle.hg_store.specs.Recovering.{CountedBy, HasRootThat, IsRooted, LacksSlots, NamesAbove, ReadsSameOrFault, Settled, Stay, made_of}
+use Rattle.hg_store.specs.Shown.{ShownStore}
+use Rattle.hg_store.proofs.Rooting.{settled_leaves}
 
 -- other calls failed before
 pub counted_so : (r : Refusal) (old new a b more : ℕ) → CountedBy r old new → a ≡ old + more → b ≡ new + more → CountedBy r a b
-counted_so r old new a b more (inl is) one two = inl (omega (arith, is, one, two))
-counted_so r old new a b more (inr is) one two = inr (is.0, omega (arith, is.1, one, two))
+counted_so r old new a b more is one two = omega (arith, is, one, two)
 
 one_image : (s : DiskState) (image : List ℕ) → s ≡ settled s.contents → IsImage s image → image ≡ s.contents
 one_image s image is left =
@@ -154,3 +163,100 @@ module _ {D : Type 0} (g : disk.Ghosts D) where
       each = λ image may. (read_of g mid, left_self old mid bytes at, behind.each image may);
     };
   }
+
+-- What a recovery keeps of the files
+module _ {D : Type 0} (g : disk.Ghosts D) where
+  -- a device that was not called
+  pub uncalled : (old new : D) → new ≡ old → IsOnlyRead g old new
+  uncalled old new is = subst (λ (d : D). IsOnlyRead g old d) (sym is) (record { state = refl; images = same g old })
+
+  pub uncalled_root : (old new : D) → new ≡ old → WasRead g old new
+  uncalled_root old new is = subst (λ (d : D). WasRead g old d) (sym is) (record { state = refl; any_moment = same g old; calls = omega arith })
+
+  -- reads of a root between equal disks
+  pub root_read : (a b c d : D) → b ≡ a → d ≡ c → WasRead g b d → WasRead g a c
+  root_read a b c d one two read = subst (λ (x : D). WasRead g x c) one (subst (λ (y : D). WasRead g b y) two read)
+
+  -- reads up to an equal disk
+  pub read_to : (old mid new : D) → new ≡ mid → IsOnlyRead g old mid → IsOnlyRead g old new
+  read_to old mid new is read = subst (λ (d : D). IsOnlyRead g old d) (sym is) read
+
+  module _ (bytes : (d : D) → IsImage (g.state d) (g.state d).contents) where
+    slots_kept : (file : List ℕ) (words now : pool.ShownPool D) (c : Option Checkpoint) → g.state (pools.disk_of words) ≡ settled file → Went g words now → NamesOf words.root c
+        → IfSome c (λ k. All (λ p. KeepsSlot g file (pools.disk_of now) p.slot) k.root.pages)
+    slots_kept file words now None at went names = tt
+    slots_kept file words now (Some k) at went names = λ i d lt text has.
+        let p = get_or k.root.pages i d in
+        let P = HasBytes p.slot text in
+        let leaves = at_end g (pools.disk_of words) (pools.disk_of now) P (went.root_kept p.slot text (p.page, names i d lt) (settled_leaves P file (g.state (pools.disk_of words)) at has)) in
+        (leaves (g.state (pools.disk_of now)).contents (bytes (pools.disk_of now)), leaves)
+
+    -- the slots that the newest root names keep their bytes while the events behind it are followed
+    pub checkpoint_kept : (most number : ℕ) (old : Devices D) (d : detect.ShownDetector (pool.ShownPool D)) (roots : RootPair D)
+        → IsRooted g most (g.state old.root0).contents (g.state old.root1).contents (g.state old.slots).contents d roots number
+        → g.state (pools.disk_of d.words) ≡ settled (g.state old.slots).contents → (now : pool.ShownPool D) → Went g d.words now → (slots : D) → slots ≡ pools.disk_of now
+        → KeepsCheckpoint g (read_of g old) slots
+    checkpoint_kept most number old d roots rooted at now went slots is = (
+      rooted.now.checkpoint,
+      record { former = rooted.now.former; newest = rooted.has_roots; stand = rooted.has_slots },
+      subst (λ (x : D). IfSome rooted.now.checkpoint (λ k. All (λ p. KeepsSlot g (g.state old.slots).contents x p.slot) k.root.pages)) (sym is)
+          (slots_kept (g.state old.slots).contents d.words now rooted.now.checkpoint at went rooted.started.names),
+    )
+
+  -- a sync failed, or all succeeded and nothing was called since
+  pub files_synced : (old new : Devices D) → Stay g old new → EachReadsOrFailed g old new → KeepsFiles g old new
+  files_synced old new stay each = record {
+    journal = record { bytes = each.journal; images = stay.journal };
+    root0 = record { bytes = each.root0; images = stay.root0 };
+    root1 = record { bytes = each.root1; images = stay.root1 };
+  }
+
+  pub slots_synced : (old new : Devices D) → Stay g old new → EachReadsOrFailed g old new → KeepsSlots g old new
+  slots_synced old new stay each = inl (record { bytes = each.slots; images = stay.slots })
+
+  -- after the syncs the files were read
+  module _ (old mid new : Devices D) (at : Settled g old mid) where
+    pub same_read : FilesWereRead g mid new → FilesReadSame g old new
+    same_read read = record {
+      journal = ap (λ (s : DiskState). s.contents) (read.journal.state ∙ at.journal);
+      root0 = ap (λ (s : DiskState). s.contents) (read.root0.state ∙ at.root0);
+      root1 = ap (λ (s : DiskState). s.contents) (read.root1.state ∙ at.root1);
+    }
+
+    module _ (stay : Stay g old mid) where
+      pub files_read : FilesWereRead g mid new → KeepsFiles g old new
+      files_read read =
+          let now = same_read read in
+          record {
+            journal = record { bytes = inl now.journal; images = then g old.journal mid.journal new.journal stay.journal read.journal.images };
+            root0 = record { bytes = inl now.root0; images = then g old.root0 mid.root0 new.root0 stay.root0 read.root0.any_moment };
+            root1 = record { bytes = inl now.root1; images = then g old.root1 mid.root1 new.root1 stay.root1 read.root1.any_moment };
+          }
+
+      pub slots_read : ReadsSlots g mid new → KeepsSlots g old new
+      slots_read (inl read) =
+          inl (record { bytes = inl (ap (λ (s : DiskState). s.contents) (read.state ∙ at.slots)); images = then g old.slots mid.slots new.slots stay.slots read.images })
+      slots_read (inr kept) = inr (subst (λ (x : Image). KeepsCheckpoint g x new.slots) (reads_same g old mid at) kept)
+
+  pub same_settled : (old mid : Devices D) → Settled g old mid → FilesReadSame g old mid
+  same_settled old mid at = record {
+    journal = ap (λ (s : DiskState). s.contents) at.journal;
+    root0 = ap (λ (s : DiskState). s.contents) at.root0;
+    root1 = ap (λ (s : DiskState). s.contents) at.root1;
+  }
+
+  pub same_or_fault : (old : Devices D) (result : Result (ShownStore D) (Refusal × Devices D)) → FilesReadSame g old (made_of result) → ReadsSameOrFault g old result
+  same_or_fault old (Ok s) is = is
+  same_or_fault old (Err e) is = λ _. is
+
+  -- the roots' bytes of a refusal for want of slots are those from before the syncs
+  pub lacks_before : (cap : ℕ) (old mid new : Devices D) → Settled g old mid → LacksSlots g cap mid new → LacksSlots g cap old new
+  lacks_before cap old mid new at (inl above) =
+      inl (subst (λ (x : Image). HasRootThat (NamesAbove cap) x.root0 x.root1) (reads_same g old mid at) above)
+  lacks_before cap old mid new at (inr full) = inr full
+
+  pub few_calls : (a b : D) → CallsAtMost g 1 a b → CallsAtMost g 4 a b
+  few_calls a b one = omega (arith, one)
+
+  pub read_once : (a b c : D) → CallsAtMost g 1 a b → WasRead g b c → CallsAtMost g 4 a c
+  read_once a b c one read = let three = read.calls in omega (arith, one, three)

@@ -1,10 +1,13 @@
 -- How far a journal was followed.
-use Rattle.std.proofs.Common.{◌≡◌, ℕ, ◌+◌, ◌<◌, ◌≤◌, List, [], ◌∷◌, ◌++◌, length, drop, All, Some, None, if◌then◌else◌, OnOk, Result, Ok, Err, refl, sym, ap, ◌∙◌, subst, arith, append_assoc}
+use Rattle.std.proofs.Common.{◌≡◌, inl, inr, false, Bool, cond, IsTrue, ℕ, ◌+◌, ◌<◌, ◌≤◌, List, [], ◌∷◌, ◌++◌, length, drop, All, Option, Some, None, if◌then◌else◌, OnOk, Result, Ok, Err, refl, sym, ap, ◌∙◌, subst, arith, append_assoc}
+use Rattle.std.specs.Prelude.{IfErr}
 use Rattle.std.specs.List.{AllByRecursion}
+use Rattle.std.proofs.lemmas.Bool.{false≢true}
 use Rattle.std.proofs.lemmas.List.Elements.{All-drop, All-from_recursion, recursion_from_All}
 use Rattle.hg_records.specs.Records.{RecordFits}
 use Rattle.hg_root.specs.Grammar.{SetFits}
 use Rattle.hg_contents.specs.States.{IsLawfulState}
+use Rattle.hg_contents.proofs.lawful.Sharing.{live_known}
 use Rattle.hg_contents.proofs.lawful.Staying.{one_stays}
 use Rattle.hg_contents.proofs.lawful.Tables.{tables}
 use Rattle.std.proofs.lemmas.List.{append-nil, drop_at, length-append}
@@ -17,10 +20,11 @@ use Rattle.hg_model.specs.declared.verdict.Verdict.TheVariants.{Accept, Duplicat
 use Rattle.hg_model.specs.Contents.{Content}
 use Rattle.hg_model.specs.Verdicts.{verdict, standing_of}
 use Rattle.hg_model.specs.Change.{after, followed, is_accept}
-use Rattle.hg_sets.specs.Interning.{Table}
+use Rattle.hg_sets.specs.Interning.{Interns, Table}
+use Rattle.hg_sets.specs.declared.fault.SetFault.{SetFault}
 use Rattle.hg_sets.specs.declared.fault.SetFault.TheVariants.{Full}
-use Rattle.hg_detect.specs.Engine.{AtPresent}
-use Rattle.hg_detect.specs.Making.{Asks, sets_asked}
+use Rattle.hg_detect.specs.Engine.{AtPresent, LacksRoom}
+use Rattle.hg_detect.specs.Making.{Asks, AsksBy, sets_asked}
 use Rattle.hg_detect.specs.Shown as detect
 use Rattle.hg_cells.specs.Words as words
 use Rattle.hg_disk.specs.declared.disk.Disk as disk
@@ -30,13 +34,17 @@ use Rattle.hg_journal.specs.Journal as journals
 use Rattle.hg_journal.specs.Journal.{IsJournal}
 use Rattle.hg_journal.specs.Reading.{IsAt, disk_of}
 use Rattle.hg_journal.proofs.Journaling.{more}
-use Rattle.hg_pool.specs.Kept.{IsFaithful}
-use Rattle.hg_pool.specs.Maps.{live}
+use Rattle.hg_pages.specs.Tables.{slot_in}
+use Rattle.hg_pool.specs.Answers.{IsFull, IsTaken, IsTrueCause}
+use Rattle.hg_pool.specs.Kept.{BreaksByFailure, HasSome, IsFaithful, IsWhole, Went}
+use Rattle.hg_pool.specs.Maps.{is_broken, live}
+use Rattle.hg_pool.specs.Maps as pools
+use Rattle.hg_pool.specs.OfWords.{ReadsTrue}
 use Rattle.hg_pool.specs.Shown as pool
 use Rattle.hg_contents.specs.Images.{LeadFrom}
 use Rattle.hg_contents.proofs.Following.{followed_append, followed_events}
 use Rattle.hg_store.specs.Answers.{failed_in}
-use Rattle.hg_store.specs.Recovering.{Fills, IsAccepted, IsTooSmall}
+use Rattle.hg_store.specs.Recovering.{CountsFailures, Fills, HasFullSlots, IsAccepted, IsAtRest, IsOfRecovery, IsTooSmall, WorksOrFault}
 
 -- a refusal tells how many calls failed
 pub journal_failed : (r : Refusal) (n : ℕ) → journals.after_refusal r n ≡ failed_in r + n
@@ -149,6 +157,16 @@ on_ok (Err error) from holds = tt
 pub behind_seen : (seen rest : List Named) (n : ℕ) → length seen ≡ n → drop n (seen ++ rest) ≡ rest
 behind_seen seen rest n is = drop_at seen rest n is
 
+-- those of a journal behind some have records too
+pub fits_behind : (n : ℕ) (events : List Named) → AllByRecursion RecordFits events → AllByRecursion RecordFits (drop n events)
+fits_behind n events fits = recursion_from_All RecordFits (drop n events) (All-drop RecordFits n events (All-from_recursion RecordFits events fits))
+
+-- and so has the last one
+fits_last : (events : List Named) (n : Named) → AllByRecursion RecordFits (events ++ n ∷ []) → RecordFits n
+fits_last events n fits =
+    let last = fits_behind (length events) (events ++ n ∷ []) fits in
+    (subst (λ (l : List Named). AllByRecursion RecordFits l) (behind_seen events (n ∷ []) (length events) refl) last).0
+
 module _ {D : Type 0} (g : disk.Ghosts D) where
   abbrev pub content_in : detect.ShownDetector (pool.ShownPool D) → Content
   content_in d = detect.content (live g) d
@@ -160,6 +178,7 @@ module _ {D : Type 0} (g : disk.Ghosts D) where
     pub gives : followed (content_in first) since ≡ Some (content_in now)
     pub fills : Fills since (content_in first) first.sets (content_in now) now.sets
     pub faithful : AtPresent (IsFaithful g) now
+    pub lawful : IsLawfulState (content_in first) → IsLawfulState (content_in now)
 
   pub read_none : (j : Journal D g) (r : JournalReader) (seen : List Named) (d : detect.ShownDetector (pool.ShownPool D)) → IsAt j r seen → AtPresent (IsFaithful g) d → HasRead j r seen d d
   read_none j r seen d at faithful = record {
@@ -168,6 +187,7 @@ module _ {D : Type 0} (g : disk.Ghosts D) where
     gives = refl;
     fills = (refl, refl);
     faithful = faithful;
+    lawful = λ is. is;
   }
 
   module _ (old : Journal D g) (r : JournalReader) (seen : List Named) (first was : detect.ShownDetector (pool.ShownPool D)) (read : HasRead old r seen first was) (new : Journal D g) (s : JournalReader) (n : Named) (at : IsAt new s ((seen ++ read.since) ++ n ∷ [])) where
@@ -179,6 +199,7 @@ module _ {D : Type 0} (g : disk.Ghosts D) where
       fills = subst (λ (c : Content). Fills (read.since ++ n ∷ []) (content_in first) first.sets c now.sets) (sym is)
           (fills_more read.since (content_in first) first.sets (content_in was) was.sets n now.sets read.fills accepted asks);
       faithful = faithful;
+      lawful = λ was_lawful. subst IsLawfulState (sym is) (one_stays (content_in was) n (read.lawful was_lawful) (fits_last (seen ++ read.since) n at.fits) accepted);
     }
 
     begins : (events : List Named) → IsJournal (g.state (disk_of new)).contents events → (rest : List Named) × (events ≡ seen ++ (read.since ++ n ∷ rest))
@@ -231,6 +252,103 @@ fills_spelled (n ∷ events) c t last filled state fits all (accepted, mid, asks
     let next = one_stays c n state fits.0 accepted in
     fills_spelled events (after c n) mid last filled next fits.1 (tables c n t mid None next.spelled asks all) rest
 
--- those of a journal behind some have records too
-pub fits_behind : (n : ℕ) (events : List Named) → AllByRecursion RecordFits events → AllByRecursion RecordFits (drop n events)
-fits_behind n events fits = recursion_from_All RecordFits (drop n events) (All-drop RecordFits n events (All-from_recursion RecordFits events fits))
+-- A table of sets keeps its limit.
+interns_limit : (old mid : Table) (set : List ℕ) (id : ℕ) → Interns old set (Ok id) mid → mid.limit ≡ old.limit
+interns_limit old mid set id (inl found) = ap (λ (t : Table). t.limit) found.3
+interns_limit old mid set id (inr added) = ap (λ (t : Table). t.limit) added.1.2
+
+none_is_not_some : {A : Type 0} (fault : SetFault) → ◌≡◌ {A = Option SetFault} None (Some fault) → A
+none_is_not_some fault is = absurd (cc)
+
+asks_limit : (sets : List (List ℕ)) (old new : Table) → Asks old sets None new → new.limit ≡ old.limit
+asks_limit [] old new same = ap (λ (t : Table). t.limit) same
+asks_limit (set ∷ sets) old new (inl one) = asks_limit sets one.1 new one.3 ∙ interns_limit old one.1 set one.0 one.2
+asks_limit (set ∷ sets) old new (inr refused) = none_is_not_some refused.0 refused.2
+
+pub fills_limit : (events : List Named) (c : Content) (t : Table) (last : Content) (filled : Table) → Fills events c t last filled → filled.limit ≡ t.limit
+fills_limit [] c t last filled (same, is) = ap (λ (x : Table). x.limit) is
+fills_limit (n ∷ events) c t last filled (accepted, mid, asks, rest) =
+    fills_limit events (after c n) mid last filled rest ∙ asks_limit (sets_asked c n.event) t mid asks
+
+-- ---- why an event that the rules accept was refused
+
+-- how many calls failed
+pub words_counted : (result : Result (Unit {0}) Refusal) (old new : ℕ) → new ≡ words.failed_after result old → CountsFailures result old new
+words_counted (Ok value) old new count = count
+words_counted (Err r) old new count = count ∙ words_failed r old
+
+none_more : (result : Result (Unit {0}) Refusal) (n : ℕ) → (result ≡ Err refusal.DeviceFault → ⊥) → words.failed_after result n ≡ n
+none_more (Ok value) n other = refl
+none_more (Err r) n other = let none = none_failed r (λ is. other (ap (λ (x : Refusal). Err x) is)) in words_failed r n ∙ ap (λ (m : ℕ). m + n) none
+
+-- the table of sets behind an event that was accepted, and behind one that it had no room for
+pub asked_on_ok : (result : Result (Unit {0}) Refusal) (t u : Table) (sets : List (List ℕ)) → AsksBy t sets result u → OnOk result (Asks t sets None u)
+asked_on_ok (Ok value) t u sets asks = asks
+asked_on_ok (Err r) t u sets asks = tt
+
+pub asked_in_vain : (result : Result (Unit {0}) Refusal) (t u : Table) (sets : List (List ℕ)) → AsksBy t sets result u → result ≡ Err refusal.FullSets → Asks t sets (Some Full) u
+asked_in_vain result t u sets asks told = subst (λ (r : Result (Unit {0}) Refusal). AsksBy t sets r u) told asks
+
+pub told_of : (P : Refusal → Type 0) (result : Result (Unit {0}) Refusal) (r : Refusal) → IfErr result P → result ≡ Err r → P r
+told_of P result r holds told = subst (λ (x : Result (Unit {0}) Refusal). IfErr x P) told holds
+
+of_pool : {D : Type 0} (p : pool.ShownPool D) (r : Refusal) → (r ≡ refusal.Broken → ⊥) → IsTrueCause p r → IsOfRecovery r
+of_pool p refusal.Damaged works cause = inl refl
+of_pool p refusal.FullSlots works cause = inr (inr (inl refl))
+of_pool p refusal.DeviceFault works cause = inr (inr (inr (inl refl)))
+of_pool p refusal.OutOfMemory works cause = inr (inr (inr (inr refl)))
+of_pool p refusal.Broken works cause = absurd (works refl)
+of_pool p _ works cause = absurd cause
+
+module _ {D : Type 0} (g : disk.Ghosts D) where
+  -- a pool at which no call failed works as before
+  works_still : (old new : pool.ShownPool D) → BreaksByFailure g old new → is_broken old ≡ false → g.failures (pools.disk_of new) ≡ g.failures (pools.disk_of old) → is_broken new ≡ false
+  works_still old new (more, inl is) works same = is ∙ works
+  works_still old new (more, inr less) works same = absurd (omega (arith, less, same))
+
+  pub works_or_fault : (old new : pool.ShownPool D) (result : Result (Unit {0}) Refusal) → BreaksByFailure g old new → is_broken old ≡ false
+      → g.failures (pools.disk_of new) ≡ words.failed_after result (g.failures (pools.disk_of old)) → WorksOrFault result new
+  works_or_fault old new result breaks works count other = works_still old new breaks works (count ∙ none_more result (g.failures (pools.disk_of old)) other)
+
+  -- a pool that works tells no other refusal
+  pub of_following : (p : pool.ShownPool D) (result : Result (Unit {0}) Refusal) → IfErr result (LacksRoom (IsTrueCause p)) → WorksOrFault result p → IfErr result IsOfRecovery
+  of_following p (Ok value) cause works = tt
+  of_following p (Err r) (inl sets) works = inr (inl sets)
+  of_following p (Err r) (inr (inl memory)) works = inr (inr (inr (inr memory)))
+  of_following p (Err r) (inr (inr cause)) works =
+      of_pool p r (λ broken. is_not_broken (works (λ told. absurd (cc (sym told ∙ ap (λ (x : Refusal). Err x) broken)))) (subst (λ (x : Refusal). IsTrueCause p x) broken cause)) cause
+    where
+      is_not_broken : is_broken p ≡ false → IsTrue (is_broken p) → ⊥
+      is_not_broken no yes = false≢true (sym no ∙ yes)
+
+  pub full_of : (p : pool.ShownPool D) → LacksRoom (IsTrueCause p) refusal.FullSlots → IsFull p
+  full_of p (inl sets) = absurd (cc sets)
+  full_of p (inr (inl memory)) = absurd (cc memory)
+  full_of p (inr (inr full)) = full
+
+  -- the words of a lawful state can be read back
+  pub reads_true : (d : detect.ShownDetector (pool.ShownPool D)) → AtPresent (IsFaithful g) d → IsLawfulState (content_in g d) → ReadsTrue g d.words (length d.segments) d.sets.sets
+  reads_true d faithful state =
+      (faithful.whole, λ w. live_known (content_in g d) (length d.segments) d.sets.sets (live g d.words w) w state refl (faithful.within w))
+
+  -- ---- a pool without a free slot
+
+  pub at_rest : (old new : pool.ShownPool D) → Went g old new → IsAtRest old → IsAtRest new
+  at_rest old new went rest = record {
+    none_waits = went.none_waits rest.none_waits;
+    frozen = λ page slot names. went.frozen_table page slot (rest.frozen page slot (subst (λ (t : List (ℕ × ℕ)). slot_in t page ≡ Some slot) went.root names));
+  }
+
+  known_now : (p : pool.ShownPool D) → is_broken p ≡ false → pools.bytes_of g p ≡ (g.state (pools.disk_of p)).contents
+  known_now p works = ap (λ (b : Bool). cond b (g.state p.file.before.value).contents (g.state p.file.disk).contents) works
+
+  has_page : (p : pool.ShownPool D) (slot : ℕ) → IsAtRest p → IsWhole g p → IsTaken p slot → (page : ℕ) × HasSome slot page (pools.bytes_of g p)
+  has_page p slot rest whole (inl (page, names)) = (page, (whole.pages page).frozen_page slot (rest.frozen page slot names))
+  has_page p slot rest whole (inr (inl (page, names))) = (page, (whole.pages page).frozen_page slot names)
+  has_page p slot rest whole (inr (inr (inl (page, names)))) = (page, (whole.pages page).live_page slot names)
+  has_page p slot rest whole (inr (inr (inr (page, names)))) = absurd (cc (sym (subst (λ (t : List (ℕ × ℕ)). slot_in t page ≡ Some slot) rest.none_waits names)))
+
+  pub full_slots : (p : pool.ShownPool D) → IsAtRest p → IsWhole g p → is_broken p ≡ false → IsFull p → HasFullSlots g p.slots (pools.disk_of p)
+  full_slots p rest whole works full slot lt =
+      let found = has_page p slot rest whole (full slot lt) in
+      (found.0, subst (λ (bytes : List ℕ). HasSome slot found.0 bytes) (known_now p works) found.1)

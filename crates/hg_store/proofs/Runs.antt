@@ -45,11 +45,11 @@ refused_doubts false true refusal is = refl
 refused_doubts false false refusal is = ap is_device_fault is
 
 -- a broken store refuses a step of a checkpoint so
-refuses : {D X : Type 0} (s : ShownStore D) (Allowed : Type 0) (result : Result X StepFault) → IsAllowed s Allowed result → IfBroken s.is_broken result
-refuses s Allowed (Ok value) is broken = absurd (cc (sym is.0 ∙ broken))
-refuses s Allowed (Err (WrongPhase p)) is broken = absurd (cc (sym is.0 ∙ broken))
-refuses s Allowed (Err (Refused r)) (inl is) broken = ap (λ (x : Cause). Err (Refused x)) is.1
-refuses s Allowed (Err (Refused r)) (inr is) broken = absurd (cc (sym is.0 ∙ broken))
+refuses : {D X : Type 0} (s : ShownStore D) (Allowed : Type 0) (Causes : Cause → Type 0) (result : Result X StepFault) → IsAllowed s Allowed Causes result → IfBroken s.is_broken result
+refuses s Allowed Causes (Ok value) is broken = absurd (cc (sym is.0 ∙ broken))
+refuses s Allowed Causes (Err (WrongPhase p)) is broken = absurd (cc (sym is.0 ∙ broken))
+refuses s Allowed Causes (Err (Refused r)) (inl is) broken = ap (λ (x : Cause). Err (Refused x)) is.1
+refuses s Allowed Causes (Err (Refused r)) (inr is) broken = absurd (cc (sym is.0 ∙ broken))
 
 module _ {D : Type 0} (g : disk.Ghosts D) where
   weaker : (old new : Devices D) (P Q : Image → Type 0) → ((image : Image) → P image → Q image) → EachImage g old new P → EachImage g old new Q
@@ -63,13 +63,13 @@ module _ {D : Type 0} (g : disk.Ghosts D) where
     is_lawful : (run : Run) (s new : ShownStore D) (step : Step) (result : StepResult) → IsAt g start run s → StepDone g s new step result → Lawful start run s.is_broken step result
     is_lawful run s new (step.Offer n) result at done = (done.0, done.1, (live g s, at.accepted_is, rw at.pending done.2.answer))
     is_lawful run s new step.Commit result at done = (done.0, done.1, (live g s, at.accepted_is, commit_lawful s new done.0 done.2))
-    is_lawful run s new step.Freeze result at done = (done.0, done.1, refuses s _ done.0 done.2.done.allowed)
-    is_lawful run s new step.TakeJob result at done = (done.0, done.1, refuses s _ done.0 done.2.allowed)
-    is_lawful run s new (step.Put page) result at done = (done.0, done.1, refuses s _ done.0 done.2.done.allowed)
-    is_lawful run s new step.SealPages result at done = (done.0, done.1, refuses s _ done.0 done.2.done.allowed)
-    is_lawful run s new step.PrepareRoot result at done = (done.0, done.1, refuses s _ done.0 done.2.done.allowed)
-    is_lawful run s new step.WriteRoot result at done = (done.0, done.1, refuses s _ done.0 done.2.done.allowed)
-    is_lawful run s new step.OpenRoot result at done = (done.0, done.1, refuses s _ done.0 done.2.done.allowed)
+    is_lawful run s new step.Freeze result at done = (done.0, done.1, refuses s _ _ done.0 done.2.done.allowed)
+    is_lawful run s new step.TakeJob result at done = (done.0, done.1, refuses s _ _ done.0 done.2.allowed)
+    is_lawful run s new (step.Put page) result at done = (done.0, done.1, refuses s _ _ done.0 done.2.done.allowed)
+    is_lawful run s new step.SealPages result at done = (done.0, done.1, refuses s _ _ done.0 done.2.done.allowed)
+    is_lawful run s new step.PrepareRoot result at done = (done.0, done.1, refuses s _ _ done.0 done.2.done.allowed)
+    is_lawful run s new step.WriteRoot result at done = (done.0, done.1, refuses s _ _ done.0 done.2.done.allowed)
+    is_lawful run s new step.OpenRoot result at done = (done.0, done.1, refuses s _ _ done.0 done.2.done.allowed)
 
     -- the content of a detector that did not change
     saved_same : (s new : ShownStore D) → new.committed ≡ s.committed → saved g s ≡ saved g new
@@ -125,7 +125,7 @@ module _ {D : Type 0} (g : disk.Ghosts D) where
         subst (λ (r : StepResult). IsAt g start (run_after run (step.Offer n) r) new) (sym done.1) (after_offer run s new n done.0 at done.2 (offered_is s new n result done.0 done.1 content) backed)
     is_after run s new step.Commit result at done content backed =
         subst (λ (r : StepResult). IsAt g start (run_after run step.Commit r) new) (sym done.1) (after_commit run s new done.0 at done.2 content backed)
-    is_after run s new step.Freeze result at done content backed = at_same run s new at done.2.done.committed content done.2.done.pending done.2.done.in_doubt backed
+    is_after run s new step.Freeze result at done content backed = at_same run s new at done.2.done.committed content.2.live done.2.done.pending done.2.done.in_doubt backed
     is_after run s new step.TakeJob result at done content backed = subst (λ (x : ShownStore D). IsAt g start run x) (sym done.2.same) at
     is_after run s new (step.Put page) result at done content backed = at_same run s new at done.2.done.committed content done.2.done.pending done.2.done.in_doubt backed
     is_after run s new step.SealPages result at done content backed = at_same run s new at done.2.done.committed content done.2.done.pending done.2.done.in_doubt backed

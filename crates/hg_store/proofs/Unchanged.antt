@@ -1,10 +1,13 @@
 -- A step of a checkpoint that changed nothing.
-use Rattle.std.proofs.Common.{◌≡◌, inl, ℕ, Err, sym, ap, subst}
+use Rattle.std.proofs.Common.{◌≡◌, ℕ, Err, sym, ap, subst}
+use Rattle.std.specs.Prelude.{◌≢◌}
 use Rattle.hg_disk.specs.declared.disk.Disk as disk
 use Rattle.hg_pool.specs.Shown as pool
 use Rattle.hg_checkpoint.specs.declared.checkpointer.Checkpointer.{Checkpointer}
+use Rattle.hg_checkpoint.specs.declared.cause.Cause.{Cause}
+use Rattle.hg_checkpoint.specs.declared.cause.Cause.TheVariants.{DeviceFault}
 use Rattle.hg_checkpoint.specs.declared.phase.Phase.{Phase}
-use Rattle.hg_store.specs.Answers.{IsAllowed}
+use Rattle.hg_store.specs.Answers.{IfRefused, IsAllowed}
 use Rattle.hg_store.specs.Kept.{IsSound, Parts, shown_of}
 use Rattle.hg_store.specs.Shown.{ShownStore}
 use Rattle.hg_store.specs.Steps.{CheckpointDone}
@@ -37,8 +40,9 @@ module _ {D : Type 0} (g : disk.Ghosts D) where
     same_shown old is =
         subst (λ (x : Checkpointer D g). shown_of g (called_with s x w) ≡ old) (sym same) (subst (λ (p : pool.ShownPool D). shown_of g (called_with s s.checkpointer p) ≡ old) (sym stays) is)
 
-pub nothing_done : {D T : Type 0} (old new : ShownStore D) (Lawful : Type 0) (to : Phase) (fault : StepFault) → new ≡ old → IsAllowed {T = T} old Lawful (Err fault) → CheckpointDone {T = T} old new Lawful to (Err fault)
-nothing_done old new Lawful to (WrongPhase p) same allowed = record {
+pub nothing_done : {D T : Type 0} (old new : ShownStore D) (Lawful : Type 0) (Causes : Cause → Type 0) (to : Phase) (fault : StepFault) → new ≡ old → IsAllowed {T = T} old Lawful Causes (Err fault)
+    → IfRefused {T = T} (λ r. r ≢ DeviceFault) (Err fault) → CheckpointDone {T = T} old new Lawful Causes to (Err fault)
+nothing_done old new Lawful Causes to (WrongPhase p) same allowed quiet = record {
   allowed = allowed;
   phase = tt;
   works = tt;
@@ -50,12 +54,12 @@ nothing_done old new Lawful to (WrongPhase p) same allowed = record {
   in_doubt = ap (λ s. s.in_doubt) same;
   journal = ap (λ s. s.devices.journal) same;
 }
-nothing_done old new Lawful to (Refused r) same allowed = record {
+nothing_done old new Lawful Causes to (Refused r) same allowed quiet = record {
   allowed = allowed;
   phase = tt;
   works = tt;
   unchanged = tt;
-  refused = inl same;
+  refused = (λ is. absurd (quiet is), λ other. same);
   pending = ap (λ s. s.pending) same;
   committed = ap (λ s. s.committed) same;
   durable = ap (λ s. s.durable) same;

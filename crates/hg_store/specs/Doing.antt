@@ -1,5 +1,5 @@
 -- What each step does and answers.
-use Rattle.std.specs.Prelude.{◌≡◌, ◌+◌, ◌<◌, ◌≤◌, ◌^◌, ℕ, [], Bool, true, false, Option, Some, Result, OnOk, OnErr, IfOk, MatchOption}
+use Rattle.std.specs.Prelude.{◌≡◌, ◌≢◌, ◌+◌, ◌<◌, ◌≤◌, ◌^◌, ℕ, [], Bool, true, false, Option, Some, Result, OnOk, OnErr, IfOk, MatchOption}
 use Rattle.hg_root.specs.declared.root.TheConstants.{MOST_CHECKPOINTS}
 use Rattle.hg_disk.specs.declared.disk.Disk as disk
 use Rattle.hg_journal.specs.Journal.{failed_after}
@@ -10,9 +10,11 @@ use Rattle.hg_pool.specs.Shown as pool
 use Rattle.hg_pool.specs.declared.job.Job.{Job}
 use Rattle.hg_pool.specs.declared.job.Put.{Put}
 use Rattle.hg_pool.specs.declared.job.Put.TheVariants as put
+use Rattle.hg_checkpoint.specs.Calls.{IsOfDevice, IsOfWriting}
+use Rattle.hg_checkpoint.specs.Phases.{Never}
 use Rattle.hg_checkpoint.specs.declared.cause.Cause.TheVariants as cause
 use Rattle.hg_checkpoint.specs.declared.phase.Phase.TheVariants as phase
-use Rattle.hg_store.specs.Answers.{IfRefused, IsAllowed, failed_by}
+use Rattle.hg_store.specs.Answers.{IfRefused, IsAllowed, IsOfFreezing, failed_by}
 use Rattle.hg_store.specs.Shown.{HasNextNumber, IsFlushed, IsIn, ShownStore, live, phase_of, words}
 use Rattle.hg_store.specs.Steps.{CheckpointDone, CommitDone, ContentOffered, OfferDone}
 use Rattle.hg_store.specs.Store.{HasOpenedFrozen, StandMeanwhile}
@@ -48,12 +50,15 @@ pub record SameNumbers {D : Type 0} (old new : ShownStore D) : Type 0 where
   pub next : new.progress.next ≡ old.progress.next
   pub head : new.progress.head ≡ old.progress.head
 
+-- A checkpoint begins only if no event is pending and none is in progress.
+abbrev pub BeginsWhenIdle : {D : Type 0} → (old new : ShownStore D) → Result (Unit {0}) StepFault → Type 0
+BeginsWhenIdle old new result = CheckpointDone old new (phase_of old ≡ store.Idle) (IsOfFreezing old) phase.Flushing result
+
 -- A checkpoint begins, with the number behind that of the newest one. No device is called.
 pub record FreezeDone {D : Type 0} (old new : ShownStore D) (result : Result (Unit {0}) StepFault) : Type 0 where
-  pub done : CheckpointDone old new (phase_of old ≡ store.Idle) phase.Flushing result
+  pub done : BeginsWhenIdle old new result
   pub refused : OnErr result (new ≡ old)
   pub last : OnOk result (old.progress.number < MOST_CHECKPOINTS)
-  pub full : IfRefused (λ r. r ≡ cause.FullEvents → MOST_CHECKPOINTS ≤ old.progress.number) result
   pub number : OnOk result (HasNextNumber old new)
   pub devices : new.devices ≡ old.devices
   pub frozen : OnOk result (new.frozen ≡ old.detector)
@@ -61,13 +66,12 @@ pub record FreezeDone {D : Type 0} (old new : ShownStore D) (result : Result (Un
 -- The page is the first of the waiting ones, with its cells at the freeze. Nothing changes.
 pub record JobTaken {D : Type 0} (old new : ShownStore D) (result : Result (Option Job) StepFault) : Type 0 where
   pub same : new ≡ old
-  pub allowed : IsAllowed old (IsIn phase.Flushing old) result
-  pub refusal : IfRefused (λ r. r ≡ cause.Broken) result
+  pub allowed : IsAllowed old (IsIn phase.Flushing old) Never result
   pub job : IfOk result (IsFirstWaiting (words old))
 
 -- A page is written if it waits and the bytes are those of its cells at the freeze. The phase stays.
 pub record PutDone {D : Type 0} (old new : ShownStore D) (page : Encoded) (result : Result Put StepFault) : Type 0 where
-  pub done : CheckpointDone old new (old.is_broken ≡ false) old.progress.phase result
+  pub done : CheckpointDone old new (old.is_broken ≡ false) IsOfDevice old.progress.phase result
   pub written : IfOk result (λ p. p ≡ put.Written → HasWaited (words old) page)
   pub stale : IfOk result (λ p. p ≡ put.Stale → IsStale (words old) page)
   pub nothing : IfOk result (λ p. p ≡ put.Stale → new ≡ old)
@@ -77,28 +81,28 @@ pub record PutDone {D : Type 0} (old new : ShownStore D) (page : Encoded) (resul
 
 -- The pages are durable, once none waits.
 pub record SealDone {D : Type 0} (old new : ShownStore D) (result : Result (Unit {0}) StepFault) : Type 0 where
-  pub done : CheckpointDone old new (IsFlushed old) phase.Sealed result
+  pub done : CheckpointDone old new (IsFlushed old) IsOfDevice phase.Sealed result
   pub roots : SameRoots old new
   pub numbers : SameNumbers old new
   pub frozen : new.frozen ≡ old.frozen
 
 -- The file of the next root is closed.
 pub record PrepareDone {D : Type 0} (old new : ShownStore D) (result : Result (Unit {0}) StepFault) : Type 0 where
-  pub done : CheckpointDone old new (IsIn phase.Sealed old) phase.Prepared result
+  pub done : CheckpointDone old new (IsIn phase.Sealed old) IsOfDevice phase.Prepared result
   pub words : SameWords old new
   pub numbers : SameNumbers old new
   pub frozen : new.frozen ≡ old.frozen
 
 -- The next root is durable behind its closed gate.
 pub record WriteDone {D : Type 0} (old new : ShownStore D) (result : Result (Unit {0}) StepFault) : Type 0 where
-  pub done : CheckpointDone old new (IsIn phase.Prepared old) phase.Written result
+  pub done : CheckpointDone old new (IsIn phase.Prepared old) IsOfWriting phase.Written result
   pub words : SameWords old new
   pub numbers : SameNumbers old new
   pub frozen : new.frozen ≡ old.frozen
 
 -- The next root is the newest one, and its number is answered.
 pub record OpenDone {D : Type 0} (old new : ShownStore D) (result : Result ℕ StepFault) : Type 0 where
-  pub done : CheckpointDone old new (IsIn phase.Written old) phase.Idle result
+  pub done : CheckpointDone old new (IsIn phase.Written old) IsOfDevice phase.Idle result
   pub number : IfOk result (λ n. (n ≡ old.progress.next) × (new.progress.number ≡ n))
   pub slots : new.devices.slots ≡ old.devices.slots
   pub frozen : new.frozen ≡ old.frozen
@@ -115,6 +119,11 @@ StepDone g old new step.PrepareRoot result = Tells told.Prepared result (λ r. P
 StepDone g old new step.WriteRoot result = Tells told.Written result (λ r. WriteDone old new r)
 StepDone g old new step.OpenRoot result = Tells told.Opened result (λ r. OpenDone old new r)
 
+-- Over honest devices each part of a detector has a spelling.
+pub record ContentFrozen {D : Type 0} (g : disk.Ghosts D) (old new : ShownStore D) (result : Result (Unit {0}) StepFault) : Type 0 where
+  pub live : live g new ≡ live g old
+  pub undamaged : IfRefused (λ r. r ≢ cause.Damaged) result
+
 -- After a root was opened, it is the newest one, and has the content at the freeze.
 pub record ContentOpened {D : Type 0} (g : disk.Ghosts D) (old new : ShownStore D) (result : Result ℕ StepFault) : Type 0 where
   pub live : live g new ≡ live g old
@@ -123,6 +132,7 @@ pub record ContentOpened {D : Type 0} (g : disk.Ghosts D) (old new : ShownStore 
 -- The live content over honest devices: an accepted event joins it, and each other step leaves it as it is.
 abbrev pub ContentDone : {D : Type 0} → disk.Ghosts D → (old new : ShownStore D) → Step → StepResult → Type 0
 ContentDone g old new (step.Offer n) result = Tells told.Offered result (λ r. ContentOffered g old new n r)
+ContentDone g old new step.Freeze result = Tells told.Frozen result (λ r. ContentFrozen g old new r)
 ContentDone g old new step.OpenRoot result = Tells told.Opened result (λ r. ContentOpened g old new r)
 ContentDone g old new _ result = live g new ≡ live g old
 

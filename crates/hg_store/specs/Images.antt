@@ -1,12 +1,15 @@
--- What a crash may leave of the devices of a store, from one moment to another.
-use Rattle.std.specs.Prelude.{◌≡◌, ◌+◌, ℕ, List, [], ◌∷◌, Some}
+-- What a crash may leave of the devices of a store, from one moment to another, and what a read gives then.
+use Rattle.std.specs.Prelude.{◌≡◌, ◌⊎◌, ◌+◌, ℕ, List, [], ◌∷◌, All, Option, Some, IfSome}
 use Rattle.hg_model.specs.declared.event.Named.{Named}
 use Rattle.hg_model.specs.Contents.{Content}
 use Rattle.hg_model.specs.Change.{followed}
-use Rattle.hg_disk.specs.Moments.{GoesOn, LeavesOnly, MayLeave}
-use Rattle.hg_disk.specs.State.{IsImage}
+use Rattle.hg_disk.specs.Calls.{CallsAtMost}
+use Rattle.hg_disk.specs.Moments.{GoesOn, Leaves, LeavesOnly, MayLeave}
+use Rattle.hg_disk.specs.State.{IsImage, SameImages}
 use Rattle.hg_disk.specs.declared.disk.Disk as disk
+use Rattle.hg_pages.specs.Slots.{HasBytes}
 use Rattle.hg_root.specs.Checkpoints.{Checkpoint, HasCheckpoint}
+use Rattle.hg_root.specs.Finding.{WasRead}
 use Rattle.hg_contents.specs.Images.{HasContent, Image, content_of}
 use Rattle.hg_contents.specs.Stores.{IsLeft, States}
 use Rattle.hg_store.specs.declared.devices.Devices.{Devices}
@@ -66,6 +69,81 @@ module _ {D : Type 0} (g : disk.Ghosts D) where
   -- Each image of one device is one that it had at first.
   abbrev pub LeavesOld : (old new : D) → Type 0
   LeavesOld old new = LeavesOnly g old new (IsImage (g.state old))
+
+-- What stays of the files when a store is looked for
+module _ {D : Type 0} (g : disk.Ghosts D) where
+  -- a read of the device gives what it gave
+  abbrev pub ReadsSame : (old new : D) → Type 0
+  ReadsSame old new = (g.state new).contents ≡ (g.state old).contents
+
+  -- A read of the journal, and of each root, gives what it gave.
+  pub record FilesReadSame (old new : Devices D) : Type 0 where
+    pub journal : ReadsSame old.journal new.journal
+    pub root0 : ReadsSame old.root0 new.root0
+    pub root1 : ReadsSame old.root1 new.root1
+
+  -- The one call of this device failed, a sync, and no other call of the devices did. A read gives one of its images.
+  pub record FailedToSync (old new : Devices D) (before after : D) : Type 0 where
+    pub images : SameImages (g.state before) (g.state after)
+    pub once : g.past after ≡ g.state before ∷ g.past before
+    pub failures : FailuresGrowBy g old new 1
+
+  -- A read of the device gives what it gave, or its sync failed.
+  abbrev pub ReadsOrFailed : (old new : Devices D) → (before after : D) → Type 0
+  ReadsOrFailed old new before after = ReadsSame before after ⊎ FailedToSync old new before after
+
+  -- So it is with each device.
+  pub record EachReadsOrFailed (old new : Devices D) : Type 0 where
+    pub journal : ReadsOrFailed old new old.journal new.journal
+    pub slots : ReadsOrFailed old new old.slots new.slots
+    pub root0 : ReadsOrFailed old new old.root0 new.root0
+    pub root1 : ReadsOrFailed old new old.root1 new.root1
+
+  -- The device is kept: a read gives what it gave, or its sync failed; and each image, at each moment, is one that it had at
+  -- first.
+  pub record IsKept (old new : Devices D) (before after : D) : Type 0 where
+    pub bytes : ReadsOrFailed old new before after
+    pub images : LeavesOld g before after
+
+  -- The journal and both roots are kept.
+  pub record KeepsFiles (old new : Devices D) : Type 0 where
+    pub journal : IsKept old new old.journal new.journal
+    pub root0 : IsKept old new old.root0 new.root0
+    pub root1 : IsKept old new old.root1 new.root1
+
+  -- The bytes that this file has in the slot are there in what a read of the device gives, and in each image.
+  abbrev pub KeepsSlot : (file : List ℕ) → D → (slot : ℕ) → Type 0
+  KeepsSlot file device slot =
+      (bytes : List ℕ) → HasBytes slot bytes file → HasBytes slot bytes (g.state device).contents × Leaves (HasBytes slot bytes) (g.state device)
+
+  -- The image has a checkpoint, or none, and the device keeps each slot that its root names.
+  abbrev pub KeepsCheckpoint : Image → D → Type 0
+  KeepsCheckpoint image device =
+      (now : Option Checkpoint) × HasCheckpoint now image.root0 image.root1 image.slots
+      × IfSome now (λ c. All (λ p. KeepsSlot image.slots device p.slot) c.root.pages)
+
+  -- The slots are kept; or the devices have a checkpoint, or none, and each slot that its root names keeps its bytes.
+  abbrev pub KeepsSlots : (old new : Devices D) → Type 0
+  KeepsSlots old new = IsKept old new old.slots new.slots ⊎ KeepsCheckpoint (read_of g old) new.slots
+
+  -- The device was only read: its state stays, and no moment adds an image.
+  pub record IsOnlyRead (old new : D) : Type 0 where
+    pub state : g.state new ≡ g.state old
+    pub images : LeavesOld g old new
+
+  -- The journal was only read, and each root with three calls at most.
+  pub record FilesWereRead (old new : Devices D) : Type 0 where
+    pub journal : IsOnlyRead old.journal new.journal
+    pub root0 : WasRead g old.root0 new.root0
+    pub root1 : WasRead g old.root1 new.root1
+
+  -- The slots were only read; or the devices have a checkpoint, or none, and each slot that its root names keeps its bytes.
+  abbrev pub ReadsSlots : (old new : Devices D) → Type 0
+  ReadsSlots old new = IsOnlyRead old.slots new.slots ⊎ KeepsCheckpoint (read_of g old) new.slots
+
+  -- Each root was called at most so often.
+  abbrev pub RootCallsAtMost : ℕ → (old new : Devices D) → Type 0
+  RootCallsAtMost most old new = CallsAtMost g most old.root0 new.root0 × CallsAtMost g most old.root1 new.root1
 
 -- The image has each content that the image `before` has.
 abbrev pub HasContentOf : Image → Image → Type 0

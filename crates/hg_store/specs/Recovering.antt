@@ -23,7 +23,7 @@ use Rattle.hg_journal.specs.declared.journal.JournalReader.{JournalReader}
 use Rattle.hg_pages.specs.Files as files
 use Rattle.hg_pages.specs.declared.slot_file.SlotFile.{SlotFile}
 use Rattle.hg_journal.specs.Reading as journals
-use Rattle.hg_pool.specs.Kept.{IsFaithful}
+use Rattle.hg_pool.specs.Kept.{Extends, HasSome, IsFaithful}
 use Rattle.hg_pool.specs.Maps as pools
 use Rattle.hg_pool.specs.Shown as pool
 use Rattle.hg_root.specs.Checkpoints.{Checkpoint, HasCheckpoint, HasPages, LieWithin, root_of}
@@ -46,8 +46,9 @@ use Rattle.hg_store.specs.Shown.{ShownStore}
 use Rattle.hg_store.specs.Answers.{failed_in}
 use Rattle.hg_store.specs.declared.create.CreateFault.{CreateFault}
 use Rattle.hg_store.specs.declared.create.CreateFault.TheVariants.{NotEmpty, Refused}
+use Rattle.hg_store.specs.declared.devices.Caps.{Caps}
 use Rattle.hg_store.specs.declared.devices.Devices.{Devices}
-use Rattle.hg_store.specs.Images.{FailuresBecome, failures_of, read_of}
+use Rattle.hg_store.specs.Images.{FailuresBecome, FilesReadSame, failures_of, read_of}
 use Rattle.hg_store.specs.Store.{IsFresh}
 
 -- what the devices of a new store read: the journal's header and a closed gate, no slot, and closed roots
@@ -74,6 +75,18 @@ pub record Stay {D : Type 0} (g : disk.Ghosts D) (old new : Devices D) : Type 0 
   pub slots : LeavesOnly g old.slots new.slots (IsImage (g.state old.slots))
   pub root0 : LeavesOnly g old.root0 new.root0 (IsImage (g.state old.root0))
   pub root1 : LeavesOnly g old.root1 new.root1 (IsImage (g.state old.root1))
+
+-- The detector keeps at most so many pages in memory, and has room for so many slots and sets.
+pub record HasSize {D : Type 0} (most : ℕ) (caps : Caps) (d : detect.ShownDetector (pool.ShownPool D)) : Type 0 where
+  pub frames : d.words.most_frames ≡ most
+  pub slots : d.words.slots ≡ caps.slots
+  pub sets : d.sets.limit ≡ caps.sets
+
+-- The store has the frames and the slots that were asked for, and over honest devices room for the sets that were.
+pub record HasLimits {D : Type 0} (g : disk.Ghosts D) (most : ℕ) (caps : Caps) (s : ShownStore D) : Type 0 where
+  pub frames : s.detector.words.most_frames ≡ most
+  pub slots : s.detector.words.slots ≡ caps.slots
+  pub sets : IsTrue g.is_honest → s.detector.sets.limit ≡ caps.sets
 
 -- The rules accept the event after this content.
 abbrev pub IsAccepted : Content → Named → Type 0
@@ -128,6 +141,10 @@ pub record HasRootThat (P : Parts → Type 0) (one other : List ℕ) : Type 0 wh
   pub newest : IsNewest (Some root) former one other
   pub has : P root
 
+-- The root names a slot at `cap` or above.
+abbrev pub NamesAbove : ℕ → Parts → Type 0
+NamesAbove cap root = ¬ All (λ p. p.slot < cap) root.pages
+
 -- The newest root has more than `cap` sets.
 abbrev pub HasMoreSets : ℕ → List ℕ → List ℕ → Type 0
 HasMoreSets cap one other = HasRootThat (λ root. cap < length root.sets) one other
@@ -136,7 +153,7 @@ HasMoreSets cap one other = HasRootThat (λ root. cap < length root.sets) one ot
 -- `most_slots`.
 pub record HasNoRoom (most_sets most_slots : ℕ) (one other : List ℕ) (refusal : Refusal) : Type 0 where
   pub sets : refusal ≡ FullSets → HasMoreSets most_sets one other
-  pub slots : refusal ≡ FullSlots → HasRootThat (λ root. ¬ All (λ p. p.slot < most_slots) root.pages) one other
+  pub slots : refusal ≡ FullSlots → HasRootThat (NamesAbove most_slots) one other
 
 -- A table of `cap` sets is too small for an image: its newest root has more sets, or the events behind it ask for one too
 -- many.
@@ -149,14 +166,10 @@ HasFewSets cap image =
 abbrev pub IsOfRecovery : Refusal → Type 0
 IsOfRecovery refusal = (refusal ≡ Damaged) ⊎ ((refusal ≡ FullSets) ⊎ ((refusal ≡ FullSlots) ⊎ ((refusal ≡ DeviceFault) ⊎ (refusal ≡ OutOfMemory))))
 
--- The refusals when the detector follows an event that the rules accept.
-abbrev pub IsOfFollowing : Refusal → Type 0
-IsOfFollowing refusal = (refusal ≡ FullSets) ⊎ ((refusal ≡ FullSlots) ⊎ ((refusal ≡ DeviceFault) ⊎ (refusal ≡ OutOfMemory)))
-
--- How many calls of devices have failed after this answer; `old` had failed before it. DeviceFault adds one, or none if a
--- page that was read before reads differently now; any other answer adds none.
+-- How many calls of devices have failed after this answer; `old` had failed before it. DeviceFault adds one, and any other
+-- answer adds none.
 abbrev pub CountedBy : Refusal → ℕ → ℕ → Type 0
-CountedBy refusal old new = (new ≡ failed_in refusal + old) ⊎ ((refusal ≡ DeviceFault) × (new ≡ old))
+CountedBy refusal old new = new ≡ failed_in refusal + old
 
 abbrev pub CountsFailures : {T : Type 0} → Result T Refusal → ℕ → ℕ → Type 0
 CountsFailures (Ok value) old new = new ≡ old
@@ -271,12 +284,28 @@ IfDamaged result P = IfErr result (λ e. e.0 ≡ Damaged → P)
 abbrev pub IfFullSets : {T X : Type 0} → Result T (Refusal × X) → Type 0 → Type 0
 IfFullSets result P = IfErr result (λ e. e.0 ≡ FullSets → P)
 
+-- refused with FullSlots only where P holds
+abbrev pub IfFullSlots : {T X : Type 0} → Result T (Refusal × X) → Type 0 → Type 0
+IfFullSlots result P = IfErr result (λ e. e.0 ≡ FullSlots → P)
+
 -- a call that hands nothing back is refused with Damaged only where P holds
 abbrev pub OnDamaged : {T : Type 0} → Result T Refusal → Type 0 → Type 0
 OnDamaged result P = result ≡ Err Damaged → P
 
 abbrev pub OnFullSets : {T : Type 0} → Result T Refusal → Type 0 → Type 0
 OnFullSets result P = result ≡ Err FullSets → P
+
+abbrev pub OnFullSlots : {T : Type 0} → Result T Refusal → Type 0 → Type 0
+OnFullSlots result P = result ≡ Err FullSlots → P
+
+-- Unless a device failed, the pool works.
+abbrev pub WorksOrFault : {D T : Type 0} → Result T Refusal → pool.ShownPool D → Type 0
+WorksOrFault result p = (result ≢ Err DeviceFault) → pools.is_broken p ≡ false
+
+-- No page of the pool waits for a checkpoint, and each slot of the newest root is one of the frozen map.
+pub record IsAtRest {D : Type 0} (p : pool.ShownPool D) : Type 0 where
+  pub none_waits : p.waiting ≡ []
+  pub frozen : Extends p.root p.frozen
 
 -- The refusals of a making.
 abbrev pub IsOfMaking : CreateFault → Type 0
@@ -285,10 +314,6 @@ IsOfMaking fault = (fault ≡ NotEmpty) ⊎ ((fault ≡ Refused DeviceFault) ⊎
 -- The refusals of a search for the newest root.
 abbrev pub IsOfRoots : Refusal → Type 0
 IsOfRoots refusal = (refusal ≡ Damaged) ⊎ ((refusal ≡ DeviceFault) ⊎ (refusal ≡ OutOfMemory))
-
--- A refusal is told as another one, with as many failed calls, or as a fault of its device.
-abbrev pub IsToldAs : (told refusal : Refusal) → Type 0
-IsToldAs told refusal = (failed_in told ≡ failed_in refusal) ⊎ ((told ≡ DeviceFault) × (failed_in refusal ≡ 0))
 
 -- The detector's pages are those of the checkpoint of this root.
 abbrev pub NamesPages : {D X : Type 0} → Option Parts → Result (detect.ShownDetector (pool.ShownPool D)) X → Type 0
@@ -360,6 +385,20 @@ module _ {D : Type 0} (g : disk.Ghosts D) where
 
   abbrev pub CountsRecovery : Devices D → Result (ShownStore D) (Refusal × Devices D) → Type 0
   CountsRecovery devices result = CountsRecovered result (failures_of g devices) (failures_of g (made_of result))
+
+  -- Each of so many slots of the device has a page.
+  abbrev pub HasFullSlots : ℕ → D → Type 0
+  HasFullSlots cap slots = (slot : ℕ) → slot < cap → (page : ℕ) × HasSome slot page (g.state slots).contents
+
+  -- The newest root names a slot at `cap` or above; or each slot below it has a page, once the pages of events were written.
+  abbrev pub LacksSlots : ℕ → (old new : Devices D) → Type 0
+  LacksSlots cap old new =
+      HasRootThat (NamesAbove cap) (g.state old.root0).contents (g.state old.root1).contents ⊎ HasFullSlots cap new.slots
+
+  -- Unless a device failed, a read of the journal, and of each root, gives what it gave.
+  abbrev pub ReadsSameOrFault : Devices D → Result (ShownStore D) (Refusal × Devices D) → Type 0
+  ReadsSameOrFault devices (Ok s) = FilesReadSame g devices s.devices
+  ReadsSameOrFault devices (Err e) = e.0 ≢ DeviceFault → FilesReadSame g devices e.1
 
   -- what a pair of roots leads to, where each has on it what it reads
   abbrev pub IfSettled : RootPair D → (List ℕ → List ℕ → Type 0) → Type 0
@@ -442,6 +481,11 @@ module _ {D : Type 0} (g : disk.Ghosts D) where
   abbrev pub Accepts : detect.ShownDetector (pool.ShownPool D) → Named → Type 0
   Accepts d n = IsAccepted (detect.content (pools.live g) d) n
 
+  -- Over a map that has the words of a lawful state, Damaged is told only if the rules do not accept the event.
+  abbrev pub IsDamagedIfReady : (old : detect.ShownDetector (pool.ShownPool D)) → Named → Result (Unit {0}) Refusal → Type 0
+  IsDamagedIfReady old n result =
+      AtPresent (IsFaithful g) old → IsLawfulState (detect.content (pools.live g) old) → OnDamaged result (¬ Accepts old n)
+
   -- Over a map that has the words, the detector has the content after one more event.
   abbrev pub FollowsIfFaithful : (old new : detect.ShownDetector (pool.ShownPool D)) → Named → Result (Unit {0}) Refusal → Type 0
   FollowsIfFaithful old new n result =
@@ -505,6 +549,10 @@ module _ {D : Type 0} {g : disk.Ghosts D} where
       (events : List Named) (c : Content) → IsJournal (g.state (journals.disk_of journal)).contents events
       → ¬ LeadFrom (detect.content (pools.live g) d) events c
 
+  -- They do not, if that content is a lawful state.
+  abbrev pub LeadsNowhereIfLawful : Journal D g → detect.ShownDetector (pool.ShownPool D) → Type 0
+  LeadsNowhereIfLawful journal d = IsLawfulState (detect.content (pools.live g) d) → LeadsNowhere journal d
+
   -- The events of the journal took the first table of sets to the second.
   abbrev pub FillsSets : Journal D g → (old new : detect.ShownDetector (pool.ShownPool D)) → Type 0
   FillsSets journal old new =
@@ -516,7 +564,7 @@ module _ {D : Type 0} {g : disk.Ghosts D} where
 
   -- Behind this many events Damaged is told only if no events lead on, and FullSets only if the table is too small.
   abbrev pub IsDamagedFrom : Journal D g → detect.ShownDetector (pool.ShownPool D) → Result (Unit {0}) Refusal → List Named → Type 0
-  IsDamagedFrom journal d result seen = result ≡ Err Damaged → length seen ≡ (detect.content (pools.live g) d).events → LeadsNowhere journal d
+  IsDamagedFrom journal d result seen = result ≡ Err Damaged → length seen ≡ (detect.content (pools.live g) d).events → LeadsNowhereIfLawful journal d
 
   abbrev pub IsFullFrom : Journal D g → detect.ShownDetector (pool.ShownPool D) → Result (Unit {0}) Refusal → List Named → Type 0
   IsFullFrom journal d result seen = result ≡ Err FullSets → length seen ≡ (detect.content (pools.live g) d).events → LacksSets journal d
@@ -547,6 +595,10 @@ module _ {D : Type 0} {g : disk.Ghosts D} where
   -- FullSets is told only if the table of sets is too small for the events of the journal.
   abbrev pub CantFill : Journal D g → detect.ShownDetector (pool.ShownPool D) → Caught D g → Type 0
   CantFill journal d result = IfErr result (λ e. e.0 ≡ FullSets → LacksSets journal d)
+
+  -- FullSlots is told only if each slot of the pool has a page.
+  abbrev pub CantTakeSlot : detect.ShownDetector (pool.ShownPool D) → Caught D g → Type 0
+  CantTakeSlot d result = IfErr result (λ e. e.0 ≡ FullSlots → HasFullSlots g d.words.slots (pools.disk_of e.2.words))
 
   abbrev pub CountsCatching : Journal D g → detect.ShownDetector (pool.ShownPool D) → Caught D g → Type 0
   CountsCatching journal d result = CountsCaught result (failures_in journal d) (g.failures (journal_after result) + g.failures (pools.disk_of (words_after result)))

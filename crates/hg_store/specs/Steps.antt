@@ -1,5 +1,5 @@
 -- What one step does and answers.
-use Rattle.std.specs.Prelude.{◌≡◌, ◌⊎◌, ◌++◌, ◌<◌, ℕ, List, [], ◌∷◌, length, Bool, true, false, Some, Ok, Err, Result, OnOk, nat_le, cond}
+use Rattle.std.specs.Prelude.{◌≡◌, ◌≢◌, ◌⊎◌, ◌++◌, ◌<◌, ℕ, List, [], ◌∷◌, length, Bool, true, false, Some, Ok, Err, Result, OnOk, nat_le, cond}
 use Rattle.hg_model.specs.declared.event.Named.{Named}
 use Rattle.hg_model.specs.declared.verdict.Verdict.{Verdict}
 use Rattle.hg_model.specs.declared.verdict.Verdict.TheVariants.{Accept, Duplicate as IsDuplicate, Refuse}
@@ -13,17 +13,19 @@ use Rattle.hg_detect.specs.Making.{AsksBy, sets_asked}
 use Rattle.hg_detect.specs.declared.detector.Answer.{Answer}
 use Rattle.hg_detect.specs.declared.detector.Answer.TheVariants.{Accepted, Duplicate}
 use Rattle.hg_disk.specs.declared.disk.Disk as disk
-use Rattle.hg_pool.specs.OfWords.{MayRefuse}
-use Rattle.hg_checkpoint.specs.declared.cause.Cause.TheVariants as cause
+use Rattle.hg_pool.specs.Answers.{IsFull}
+use Rattle.hg_pool.specs.Maps as pools
+use Rattle.hg_checkpoint.specs.declared.cause.Cause.{Cause}
 use Rattle.hg_checkpoint.specs.declared.phase.Phase.{Phase}
-use Rattle.hg_store.specs.Answers.{IfRefused, IfWrongPhase, IsAllowed}
-use Rattle.hg_store.specs.Shown.{ShownStore, live}
+use Rattle.hg_store.specs.Answers.{IfRefused, IfWrongPhase, IsAllowed, LeavesOrBreaks}
+use Rattle.hg_store.specs.Shown.{ShownStore, live, words}
 use Rattle.hg_store.specs.declared.steps.StepFault.{StepFault}
 use Rattle.hg_store.specs.declared.store.TheConstants.{MOST_PENDING}
 
--- the refusals of an event that the rules accept: no room for its sets, or a refusal of its pages
+-- the refusals of an event that the rules accept: no room for its pages or its sets, no memory, or a page that can't be read
+-- or written
 abbrev pub IsOfRoom : Refusal → Type 0
-IsOfRoom r = (r ≡ refusal.FullSets) ⊎ ((r ≡ refusal.OutOfMemory) ⊎ MayRefuse r)
+IsOfRoom r = (r ≡ refusal.FullSets) ⊎ ((r ≡ refusal.OutOfMemory) ⊎ ((r ≡ refusal.FullSlots) ⊎ ((r ≡ refusal.Damaged) ⊎ (r ≡ refusal.DeviceFault))))
 
 -- What an offer may be answered by its verdict, with this many events pending.
 abbrev pub ByVerdict : Verdict → ℕ → Result Answer Refusal → Type 0
@@ -58,8 +60,8 @@ pub record SameBut {D : Type 0} (old new : ShownStore D) : Type 0 where
   pub progress : new.progress ≡ old.progress
   pub in_doubt : new.in_doubt ≡ old.in_doubt
 
--- An accepted event joins the pending ones. A store that does not take the event stays as it is, and only a failed device
--- call breaks it.
+-- An accepted event joins the pending ones. A store that does not take the event stays as it is. Only a failed device call
+-- breaks it, and only one that breaks the file of slots: no failed read. No slot is free where FullSlots is told.
 pub record OfferDone {D : Type 0} (g : disk.Ghosts D) (old new : ShownStore D) (n : Named) (result : Result Answer Refusal) : Type 0 where
   pub answer : OfferAnswers (live g old) old.is_broken (length old.pending) n result
   pub pending : new.pending ≡ old.pending ++ if_accepted n result
@@ -67,12 +69,15 @@ pub record OfferDone {D : Type 0} (g : disk.Ghosts D) (old new : ShownStore D) (
   pub works : OnOk result (new.is_broken ≡ false)
   pub untouched : ¬ IsTaken g old n → new ≡ old
   pub breaks : (result ≡ Err refusal.DeviceFault → ⊥) → new.is_broken ≡ old.is_broken
+  pub by_file : IsTaken g old n → new.is_broken ≡ pools.is_broken (words new)
+  pub full : IsTaken g old n → result ≡ Err refusal.FullSlots → IsFull (words new)
 
 -- Over honest devices: an accepted event joins the live content, and its sets join the table. Without one the live content
--- stays.
+-- stays. No page is damaged.
 pub record ContentOffered {D : Type 0} (g : disk.Ghosts D) (old new : ShownStore D) (n : Named) (result : Result Answer Refusal) : Type 0 where
   pub leads : followed (live g old) (if_accepted n result) ≡ Some (live g new)
   pub sets : IsTaken g old n → AsksBy old.detector.sets (sets_asked (live g old) n.event) (done result) new.detector.sets
+  pub undamaged : IsTaken g old n → result ≢ Err refusal.Damaged
 
 -- After an Ok nothing is pending, and the count is that of all accepted events; after a failure the store is broken.
 pub record IsCommitted {D : Type 0} (g : disk.Ghosts D) (old new : ShownStore D) (count : ℕ) : Type 0 where
@@ -108,14 +113,14 @@ pub record CommitDone {D : Type 0} (g : disk.Ghosts D) (old new : ShownStore D) 
   pub quiet : old.pending ≡ [] → new.devices ≡ old.devices
   pub still : old.is_broken ≡ true → new ≡ old
 
--- A step of a checkpoint that is lawful only if `Lawful` holds, and leads to the phase `to`. It leaves the events and the
--- journal as they are. A refusal leaves the whole store as it is, or breaks it.
-pub record CheckpointDone {D T : Type 0} (old new : ShownStore D) (Lawful : Type 0) (to : Phase) (result : Result T StepFault) : Type 0 where
-  pub allowed : IsAllowed old Lawful result
+-- A step of a checkpoint that is lawful only if `Lawful` holds, is then refused for these causes alone, and leads to the phase
+-- `to`. It leaves the events and the journal as they are. A refusal leaves the whole store as it is, or breaks it.
+pub record CheckpointDone {D T : Type 0} (old new : ShownStore D) (Lawful : Type 0) (Causes : Cause → Type 0) (to : Phase) (result : Result T StepFault) : Type 0 where
+  pub allowed : IsAllowed old Lawful Causes result
   pub phase : OnOk result (new.progress.phase ≡ to)
   pub works : OnOk result (new.is_broken ≡ false)
   pub unchanged : IfWrongPhase (new ≡ old) result
-  pub refused : IfRefused (λ r. (new ≡ old) ⊎ ((new.is_broken ≡ true) × ((r ≡ cause.DeviceFault) ⊎ (r ≡ cause.Broken)))) result
+  pub refused : IfRefused (LeavesOrBreaks old new) result
   pub pending : new.pending ≡ old.pending
   pub committed : new.committed ≡ old.committed
   pub durable : new.durable ≡ old.durable

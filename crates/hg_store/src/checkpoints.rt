@@ -2,13 +2,15 @@
 
 ghost use Rattle.std.specs.Prelude.{◌≡◌, ◌≢◌, ◌⊎◌, ◌+◌, ◌<◌, ◌≤◌, ◌^◌, Err, true, false, IsTrue, OnOk, OnErr, IfOk};
 ghost use Rattle.hg_pool.specs.Calls.{HasWaited, IsStale};
+ghost use Rattle.hg_checkpoint.specs.Calls.{IsOfDevice, IsOfWriting};
+ghost use Rattle.hg_checkpoint.specs.Phases.{Never};
 ghost use Rattle.hg_checkpoint.specs.declared.phase.Phase.TheVariants as phase;
 ghost use Rattle.hg_store.specs.Answers.{IfRefused, IsAllowed, breaks, breaks_by, failed_by, step_fault};
 ghost use Rattle.hg_store.specs.Shown.{HasNextNumber, IsFlushed, IsIn, live, phase_of, words};
 ghost use Rattle.hg_store.specs.Steps.{CheckpointDone};
 ghost use Rattle.hg_store.specs.Store.{HasOpenedFrozen, StandMeanwhile};
-ghost use Rattle.hg_store.specs.Images.{FailuresGrowBy};
-ghost use Rattle.hg_store.specs.Doing.{IsFirstWaiting, SameNumbers, SameRoots, SameWords};
+ghost use Rattle.hg_store.specs.Images.{FailuresGrowBy, RootCallsAtMost};
+ghost use Rattle.hg_store.specs.Doing.{BeginsWhenIdle, IsFirstWaiting, SameNumbers, SameRoots, SameWords};
 
 use crate::steps::{StepFault, StorePhase};
 use crate::store::Store;
@@ -74,11 +76,11 @@ impl<D: Disk> Store<D> {
     /// changed pages wait to be written. `FullEvents` if the newest root has the last number, `MOST_CHECKPOINTS`; else
     /// `FullSlots` or `OutOfMemory`. It calls no device.
     pub fn freeze(&mut self, alloc: Global) -> Result<(), StepFault>
-        ensures done { CheckpointDone self.old self.new (phase_of self.old ≡ StorePhase.Idle) phase.Flushing result }
+        ensures done { BeginsWhenIdle self.old self.new result }
         ensures refused { OnErr result (self.new ≡ self.old) }
         ensures last { OnOk result (self.old.progress.number < MOST_CHECKPOINTS) }
         ensures no_call { failed_by result ≡ 0 }
-        ensures full { IfRefused (λ r. r ≡ Cause.FullEvents → MOST_CHECKPOINTS ≤ self.old.progress.number) result }
+        ensures undamaged { IsTrue D.is_honest → IfRefused (λ r. r ≢ Cause.Damaged) result }
         ensures number { OnOk result (HasNextNumber self.old self.new) }
         ensures devices { self.new.devices ≡ self.old.devices }
         ensures frozen { OnOk result (self.new.frozen ≡ self.old.detector) }
@@ -113,8 +115,7 @@ impl<D: Disk> Store<D> {
 
     /// The waiting page with the least number, with its cells at the freeze, or none if no page waits. It calls no device.
     pub fn take_job(&self) -> Result<Option<Job>, StepFault>
-        ensures allowed { IsAllowed self.now (IsIn phase.Flushing self.now) result }
-        ensures refusal { IfRefused (λ cause. cause ≡ Cause.Broken) result }
+        ensures allowed { IsAllowed self.now (IsIn phase.Flushing self.now) Never result }
         ensures job { IfOk result (IsFirstWaiting (words self.now)) }
     {
         if self.is_broken {
@@ -129,7 +130,7 @@ impl<D: Disk> Store<D> {
     /// Writes a page to the slot that was picked for it: `Written` if it waits and the bytes are those of its cells at the
     /// freeze. Else `Stale`: nothing was changed. It makes one device call at most and takes no memory.
     pub fn put(&mut self, page: &EncodedPage) -> Result<Put, StepFault>
-        ensures done { CheckpointDone self.old self.new (self.old.is_broken ≡ false) self.old.progress.phase result }
+        ensures done { CheckpointDone self.old self.new (self.old.is_broken ≡ false) IsOfDevice self.old.progress.phase result }
         ensures frozen { self.new.frozen ≡ self.old.frozen }
         ensures written { IfOk result (λ put. put ≡ Put.Written → HasWaited (words self.old) page.now) }
         ensures stale { IfOk result (λ put. put ≡ Put.Stale → IsStale (words self.old) page.now) }
@@ -154,7 +155,7 @@ impl<D: Disk> Store<D> {
 
     /// Makes the pages durable, once all are written. It makes one device call and takes no memory.
     pub fn seal_pages(&mut self) -> Result<(), StepFault>
-        ensures done { CheckpointDone self.old self.new (IsFlushed self.old) phase.Sealed result }
+        ensures done { CheckpointDone self.old self.new (IsFlushed self.old) IsOfDevice phase.Sealed result }
         ensures frozen { self.new.frozen ≡ self.old.frozen }
         ensures roots { SameRoots self.old self.new }
         ensures number { SameNumbers self.old self.new }
@@ -175,10 +176,11 @@ impl<D: Disk> Store<D> {
     /// Closes the file that the next root goes to. It makes at most two device calls, none if the file is closed already,
     /// and takes no memory.
     pub fn prepare_root(&mut self) -> Result<(), StepFault>
-        ensures done { CheckpointDone self.old self.new (IsIn phase.Sealed self.old) phase.Prepared result }
+        ensures done { CheckpointDone self.old self.new (IsIn phase.Sealed self.old) IsOfDevice phase.Prepared result }
         ensures frozen { self.new.frozen ≡ self.old.frozen }
         ensures slots { SameWords self.old self.new }
         ensures number { SameNumbers self.old self.new }
+        ensures calls { RootCallsAtMost ⟦<D as Disk>⟧ 2 self.old.devices self.new.devices }
         ensures device { FailuresGrowBy ⟦<D as Disk>⟧ self.old.devices self.new.devices (failed_by result) }
         ensures images { IsTrue D.is_honest → StandMeanwhile ⟦<D as Disk>⟧ self.old self.new self.old.in_doubt }
     {
@@ -194,10 +196,11 @@ impl<D: Disk> Store<D> {
 
     /// Writes the root behind the closed gate of its file. It makes four device calls at most. `OutOfMemory` leaves the store as it is.
     pub fn write_root(&mut self, alloc: Global) -> Result<(), StepFault>
-        ensures done { CheckpointDone self.old self.new (IsIn phase.Prepared self.old) phase.Written result }
+        ensures done { CheckpointDone self.old self.new (IsIn phase.Prepared self.old) IsOfWriting phase.Written result }
         ensures frozen { self.new.frozen ≡ self.old.frozen }
         ensures slots { SameWords self.old self.new }
         ensures number { SameNumbers self.old self.new }
+        ensures calls { RootCallsAtMost ⟦<D as Disk>⟧ 4 self.old.devices self.new.devices }
         ensures device { FailuresGrowBy ⟦<D as Disk>⟧ self.old.devices self.new.devices (failed_by result) }
         ensures images { IsTrue D.is_honest → StandMeanwhile ⟦<D as Disk>⟧ self.old self.new self.old.in_doubt }
     {
@@ -214,11 +217,12 @@ impl<D: Disk> Store<D> {
     /// Opens the root: from then on it is the newest one, and the slots of the former one are free. Answers its number. It makes two device
     /// calls at most and takes no memory.
     pub fn open_root(&mut self) -> Result<u64, StepFault>
-        ensures done { CheckpointDone self.old self.new (IsIn phase.Written self.old) phase.Idle result }
+        ensures done { CheckpointDone self.old self.new (IsIn phase.Written self.old) IsOfDevice phase.Idle result }
         ensures frozen { self.new.frozen ≡ self.old.frozen }
         ensures number { IfOk result (λ n. (n ≡ self.old.progress.next) × (self.new.progress.number ≡ n)) }
         ensures slots { self.new.devices.slots ≡ self.old.devices.slots }
         ensures checkpoint { IsTrue D.is_honest → IfOk result (HasOpenedFrozen ⟦<D as Disk>⟧ self.old self.new) }
+        ensures calls { RootCallsAtMost ⟦<D as Disk>⟧ 2 self.old.devices self.new.devices }
         ensures device { FailuresGrowBy ⟦<D as Disk>⟧ self.old.devices self.new.devices (failed_by result) }
         ensures live { live ⟦<D as Disk>⟧ self.new ≡ live ⟦<D as Disk>⟧ self.old }
         ensures images { IsTrue D.is_honest → StandMeanwhile ⟦<D as Disk>⟧ self.old self.new self.old.in_doubt }

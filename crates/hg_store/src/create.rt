@@ -15,7 +15,7 @@ ghost use Rattle.hg_checkpoint.specs.declared.phase.Phase.TheVariants.{Idle};
 ghost use Rattle.hg_store.specs.Kept.{devices_of};
 ghost use Rattle.hg_store.specs.Images.{read_of};
 ghost use Rattle.hg_root.specs.Pairs.{AreGates, Stands};
-ghost use Rattle.hg_store.specs.Recovering.{CountsMaking, CountsNewFiles, IsEmpty, IsFreshOf, IsOfMaking, IsReady, MakingCalls, MayBeMade, WereNotEmpty, empty_image, first_in, journal_in, joined, made_of, second_in};
+ghost use Rattle.hg_store.specs.Recovering.{CountsMaking, CountsNewFiles, HasLimits, HasSize, IsAtRest, IsEmpty, IsFreshOf, IsOfMaking, IsReady, MakingCalls, MayBeMade, WereNotEmpty, empty_image, first_in, journal_in, joined, made_of, second_in};
 ghost use Rattle.hg_store.specs.Store.{IsFresh, IsIdle};
 
 use crate::devices::{Caps, Devices};
@@ -76,6 +76,8 @@ pub(crate) fn empty_detector<D: Disk>(
     ensures sets { IfOk result (λ d. d.sets ≡ first_table caps.sets) }
     ensures file { IfOk result (λ d. d.words.file ≡ file) }
     ensures root { IfOk result (λ d. d.words.root ≡ []) }
+    ensures size { IfOk result (HasSize frames caps) }
+    ensures rests { IfOk result (λ d. IsAtRest d.words) }
     ensures lawful { IfOk result (AtPresent MayBring) }
     ensures faithful { IsTrue D.is_honest → IfOk result (AtPresent (IsFaithful ⟦<D as Disk>⟧)) }
     ensures handed_back { IfErr result (λ f. f ≡ file) }
@@ -220,6 +222,7 @@ impl<D: Disk> Store<D> {
         ensures fresh { IfOk result (λ store. IsFresh ⟦<D as Disk>⟧ store empty_content) }
         ensures idle { IfOk result IsIdle }
         ensures sets { IfOk result (λ store. store.detector.sets ≡ first_table caps.sets) }
+        ensures limits { IfOk result (HasLimits ⟦<D as Disk>⟧ frames caps) }
         ensures bytes { IfOk result (λ store. read_of ⟦<D as Disk>⟧ store.devices ≡ empty_image) }
         ensures empty { IfOk result (λ _. IsEmpty ⟦<D as Disk>⟧ devices) }
         ensures not_empty { IfErr result (λ e. e.0 ≡ CreateFault.NotEmpty → WereNotEmpty ⟦<D as Disk>⟧ devices e.1) }

@@ -14,8 +14,8 @@ ghost use Rattle.hg_root.specs.Checkpoints.{LieWithin};
 ghost use Rattle.hg_root.specs.Finding.{AreWhole, HasNoNewest, IsNewestOf, IsOnlyOf, IsWholeIn, WasRead, number_in, root_in};
 ghost use Rattle.hg_root.specs.Pairs.{IsWorking, failures, first_of, second_of};
 ghost use Rattle.hg_checkpoint.specs.Restoring.{file_in};
-ghost use Rattle.hg_store.specs.Images.{FailuresBecome, KeepContent, LeavesOld, Recovers, read_of};
-ghost use Rattle.hg_store.specs.Recovering.{CantCatchUp, CantFill, CantRoot, CatchesUp, CountsCatching, CountsFailures, CountsInFile, CountsRecovery, CountsRooting, FillsSets, HasCheckpointOf, HasFewSets, HasItsTable, HasNoCheckpointOf, HasNoContent, HasNoneIn, IfDamaged, IfFullSets, IsNewestRoot, IsOfRecovery, IsOfRoots, IsOnlyRoot, IsReady, IsRecovered, IsRootedAt, IsTooFew, LacksRoom, MayCatchUp, NamesPages, OnDamaged, PairStands, Settled, StandIfSettled, StartsAt, Stay, first_after, journal_after, made_of, roots_of, second_after, slots_of, table_at, words_after};
+ghost use Rattle.hg_store.specs.Images.{EachReadsOrFailed, FailuresBecome, FilesWereRead, KeepContent, KeepsFiles, KeepsSlots, LeavesOld, ReadsSlots, Recovers, RootCallsAtMost, read_of};
+ghost use Rattle.hg_store.specs.Recovering.{CantCatchUp, CantFill, CantRoot, CantTakeSlot, CatchesUp, CountsCatching, CountsFailures, CountsInFile, CountsRecovery, CountsRooting, FillsSets, HasCheckpointOf, HasFewSets, HasItsTable, HasLimits, HasNoCheckpointOf, HasNoContent, HasNoneIn, HasSize, IfDamaged, IfFullSets, IfFullSlots, IsAtRest, IsNewestRoot, IsOfRecovery, IsOfRoots, IsOnlyRoot, IsReady, IsRecovered, IsRootedAt, IsTooFew, LacksRoom, LacksSlots, MayCatchUp, NamesPages, OnDamaged, PairStands, ReadsSameOrFault, Settled, StandIfSettled, StartsAt, Stay, first_after, journal_after, made_of, roots_of, second_after, slots_of, table_at, words_after};
 ghost use Rattle.hg_store.specs.Store.{IsIdle};
 
 use crate::create::{empty_detector, made, pending_room};
@@ -43,6 +43,7 @@ fn sync_all<D: Disk>(devices: &mut Devices<D>) -> Result<(), DiskFault>
     ensures first_calls { CallsAtMost ⟦<D as Disk>⟧ 1 devices.old.root0 devices.new.root0 }
     ensures second_calls { CallsAtMost ⟦<D as Disk>⟧ 1 devices.old.root1 devices.new.root1 }
     ensures stay { Stay ⟦<D as Disk>⟧ devices.old devices.new }
+    ensures bytes { EachReadsOrFailed ⟦<D as Disk>⟧ devices.old devices.new }
 {
     devices.journal.sync()?;
     devices.slots.sync()?;
@@ -58,6 +59,7 @@ fn newest<D: Disk>(alloc: Global, roots: &mut RootPair<D>) -> Result<Newest, Ref
     ensures whole { IfOk result AreWhole }
     ensures stands { IsTrue D.is_honest → PairStands ⟦<D as Disk>⟧ roots.old roots.new result }
     ensures damaged { IsTrue D.is_honest → OnDamaged result (HasNoNewest ⟦<D as Disk>⟧ roots.old) }
+    ensures works { OnOk result (IsWorking roots.new) }
     ensures refusal { IfErr result IsOfRoots }
     ensures first { WasRead ⟦<D as Disk>⟧ (first_of roots.old) (first_of roots.new) }
     ensures second { WasRead ⟦<D as Disk>⟧ (second_of roots.old) (second_of roots.new) }
@@ -94,6 +96,7 @@ fn standing<D: Disk>(
     ensures whole { IfOk result IsWholeIn }
     ensures stands { IsTrue D.is_honest → StandIfSettled ⟦<D as Disk>⟧ roots.old roots.new file.now result }
     ensures damaged { IsTrue D.is_honest → OnDamaged result (HasNoneIn ⟦<D as Disk>⟧ roots.old file.now) }
+    ensures works { OnOk result (IsWorking roots.new) }
     ensures refusal { IfErr result IsOfRoots }
     ensures first { WasRead ⟦<D as Disk>⟧ (first_of roots.old) (first_of roots.new) }
     ensures second { WasRead ⟦<D as Disk>⟧ (second_of roots.old) (second_of roots.new) }
@@ -138,6 +141,8 @@ fn detector_of<D: Disk>(
     ensures faithful { IsTrue D.is_honest → IfOk result (AtPresent (IsFaithful ⟦<D as Disk>⟧)) }
     ensures ready { IsTrue D.is_honest → IfOk result (IsReady ⟦<D as Disk>⟧) }
     ensures names { NamesPages (root_in found) result }
+    ensures size { IfOk result (HasSize frames caps) }
+    ensures rests { IfOk result (λ d. IsAtRest d.words) }
     ensures state { D.state (files.disk_of (file_in result)) ≡ D.state (files.disk_of file) }
     ensures any_moment { LeavesOld ⟦<D as Disk>⟧ (files.disk_of file) (files.disk_of (file_in result)) }
     ensures unbroken { files.is_broken (file_in result) ≡ false }
@@ -167,6 +172,9 @@ fn caught_up<D: Disk>(
     requires none { pending.items ≡ [] }
     requires room { MOST_PENDING ≤ vec_capacity pending }
     requires works { journals.is_broken journal ≡ false }
+    requires unbroken { pools.is_broken detector.words ≡ false }
+    requires rests { IsAtRest detector.words }
+    requires roots_work { IsWorking roots }
     requires lawful { AtPresent MayBring detector }
     requires started { IsTrue D.is_honest → MayCatchUp journal detector roots number }
     ensures content { CatchesUp journal detector roots number result }
@@ -174,8 +182,10 @@ fn caught_up<D: Disk>(
     ensures idle { IfOk result IsIdle }
     ensures sets { IsTrue D.is_honest → IfOk result (λ store. FillsSets journal detector store.detector) }
     ensures full { IsTrue D.is_honest → CantFill journal detector result }
+    ensures full_slots { IsTrue D.is_honest → CantTakeSlot detector result }
     ensures refusal { IfErr result (λ e. IsOfRecovery e.0) }
     ensures device { CountsCatching journal detector result }
+    ensures state { D.state (journal_after result) ≡ D.state (journals.disk_of journal) }
     ensures journal { LeavesOld ⟦<D as Disk>⟧ (journals.disk_of journal) (journal_after result) }
     ensures went { Went ⟦<D as Disk>⟧ detector.words (words_after result) }
     ensures slots { IfOk result (λ store. store.devices.slots ≡ pools.disk_of store.detector.words) }
@@ -187,9 +197,6 @@ fn caught_up<D: Disk>(
     match replay(&mut journal, &mut detector) {
         Ok(()) => {}
         Err(refusal) => return Err((refusal, journal, detector, roots)),
-    }
-    if detector.words().is_broken() {
-        return Err((Refusal::DeviceFault, journal, detector, roots));
     }
     let checkpointer = Checkpointer::new(alloc, roots, number);
     Ok(made(journal, detector, checkpointer, pending))
@@ -210,8 +217,12 @@ fn rooted<D: Disk>(
     requires works { IsWorking roots }
     ensures rooted { IsTrue D.is_honest → IsRootedAt ⟦<D as Disk>⟧ caps.sets roots slots result }
     ensures lawful { IfOk result (λ r. AtPresent MayBring r.0) }
+    ensures size { IfOk result (λ r. HasSize frames caps r.0) }
+    ensures rests { IfOk result (λ r. IsAtRest r.0.words) }
+    ensures unbroken { IfOk result (λ r. pools.is_broken r.0.words ≡ false) }
     ensures damaged { IsTrue D.is_honest → CantRoot ⟦<D as Disk>⟧ roots slots result }
     ensures full { IsTrue D.is_honest → IfErr result (λ e. LacksRoom ⟦<D as Disk>⟧ caps.sets caps.slots roots e.0) }
+    ensures roots_work { IfOk result (λ r. IsWorking r.1) }
     ensures refusal { IfErr result (λ e. IsOfRecovery e.0) }
     ensures state { D.state (slots_of result) ≡ D.state slots }
     ensures any_moment { LeavesOld ⟦<D as Disk>⟧ slots (slots_of result) }
@@ -271,11 +282,15 @@ fn recovered<D: Disk>(
     requires settled { Settled ⟦<D as Disk>⟧ devices devices }
     ensures content { IsTrue D.is_honest → IfOk result (IsRecovered ⟦<D as Disk>⟧ devices) }
     ensures sets { IsTrue D.is_honest → IfOk result (HasItsTable ⟦<D as Disk>⟧ caps.sets devices) }
+    ensures limits { IfOk result (HasLimits ⟦<D as Disk>⟧ frames caps) }
     ensures idle { IfOk result IsIdle }
     ensures damaged { IsTrue D.is_honest → IfDamaged result (HasNoContent (read_of ⟦<D as Disk>⟧ devices)) }
     ensures full { IsTrue D.is_honest → IfFullSets result (HasFewSets caps.sets (read_of ⟦<D as Disk>⟧ devices)) }
+    ensures full_slots { IsTrue D.is_honest → IfFullSlots result (LacksSlots ⟦<D as Disk>⟧ caps.slots devices (made_of result)) }
     ensures refusal { IfErr result (λ e. IsOfRecovery e.0) }
     ensures device { CountsRecovery ⟦<D as Disk>⟧ devices result }
+    ensures files { FilesWereRead ⟦<D as Disk>⟧ devices (made_of result) }
+    ensures slots { IsTrue D.is_honest → ReadsSlots ⟦<D as Disk>⟧ devices (made_of result) }
     ensures images { IsTrue D.is_honest → KeepContent ⟦<D as Disk>⟧ devices (made_of result) }
 {
     let Devices {
@@ -311,9 +326,13 @@ impl<D: Disk> Store<D> {
     /// the events of the journal behind it. If no root is open, it follows all events from the empty trace on.
     ///
     /// A refusal hands the devices back. `Damaged`: their bytes have no content. `FullSets`: the sets of the root, with
-    /// those of the events, are more than `caps.sets`. `FullSlots`: the root names a slot at `caps.slots` or above, or more
-    /// pages were changed than there is room for. `DeviceFault`: a device failed. Or `OutOfMemory`. A crash inside it
-    /// leaves an image with the content of one that the devices had before.
+    /// those of the events, are more than `caps.sets`. `FullSlots`: the root names a slot at `caps.slots` or above, or each
+    /// slot below it has a page, since the events changed so many. `DeviceFault`: one device call failed. Or `OutOfMemory`.
+    /// A crash inside it leaves an image with the content of one that the devices had before.
+    ///
+    /// The journal and both roots are synced and read, and nothing else: their bytes stay, and so do those of each slot that
+    /// the newest root names. Only where the sync of a device fails it is open which of its images a read gives. A root is
+    /// called four times at most.
     ///
     /// `frames` is the greatest number of pages in memory, 4 to 4,096.
     pub fn recover(
@@ -327,11 +346,19 @@ impl<D: Disk> Store<D> {
         requires slots { (1 ≤ caps.slots) × (caps.slots ≤ MOST_SLOTS) }
         ensures content { IsTrue D.is_honest → IfOk result (IsRecovered ⟦<D as Disk>⟧ devices) }
         ensures sets { IsTrue D.is_honest → IfOk result (HasItsTable ⟦<D as Disk>⟧ caps.sets devices) }
+        ensures limits { IfOk result (HasLimits ⟦<D as Disk>⟧ frames caps) }
         ensures idle { IfOk result IsIdle }
         ensures damaged { IsTrue D.is_honest → IfDamaged result (HasNoContent (read_of ⟦<D as Disk>⟧ devices)) }
         ensures full { IsTrue D.is_honest → IfFullSets result (HasFewSets caps.sets (read_of ⟦<D as Disk>⟧ devices)) }
+        ensures full_slots { IsTrue D.is_honest → IfFullSlots result (LacksSlots ⟦<D as Disk>⟧ caps.slots devices (made_of result)) }
         ensures refusal { IfErr result (λ e. IsOfRecovery e.0) }
         ensures device { CountsRecovery ⟦<D as Disk>⟧ devices result }
+        ensures calls { RootCallsAtMost ⟦<D as Disk>⟧ 4 devices (made_of result) }
+
+        // Over any devices the journal and the roots keep their bytes; so does each slot that the newest root names.
+        ensures files { KeepsFiles ⟦<D as Disk>⟧ devices (made_of result) }
+        ensures bytes { ReadsSameOrFault ⟦<D as Disk>⟧ devices result }
+        ensures slots { IsTrue D.is_honest → KeepsSlots ⟦<D as Disk>⟧ devices (made_of result) }
 
         // A crash at any moment, also afterwards, leaves an image with the content of one that the devices had before.
         ensures images { IsTrue D.is_honest → Recovers ⟦<D as Disk>⟧ devices (made_of result) }

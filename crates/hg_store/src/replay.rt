@@ -7,11 +7,12 @@ ghost use Rattle.hg_detect.specs.Engine.{AtPresent};
 ghost use Rattle.hg_detect.specs.Shown.{content};
 ghost use Rattle.hg_journal.specs.Journal.{IsOfReading};
 ghost use Rattle.hg_journal.specs.Reading.{disk_of, is_broken};
+ghost use Rattle.hg_pool.specs.Answers.{IsFull};
 ghost use Rattle.hg_pool.specs.Kept.{Went};
 ghost use Rattle.hg_pool.specs.Maps as pools;
 ghost use Rattle.hg_pool.specs.Maps.{live};
 ghost use Rattle.hg_pool.specs.OfWords.{MayBring};
-ghost use Rattle.hg_store.specs.Recovering.{Accepts, AsksIfFaithful, CountsFailures, CountsReplay, CountsWords, FillsSets, Follows, FollowsIfFaithful, HasFewer, HasPassed, IfAt, IfAtFirst, IfOpens, IsDamagedFrom, IsFullFrom, IsFullIfFaithful, IsOfFollowing, IsOfRecovery, IsToldAs, LacksSets, LeadsNowhere, LeadsTo, OnDamaged, OnFullSets, StaysFaithful};
+ghost use Rattle.hg_store.specs.Recovering.{Accepts, AsksIfFaithful, CountsFailures, CountsReplay, CountsWords, FillsSets, Follows, FollowsIfFaithful, HasFewer, HasPassed, IfAt, IfAtFirst, IfOpens, IsDamagedFrom, IsDamagedIfReady, IsFullFrom, IsFullIfFaithful, IsOfRecovery, LacksSets, LeadsNowhereIfLawful, LeadsTo, OnDamaged, OnFullSets, OnFullSlots, StaysFaithful, WorksOrFault};
 ghost use Rattle.hg_store.specs.Images.{LeavesOld};
 
 use hg_detect::detector::Detector;
@@ -22,31 +23,19 @@ use hg_model::limits::MOST_EVENTS;
 use hg_model::verdict::{Refusal, Verdict};
 use hg_pool::Pool;
 
-/// The refusal that tells why an accepted event was refused. If a page was read before and reads differently now, that is a
-/// fault of its device.
-fn told(refusal: Refusal) -> Refusal
-    ensures of_following { IsOfFollowing result }
-    ensures sets { result ≡ Refusal.FullSets → refusal ≡ Refusal.FullSets }
-    ensures count { IsToldAs result refusal }
-{
-    match refusal {
-        Refusal::FullSets => Refusal::FullSets,
-        Refusal::FullSlots => Refusal::FullSlots,
-        Refusal::OutOfMemory => Refusal::OutOfMemory,
-        Refusal::DeviceFault => Refusal::DeviceFault,
-        _ => Refusal::DeviceFault,
-    }
-}
-
-/// Has the detector follow an event of the journal. A journal has no event that the rules do not accept.
+/// Has the detector follow an event of the journal. A journal has no event that the rules do not accept: it is told as
+/// `Damaged`, and so is a page that reads otherwise than it was written.
 fn follow<D: Disk>(detector: &mut Detector<Pool<D>>, named: &Named) -> Result<(), Refusal>
     requires lawful { AtPresent MayBring detector.old }
+    requires unbroken { pools.is_broken detector.old.words ≡ false }
     ensures accepted { OnOk result (Accepts ⟦<D as Disk>⟧ detector.old named.now) }
     ensures content { FollowsIfFaithful ⟦<D as Disk>⟧ detector.old detector.new named.now result }
     ensures asked { AsksIfFaithful ⟦<D as Disk>⟧ detector.old detector.new named.now result }
     ensures few { OnOk result ((content (live ⟦<D as Disk>⟧) detector.old).events < MOST_EVENTS) }
-    ensures damaged { OnDamaged result (¬ Accepts ⟦<D as Disk>⟧ detector.old named.now) }
+    ensures damaged { IsDamagedIfReady ⟦<D as Disk>⟧ detector.old named.now result }
     ensures full { IsFullIfFaithful ⟦<D as Disk>⟧ detector.old detector.new named.now result }
+    ensures slots { OnFullSlots result (IsFull detector.new.words) }
+    ensures unbroken { WorksOrFault result detector.new.words }
     ensures lawful { AtPresent MayBring detector.new }
     ensures faithful { StaysFaithful ⟦<D as Disk>⟧ detector.old detector.new }
     ensures went { Went ⟦<D as Disk>⟧ detector.old.words detector.new.words }
@@ -58,10 +47,7 @@ fn follow<D: Disk>(detector: &mut Detector<Pool<D>>, named: &Named) -> Result<()
         Verdict::Duplicate(_) => return Err(Refusal::Damaged),
         Verdict::Refuse(_) => return Err(Refusal::Damaged),
     }
-    match detector.accept(named) {
-        Ok(()) => Ok(()),
-        Err(refusal) => Err(told(refusal)),
-    }
+    detector.accept(named)
 }
 
 /// Passes over this many events.
@@ -98,9 +84,12 @@ fn follow_rest<D: Disk>(
 ) -> Result<(), Refusal>
     requires works { is_broken journal.old ≡ false }
     requires lawful { AtPresent MayBring detector.old }
+    requires unbroken { pools.is_broken detector.old.words ≡ false }
     ensures followed { IfAt journal.old reader.old detector.old (Follows journal.new detector.old detector.new result) }
     ensures damaged { IfAt journal.old reader.old detector.old (IsDamagedFrom journal.old detector.old result) }
     ensures full { IfAt journal.old reader.old detector.old (IsFullFrom journal.old detector.old result) }
+    ensures slots { OnFullSlots result (IsFull detector.new.words) }
+    ensures unbroken { WorksOrFault result detector.new.words }
     ensures lawful { AtPresent MayBring detector.new }
     ensures faithful { StaysFaithful ⟦<D as Disk>⟧ detector.old detector.new }
     ensures went { Went ⟦<D as Disk>⟧ detector.old.words detector.new.words }
@@ -127,10 +116,13 @@ pub(crate) fn replay<D: Disk>(
 ) -> Result<(), Refusal>
     requires works { is_broken journal.old ≡ false }
     requires lawful { AtPresent MayBring detector.old }
+    requires unbroken { pools.is_broken detector.old.words ≡ false }
     ensures replayed { IfOpens journal.old detector.old (OnOk result (LeadsTo journal.new detector.old detector.new)) }
     ensures sets { IfOpens journal.old detector.old (OnOk result (FillsSets journal.old detector.old detector.new)) }
-    ensures damaged { IfOpens journal.old detector.old (OnDamaged result (LeadsNowhere journal.old detector.old)) }
+    ensures damaged { IfOpens journal.old detector.old (OnDamaged result (LeadsNowhereIfLawful journal.old detector.old)) }
     ensures full { IfOpens journal.old detector.old (OnFullSets result (LacksSets journal.old detector.old)) }
+    ensures slots { OnFullSlots result (IsFull detector.new.words) }
+    ensures unbroken { WorksOrFault result detector.new.words }
     ensures lawful { AtPresent MayBring detector.new }
     ensures faithful { StaysFaithful ⟦<D as Disk>⟧ detector.old detector.new }
     ensures went { Went ⟦<D as Disk>⟧ detector.old.words detector.new.words }

@@ -2,7 +2,7 @@ ghost use Rattle.std.specs.Prelude.{◌≡◌, [], ◌∷◌, IfOk};
 ghost use Rattle.lru.specs.LruCache.{lru_cache};
 
 use crate::tests::own::Own;
-use hg_recency::Recency;
+use hg_cache::Recency;
 use std::alloc::{AllocError, Global};
 use std::process::Abort;
 use std::test::Fail;

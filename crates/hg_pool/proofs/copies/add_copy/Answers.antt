@@ -2,7 +2,7 @@ use Rattle.std.proofs.Common.{◌==◌, ◌∙◌, ℕ, List, Some, if◌then◌
 use Rattle.lru.specs.LruCache.{LruCache}
 use Rattle.hg_cells.specs.declared.cell.Cell.{Cell}
 use Rattle.hg_pool.specs.Maps.{copy_in}
-use Rattle.hg_pool.proofs.Lookups.{looked_new, put_new}
+use Rattle.hg_cache.proofs.Lookups.{looked_new, put_new}
 use Rattle.hg_pool.proofs.copies.add_copy.Goals as goal
 
 pub returns-clause-looks : goal.returns-clause-looks

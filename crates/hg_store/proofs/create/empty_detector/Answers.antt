@@ -1,6 +1,8 @@
-use Rattle.std.proofs.Common.{◌∙◌, length, sym, ap, subst}
+use Rattle.std.proofs.Common.{◌≡◌, ◌∙◌, length, refl, sym, ap, subst, rules}
 use Rattle.hg_pool.specs.Kept.{IsFaithful}
+use Rattle.hg_sets.specs.Interning.{Table}
 use Rattle.hg_pool.specs.Shown as pool
+use Rattle.hg_store.specs.Recovering.{IsAtRest}
 use Rattle.hg_store.proofs.Making.{empty_faithful}
 use Rattle.hg_store.proofs.create.empty_detector.Goals as goal
 
@@ -14,3 +16,17 @@ returns-in-Ok-clause-faithful g c honest =
 
 pub returns-in-Err-clause-handed_back : goal.returns-in-Err-clause-handed_back
 returns-in-Err-clause-handed_back g c = c.into_disks.ensures ∙ ap (λ (p : pool.ShownPool g.row.D.Denot). p.file) (c.in-Err.ensures.handed_back ∙ c.in_ok-pool.ensures.pool)
+
+pub returns-in-Ok-clause-size : goal.returns-in-Ok-clause-size
+returns-in-Ok-clause-size g c =
+    let words = c.in-Ok.ensures.words ∙ c.in_ok-pool.ensures.pool in
+    let most : c.from.result ≡ c.args.frames = search rules in
+    record {
+      frames = ap (λ (p : pool.ShownPool g.row.D.Denot). p.most_frames) words ∙ most;
+      slots = ap (λ (p : pool.ShownPool g.row.D.Denot). p.slots) words;
+      sets = ap (λ (t : Table). t.limit) c.in-Ok.ensures.sets;
+    }
+
+pub returns-in-Ok-clause-rests : goal.returns-in-Ok-clause-rests
+returns-in-Ok-clause-rests g c =
+    subst (λ (p : pool.ShownPool g.row.D.Denot). IsAtRest p) (sym (c.in-Ok.ensures.words ∙ c.in_ok-pool.ensures.pool)) (record { none_waits = refl; frozen = λ page slot names. names })

@@ -20,7 +20,7 @@ use Rattle.hg_contents.specs.Images.{start_of}
 use Rattle.hg_checkpoint.specs.Restoring.{IsTrueCause, detector_of}
 use Rattle.hg_checkpoint.specs.declared.limits.Limits.{Limits}
 use Rattle.hg_store.specs.Images.{LeavesOld}
-use Rattle.hg_store.specs.Recovering.{IsOfRecovery, IsTooFew, table_at}
+use Rattle.hg_store.specs.Recovering.{HasSize, IsAtRest, IsOfRecovery, IsTooFew, table_at}
 use Rattle.hg_store.proofs.Making.{each_names, each_ready, first_ready, if_err, some_checkpoint}
 use Rattle.hg_store.proofs.Replaying.{on_ok}
 use Rattle.hg_store.proofs.recover.detector_of.Goals as goal
@@ -146,3 +146,23 @@ returns-in-Err-clause-any_moment g c =
 
 pub returns-in-Some-clause-device : goal.returns-in-Some-clause-device
 returns-in-Some-clause-device g c = c.restored.ensures.device
+
+pub returns-in-Some-clause-size : goal.returns-in-Some-clause-size
+returns-in-Some-clause-size g c =
+    let root = c.in-Some.root in
+    let caps = c.caps_of.result in
+    if_ok (λ d. d ≡ detector_of root caps d.words.file) (HasSize c.args.frames c.args.caps) c.restored.result
+    (λ d is. record {
+      frames = ap (λ (x : detect.ShownDetector (pool.ShownPool g.row.D.Denot)). x.words.most_frames) is ∙ c.caps_of.ensures.2;
+      slots = ap (λ (x : detect.ShownDetector (pool.ShownPool g.row.D.Denot)). x.words.slots) is ∙ c.caps_of.ensures.1;
+      sets = ap (λ (x : detect.ShownDetector (pool.ShownPool g.row.D.Denot)). x.sets.limit) is ∙ c.caps_of.ensures.0;
+    })
+    c.restored.ensures.shown
+
+pub returns-in-Some-clause-rests : goal.returns-in-Some-clause-rests
+returns-in-Some-clause-rests g c =
+    let root = c.in-Some.root in
+    let caps = c.caps_of.result in
+    if_ok (λ d. d ≡ detector_of root caps d.words.file) (λ d. IsAtRest d.words) c.restored.result
+    (λ d is. subst (λ (x : detect.ShownDetector (pool.ShownPool g.row.D.Denot)). IsAtRest x.words) (sym is) (record { none_waits = refl; frozen = λ page slot names. names }))
+    c.restored.ensures.shown

@@ -1,4 +1,4 @@
-use Rattle.std.proofs.Common.{◌∙◌, inr, ◌+◌, refl, sym, ap, subst, arith}
+use Rattle.std.proofs.Common.{◌∙◌, inl, inr, ℕ, ◌+◌, refl, sym, ap, subst, arith}
 use Rattle.hg_model.specs.Contents.{Content}
 use Rattle.hg_sets.specs.Interning.{Table}
 use Rattle.hg_detect.specs.Shown as detect
@@ -17,10 +17,12 @@ use Rattle.hg_contents.specs.Choices.{HasSlots}
 use Rattle.hg_contents.specs.Images.{LeadFrom}
 use Rattle.hg_checkpoint.proofs.Staying.{slots_stay}
 use Rattle.hg_store.specs.declared.devices.Devices.{Devices}
-use Rattle.hg_store.specs.Images.{EachImage, HasContentOf, failures_of, read_of}
-use Rattle.hg_store.specs.Recovering.{HasSets, IsTooSmall, table_at}
-use Rattle.hg_store.proofs.Recovering.{counted_so, moved, read_alone, read_on, with_pages}
+use Rattle.hg_store.specs.Images.{EachImage, FilesWereRead, HasContentOf, failures_of, read_of}
+use Rattle.hg_store.specs.Recovering.{HasFullSlots, HasRootThat, HasSets, IsTooSmall, NamesAbove, table_at}
+use Rattle.hg_store.proofs.Recovering.{checkpoint_kept, counted_so, moved, read_alone, read_on, read_to, root_read, uncalled, uncalled_root, with_pages}
+use Rattle.hg_store.proofs.Replaying.{fills_limit}
 use Rattle.hg_store.proofs.Rooting.{settled_leaves}
+use Rattle.hg_store.proofs.Telling.{reading_takes_none}
 use Rattle.hg_store.proofs.recover.recovered.Goals as goal
 
 pub returns-in-Err-clause-damaged : goal.returns-in-Err-clause-damaged
@@ -186,3 +188,104 @@ returns-in-Err-rooted-clause-images g c honest =
       root0 = read_on g.D.Disk old.root0 (first_of c.attach-roots.result) _ (first_of c.in-Err-rooted.roots) c.attach-roots.ensures.first refl c.in-Err-rooted.ensures.first.any_moment;
       root1 = read_on g.D.Disk old.root1 (second_of c.attach-roots.result) _ (second_of c.in-Err-rooted.roots) c.attach-roots.ensures.second refl c.in-Err-rooted.ensures.second.any_moment;
     }))
+
+pub returns-in-Ok-caught_up-clause-limits : goal.returns-in-Ok-caught_up-clause-limits
+returns-in-Ok-caught_up-clause-limits g c =
+    let went = c.in-Ok-caught_up.ensures.went in
+    let size = c.in-Ok-rooted.ensures.size in
+    record {
+      frames = went.limits.0 ∙ size.frames;
+      slots = went.limits.1 ∙ size.slots;
+      sets = λ honest. let filled = c.in-Ok-caught_up.ensures.sets honest in fills_limit _ _ _ _ _ filled.fills ∙ size.sets;
+    }
+
+pub returns-in-Err-clause-files : goal.returns-in-Err-clause-files
+returns-in-Err-clause-files g c =
+    let old = c.args.devices in
+    subst (λ (n : Devices g.row.D.Denot). FilesWereRead g.D.Disk old n) (sym c.handed_back.ensures) (record {
+      journal = record { state = c.in-Err.ensures.disk.state; images = c.in-Err.ensures.disk.any_moment };
+      root0 = uncalled_root g.D.Disk old.root0 _ c.attach-roots.ensures.first;
+      root1 = uncalled_root g.D.Disk old.root1 _ c.attach-roots.ensures.second;
+    })
+
+pub returns-in-Err-clause-slots : goal.returns-in-Err-clause-slots
+returns-in-Err-clause-slots g c honest =
+    let old = c.args.devices in
+    inl (uncalled g.D.Disk old.slots _ (ap (λ (n : Devices g.row.D.Denot). n.slots) c.handed_back.ensures))
+
+pub returns-in-Ok-caught_up-clause-files : goal.returns-in-Ok-caught_up-clause-files
+returns-in-Ok-caught_up-clause-files g c =
+    let old = c.args.devices in
+    let new = c.in-Ok-caught_up.store.devices in
+    record {
+      journal = record {
+        state = c.in-Ok-caught_up.ensures.state ∙ c.in-Ok.ensures.disk.state;
+        images = then g.D.Disk old.journal (journals.disk_of c.in-Ok.journal) new.journal c.in-Ok.ensures.disk.any_moment c.in-Ok-caught_up.ensures.journal;
+      };
+      root0 = root_read g.D.Disk old.root0 (first_of c.attach-roots.result) new.root0 (first_of c.in-Ok-rooted.roots) c.attach-roots.ensures.first (sym c.in-Ok-caught_up.ensures.first) c.in-Ok-rooted.ensures.first;
+      root1 = root_read g.D.Disk old.root1 (second_of c.attach-roots.result) new.root1 (second_of c.in-Ok-rooted.roots) c.attach-roots.ensures.second (sym c.in-Ok-caught_up.ensures.second) c.in-Ok-rooted.ensures.second;
+    }
+
+pub returns-in-Ok-caught_up-clause-slots : goal.returns-in-Ok-caught_up-clause-slots
+returns-in-Ok-caught_up-clause-slots g c honest =
+    let old = c.args.devices in
+    let rooted = c.in-Ok-rooted.ensures.rooted honest (g.D.Disk.state old.root0).contents (g.D.Disk.state old.root1).contents (g.D.Disk.state old.slots).contents
+    (ap (λ d. g.D.Disk.state d) c.attach-roots.ensures.first ∙ c.requires.settled.root0)
+    (ap (λ d. g.D.Disk.state d) c.attach-roots.ensures.second ∙ c.requires.settled.root1)
+    c.requires.settled.slots in
+    inr (checkpoint_kept g.D.Disk g.met.D.Disk.has_its_bytes c.args.caps.sets c.in-Ok-rooted.number old c.in-Ok-rooted.detector c.in-Ok-rooted.roots rooted (c.in-Ok-rooted.ensures.state ∙ c.requires.settled.slots)
+    c.in-Ok-caught_up.store.detector.words c.in-Ok-caught_up.ensures.went _ c.in-Ok-caught_up.ensures.slots)
+
+pub returns-in-Err-caught_up-clause-files : goal.returns-in-Err-caught_up-clause-files
+returns-in-Err-caught_up-clause-files g c =
+    let old = c.args.devices in
+    subst (λ (n : Devices g.row.D.Denot). FilesWereRead g.D.Disk old n) (sym c.handed_back-in-Err-caught_up.ensures) (record {
+      journal = read_to g.D.Disk old.journal (journals.disk_of c.in-Err-caught_up.journal) _ c.into_disk.ensures (record {
+        state = c.in-Err-caught_up.ensures.state ∙ c.in-Ok.ensures.disk.state;
+        images = then g.D.Disk old.journal (journals.disk_of c.in-Ok.journal) (journals.disk_of c.in-Err-caught_up.journal) c.in-Ok.ensures.disk.any_moment c.in-Err-caught_up.ensures.journal;
+      });
+      root0 = root_read g.D.Disk old.root0 (first_of c.attach-roots.result) _ (first_of c.in-Ok-rooted.roots) c.attach-roots.ensures.first (sym c.in-Err-caught_up.ensures.first) c.in-Ok-rooted.ensures.first;
+      root1 = root_read g.D.Disk old.root1 (second_of c.attach-roots.result) _ (second_of c.in-Ok-rooted.roots) c.attach-roots.ensures.second (sym c.in-Err-caught_up.ensures.second) c.in-Ok-rooted.ensures.second;
+    })
+
+pub returns-in-Err-caught_up-clause-slots : goal.returns-in-Err-caught_up-clause-slots
+returns-in-Err-caught_up-clause-slots g c honest =
+    let old = c.args.devices in
+    let now = c.in-Err-caught_up.detector.words in
+    let rooted = c.in-Ok-rooted.ensures.rooted honest (g.D.Disk.state old.root0).contents (g.D.Disk.state old.root1).contents (g.D.Disk.state old.slots).contents
+    (ap (λ d. g.D.Disk.state d) c.attach-roots.ensures.first ∙ c.requires.settled.root0)
+    (ap (λ d. g.D.Disk.state d) c.attach-roots.ensures.second ∙ c.requires.settled.root1)
+    c.requires.settled.slots in
+    let slots = c.into_disks-slots.ensures ∙ ap (λ (f : SlotFile g.row.D.Denot). files.disk_of f) (c.into_disks.ensures ∙ ap (λ (w : pool.ShownPool g.row.D.Denot). w.file) c.into_words.ensures) in
+    inr (checkpoint_kept g.D.Disk g.met.D.Disk.has_its_bytes c.args.caps.sets c.in-Ok-rooted.number old c.in-Ok-rooted.detector c.in-Ok-rooted.roots rooted (c.in-Ok-rooted.ensures.state ∙ c.requires.settled.slots)
+    now c.in-Err-caught_up.ensures.went _ (ap (λ (n : Devices g.row.D.Denot). n.slots) c.handed_back-in-Err-caught_up.ensures ∙ slots))
+
+pub returns-in-Err-rooted-clause-files : goal.returns-in-Err-rooted-clause-files
+returns-in-Err-rooted-clause-files g c =
+    let old = c.args.devices in
+    subst (λ (n : Devices g.row.D.Denot). FilesWereRead g.D.Disk old n) (sym c.handed_back-in-Err-rooted.ensures) (record {
+      journal = read_to g.D.Disk old.journal (journals.disk_of c.in-Ok.journal) _ c.into_disk-in-Err-rooted.ensures (record { state = c.in-Ok.ensures.disk.state; images = c.in-Ok.ensures.disk.any_moment });
+      root0 = root_read g.D.Disk old.root0 (first_of c.attach-roots.result) _ (first_of c.in-Err-rooted.roots) c.attach-roots.ensures.first refl c.in-Err-rooted.ensures.first;
+      root1 = root_read g.D.Disk old.root1 (second_of c.attach-roots.result) _ (second_of c.in-Err-rooted.roots) c.attach-roots.ensures.second refl c.in-Err-rooted.ensures.second;
+    })
+
+pub returns-in-Err-rooted-clause-slots : goal.returns-in-Err-rooted-clause-slots
+returns-in-Err-rooted-clause-slots g c honest =
+    let old = c.args.devices in
+    inl (read_to g.D.Disk old.slots c.in-Err-rooted.slots _ (ap (λ (n : Devices g.row.D.Denot). n.slots) c.handed_back-in-Err-rooted.ensures) (record { state = c.in-Err-rooted.ensures.state; images = c.in-Err-rooted.ensures.any_moment }))
+
+pub returns-in-Err-clause-full_slots : goal.returns-in-Err-clause-full_slots
+returns-in-Err-clause-full_slots g c honest told = reading_takes_none c.in-Err.refusal c.in-Err.ensures.fault told
+
+pub returns-in-Err-rooted-clause-full_slots : goal.returns-in-Err-rooted-clause-full_slots
+returns-in-Err-rooted-clause-full_slots g c honest told =
+    let above = (c.in-Err-rooted.ensures.full honest).slots told in
+    let P = NamesAbove c.args.caps.slots in
+    inl (subst (λ x. HasRootThat P (g.D.Disk.state x).contents (g.D.Disk.state c.args.devices.root1).contents) c.attach-roots.ensures.first
+    (subst (λ x. HasRootThat P (g.D.Disk.state (first_of c.attach-roots.result)).contents (g.D.Disk.state x).contents) c.attach-roots.ensures.second above))
+
+pub returns-in-Err-caught_up-clause-full_slots : goal.returns-in-Err-caught_up-clause-full_slots
+returns-in-Err-caught_up-clause-full_slots g c honest told =
+    let slots = c.into_disks-slots.ensures ∙ ap (λ (f : SlotFile g.row.D.Denot). files.disk_of f) (c.into_disks.ensures ∙ ap (λ (w : pool.ShownPool g.row.D.Denot). w.file) c.into_words.ensures) in
+    inr (subst (λ x. HasFullSlots g.D.Disk c.args.caps.slots x) (sym (ap (λ (n : Devices g.row.D.Denot). n.slots) c.handed_back-in-Err-caught_up.ensures ∙ slots))
+    (subst (λ (n : ℕ). HasFullSlots g.D.Disk n (pools.disk_of c.in-Err-caught_up.detector.words)) c.in-Ok-rooted.ensures.size.slots (c.in-Err-caught_up.ensures.full_slots honest told)))

@@ -6,12 +6,14 @@ use Rattle.hg_journal.specs.Reading.{disk_of}
 use Rattle.hg_pool.specs.OfWords.{went_nowhere, went_on}
 use Rattle.hg_store.specs.Recovering.{IsTooSmall}
 use Rattle.hg_store.proofs.Replaying.{content_in, counted, no_content, read_more, read_none, too_small}
+use Rattle.hg_store.proofs.Telling.{reading_takes_none}
 use Rattle.hg_store.proofs.replay.follow_rest.Goals as goal
 
 pub loop-number-init : goal.loop-number-init
 loop-number-init g c = record {
   works = search rules;
   lawful = search rules;
+  unbroken = search rules;
   faithful = λ f. f;
   went = went_nowhere g.D.Disk c.args.detector.now.words;
   state = refl;
@@ -34,15 +36,15 @@ pub returns-in_err-follow-in-Some-clause-went : goal.returns-in_err-follow-in-So
 returns-in_err-follow-in-Some-clause-went g c = went_on g.D.Disk c.args.detector.now.words c.loop-number.detector.words c.follow.new.detector.words c.loop-number.invariant.went c.follow.ensures.went
 
 pub returns-in_err-named-clause-damaged : goal.returns-in_err-named-clause-damaged
-returns-in_err-named-clause-damaged g c seen honest at faithful told count events d is lead =
+returns-in_err-named-clause-damaged g c seen honest at faithful told count lawful events d is lead =
     let read = c.loop-number.invariant.read seen honest at faithful in
     c.next.ensures.damaged (seen ++ read.since) honest read.at (search rules) events (subst (λ (s : DiskState). IsJournal s.contents events) (sym c.loop-number.invariant.state) is)
 
 pub returns-in_err-follow-in-Some-clause-damaged : goal.returns-in_err-follow-in-Some-clause-damaged
-returns-in_err-follow-in-Some-clause-damaged g c seen honest at faithful told count events d is lead =
+returns-in_err-follow-in-Some-clause-damaged g c seen honest at faithful told count lawful events d is lead =
     let read = c.loop-number.invariant.read seen honest at faithful in
     no_content g.D.Disk c.loop-number.journal c.loop-number.reader seen c.args.detector.now c.loop-number.detector read c.next.new.self c.next.new.reader c.in-Some.named (rw c.in-Some.is at (c.in_ok-named.ensures.next (seen ++ read.since) honest read.at))
-    count (c.follow.ensures.damaged (search rules)) events d (subst (λ (s : DiskState). IsJournal s.contents events) (sym (c.next.ensures.disk.state ∙ c.loop-number.invariant.state)) is) lead
+    count (c.follow.ensures.damaged (c.loop-number.invariant.faithful faithful) (read.lawful lawful) (search rules)) events d (subst (λ (s : DiskState). IsJournal s.contents events) (sym (c.next.ensures.disk.state ∙ c.loop-number.invariant.state)) is) lead
 
 pub returns-in_err-follow-in-Some-clause-full : goal.returns-in_err-follow-in-Some-clause-full
 returns-in_err-follow-in-Some-clause-full g c seen honest at faithful told count =
@@ -61,6 +63,7 @@ pub loop-number-preserved : goal.loop-number-preserved
 loop-number-preserved g c = record {
   works = search rules;
   lawful = search rules;
+  unbroken = c.follow.ensures.unbroken (λ fault. absurd (search rules));
   faithful = λ f. c.follow.ensures.faithful (c.loop-number.invariant.faithful f);
   went = went_on g.D.Disk c.args.detector.now.words c.loop-number.detector.words c.follow.new.detector.words c.loop-number.invariant.went c.follow.ensures.went;
   state = c.next.ensures.disk.state ∙ c.loop-number.invariant.state;
@@ -81,3 +84,12 @@ loop-number-preserved g c = record {
       let less = c.in_ok-follow-in-Some.ensures.few in
       (now, inr (omega (arith, now, was.0, less)));
 }
+
+pub returns-in_err-named-clause-slots : goal.returns-in_err-named-clause-slots
+returns-in_err-named-clause-slots g c told = reading_takes_none c.in_err-named.field-0.0 c.in_err-named.ensures.refusal (search rules)
+
+pub returns-in_err-follow-in-Some-clause-slots : goal.returns-in_err-follow-in-Some-clause-slots
+returns-in_err-follow-in-Some-clause-slots g c told = c.follow.ensures.slots (search rules)
+
+pub returns-in_err-follow-in-Some-clause-unbroken : goal.returns-in_err-follow-in-Some-clause-unbroken
+returns-in_err-follow-in-Some-clause-unbroken g c other = c.follow.ensures.unbroken (λ fault. other (search rules))

@@ -14,6 +14,7 @@ abbrev pub invariant-loop-number : goal.invariant-loop-number
 invariant-loop-number g l = record {
   works : is_broken l.journal ≡ false;
   lawful : AtPresent MayBring l.detector;
+  unbroken : pools.is_broken l.detector.words ≡ false;
   faithful : AtPresent (IsFaithful g.D.Disk) l.fn.detector → AtPresent (IsFaithful g.D.Disk) l.detector;
   went : Went g.D.Disk l.fn.detector.words l.detector.words;
   state : g.D.Disk.state (disk_of l.journal) ≡ g.D.Disk.state (disk_of l.fn.journal);

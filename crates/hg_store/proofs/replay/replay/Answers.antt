@@ -12,7 +12,7 @@ use Rattle.hg_model.specs.Parts.{Parts}
 use Rattle.hg_pool.specs.Maps as pools
 use Rattle.hg_store.specs.Recovering.{CountsFailures, CountsReplay, Fills, IsOfRecovery, IsTooSmall, failures_in}
 use Rattle.hg_store.proofs.Replaying.{all_led, behind_seen, content_in, on_ok}
-use Rattle.hg_store.proofs.Telling.{counted_beside, of_reading}
+use Rattle.hg_store.proofs.Telling.{counted_beside, of_reading, reading_takes_none}
 use Rattle.hg_store.proofs.Staying.{went_nowhere}
 use Rattle.hg_store.proofs.replay.replay.Goals as goal
 
@@ -21,7 +21,7 @@ pub returns-in_err-reader : goal.returns-in_err-reader
 returns-in_err-reader g c = absurd (true≢false (sym c.in_err-reader.ensures.fault.1 ∙ c.requires.works))
 
 pub returns-in_err-skip-clause-damaged : goal.returns-in_err-skip-clause-damaged
-returns-in_err-skip-clause-damaged g c bodies honest opens faithful told events d is lead =
+returns-in_err-skip-clause-damaged g c bodies honest opens faithful told lawful events d is lead =
     let count = c.events-2.ensures ∙ ap (λ (p : Parts). p.events) c.state.ensures in
     c.in_err-skip.ensures.damaged honest (c.in_ok-reader.ensures.first bodies opens) (search rules) events is (subst (λ (n : ℕ). n ≤ length events) (sym count) lead.enough)
 
@@ -64,10 +64,10 @@ returns-clause-any_moment g c =
     then g.D.Disk (disk_of c.args.journal.now) (disk_of c.skip.new.journal) (disk_of c.follow_rest.new.journal) c.skip.ensures.any_moment c.follow_rest.ensures.any_moment
 
 pub returns-clause-damaged : goal.returns-clause-damaged
-returns-clause-damaged g c bodies honest opens faithful told events d is =
+returns-clause-damaged g c bodies honest opens faithful told lawful events d is =
     let skipped = c.in_ok-skip.ensures.skipped honest (c.in_ok-reader.ensures.first bodies opens) in
     let count : length skipped.0 ≡ (content_in g.D.Disk c.args.detector.now).events = skipped.1 ∙ c.events-2.ensures ∙ ap (λ (p : Parts). p.events) c.state.ensures in
-    c.follow_rest.ensures.damaged skipped.0 honest skipped.2 faithful told count events d (subst (λ (s : DiskState). IsJournal s.contents events) (sym c.skip.ensures.state) is)
+    c.follow_rest.ensures.damaged skipped.0 honest skipped.2 faithful told count lawful events d (subst (λ (s : DiskState). IsJournal s.contents events) (sym c.skip.ensures.state) is)
 
 pub returns-clause-full : goal.returns-clause-full
 returns-clause-full g c bodies honest opens faithful told =
@@ -83,3 +83,6 @@ returns-clause-device g c =
 
 pub returns-in_err-skip-clause-went : goal.returns-in_err-skip-clause-went
 returns-in_err-skip-clause-went g c = went_nowhere g.D.Disk c.args.detector.now.words
+
+pub returns-in_err-skip-clause-slots : goal.returns-in_err-skip-clause-slots
+returns-in_err-skip-clause-slots g c told = reading_takes_none c.in_err-skip.field-0.0 c.in_err-skip.ensures.refusal (search rules)

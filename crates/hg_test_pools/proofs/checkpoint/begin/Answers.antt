@@ -1,5 +1,5 @@
 use Rattle.std.proofs.Common.{ℕ, List, sym, subst}
-use Rattle.hg_pool.specs.declared.frame.Frame.{Frame}
+use Rattle.hg_pool.specs.Shown.{Frame}
 use Rattle.hg_pool.specs.Kept.{AreWithin}
 use Rattle.hg_test_pools.proofs.checkpoint.begin.Goals as goal
 

@@ -1,7 +1,6 @@
 use Rattle.std.proofs.Common.{◌∙◌, ℕ, List, sym, ap, subst}
-use Rattle.hg_pool.specs.declared.frame.Frame.{Frame}
 use Rattle.hg_pool.specs.Kept.{AreWithin}
-use Rattle.hg_pool.specs.Shown.{ShownPool}
+use Rattle.hg_pool.specs.Shown.{Frame, ShownPool}
 use Rattle.hg_test_pools.proofs.checkpoint.end.Goals as goal
 
 pub returns-in_err-seal : goal.returns-in_err-seal

@@ -1,9 +1,11 @@
-use Rattle.std.proofs.Common.{ℕ, Some, subst}
+use Rattle.std.proofs.Common.{ℕ, Some, subst, sym}
 use Rattle.hg_root.specs.Checkpoints.{HasSlotsOf, root_of}
+use Rattle.hg_disk.specs.Calls.{CallsAtMost}
+use Rattle.hg_root.specs.Pairs.{first_of, second_of}
 use Rattle.hg_checkpoint.specs.declared.phase.Phase.{Phase}
 use Rattle.hg_checkpoint.specs.Standing.{RootsStand}
 use Rattle.hg_checkpoint.proofs.Rooting.{either_moment, still_either, turned_moment}
-use Rattle.hg_checkpoint.proofs.Answering.{counted_fault, same_fault}
+use Rattle.hg_checkpoint.proofs.Answering.{counted_fault, root_calls, same_fault}
 use Rattle.hg_checkpoint.proofs.Sealing.{opened_names, opened_slots}
 use Rattle.hg_checkpoint.proofs.checkpointer.Checkpointer.open_root.Goals as goal
 
@@ -38,3 +40,11 @@ returns-in-Err-clause-device g c = same_fault (Unit {0}) ℕ c.args.self.now.is_
 
 pub returns-in-Err-open_gate-clause-count : goal.returns-in-Err-open_gate-clause-count
 returns-in-Err-open_gate-clause-count g c = counted_fault g.D.Disk c.args.self.now.roots c.open_gate.new.self c.in-Err-open_gate.fault c.from.result c.from.ensures c.open_gate.ensures.older.turn c.open_gate.ensures.older.newer c.in-Err-open_gate.ensures.older.device
+
+pub returns-in-Ok-clause-calls : goal.returns-in-Ok-clause-calls
+returns-in-Ok-clause-calls g c =
+    let called = root_calls g.D.Disk c.args.self.now.roots c.open_gate.new.self 2 c.open_gate.ensures.older.turn c.open_gate.ensures.older.newer c.open_gate.ensures.older.calls in
+    (subst (λ (d : g.row.D.Denot). CallsAtMost g.D.Disk 2 (first_of c.args.self.now.roots) d) (sym c.take_turns.ensures.first) called.0, subst (λ (d : g.row.D.Denot). CallsAtMost g.D.Disk 2 (second_of c.args.self.now.roots) d) (sym c.take_turns.ensures.second) called.1)
+
+pub returns-in-Err-open_gate-clause-calls : goal.returns-in-Err-open_gate-clause-calls
+returns-in-Err-open_gate-clause-calls g c = root_calls g.D.Disk c.args.self.now.roots c.open_gate.new.self 2 c.open_gate.ensures.older.turn c.open_gate.ensures.older.newer c.open_gate.ensures.older.calls

@@ -2,7 +2,7 @@ use Rattle.std.proofs.Common.{subst}
 use Rattle.hg_root.specs.Checkpoints.{root_of}
 use Rattle.hg_checkpoint.specs.declared.phase.Phase.{Phase}
 use Rattle.hg_checkpoint.specs.Standing.{RootsStand}
-use Rattle.hg_checkpoint.proofs.Answering.{counted_fault, counted_none}
+use Rattle.hg_checkpoint.proofs.Answering.{counted_fault, counted_none, root_calls}
 use Rattle.hg_checkpoint.proofs.Rooting.{each_former, moment, still_now}
 use Rattle.hg_checkpoint.proofs.checkpointer.Checkpointer.write_root.Goals as goal
 
@@ -29,3 +29,9 @@ returns-clause-count g c = counted_fault g.D.Disk c.args.self.now.roots c.write.
 
 pub returns-in_default-body_of-clause-any_moment : goal.returns-in_default-body_of-clause-any_moment
 returns-in_default-body_of-clause-any_moment g c = λ now former stands. still_now g.D.Disk c.args.self.now.phase c.args.self.now.roots (root_of now) former c.args.self.now.body.value.items stands
+
+pub returns-in-Ok-write-clause-calls : goal.returns-in-Ok-write-clause-calls
+returns-in-Ok-write-clause-calls g c = root_calls g.D.Disk c.args.self.now.roots c.write.new.self 4 c.write.ensures.older.turn c.write.ensures.older.newer c.write.ensures.older.calls
+
+pub returns-clause-calls : goal.returns-clause-calls
+returns-clause-calls g c = root_calls g.D.Disk c.args.self.now.roots c.write.new.self 4 c.write.ensures.older.turn c.write.ensures.older.newer c.write.ensures.older.calls

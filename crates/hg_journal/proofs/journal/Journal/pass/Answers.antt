@@ -4,7 +4,7 @@ use Rattle.hg_disk.specs.State.{DiskState}
 use Rattle.hg_journal.specs.Journal.{IsJournal}
 use Rattle.hg_journal.specs.Reading.{IsAt, KeepsEvents, Passes, rest_of}
 use Rattle.hg_records.specs.Records.{BeginsWith}
-use Rattle.hg_journal.proofs.Journaling.{none_of, steps}
+use Rattle.hg_journal.proofs.Journaling.{no_more, none_of, steps}
 use Rattle.hg_journal.proofs.journal.Journal.pass.Goals as goal
 
 pub returns-in_err-find-clause-damaged : goal.returns-in_err-find-clause-damaged
@@ -24,3 +24,10 @@ pub returns-clause-passed : goal.returns-clause-passed
 returns-clause-passed g c seen honest h some =
     let found = subst (λ (more : Bool). MatchBool more (IsAt c.find.new.self c.find.new.reader seen × (1 ≤ length (rest_of c.find.new.reader))) (KeepsEvents c.find.new.self seen)) c.if-not-branch.false (c.in_ok-find.ensures.found seen honest h) in
     steps g.D.Disk c.find.new.self c.find.new.reader seen found.0 c.pass-count.new.self c.pass-count.result c.pass-count.ensures.passed c.pass-count.ensures.place
+
+pub returns-then-count-eq0-clause-again : goal.returns-then-count-eq0-clause-again
+returns-then-count-eq0-clause-again g c seen honest h =
+    let found = subst (λ (more : Bool). MatchBool more (IsAt c.find.new.self c.find.new.reader seen × (1 ≤ length (rest_of c.find.new.reader))) (KeepsEvents c.find.new.self seen)) c.if-not-branch.false (c.in_ok-find.ensures.found seen honest h) in
+    let none : Passes 0 (rest_of c.find.new.reader) (rest_of c.pass-count.new.self) = subst (λ (n : ℕ). Passes n (rest_of c.find.new.reader) (rest_of c.pass-count.new.self)) c.if-count-eq0.true c.pass-count.ensures.passed in
+    let more = steps g.D.Disk c.find.new.self c.find.new.reader seen found.0 c.pass-count.new.self 0 none c.pass-count.ensures.place in
+    no_more c.find.new.self c.pass-count.new.self seen more.0 more.1 more.2

@@ -3,13 +3,13 @@ use Rattle.std.proofs.lemmas.Option.{IfSome_then}
 use Rattle.std.specs.Map.{keys_of}
 use Rattle.std.specs.Set.{remove_key}
 use Rattle.lru.specs.LruCache.{LruCache}
-use Rattle.hg_pool.specs.declared.frame.Frame.{Frame}
+use Rattle.hg_cache.specs.declared.frame.Frame.{Frame}
 use Rattle.hg_pool.specs.Maps.{frame_in}
 use Rattle.hg_pool.specs.Shown.{ShownPool}
 use Rattle.hg_pool.specs.Sound.{shown_of}
 use Rattle.hg_pool.proofs.Changing.{still_file}
-use Rattle.hg_pool.proofs.Lookups.{if_true, looked_promoted}
-use Rattle.hg_pool.proofs.Orders.{order_used}
+use Rattle.hg_cache.proofs.Lookups.{if_true, looked_promoted}
+use Rattle.hg_cache.proofs.Orders.{order_used}
 use Rattle.hg_pool.proofs.Stepping.{sound_frames, stays_all}
 use Rattle.hg_pool.proofs.parts.Parts.ask.Goals as goal
 
@@ -29,7 +29,7 @@ returns-clause-stays g c =
     λ q. ap (λ (x : LruCache ℕ Frame). frame_in x.entries q) c.ask.ensures.entries ∙ looked_promoted c.args.page q c.args.self.now.frames.entries c.len-count.ensures.valid.0 in
     let old : ShownPool g.row.D.Denot = shown_of c.args.self.now in
     let new : ShownPool g.row.D.Denot = record old { frames = c.ask.new.self.entries; most_frames = c.ask.new.self.cap } in
-    stays_all g.D.Disk old new (still_file g.D.Disk old new refl refl (λ q s there. there) (λ sealed. sealed) (λ sealed. refl) (ap (λ (x : LruCache ℕ Frame). x.cap) c.ask.ensures.entries, refl)) (λ s b named has. has)
+    stays_all g.D.Disk old new (still_file g.D.Disk old new refl refl (λ q s there. there) (λ sealed. sealed) (λ sealed. refl) (ap (λ (x : LruCache ℕ Frame). x.cap) c.ask.ensures.entries, refl) (λ none. none)) (λ s b named has. has)
     (λ q. record { frames = looks q; live = refl; frozen = refl; waiting = refl; copies = refl })
 
 pub returns-clause-order : goal.returns-clause-order

@@ -1,5 +1,5 @@
 use Rattle.std.proofs.Common.{◌≡◌, ◌∙◌, ℕ, Bool, true, List, Option, Some, None, Result, Ok, Err, OnErr, is_some, refl, sym}
-use Rattle.hg_pool.specs.declared.frame.Frame.{Frame}
+use Rattle.hg_cache.specs.declared.frame.Frame.{Frame}
 use Rattle.hg_pool.specs.Maps.{frame_in}
 use Rattle.hg_pool.specs.Picking.{HasDirty}
 use Rattle.hg_pool.proofs.parts.Parts.clean.Goals as goal
@@ -21,4 +21,4 @@ on_err (Err error) is = is
 pub returns-in-Some-free_slot-clause-changed : goal.returns-in-Some-free_slot-clause-changed
 returns-in-Some-free_slot-clause-changed g c =
     on_err c.write_searched.result
-    (dirty_there c.args.self.now.frames.entries c.args.page c.is_dirty.result c.requires.present c.is_dirty.ensures c.if-not-is_dirty.false)
+    (dirty_there c.args.self.now.frames.entries c.args.page c.is_changed.result c.requires.present c.is_changed.ensures c.if-not-is_changed.false)

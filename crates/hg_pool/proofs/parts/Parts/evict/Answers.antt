@@ -2,9 +2,9 @@ use Rattle.std.proofs.Common.{rules, ◌≡◌, ◌<◌, ◌∙◌, ◌-◌, ℕ
 use Rattle.std.specs.List.{IsDistinct}
 use Rattle.std.specs.Map.{keys_of}
 use Rattle.lru.specs.LruCache.{last_entry}
-use Rattle.hg_pool.specs.declared.frame.Frame.{Frame}
+use Rattle.hg_cache.specs.declared.frame.Frame.{Frame}
 use Rattle.hg_pool.specs.Sound.{shown_of}
-use Rattle.hg_pool.proofs.Orders.{front_pages, got_there, last_get, last_of, none_last, removed_last, same_pages}
+use Rattle.hg_cache.proofs.Orders.{front_pages, got_there, last_get, last_of, none_last, removed_last, same_pages}
 use Rattle.hg_pool.proofs.Stepping.{cells_on, stays_on}
 use Rattle.hg_pool.specs.declared.parts.Parts.{Parts}
 use Rattle.hg_pool.specs.Maps.{disk_of}

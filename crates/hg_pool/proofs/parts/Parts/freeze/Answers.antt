@@ -4,7 +4,7 @@ use Rattle.hg_pool.specs.Calls.{AreLeft, NamesDirty}
 use Rattle.hg_pool.specs.Kept.{IsWhole}
 use Rattle.hg_pool.specs.Picking.{AreLeastFree, ArePicks}
 use Rattle.hg_pool.specs.Shown.{ShownPool}
-use Rattle.hg_pool.specs.declared.frame.Frame.{Frame}
+use Rattle.hg_cache.specs.declared.frame.Frame.{Frame}
 use Rattle.hg_pool.specs.declared.parts.Parts.{Parts}
 use Rattle.hg_pool.specs.Answers.{IsTaken}
 use Rattle.hg_pool.specs.Sound.{shown_of}
@@ -31,8 +31,8 @@ left_by_picks p pages picks table left old new h is new_is old_is q =
 no_error : {T E : Type 0} (x : T) (d : E) → Ok x ≡ Err d → ⊥
 no_error x d e = cc
 
-pub changed-requires : goal.changed-requires
-changed-requires g c = omega (arith, c.len-count.ensures.valid.1, c.requires.sound.most_frames)
+pub changed_pages-requires : goal.changed_pages-requires
+changed_pages-requires g c = omega (arith, c.len-count.ensures.valid.1, c.requires.sound.most_frames)
 
 pub returns-in_err-reserve-2-clause-sound : goal.returns-in_err-reserve-2-clause-sound
 returns-in_err-reserve-2-clause-sound g c =

@@ -3,13 +3,13 @@ use Rattle.lru.specs.LruCache.{LruCache}
 use Rattle.hg_cells.specs.declared.cell.Cell.{Cell}
 use Rattle.hg_cells.specs.declared.cell.Cell.TheVariants.{New}
 use Rattle.hg_pages.specs.Tables.{slot_in}
-use Rattle.hg_pool.specs.declared.frame.Frame.{Frame}
+use Rattle.hg_cache.specs.declared.frame.Frame.{Frame}
 use Rattle.hg_pool.specs.Maps.{bytes_of, frame_in, in_frame_or, in_slot}
 use Rattle.hg_pool.specs.Shown.{ShownPool}
 use Rattle.hg_pool.specs.Sound.{shown_of}
 use Rattle.hg_pool.specs.Kept.{IsWhole}
 use Rattle.hg_pool.proofs.Changing.{LiveHere, still_file}
-use Rattle.hg_pool.proofs.Lookups.{if_false, if_true, itself, looked_removed}
+use Rattle.hg_cache.proofs.Lookups.{if_false, if_true, itself, looked_removed}
 use Rattle.hg_pool.proofs.Stepping.{cells_gone, clean_apart, frozen_from_live, sound_frames, stays_at}
 use Rattle.hg_pool.proofs.parts.Parts.let_go.Goals as goal
 
@@ -47,7 +47,7 @@ returns-clause-stays g c =
     let live : IsWhole g.D.Disk old → LiveHere g.D.Disk page old new = λ h i lt.
     ap (λ (o : Option Frame). in_frame_or o (in_slot (bytes_of g.D.Disk old) (slot_in old.live page) i) i) gone
     ∙ looks page (frame_in old.frames page) (in_slot (bytes_of g.D.Disk old) (slot_in old.live page) i) i (λ f there. (h.pages page).clean f there (c.requires.clean f there) i lt) in
-    stays_at g.D.Disk old new page (still_file g.D.Disk old new refl refl (λ q s there. there) (λ sealed. sealed) (λ sealed. refl) (ap (λ (x : LruCache ℕ Frame). x.cap) is, refl)) (λ s b named has. has)
+    stays_at g.D.Disk old new page (still_file g.D.Disk old new refl refl (λ q s there. there) (λ sealed. sealed) (λ sealed. refl) (ap (λ (x : LruCache ℕ Frame). x.cap) is, refl) (λ none. none)) (λ s b named has. has)
     (λ q apart. record { frames = look q ∙ if_false (page == q) None (frame_in p.frames.entries q) apart; live = refl; frozen = refl; waiting = refl; copies = refl })
     live
     (λ h. record {

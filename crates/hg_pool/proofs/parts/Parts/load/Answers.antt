@@ -9,7 +9,7 @@ use Rattle.hg_pool.specs.Maps.{frame_in}
 use Rattle.hg_pool.specs.Shown.{ShownPool}
 use Rattle.hg_pool.proofs.FromSlots.{known_there, not_there}
 use Rattle.hg_pool.specs.Sound.{shown_of}
-use Rattle.hg_pool.proofs.Orders.{before_stays, first_listed}
+use Rattle.hg_cache.proofs.Orders.{before_stays, first_listed}
 use Rattle.hg_pool.proofs.Stepping.{stays_on}
 use Rattle.hg_pool.specs.Reached.{IsReached}
 use Rattle.hg_pool.specs.Picking.{TakesLeastFree}

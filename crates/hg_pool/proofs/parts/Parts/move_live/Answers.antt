@@ -1,8 +1,8 @@
 use Rattle.std.proofs.Common.{◌≡◌, ◌==◌, ◌∙◌, Some, false, is_some, sym, ap}
-use Rattle.hg_pool.specs.declared.frame.Frame.{Frame}
+use Rattle.hg_cache.specs.declared.frame.Frame.{Frame}
 use Rattle.hg_pool.specs.Maps.{frame_in}
 use Rattle.hg_pool.specs.Sound.{shown_of}
-use Rattle.hg_pool.proofs.Lookups.{if_true, itself}
+use Rattle.hg_cache.proofs.Lookups.{if_true, itself}
 use Rattle.hg_pool.proofs.Stepping.{cells_clean, the_some}
 use Rattle.hg_pool.proofs.Moving.{set_at, sound_moved, stays_moved}
 use Rattle.hg_pool.proofs.parts.Parts.move_live.Goals as goal

@@ -8,7 +8,7 @@ use Rattle.hg_pages.proofs.Places.{in_order, once}
 use Rattle.hg_pool.specs.Maps.{copy_in}
 use Rattle.hg_pool.specs.Shown.{ShownPool}
 use Rattle.hg_pool.specs.Sound.{AreSound, shown_of}
-use Rattle.hg_pool.proofs.Lookups.{itself, looked_removed}
+use Rattle.hg_cache.proofs.Lookups.{itself, looked_removed}
 use Rattle.hg_pool.proofs.Moving.{no_page_left, sound_released, stays_released}
 use Rattle.hg_pool.proofs.Stepping.{the_some}
 use Rattle.hg_pool.proofs.parts.Parts.release.Goals as goal

@@ -2,13 +2,13 @@ use Rattle.std.proofs.Common.{◌≡◌, ◌==◌, ◌∙◌, ◌<◌, ◌^◌, 
 use Rattle.lru.specs.LruCache.{LruCache}
 use Rattle.hg_cells.specs.declared.cell.Cell.TheVariants.{New}
 use Rattle.hg_pages.specs.Tables.{slot_in}
-use Rattle.hg_pool.specs.declared.frame.Frame.{Frame}
+use Rattle.hg_cache.specs.declared.frame.Frame.{Frame}
 use Rattle.hg_pool.specs.Kept.{IsWhole}
 use Rattle.hg_pool.specs.Maps.{bytes_of, frame_in, in_frame_or, in_slot}
 use Rattle.hg_pool.specs.Shown.{ShownPool}
 use Rattle.hg_pool.specs.Sound.{shown_of}
 use Rattle.hg_pool.proofs.Changing.{LiveHere, still_file}
-use Rattle.hg_pool.proofs.Lookups.{if_false, if_true, itself, looked_new, same_number}
+use Rattle.hg_cache.proofs.Lookups.{if_false, if_true, itself, looked_new, same_number}
 use Rattle.hg_pool.proofs.Stepping.{frozen_from_live, sound_frames, stays_at}
 use Rattle.hg_pool.proofs.parts.Parts.take_in.Goals as goal
 
@@ -50,7 +50,7 @@ returns-clause-stays g c =
     ap (λ (o : Option Frame). in_frame_or o (in_slot (bytes_of g.D.Disk old) (slot_in old.live page) i) i) here
     ∙ c.requires.stands h i lt
     ∙ sym (ap (λ (o : Option Frame). in_frame_or o (in_slot (bytes_of g.D.Disk old) (slot_in old.live page) i) i) c.requires.absent) in
-    stays_at g.D.Disk old new page (still_file g.D.Disk old new refl refl (λ q s there. there) (λ sealed. sealed) (λ sealed. refl) (ap (λ (x : LruCache ℕ Frame). x.cap) c.in_ok-put.ensures.entries, refl)) (λ s b named has. has)
+    stays_at g.D.Disk old new page (still_file g.D.Disk old new refl refl (λ q s there. there) (λ sealed. sealed) (λ sealed. refl) (ap (λ (x : LruCache ℕ Frame). x.cap) c.in_ok-put.ensures.entries, refl) (λ none. none)) (λ s b named has. has)
     (λ q test. record { frames = look q ∙ if_false (page == q) (Some fresh) (frame_in p.frames.entries q) test; live = refl; frozen = refl; waiting = refl; copies = refl })
     live
     (λ h. record {

@@ -2,12 +2,12 @@ use Rattle.std.proofs.Common.{◌-◌, ◌∷◌, ◌∙◌, ℕ, nat_eq, List, 
 use Rattle.std.specs.Map.{keys_of}
 use Rattle.std.specs.Set.{remove_key}
 use Rattle.hg_cells.specs.Pages.{filled}
-use Rattle.hg_pool.specs.declared.frame.Frame.{Frame}
+use Rattle.hg_cache.specs.declared.frame.Frame.{Frame}
 use Rattle.hg_pool.specs.Maps.{frame_in}
 use Rattle.hg_pool.specs.Sound.{shown_of}
 use Rattle.hg_pool.proofs.Filling.{sound_filled, went_filled}
-use Rattle.hg_pool.proofs.Lookups.{if_true}
-use Rattle.hg_pool.proofs.Orders.{order_used}
+use Rattle.hg_cache.proofs.Lookups.{if_true}
+use Rattle.hg_cache.proofs.Orders.{order_used}
 use Rattle.hg_pool.proofs.Stepping.{the_some}
 use Rattle.hg_pool.proofs.parts.Parts.update.Goals as goal
 

@@ -1,13 +1,13 @@
 use Rattle.std.proofs.Common.{◌∙◌, ℕ, List, refl, sym, ap}
 use Rattle.std.specs.Map.{keys_of}
 use Rattle.lru.specs.LruCache.{LruCache}
-use Rattle.hg_pool.specs.declared.frame.Frame.{Frame}
+use Rattle.hg_cache.specs.declared.frame.Frame.{Frame}
 use Rattle.hg_pool.specs.Maps.{frame_in}
 use Rattle.hg_pool.specs.Shown.{ShownPool}
 use Rattle.hg_pool.specs.Sound.{shown_of}
 use Rattle.hg_pool.proofs.Changing.{still_file}
-use Rattle.hg_pool.proofs.Lookups.{looked_promoted}
-use Rattle.hg_pool.proofs.Orders.{order_unused, order_used}
+use Rattle.hg_cache.proofs.Lookups.{looked_promoted}
+use Rattle.hg_cache.proofs.Orders.{order_unused, order_used}
 use Rattle.hg_pool.proofs.Stepping.{sound_frames, stays_all}
 use Rattle.hg_pool.proofs.parts.Parts.use_page.Goals as goal
 
@@ -26,7 +26,7 @@ pub returns-clause-stays : goal.returns-clause-stays
 returns-clause-stays g c =
     let old : ShownPool g.row.D.Denot = shown_of c.args.self.now in
     let new : ShownPool g.row.D.Denot = record old { frames = c.promote.new.self.entries; most_frames = c.promote.new.self.cap } in
-    stays_all g.D.Disk old new (still_file g.D.Disk old new refl refl (λ q s there. there) (λ sealed. sealed) (λ sealed. refl) (ap (λ (x : LruCache ℕ Frame). x.cap) c.promote.ensures.entries, refl)) (λ s b named has. has)
+    stays_all g.D.Disk old new (still_file g.D.Disk old new refl refl (λ q s there. there) (λ sealed. sealed) (λ sealed. refl) (ap (λ (x : LruCache ℕ Frame). x.cap) c.promote.ensures.entries, refl) (λ none. none)) (λ s b named has. has)
     (λ q. record { frames = returns-clause-looks g c q; live = refl; frozen = refl; waiting = refl; copies = refl })
 
 pub returns-clause-order : goal.returns-clause-order

@@ -8,7 +8,7 @@ use Rattle.hg_pool.specs.Maps.{bytes_of, copy_in, frame_in, frozen_at}
 use Rattle.hg_pool.proofs.Writing.{frozen_waiting, stands}
 use Rattle.hg_pool.specs.Calls.{AreOfEither, IsWith, IsWithout}
 use Rattle.hg_pool.specs.Sound.{IsSound, shown_of}
-use Rattle.hg_pool.proofs.Lookups.{if_true, itself, same_number}
+use Rattle.hg_cache.proofs.Lookups.{if_true, itself, same_number}
 use Rattle.hg_pool.proofs.Stepping.{cells_on, cells_same, stays_on}
 use Rattle.hg_pool.proofs.parts.Parts.write_waiting.Goals as goal
 

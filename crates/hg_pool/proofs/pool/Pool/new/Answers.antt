@@ -2,7 +2,7 @@ use Rattle.std.proofs.Common.{◌≡◌, ◌∙◌, ℕ, List, Some, None, lengt
 use Rattle.std.proofs.lemmas.Bool.{false≢true}
 use Rattle.hg_cells.specs.declared.cell.Cell.{Cell}
 use Rattle.hg_pages.specs.Tables.{slot_in}
-use Rattle.hg_pool.specs.declared.frame.Frame.{Frame}
+use Rattle.hg_cache.specs.declared.frame.Frame.{Frame}
 use Rattle.hg_pool.specs.Maps.{copy_in, frame_in}
 use Rattle.hg_pool.specs.Tables.{FindsBelow}
 use Rattle.hg_pool.proofs.Naming.{finds_below}

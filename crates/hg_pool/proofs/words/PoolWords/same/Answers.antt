@@ -4,8 +4,8 @@ use Rattle.hg_disk.specs.declared.disk.Disk as disk
 use Rattle.hg_cells.specs.declared.cell.Cell.{Cell}
 use Rattle.hg_cells.specs.Cells.{IsWithin}
 use Rattle.hg_cells.specs.Words.{HaveCell, IsWithinWhere}
-use Rattle.hg_pool.specs.declared.frame.Frame.{Frame}
-use Rattle.hg_pool.specs.Frames.{HasCell}
+use Rattle.hg_cache.specs.declared.frame.Frame.{Frame}
+use Rattle.hg_cache.specs.Frames.{HasCell}
 use Rattle.hg_pool.specs.Maps.{bytes_of, in_frame_or, in_slot, live, live_at}
 use Rattle.hg_pages.specs.Tables.{slot_in}
 use Rattle.hg_pool.specs.OfWords.{MayBring}

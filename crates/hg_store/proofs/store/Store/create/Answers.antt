@@ -1,4 +1,5 @@
 use Rattle.std.proofs.Common.{◌≡◌, ◌+◌, ◌++◌, ◌∷◌, [], ℕ, List, refl, sym, ap, ◌∙◌, subst, arith}
+use Rattle.hg_detect.specs.Shown as detect
 use Rattle.hg_disk.specs.declared.disk.Disk as disk
 use Rattle.hg_disk.specs.Calls.{CallsAtMost}
 use Rattle.hg_disk.specs.State.{DiskState}
@@ -101,3 +102,13 @@ returns-in-Ok-new_files-clause-device g c =
     let slots = ap (λ (f : SlotFile g.row.D.Denot). files.disk_of f) c.in-Ok-empty_detector.ensures.file ∙ c.attach.ensures.disk in
     ap (λ (d : Devices g.row.D.Denot). failures_of g.D.Disk d) c.on_closed_roots.ensures.devices
     ∙ none_failed_beside _ _ _ _ _ _ _ _ (ap (λ d. g.D.Disk.failures d) slots) c.in-Ok-new_files.ensures.device
+
+pub returns-in-Ok-new_files-clause-limits : goal.returns-in-Ok-new_files-clause-limits
+returns-in-Ok-new_files-clause-limits g c =
+    let is = c.on_closed_roots.ensures.detector in
+    let size = c.in-Ok-empty_detector.ensures.size in
+    record {
+      frames = ap (λ (d : detect.ShownDetector (pool.ShownPool g.row.D.Denot)). d.words.most_frames) is ∙ size.frames;
+      slots = ap (λ (d : detect.ShownDetector (pool.ShownPool g.row.D.Denot)). d.words.slots) is ∙ size.slots;
+      sets = λ _. ap (λ (d : detect.ShownDetector (pool.ShownPool g.row.D.Denot)). d.sets.limit) is ∙ size.sets;
+    }

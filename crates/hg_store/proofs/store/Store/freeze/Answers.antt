@@ -1,4 +1,5 @@
-use Rattle.std.proofs.Common.{◌≡◌, ◌∙◌, ◌+◌, false, length, ℕ, List, rules, subst, sym, ap}
+use Rattle.std.proofs.Common.{◌≡◌, ◌∙◌, ◌+◌, ◌<◌, false, length, ℕ, List, refl, rules, subst, sym, ap}
+use Rattle.hg_root.specs.declared.root.TheConstants.{MOST_CHECKPOINTS}
 use Rattle.std.proofs.lemmas.Bool.{true≢false}
 use Rattle.hg_checkpoint.specs.declared.phase.Phase.{Phase}
 use Rattle.hg_pages.specs.Files as files
@@ -9,9 +10,9 @@ use Rattle.hg_store.specs.declared.steps.StorePhase.TheVariants as store
 use Rattle.hg_store.specs.Kept.{is_rooting}
 use Rattle.hg_pool.specs.Kept.{AreWithin}
 use Rattle.hg_pool.specs.Maps.{live}
-use Rattle.hg_pool.specs.declared.frame.Frame.{Frame}
+use Rattle.hg_pool.specs.Shown.{Frame}
 use Rattle.hg_contents.proofs.lawful.Staying.{fits_a_root}
-use Rattle.hg_store.proofs.Freezing.{draft_of, frozen_as, head, idle_phase, known, now}
+use Rattle.hg_store.proofs.Freezing.{draft_of, freeze_is_quiet, freeze_is_spelled, freeze_refused, frozen_as, head, idle_phase, known, now}
 use Rattle.hg_store.proofs.Staying.{same_content}
 use Rattle.hg_store.proofs.Unchanged.{nothing_done, same_shown, same_sound}
 use Rattle.hg_store.proofs.store.Store.freeze.Goals as goal
@@ -66,7 +67,7 @@ pub returns-in-Err-WrongPhase-clause-live : goal.returns-in-Err-WrongPhase-claus
 returns-in-Err-WrongPhase-clause-live g c honest = ap (λ (s : ShownStore g.row.D.Denot). of_store g.D.Disk s) (same_shown g.D.Disk _ c.freeze.new.self c.freeze.new.pool c.in-Err-WrongPhase.ensures.refused.0 (c.in-Err-WrongPhase.ensures.refused.1 ∙ c.words_mut.ensures.value) _ c.self.invariant _ c.self.view_is)
 
 pub returns-in-Err-WrongPhase-clause-done : goal.returns-in-Err-WrongPhase-clause-done
-returns-in-Err-WrongPhase-clause-done g c = nothing_done _ _ _ _ _ (same_shown g.D.Disk _ c.freeze.new.self c.freeze.new.pool c.in-Err-WrongPhase.ensures.refused.0 (c.in-Err-WrongPhase.ensures.refused.1 ∙ c.words_mut.ensures.value) _ c.self.invariant _ c.self.view_is) (search rules)
+returns-in-Err-WrongPhase-clause-done g c = nothing_done _ _ _ _ _ _ (same_shown g.D.Disk _ c.freeze.new.self c.freeze.new.pool c.in-Err-WrongPhase.ensures.refused.0 (c.in-Err-WrongPhase.ensures.refused.1 ∙ c.words_mut.ensures.value) _ c.self.invariant _ c.self.view_is) (search rules) tt
 
 pub invariant_of-self-in-Err-Refused : goal.invariant_of-self-in-Err-Refused
 invariant_of-self-in-Err-Refused g c =
@@ -82,7 +83,17 @@ pub returns-clause-live : goal.returns-clause-live
 returns-clause-live g c honest = ap (λ (s : ShownStore g.row.D.Denot). of_store g.D.Disk s) (same_shown g.D.Disk _ c.freeze.new.self c.freeze.new.pool c.in-Err-Refused.ensures.refused.0 (c.in-Err-Refused.ensures.refused.1 ∙ c.words_mut.ensures.value) _ c.self.invariant _ c.self.view_is)
 
 pub returns-clause-done : goal.returns-clause-done
-returns-clause-done g c = nothing_done _ _ _ _ _ (same_shown g.D.Disk _ c.freeze.new.self c.freeze.new.pool c.in-Err-Refused.ensures.refused.0 (c.in-Err-Refused.ensures.refused.1 ∙ c.words_mut.ensures.value) _ c.self.invariant _ c.self.view_is) (search rules)
+returns-clause-done g c =
+    let works : c.self.inside.is_broken ≡ false = search rules in
+    let rests : phase_by c.self.inside.checkpointer.phase c.self.inside.pending.items ≡ store.Idle = search rules in
+    let few : c.self.inside.checkpointer.number < MOST_CHECKPOINTS = search rules in
+    rw (← c.self.view_is) (nothing_done _ _ _ _ _ _
+    (same_shown g.D.Disk _ c.freeze.new.self c.freeze.new.pool c.in-Err-Refused.ensures.refused.0 (c.in-Err-Refused.ensures.refused.1 ∙ c.words_mut.ensures.value) _ c.self.invariant _ refl)
+    (freeze_refused (Unit {0}) (Unit {0}) _ c.words_mut.result.now c.self.inside.checkpointer.is_broken c.self.inside.checkpointer.phase _ c.in-Err-Refused.cause works rests few c.words_mut.ensures.value (c.self.invariant.checkpointer works) c.in-Err-Refused.ensures.phase)
+    (freeze_is_quiet (Unit {0}) (Unit {0}) c.words_mut.result.now c.self.inside.checkpointer.is_broken c.self.inside.checkpointer.phase _ c.in-Err-Refused.cause c.in-Err-Refused.ensures.phase))
+
+pub returns-clause-undamaged : goal.returns-clause-undamaged
+returns-clause-undamaged g c honest = freeze_is_spelled (Unit {0}) (Unit {0}) c.words_mut.result.now c.self.inside.checkpointer.is_broken c.self.inside.checkpointer.phase _ c.in-Err-Refused.cause c.in-Err-Refused.ensures.phase
 
 pub returns-in-Ok-clause-done : goal.returns-in-Ok-clause-done
 returns-in-Ok-clause-done g c = record {

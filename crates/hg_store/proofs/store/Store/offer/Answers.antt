@@ -1,11 +1,11 @@
-use Rattle.std.proofs.Common.{rules, refl, Some, ap, sym, ◌∙◌}
+use Rattle.std.proofs.Common.{◌≡◌, rules, false, refl, Some, ap, sym, ◌∙◌}
 use Rattle.hg_model.specs.Contents.{Content}
 use Rattle.hg_model.specs.Verdicts.{standing_of}
 use Rattle.hg_detect.specs.Shown.{content}
 use Rattle.hg_pool.specs.Maps as pools
 use Rattle.hg_store.proofs.Backing.{parts_stand}
 use Rattle.hg_store.proofs.Going.{images}
-use Rattle.hg_store.proofs.Offering.{accepted, content_kept, followed_one, refused}
+use Rattle.hg_store.proofs.Offering.{accepted, content_kept, followed_one, is_full, not_broken, of_room, reads_true, refused}
 use Rattle.hg_store.proofs.Staying.{works_on}
 use Rattle.hg_store.proofs.Refusing.{rules_call_nothing}
 use Rattle.hg_store.proofs.store.Store.offer.Goals as goal
@@ -68,6 +68,7 @@ returns-in-Ok-clause-content g c honest =
     rw (← c.self.view_is) (record {
       leads = followed_one _ c.args.named.now (search rules) ∙ ap (λ (d : Content). Some d) (sym (c.in-Ok.ensures.content k.1.faithful));
       sets = λ _. c.in-Ok.ensures.sets k.1.faithful;
+      undamaged = λ _ e. absurd (cc e);
     })
 
 pub returns-in-Err-clause-content : goal.returns-in-Err-clause-content
@@ -76,6 +77,7 @@ returns-in-Err-clause-content g c honest =
     rw (← c.self.view_is) (record {
       leads = ap (λ (d : Content). Some d) (sym (c.in-Err.ensures.unchanged k.1.faithful));
       sets = λ _. c.in-Err.ensures.sets k.1.faithful;
+      undamaged = λ _ e. c.in-Err.ensures.undamaged (reads_true g.D.Disk _ k.0 k.1) (cc e);
     })
 
 pub returns-in-Refuse-clause-device : goal.returns-in-Refuse-clause-device
@@ -95,4 +97,22 @@ returns-in-Ok-clause-done g c = record {
   works = search rules;
   untouched = λ never. absurd (never (record { works = search rules; accepted = search rules; room = search rules }));
   breaks = search rules;
+  by_file = λ _. search rules;
+  full = λ _ e. absurd (cc e);
 }
+
+pub returns-in-Err-clause-done : goal.returns-in-Err-clause-done
+returns-in-Err-clause-done g c =
+    let works : c.self.inside.is_broken ≡ false = search rules in
+    let never = not_broken g.D.Disk c.self.inside.detector.words c.accept.new.self.words c.accept.ensures.went c.in-Err.refusal c.in-Err.ensures.failures (c.self.invariant.words works) c.in-Err.ensures.cause in
+    let room = of_room c.accept.new.self.words c.in-Err.refusal never c.in-Err.ensures.cause in
+    record {
+      answer = search rules;
+      pending = search rules;
+      same = search rules;
+      works = tt;
+      untouched = λ never. absurd (never (record { works = search rules; accepted = search rules; room = search rules }));
+      breaks = search rules;
+      by_file = λ _. search rules;
+      full = λ _ e. is_full c.accept.new.self.words c.in-Err.refusal c.in-Err.ensures.cause (cc e);
+    }

@@ -4,8 +4,7 @@ use Rattle.hg_checkpoint.specs.declared.phase.Phase.{Phase}
 use Rattle.hg_checkpoint.specs.declared.phase.Phase.TheVariants as phase
 use Rattle.hg_pool.specs.Kept.{AreWithin}
 use Rattle.hg_pool.specs.Maps.{disk_of, is_broken, live}
-use Rattle.hg_pool.specs.Shown.{ShownPool as Pool}
-use Rattle.hg_pool.specs.declared.frame.Frame.{Frame}
+use Rattle.hg_pool.specs.Shown.{Frame, ShownPool as Pool}
 use Rattle.hg_store.specs.Kept.{is_rooting}
 use Rattle.hg_store.proofs.Backing.{parts_stand}
 use Rattle.hg_store.proofs.Going.{progress_at}
@@ -81,9 +80,9 @@ pub invariant_of-self-in-Err : goal.invariant_of-self-in-Err
 invariant_of-self-in-Err g c =
     let same = c.in-Err.ensures.same_pool ∙ c.words_mut.ensures.value in
     let frames : c.open_root.new.pool.frames ≡ c.self.inside.detector.words.frames = ap (λ (p : Pool g.row.D.Denot). p.frames) same in
-    sound_by g.D.Disk _ c.open_root.new.self c.open_root.new.pool ℕ _ c.self.invariant _ c.self.inside.checkpointer.phase c.in-Err.fault c.not_made.new.is_broken c.if-self.false c.not_made.ensures.broken
+    sound_by g.D.Disk _ c.open_root.new.self c.open_root.new.pool ℕ _ c.self.invariant _ _ c.self.inside.checkpointer.phase c.in-Err.fault c.not_made.new.is_broken c.if-self.false c.not_made.ensures.broken
     c.in-Err.ensures.phase (if_wrong ℕ c.in-Err.fault (λ e. (e, c.in-Err.ensures.same_pool ∙ c.words_mut.ensures.value)) c.in-Err.ensures.unchanged)
-    (of_device ℕ _ c.in-Err.fault c.in-Err.ensures.refusal) (λ lawful. record {
+    (of_device ℕ _ _ c.self.inside.checkpointer.is_broken c.self.inside.checkpointer.phase c.in-Err.fault (c.self.invariant.checkpointer c.if-self.false) c.in-Err.ensures.phase) (λ lawful. record {
       lawful = subst (λ (f : List (ℕ × Frame)). AreWithin f (length c.self.inside.detector.segments) (length c.self.inside.detector.sets.sets)) (sym frames) c.self.invariant.lawful;
       few = c.self.invariant.few;
       room = c.self.invariant.room;
@@ -102,6 +101,6 @@ invariant_of-self-in-Err g c =
 
 pub returns-in-Err-clause-done : goal.returns-in-Err-clause-done
 returns-in-Err-clause-done g c =
-    rw (← c.self.view_is) (step_not_made g.D.Disk _ c.open_root.new.self c.open_root.new.pool ℕ ℕ _ c.self.invariant _ phase.Idle c.self.inside.checkpointer.phase c.in-Err.fault c.not_made.result c.phase_now-phase.result c.not_made.new.is_broken c.if-self.false
+    rw (← c.self.view_is) (step_not_made g.D.Disk _ c.open_root.new.self c.open_root.new.pool ℕ ℕ _ c.self.invariant _ _ phase.Idle c.self.inside.checkpointer.phase c.in-Err.fault c.not_made.result c.phase_now-phase.result c.not_made.new.is_broken c.if-self.false
     c.not_made.ensures.told (c.phase_now-phase.ensures ∙ ap (λ (s : ShownStore g.row.D.Denot). phase_of s) (sym c.self.view_is)) c.not_made.ensures.broken
-    c.in-Err.ensures.phase (if_wrong ℕ c.in-Err.fault (λ e. (e, c.in-Err.ensures.same_pool ∙ c.words_mut.ensures.value)) c.in-Err.ensures.unchanged) (of_device ℕ _ c.in-Err.fault c.in-Err.ensures.refusal))
+    c.in-Err.ensures.phase (if_wrong ℕ c.in-Err.fault (λ e. (e, c.in-Err.ensures.same_pool ∙ c.words_mut.ensures.value)) c.in-Err.ensures.unchanged) (of_device ℕ _ _ c.self.inside.checkpointer.is_broken c.self.inside.checkpointer.phase c.in-Err.fault (c.self.invariant.checkpointer c.if-self.false) c.in-Err.ensures.phase))

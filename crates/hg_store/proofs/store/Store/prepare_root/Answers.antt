@@ -51,9 +51,9 @@ invariant_of-self g c = record {
 
 pub invariant_of-self-in-Err : goal.invariant_of-self-in-Err
 invariant_of-self-in-Err g c =
-    sound_by g.D.Disk _ c.prepare_root.new.self c.self.inside.detector.words (Unit {0}) _ c.self.invariant _ c.self.inside.checkpointer.phase c.in-Err.fault c.not_made.new.is_broken c.if-self.false c.not_made.ensures.broken
+    sound_by g.D.Disk _ c.prepare_root.new.self c.self.inside.detector.words (Unit {0}) _ c.self.invariant _ _ c.self.inside.checkpointer.phase c.in-Err.fault c.not_made.new.is_broken c.if-self.false c.not_made.ensures.broken
     c.in-Err.ensures.phase (if_wrong (Unit {0}) c.in-Err.fault (λ e. (e, refl)) c.in-Err.ensures.unchanged)
-    (of_device (Unit {0}) _ c.in-Err.fault c.in-Err.ensures.refusal) (λ lawful. record {
+    (of_device (Unit {0}) _ _ c.self.inside.checkpointer.is_broken c.self.inside.checkpointer.phase c.in-Err.fault (c.self.invariant.checkpointer c.if-self.false) c.in-Err.ensures.phase) (λ lawful. record {
       lawful = c.self.invariant.lawful;
       few = c.self.invariant.few;
       room = c.self.invariant.room;
@@ -70,6 +70,6 @@ invariant_of-self-in-Err g c =
 
 pub returns-in-Err-clause-done : goal.returns-in-Err-clause-done
 returns-in-Err-clause-done g c =
-    rw (← c.self.view_is) (step_not_made g.D.Disk _ c.prepare_root.new.self c.self.inside.detector.words (Unit {0}) (Unit {0}) _ c.self.invariant _ phase.Prepared c.self.inside.checkpointer.phase c.in-Err.fault c.not_made.result c.phase_now-phase.result c.not_made.new.is_broken c.if-self.false
+    rw (← c.self.view_is) (step_not_made g.D.Disk _ c.prepare_root.new.self c.self.inside.detector.words (Unit {0}) (Unit {0}) _ c.self.invariant _ _ phase.Prepared c.self.inside.checkpointer.phase c.in-Err.fault c.not_made.result c.phase_now-phase.result c.not_made.new.is_broken c.if-self.false
     c.not_made.ensures.told (c.phase_now-phase.ensures ∙ ap (λ (s : ShownStore g.row.D.Denot). phase_of s) (sym c.self.view_is)) c.not_made.ensures.broken
-    c.in-Err.ensures.phase (if_wrong (Unit {0}) c.in-Err.fault (λ e. (e, refl)) c.in-Err.ensures.unchanged) (of_device (Unit {0}) _ c.in-Err.fault c.in-Err.ensures.refusal))
+    c.in-Err.ensures.phase (if_wrong (Unit {0}) c.in-Err.fault (λ e. (e, refl)) c.in-Err.ensures.unchanged) (of_device (Unit {0}) _ _ c.self.inside.checkpointer.is_broken c.self.inside.checkpointer.phase c.in-Err.fault (c.self.invariant.checkpointer c.if-self.false) c.in-Err.ensures.phase))

@@ -1,19 +1,17 @@
 use Rattle.std.proofs.Common.{Err, ◌≡◌, ◌∙◌, false, true, length, rules, subst, sym, ap, List, ℕ, refl}
 use Rattle.std.proofs.lemmas.Bool.{true≢false}
-use Rattle.hg_checkpoint.specs.Calls.{IsFlushed}
-use Rattle.hg_checkpoint.specs.Phases as checkpoints
+use Rattle.hg_checkpoint.specs.Calls.{IsAllowedToSeal, IsOfSealing}
 use Rattle.hg_checkpoint.specs.declared.phase.Phase.{Phase}
 use Rattle.hg_checkpoint.specs.declared.phase.Phase.TheVariants as phase
 use Rattle.hg_store.proofs.Going.{progress_at}
 use Rattle.hg_pool.specs.Kept.{AreWithin, Stays}
-use Rattle.hg_pool.specs.Shown.{ShownPool as Pool}
-use Rattle.hg_pool.specs.declared.frame.Frame.{Frame}
+use Rattle.hg_pool.specs.Shown.{Frame, ShownPool as Pool}
 use Rattle.hg_store.specs.Kept.{is_rooting}
 use Rattle.hg_store.proofs.Backing.{parts_stand}
 use Rattle.hg_store.proofs.Checkpointing.{seal_images, sealed, sealing_failed}
 use Rattle.hg_store.proofs.Staying.{same_content, works_on}
 use Rattle.hg_store.specs.Shown.{ShownStore, phase_of}
-use Rattle.hg_store.proofs.NotMade.{if_wrong, of_device, sound_by, step_not_made}
+use Rattle.hg_store.proofs.NotMade.{if_wrong, of_device, of_sealing, sound_by, step_not_made}
 use Rattle.hg_store.proofs.store.Store.seal_pages.Goals as goal
 
 pub returns-then-self-clause-images : goal.returns-then-self-clause-images
@@ -73,11 +71,13 @@ invariant_of-self g c =
 
 pub invariant_of-self-in-Err : goal.invariant_of-self-in-Err
 invariant_of-self-in-Err g c =
+    let may = (of_sealing (Unit {0}) _ c.self.inside.detector.words c.self.inside.checkpointer.is_broken c.self.inside.checkpointer.phase c.in-Err.fault (c.self.invariant.checkpointer c.if-self.false) (c.self.invariant.words c.if-self.false)
+    (subst (λ (p : Pool g.row.D.Denot). IsAllowedToSeal {T = Unit {0}} (IsOfSealing p) c.self.inside.checkpointer p (Err c.in-Err.fault)) c.words_mut.ensures.value c.in-Err.ensures.phase)) in
     let stays = subst (λ (p : Pool g.row.D.Denot). Stays g.D.Disk p c.seal_pages.new.pool) c.words_mut.ensures.value c.seal_pages.ensures.stays in
     let frames : c.seal_pages.new.pool.frames ≡ c.self.inside.detector.words.frames = ap (λ (p : Pool _). p.frames) c.seal_pages.ensures.pool ∙ ap (λ (p : Pool _). p.frames) c.words_mut.ensures.value in
-    sound_by g.D.Disk _ c.seal_pages.new.self c.seal_pages.new.pool (Unit {0}) _ c.self.invariant _ c.self.inside.checkpointer.phase c.in-Err.fault c.not_made.new.is_broken c.if-self.false c.not_made.ensures.broken
-    (subst (λ (p : Pool g.row.D.Denot). checkpoints.IsAllowed {T = Unit {0}} c.self.inside.checkpointer.is_broken c.self.inside.checkpointer.phase (IsFlushed c.self.inside.checkpointer p) (Err c.in-Err.fault)) c.words_mut.ensures.value c.in-Err.ensures.phase) (if_wrong (Unit {0}) c.in-Err.fault (λ e. (e.0, e.1 ∙ c.words_mut.ensures.value)) c.in-Err.ensures.unchanged)
-    (of_device (Unit {0}) _ c.in-Err.fault c.in-Err.ensures.refusal) (λ lawful. record {
+    sound_by g.D.Disk _ c.seal_pages.new.self c.seal_pages.new.pool (Unit {0}) _ c.self.invariant _ _ c.self.inside.checkpointer.phase c.in-Err.fault c.not_made.new.is_broken c.if-self.false c.not_made.ensures.broken
+    may (if_wrong (Unit {0}) c.in-Err.fault (λ e. (e.0, e.1 ∙ c.words_mut.ensures.value)) c.in-Err.ensures.unchanged)
+    (of_device (Unit {0}) _ _ c.self.inside.checkpointer.is_broken c.self.inside.checkpointer.phase c.in-Err.fault (c.self.invariant.checkpointer c.if-self.false) may) (λ lawful. record {
       lawful = subst (λ (f : List (ℕ × Frame)). AreWithin f (length c.self.inside.detector.segments) (length c.self.inside.detector.sets.sets)) (sym frames) c.self.invariant.lawful;
       few = c.self.invariant.few;
       room = c.self.invariant.room;
@@ -90,6 +90,8 @@ invariant_of-self-in-Err g c =
 
 pub returns-in-Err-clause-done : goal.returns-in-Err-clause-done
 returns-in-Err-clause-done g c =
-    rw (← c.self.view_is) (step_not_made g.D.Disk _ c.seal_pages.new.self c.seal_pages.new.pool (Unit {0}) (Unit {0}) _ c.self.invariant _ phase.Sealed c.self.inside.checkpointer.phase c.in-Err.fault c.not_made.result c.phase_now-phase.result c.not_made.new.is_broken c.if-self.false
+    let may = (of_sealing (Unit {0}) _ c.self.inside.detector.words c.self.inside.checkpointer.is_broken c.self.inside.checkpointer.phase c.in-Err.fault (c.self.invariant.checkpointer c.if-self.false) (c.self.invariant.words c.if-self.false)
+    (subst (λ (p : Pool g.row.D.Denot). IsAllowedToSeal {T = Unit {0}} (IsOfSealing p) c.self.inside.checkpointer p (Err c.in-Err.fault)) c.words_mut.ensures.value c.in-Err.ensures.phase)) in
+    rw (← c.self.view_is) (step_not_made g.D.Disk _ c.seal_pages.new.self c.seal_pages.new.pool (Unit {0}) (Unit {0}) _ c.self.invariant _ _ phase.Sealed c.self.inside.checkpointer.phase c.in-Err.fault c.not_made.result c.phase_now-phase.result c.not_made.new.is_broken c.if-self.false
     c.not_made.ensures.told (c.phase_now-phase.ensures ∙ ap (λ (s : ShownStore g.row.D.Denot). phase_of s) (sym c.self.view_is)) c.not_made.ensures.broken
-    (subst (λ (p : Pool g.row.D.Denot). checkpoints.IsAllowed {T = Unit {0}} c.self.inside.checkpointer.is_broken c.self.inside.checkpointer.phase (IsFlushed c.self.inside.checkpointer p) (Err c.in-Err.fault)) c.words_mut.ensures.value c.in-Err.ensures.phase) (if_wrong (Unit {0}) c.in-Err.fault (λ e. (e.0, e.1 ∙ c.words_mut.ensures.value)) c.in-Err.ensures.unchanged) (of_device (Unit {0}) _ c.in-Err.fault c.in-Err.ensures.refusal))
+    may (if_wrong (Unit {0}) c.in-Err.fault (λ e. (e.0, e.1 ∙ c.words_mut.ensures.value)) c.in-Err.ensures.unchanged) (of_device (Unit {0}) _ _ c.self.inside.checkpointer.is_broken c.self.inside.checkpointer.phase c.in-Err.fault (c.self.invariant.checkpointer c.if-self.false) may))

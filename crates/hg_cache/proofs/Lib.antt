@@ -1,0 +1,10 @@
+pub mod Numbers
+pub mod Linking
+pub mod Naming
+pub mod Steps
+pub mod Neighbours
+pub mod Shown
+pub mod Lookups
+pub mod Orders
+pub mod Framing
+pub mod Sharing

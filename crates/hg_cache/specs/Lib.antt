@@ -1,0 +1,4 @@
+pub mod Entries
+pub mod Rings
+pub mod Sound
+pub mod Frames
