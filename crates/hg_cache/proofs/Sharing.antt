@@ -67,14 +67,16 @@ length_taken : {X : Type 0} (q : ℕ) (x : X) (es : List (ℕ × X)) → lookup 
 length_taken q x [] is = absurd (cc is)
 length_taken {X} q x (e ∷ es) is = here (q == e.0) is (length_taken q x es)
   where
-    here : (b : Bool) → cond b (Some e.1) (lookup (nat_eq q) es) ≡ Some x → (lookup (nat_eq q) es ≡ Some x → length es ≡ suc (length (remove_entry (nat_eq q) es)))
+    here : (b : Bool) → cond b (Some e.1) (lookup (nat_eq q) es) ≡ Some x
+        → (lookup (nat_eq q) es ≡ Some x → length es ≡ suc (length (remove_entry (nat_eq q) es)))
         → suc (length es) ≡ suc (length (cond b es (e ∷ remove_entry (nat_eq q) es)))
     here true found rest = refl
     here false found rest = ap suc (rest found)
 
 module _ (placed : List Placed) where
   -- no page behind another one has its place
-  free_behind : (e : ℕ × ℕ) (es : List (ℕ × ℕ)) → AllByRecursion (λ k. nat_eq e.0 k ≡ false) (keys_of es) → HasPage placed e → ArePlaced placed es → IsFree e.1 es
+  free_behind : (e : ℕ × ℕ) (es : List (ℕ × ℕ))
+      → AllByRecursion (λ k. nat_eq e.0 k ≡ false) (keys_of es) → HasPage placed e → ArePlaced placed es → IsFree e.1 es
   free_behind e [] other at all = tt
   free_behind e (f ∷ es) other at all = (first, free_behind e es other.1 at all.1)
     where
@@ -84,11 +86,13 @@ module _ (placed : List Placed) where
           absurd (cc (sym other.0 ∙ ap (λ (n : ℕ). n == f.0) one ∙ itself f.0))
 
   -- without its page, a place is free
-  pub freed : (q place : ℕ) (es : List (ℕ × ℕ)) → IsDistinct nat_eq (keys_of es) → ArePlaced placed es → lookup (nat_eq q) es ≡ Some place → IsFree place (remove_entry (nat_eq q) es)
+  pub freed : (q place : ℕ) (es : List (ℕ × ℕ))
+      → IsDistinct nat_eq (keys_of es) → ArePlaced placed es → lookup (nat_eq q) es ≡ Some place → IsFree place (remove_entry (nat_eq q) es)
   freed q place [] distinct all is = tt
   freed q place (e ∷ es) distinct all is = here (q == e.0) refl is (freed q place es (IsDistinct-tail nat_eq e.0 (keys_of es) distinct) all.1)
     where
-      here : (b : Bool) → (q == e.0) ≡ b → cond b (Some e.1) (lookup (nat_eq q) es) ≡ Some place → (lookup (nat_eq q) es ≡ Some place → IsFree place (remove_entry (nat_eq q) es))
+      here : (b : Bool) → (q == e.0) ≡ b → cond b (Some e.1) (lookup (nat_eq q) es) ≡ Some place
+          → (lookup (nat_eq q) es ≡ Some place → IsFree place (remove_entry (nat_eq q) es))
           → IsFree place (cond b es (e ∷ remove_entry (nat_eq q) es))
       here true test found rest =
           let same : e.1 ≡ place = cc found in
@@ -106,7 +110,8 @@ module _ (placed : List Placed) (left : List ℕ) (most : ℕ) where
   pub shared_promoted : (q : ℕ) (es : List (ℕ × ℕ)) → AreSharedOut placed left es most → AreSharedOut placed left (promoted (nat_eq q) es) most
   shared_promoted q es s = record {
     pages = held_promoted placed q es s.pages;
-    free = all_then (λ p. IsFreePlace (length placed) es p) (λ p. IsFreePlace (length placed) (promoted (nat_eq q) es) p) left (λ p is. (is.0, moved p (lookup_entry (nat_eq q) es) refl is.1)) s.free;
+    free = all_then (λ p. IsFreePlace (length placed) es p) (λ p. IsFreePlace (length placed) (promoted (nat_eq q) es) p) left
+        (λ p is. (is.0, moved p (lookup_entry (nat_eq q) es) refl is.1)) s.free;
     apart = s.apart;
     all = s.all ∙ ap (λ (n : ℕ). n + length left) (as_many (lookup_entry (nat_eq q) es) refl);
     few = s.few;
@@ -121,14 +126,17 @@ module _ (placed : List Placed) (left : List ℕ) (most : ℕ) where
       as_many (Some e) is = length_taken q e.1 es (entry_is q es e is).1
 
   -- the place of a page that was taken out is left
-  pub shared_removed : (q place : ℕ) (es : List (ℕ × ℕ)) → lookup (nat_eq q) es ≡ Some place → IsFree place (remove_entry (nat_eq q) es) → AreSharedOut placed left es most
+  pub shared_removed : (q place : ℕ) (es : List (ℕ × ℕ)) → lookup (nat_eq q) es ≡ Some place
+      → IsFree place (remove_entry (nat_eq q) es) → AreSharedOut placed left es most
       → AreSharedOut placed (left ++ place ∷ []) (remove_entry (nat_eq q) es) most
   shared_removed q place es is freed s = record {
     pages = held_removed placed q es s.pages;
     free = all_with (λ p. IsFreePlace (length placed) (remove_entry (nat_eq q) es) p) left place
-        (all_then (λ p. IsFreePlace (length placed) es p) (λ p. IsFreePlace (length placed) (remove_entry (nat_eq q) es) p) left (λ p at. (at.0, free_removed q p es at.1)) s.free)
+        (all_then (λ p. IsFreePlace (length placed) es p) (λ p. IsFreePlace (length placed) (remove_entry (nat_eq q) es) p) left
+        (λ p at. (at.0, free_removed q p es at.1)) s.free)
         ((held_of placed q place es s.pages is).0, freed);
-    apart = apart_with left place s.apart (all_then (λ p. IsFreePlace (length placed) es p) (λ p. p ≢ place) left (λ p at. place_taken q place p es is at.1) s.free);
+    apart = apart_with left place s.apart
+        (all_then (λ p. IsFreePlace (length placed) es p) (λ p. p ≢ place) left (λ p at. place_taken q place p es is at.1) s.free);
     all = let one = length_taken q place es is in let long = length-append left (place ∷ []) in omega (arith, one, long, s.all);
     few = s.few;
   }
@@ -138,9 +146,11 @@ module _ (placed : List Placed) (left : List ℕ) (most : ℕ) where
   left_fits q place es is s = let one = length_taken q place es is in omega (arith, one, s.all, s.few)
 
   -- another frame of the same page
-  pub shared_with : (place : ℕ) (f : Frame) (es : List (ℕ × ℕ)) → place < length placed → AreSharedOut placed left es most → AreSharedOut (with_frame placed place f) left es most
+  pub shared_with : (place : ℕ) (f : Frame) (es : List (ℕ × ℕ))
+      → place < length placed → AreSharedOut placed left es most → AreSharedOut (with_frame placed place f) left es most
   shared_with place f es lt s =
-      let long : length (with_frame placed place f) ≡ length placed = set_length placed placed place (record { page = (get_or placed place nothing).page; frame = f }) in
+      let long : length (with_frame placed place f) ≡ length placed =
+      set_length placed placed place (record { page = (get_or placed place nothing).page; frame = f }) in
       record {
         pages = with_placed placed place f es lt s.pages;
         free = subst (λ (n : ℕ). AllByRecursion (λ p. IsFreePlace n es p) left) (sym long) s.free;
@@ -166,8 +176,8 @@ pub record HasTaken (taken : Placed) (place : ℕ) (placed new : List Placed) (r
   pub others : framed new es ≡ framed placed es
   pub shared : AreSharedOut new rest ((taken.page, place) ∷ es) most
 
-pub takes : (taken : Placed) (place : ℕ) (placed new : List Placed) (left rest : List ℕ) (es : List (ℕ × ℕ)) (most : ℕ) → length es < most → AreSharedOut placed left es most
-    → TakesPlace taken place placed left new rest → HasTaken taken place placed new rest es most
+pub takes : (taken : Placed) (place : ℕ) (placed new : List Placed) (left rest : List ℕ) (es : List (ℕ × ℕ)) (most : ℕ)
+    → length es < most → AreSharedOut placed left es most → TakesPlace taken place placed left new rest → HasTaken taken place placed new rest es most
 takes taken place placed new left rest es most some s (inl was) =
     let was_free = subst (λ (l : List ℕ). AllByRecursion (λ p. IsFreePlace (length placed) es p) l) was.0 s.free in
     let parted = apart_front rest place (subst (λ (l : List ℕ). AreApart l) was.0 s.apart) in
@@ -190,7 +200,8 @@ takes taken place placed new left rest es most some s (inl was) =
       };
     })
   where
-    still : (n : ℕ) (ps : List ℕ) → IsApart place ps → AllByRecursion (λ p. IsFreePlace n es p) ps → AllByRecursion (λ p. IsFreePlace n ((taken.page, place) ∷ es) p) ps
+    still : (n : ℕ) (ps : List ℕ) → IsApart place ps → AllByRecursion (λ p. IsFreePlace n es p) ps
+        → AllByRecursion (λ p. IsFreePlace n ((taken.page, place) ∷ es) p) ps
     still n [] apart all = tt
     still n (p ∷ ps) apart all = ((all.0.0, (λ same. apart.0 (sym same), all.0.1)), still n ps apart.1 all.1)
 takes taken place placed new left rest es most some s (inr was) =
@@ -218,30 +229,37 @@ takes taken place placed new left rest es most some s (inr was) =
     beyond n [] is all = tt
     beyond n (f ∷ fs) is all = (λ same. let lt = all.0.0 in omega (arith, lt, same, is), beyond n fs is all.1)
 
--- The invariant of the frames, after a page was used anew.
-pub kept_promoted : (placed : List Placed) (left : List ℕ) (placed_room left_room q : ℕ) (order new : LruCache ℕ ℕ) → new ≡ lru_cache (promoted (nat_eq q) order.entries) order.cap
-    → AreSharedOut placed left order.entries order.cap × HasRoom order.cap placed_room left_room → AreSharedOut placed left new.entries new.cap × HasRoom new.cap placed_room left_room
-kept_promoted placed left placed_room left_room q order new is s =
-    subst (λ (x : LruCache ℕ ℕ). AreSharedOut placed left x.entries x.cap × HasRoom x.cap placed_room left_room) (sym is) (shared_promoted placed left order.cap q order.entries s.0, s.1)
+-- The invariant of the frames, by the memory that there is for pages and for places that were left.
+abbrev pub AreHeld : List Placed → List ℕ → (placed_room left_room : ℕ) → LruCache ℕ ℕ → Type 0
+AreHeld placed left placed_room left_room order = AreSharedOut placed left order.entries order.cap × HasRoom order.cap placed_room left_room
 
--- and after a page was taken out
-pub kept_removed : (placed : List Placed) (left more : List ℕ) (placed_room left_room q place : ℕ) (order new : LruCache ℕ ℕ) → new ≡ lru_cache (remove_entry (nat_eq q) order.entries) order.cap
+-- After a page was used anew it holds,
+pub kept_promoted : (placed : List Placed) (left : List ℕ) (placed_room left_room q : ℕ) (order new : LruCache ℕ ℕ)
+    → new ≡ lru_cache (promoted (nat_eq q) order.entries) order.cap
+    → AreHeld placed left placed_room left_room order → AreHeld placed left placed_room left_room new
+kept_promoted placed left placed_room left_room q order new is s =
+    subst (λ (x : LruCache ℕ ℕ). AreHeld placed left placed_room left_room x) (sym is) (shared_promoted placed left order.cap q order.entries s.0, s.1)
+
+-- and after a page was taken out,
+pub kept_removed : (placed : List Placed) (left more : List ℕ) (placed_room left_room q place : ℕ) (order new : LruCache ℕ ℕ)
+    → new ≡ lru_cache (remove_entry (nat_eq q) order.entries) order.cap
     → more ≡ left ++ place ∷ [] → IsDistinct nat_eq (keys_of order.entries) → lookup (nat_eq q) order.entries ≡ Some place
-    → AreSharedOut placed left order.entries order.cap × HasRoom order.cap placed_room left_room → AreSharedOut placed more new.entries new.cap × HasRoom new.cap placed_room left_room
+    → AreHeld placed left placed_room left_room order → AreHeld placed more placed_room left_room new
 kept_removed placed left more placed_room left_room q place order new is with_it distinct found s =
-    subst (λ (x : LruCache ℕ ℕ). AreSharedOut placed more x.entries x.cap × HasRoom x.cap placed_room left_room) (sym is) (
+    subst (λ (x : LruCache ℕ ℕ). AreHeld placed more placed_room left_room x) (sym is) (
       subst (λ (l : List ℕ). AreSharedOut placed l (remove_entry (nat_eq q) order.entries) order.cap) (sym with_it)
           (shared_removed placed left order.cap q place order.entries found (freed placed q place order.entries distinct s.0.pages found) s.0),
       s.1,
     )
 
--- and where it was not there
-pub kept_absent : (placed : List Placed) (left : List ℕ) (placed_room left_room q : ℕ) (order new : LruCache ℕ ℕ) → new ≡ lru_cache (remove_entry (nat_eq q) order.entries) order.cap
+-- or was not there.
+pub kept_absent : (placed : List Placed) (left : List ℕ) (placed_room left_room q : ℕ) (order new : LruCache ℕ ℕ)
+    → new ≡ lru_cache (remove_entry (nat_eq q) order.entries) order.cap
     → (o : Option ℕ) → o ≡ lookup (nat_eq q) order.entries → ((place : ℕ) → o ≡ Some place → ⊥)
-    → AreSharedOut placed left order.entries order.cap × HasRoom order.cap placed_room left_room → AreSharedOut placed left new.entries new.cap × HasRoom new.cap placed_room left_room
+    → AreHeld placed left placed_room left_room order → AreHeld placed left placed_room left_room new
 kept_absent placed left placed_room left_room q order new is (Some place) at not s = absurd (not place refl)
 kept_absent placed left placed_room left_room q order new is None at not s =
-    subst (λ (x : LruCache ℕ ℕ). AreSharedOut placed left x.entries x.cap × HasRoom x.cap placed_room left_room)
+    subst (λ (x : LruCache ℕ ℕ). AreHeld placed left placed_room left_room x)
     (sym (is ∙ ap (λ (es : List (ℕ × ℕ)). lru_cache es order.cap) (none_there q order.entries (sym at)).1)) s
 
 -- A place that was taken may be given back: its page is in no list of pages yet.
@@ -258,4 +276,5 @@ module _ (taken : Placed) (place : ℕ) (placed new : List Placed) (rest : List 
   pub given_back : AreSharedOut new (rest ++ place ∷ []) es most
   given_back =
       subst (λ (fs : List (ℕ × ℕ)). AreSharedOut new (rest ++ place ∷ []) fs most) first_gone
-      (shared_removed new rest most taken.page place ((taken.page, place) ∷ es) first_found (subst (λ (fs : List (ℕ × ℕ)). IsFree place fs) (sym first_gone) took.free) took.shared)
+      (shared_removed new rest most taken.page place ((taken.page, place) ∷ es) first_found
+      (subst (λ (fs : List (ℕ × ℕ)). IsFree place fs) (sym first_gone) took.free) took.shared)

@@ -1,5 +1,6 @@
 //! A checkpoint in progress.
 ghost use Rattle.std.specs.Prelude.{◌≡◌, ◌≢◌, ◌⊎◌, ◌++◌, ◌+◌, Option, Some, None, Ok, Err, true, false, is_some, IsTrue, OnOk, OnErr, IfOk};
+ghost use Rattle.hg_disk.specs.Calls.{CallsAtMost};
 ghost use Rattle.hg_pool.specs.Calls.{FreezesOnOk};
 ghost use Rattle.hg_pool.specs.Kept as pools;
 ghost use Rattle.hg_pool.specs.Kept.{IsWhole, SameMap};
@@ -171,7 +172,7 @@ impl<D: Disk> Checkpointer<D> {
         }
     }
 
-    /// Makes the pages of the frozen map durable, once all are written. It makes one device call and takes no memory.
+    /// Makes the pages of the frozen map durable, once all are written. It takes no memory.
     pub fn seal_pages(&mut self, pool: &mut Pool<D>) -> Result<(), CheckpointFault>
         ensures phase { IsAllowedToSeal (IsOfSealing pool.old) self.old pool.old result }
         ensures unchanged { IfWrongPhase ((self.new ≡ self.old) × (pool.new ≡ pool.old)) result }
@@ -181,6 +182,7 @@ impl<D: Disk> Checkpointer<D> {
         ensures succeeds { SealsSurely self.old pool.old pool.new result }
         ensures device { BreaksBy self.new.is_broken result }
         ensures count { D.failures (disk_of pool.new) ≡ failed_calls result + D.failures (disk_of pool.old) }
+        ensures calls { CallsAtMost ⟦<D as Disk>⟧ 1 (disk_of pool.old) (disk_of pool.new) }
         ensures breaks { OnErr result (StaysOrBreaks self.old pool.old self.new pool.new) }
         ensures rest { KeepsRootsAndHead self.old self.new }
         ensures stays { pools.Stays ⟦<D as Disk>⟧ pool.old pool.new }
@@ -225,8 +227,7 @@ impl<D: Disk> Checkpointer<D> {
         Ok(())
     }
 
-    /// Closes the file that the next root goes to. It makes at most two device calls, and none if the file is closed
-    /// already.
+    /// Closes the file that the next root goes to. It makes no device call if the file is closed already.
     pub fn prepare_root(&mut self) -> Result<(), CheckpointFault>
         ensures phase { IsAllowedIn Phase.Sealed IsOfDevice self.old result }
         ensures unchanged { IfWrongPhase (self.new ≡ self.old) result }
@@ -258,7 +259,7 @@ impl<D: Disk> Checkpointer<D> {
     }
 
     /// Makes the body of the root, which names the pages of the frozen table, and writes it behind the closed gate of its
-    /// file. It makes four device calls at most. If memory is refused, nothing is changed and the call can be made again.
+    /// file. If memory is refused, nothing is changed and the call can be made again.
     pub fn write_root(&mut self, alloc: Global, pool: &Pool<D>) -> Result<(), CheckpointFault>
         ensures phase { IsAllowedIn Phase.Prepared IsOfWriting self.old result }
         ensures unchanged { IfWrongPhase (self.new ≡ self.old) result }
@@ -295,7 +296,7 @@ impl<D: Disk> Checkpointer<D> {
     }
 
     /// Opens the gate of the root that was written: from then on it is the newest one, and the slots of the former root are free. Answers
-    /// its number. It makes two device calls at most.
+    /// its number.
     pub fn open_root(&mut self, pool: &mut Pool<D>) -> Result<u64, CheckpointFault>
         requires sealed { self.old.phase ≡ Phase.Written → IsTrue pool.old.is_sealed }
         ensures phase { IsAllowedIn Phase.Written IsOfDevice self.old result }

@@ -1,5 +1,5 @@
 -- Why a command over a store ended by a fault.
-use Rattle.std.proofs.Common.{◌≡◌, ℕ, ◌+◌, inl, inr, ⊎_elim, refl, ◌∙◌, ap, Result, Ok, Err, arith}
+use Rattle.std.proofs.Common.{◌≡◌, ℕ, ◌+◌, refl, ◌∙◌, ap, Result, Ok, Err, arith}
 use Rattle.hg_model.specs.declared.verdict.Refusal.{Refusal}
 use Rattle.hg_model.specs.declared.verdict.Refusal.TheVariants.{DeviceFault}
 use Rattle.hg_store.specs.Journal.{after_refusal, failed_after}
@@ -24,8 +24,8 @@ told_as _ = refl
 
 -- those that failed in a recovery
 pub recovery_is_counted : (r : Refusal) (old new : ℕ) → CountedBy r old new → IsCounted r old new
-recovery_is_counted r old new h = ⊎_elim (λ a. inl (a ∙ ap (λ (n : ℕ). n + old) (told_as r))) (λ b. inr b) h
+recovery_is_counted r old new h = h ∙ ap (λ (n : ℕ). n + old) (told_as r)
 
 -- and with as many others
 pub counted_with : (r : Refusal) (old new more : ℕ) → IsCounted r old new → IsCounted r (old + more) (new + more)
-counted_with r old new more h = ⊎_elim (λ a. inl (omega (arith, a))) (λ b. inr (b.0, ap (λ (n : ℕ). n + more) b.1)) h
+counted_with r old new more h = omega (arith, h)

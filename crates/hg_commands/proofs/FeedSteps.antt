@@ -21,7 +21,6 @@ use Rattle.hg_detect.specs.declared.detector.Answer.TheVariants as answer
 use Rattle.hg_detect.specs.Shown as detect
 use Rattle.hg_disk.specs.declared.disk.Disk as disk
 use Rattle.hg_pool.specs.Maps as pools
-use Rattle.hg_pool.specs.OfWords.{MayRefuse}
 use Rattle.hg_pool.specs.Shown as pool
 use Rattle.hg_store.specs.Shown.{ShownStore, live}
 use Rattle.hg_store.specs.Steps.{ByVerdict, IsOfRoom, IsTaken, if_accepted}
@@ -287,13 +286,10 @@ module _ {D : Type 0} (g : disk.Ghosts D) where
   error_is y z h = cc
 
   -- what the words are refused with is a fault, but for want of slots
-  by_slots : (r : Refusal) → MayRefuse r → (r ≡ refusal.FullSlots) ⊎ IsEventFault r
-  by_slots refusal.OutOfMemory may = inr (inl refl)
-  by_slots refusal.FullSlots may = inl refl
-  by_slots refusal.Damaged may = inr (inr (inr (inl refl)))
-  by_slots refusal.Broken may = inr (inr (inr (inr refl)))
-  by_slots refusal.DeviceFault may = inr (inr (inl refl))
-  by_slots _ may = absurd may
+  by_slots : (r : Refusal) → (r ≡ refusal.FullSlots) ⊎ ((r ≡ refusal.Damaged) ⊎ (r ≡ refusal.DeviceFault)) → (r ≡ refusal.FullSlots) ⊎ IsEventFault r
+  by_slots r (inl slots) = inl slots
+  by_slots r (inr (inl damaged)) = inr (inr (inr (inl damaged)))
+  by_slots r (inr (inr device)) = inr (inr (inl device))
 
   refused_by : (v : Verdict) (pending line : ℕ) (table left : Table) (c last : Content) (n : Named) (r : Refusal) (later : Table → Content → Type 0) → pending < 1024 → ByVerdict v pending (Err r) → (IsEventFault r → ⊥)
       → (v ≡ Accept → AsksBy table (sets_asked c n.event) (Err r) left) → last ≡ c → Answers v table c n line later last (Refused line r)

@@ -4,7 +4,7 @@ use Rattle.hg_model.specs.declared.verdict.Refusal.{Refusal}
 use Rattle.hg_model.specs.declared.verdict.Refusal.TheVariants.{Broken, Damaged, FullEvents, FullSlots, DeviceFault}
 use Rattle.hg_disk.specs.declared.disk.Disk as disk
 use Rattle.hg_store.specs.declared.devices.Devices.{Devices}
-use Rattle.hg_store.specs.Images.{failures_of}
+use Rattle.hg_store.specs.Images.{KeepsFiles, failures_of}
 use Rattle.hg_streams.specs.declared.call.ReadCall.{ReadCall}
 use Rattle.hg_streams.specs.declared.call.WriteCall.{WriteCall}
 use Rattle.hg_streams.specs.Calls.{failed_reads}
@@ -19,10 +19,11 @@ abbrev pub IsFeedFault : Refusal → Type 0
 IsFeedFault r = IsStreamFault r ⊎ ((r ≡ Damaged) ⊎ ((r ≡ Broken) ⊎ ((r ≡ FullSlots) ⊎ (r ≡ FullEvents))))
 
 module _ {D : Type 0} (g : disk.Ghosts D) where
-  -- Why a store was not opened. Nothing was read or written.
+  -- Why a store was not opened. The journal and the roots are kept, and nothing was read or written.
   pub record FailsToOpen (old new : Devices D) (reads_old reads_new : List ReadCall) (calls_old calls_new : List WriteCall) (r : Refusal) : Type 0 where
     pub is_true : IsTrueOf g old r
     pub failed : IsCounted r (failures_of g old) (failures_of g new)
+    pub kept : KeepsFiles g old new
     pub unread : reads_new ≡ reads_old
     pub unwritten : calls_new ≡ calls_old
 

@@ -3,7 +3,7 @@
 ghost use Rattle.std.specs.Prelude.{◌≡◌, ◌⊎◌, ◌++◌, ◌+◌, [], Ok, Err, OnErr, OnOk, IfErr, IsTrue, false};
 ghost use Rattle.hg_streams.specs.Calls.{failed_writes};
 ghost use Rattle.hg_streams.specs.Told.{told};
-ghost use Rattle.hg_store.specs.Images.{Recovers};
+ghost use Rattle.hg_store.specs.Images.{KeepsFiles, Recovers};
 ghost use Rattle.hg_streams.specs.Written.{Took};
 ghost use Rattle.hg_streams.specs.Faults.{IsStreamFault};
 ghost use Rattle.hg_commands.specs.Listings.{BreaksReports, CantList, HasListingCause, HoldsReports, IsListed, ListsButHeld, ListsContent, ListsFront, ListsStore, WroteListing};
@@ -113,6 +113,7 @@ fn recover_and_print<D: Disk, W: Write>(
     ensures front { OnErr result.0 (WroteListing ⟦<D as Disk>⟧ listing devices output.old output.new) }
     ensures device { OnOk result.0 (NoCallFailed ⟦<D as Disk>⟧ devices result.1) }
     ensures cause { IfErr result.0 (HasListingCause ⟦<D as Disk>⟧ devices result.1 output.old output.new) }
+    ensures files { KeepsFiles ⟦<D as Disk>⟧ devices result.1 }
     ensures images { IsTrue D.is_honest → Recovers ⟦<D as Disk>⟧ devices result.1 }
 {
     match Store::recover(alloc, devices, frames, Caps::profile()) {
@@ -126,8 +127,8 @@ fn recover_and_print<D: Disk, W: Write>(
 
 /// Recovers the store that the devices hold, and prints its kept reports and the end line, or its thread segments. Answers the
 /// status and the devices: 0, or 3 where they hold no store, a device or the output failed, or memory or room was refused, which is
-/// told among the faults. What was printed before that is a front of what was due. A recovery may write pages, but a crash at any
-/// moment leaves an image with the content of an image before.
+/// told among the faults. What was printed before that is a front of what was due. A recovery may write pages, but it keeps the
+/// journal and the roots, and a crash at any moment leaves an image with the content of an image before.
 pub fn list_store<D: Disk, W: Write, V: Write>(
     alloc: Global,
     devices: Devices<D>,
@@ -141,6 +142,7 @@ pub fn list_store<D: Disk, W: Write, V: Write>(
     ensures device { result.0 ≡ 0 → NoCallFailed ⟦<D as Disk>⟧ devices result.1 }
     ensures quiet { result.0 ≡ 0 → Took outputs.old.faults.calls outputs.new.faults.calls [] }
     ensures fault { result.0 ≡ 3 → CantList ⟦<D as Disk>⟧ listing devices result.1 outputs.old outputs.new }
+    ensures files { KeepsFiles ⟦<D as Disk>⟧ devices result.1 }
     ensures images { IsTrue D.is_honest → Recovers ⟦<D as Disk>⟧ devices result.1 }
 {
     let (printed, devices) = recover_and_print(

@@ -1,11 +1,14 @@
 -- What the offer of an event gives, by how it went.
-use Rattle.std.proofs.Common.{◌≡◌, ◌≤◌, ◌∷◌, ℕ, Result, Ok, Err, length, refl, sym, ap, ◌∙◌, subst}
+use Rattle.std.proofs.Common.{◌≡◌, ◌≤◌, ◌∷◌, ℕ, Bool, true, false, Result, Ok, Err, length, refl, sym, ap, ◌∙◌, subst}
 use Rattle.std.specs.Prelude.{◌≢◌, IsErrAnd, if◌then◌else◌}
+use Rattle.hg_model.specs.declared.event.Access.{Access}
+use Rattle.hg_model.specs.declared.event.Event.{Event}
 use Rattle.hg_model.specs.declared.event.Named.{Named}
 use Rattle.hg_model.specs.declared.verdict.Refusal.{Refusal}
 use Rattle.hg_model.specs.declared.verdict.Refusal.TheVariants.{Damaged}
 use Rattle.hg_model.specs.declared.verdict.Verdict.{Verdict}
 use Rattle.hg_model.specs.declared.verdict.Verdict.TheVariants.{Accept, Duplicate, Refuse}
+use Rattle.hg_model.specs.Accessing.{access_event}
 use Rattle.hg_model.specs.Change.{after}
 use Rattle.hg_model.specs.Contents.{Content}
 use Rattle.hg_model.specs.Verdicts.{IsAccepted, standing_of, verdict}
@@ -14,7 +17,7 @@ use Rattle.hg_cells.specs.declared.words.Words as words
 use Rattle.hg_detect.specs.declared.detector.Answer.{Answer}
 use Rattle.hg_detect.specs.declared.detector.Answer.TheVariants as answers
 use Rattle.hg_detect.specs.declared.engine.Engine.{Engine}
-use Rattle.hg_detect.specs.Answering.{AnswersOffer, Applies, Becomes, IsAnswered, KeepsSummary, is_accepted}
+use Rattle.hg_detect.specs.Answering.{AnswersOffer, Applies, Becomes, IsAnswered, IsOnLock, KeepsSummary, is_accepted}
 use Rattle.hg_detect.specs.Engine.{Answers, AtPresent, IsSound, LacksRoom, ReadsTrue, shown_of}
 use Rattle.hg_detect.specs.Shown.{Accepts, Advances, AsksFor, SameContent, ShownDetector, content, verdict_on}
 use Rattle.hg_detect.proofs.Admitting.{answered, answered_refused}
@@ -44,6 +47,7 @@ offer_accepted g old new n accepts goes asked few lawful faithful went =
     record {
       answered = is;
       undamaged = λ accepts_it true_map. tt;
+      held = λ accepts_it on_lock. refl;
       content = goes;
       summary = summary_kept g old n (Ok answers.Accepted) new is goes;
       sets = λ h accepts_it. asked h;
@@ -64,13 +68,14 @@ engine_accepted {W} g e e' d n shows sound accepts a went =
 -- An event that the rules accept, and that was refused.
 pub offer_lacks_room : {W : Type 0} (g : words.Ghosts W) (old new : ShownDetector W) (n : Named) (answer : Result Answer Refusal) (r : Refusal) → IsErrAnd answer (λ x. x ≡ r) → Accepts g.cell_of old n
     → (AtPresent g.is_faithful old → SameContent g.cell_of old new) → (AtPresent g.is_faithful old → AsksFor g.cell_of old n.event (Err r) new) → LacksRoom (g.may_refuse new.words) r
-    → (ReadsTrue g old → r ≢ Damaged) → AtPresent g.may_bring new → (AtPresent g.is_faithful old → AtPresent g.is_faithful new) → g.went old.words new.words → AnswersOffer g old n answer new
-offer_lacks_room g old new n (Ok a) r refused accepts stays asked lacks undamaged lawful faithful went = absurd refused
-offer_lacks_room g old new n (Err x) r refused accepts stays asked lacks undamaged lawful faithful went =
+    → (ReadsTrue g old → r ≢ Damaged) → (IsOnLock n.event → ⊥) → AtPresent g.may_bring new → (AtPresent g.is_faithful old → AtPresent g.is_faithful new) → g.went old.words new.words → AnswersOffer g old n answer new
+offer_lacks_room g old new n (Ok a) r refused accepts stays asked lacks undamaged no_lock lawful faithful went = absurd refused
+offer_lacks_room g old new n (Err x) r refused accepts stays asked lacks undamaged no_lock lawful faithful went =
     let is = answered_refused g old new n (Err x) r refused accepts lacks in
     record {
       answered = is;
       undamaged = λ accepts_it true_map. subst (λ (y : Refusal). y ≢ Damaged) (sym refused) (undamaged true_map);
+      held = λ accepts_it on_lock. absurd (no_lock on_lock);
       content = stays;
       summary = summary_kept g old n (Err x) new is stays;
       sets = λ h accepts_it. subst (λ (y : Refusal). AsksFor g.cell_of old n.event (Err y) new) (sym refused) (asked h);
@@ -83,10 +88,19 @@ offer_lacks_room g old new n (Err x) r refused accepts stays asked lacks undamag
 
 -- An event that the engine refused.
 pub engine_refused : {W : Type 0} (g : words.Ghosts W) (e e' : Engine W) (d : ShownDetector W) (n : Named) (answer : Result Answer Refusal) (r : Refusal) → IsErrAnd answer (λ x. x ≡ r) → shown_of e ≡ d
-    → Accepts g.cell_of d n → Answers g e n (Err r) e' → g.went e.words e'.words → AnswersOffer g d n answer (shown_of e')
-engine_refused {W} g e e' d n answer r refused shows accepts a went =
+    → Accepts g.cell_of d n → Answers g e n (Err r) e' → (IsOnLock n.event → ⊥) → g.went e.words e'.words → AnswersOffer g d n answer (shown_of e')
+engine_refused {W} g e e' d n answer r refused shows accepts a no_lock went =
     subst (λ (x : ShownDetector W). AnswersOffer g x n answer (shown_of e')) shows
-    (offer_lacks_room g (shown_of e) (shown_of e') n answer r refused (subst (λ (x : ShownDetector W). Accepts g.cell_of x n) (sym shows) accepts) a.refused a.asked a.cause a.undamaged a.lawful a.faithful went)
+    (offer_lacks_room g (shown_of e) (shown_of e') n answer r refused (subst (λ (x : ShownDetector W). Accepts g.cell_of x n) (sym shows) accepts) a.refused a.asked a.cause a.undamaged no_lock a.lawful a.faithful went)
+
+-- A read or a write is on no lock.
+pub no_lock_named : (write : Bool) (a : Access) → IsOnLock (access_event write a) → ⊥
+no_lock_named true a on_lock = on_lock
+no_lock_named false a on_lock = on_lock
+
+-- An event on a lock is not refused.
+pub no_lock_refused : (e : Event) (r : Refusal) → (IsOnLock e → ◌≡◌ {A = Result (Unit {0}) Refusal} (Err r) (Ok tt)) → IsOnLock e → ⊥
+no_lock_refused e r held on_lock = let is = held on_lock in absurd (cc)
 
 -- An event that was sent before.
 pub offer_again : {W : Type 0} (g : words.Ghosts W) (old : ShownDetector W) (n : Named) (k : ℕ) → verdict_on g.cell_of old n ≡ Duplicate k → AtPresent g.may_bring old → g.went old.words old.words
@@ -96,6 +110,7 @@ offer_again g old n k is lawful went =
     record {
       answered = applies;
       undamaged = λ accepts true_map. tt;
+      held = λ accepts on_lock. absurd (cc);
       content = λ h. refl;
       summary = summary_kept g old n (Ok (answers.Duplicate k)) old applies (λ h. refl);
       sets = λ h accepts. absurd (cc);
@@ -114,6 +129,7 @@ offer_refused g old n r is lawful went =
     record {
       answered = applies;
       undamaged = λ accepts true_map. absurd (cc);
+      held = λ accepts on_lock. absurd (cc);
       content = λ h. refl;
       summary = summary_kept g old n (Err r) old applies (λ h. refl);
       sets = λ h accepts. absurd (cc);

@@ -13,6 +13,7 @@ ghost use Rattle.hg_cells.specs.declared.cell.Cell.TheVariants.{New};
 ghost use Rattle.hg_cells.specs.Cells.{IsWithin};
 ghost use Rattle.hg_cells.specs.Words.{ForWords, KeepsLaw, failed_after};
 ghost use Rattle.hg_detect.specs.Shown.{HasRoom, IsReportAt, content, shown_with};
+ghost use Rattle.hg_detect.specs.Answering.{IsOnLock};
 ghost use Rattle.hg_detect.specs.Engine.{Answers, AsksForAccess, AsksForCell, AtPresent, HasPlan, IsPlannedBy, IsSound, KeepsCells, LacksRoom, ReadsTrue, shown_of};
 
 use crate::access::NamedAccess;
@@ -302,6 +303,7 @@ impl<W: Words> Engine<W> {
         ensures answers { Answers ⟦<W as Words>⟧ self.old named.now result self.new }
         ensures went { W.went self.old.words self.new.words }
         ensures failures { W.failures self.new.words ≡ failed_after result (W.failures self.old.words) }
+        ensures held { IsOnLock named.now.event → result ≡ Ok tt }
     {
         match &named.event {
             Event::Read(access) => self.access(NamedAccess {

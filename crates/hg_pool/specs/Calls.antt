@@ -1,5 +1,5 @@
 -- Definitions for the contracts of a pool's calls.
-use Rattle.std.specs.Prelude.{◌≡◌, ◌≢◌, ◌⊎◌, ◌↔◌, ◌+◌, ◌-◌, ◌/◌, ◌%◌, ◌<◌, ◌≤◌, ◌==◌, ◌&&◌, ◌++◌, ℕ, nat_eq, nat_le, nat_lt, List, [], ◌∷◌, length, take, get_or, Bool, true, false, Option, Some, None, Result, is_some, IsTrue, OnOk, OnErr, IfOk, IfErr, IsErrOf, MatchOption, if◌then◌else◌}
+use Rattle.std.specs.Prelude.{◌≡◌, ◌≢◌, ◌⊎◌, ◌↔◌, ◌+◌, ◌-◌, ◌/◌, ◌%◌, ◌<◌, ◌≤◌, ◌==◌, ◌&&◌, ◌++◌, ℕ, nat_eq, nat_le, nat_lt, List, [], ◌∷◌, length, take, get_or, Bool, true, false, Option, Some, None, Result, is_some, IsTrue, OnOk, OnErr, IfOk, IfErr, IfSome, IsErrOf, MatchOption, if◌then◌else◌}
 use Rattle.std.specs.Set.{remove_key}
 use Rattle.hg_model.specs.declared.verdict.Refusal.{Refusal}
 use Rattle.hg_model.specs.declared.verdict.Refusal.TheVariants.{Damaged}
@@ -8,6 +8,7 @@ use Rattle.hg_cells.specs.Pages.{filled}
 use Rattle.hg_cells.specs.declared.cell.Cell.{Cell}
 use Rattle.hg_cells.specs.declared.cell.Cell.TheVariants.{New}
 use Rattle.hg_cells.specs.Words.{failed_after}
+use Rattle.hg_disk.specs.Calls.{CallsAtMost}
 use Rattle.hg_disk.specs.declared.disk.Disk as disk
 use Rattle.hg_disk.specs.Moments.{Leaves, LeavesOnly}
 use Rattle.hg_pages.specs.Encoded.{Encoded}
@@ -141,6 +142,14 @@ module _ {D : Type 0} where
       (slot : ℕ) (cells : List Cell) → slot_in p.waiting page.page ≡ Some slot → IsFrozen p page.page cells
       → page.bytes ≡ slot_text page.page cells → ⊥
 
+  -- If the page that left was clean, nothing but the frames has changed: it was not written.
+  abbrev pub LeavesUnwritten : (old new : ShownPool D) → Option ℕ → Type 0
+  LeavesUnwritten old new freed = IfSome freed (λ page. IsClean old.frames page → new ≡ record old { frames = new.frames })
+
+  -- Some page in memory was changed.
+  abbrev pub HasChanged : ShownPool D → Type 0
+  HasChanged p = (page : ℕ) × HasDirty p.frames page
+
   -- The page used least recently has left the memory; none if no page was in memory.
   abbrev pub HasFreed : (old new : ShownPool D) → Option ℕ → Type 0
   HasFreed old new freed = MatchOption freed (old.frames ≡ []) (λ n. order_of old ≡ order_of new ++ n ∷ [])
@@ -212,19 +221,23 @@ module _ {D : Type 0} (g : disk.Ghosts D) where
   abbrev pub CountsWrites : {T : Type 0} → (old new : ShownPool D) → Result T WriteFault → Type 0
   CountsWrites old new result = g.failures (disk_of new) ≡ failures_after_write result (g.failures (disk_of old))
 
-  -- Pages leave their frames or come into them, and changed ones are written first. No word changes.
-  pub record MovesPages {T : Type 0} (old new : ShownPool D) (result : Result T Refusal) : Type 0 where
+  -- Pages leave their frames or come into them, and changed ones are written first, by n device calls at most. No word
+  -- changes.
+  pub record MovesPages {T : Type 0} (n : ℕ) (old new : ShownPool D) (result : Result T Refusal) : Type 0 where
     pub takes : TakesLeastFree old new
     pub stays : Stays g old new
     pub refusal : IfErr result (IsTrueCause new)
     pub device : CountsFailures old new result
+    pub calls : CallsAtMost g n (disk_of old) (disk_of new)
 
-  -- The file is written or synced. No word changes, and a pool whose write or sync failed is broken from then on.
+  -- The file is written or synced, by one device call at most. No word changes, and a pool whose write or sync failed is
+  -- broken from then on.
   pub record WritesPages {T : Type 0} (old new : ShownPool D) (result : Result T WriteFault) : Type 0 where
     pub stays : Stays g old new
     pub broken : IsErrOf result Broken → IsBroken old
     pub breaks : OnErr result (IsBroken new)
     pub device : CountsWrites old new result
+    pub calls : CallsAtMost g 1 (disk_of old) (disk_of new)
 
   -- If the pool was whole, the frozen map is the former live one.
   abbrev pub FreezesLive : (old new : ShownPool D) → Type 0

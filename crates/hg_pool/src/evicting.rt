@@ -1,11 +1,12 @@
 //! Pages leave their frames. Changed pages are written first.
 ghost use Rattle.std.specs.Prelude.{◌≡◌, ◌≢◌, ◌⊎◌, ◌↔◌, ◌+◌, ◌-◌, ◌<◌, ◌≤◌, ◌^◌, [], ◌∷◌, ◌++◌, length, map, true, false, Some, None, Ok, Err, is_some, IsTrue, OnOk, OnErr, IfOk, IfErr, ◌==◌, if◌then◌else◌};
+ghost use Rattle.hg_disk.specs.Calls.{CallsAtMost};
 ghost use Rattle.hg_pages.specs.Tables.{IsNamed, slot_in};
-ghost use Rattle.hg_pool.specs.Maps.{copy_in, frame_in};
+ghost use Rattle.hg_pool.specs.Maps.{copy_in, disk_of, frame_in};
 ghost use Rattle.hg_pool.specs.Kept.{CellsFrom, Stays};
 ghost use Rattle.hg_pool.specs.Answers.{IsTaken, IsTrueCause, order_of};
-ghost use Rattle.hg_pool.specs.Picking.{IsLeastFree};
-ghost use Rattle.hg_pool.specs.Calls.{AreOfEither, ArePagesOf, CountsFailures, EncodesFrame, HasFreed, IsBroken, IsClean, IsCleanIfUncopied, IsOfFrame, IsOfFrozen, IsWith, IsWithout, MayBegin, MayChange, MovesPages, WritesPages, order_with_room};
+ghost use Rattle.hg_pool.specs.Picking.{HasDirty, IsLeastFree};
+ghost use Rattle.hg_pool.specs.Calls.{AreOfEither, ArePagesOf, CountsFailures, EncodesFrame, HasChanged, HasFreed, IsBroken, IsClean, IsCleanIfUncopied, IsOfFrame, IsOfFrozen, IsWith, IsWithout, LeavesUnwritten, MayBegin, MayChange, MovesPages, WritesPages, order_with_room};
 
 use crate::changed::is_changed;
 use crate::parts::Parts;
@@ -75,6 +76,7 @@ impl<D: Disk> Parts<D> {
         ensures order { map (λ e. e.0) self.new.frames.entries ≡ map (λ e. e.0) self.old.frames.entries }
         ensures clean { OnOk result (IsClean self.new.frames.entries page) }
         ensures rest { ChangesFrames self.old self.new }
+        ensures calls { CallsAtMost ⟦<D as Disk>⟧ 1 (disk_of (shown_of self.old)) (disk_of (shown_of self.new)) }
         ensures slots { OnOk result (IsWith page slot self.old.live.entries self.new.live.entries) }
         ensures refused { OnErr result (self.new.live.entries ≡ self.old.live.entries) }
     {
@@ -121,7 +123,7 @@ impl<D: Disk> Parts<D> {
         requires within { slot < self.old.slots }
         ensures sound { IsSound self.new }
         ensures reached { IsReached self.new }
-        ensures moves { MovesPages ⟦<D as Disk>⟧ (shown_of self.old) (shown_of self.new) result }
+        ensures moves { MovesPages ⟦<D as Disk>⟧ 1 (shown_of self.old) (shown_of self.new) result }
         ensures undamaged { IfErr result (λ r. r ≢ Refusal.Damaged) }
         ensures cells { CellsFrom self.old.frames.entries self.new.frames.entries }
         ensures order { map (λ e. e.0) self.new.frames.entries ≡ map (λ e. e.0) self.old.frames.entries }
@@ -139,7 +141,7 @@ impl<D: Disk> Parts<D> {
         requires as_frozen { copy_in self.old.copies.entries page ≡ None }
         ensures sound { IsSound self.new }
         ensures reached { IsReached self.new }
-        ensures moves { MovesPages ⟦<D as Disk>⟧ (shown_of self.old) (shown_of self.new) result }
+        ensures moves { MovesPages ⟦<D as Disk>⟧ 1 (shown_of self.old) (shown_of self.new) result }
         ensures undamaged { IfErr result (λ r. r ≢ Refusal.Damaged) }
         ensures cells { CellsFrom self.old.frames.entries self.new.frames.entries }
         ensures order { map (λ e. e.0) self.new.frames.entries ≡ map (λ e. e.0) self.old.frames.entries }
@@ -157,11 +159,13 @@ impl<D: Disk> Parts<D> {
         requires present { is_some (frame_in self.old.frames.entries page) ≡ true }
         ensures sound { IsSound self.new }
         ensures reached { IsReached self.new }
-        ensures moves { MovesPages ⟦<D as Disk>⟧ (shown_of self.old) (shown_of self.new) result }
+        ensures moves { MovesPages ⟦<D as Disk>⟧ 1 (shown_of self.old) (shown_of self.new) result }
         ensures undamaged { IfErr result (λ r. r ≢ Refusal.Damaged) }
         ensures cells { CellsFrom self.old.frames.entries self.new.frames.entries }
         ensures order { map (λ e. e.0) self.new.frames.entries ≡ map (λ e. e.0) self.old.frames.entries }
         ensures clean { OnOk result (IsClean self.new.frames.entries page) }
+        ensures quiet { IsClean self.old.frames.entries page → self.new ≡ self.old }
+        ensures changed { OnErr result (HasDirty self.old.frames.entries page) }
     {
         if !is_changed(&self.frames, page) {
             return Ok(());
@@ -184,12 +188,14 @@ impl<D: Disk> Parts<D> {
         requires reached { IsReached self.old }
         ensures sound { IsSound self.new }
         ensures reached { IsReached self.new }
-        ensures moves { MovesPages ⟦<D as Disk>⟧ (shown_of self.old) (shown_of self.new) result }
+        ensures moves { MovesPages ⟦<D as Disk>⟧ 1 (shown_of self.old) (shown_of self.new) result }
         ensures undamaged { IfErr result (λ r. r ≢ Refusal.Damaged) }
         ensures cells { CellsFrom self.old.frames.entries self.new.frames.entries }
         ensures none { result ≡ Ok None → (self.new ≡ self.old) × (self.old.frames.entries ≡ []) }
         ensures freed { IfOk result (HasFreed (shown_of self.old) (shown_of self.new)) }
         ensures kept { OnErr result (order_of (shown_of self.new) ≡ order_of (shown_of self.old)) }
+        ensures unwritten { IfOk result (LeavesUnwritten (shown_of self.old) (shown_of self.new)) }
+        ensures changed { OnErr result (HasChanged (shown_of self.old)) }
         ensures fewer { ArePagesOf self.new.frames.entries self.old.frames.entries }
     {
         let _count = self.frames.len();
@@ -208,7 +214,7 @@ impl<D: Disk> Parts<D> {
         requires reached { IsReached self.old }
         ensures sound { IsSound self.new }
         ensures reached { IsReached self.new }
-        ensures moves { MovesPages ⟦<D as Disk>⟧ (shown_of self.old) (shown_of self.new) result }
+        ensures moves { MovesPages ⟦<D as Disk>⟧ 1 (shown_of self.old) (shown_of self.new) result }
         ensures undamaged { IfErr result (λ r. r ≢ Refusal.Damaged) }
         ensures cells { CellsFrom self.old.frames.entries self.new.frames.entries }
         ensures room { OnOk result (length self.new.frames.entries < self.new.frames.cap) }

@@ -1,9 +1,10 @@
 //! Pages come into frames, and are changed there.
 ghost use Rattle.std.specs.Prelude.{◌≡◌, ◌≢◌, ◌⊎◌, ◌+◌, ◌/◌, ◌<◌, ◌≤◌, ◌^◌, ◌==◌, ℕ, ◌∷◌, length, get_or, true, Some, None, is_some, OnOk, IfOk, IfErr, IfSome, if◌then◌else◌};
+ghost use Rattle.hg_disk.specs.Calls.{CallsAtMost};
 ghost use Rattle.hg_cells.specs.declared.cell.Cell.TheVariants.{New};
 ghost use Rattle.hg_cells.specs.Cells.{IsWithin};
 ghost use Rattle.hg_cache.specs.Frames.{HasCell};
-ghost use Rattle.hg_pool.specs.Maps.{frame_in};
+ghost use Rattle.hg_pool.specs.Maps.{disk_of, frame_in};
 ghost use Rattle.hg_pool.specs.Kept.{AreWithin, Stays, Went};
 ghost use Rattle.hg_pool.specs.Answers.{IsTrueCause, order_of, order_with};
 ghost use Rattle.hg_pool.specs.Calls.{CountsFailures, FillsPage, KeepsFirst, LoadsUndamaged, MayChange, MovesPages, ReadsStored, ReadsUndamaged, StayWithin, UsesPage};
@@ -30,6 +31,7 @@ impl<D: Disk> Parts<D> {
         ensures whole { ReadsUndamaged ⟦<D as Disk>⟧ (shown_of self.old) page segments sets.now.sets result }
         ensures refusal { IfErr result (IsTrueCause (shown_of self.new)) }
         ensures device { CountsFailures ⟦<D as Disk>⟧ (shown_of self.old) (shown_of self.new) result }
+        ensures calls { CallsAtMost ⟦<D as Disk>⟧ 1 (disk_of (shown_of self.old)) (disk_of (shown_of self.new)) }
     {
         match self.live.get(page) {
             None => Ok(Page::new()),
@@ -54,6 +56,7 @@ impl<D: Disk> Parts<D> {
         ensures whole { ReadsUndamaged ⟦<D as Disk>⟧ (shown_of self.old) page segments sets.now.sets result }
         ensures refusal { IfErr result (IsTrueCause (shown_of self.new)) }
         ensures device { CountsFailures ⟦<D as Disk>⟧ (shown_of self.old) (shown_of self.new) result }
+        ensures calls { CallsAtMost ⟦<D as Disk>⟧ 1 (disk_of (shown_of self.old)) (disk_of (shown_of self.new)) }
     {
         let cells = self.read(page, segments, sets)?;
         self.take_in(page, cells)
@@ -86,7 +89,7 @@ impl<D: Disk> Parts<D> {
         requires number { page < MOST_PAGES }
         ensures sound { IsSound self.new }
         ensures reached { IsReached self.new }
-        ensures moves { MovesPages ⟦<D as Disk>⟧ (shown_of self.old) (shown_of self.new) result }
+        ensures moves { MovesPages ⟦<D as Disk>⟧ 2 (shown_of self.old) (shown_of self.new) result }
         ensures loaded { OnOk result (is_some (frame_in self.new.frames.entries page) ≡ true) }
         ensures order { OnOk result (order_of (shown_of self.new) ≡ order_with (shown_of self.old) page) }
         ensures before { OnOk result (KeepsFirst (shown_of self.old) (shown_of self.new)) }

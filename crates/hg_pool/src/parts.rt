@@ -1,8 +1,9 @@
 //! The parts of a pool, and what each step makes of them.
 ghost use Rattle.std.specs.Prelude.{◌≡◌, ◌≢◌, ◌⊎◌, ◌↔◌, ◌+◌, ◌*◌, ◌/◌, ◌<◌, ◌≤◌, ◌==◌, ◌^◌, ◌∷◌, false, Some, None, Ok, Err, IsTrue, OnOk, OnErr, IsErrOf, IfErr, MatchOption, if◌then◌else◌};
+ghost use Rattle.hg_disk.specs.Calls.{CallsAtMost};
 ghost use Rattle.hg_pages.specs.Slots.{HasBytes};
 ghost use Rattle.hg_pages.specs.Tables.{IsNamed};
-ghost use Rattle.hg_pool.specs.Maps.{bytes_of, is_broken};
+ghost use Rattle.hg_pool.specs.Maps.{bytes_of, disk_of, is_broken};
 ghost use Rattle.hg_pool.specs.Kept.{BreaksByFailure, Stays};
 ghost use Rattle.hg_pool.specs.Answers.{IsFull};
 ghost use Rattle.hg_pool.specs.Calls.{CountsWrites, IsLeastSlot, KeepsSlotsBut, LeavesSlotsBut, SameBytes, StaysLong, WritesPages};
@@ -120,6 +121,7 @@ impl<D: Disk> Parts<D> {
         ensures refuses { IsTrue (is_broken (shown_of self.old)) → result ≡ Err WriteFault.Broken }
         ensures same { IsTrue (is_broken (shown_of self.old)) → self.new ≡ self.old }
         ensures device { CountsWrites ⟦<D as Disk>⟧ (shown_of self.old) (shown_of self.new) result }
+        ensures calls { CallsAtMost ⟦<D as Disk>⟧ 1 (disk_of (shown_of self.old)) (disk_of (shown_of self.new)) }
     {
         self.file.write(slot, page)
     }

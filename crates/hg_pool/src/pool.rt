@@ -8,7 +8,7 @@ ghost use Rattle.hg_cells.specs.declared.cell.Cell.TheVariants.{New};
 ghost use Rattle.hg_pool.specs.Answers.{order_of, order_with};
 ghost use Rattle.hg_pool.specs.Picking.{AreLeastFree, LacksSlots};
 ghost use Rattle.hg_pool.specs.Tables.{AreBelow, IsNameable};
-ghost use Rattle.hg_pool.specs.Calls.{FillsPage, FreezesOnOk, HasFreed, HasWaited, IsNextJob, IsStale, KeepsCopies, KeepsFirst, LoadsUndamaged, LosesWritten, MayChange, MovesPages, NamesDirty, SealsWhole, StayWithin, WritesPages, first_pool};
+ghost use Rattle.hg_pool.specs.Calls.{FillsPage, FreezesOnOk, HasChanged, HasFreed, HasWaited, IsNextJob, IsStale, KeepsCopies, KeepsFirst, LeavesUnwritten, LoadsUndamaged, LosesWritten, MayChange, MovesPages, NamesDirty, SealsWhole, StayWithin, WritesPages, first_pool};
 
 use crate::fault::FreezeFault;
 use crate::job::{Job, Put};
@@ -113,10 +113,12 @@ impl<D: Disk> Pool<D> {
     /// changed page is written first: to the slot picked for it if it waits and is as it was frozen, else to the least free
     /// slot.
     pub fn evict(&mut self) -> Result<Option<u64>, Refusal>
-        ensures moves { MovesPages ⟦<D as Disk>⟧ self.old self.new result }
+        ensures moves { MovesPages ⟦<D as Disk>⟧ 1 self.old self.new result }
         ensures none { result ≡ Ok None → (self.new ≡ self.old) × (self.old.frames ≡ []) }
         ensures freed { IfOk result (HasFreed self.old self.new) }
         ensures kept { OnErr result (order_of self.new ≡ order_of self.old) }
+        ensures unwritten { IfOk result (LeavesUnwritten self.old self.new) }
+        ensures changed { OnErr result (HasChanged self.old) }
         ensures undamaged { IfErr result (λ r. r ≢ Refusal.Damaged) }
     {
         self.parts.evict()
@@ -124,7 +126,7 @@ impl<D: Disk> Pool<D> {
 
     /// Frees a frame if all are taken.
     pub fn make_room(&mut self) -> Result<(), Refusal>
-        ensures moves { MovesPages ⟦<D as Disk>⟧ self.old self.new result }
+        ensures moves { MovesPages ⟦<D as Disk>⟧ 1 self.old self.new result }
         ensures room { OnOk result (length self.new.frames < self.new.most_frames) }
         ensures quiet { length self.old.frames < self.old.most_frames → self.new ≡ self.old }
         ensures undamaged { IfErr result (λ r. r ≢ Refusal.Damaged) }
@@ -136,7 +138,7 @@ impl<D: Disk> Pool<D> {
     /// frame. The page used just before this call stays.
     pub fn load(&mut self, page: u64, segments: u32, sets: &SetTable) -> Result<(), Refusal>
         requires { page < MOST_PAGES }
-        ensures moves { MovesPages ⟦<D as Disk>⟧ self.old self.new result }
+        ensures moves { MovesPages ⟦<D as Disk>⟧ 2 self.old self.new result }
         ensures loaded { OnOk result (is_some (frame_in self.new.frames page) ≡ true) }
         ensures order { OnOk result (order_of self.new ≡ order_with self.old page) }
         ensures before { OnOk result (KeepsFirst self.old self.new) }
@@ -219,7 +221,7 @@ impl<D: Disk> Pool<D> {
     }
 
     /// Writes a page to the slot that was picked for it: `Written` exactly if it waits and the bytes are those of its
-    /// frozen cells. The pages in memory stay, with their cells. It makes one device call at most and takes no memory.
+    /// frozen cells. The pages in memory stay, with their cells. It takes no memory.
     pub fn put(&mut self, page: &EncodedPage) -> Result<Put, WriteFault>
         ensures writes { WritesPages ⟦<D as Disk>⟧ self.old self.new result }
         ensures written { IfOk result (λ put. put ≡ Put.Written → HasWaited self.old page.now) }
@@ -273,7 +275,7 @@ impl<D: Disk> Pool<D> {
     }
 
     /// Makes the written pages durable. If no page waits, then after an `Ok` each image of the slots, read by the frozen
-    /// table, gives the frozen map. It makes one device call and takes no memory.
+    /// table, gives the frozen map. It takes no memory.
     pub fn seal(&mut self) -> Result<(), WriteFault>
         ensures writes { WritesPages ⟦<D as Disk>⟧ self.old self.new result }
         ensures sealed { SealsWhole ⟦<D as Disk>⟧ self.old self.new result }

@@ -8,7 +8,7 @@ use Rattle.hg_streams.specs.Shown.{Outgoing}
 use Rattle.hg_streams.specs.declared.call.WriteCall.{WriteCall}
 use Rattle.hg_contents.specs.Images.{HasContent}
 use Rattle.hg_store.specs.declared.devices.Devices.{Devices}
-use Rattle.hg_store.specs.Images.{EachImageAlong, IsOn, Recovers, failures_of, read_of}
+use Rattle.hg_store.specs.Images.{EachImageAlong, IsOn, KeepsFiles, Recovers, failures_of, read_of}
 use Rattle.hg_store.specs.Shown.{ShownStore, live, saved}
 use Rattle.hg_store.specs.Store.{Backs}
 use Rattle.hg_desk.specs.Going.{Began, LeadsTo, WentOn, oldest}
@@ -112,10 +112,11 @@ module _ {D : Type 0} (g : disk.Ghosts D) where
   abbrev pub HasServeCause : Devices D → Devices D → Refusal → Type 0
   HasServeCause old new r = (IsTrueOf g old r × CountedBy r (failures_of g old) (failures_of g new)) ⊎ IsServingFault old new r
 
-  -- Nothing was written, and the devices were only looked at; or a front of what is due for the last content was written.
+  -- Nothing was written, and the devices were only looked at, which keeps the journal and the roots; or a front of what is due
+  -- for the last content was written.
   abbrev pub WroteServing : Settings → Devices D → List (Devices D) → Devices D → List WriteCall → List WriteCall → Type 0
   WroteServing settings old moments new calls_old calls_new =
-      ((calls_new ≡ calls_old) × (IsTrue g.is_honest → Recovers g old new))
+      ((calls_new ≡ calls_old) × KeepsFiles g old new × (IsTrue g.is_honest → Recovers g old new))
       ⊎ ((last : Content) × ((IsTrue g.is_honest → Served old moments new last) × TookFront calls_old calls_new (serving_text settings last)))
 
   -- A server ended early. There was a cause; it was told, or telling it failed; and what stands and was written is as far as it came.

@@ -63,24 +63,22 @@ pub freeze_refused : {D : Type 0} (T U : Type 0) (s : ShownStore D) (p : pool.Sh
 freeze_refused T U s p b at Lawful r works idle few is own (inl broken) = absurd (true≢false (sym broken.0 ∙ own))
 freeze_refused {D} T U s p b at Lawful r works idle few is own (inr may) = inr (
   works,
-  (
-    idle,
-    ⊎_elim
-        (λ none. subst (λ (x : Cause). IsOfFreezing s x) (sym none) few)
-        (λ full. subst (λ (x : Cause). IsOfFreezing s x) (sym full.0) (few, subst (λ (q : pool.ShownPool D). LacksSlots q) is full.1))
-        may.1.1,
-  ),
+  idle,
+  ⊎_elim
+      (λ none. subst (λ (x : Cause). IsOfFreezing s x) (sym none) few)
+      (λ full. subst (λ (x : Cause). IsOfFreezing s x) (sym full.0) (few, subst (λ (q : pool.ShownPool D). LacksSlots q) is full.1))
+      may.2,
 )
 
 -- no device failed in it
 pub freeze_is_quiet : {D : Type 0} (T U : Type 0) (p : pool.ShownPool D) (b : Bool) (at : Phase) (Lawful : Type 0) (r : Cause) → phases.IsAllowed {T = U} b at Lawful (calls.IsOfFreezing p) (Err (fault.Refused r)) → IfRefused {T = T} (λ x. x ≢ cause.DeviceFault) (Err (step.Refused r))
 freeze_is_quiet T U p b at Lawful r (inl broken) device = absurd (cc (sym broken.1 ∙ device))
-freeze_is_quiet T U p b at Lawful r (inr may) device = ⊎_elim (λ none. absurd (cc (sym none ∙ device))) (λ full. absurd (cc (sym full.0 ∙ device))) may.1.1
+freeze_is_quiet T U p b at Lawful r (inr may) device = ⊎_elim (λ none. absurd (cc (sym none ∙ device))) (λ full. absurd (cc (sym full.0 ∙ device))) may.2
 
 -- and no part was without a spelling
 pub freeze_is_spelled : {D : Type 0} (T U : Type 0) (p : pool.ShownPool D) (b : Bool) (at : Phase) (Lawful : Type 0) (r : Cause) → phases.IsAllowed {T = U} b at Lawful (calls.IsOfFreezing p) (Err (fault.Refused r)) → IfRefused {T = T} (λ x. x ≢ cause.Damaged) (Err (step.Refused r))
 freeze_is_spelled T U p b at Lawful r (inl broken) damaged = absurd (cc (sym broken.1 ∙ damaged))
-freeze_is_spelled T U p b at Lawful r (inr may) damaged = ⊎_elim (λ none. absurd (cc (sym none ∙ damaged))) (λ full. absurd (cc (sym full.0 ∙ damaged))) may.1.1
+freeze_is_spelled T U p b at Lawful r (inr may) damaged = ⊎_elim (λ none. absurd (cc (sym none ∙ damaged))) (λ full. absurd (cc (sym full.0 ∙ damaged))) may.2
 
 -- the draft by the number that the checkpointer noted
 pub draft_of : {D : Type 0} (g : disk.Ghosts D) (c : Checkpointer D g) (w : pool.ShownPool D) (to : Option Checkpoint) (was : detect.ShownDetector (ℕ → Cell)) (number : ℕ) → c.next ≡ number

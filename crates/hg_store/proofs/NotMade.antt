@@ -29,21 +29,21 @@ IsOfStep Same r = (r ≡ cause.DeviceFault) ⊎ ((r ≡ cause.OutOfMemory) × Sa
 pub of_device : (U Same Lawful : Type 0) (b : Bool) (at : Phase) (fault : CheckpointFault) → b ≡ false → checkpoints.IsAllowed {T = U} b at Lawful IsOfDevice (Err fault) → checkpoints.IfRefused {T = U} (IsOfStep Same) (Err fault)
 of_device U Same Lawful b at (WrongPhase p) works is = tt
 of_device U Same Lawful b at (Refused r) works (inl broken) = absurd (true≢false (sym broken.0 ∙ works))
-of_device U Same Lawful b at (Refused r) works (inr may) = inl may.1.1
+of_device U Same Lawful b at (Refused r) works (inr may) = inl may.2
 
 -- those of a seal, of a pool that works
 pub of_sealing : {D : Type 0} (U Lawful : Type 0) (p : pool.ShownPool D) (b : Bool) (at : Phase) (fault : CheckpointFault) → b ≡ false → pools.is_broken p ≡ false
     → checkpoints.IsAllowed {T = U} b at Lawful (IsOfSealing p) (Err fault) → checkpoints.IsAllowed {T = U} b at Lawful IsOfDevice (Err fault)
 of_sealing U Lawful p b at (WrongPhase q) works file is = is
 of_sealing U Lawful p b at (Refused r) works file (inl broken) = inl broken
-of_sealing U Lawful p b at (Refused r) works file (inr may) = inr (may.0, (may.1.0, ⊎_elim (λ device. device) (λ broken. absurd (subst IsTrue file broken.1)) may.1.1))
+of_sealing U Lawful p b at (Refused r) works file (inr may) = inr (may.0, may.1, ⊎_elim (λ device. device) (λ broken. absurd (true≢false (sym (subst IsTrue file broken.1)))) may.2)
 
 -- those of a call that takes memory
 pub of_writing : (U Same Lawful : Type 0) (b : Bool) (at : Phase) (fault : CheckpointFault) → b ≡ false → checkpoints.IsAllowed {T = U} b at Lawful IsOfWriting (Err fault)
     → checkpoints.IfRefused {T = U} (λ r. r ≡ cause.OutOfMemory → Same) (Err fault) → checkpoints.IfRefused {T = U} (IsOfStep Same) (Err fault)
 of_writing U Same Lawful b at (WrongPhase p) works is memory = tt
 of_writing U Same Lawful b at (Refused r) works (inl broken) memory = absurd (true≢false (sym broken.0 ∙ works))
-of_writing U Same Lawful b at (Refused r) works (inr may) memory = ⊎_elim (λ none. inr (none, memory none)) (λ device. inl device) may.1.1
+of_writing U Same Lawful b at (Refused r) works (inr may) memory = ⊎_elim (λ none. inr (none, memory none)) (λ device. inl device) may.2
 
 pub if_wrong : (U : Type 0) {P Q : Type 0} (fault : CheckpointFault) → (P → Q) → checkpoints.IfWrongPhase {T = U} P (Err fault) → checkpoints.IfWrongPhase {T = U} Q (Err fault)
 if_wrong U (WrongPhase p) so is = so is
@@ -54,11 +54,11 @@ if_refused U (WrongPhase p) so is = tt
 if_refused U (Refused r) so is = so r is
 
 -- Either nothing changed, or the phase allowed the call.
-pub either : (U : Type 0) {P Same Lawful : Type 0} {Causes : Cause → Type 0} (b : Bool) (at : Phase) (fault : CheckpointFault) → b ≡ false → checkpoints.IfWrongPhase {T = U} Same (Err fault)
+pub either : (U : Type 0) {P Same Lawful : Type 0} (Causes : Cause → Type 0) (b : Bool) (at : Phase) (fault : CheckpointFault) → b ≡ false → checkpoints.IfWrongPhase {T = U} Same (Err fault)
     → checkpoints.IsAllowed {T = U} b at Lawful Causes (Err fault) → (Same → P) → (Lawful → P) → P
-either U b at (WrongPhase p) works same allowed still by = still same
-either U b at (Refused r) works same (inl broken) still by = absurd (true≢false (sym broken.0 ∙ works))
-either U b at (Refused r) works same (inr may) still by = by may.1.0
+either U Causes b at (WrongPhase p) works same allowed still by = still same
+either U Causes b at (Refused r) works same (inl broken) still by = absurd (true≢false (sym broken.0 ∙ works))
+either U Causes b at (Refused r) works same (inr may) still by = by may.1
 
 -- as many calls failed as the checkpointer tells
 pub fails_as : (T U : Type 0) (p : StorePhase) (fault : CheckpointFault) (f : StepFault) → f ≡ step_fault p fault → failed_by {T = T} (Err f) ≡ checkpoints.failed_calls {T = U} (Err fault)
@@ -72,7 +72,7 @@ allowed : (T U : Type 0) {D : Type 0} (s : ShownStore D) (b : Bool) (at : Phase)
     → checkpoints.IsAllowed {T = U} b at Lawful Causes (Err fault) → IsAllowed {T = T} s Lawful Causes (Err (step_fault (phase_of s) fault))
 allowed T U s b at Lawful Causes (WrongPhase p) works own is = (works, is.1, refl)
 allowed T U s b at Lawful Causes (Refused r) works own (inl broken) = absurd (true≢false (sym broken.0 ∙ own))
-allowed T U s b at Lawful Causes (Refused r) works own (inr may) = inr (works, may.1)
+allowed T U s b at Lawful Causes (Refused r) works own (inr may) = inr (works, may.1, may.2)
 
 module _ {D : Type 0} (g : disk.Ghosts D) (s : Parts D g) (c : Checkpointer D g) (w : pool.ShownPool D) where
   abbrev pub Same : Type 0
@@ -107,7 +107,7 @@ module _ {D : Type 0} (g : disk.Ghosts D) (s : Parts D g) (c : Checkpointer D g)
       → (Lawful → IsSound g (called true) room) → IsSound g (called b) room
   sound_by U room sound Lawful Causes at (WrongPhase p) b works is may same of failed = subst (λ (p : Parts D g). IsSound g p room) (sym (still b works is same)) sound
   sound_by U room sound Lawful Causes at (Refused r) b works is (inl broken) same of failed = absurd (true≢false (sym broken.0 ∙ sound.checkpointer works))
-  sound_by U room sound Lawful Causes at (Refused r) b works is (inr may) same (inl device) failed = subst (λ (b : Bool). IsSound g (called b) room) (sym (is ∙ ap breaks device)) (failed may.1.0)
+  sound_by U room sound Lawful Causes at (Refused r) b works is (inr may) same (inl device) failed = subst (λ (b : Bool). IsSound g (called b) room) (sym (is ∙ ap breaks device)) (failed may.1)
   sound_by U room sound Lawful Causes at (Refused r) b works is (inr may) same (inr none) failed = subst (λ (p : Parts D g). IsSound g p room) (sym (still b works (is ∙ ap breaks none.0) none.1)) sound
 
   refused_by : (r : Cause) (b : Bool) → s.is_broken ≡ false → b ≡ breaks r → IsOfStep Same r → LeavesOrBreaks (shown_of g s) (shown_of g (called b)) r

@@ -2,6 +2,7 @@
 use Rattle.std.proofs.Common.{◌≡◌, ◌∙◌, inl, inr, List, [], ◌∷◌, ◌++◌, length, Bool, false, Result, Ok, Err, Some, None, refl, sym, ap, subst, if◌then◌else◌}
 use Rattle.std.specs.Prelude.{IsTrue}
 use Rattle.std.specs.Option.{option_and_then}
+use Rattle.std.proofs.lemmas.Bool.{true≢false}
 use Rattle.hg_model.specs.declared.event.Named.{Named}
 use Rattle.hg_model.specs.declared.verdict.Refusal.{Refusal}
 use Rattle.hg_model.specs.declared.verdict.Refusal.TheVariants as refusal
@@ -89,7 +90,7 @@ pub not_broken : {D : Type 0} (g : disk.Ghosts D) (old new : pool.ShownPool D) �
 not_broken g old new went r failed works (inl full) is = absurd (cc (sym full ∙ is))
 not_broken g old new went r failed works (inr (inl none)) is = absurd (cc (sym none ∙ is))
 not_broken g old new went r failed works (inr (inr cause)) is =
-    subst IsTrue (works_on g old new went (failed ∙ ap (λ (x : Refusal). after_refusal x (g.failures (pools.disk_of old))) is) works) (subst (λ (x : Refusal). IsTrueCause new x) is cause)
+    true≢false (sym (subst IsTrue (works_on g old new went (failed ∙ ap (λ (x : Refusal). after_refusal x (g.failures (pools.disk_of old))) is) works) (subst (λ (x : Refusal). IsTrueCause new x) is cause)))
 
 -- the pages of a store can be read back
 pub reads_true : {D : Type 0} (g : disk.Ghosts D) (s : Parts D g) (basis : Basis) → Standing g s basis → ReadsTrue g s.detector.words (length s.detector.segments) s.detector.sets.sets

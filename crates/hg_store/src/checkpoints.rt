@@ -1,6 +1,7 @@
 //! The steps of a checkpoint.
 
 ghost use Rattle.std.specs.Prelude.{◌≡◌, ◌≢◌, ◌⊎◌, ◌+◌, ◌<◌, ◌≤◌, ◌^◌, Err, true, false, IsTrue, OnOk, OnErr, IfOk};
+ghost use Rattle.hg_disk.specs.Calls.{CallsAtMost};
 ghost use Rattle.hg_pool.specs.Calls.{HasWaited, IsStale};
 ghost use Rattle.hg_checkpoint.specs.Calls.{IsOfDevice, IsOfWriting};
 ghost use Rattle.hg_checkpoint.specs.Phases.{Never};
@@ -128,7 +129,7 @@ impl<D: Disk> Store<D> {
     }
 
     /// Writes a page to the slot that was picked for it: `Written` if it waits and the bytes are those of its cells at the
-    /// freeze. Else `Stale`: nothing was changed. It makes one device call at most and takes no memory.
+    /// freeze. Else `Stale`: nothing was changed. It takes no memory.
     pub fn put(&mut self, page: &EncodedPage) -> Result<Put, StepFault>
         ensures done { CheckpointDone self.old self.new (self.old.is_broken ≡ false) IsOfDevice self.old.progress.phase result }
         ensures frozen { self.new.frozen ≡ self.old.frozen }
@@ -137,6 +138,7 @@ impl<D: Disk> Store<D> {
         ensures nothing { IfOk result (λ put. put ≡ Put.Stale → self.new ≡ self.old) }
         ensures roots { SameRoots self.old self.new }
         ensures progress { self.new.progress ≡ self.old.progress }
+        ensures calls { CallsAtMost ⟦<D as Disk>⟧ 1 self.old.devices.slots self.new.devices.slots }
         ensures device { FailuresGrowBy ⟦<D as Disk>⟧ self.old.devices self.new.devices (failed_by result) }
         ensures live { IsTrue D.is_honest → live ⟦<D as Disk>⟧ self.new ≡ live ⟦<D as Disk>⟧ self.old }
         ensures images { IsTrue D.is_honest → StandMeanwhile ⟦<D as Disk>⟧ self.old self.new self.old.in_doubt }
@@ -153,12 +155,13 @@ impl<D: Disk> Store<D> {
         }
     }
 
-    /// Makes the pages durable, once all are written. It makes one device call and takes no memory.
+    /// Makes the pages durable, once all are written. It takes no memory.
     pub fn seal_pages(&mut self) -> Result<(), StepFault>
         ensures done { CheckpointDone self.old self.new (IsFlushed self.old) IsOfDevice phase.Sealed result }
         ensures frozen { self.new.frozen ≡ self.old.frozen }
         ensures roots { SameRoots self.old self.new }
         ensures number { SameNumbers self.old self.new }
+        ensures calls { CallsAtMost ⟦<D as Disk>⟧ 1 self.old.devices.slots self.new.devices.slots }
         ensures device { FailuresGrowBy ⟦<D as Disk>⟧ self.old.devices self.new.devices (failed_by result) }
         ensures live { IsTrue D.is_honest → live ⟦<D as Disk>⟧ self.new ≡ live ⟦<D as Disk>⟧ self.old }
         ensures images { IsTrue D.is_honest → StandMeanwhile ⟦<D as Disk>⟧ self.old self.new self.old.in_doubt }
@@ -173,8 +176,7 @@ impl<D: Disk> Store<D> {
         }
     }
 
-    /// Closes the file that the next root goes to. It makes at most two device calls, none if the file is closed already,
-    /// and takes no memory.
+    /// Closes the file that the next root goes to. It makes no device call if the file is closed already, and takes no memory.
     pub fn prepare_root(&mut self) -> Result<(), StepFault>
         ensures done { CheckpointDone self.old self.new (IsIn phase.Sealed self.old) IsOfDevice phase.Prepared result }
         ensures frozen { self.new.frozen ≡ self.old.frozen }
@@ -194,7 +196,7 @@ impl<D: Disk> Store<D> {
         }
     }
 
-    /// Writes the root behind the closed gate of its file. It makes four device calls at most. `OutOfMemory` leaves the store as it is.
+    /// Writes the root behind the closed gate of its file. `OutOfMemory` leaves the store as it is.
     pub fn write_root(&mut self, alloc: Global) -> Result<(), StepFault>
         ensures done { CheckpointDone self.old self.new (IsIn phase.Prepared self.old) IsOfWriting phase.Written result }
         ensures frozen { self.new.frozen ≡ self.old.frozen }
@@ -214,8 +216,8 @@ impl<D: Disk> Store<D> {
         }
     }
 
-    /// Opens the root: from then on it is the newest one, and the slots of the former one are free. Answers its number. It makes two device
-    /// calls at most and takes no memory.
+    /// Opens the root: from then on it is the newest one, and the slots of the former one are free. Answers its number. It takes
+    /// no memory.
     pub fn open_root(&mut self) -> Result<u64, StepFault>
         ensures done { CheckpointDone self.old self.new (IsIn phase.Written self.old) IsOfDevice phase.Idle result }
         ensures frozen { self.new.frozen ≡ self.old.frozen }

@@ -81,6 +81,7 @@ returns-in-Err-clause-cause g c =
       is_true = recovery_is_true g.D.Disk c.args.devices c.in-Err.refusal c.profile.result.sets
           c.in-Err.ensures.refusal c.profile.ensures.0 c.in-Err.ensures.damaged c.in-Err.ensures.full;
       failed = recovery_is_counted c.in-Err.refusal (failures_of g.D.Disk c.args.devices) (failures_of g.D.Disk c.in-Err.devices) c.in-Err.ensures.device;
+      kept = c.in-Err.ensures.files;
       unread = refl;
       unwritten = refl;
     })

@@ -1,6 +1,6 @@
 use Rattle.std.proofs.Common.{inr, sym, subst}
 use Rattle.hg_contents.specs.Images.{HasContent}
-use Rattle.hg_store.specs.Images.{Recovers, failures_of, read_of}
+use Rattle.hg_store.specs.Images.{KeepsFiles, Recovers, failures_of, read_of}
 use Rattle.hg_store.specs.Shown.{live}
 use Rattle.hg_store.proofs.Refusals.{recovery_is_true}
 use Rattle.hg_streams.specs.Calls.{failed_writes}
@@ -19,6 +19,9 @@ returns-in-Ok-clause-front g c =
 
 pub returns-in-Ok-clause-images : goal.returns-in-Ok-clause-images
 returns-in-Ok-clause-images g c honest = subst (λ d. Recovers g.D.Disk c.args.devices d) (sym c.into_devices.ensures) (c.in-Ok.ensures.images honest)
+
+pub returns-in-Ok-clause-files : goal.returns-in-Ok-clause-files
+returns-in-Ok-clause-files g c = subst (λ d. KeepsFiles g.D.Disk c.args.devices d) (sym c.into_devices.ensures) c.in-Ok.ensures.files
 
 pub returns-in-Err-clause-cause : goal.returns-in-Err-clause-cause
 returns-in-Err-clause-cause g c =

@@ -25,4 +25,4 @@ write_waiting-requires-clause-as_frozen g c none f is =
 
 pub returns-clause-moves : goal.returns-clause-moves
 returns-clause-moves g c =
-    record { takes = λ q s is. first_or_second (c.write_waiting.ensures.slots q s is); stays = c.write_waiting.ensures.writes.stays; refusal = search rules; device = search rules }
+    record { takes = λ q s is. first_or_second (c.write_waiting.ensures.slots q s is); stays = c.write_waiting.ensures.writes.stays; refusal = search rules; device = search rules; calls = search rules }

@@ -72,4 +72,5 @@ returns-clause-moves g c =
       stays = stays_on g.D.Disk p (shown_of c.clean.new.self) (shown_of c.let_go.new.self) c.clean.ensures.moves.stays c.let_go.ensures.stays;
       refusal = search rules;
       device = ap (λ (x : Parts g.row.D.Denot). g.D.Disk.failures (disk_of (shown_of x))) c.let_go.ensures.rest ∙ c.in_ok-clean.ensures.moves.device;
+      calls = search rules;
     }

@@ -31,6 +31,7 @@ returns-in_err-make_room-clause-moves g c =
       stays = stays_on g.D.Disk (shown_of c.args.self.now) (shown_of c.use_page.new.self) (shown_of c.make_room.new.self) c.use_page.ensures.stays c.make_room.ensures.moves.stays;
       refusal = search rules;
       device = search rules;
+      calls = search rules;
     }
 
 pub returns-clause-before : goal.returns-clause-before
@@ -70,6 +71,7 @@ returns-clause-moves g c =
           c.read_in.ensures.stays;
       refusal = search rules;
       device = search rules;
+      calls = search rules;
     }
 
 pub returns-clause-within : goal.returns-clause-within

@@ -16,6 +16,7 @@ returns-in_err-seal-clause-writes g c =
       broken = search rules;
       breaks = search rules;
       device = search rules;
+      calls = search rules;
     }
 
 pub returns-then-len-eq0-clause-writes : goal.returns-then-len-eq0-clause-writes
@@ -26,6 +27,7 @@ returns-then-len-eq0-clause-writes g c =
       broken = search rules;
       breaks = search rules;
       device = search rules;
+      calls = search rules;
     }
 
 pub returns-else-len-eq0-clause-writes : goal.returns-else-len-eq0-clause-writes
@@ -36,6 +38,7 @@ returns-else-len-eq0-clause-writes g c =
       broken = search rules;
       breaks = search rules;
       device = search rules;
+      calls = search rules;
     }
 
 pub returns-then-len-eq0-clause-sealed : goal.returns-then-len-eq0-clause-sealed

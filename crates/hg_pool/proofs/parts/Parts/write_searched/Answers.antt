@@ -30,4 +30,5 @@ returns-clause-moves g c =
       stays = did.stays;
       refusal = did.refusal;
       device = did.device;
+      calls = did.calls;
     }

@@ -16,4 +16,5 @@ returns-clause-writes g c =
       broken = e.broken;
       breaks = e.breaks;
       device = e.device;
+      calls = e.calls;
     }

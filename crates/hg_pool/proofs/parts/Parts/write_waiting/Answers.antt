@@ -32,6 +32,7 @@ returns-then-release-clause-writes g c =
       broken = search rules;
       breaks = search rules;
       device = search rules;
+      calls = search rules;
     }
 
 pub returns-else-release-clause-writes : goal.returns-else-release-clause-writes
@@ -41,6 +42,7 @@ returns-else-release-clause-writes g c =
       broken = search rules;
       breaks = search rules;
       device = search rules;
+      calls = search rules;
     }
 
 pub release-requires-clause-stands : goal.release-requires-clause-stands

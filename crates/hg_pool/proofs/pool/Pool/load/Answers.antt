@@ -17,4 +17,4 @@ returns-clause-undamaged g c h known =
     (subst (λ (p : ShownPool g.row.D.Denot). (w : ℕ) → w / 256 ≡ c.args.page → IsKnown c.args.segments c.args.sets.now.sets (live g.D.Disk p w)) (sym c.self.view_is) known)
 
 pub returns-clause-moves : goal.returns-clause-moves
-returns-clause-moves g c = subst (λ (p : ShownPool g.row.D.Denot). MovesPages g.D.Disk p (shown_of c.load.new.self) c.load.result) c.self.view_is c.load.ensures.moves
+returns-clause-moves g c = subst (λ (p : ShownPool g.row.D.Denot). MovesPages g.D.Disk 2 p (shown_of c.load.new.self) c.load.result) c.self.view_is c.load.ensures.moves

@@ -1,16 +1,19 @@
-use Rattle.std.proofs.Common.{◌≡◌, ◌∙◌, ◌+◌, ◌<◌, false, length, ℕ, List, refl, rules, subst, sym, ap}
+use Rattle.std.proofs.Common.{◌≡◌, ◌∙◌, ◌+◌, ◌<◌, false, length, ℕ, List, Err, Result, refl, rules, subst, sym, ap}
 use Rattle.hg_root.specs.declared.root.TheConstants.{MOST_CHECKPOINTS}
 use Rattle.std.proofs.lemmas.Bool.{true≢false}
+use Rattle.hg_checkpoint.specs.Calls.{IsAllowedIn, IsOfFreezing}
+use Rattle.hg_checkpoint.specs.declared.phase.CheckpointFault.{CheckpointFault}
 use Rattle.hg_checkpoint.specs.declared.phase.Phase.{Phase}
+use Rattle.hg_checkpoint.specs.declared.phase.Phase.TheVariants as phase
 use Rattle.hg_pages.specs.Files as files
 use Rattle.hg_pages.specs.declared.slot_file.SlotFile.{SlotFile}
 use Rattle.hg_checkpoint.specs.Capturing.{parts_with}
-use Rattle.hg_store.specs.Shown.{ShownStore, live as of_store, phase_by}
+use Rattle.hg_store.specs.Shown.{ShownStore, live as of_store, phase_by, phase_of, words}
 use Rattle.hg_store.specs.declared.steps.StorePhase.TheVariants as store
 use Rattle.hg_store.specs.Kept.{is_rooting}
 use Rattle.hg_pool.specs.Kept.{AreWithin}
 use Rattle.hg_pool.specs.Maps.{live}
-use Rattle.hg_pool.specs.Shown.{Frame}
+use Rattle.hg_pool.specs.Shown.{Frame, ShownPool as Pool}
 use Rattle.hg_contents.proofs.lawful.Staying.{fits_a_root}
 use Rattle.hg_store.proofs.Freezing.{draft_of, freeze_is_quiet, freeze_is_spelled, freeze_refused, frozen_as, head, idle_phase, known, now}
 use Rattle.hg_store.proofs.Staying.{same_content}
@@ -87,13 +90,22 @@ returns-clause-done g c =
     let works : c.self.inside.is_broken ≡ false = search rules in
     let rests : phase_by c.self.inside.checkpointer.phase c.self.inside.pending.items ≡ store.Idle = search rules in
     let few : c.self.inside.checkpointer.number < MOST_CHECKPOINTS = search rules in
-    rw (← c.self.view_is) (nothing_done _ _ _ _ _ _
-    (same_shown g.D.Disk _ c.freeze.new.self c.freeze.new.pool c.in-Err-Refused.ensures.refused.0 (c.in-Err-Refused.ensures.refused.1 ∙ c.words_mut.ensures.value) _ c.self.invariant _ refl)
-    (freeze_refused (Unit {0}) (Unit {0}) _ c.words_mut.result.now c.self.inside.checkpointer.is_broken c.self.inside.checkpointer.phase _ c.in-Err-Refused.cause works rests few c.words_mut.ensures.value (c.self.invariant.checkpointer works) c.in-Err-Refused.ensures.phase)
-    (freeze_is_quiet (Unit {0}) (Unit {0}) c.words_mut.result.now c.self.inside.checkpointer.is_broken c.self.inside.checkpointer.phase _ c.in-Err-Refused.cause c.in-Err-Refused.ensures.phase))
+    let may = subst (λ (f : CheckpointFault). IsAllowedIn {T = Unit {0}} phase.Idle (IsOfFreezing c.self.inside.detector.words) c.self.inside.checkpointer (Err f)) c.in-Err-Refused.field-0-is
+    (subst (λ (r : Result (Unit {0}) CheckpointFault). IsAllowedIn {T = Unit {0}} phase.Idle (IsOfFreezing c.self.inside.detector.words) c.self.inside.checkpointer r) c.in-Err-Refused.is
+    (subst (λ (p : Pool g.row.D.Denot). IsAllowedIn {T = Unit {0}} phase.Idle (IsOfFreezing p) c.self.inside.checkpointer c.freeze.result) c.words_mut.ensures.value c.freeze.ensures.phase)) in
+    nothing_done _ _ _ _ _ _
+    (same_shown g.D.Disk _ c.freeze.new.self c.freeze.new.pool c.in-Err-Refused.ensures.refused.0 (c.in-Err-Refused.ensures.refused.1 ∙ c.words_mut.ensures.value) _ c.self.invariant _ c.self.view_is)
+    (freeze_refused (Unit {0}) (Unit {0}) c.args.self.now c.self.inside.detector.words c.self.inside.checkpointer.is_broken c.self.inside.checkpointer.phase (c.self.inside.checkpointer.phase ≡ phase.Idle) c.in-Err-Refused.cause
+    (ap (λ (s : ShownStore g.row.D.Denot). s.is_broken) (sym c.self.view_is) ∙ works) (ap (λ (s : ShownStore g.row.D.Denot). phase_of s) (sym c.self.view_is) ∙ rests)
+    (subst (λ (s : ShownStore g.row.D.Denot). s.progress.number < MOST_CHECKPOINTS) c.self.view_is few) (ap (λ (s : ShownStore g.row.D.Denot). words s) c.self.view_is) (c.self.invariant.checkpointer works) may)
+    (freeze_is_quiet (Unit {0}) (Unit {0}) c.self.inside.detector.words c.self.inside.checkpointer.is_broken c.self.inside.checkpointer.phase (c.self.inside.checkpointer.phase ≡ phase.Idle) c.in-Err-Refused.cause may)
 
 pub returns-clause-undamaged : goal.returns-clause-undamaged
-returns-clause-undamaged g c honest = freeze_is_spelled (Unit {0}) (Unit {0}) c.words_mut.result.now c.self.inside.checkpointer.is_broken c.self.inside.checkpointer.phase _ c.in-Err-Refused.cause c.in-Err-Refused.ensures.phase
+returns-clause-undamaged g c honest =
+    let may = subst (λ (f : CheckpointFault). IsAllowedIn {T = Unit {0}} phase.Idle (IsOfFreezing c.self.inside.detector.words) c.self.inside.checkpointer (Err f)) c.in-Err-Refused.field-0-is
+    (subst (λ (r : Result (Unit {0}) CheckpointFault). IsAllowedIn {T = Unit {0}} phase.Idle (IsOfFreezing c.self.inside.detector.words) c.self.inside.checkpointer r) c.in-Err-Refused.is
+    (subst (λ (p : Pool g.row.D.Denot). IsAllowedIn {T = Unit {0}} phase.Idle (IsOfFreezing p) c.self.inside.checkpointer c.freeze.result) c.words_mut.ensures.value c.freeze.ensures.phase)) in
+    freeze_is_spelled (Unit {0}) (Unit {0}) c.self.inside.detector.words c.self.inside.checkpointer.is_broken c.self.inside.checkpointer.phase (c.self.inside.checkpointer.phase ≡ phase.Idle) c.in-Err-Refused.cause may
 
 pub returns-in-Ok-clause-done : goal.returns-in-Ok-clause-done
 returns-in-Ok-clause-done g c = record {

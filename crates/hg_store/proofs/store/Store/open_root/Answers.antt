@@ -49,7 +49,7 @@ returns-in-Err-clause-images g c honest =
     let w = k.1.works works in
     let same = c.in-Err.ensures.same_pool ∙ c.words_mut.ensures.value in
     let each = rw c.words_mut.ensures.value at c.open_root.ensures.any_moment in
-    rw (← c.self.view_is) (either ℕ c.self.inside.checkpointer.is_broken c.self.inside.checkpointer.phase c.in-Err.fault (c.self.invariant.checkpointer works) c.in-Err.ensures.unchanged c.in-Err.ensures.phase
+    rw (← c.self.view_is) (either ℕ _ c.self.inside.checkpointer.is_broken c.self.inside.checkpointer.phase c.in-Err.fault (c.self.invariant.checkpointer works) c.in-Err.ensures.unchanged c.in-Err.ensures.phase
     (λ still. same_images_as g.D.Disk _ k.0 k.1 c.open_root.new.self c.open_root.new.pool still same) (λ written.
     let r = progress_at g.D.Disk _ k.0 k.1 works phase.Written written in
     images_as g.D.Disk _ k.0 k.1 works r c.open_root.new.self c.open_root.new.pool (ap (λ (p : Pool g.row.D.Denot). disk_of p) same) (each k.0.now.checkpoint k.0.now.former r.next w.stands r.is_next)))

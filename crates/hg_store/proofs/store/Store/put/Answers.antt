@@ -1,7 +1,9 @@
 use Rattle.std.proofs.Common.{rules, subst}
 use Rattle.std.proofs.lemmas.Bool.{true≢false}
+use Rattle.hg_disk.specs.Calls.{CallsAtMost}
 use Rattle.hg_pool.specs.Calls.{IsStale}
 use Rattle.hg_pool.specs.Kept.{CellsFrom, Stays}
+use Rattle.hg_pool.specs.Maps.{disk_of}
 use Rattle.hg_pool.specs.Shown.{ShownPool as Pool}
 use Rattle.hg_store.proofs.Backing.{parts_stand}
 use Rattle.hg_store.proofs.Checkpointing.{put_images, put_standing}
@@ -65,3 +67,11 @@ invariant_of-self-in-Err g c =
 
 pub returns-in-Ok-clause-stale : goal.returns-in-Ok-clause-stale
 returns-in-Ok-clause-stale g c told = rw (← c.self.view_is) (subst (λ (p : Pool g.row.D.Denot). IsStale p c.args.page.now) c.words_mut.ensures.value (c.in-Ok.ensures.stale told))
+
+pub returns-in-Ok-clause-calls : goal.returns-in-Ok-clause-calls
+returns-in-Ok-clause-calls g c =
+    rw (← c.self.view_is) (subst (λ (p : Pool g.row.D.Denot). CallsAtMost g.D.Disk 1 (disk_of p) (disk_of c.put.new.self)) c.words_mut.ensures.value c.put.ensures.writes.calls)
+
+pub returns-in-Err-clause-calls : goal.returns-in-Err-clause-calls
+returns-in-Err-clause-calls g c =
+    rw (← c.self.view_is) (subst (λ (p : Pool g.row.D.Denot). CallsAtMost g.D.Disk 1 (disk_of p) (disk_of c.put.new.self)) c.words_mut.ensures.value c.put.ensures.writes.calls)

@@ -4,7 +4,9 @@ use Rattle.hg_checkpoint.specs.Calls.{IsAllowedToSeal, IsOfSealing}
 use Rattle.hg_checkpoint.specs.declared.phase.Phase.{Phase}
 use Rattle.hg_checkpoint.specs.declared.phase.Phase.TheVariants as phase
 use Rattle.hg_store.proofs.Going.{progress_at}
+use Rattle.hg_disk.specs.Calls.{CallsAtMost}
 use Rattle.hg_pool.specs.Kept.{AreWithin, Stays}
+use Rattle.hg_pool.specs.Maps.{disk_of}
 use Rattle.hg_pool.specs.Shown.{Frame, ShownPool as Pool}
 use Rattle.hg_store.specs.Kept.{is_rooting}
 use Rattle.hg_store.proofs.Backing.{parts_stand}
@@ -95,3 +97,11 @@ returns-in-Err-clause-done g c =
     rw (← c.self.view_is) (step_not_made g.D.Disk _ c.seal_pages.new.self c.seal_pages.new.pool (Unit {0}) (Unit {0}) _ c.self.invariant _ _ phase.Sealed c.self.inside.checkpointer.phase c.in-Err.fault c.not_made.result c.phase_now-phase.result c.not_made.new.is_broken c.if-self.false
     c.not_made.ensures.told (c.phase_now-phase.ensures ∙ ap (λ (s : ShownStore g.row.D.Denot). phase_of s) (sym c.self.view_is)) c.not_made.ensures.broken
     may (if_wrong (Unit {0}) c.in-Err.fault (λ e. (e.0, e.1 ∙ c.words_mut.ensures.value)) c.in-Err.ensures.unchanged) (of_device (Unit {0}) _ _ c.self.inside.checkpointer.is_broken c.self.inside.checkpointer.phase c.in-Err.fault (c.self.invariant.checkpointer c.if-self.false) may))
+
+pub returns-in-Ok-clause-calls : goal.returns-in-Ok-clause-calls
+returns-in-Ok-clause-calls g c =
+    rw (← c.self.view_is) (subst (λ (p : Pool g.row.D.Denot). CallsAtMost g.D.Disk 1 (disk_of p) (disk_of c.seal_pages.new.pool)) c.words_mut.ensures.value c.seal_pages.ensures.calls)
+
+pub returns-in-Err-clause-calls : goal.returns-in-Err-clause-calls
+returns-in-Err-clause-calls g c =
+    rw (← c.self.view_is) (subst (λ (p : Pool g.row.D.Denot). CallsAtMost g.D.Disk 1 (disk_of p) (disk_of c.seal_pages.new.pool)) c.words_mut.ensures.value c.seal_pages.ensures.calls)
