@@ -2,12 +2,14 @@
 use Rattle.std.specs.Prelude.{◌≡◌, ◌+◌, ◌<◌, ◌^◌, ℕ, List, ◌++◌, length, Option, None, Some, Result, Ok, Err, IsTrue}
 use Rattle.hg_model.specs.declared.verdict.Refusal.{Refusal}
 use Rattle.hg_model.specs.Contents.{Content}
+use Rattle.hg_streams.specs.declared.call.WriteCall.{WriteCall}
 use Rattle.hg_streams.specs.Told.{told}
 use Rattle.hg_disk.specs.declared.disk.Disk as disk
 use Rattle.hg_wire.specs.declared.reader.Reading.{Reading}
 use Rattle.hg_reading.specs.declared.ending.Ending.{Ending}
+use Rattle.hg_commands.specs.declared.lines.Feeding.{Feeding}
 use Rattle.hg_commands.specs.Feeding.{HasRoom}
-use Rattle.hg_commands.specs.FeedRunning.{FrontFor, IsReady, LeadsOn, Place, WentWell, content_at}
+use Rattle.hg_commands.specs.FeedRunning.{FrontFor, IsReady, LeadsOn, Place, WentWell, content_at, place}
 use Rattle.hg_commands.specs.Instants.{Instant}
 use Rattle.hg_commands.specs.Keeping.{KeepsOn}
 use Rattle.hg_commands.specs.Storing.{failed_calls}
@@ -37,3 +39,9 @@ module _ {D : Type 0} (g : disk.Ghosts D) where
     pub cause : (x : Refusal) → r ≡ Err x → IsFeedFault x
     pub failures : failed_calls g new.store.devices new.output ≡ told r + failed_calls g old.store.devices old.output
     pub kept : KeepsOn g old.store old.output earlier new.store new.output later
+
+module _ {D W : Type 0} (g : disk.Ghosts D) where
+  -- From one state of a feeding and its output to another these lines were offered, with this answer.
+  abbrev pub TakesLines : Feeding D W → List WriteCall → List Reading → Result (Option Ending) Refusal → Feeding D W → List WriteCall → Type 0
+  TakesLines old before lines r new after =
+      FeedsLines g (place old.store old.fed before) old.moments lines r (place new.store new.fed after) new.moments

@@ -34,14 +34,14 @@ use std::alloc::Global;
 use std::io::{Read, Write};
 
 impl<D: Disk, W: Write> Sink<W> for Feeding<D, W> {
-    ghost use Rattle.hg_commands.specs.Taking.{FeedsLines, MayTake};
+    ghost use Rattle.hg_commands.specs.Taking.{MayTake, TakesLines};
     ghost use Rattle.hg_commands.specs.TakingLaws.{takes_fewer, takes_none, takes_on, takes_room};
 
     type End = Ending;
 
     ghost may_take = { λ s n. MayTake (place s.store s.fed []) n };
 
-    ghost takes = { λ old before lines r new now. FeedsLines ⟦<D as Disk>⟧ (place old.store old.fed before) old.moments lines r (place new.store new.fed now) new.moments };
+    ghost takes = { TakesLines ⟦<D as Disk>⟧ };
 
     fn offer(
         &mut self,
