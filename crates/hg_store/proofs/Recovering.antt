@@ -23,7 +23,7 @@ use Rattle.hg_contents.specs.Choices.{HasSlots}
 use Rattle.hg_contents.specs.Images.{HasContent, Image, LeadFrom}
 use Rattle.hg_contents.specs.Stores.{IsLeft}
 use Rattle.hg_store.specs.declared.devices.Devices.{Devices}
-use Rattle.hg_store.specs.Images.{EachImage, EachReadsOrFailed, FilesReadSame, FilesWereRead, HasContentOf, HasContentOfOne, IsOnlyRead, KeepsCheckpoint, KeepsFiles, KeepsSlot, KeepsSlots, ReadsSlots, Recovers, RootCallsAtMost, read_of, states_of}
+use Rattle.hg_store.specs.Images.{EachImage, EachReadsOrFailed, FilesReadSame, FilesWereRead, HasContentOf, HasContentOfOne, IsOnlyRead, KeepsCheckpoint, KeepsFiles, KeepsSlot, KeepsSlots, ReadsSlots, Recovers, read_of, states_of}
 use Rattle.hg_store.specs.Recovering.{CountedBy, HasRootThat, IsRooted, LacksSlots, NamesAbove, ReadsSameOrFault, Settled, Stay, made_of}
 use Rattle.hg_store.specs.Shown.{ShownStore}
 use Rattle.hg_store.proofs.Rooting.{settled_leaves}
