@@ -1,5 +1,6 @@
 //! A checkpoint in progress.
 ghost use Rattle.std.specs.Prelude.{◌≡◌, ◌≢◌, ◌⊎◌, ◌++◌, ◌+◌, Option, Some, None, Ok, Err, true, false, is_some, IsTrue, OnOk, OnErr, IfOk};
+ghost use Rattle.hg_disk.specs.Calls.{CallsAtMost};
 ghost use Rattle.hg_pool.specs.Calls.{FreezesOnOk};
 ghost use Rattle.hg_pool.specs.Kept as pools;
 ghost use Rattle.hg_pool.specs.Kept.{IsWhole, SameMap};
@@ -171,7 +172,7 @@ impl<D: Disk> Checkpointer<D> {
         }
     }
 
-    /// Makes the pages of the frozen map durable, once all are written. It makes one device call and takes no memory.
+    /// Makes the pages of the frozen map durable, once all are written. It takes no memory.
     pub fn seal_pages(&mut self, pool: &mut Pool<D>) -> Result<(), CheckpointFault>
         ensures phase { IsAllowedToSeal (IsOfSealing pool.old) self.old pool.old result }
         ensures unchanged { IfWrongPhase ((self.new ≡ self.old) × (pool.new ≡ pool.old)) result }
@@ -181,6 +182,7 @@ impl<D: Disk> Checkpointer<D> {
         ensures succeeds { SealsSurely self.old pool.old pool.new result }
         ensures device { BreaksBy self.new.is_broken result }
         ensures count { D.failures (disk_of pool.new) ≡ failed_calls result + D.failures (disk_of pool.old) }
+        ensures calls { CallsAtMost ⟦<D as Disk>⟧ 1 (disk_of pool.old) (disk_of pool.new) }
         ensures breaks { OnErr result (StaysOrBreaks self.old pool.old self.new pool.new) }
         ensures rest { KeepsRootsAndHead self.old self.new }
         ensures stays { pools.Stays ⟦<D as Disk>⟧ pool.old pool.new }
