@@ -151,7 +151,7 @@ module _ {D : Type 0} (g : disk.Ghosts D) where
     live_leads : (step : Step) (result : StepResult) → ContentDone g old new step result → LeadsTo (live g old) (live g new)
     live_leads (step.Offer n) result content = (if_accepted n content.0, content.2.leads)
     live_leads step.Commit result content = same_leads (live g old) (live g new) content
-    live_leads step.Freeze result content = same_leads (live g old) (live g new) content
+    live_leads step.Freeze result content = same_leads (live g old) (live g new) content.2.live
     live_leads step.TakeJob result content = same_leads (live g old) (live g new) content
     live_leads (step.Put page) result content = same_leads (live g old) (live g new) content
     live_leads step.SealPages result content = same_leads (live g old) (live g new) content
