@@ -5,8 +5,9 @@ use crate::past::Past;
 use crate::quoting::{put_number, put_numbers};
 use hg_model::event::Event;
 use hg_model::limits::{
-    GREATEST_ACCESS, GREATEST_BLOCK, GREATEST_THREAD, MOST_HELD, MOST_SEGMENTS,
+    GREATEST_ACCESS, GREATEST_BLOCK, GREATEST_THREAD, MOST_EVENTS, MOST_HELD, MOST_SEGMENTS,
 };
+use hg_sets::MOST_SETS;
 use std::alloc::AllocError;
 use std::fmt::Write;
 use std::string::String;
@@ -196,6 +197,19 @@ fn put_full_graph(past: &Past, text: &mut String) -> Result<(), AllocError> {
     )
 }
 
+/// Appends that there may be no more events. The limit is a power of two.
+fn put_full_trace(text: &mut String) -> Result<(), AllocError> {
+    let exponent = u64::from(MOST_EVENTS.trailing_zeros());
+    let why = " events were accepted, and there may be no more";
+    put_number("2^", exponent, why, text)
+}
+
+/// Appends that there may be no more sets.
+fn put_full_table(text: &mut String) -> Result<(), AllocError> {
+    let why = " sets of threads and of locks are in use, and this event needs another one";
+    put_number("", u64::from(MOST_SETS), why, text)
+}
+
 /// Appends why an event was refused with this code, after those events.
 pub fn put_cause(
     past: &Past,
@@ -208,10 +222,8 @@ pub fn put_cause(
         3 => put_bad_length(event, text),
         4 => put_past_the_end(event, text),
         16 => put_full_graph(past, text),
-        17 => text.push_str("2^58 events were accepted, and there may be no more"),
-        19 => text.push_str(
-            "262144 sets of threads and of locks are in use, and this event needs another one",
-        ),
+        17 => put_full_trace(text),
+        19 => put_full_table(text),
         _ => put_of_threads(past, event, code, text),
     }
 }

@@ -1,9 +1,12 @@
 //! What a fault means, in words.
 
 use crate::past::Past;
+use crate::quoting::put_number;
 use hg_disk::Disk;
 use hg_journal::journal::Journal;
 use hg_model::verdict::Refusal;
+use hg_pages::MOST_SLOTS;
+use hg_sets::MOST_SETS;
 use std::alloc::{AllocError, Global};
 use std::fmt::Write;
 use std::io;
@@ -27,14 +30,29 @@ fn put_failure(sources: &[Source<'_>], text: &mut String) -> Result<(), AllocErr
     text.push_str("a stream or a file that is not known")
 }
 
+/// Appends that the events of a store need too many sets.
+fn put_full_table(text: &mut String) -> Result<(), AllocError> {
+    let front = "the store: its events need more than ";
+    put_number(
+        front,
+        u64::from(MOST_SETS),
+        " sets of threads and of locks",
+        text,
+    )
+}
+
+/// Appends that the pages of a store need too many slots.
+fn put_full_slots(text: &mut String) -> Result<(), AllocError> {
+    let front = "the store: its pages need more than ";
+    put_number(front, u64::from(MOST_SLOTS), " slots", text)
+}
+
 /// Appends what caused a fault with this code.
 pub fn put_fault(code: u64, sources: &[Source<'_>], text: &mut String) -> Result<(), AllocError> {
     match code {
         11 => text.push_str("the store: its files are not a store's"),
-        19 => text.push_str(
-            "the store: its events need more than 262144 sets of threads and of locks",
-        ),
-        20 => text.push_str("the store: its pages need more than 1048576 slots"),
+        19 => put_full_table(text),
+        20 => put_full_slots(text),
         21 => put_failure(sources, text),
         22 => text.push_str("memory: a growth was refused"),
         _ => text.push_str("a cause that is not known"),

@@ -2,6 +2,7 @@
 
 use crate::quoting::{put_number, put_numbers, put_quoted};
 use hg_wire::diagnosis::{Diagnosis, diagnose};
+use hg_wire::line::MOST_LINE_BYTES;
 use hg_wire::verb::Verb;
 use std::alloc::AllocError;
 use std::string::String;
@@ -77,7 +78,9 @@ fn put_too_great(
 /// Appends what is wrong with a line. Its tokens are counted from 1 on, the verb first.
 fn put_diagnosis(found: Diagnosis<'_>, text: &mut String) -> Result<(), AllocError> {
     match found {
-        Diagnosis::TooLong => text.push_str("it has more than 256 bytes"),
+        Diagnosis::TooLong => {
+            put_number("it has more than ", MOST_LINE_BYTES as u64, " bytes", text)
+        }
         Diagnosis::NoVerb { token } => put_no_verb(token, text),
         Diagnosis::EmptyToken { place } => put_empty_token(place, text),
         Diagnosis::Count { verb, given } => put_count(verb, given, text),
