@@ -54,6 +54,14 @@ pub record SameNumbers {D : Type 0} (old new : ShownStore D) : Type 0 where
 abbrev pub BeginsWhenIdle : {D : Type 0} → (old new : ShownStore D) → Result (Unit {0}) StepFault → Type 0
 BeginsWhenIdle old new result = CheckpointDone old new (phase_of old ≡ store.Idle) (IsOfFreezing old) phase.Flushing result
 
+-- A page is put by a store that works, in any phase.
+abbrev pub PutsInAnyPhase : {D : Type 0} → (old new : ShownStore D) → Result Put StepFault → Type 0
+PutsInAnyPhase old new result = CheckpointDone old new (old.is_broken ≡ false) IsOfDevice old.progress.phase result
+
+-- The root is written only once its file is prepared.
+abbrev pub WritesWhenPrepared : {D : Type 0} → (old new : ShownStore D) → Result (Unit {0}) StepFault → Type 0
+WritesWhenPrepared old new result = CheckpointDone old new (IsIn phase.Prepared old) IsOfWriting phase.Written result
+
 -- A checkpoint begins, with the number behind that of the newest one. No device is called.
 pub record FreezeDone {D : Type 0} (old new : ShownStore D) (result : Result (Unit {0}) StepFault) : Type 0 where
   pub done : BeginsWhenIdle old new result
@@ -71,7 +79,7 @@ pub record JobTaken {D : Type 0} (old new : ShownStore D) (result : Result (Opti
 
 -- A page is written if it waits and the bytes are those of its cells at the freeze. The phase stays.
 pub record PutDone {D : Type 0} (old new : ShownStore D) (page : Encoded) (result : Result Put StepFault) : Type 0 where
-  pub done : CheckpointDone old new (old.is_broken ≡ false) IsOfDevice old.progress.phase result
+  pub done : PutsInAnyPhase old new result
   pub written : IfOk result (λ p. p ≡ put.Written → HasWaited (words old) page)
   pub stale : IfOk result (λ p. p ≡ put.Stale → IsStale (words old) page)
   pub nothing : IfOk result (λ p. p ≡ put.Stale → new ≡ old)
@@ -95,7 +103,7 @@ pub record PrepareDone {D : Type 0} (old new : ShownStore D) (result : Result (U
 
 -- The next root is durable behind its closed gate.
 pub record WriteDone {D : Type 0} (old new : ShownStore D) (result : Result (Unit {0}) StepFault) : Type 0 where
-  pub done : CheckpointDone old new (IsIn phase.Prepared old) IsOfWriting phase.Written result
+  pub done : WritesWhenPrepared old new result
   pub words : SameWords old new
   pub numbers : SameNumbers old new
   pub frozen : new.frozen ≡ old.frozen

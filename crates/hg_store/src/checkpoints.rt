@@ -3,7 +3,7 @@
 ghost use Rattle.std.specs.Prelude.{◌≡◌, ◌≢◌, ◌⊎◌, ◌+◌, ◌<◌, ◌≤◌, ◌^◌, Err, true, false, IsTrue, OnOk, OnErr, IfOk};
 ghost use Rattle.hg_disk.specs.Calls.{CallsAtMost};
 ghost use Rattle.hg_pool.specs.Calls.{HasWaited, IsStale};
-ghost use Rattle.hg_checkpoint.specs.Calls.{IsOfDevice, IsOfWriting};
+ghost use Rattle.hg_checkpoint.specs.Calls.{IsOfDevice};
 ghost use Rattle.hg_checkpoint.specs.Phases.{Never};
 ghost use Rattle.hg_checkpoint.specs.declared.phase.Phase.TheVariants as phase;
 ghost use Rattle.hg_store.specs.Answers.{IfRefused, IsAllowed, breaks, breaks_by, failed_by, step_fault};
@@ -11,7 +11,7 @@ ghost use Rattle.hg_store.specs.Shown.{HasNextNumber, IsFlushed, IsIn, live, pha
 ghost use Rattle.hg_store.specs.Steps.{CheckpointDone};
 ghost use Rattle.hg_store.specs.Store.{HasOpenedFrozen, StandMeanwhile};
 ghost use Rattle.hg_store.specs.Images.{FailuresGrowBy, RootCallsAtMost};
-ghost use Rattle.hg_store.specs.Doing.{BeginsWhenIdle, IsFirstWaiting, SameNumbers, SameRoots, SameWords};
+ghost use Rattle.hg_store.specs.Doing.{BeginsWhenIdle, IsFirstWaiting, PutsInAnyPhase, SameNumbers, SameRoots, SameWords, WritesWhenPrepared};
 
 use crate::steps::{StepFault, StorePhase};
 use crate::store::Store;
@@ -131,7 +131,7 @@ impl<D: Disk> Store<D> {
     /// Writes a page to the slot that was picked for it: `Written` if it waits and the bytes are those of its cells at the
     /// freeze. Else `Stale`: nothing was changed. It takes no memory.
     pub fn put(&mut self, page: &EncodedPage) -> Result<Put, StepFault>
-        ensures done { CheckpointDone self.old self.new (self.old.is_broken ≡ false) IsOfDevice self.old.progress.phase result }
+        ensures done { PutsInAnyPhase self.old self.new result }
         ensures frozen { self.new.frozen ≡ self.old.frozen }
         ensures written { IfOk result (λ put. put ≡ Put.Written → HasWaited (words self.old) page.now) }
         ensures stale { IfOk result (λ put. put ≡ Put.Stale → IsStale (words self.old) page.now) }
@@ -198,7 +198,7 @@ impl<D: Disk> Store<D> {
 
     /// Writes the root behind the closed gate of its file. `OutOfMemory` leaves the store as it is.
     pub fn write_root(&mut self, alloc: Global) -> Result<(), StepFault>
-        ensures done { CheckpointDone self.old self.new (IsIn phase.Prepared self.old) IsOfWriting phase.Written result }
+        ensures done { WritesWhenPrepared self.old self.new result }
         ensures frozen { self.new.frozen ≡ self.old.frozen }
         ensures slots { SameWords self.old self.new }
         ensures number { SameNumbers self.old self.new }
