@@ -1,4 +1,4 @@
-use Rattle.std.proofs.Common.{◌≡◌, false, inl, inr, sym, subst, OnErr, OnOk, IsTrue}
+use Rattle.std.proofs.Common.{◌≡◌, false, inl, inr, refl, sym, subst, OnErr, OnOk, IsTrue}
 use Rattle.std.proofs.lemmas.Result.{IfErr-at_err}
 use Rattle.hg_store.specs.Shown.{live}
 use Rattle.hg_store.proofs.Refusals.{recovery_is_true}
@@ -48,3 +48,6 @@ returns-in-Err-ended-clause-wrote g c =
         subst (λ r. OnErr r (TookFront c.args.output.now.calls c.serve_and_print-store.new.output.calls (serving_text c.args.door.now.settings (live g.D.Disk now)))) c.in-Err-ended.is c.serve_and_print-store.ensures.front,
       ),
     ))
+
+pub returns-in-Err-clause-wrote : goal.returns-in-Err-clause-wrote
+returns-in-Err-clause-wrote g c = inl (refl, c.in-Err.ensures.files, λ honest. c.in-Err.ensures.images honest)
