@@ -24,7 +24,8 @@ pub fn middle_is_torn()
 
 /// Bytes on the disk stay through writes and cuts elsewhere, so each image has them.
 pub fn places_stay()
-    ensures synced { (file : List ℕ) (at : ℕ) (bytes : List ℕ) → Holds file at bytes → KeepsBytes (settled file) at bytes }
+    ensures synced { (file : List ℕ) (at : ℕ) (bytes : List ℕ) →
+        Holds file at bytes → KeepsBytes (settled file) at bytes }
     ensures write_behind { (at : ℕ) (written : List ℕ) → KeepsBefore at (after_write at written) }
     ensures write_before { (at : ℕ) (written : List ℕ) → KeepsFrom (at + length written) (after_write at written) }
     ensures cut { (to : ℕ) → KeepsBefore to (after_cut to) }
@@ -33,7 +34,8 @@ pub fn places_stay()
 
 /// Bytes that each image has at a place are on the disk.
 pub fn kept_by_images()
-    ensures { (s : DiskState) (at : ℕ) (bytes : List ℕ) → HasItsBytes s → LeavesThere at bytes s → KeepsBytes s at bytes }
+    ensures { (s : DiskState) (at : ℕ) (bytes : List ℕ) →
+        HasItsBytes s → LeavesThere at bytes s → KeepsBytes s at bytes }
 {}
 
 /// Bytes that each image has at a place stay there in each image after a write elsewhere, even a write that leaves a gap.

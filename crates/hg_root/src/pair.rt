@@ -94,7 +94,8 @@ impl<D: Disk> RootPair<D> {
         ensures works { IsWorking result }
         ensures turn { is_turned result ≡ false }
         ensures stands { StandsClosed ⟦<D as Disk>⟧ root0 root1 result }
-        ensures gates { IsGate ⟦<D as Disk>⟧ root0 → IsGate ⟦<D as Disk>⟧ root1 → Stands ⟦<D as Disk>⟧ result None None }
+        ensures gates { IsGate ⟦<D as Disk>⟧ root0 → IsGate ⟦<D as Disk>⟧ root1 →
+            Stands ⟦<D as Disk>⟧ result None None }
     {
         RootPair {
             older: Gated::attach(root0),

@@ -170,7 +170,8 @@ fn are_lists(
     reports: &[KeptReport],
     pages: &[PageSlot],
 ) -> Result<bool, AllocError>
-    ensures { IfOk result (λ are. IsTrue are ↔ (HaveSent events sources.now × AreInOrder reports.now × HaveSlots pages.now)) }
+    ensures { IfOk result (λ are.
+        IsTrue are ↔ (HaveSent events sources.now × AreInOrder reports.now × HaveSlots pages.now)) }
 {
     if !are_sources(sources, events) || !are_in_order(reports) {
         return Ok(false);
@@ -202,7 +203,8 @@ fn sets_with(
     ensures table { IfOk result (λ table. table ≡ record { limit = MOST_SETS; sets = sets.now }) }
     ensures sets { IfOk result AreSets }
     ensures reports { IfOk result (λ table. All (IsReport events sets.now) reports.now) }
-    ensures damaged { IsErrOf result RootFault.Damaged → AreSets (record { limit = MOST_SETS; sets = sets.now }) → ¬ All (IsReport events sets.now) reports.now }
+    ensures damaged { IsErrOf result RootFault.Damaged → AreSets (record { limit = MOST_SETS; sets = sets.now }) →
+        ¬ All (IsReport events sets.now) reports.now }
     ensures fault { IfErr result IsDamagedOrMemory }
 {
     let table = sets_of(alloc, sets)?;
