@@ -1,6 +1,6 @@
 //! A map of words in memory.
 
-ghost use Rattle.std.specs.Prelude.{◌≡◌, ℕ, ◌+◌, ◌/◌, ◌<◌, ◌≤◌, ◌^◌, true, None, Some, is_some, IfOk, IfSome, OnOk, MatchOption, nat_eq, ◌-◌};
+ghost use Rattle.std.specs.Prelude.{◌≡◌, ℕ, ◌+◌, ◌/◌, ◌<◌, ◌≤◌, ◌^◌, true, None, Some, Ok, is_some, IfOk, IfSome, OnOk, MatchOption, nat_eq, ◌-◌};
 ghost use Rattle.indexmap.specs.IndexMap.{get};
 ghost use Rattle.hg_model.specs.declared.verdict.Refusal.TheVariants.{OutOfMemory};
 ghost use Rattle.hg_cells.specs.declared.cell.Cell.TheVariants.{New};
@@ -153,6 +153,7 @@ impl PagedWords {
         ensures cells { (w : ℕ) → cell_in self.new w ≡ cell_in self.old w }
         ensures pages { (n : ℕ) → is_some (page_of self.old n) ≡ true → is_some (page_of self.new n) ≡ true }
         ensures added { OnOk result (is_some (page_of self.new number) ≡ true) }
+        ensures again { is_some (page_of self.old number) ≡ true → result ≡ Ok tt }
     {
         if self.place(number).is_some() {
             return Ok(());

@@ -3,7 +3,7 @@
 ghost use Rattle.std.specs.Prelude.{◌≡◌, ◌≢◌, ◌+◌, ◌^◌, ◌<◌, ◌≤◌, ◌==◌, ◌⊎◌, ℕ, List, length, OnOk, IfErr, IfSome, IsTrue, if◌then◌else◌};
 ghost use Rattle.hg_model.specs.History.{overlaps};
 ghost use Rattle.hg_cells.specs.Cells.{IsWithin};
-ghost use Rattle.hg_cells.specs.Words.{AreNewOrOwned, ForOverlapped, ForWords, HasCellWithin, HaveCell, IsWithinWhere, KeepsLaw, KeepsLawFor, KeepsLawFrom, KeepsTrue, SameCells, failed_after};
+ghost use Rattle.hg_cells.specs.Words.{AreNewOrOwned, ForOverlapped, ForWords, HasCellWithin, HaveCell, IsWithinWhere, KeepsLaw, KeepsLawFor, KeepsLawFrom, KeepsTrue, NeverRefuses, SameCells, StayWords, failed_after};
 ghost use Rattle.hg_model.specs.declared.verdict.Refusal.{Refusal as RefusalOf};
 ghost use Rattle.hg_model.specs.declared.verdict.Refusal.TheVariants.{Damaged, FullSets, OutOfMemory};
 ghost use Rattle.hg_cells.specs.declared.cell.Cell.{Cell as CellOf};
@@ -54,7 +54,7 @@ pub trait Words {
     ghost failures: { Self → ℕ };
 
     /// Makes readable the words that `len` bytes from `at` on overlap. Checks that their cells name only segments and
-    /// sets that exist.
+    /// sets that exist. Words that are all brought are never refused, and those that were kept still are.
     fn bring(&mut self, at: u64, len: u16, segments: u32, sets: &SetTable) -> Result<(), Refusal>
         requires lawful { may_bring self.old segments (length sets.now.sets) }
         requires some { 0 < len }
@@ -62,6 +62,8 @@ pub trait Words {
         requires within { at + len ≤ 2 ^ 64 }
         ensures cells { (n m : ℕ) → is_faithful self.old n m → SameCells (cell_of self.old) (cell_of self.new) }
         ensures brought { OnOk result (ForOverlapped at len (is_brought self.new)) }
+        ensures again { NeverRefuses at len (is_brought self.old) result }
+        ensures stay { ForOverlapped at len (is_brought self.old) → StayWords (is_kept self.old) (is_kept self.new) }
         ensures named { OnOk result (ForOverlapped at len (HasCellWithin segments sets.now (cell_of self.new))) }
         ensures lawful { KeepsLawFrom segments (length sets.now.sets) (may_bring self.old) (may_bring self.new) }
         ensures faithful { KeepsLaw (is_faithful self.old) (is_faithful self.new) }
@@ -70,7 +72,8 @@ pub trait Words {
         ensures went { went self.old self.new }
         ensures failures { failures self.new ≡ failed_after result (failures self.old) };
 
-    /// Makes settable the words that `len` bytes from `at` on overlap. It refuses for want of memory alone.
+    /// Makes settable the words that `len` bytes from `at` on overlap. It refuses for want of memory alone, and
+    /// never words that are all kept.
     fn keep(&mut self, at: u64, len: u16) -> Result<(), Refusal>
         requires brought { ForOverlapped at len (is_brought self.old) }
         requires some { 0 < len }
@@ -78,6 +81,7 @@ pub trait Words {
         requires within { at + len ≤ 2 ^ 64 }
         ensures cells { SameCells (cell_of self.old) (cell_of self.new) }
         ensures kept { OnOk result (ForOverlapped at len (is_kept self.new)) }
+        ensures again { NeverRefuses at len (is_kept self.old) result }
         ensures lawful { KeepsLaw (may_bring self.old) (may_bring self.new) }
         ensures faithful { KeepsLaw (is_faithful self.old) (is_faithful self.new) }
         ensures refusal { IfErr result (λ r. r ≡ OutOfMemory) }
@@ -109,6 +113,8 @@ pub trait Words {
         ensures cells { IfSome result (HaveCell (cell_of self.new) first count) }
         ensures named { IfSome result (IsWithinWhere (may_bring self.new)) }
         ensures fillable { IfSome result (λ cell. may_fill self.new first count) }
+        ensures brought { StayWords (is_brought self.old) (is_brought self.new) }
+        ensures kept { StayWords (is_kept self.old) (is_kept self.new) }
         ensures unchanged { (n m : ℕ) → is_faithful self.old n m → SameCells (cell_of self.old) (cell_of self.new) }
         ensures lawful { KeepsLaw (may_bring self.old) (may_bring self.new) }
         ensures faithful { KeepsLaw (is_faithful self.old) (is_faithful self.new) }
@@ -150,7 +156,7 @@ pub trait Words {
     fn set(&mut self, word: u64, cell: Cell)
         requires { is_kept self.old word }
         ensures cells { (w : ℕ) → cell_of self.new w ≡ (if w == word then cell else cell_of self.old w) }
-        ensures kept { (w : ℕ) → is_kept self.old w → is_kept self.new w }
+        ensures kept { StayWords (is_kept self.old) (is_kept self.new) }
         ensures lawful { KeepsLawFor cell (may_bring self.old) (may_bring self.new) }
         ensures faithful { KeepsLawFor cell (is_faithful self.old) (is_faithful self.new) }
         ensures went { went self.old self.new }
@@ -163,7 +169,7 @@ pub trait Words {
         requires fits { first + count ≤ 2 ^ 62 }
         ensures inside { HaveCell (cell_of self.new) first count cell }
         ensures outside { (w : ℕ) → (w < first) ⊎ (first + count ≤ w) → cell_of self.new w ≡ cell_of self.old w }
-        ensures kept { (w : ℕ) → is_kept self.old w → is_kept self.new w }
+        ensures kept { StayWords (is_kept self.old) (is_kept self.new) }
         ensures lawful { KeepsLawFor cell (may_bring self.old) (may_bring self.new) }
         ensures faithful { KeepsLawFor cell (is_faithful self.old) (is_faithful self.new) }
         ensures went { went self.old self.new }

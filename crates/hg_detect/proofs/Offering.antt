@@ -5,7 +5,7 @@ use Rattle.hg_model.specs.declared.event.Access.{Access}
 use Rattle.hg_model.specs.declared.event.Event.{Event}
 use Rattle.hg_model.specs.declared.event.Named.{Named}
 use Rattle.hg_model.specs.declared.verdict.Refusal.{Refusal}
-use Rattle.hg_model.specs.declared.verdict.Refusal.TheVariants.{Damaged}
+use Rattle.hg_model.specs.declared.verdict.Refusal.TheVariants.{Damaged, OutOfMemory}
 use Rattle.hg_model.specs.declared.verdict.Verdict.{Verdict}
 use Rattle.hg_model.specs.declared.verdict.Verdict.TheVariants.{Accept, Duplicate, Refuse}
 use Rattle.hg_model.specs.Accessing.{access_event}
@@ -18,6 +18,7 @@ use Rattle.hg_detect.specs.declared.detector.Answer.{Answer}
 use Rattle.hg_detect.specs.declared.detector.Answer.TheVariants as answers
 use Rattle.hg_detect.specs.declared.engine.Engine.{Engine}
 use Rattle.hg_detect.specs.Answering.{AnswersOffer, Applies, Becomes, IsAnswered, IsOnLock, KeepsSummary, is_accepted}
+use Rattle.hg_detect.specs.Growing.{MayGrow}
 use Rattle.hg_detect.specs.Engine.{Answers, AtPresent, IsSound, LacksRoom, ReadsTrue, shown_of}
 use Rattle.hg_detect.specs.Shown.{Accepts, Advances, AsksFor, SameContent, ShownDetector, content, verdict_on}
 use Rattle.hg_detect.proofs.Admitting.{answered, answered_refused}
@@ -48,6 +49,7 @@ offer_accepted g old new n accepts goes asked few lawful faithful went =
       answered = is;
       undamaged = λ accepts_it true_map. tt;
       held = λ accepts_it on_lock. refl;
+      grows = λ accepts_it h out. absurd (cc);
       content = goes;
       summary = summary_kept g old n (Ok answers.Accepted) new is goes;
       sets = λ h accepts_it. asked h;
@@ -65,17 +67,26 @@ engine_accepted {W} g e e' d n shows sound accepts a went =
     subst (λ (x : ShownDetector W). AnswersOffer g x n (Ok answers.Accepted) (shown_of e')) shows
     (offer_accepted g (shown_of e) (shown_of e') n (subst (λ (x : ShownDetector W). Accepts g.cell_of x n) (sym shows) accepts) a.accepted a.asked sound.few a.lawful a.faithful went)
 
+-- the refusal of an answer
+err_is : (x y : Refusal) → ◌≡◌ {A = Result Answer Refusal} (Err x) (Err y) → x ≡ y
+err_is x y is = cc
+
+-- the engine's answer with this refusal
+abbrev pub err_of : Refusal → Result (Unit {0}) Refusal
+err_of r = Err r
+
 -- An event that the rules accept, and that was refused.
 pub offer_lacks_room : {W : Type 0} (g : words.Ghosts W) (old new : ShownDetector W) (n : Named) (answer : Result Answer Refusal) (r : Refusal) → IsErrAnd answer (λ x. x ≡ r) → Accepts g.cell_of old n
     → (AtPresent g.is_faithful old → SameContent g.cell_of old new) → (AtPresent g.is_faithful old → AsksFor g.cell_of old n.event (Err r) new) → LacksRoom (g.may_refuse new.words) r
-    → (ReadsTrue g old → r ≢ Damaged) → (IsOnLock n.event → ⊥) → AtPresent g.may_bring new → (AtPresent g.is_faithful old → AtPresent g.is_faithful new) → g.went old.words new.words → AnswersOffer g old n answer new
-offer_lacks_room g old new n (Ok a) r refused accepts stays asked lacks undamaged no_lock lawful faithful went = absurd refused
-offer_lacks_room g old new n (Err x) r refused accepts stays asked lacks undamaged no_lock lawful faithful went =
+    → (ReadsTrue g old → r ≢ Damaged) → (IsOnLock n.event → ⊥) → (AtPresent g.is_faithful old → r ≡ OutOfMemory → MayGrow g old n.event) → AtPresent g.may_bring new → (AtPresent g.is_faithful old → AtPresent g.is_faithful new) → g.went old.words new.words → AnswersOffer g old n answer new
+offer_lacks_room g old new n (Ok a) r refused accepts stays asked lacks undamaged no_lock grows lawful faithful went = absurd refused
+offer_lacks_room g old new n (Err x) r refused accepts stays asked lacks undamaged no_lock grows lawful faithful went =
     let is = answered_refused g old new n (Err x) r refused accepts lacks in
     record {
       answered = is;
       undamaged = λ accepts_it true_map. subst (λ (y : Refusal). y ≢ Damaged) (sym refused) (undamaged true_map);
       held = λ accepts_it on_lock. absurd (no_lock on_lock);
+      grows = λ accepts_it h out. grows h (sym refused ∙ err_is x OutOfMemory out);
       content = stays;
       summary = summary_kept g old n (Err x) new is stays;
       sets = λ h accepts_it. subst (λ (y : Refusal). AsksFor g.cell_of old n.event (Err y) new) (sym refused) (asked h);
@@ -91,7 +102,7 @@ pub engine_refused : {W : Type 0} (g : words.Ghosts W) (e e' : Engine W) (d : Sh
     → Accepts g.cell_of d n → Answers g e n (Err r) e' → (IsOnLock n.event → ⊥) → g.went e.words e'.words → AnswersOffer g d n answer (shown_of e')
 engine_refused {W} g e e' d n answer r refused shows accepts a no_lock went =
     subst (λ (x : ShownDetector W). AnswersOffer g x n answer (shown_of e')) shows
-    (offer_lacks_room g (shown_of e) (shown_of e') n answer r refused (subst (λ (x : ShownDetector W). Accepts g.cell_of x n) (sym shows) accepts) a.refused a.asked a.cause a.undamaged no_lock a.lawful a.faithful went)
+    (offer_lacks_room g (shown_of e) (shown_of e') n answer r refused (subst (λ (x : ShownDetector W). Accepts g.cell_of x n) (sym shows) accepts) a.refused a.asked a.cause a.undamaged no_lock (λ h is. a.grows h (ap err_of is)) a.lawful a.faithful went)
 
 -- A read or a write is on no lock.
 pub no_lock_named : (write : Bool) (a : Access) → IsOnLock (access_event write a) → ⊥
@@ -111,6 +122,7 @@ offer_again g old n k is lawful went =
       answered = applies;
       undamaged = λ accepts true_map. tt;
       held = λ accepts on_lock. absurd (cc);
+      grows = λ accepts h out. absurd (cc);
       content = λ h. refl;
       summary = summary_kept g old n (Ok (answers.Duplicate k)) old applies (λ h. refl);
       sets = λ h accepts. absurd (cc);
@@ -130,6 +142,7 @@ offer_refused g old n r is lawful went =
       answered = applies;
       undamaged = λ accepts true_map. absurd (cc);
       held = λ accepts on_lock. absurd (cc);
+      grows = λ accepts h out. absurd (cc);
       content = λ h. refl;
       summary = summary_kept g old n (Err r) old applies (λ h. refl);
       sets = λ h accepts. absurd (cc);

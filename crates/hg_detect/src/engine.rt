@@ -1,10 +1,11 @@
 //! The parts of a detector, and what an accepted event does to them.
 
-ghost use Rattle.std.specs.Prelude.{◌≡◌, ◌≢◌, ◌⊎◌, ℕ, ◌+◌, ◌-◌, ◌/◌, ◌*◌, ◌≤◌, ◌<◌, ◌^◌, [], ◌∷◌, All, IfOk, length, vec_capacity, IfErr, OnOk, Ok, Err, ◌==◌};
+ghost use Rattle.std.specs.Prelude.{◌≡◌, ◌≢◌, ◌⊎◌, ℕ, ◌+◌, ◌-◌, ◌/◌, ◌*◌, ◌≤◌, ◌<◌, ◌^◌, [], ◌∷◌, All, IfOk, length, vec_capacity, IfErr, OnErr, OnOk, Ok, Err, ◌==◌};
 ghost use Rattle.std.specs.List.{list_any};
 ghost use Rattle.hg_graph.specs.Graph.{names};
 ghost use Rattle.hg_model.specs.Segments.{of_thread};
 ghost use Rattle.hg_model.specs.Parts.{HasParts};
+ghost use Rattle.hg_model.specs.Accessing.{access_event};
 ghost use Rattle.hg_model.specs.Holding.{hold_named};
 ghost use Rattle.hg_model.specs.Change.{empty_content};
 ghost use Rattle.hg_model.specs.Verdicts.{MayBeNext};
@@ -14,7 +15,7 @@ ghost use Rattle.hg_cells.specs.Cells.{IsWithin};
 ghost use Rattle.hg_cells.specs.Words.{ForWords, KeepsLaw, failed_after};
 ghost use Rattle.hg_detect.specs.Shown.{HasRoom, IsReportAt, content, shown_with};
 ghost use Rattle.hg_detect.specs.Answering.{IsOnLock};
-ghost use Rattle.hg_detect.specs.Engine.{Answers, AsksForAccess, AsksForCell, AtPresent, HasPlan, IsPlannedBy, IsSound, KeepsCells, LacksRoom, ReadsTrue, shown_of};
+ghost use Rattle.hg_detect.specs.Engine.{Answers, AsksForAccess, AsksForCell, AtPresent, HasPlan, IsPlannedBy, IsSound, KeepsCells, LacksForCell, LacksRoom, ReadsTrue, WantsToGrow, shown_of};
 
 use crate::access::NamedAccess;
 use crate::kept::reserve_reports;
@@ -178,6 +179,7 @@ impl<W: Words> Engine<W> {
         ensures asked { AsksForAccess ⟦<W as Words>⟧ self.old access.now write first end result self.new }
         ensures refusal { IfErr result (LacksRoom (W.may_refuse self.new.words)) }
         ensures undamaged { ReadsTrue ⟦<W as Words>⟧ (shown_of self.old) → IfErr result (λ r. r ≢ Refusal.Damaged) }
+        ensures grows { WantsToGrow ⟦<W as Words>⟧ (shown_of self.old) (access_event write access.now) result }
         ensures went { W.went self.old.words self.new.words }
         ensures failures { W.failures self.new.words ≡ failed_after result (W.failures self.old.words) }
     {
@@ -220,6 +222,7 @@ impl<W: Words> Engine<W> {
         ensures planned { IfOk result (IsPlannedBy self.old access.now write cell self.new) }
         ensures asked { OnOk result (AsksForCell self.old access.now write cell (Ok tt) self.new) }
         ensures refused { IfErr result (λ r. AsksForCell self.old access.now write cell (Err r) self.new) }
+        ensures lacks { OnErr result (LacksForCell self.old access.now write cell) }
         ensures refusal { IfErr result (λ r. (r ≡ Refusal.FullSets) ⊎ (r ≡ Refusal.OutOfMemory)) }
     {
         let locks = self.state.counted(access.t, write);

@@ -1,5 +1,5 @@
 -- Definitions for the contracts of a pool's calls.
-use Rattle.std.specs.Prelude.{◌≡◌, ◌≢◌, ◌⊎◌, ◌↔◌, ◌+◌, ◌-◌, ◌/◌, ◌%◌, ◌<◌, ◌≤◌, ◌==◌, ◌&&◌, ◌++◌, ℕ, nat_eq, nat_le, nat_lt, List, [], ◌∷◌, length, take, get_or, Bool, true, false, Option, Some, None, Result, is_some, IsTrue, OnOk, OnErr, IfOk, IfErr, IfSome, IsErrOf, MatchOption, if◌then◌else◌}
+use Rattle.std.specs.Prelude.{◌≡◌, ◌≢◌, ◌⊎◌, ◌↔◌, ◌+◌, ◌-◌, ◌/◌, ◌%◌, ◌<◌, ◌≤◌, ◌==◌, ◌&&◌, ◌++◌, ℕ, nat_eq, nat_le, nat_lt, List, [], ◌∷◌, length, take, get_or, Bool, true, false, Option, Some, None, Result, Ok, is_some, IsTrue, OnOk, OnErr, IfOk, IfErr, IfSome, IsErrOf, MatchOption, if◌then◌else◌}
 use Rattle.std.specs.Set.{remove_key}
 use Rattle.hg_model.specs.declared.verdict.Refusal.{Refusal}
 use Rattle.hg_model.specs.declared.verdict.Refusal.TheVariants.{Damaged}
@@ -112,9 +112,9 @@ IsCleanIfUncopied copies frames page result = copy_in copies page ≡ None → O
 abbrev pub clean_frame : List Cell → Frame
 clean_frame cells = record { cells = cells; is_dirty = false }
 
--- A page that was written waits no more.
+-- A page that was written waits no more, and one page less waits.
 abbrev pub LosesWritten : {E : Type 0} → (page : ℕ) → (old new : List (ℕ × ℕ)) → Result Put E → Type 0
-LosesWritten page old new result = IfOk result (λ p. p ≡ put.Written → IsWithout page old new)
+LosesWritten page old new result = IfOk result (λ p. p ≡ put.Written → IsWithout page old new × (length new + 1 ≡ length old))
 
 module _ {D : Type 0} where
   -- The words of the page may change: it does not wait, or its frozen cells are copied.
@@ -207,6 +207,18 @@ module _ {D : Type 0} where
         slots = slots;
         is_sealed = false;
       }
+
+  -- Each page in memory keeps its frame. Nothing but the order of use has changed.
+  abbrev pub OnlyReorders : (old new : ShownPool D) → Type 0
+  OnlyReorders old new = (new ≡ record old { frames = new.frames }) × ((q : ℕ) → frame_in new.frames q ≡ frame_in old.frames q)
+
+  -- A page in memory is loaded again without a refusal, and takes its frame.
+  abbrev pub LoadsAgain : (old new : ShownPool D) → (page : ℕ) → Result (Unit {0}) Refusal → Type 0
+  LoadsAgain old new page result = is_some (frame_in old.frames page) ≡ true → (result ≡ Ok tt) × OnlyReorders old new
+
+  -- both pages are in memory
+  abbrev pub AreInMemory : ShownPool D → (first last : ℕ) → Type 0
+  AreInMemory p first last = (is_some (frame_in p.frames first) ≡ true) × (is_some (frame_in p.frames last) ≡ true)
 
   -- The page that was used last is in memory.
   abbrev pub KeepsFirst : (old new : ShownPool D) → Type 0

@@ -9,7 +9,7 @@ use Rattle.hg_pages.specs.Slots.{HasBytes, HasSlot}
 use Rattle.hg_pages.specs.Tables.{IsNamed, slot_in}
 use Rattle.hg_cache.specs.declared.frame.Frame.{Frame}
 use Rattle.hg_pool.specs.Maps.{GivesCells, bytes_of, disk_of, frame_in, frozen, in_slot, is_broken, live}
-use Rattle.hg_pool.specs.Shown.{ShownPool}
+use Rattle.hg_pool.specs.Shown.{HasSameLimits, ShownPool}
 
 -- each page keeps its slot
 abbrev pub Extends : List (ℕ × ℕ) → List (ℕ × ℕ) → Type 0
@@ -69,7 +69,7 @@ module _ {D : Type 0} (g : disk.Ghosts D) where
     pub frozen_is : IsWhole old → SameMap (frozen g old) (frozen g new)
     pub sealed : IsTrue old.is_sealed → IsTrue new.is_sealed
     pub sealed_table : IsTrue old.is_sealed → new.frozen ≡ old.frozen
-    pub limits : (new.most_frames ≡ old.most_frames) × (new.slots ≡ old.slots)
+    pub limits : HasSameLimits old new
     pub none_waits : old.waiting ≡ [] → new.waiting ≡ []
 
   -- What each call keeps that changes no word: the live map too, if the pool is whole.

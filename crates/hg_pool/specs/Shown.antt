@@ -1,5 +1,5 @@
 -- What contracts see of a pool.
-use Rattle.std.specs.Prelude.{ℕ, List, Bool}
+use Rattle.std.specs.Prelude.{◌≡◌, ℕ, List, Bool}
 use Rattle.hg_cells.specs.declared.cell.Cell.{Cell}
 use Rattle.hg_pages.specs.declared.slot_file.SlotFile.{SlotFile}
 pub use Rattle.hg_cache.specs.declared.frame.Frame.{Frame}
@@ -19,3 +19,7 @@ pub record ShownPool (D : Type 0) : Type 0 where
   pub most_frames : ℕ
   pub slots : ℕ
   pub is_sealed : Bool
+
+-- The greatest number of pages in memory and the number of slots stay.
+abbrev pub HasSameLimits : {D : Type 0} → (old new : ShownPool D) → Type 0
+HasSameLimits old new = (new.most_frames ≡ old.most_frames) × (new.slots ≡ old.slots)

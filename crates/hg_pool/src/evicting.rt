@@ -51,6 +51,7 @@ impl<D: Disk> Parts<D> {
         ensures search { self.new.search_from ≡ self.old.search_from }
         ensures clean { IsCleanIfUncopied self.old.copies.entries self.new.frames.entries encoded.now.page result }
         ensures waiting { OnOk result (IsWithout encoded.now.page self.old.waiting.entries self.new.waiting.entries) }
+        ensures fewer { OnOk result (length self.new.waiting.entries + 1 ≡ length self.old.waiting.entries) }
         ensures refused { OnErr result (self.new ≡ record self.old { file = self.new.file }) }
     {
         self.write_unnamed(slot, encoded)?;

@@ -7,7 +7,7 @@ ghost use Rattle.hg_cache.specs.Frames.{HasCell};
 ghost use Rattle.hg_pool.specs.Maps.{disk_of, frame_in};
 ghost use Rattle.hg_pool.specs.Kept.{AreWithin, Stays, Went};
 ghost use Rattle.hg_pool.specs.Answers.{IsTrueCause, order_of, order_with};
-ghost use Rattle.hg_pool.specs.Calls.{CountsFailures, FillsPage, KeepsFirst, LoadsUndamaged, MayChange, MovesPages, ReadsStored, ReadsUndamaged, StayWithin, UsesPage};
+ghost use Rattle.hg_pool.specs.Calls.{CountsFailures, FillsPage, KeepsFirst, LoadsAgain, LoadsUndamaged, MayChange, MovesPages, ReadsStored, ReadsUndamaged, StayWithin, UsesPage};
 
 use crate::parts::Parts;
 use hg_cells::{Cell, Page};
@@ -76,6 +76,7 @@ impl<D: Disk> Parts<D> {
         ensures within { (n m : ℕ) → AreWithin self.old.frames.entries n m → AreWithin self.new.frames.entries n m }
         ensures cells { IfSome result (λ answer. IfSome answer (HasCell self.new.frames.entries page from to)) }
         ensures order { UsesPage (shown_of self.old) (shown_of self.new) page }
+        ensures looks { (q : ℕ) → frame_in self.new.frames.entries q ≡ frame_in self.old.frames.entries q }
         ensures answer { is_some result ≡ is_some (frame_in self.old.frames.entries page) }
     {
         let _count = self.frames.len();
@@ -95,6 +96,7 @@ impl<D: Disk> Parts<D> {
         ensures before { OnOk result (KeepsFirst (shown_of self.old) (shown_of self.new)) }
         ensures within { StayWithin segments (length sets.now.sets) self.old.frames.entries self.new.frames.entries }
         ensures undamaged { LoadsUndamaged ⟦<D as Disk>⟧ (shown_of self.old) page segments sets.now.sets result }
+        ensures again { LoadsAgain (shown_of self.old) (shown_of self.new) page result }
     {
         if self.use_page(page) {
             return Ok(());

@@ -7,8 +7,9 @@ ghost use Rattle.hg_cache.specs.declared.frame.Frame.{Frame as FrameOf};
 ghost use Rattle.hg_cells.specs.declared.cell.Cell.TheVariants.{New};
 ghost use Rattle.hg_pool.specs.Answers.{order_of, order_with};
 ghost use Rattle.hg_pool.specs.Picking.{AreLeastFree, LacksSlots};
+ghost use Rattle.hg_pool.specs.Shown.{HasSameLimits};
 ghost use Rattle.hg_pool.specs.Tables.{AreBelow, IsNameable};
-ghost use Rattle.hg_pool.specs.Calls.{FillsPage, FreezesOnOk, HasChanged, HasFreed, HasWaited, IsNextJob, IsStale, KeepsCopies, KeepsFirst, LeavesUnwritten, LoadsUndamaged, LosesWritten, MayChange, MovesPages, NamesDirty, SealsWhole, StayWithin, WritesPages, first_pool};
+ghost use Rattle.hg_pool.specs.Calls.{FillsPage, FreezesOnOk, HasChanged, HasFreed, HasWaited, IsNextJob, IsStale, KeepsCopies, KeepsFirst, LeavesUnwritten, LoadsAgain, LoadsUndamaged, LosesWritten, MayChange, MovesPages, NamesDirty, SealsWhole, StayWithin, WritesPages, first_pool};
 
 use crate::fault::FreezeFault;
 use crate::job::{Job, Put};
@@ -135,7 +136,7 @@ impl<D: Disk> Pool<D> {
     }
 
     /// Brings a page into a frame, as the one used last. If all frames are taken, the page used least recently leaves its
-    /// frame. The page used just before this call stays.
+    /// frame. The page used just before this call stays. A page that is in memory already is never refused.
     pub fn load(&mut self, page: u64, segments: u32, sets: &SetTable) -> Result<(), Refusal>
         requires { page < MOST_PAGES }
         ensures moves { MovesPages ⟦<D as Disk>⟧ 2 self.old self.new result }
@@ -144,17 +145,20 @@ impl<D: Disk> Pool<D> {
         ensures before { OnOk result (KeepsFirst self.old self.new) }
         ensures within { StayWithin segments (length sets.now.sets) self.old.frames self.new.frames }
         ensures undamaged { LoadsUndamaged ⟦<D as Disk>⟧ self.old page segments sets.now.sets result }
+        ensures again { LoadsAgain self.old self.new page result }
     {
         self.parts.load(page, segments, sets)
     }
 
-    /// Copies the frozen cells of a page that waits and has no copy yet. Then the page may be changed.
+    /// Copies the frozen cells of a page that waits and has no copy yet. Then the page may be changed. A page that may be
+    /// changed already is never refused.
     pub fn keep(&mut self, page: u64) -> Result<(), Refusal>
         ensures stays { Stays ⟦<D as Disk>⟧ self.old self.new }
         ensures rest { self.new ≡ record self.old { copies = self.new.copies } }
         ensures kept { OnOk result (MayChange self.new page) }
         ensures others { KeepsCopies self.old.copies self.new.copies }
         ensures refused { OnErr result (self.new ≡ self.old) }
+        ensures again { MayChange self.old page → result ≡ Ok tt }
         ensures refusal { IfErr result (λ r. r ≡ Refusal.OutOfMemory) }
     {
         self.parts.keep_page(page)
@@ -206,6 +210,7 @@ impl<D: Disk> Pool<D> {
         ensures root { self.new.root ≡ self.old.root }
         ensures file { self.new.file ≡ self.old.file }
         ensures frames { self.new.frames ≡ self.old.frames }
+        ensures limits { HasSameLimits self.old self.new }
         ensures sealed { OnOk result (self.new.is_sealed ≡ false) }
         ensures refused { OnErr result (self.new ≡ self.old) }
         ensures full { IsErrOf result FreezeFault.FullSlots → LacksSlots self.old }

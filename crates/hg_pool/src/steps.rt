@@ -158,6 +158,7 @@ impl<D: Disk> Parts<D> {
         ensures rest { self.new ≡ record self.old { copies = self.new.copies } }
         ensures kept { OnOk result (MayChange (shown_of self.new) page) }
         ensures refused { OnErr result (self.new ≡ self.old) }
+        ensures again { MayChange (shown_of self.old) page → result ≡ Ok tt }
         ensures refusal { IfErr result (λ r. r ≡ Refusal.OutOfMemory) }
         ensures others { KeepsCopies self.old.copies.entries self.new.copies.entries }
     {

@@ -1,12 +1,12 @@
 //! A pool as the detector's map of words: the live map.
-ghost use Rattle.std.specs.Prelude.{◌≡◌, ◌⊎◌, ◌+◌, ◌-◌, ◌*◌, ◌/◌, ◌%◌, ◌<◌, ◌≤◌, ◌==◌, ◌&&◌, ◌^◌, ℕ, length, true, Some, None, is_some, IsTrue, IfErr, IfSome, OnOk, if◌then◌else◌};
+ghost use Rattle.std.specs.Prelude.{◌≡◌, ◌⊎◌, ◌+◌, ◌-◌, ◌*◌, ◌/◌, ◌%◌, ◌<◌, ◌≤◌, ◌==◌, ◌&&◌, ◌^◌, ℕ, length, true, Some, None, Ok, is_some, IsTrue, IfErr, IfSome, OnOk, if◌then◌else◌};
 ghost use Rattle.hg_cells.specs.Cells.{IsWithin};
 ghost use Rattle.hg_pool.specs.Maps.{disk_of, frame_in, live};
 ghost use Rattle.hg_pool.specs.Kept.{AreWithin, IsFaithful, Stays, Went};
 ghost use Rattle.hg_pool.specs.Answers.{IsTrueCause, order_of, order_with};
 ghost use Rattle.hg_pool.specs.OfWords.{FindsNoDamage, IsSettled};
 ghost use Rattle.hg_cache.specs.Frames.{HasCell};
-ghost use Rattle.hg_pool.specs.Calls.{ArePagesOf, CountsFailures, FillsWords, StayWithin, StaysFaithfulWith};
+ghost use Rattle.hg_pool.specs.Calls.{AreInMemory, ArePagesOf, CountsFailures, FillsWords, OnlyReorders, StayWithin, StaysFaithfulWith};
 
 use crate::pool::Pool;
 use hg_cache::Frame;
@@ -52,6 +52,7 @@ impl<D: Disk> Pool<D> {
         ensures refusal { IfErr result (IsTrueCause self.new) }
         ensures undamaged { FindsNoDamage ⟦<D as Disk>⟧ self.old segments sets.now.sets result }
         ensures device { CountsFailures ⟦<D as Disk>⟧ self.old self.new result }
+        ensures again { AreInMemory self.old first last → (result ≡ Ok tt) × OnlyReorders self.old self.new }
     {
         self.load(first, segments, sets)?;
         if last == first {
@@ -66,6 +67,7 @@ impl<D: Disk> Pool<D> {
         ensures rest { self.new ≡ record self.old { copies = self.new.copies } }
         ensures first { OnOk result (IsSettled self.new first) }
         ensures last { OnOk result (IsSettled self.new last) }
+        ensures again { IsSettled self.old first → IsSettled self.old last → result ≡ Ok tt }
         ensures refusal { IfErr result (λ r. r ≡ Refusal.OutOfMemory) }
     {
         self.keep(first)?;
@@ -153,6 +155,7 @@ impl<D: Disk> Pool<D> {
         ensures within { (n m : ℕ) → AreWithin self.old.frames n m → AreWithin self.new.frames n m }
         ensures cells { IfSome result (HasCell self.new.frames page from to) }
         ensures settled { IfSome result (λ cell. IsSettled self.new page) }
+        ensures looks { (q : ℕ) → frame_in self.new.frames q ≡ frame_in self.old.frames q }
         ensures order { is_some (frame_in self.old.frames page) ≡ true → order_of self.new ≡ order_with self.old page }
     {
         let answer = self.parts.ask(page, from, to)?;

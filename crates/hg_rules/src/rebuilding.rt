@@ -1,6 +1,6 @@
 //! Rebuilding a table from its threads.
 
-ghost use Rattle.std.specs.Prelude.{◌≡◌, ◌++◌, ◌∷◌, [], true, false, length, nat_le, not, IfOk, IfErr};
+ghost use Rattle.std.specs.Prelude.{◌≡◌, ◌↔◌, ◌++◌, ◌∷◌, [], true, false, length, nat_le, not, IsTrue, IfOk, IfErr};
 ghost use Rattle.std.specs.List.{list_any};
 ghost use Rattle.hg_model.specs.declared.limits.TheConstants.{MOST_HELD};
 ghost use Rattle.hg_model.specs.Locks.{has_lock, with_hold};
@@ -15,18 +15,31 @@ use hg_model::verdict::Refusal;
 use std::alloc::Global;
 
 impl ThreadTable {
-    /// The table of these threads. Damaged where one of them may not come after those before it.
+    /// The table of these threads. Damaged where one of them may not come after those before it. Its memory is taken
+    /// before the first of them is looked at.
     pub(crate) fn restore(alloc: Global, threads: &[ThreadState]) -> Result<Self, Refusal>
         ensures value { IfOk result (λ s. (s ≡ threads.now) × AreThreads threads.now) }
         ensures refusal { IfErr result (RefusesUnless (AreThreads threads.now)) }
     {
         let mut table = ThreadTable::empty(alloc)?;
-        for thread in threads {
-            if !table.add(thread) {
-                return Err(Refusal::Damaged);
-            }
+        if !table.fill(threads) {
+            return Err(Refusal::Damaged);
         }
         Ok(table)
+    }
+
+    /// Adds these threads to an empty table. `false` where one of them may not come after those before it. Takes no memory.
+    fn fill(&mut self, threads: &[ThreadState]) -> bool
+        requires empty { self.old ≡ [] }
+        ensures answer { IsTrue result ↔ AreThreads threads.now }
+        ensures filled { IsTrue result → self.new ≡ threads.now }
+    {
+        for thread in threads {
+            if !self.add(thread) {
+                return false;
+            }
+        }
+        true
     }
 
     /// Adds a thread with its locks, where it may come after the others.

@@ -1,5 +1,5 @@
-use Rattle.std.proofs.Common.{sym, ◌∙◌}
-use Rattle.hg_detect.proofs.Offering.{no_lock_refused, offer_accepted, offer_again, offer_lacks_room, offer_refused}
+use Rattle.std.proofs.Common.{ap, sym, ◌∙◌}
+use Rattle.hg_detect.proofs.Offering.{err_of, no_lock_refused, offer_accepted, offer_again, offer_lacks_room, offer_refused}
 use Rattle.hg_detect.proofs.detector.Detector.apply_by_verdict.Goals as goal
 
 pub returns-in_err-accept-in-Accept : goal.returns-in_err-accept-in-Accept
@@ -7,7 +7,7 @@ returns-in_err-accept-in-Accept g c =
     offer_lacks_room g.W.Words c.args.self.now c.accept.new.self c.args.named c.from_residual.result c.in_err-accept-in-Accept.field-0.0 c.from_residual.ensures.1 (sym c.verdict.ensures ∙ c.in-Accept.is)
     c.in_err-accept-in-Accept.ensures.unchanged c.in_err-accept-in-Accept.ensures.sets c.in_err-accept-in-Accept.ensures.cause
     c.in_err-accept-in-Accept.ensures.undamaged
-    (no_lock_refused c.args.named.event c.in_err-accept-in-Accept.field-0.0 c.in_err-accept-in-Accept.ensures.held)
+    (no_lock_refused c.args.named.event c.in_err-accept-in-Accept.field-0.0 c.in_err-accept-in-Accept.ensures.held) (λ h is. c.in_err-accept-in-Accept.ensures.grows h (ap err_of is))
     c.accept.ensures.lawful c.accept.ensures.faithful c.accept.ensures.went
 
 pub returns-in_ok-accept-in-Accept : goal.returns-in_ok-accept-in-Accept

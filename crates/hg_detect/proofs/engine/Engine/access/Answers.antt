@@ -28,4 +28,4 @@ access_found-requires-clause-within g c =
 pub returns-clause-answers : goal.returns-clause-answers
 returns-clause-answers g c =
     let words = g.W.Words in
-    answers_from words c.args.self.now c.access_found.new.self c.same-found.new.self (named_of c.args.named) c.access_found.result c.same-found.ensures.unchanged c.same-found.ensures.faithful c.same-found.ensures.true_still c.access_found.ensures.answers
+    answers_from words c.args.self.now c.access_found.new.self c.same-found.new.self (named_of c.args.named) c.access_found.result c.same-found.ensures.unchanged c.same-found.ensures.faithful c.same-found.ensures.true_still c.same-found.ensures.brought c.same-found.ensures.kept c.access_found.ensures.answers

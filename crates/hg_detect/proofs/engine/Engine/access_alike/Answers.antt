@@ -1,16 +1,17 @@
-use Rattle.std.proofs.Common.{◌≡◌, ◌⊎◌, ◌+◌, ◌-◌, ◌/◌, ◌<◌, ◌≤◌, ◌++◌, ℕ, length, take, replicate, add-zero, Ok, Err, IfOk, OnOk, IfErr, None, inl, inr, ⊎_elim, refl, sym, ap, ◌∙◌, subst, arith}
+use Rattle.std.proofs.Common.{◌≡◌, ◌⊎◌, ◌+◌, ◌-◌, ◌/◌, ◌<◌, ◌≤◌, ◌++◌, ℕ, length, take, replicate, add-zero, Ok, Err, IfOk, OnOk, IfErr, OnErr, None, inl, inr, ⊎_elim, refl, sym, ap, ◌∙◌, subst, arith}
 use Rattle.std.specs.Prelude.{◌≢◌}
 use Rattle.std.proofs.lemmas.List.{append-nil, length-replicate, take_all}
 use Rattle.hg_model.specs.Accessing.{access_event}
 use Rattle.hg_model.specs.Verdicts.{standing, verdict}
 use Rattle.hg_model.specs.declared.verdict.Refusal.TheVariants as refusal
 use Rattle.hg_cells.specs.Cells.{meaning}
-use Rattle.hg_detect.specs.Engine.{LacksRoom, actor_of, named_of, shown_of}
+use Rattle.hg_detect.specs.Engine.{LacksForCell, LacksRoom, actor_of, named_of, shown_of}
 use Rattle.hg_detect.specs.Making.{Asks, AsksBy, sets_in}
 use Rattle.hg_detect.specs.Planning.{IsPlanned, touched_by}
-use Rattle.hg_detect.specs.Shown.{found}
+use Rattle.hg_detect.specs.Shown.{found, reports_some}
 use Rattle.hg_detect.proofs.Accesses.{asked_from}
 use Rattle.hg_detect.proofs.Alike.{alike_planned, alike_given, alike_found, alike_asked, alike_refused, alike_within, quiet}
+use Rattle.hg_detect.proofs.Growing.{access_grows, lacks_alike, makes_reports}
 use Rattle.hg_detect.proofs.Passing.{access_passes, few_events, few_words}
 use Rattle.hg_detect.proofs.Answering.{KeepsEngine, access_answers, never_damaged, refused_answers, sets_changed}
 use Rattle.hg_detect.proofs.Reports.{found_few}
@@ -83,6 +84,9 @@ returns-in_err-planned-clause-answers g c =
     (alike_refused old.graph old.sets c.plan_for.new.self.sets actor (words.cell_of old.words) c.args.cell first n r some alike cause asked))
     (subst (λ x. IfErr x (LacksRoom (words.may_refuse c.plan_for.new.self.words))) (sym same) (⊎_elim (λ full. inl full) (λ out. inr (inl out)) cause))
     (λ t. subst (λ x. IfErr x (λ e. e ≢ refusal.Damaged)) (sym same) (never_damaged r cause))
+    (λ h out. access_grows words (shown_of old) c.args.named.write a
+    (inr (inl (lacks_alike words (shown_of old) (access_event c.args.named.write a) c.args.named.write a actor c.args.cell refl passed.some refl (alike first (omega arith) (omega arith))
+    (subst (λ x. OnErr x (LacksForCell old a c.args.named.write c.args.cell)) fails c.plan_for.ensures.lacks)))))
 
 pub returns-then-are_same-clause-answers : goal.returns-then-are_same-clause-answers
 returns-then-are_same-clause-answers g c =
@@ -198,6 +202,12 @@ returns-in_err-reserve_reports-clause-answers g c =
     (λ h. asked_from words.cell_of (shown_of old) (access_event c.args.named.write c.args.named.access) c.args.named.write a actor _ c.from_residual-in_err-reserve_reports.result (Err refusal.OutOfMemory) mid.sets refl passed.some refl refl same (inr (refl, inl asked)))
     (subst (λ x. IfErr x (LacksRoom (words.may_refuse mid.words))) (sym same) (inr (inl refl)))
     (λ t. subst (λ x. IfErr x (λ e. e ≢ refusal.Damaged)) (sym same) (never_damaged refusal.OutOfMemory (inr refl)))
+    (λ h out.
+    let told = c.in_err-reserve_reports.ensures.grows in
+    let slice : c.as_slice.result.now ≡ plan = c.as_slice.ensures.value ∙ c.plan_alike.ensures.items ∙ ap (λ (x : ℕ). replicate x p) (omega (arith, c.requires.count, c.requires.first)) in
+    let made = makes_reports words (shown_of old) (access_event c.args.named.write a) c.args.named.write a actor (words.cell_of mid.words) mid.sets.sets plan refl passed.some refl
+    (λ w. ap (λ e. words.cell_of e.words w) others) all_planned (length-replicate n p) (sym (ap reports_some slice) ∙ told.0) in
+    access_grows words (shown_of old) c.args.named.write a (inr (inr (made, omega (arith, told.1, ap (λ e. length e.kept.items) others)))))
 
 pub add_reports-reports-requires-clause-fits : goal.add_reports-reports-requires-clause-fits
 add_reports-reports-requires-clause-fits g c =

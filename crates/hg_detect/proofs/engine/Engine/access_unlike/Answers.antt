@@ -40,6 +40,7 @@ returns-in_err-prepare-clause-answers g c =
     (λ h. asked_from words.cell_of (shown_of old) (access_event c.args.write c.args.access) c.args.write a (actor_of old a c.args.write) _ c.from_residual.result c.prepare.result c.prepare.new.self.sets refl passed.some refl (last_word a c.from.result c.from.ensures passed.some) same (p.asked (length old.graph) (length old.sets.sets) h))
     (subst (λ x. IfErr x (LacksRoom (words.may_refuse c.prepare.new.self.words))) (sym same) p.refusal)
     (λ t. subst (λ x. IfErr x (λ r. r ≢ Damaged)) (sym same) (p.undamaged t))
+    (λ h out. p.grows h (sym same ∙ out))
 
 pub overflow_add-self : goal.overflow_add-self
 overflow_add-self g c =

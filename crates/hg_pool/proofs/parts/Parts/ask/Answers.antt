@@ -32,6 +32,9 @@ returns-clause-stays g c =
     stays_all g.D.Disk old new (still_file g.D.Disk old new refl refl (λ q s there. there) (λ sealed. sealed) (λ sealed. refl) (ap (λ (x : LruCache ℕ Frame). x.cap) c.ask.ensures.entries, refl) (λ none. none)) (λ s b named has. has)
     (λ q. record { frames = looks q; live = refl; frozen = refl; waiting = refl; copies = refl })
 
+pub returns-clause-looks : goal.returns-clause-looks
+returns-clause-looks g c q = ap (λ (x : LruCache ℕ Frame). frame_in x.entries q) c.ask.ensures.entries ∙ looked_promoted c.args.page q c.args.self.now.frames.entries c.len-count.ensures.valid.0
+
 pub returns-clause-order : goal.returns-clause-order
 returns-clause-order g c there =
     let p = c.args.self.now in

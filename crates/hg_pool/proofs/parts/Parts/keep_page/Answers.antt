@@ -1,4 +1,5 @@
-use Rattle.std.proofs.Common.{rules, ◌≡◌, ℕ, List, Some, true, false, is_some, refl, sym, subst, arith}
+use Rattle.std.proofs.Common.{rules, ◌≡◌, ℕ, List, Some, true, false, is_some, refl, sym, ap, ◌∙◌, subst, ⊎_elim, arith}
+use Rattle.std.proofs.lemmas.Bool.{true≢false}
 use Rattle.hg_cells.specs.declared.cell.Cell.{Cell}
 use Rattle.hg_pages.specs.Tables.{slot_in}
 use Rattle.hg_pool.specs.Kept.{Stays}
@@ -43,6 +44,14 @@ returns-in-Some-clause-sound g c =
     either {S = AreSound p.root p.frozen p.live p.waiting copies p.frames p.slots p.is_sealed} c.add_copy.result c.add_copy.ensures.looks c.add_copy.ensures.refused
     (λ look. sound_copy p.root p.frozen p.live p.waiting p.copies copies p.frames p.slots p.is_sealed page c.in-Some.frame.now.cells c.requires.sound look waits c.add_copy.ensures.cap)
     (λ same. subst (λ (x : LruCache ℕ (List Cell)). AreSound p.root p.frozen p.live p.waiting x p.frames p.slots p.is_sealed) (sym same) c.requires.sound)
+
+pub returns-in-Some-clause-again : goal.returns-in-Some-clause-again
+returns-in-Some-clause-again g c =
+    let p = c.args.self.now in
+    let page = c.args.page in
+    let waits : is_some (slot_in p.waiting.entries page) ≡ true = search rules in
+    let missing : is_some (copy_in p.copies.entries page) ≡ false = search rules in
+    λ may. ⊎_elim (λ none. absurd (true≢false (sym waits ∙ ap is_some none))) (λ copied. absurd (true≢false (sym copied ∙ missing))) may
 
 pub returns-in-None-clause-stays : goal.returns-in-None-clause-stays
 returns-in-None-clause-stays g c = stays_nowhere g.D.Disk (shown_of c.args.self.now)

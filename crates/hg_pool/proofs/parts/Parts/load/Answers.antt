@@ -1,4 +1,5 @@
-use Rattle.std.proofs.Common.{rules, ◌∙◌, ◌-◌, ◌∷◌, ℕ, List, take, is_some, sym, ap, subst, get_or}
+use Rattle.std.proofs.Common.{rules, ◌≡◌, ◌∙◌, ◌-◌, ◌∷◌, ℕ, List, take, is_some, refl, sym, ap, subst, get_or}
+use Rattle.std.proofs.lemmas.Bool.{true≢false}
 use Rattle.std.proofs.lemmas.Result.{on_ok_weaker}
 use Rattle.hg_cells.specs.declared.cell.Cell.{Cell}
 use Rattle.hg_cells.specs.declared.cell.Cell.TheVariants.{New}
@@ -21,6 +22,15 @@ returns-then-use_page-clause-before g c other rest was = ap is_some (c.use_page.
 pub returns-then-use_page-clause-reached : goal.returns-then-use_page-clause-reached
 returns-then-use_page-clause-reached g c = subst (λ (x : Parts g.row.D.Denot). IsReached x) (sym c.use_page.ensures.rest) c.requires.reached
 
+pub returns-then-use_page-clause-again : goal.returns-then-use_page-clause-again
+returns-then-use_page-clause-again g c there =
+    let q = c.args.self.now in
+    let new = c.use_page.new.self in
+    let rest : shown_of new ≡ record (shown_of q) { frames = new.frames.entries } =
+    ap (λ (x : Parts g.row.D.Denot). shown_of x) c.use_page.ensures.rest ∙ ap (λ (n : ℕ). record (shown_of q) { frames = new.frames.entries; most_frames = n }) c.use_page.ensures.cap
+    in
+    (refl, (rest, c.use_page.ensures.looks))
+
 pub make_room-requires-clause-reached : goal.make_room-requires-clause-reached
 make_room-requires-clause-reached g c = subst (λ (x : Parts g.row.D.Denot). IsReached x) (sym c.use_page.ensures.rest) c.requires.reached
 
@@ -33,6 +43,12 @@ returns-in_err-make_room-clause-moves g c =
       device = search rules;
       calls = search rules;
     }
+
+pub returns-in_err-make_room-clause-again : goal.returns-in_err-make_room-clause-again
+returns-in_err-make_room-clause-again g c there = absurd (true≢false (sym there ∙ sym c.use_page.ensures.answer ∙ c.if-use_page.false))
+
+pub returns-clause-again : goal.returns-clause-again
+returns-clause-again g c there = absurd (true≢false (sym there ∙ sym c.use_page.ensures.answer ∙ c.if-use_page.false))
 
 pub returns-clause-before : goal.returns-clause-before
 returns-clause-before g c =

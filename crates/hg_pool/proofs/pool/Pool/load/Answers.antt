@@ -3,7 +3,7 @@ use Rattle.hg_pages.specs.Slots.{IsKnown}
 use Rattle.hg_pool.specs.Kept.{AreWithin, IsWhole}
 use Rattle.hg_pool.specs.Maps.{live}
 use Rattle.hg_pool.specs.Shown.{ShownPool}
-use Rattle.hg_pool.specs.Calls.{MovesPages}
+use Rattle.hg_pool.specs.Calls.{LoadsAgain, MovesPages}
 use Rattle.hg_pool.specs.Sound.{shown_of}
 use Rattle.hg_pool.proofs.pool.Pool.load.Goals as goal
 
@@ -18,3 +18,6 @@ returns-clause-undamaged g c h known =
 
 pub returns-clause-moves : goal.returns-clause-moves
 returns-clause-moves g c = subst (λ (p : ShownPool g.row.D.Denot). MovesPages g.D.Disk 2 p (shown_of c.load.new.self) c.load.result) c.self.view_is c.load.ensures.moves
+
+pub returns-clause-again : goal.returns-clause-again
+returns-clause-again g c = subst (λ (p : ShownPool g.row.D.Denot). LoadsAgain p (shown_of c.load.new.self) c.args.page c.load.result) c.self.view_is c.load.ensures.again

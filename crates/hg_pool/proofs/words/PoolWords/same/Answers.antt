@@ -1,4 +1,4 @@
-use Rattle.std.proofs.Common.{◌≡◌, ◌+◌, ◌-◌, ◌/◌, ◌%◌, ◌<◌, ◌≤◌, ◌∙◌, ℕ, Option, ap, subst, arith}
+use Rattle.std.proofs.Common.{◌≡◌, ◌+◌, ◌-◌, ◌/◌, ◌%◌, ◌<◌, ◌≤◌, ◌∙◌, ℕ, Option, is_some, ap, sym, subst, arith}
 use Rattle.std.proofs.lemmas.Option.{IfSome_then}
 use Rattle.hg_disk.specs.declared.disk.Disk as disk
 use Rattle.hg_cells.specs.declared.cell.Cell.{Cell}
@@ -8,7 +8,7 @@ use Rattle.hg_cache.specs.declared.frame.Frame.{Frame}
 use Rattle.hg_cache.specs.Frames.{HasCell}
 use Rattle.hg_pool.specs.Maps.{bytes_of, in_frame_or, in_slot, live, live_at}
 use Rattle.hg_pages.specs.Tables.{slot_in}
-use Rattle.hg_pool.specs.OfWords.{MayBring}
+use Rattle.hg_pool.specs.OfWords.{IsSettled, MayBring}
 use Rattle.hg_pool.specs.Shown.{ShownPool}
 use Rattle.hg_pool.proofs.Overlapping.{got}
 use Rattle.hg_pool.proofs.Stepping.{true_on}
@@ -46,3 +46,10 @@ returns-clause-named g c =
 
 pub returns-clause-true_still : goal.returns-clause-true_still
 returns-clause-true_still g c segments sets h = true_on g.D.Disk c.args.self.now c.ask.new.self segments sets c.ask.ensures.stays h
+
+pub returns-clause-brought : goal.returns-clause-brought
+returns-clause-brought g c w is = ap is_some (c.ask.ensures.looks (w / 256)) ∙ is
+
+pub returns-clause-kept : goal.returns-clause-kept
+returns-clause-kept g c w kept =
+    (ap is_some (c.ask.ensures.looks (w / 256)) ∙ kept.0, subst (λ (p : ShownPool g.row.D.Denot). IsSettled p (w / 256)) (sym c.ask.ensures.rest) kept.1)
