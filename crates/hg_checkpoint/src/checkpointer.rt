@@ -5,6 +5,7 @@ ghost use Rattle.hg_pool.specs.Calls.{FreezesOnOk};
 ghost use Rattle.hg_pool.specs.Kept as pools;
 ghost use Rattle.hg_pool.specs.Kept.{IsWhole, SameMap};
 ghost use Rattle.hg_pool.specs.Maps.{disk_of, frozen, is_broken, live};
+ghost use Rattle.hg_pool.specs.Shown.{HasSameLimits};
 ghost use Rattle.hg_pool.specs.Tables.{IsNameable};
 ghost use Rattle.hg_root.specs.Pairs as pairs;
 ghost use Rattle.hg_checkpoint.specs.Phases.{BreaksBy, IfRefused, IfWrongPhase, Never, failed_calls};
@@ -143,6 +144,7 @@ impl<D: Disk> Checkpointer<D> {
         ensures words { FreezesOnOk ⟦<D as Disk>⟧ pool.old pool.new result }
         ensures whole { IsWhole ⟦<D as Disk>⟧ pool.old → IsWhole ⟦<D as Disk>⟧ pool.new }
         ensures pool { KeepsFile pool.old pool.new }
+        ensures limits { HasSameLimits pool.old pool.new }
         ensures stands { StaysStanding self.old pool.old self.new pool.new }
         ensures draft { IsDrafted self.new pool.old pool.new head number result }
     {

@@ -1,19 +1,37 @@
 -- What a store stands for while no device is called.
-use Rattle.std.proofs.Common.{◌≡◌, ◌+◌, ◌∙◌, inl, inr, Bool, true, ℕ, length, sym, ap}
+use Rattle.std.proofs.Common.{◌≡◌, ◌+◌, ◌∙◌, inl, inr, Bool, true, false, ℕ, length, sym, ap, subst}
 use Rattle.hg_disk.specs.declared.disk.Disk as disk
-use Rattle.hg_contents.specs.Choices.{Basis, Stands}
+use Rattle.hg_contents.specs.Choices.{Basis, Choice, HasEitherRoots, HasRoots, Stands}
 use Rattle.hg_contents.specs.Images.{Image}
 use Rattle.hg_contents.proofs.Following.{followed_events}
 use Rattle.hg_contents.proofs.Joining.{facts_back}
 use Rattle.hg_store.specs.Images.{EachImage}
 use Rattle.hg_store.specs.Kept.{Parts, Standing, shown_of}
 use Rattle.hg_store.specs.Shown.{ShownStore, live, saved}
-use Rattle.hg_store.specs.Store.{Backs, view_of}
+use Rattle.hg_store.specs.Store.{Backs, HasItsNumber, view_of}
 use Rattle.hg_store.proofs.Moments.{all_still}
 
 module _ {D : Type 0} (g : disk.Ghosts D) where
   pub backs_of : (s : Parts D g) (basis : Basis) → Standing g s basis → Backs g (shown_of g s)
   backs_of s basis is = facts_back basis (view_of g (shown_of g s)) (saved g (shown_of g s)) is.keeps
+
+  -- what each image has as its newest checkpoint
+  pub newest_of : (s : Parts D g) (basis : Basis) → Standing g s basis → s.is_broken ≡ false → HasItsNumber g (shown_of g s)
+  newest_of s basis is works =
+      let w = is.works works in
+      record {
+        checkpoint = basis.now.checkpoint;
+        is_number = w.number;
+        newest = λ image left. record {
+          former = basis.now.former;
+          newest = one_of image (is.keeps.roots image.root0 image.root1 left.root0 left.root1) w.one;
+          stand = (is.keeps.slots image.slots left.slots).0;
+        };
+      }
+    where
+      one_of : (image : Image) → HasEitherRoots basis image.root0 image.root1 → basis.next ≡ basis.now → HasRoots basis.now image.root0 image.root1
+      one_of image (inl now) same = now
+      one_of image (inr next) same = subst (λ (choice : Choice). HasRoots choice image.root0 image.root1) same next
 
   -- the accepted events are those that are durable and those that are pending
   pub counts_all : (s : ShownStore D) → Backs g s → (live g s).events ≡ s.durable + length s.pending

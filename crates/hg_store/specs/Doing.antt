@@ -1,12 +1,10 @@
 -- What each step does and answers.
-use Rattle.std.specs.Prelude.{◌≡◌, ◌≢◌, ◌+◌, ◌<◌, ◌≤◌, ◌^◌, ℕ, [], Bool, true, false, Option, Some, Result, OnOk, OnErr, IfOk, MatchOption}
+use Rattle.std.specs.Prelude.{◌≡◌, ◌≢◌, ◌+◌, ◌<◌, ◌≤◌, ◌^◌, ℕ, [], Bool, true, false, Option, Result, OnOk, OnErr, IfOk}
 use Rattle.hg_root.specs.declared.root.TheConstants.{MOST_CHECKPOINTS}
 use Rattle.hg_disk.specs.declared.disk.Disk as disk
 use Rattle.hg_journal.specs.Journal.{failed_after}
 use Rattle.hg_pages.specs.Encoded.{Encoded}
-use Rattle.hg_pool.specs.Answers.{IsFrozen, least_of}
-use Rattle.hg_pool.specs.Calls.{HasWaited, IsStale}
-use Rattle.hg_pool.specs.Shown as pool
+use Rattle.hg_pool.specs.Calls.{HasWaited, IsNextJob, IsStale, LosesWritten}
 use Rattle.hg_pool.specs.declared.job.Job.{Job}
 use Rattle.hg_pool.specs.declared.job.Put.{Put}
 use Rattle.hg_pool.specs.declared.job.Put.TheVariants as put
@@ -28,11 +26,6 @@ use Rattle.hg_store.specs.declared.steps.StorePhase.TheVariants as store
 -- The answer is of this kind, and P holds of its value.
 abbrev pub Tells : {X : Type 0} → (X → StepResult) → StepResult → (X → Type 0) → Type 0
 Tells {X} kind result P = (x : X) × (result ≡ kind x) × P x
-
--- The job is the first of the waiting pages, with its cells at the freeze; there is none if no page waits.
-abbrev pub IsFirstWaiting : {D : Type 0} → pool.ShownPool D → Option Job → Type 0
-IsFirstWaiting words found =
-    MatchOption found (words.waiting ≡ []) (λ job. (Some job.page ≡ least_of words.waiting) × IsFrozen words job.page job.cells)
 
 -- the slots and the detector stay the same
 pub record SameWords {D : Type 0} (old new : ShownStore D) : Type 0 where
@@ -58,9 +51,21 @@ BeginsWhenIdle old new result = CheckpointDone old new (phase_of old ≡ store.I
 abbrev pub PutsInAnyPhase : {D : Type 0} → (old new : ShownStore D) → Result Put StepFault → Type 0
 PutsInAnyPhase old new result = CheckpointDone old new (old.is_broken ≡ false) IsOfDevice old.progress.phase result
 
+-- The pages are sealed only once all are written.
+abbrev pub SealsWhenFlushed : {D : Type 0} → (old new : ShownStore D) → Result (Unit {0}) StepFault → Type 0
+SealsWhenFlushed old new result = CheckpointDone old new (IsFlushed old) IsOfDevice phase.Sealed result
+
+-- The file of the root is prepared only once the pages are sealed.
+abbrev pub PreparesWhenSealed : {D : Type 0} → (old new : ShownStore D) → Result (Unit {0}) StepFault → Type 0
+PreparesWhenSealed old new result = CheckpointDone old new (IsIn phase.Sealed old) IsOfDevice phase.Prepared result
+
 -- The root is written only once its file is prepared.
 abbrev pub WritesWhenPrepared : {D : Type 0} → (old new : ShownStore D) → Result (Unit {0}) StepFault → Type 0
 WritesWhenPrepared old new result = CheckpointDone old new (IsIn phase.Prepared old) IsOfWriting phase.Written result
+
+-- The root is opened only once it is written.
+abbrev pub OpensWhenWritten : {D : Type 0} → (old new : ShownStore D) → Result ℕ StepFault → Type 0
+OpensWhenWritten old new result = CheckpointDone old new (IsIn phase.Written old) IsOfDevice phase.Idle result
 
 -- A checkpoint begins, with the number behind that of the newest one. No device is called.
 pub record FreezeDone {D : Type 0} (old new : ShownStore D) (result : Result (Unit {0}) StepFault) : Type 0 where
@@ -75,28 +80,29 @@ pub record FreezeDone {D : Type 0} (old new : ShownStore D) (result : Result (Un
 pub record JobTaken {D : Type 0} (old new : ShownStore D) (result : Result (Option Job) StepFault) : Type 0 where
   pub same : new ≡ old
   pub allowed : IsAllowed old (IsIn phase.Flushing old) Never result
-  pub job : IfOk result (IsFirstWaiting (words old))
+  pub job : IfOk result (IsNextJob (words old))
 
--- A page is written if it waits and the bytes are those of its cells at the freeze. The phase stays.
+-- A page is written if it waits and the bytes are those of its cells at the freeze, and then one page less waits. The phase stays.
 pub record PutDone {D : Type 0} (old new : ShownStore D) (page : Encoded) (result : Result Put StepFault) : Type 0 where
   pub done : PutsInAnyPhase old new result
   pub written : IfOk result (λ p. p ≡ put.Written → HasWaited (words old) page)
   pub stale : IfOk result (λ p. p ≡ put.Stale → IsStale (words old) page)
   pub nothing : IfOk result (λ p. p ≡ put.Stale → new ≡ old)
+  pub waiting : LosesWritten page.page (words old).waiting (words new).waiting result
   pub roots : SameRoots old new
   pub progress : new.progress ≡ old.progress
   pub frozen : new.frozen ≡ old.frozen
 
 -- The pages are durable, once none waits.
 pub record SealDone {D : Type 0} (old new : ShownStore D) (result : Result (Unit {0}) StepFault) : Type 0 where
-  pub done : CheckpointDone old new (IsFlushed old) IsOfDevice phase.Sealed result
+  pub done : SealsWhenFlushed old new result
   pub roots : SameRoots old new
   pub numbers : SameNumbers old new
   pub frozen : new.frozen ≡ old.frozen
 
 -- The file of the next root is closed.
 pub record PrepareDone {D : Type 0} (old new : ShownStore D) (result : Result (Unit {0}) StepFault) : Type 0 where
-  pub done : CheckpointDone old new (IsIn phase.Sealed old) IsOfDevice phase.Prepared result
+  pub done : PreparesWhenSealed old new result
   pub words : SameWords old new
   pub numbers : SameNumbers old new
   pub frozen : new.frozen ≡ old.frozen
@@ -110,7 +116,7 @@ pub record WriteDone {D : Type 0} (old new : ShownStore D) (result : Result (Uni
 
 -- The next root is the newest one, and its number is answered.
 pub record OpenDone {D : Type 0} (old new : ShownStore D) (result : Result ℕ StepFault) : Type 0 where
-  pub done : CheckpointDone old new (IsIn phase.Written old) IsOfDevice phase.Idle result
+  pub done : OpensWhenWritten old new result
   pub number : IfOk result (λ n. (n ≡ old.progress.next) × (new.progress.number ≡ n))
   pub slots : new.devices.slots ≡ old.devices.slots
   pub frozen : new.frozen ≡ old.frozen

@@ -8,8 +8,8 @@ use Rattle.hg_disk.specs.Moments.{GoesOn, Leaves, LeavesOnly, MayLeave}
 use Rattle.hg_disk.specs.State.{IsImage, SameImages}
 use Rattle.hg_disk.specs.declared.disk.Disk as disk
 use Rattle.hg_pages.specs.Slots.{HasBytes}
-use Rattle.hg_root.specs.Checkpoints.{Checkpoint, HasCheckpoint}
-use Rattle.hg_root.specs.Finding.{WasRead}
+use Rattle.hg_root.specs.Checkpoints.{Checkpoint, HasCheckpoint, root_of}
+use Rattle.hg_root.specs.Finding.{WasRead, number_in}
 use Rattle.hg_contents.specs.Images.{HasContent, Image, content_of}
 use Rattle.hg_contents.specs.Stores.{IsLeft, States}
 use Rattle.hg_store.specs.declared.devices.Devices.{Devices}
@@ -40,6 +40,12 @@ module _ {D : Type 0} (g : disk.Ghosts D) where
     pub events : checkpoint.root.events ≡ c.events
     pub is_content : content_of checkpoint ≡ c
     pub newest : (image : Image) → IsLeft (states_of devices) image → HasCheckpoint (Some checkpoint) image.root0 image.root1 image.slots
+
+  -- Each image of the devices has one newest checkpoint, with this number, or none, where the number is 0.
+  pub record HasNumber (devices : Devices D) (number : ℕ) : Type 0 where
+    pub checkpoint : Option Checkpoint
+    pub is_number : number ≡ number_in (root_of checkpoint)
+    pub newest : (image : Image) → IsLeft (states_of devices) image → HasCheckpoint checkpoint image.root0 image.root1 image.slots
 
   -- what the devices read
   abbrev pub read_of : Devices D → Image

@@ -2,19 +2,25 @@
 use Rattle.std.specs.Prelude.{◌≡◌, ◌⊎◌, IsTrue}
 use Rattle.hg_model.specs.declared.verdict.Refusal.{Refusal}
 use Rattle.hg_model.specs.declared.verdict.Refusal.TheVariants.{Damaged, FullSets, FullSlots, DeviceFault, OutOfMemory}
-use Rattle.hg_model.specs.Contents.{Content}
 use Rattle.hg_sets.specs.declared.table.TheConstants.{MOST_SETS}
+use Rattle.hg_pages.specs.declared.slot_file.TheConstants.{MOST_SLOTS}
 use Rattle.hg_disk.specs.declared.disk.Disk as disk
-use Rattle.hg_contents.specs.Images.{HasContent}
 use Rattle.hg_store.specs.declared.devices.Devices.{Devices}
-use Rattle.hg_store.specs.Images.{read_of}
-use Rattle.hg_store.specs.Recovering.{HasFewSets}
+use Rattle.hg_store.specs.Images.{KeepsFiles, failures_of, read_of}
+use Rattle.hg_store.specs.Recovering.{CountedBy, HasFewSets, HasNoContent, LacksSlots}
 
 module _ {D : Type 0} (g : disk.Ghosts D) where
-  -- A refusal of a store's devices that is true: the bytes of honest devices have no content, or the table of sets is too
-  -- small for it. The others say what failed, or that pages were changed for which there is no slot.
-  abbrev pub IsTrueOf : Devices D → Refusal → Type 0
-  IsTrueOf old r =
-      ((r ≡ Damaged) × (IsTrue g.is_honest → (c : Content) → ¬ HasContent (read_of g old) c))
+  -- What a refusal says is true, by the devices before the call and behind it. Of honest devices: their bytes have no content; the greatest
+  -- table of sets is too small for it; or of the greatest number of slots none is left. Want of memory may be told at any time.
+  abbrev pub IsTrueOf : (old new : Devices D) → Refusal → Type 0
+  IsTrueOf old new r =
+      ((r ≡ Damaged) × (IsTrue g.is_honest → HasNoContent (read_of g old)))
       ⊎ (((r ≡ FullSets) × (IsTrue g.is_honest → HasFewSets MOST_SETS (read_of g old)))
-      ⊎ ((r ≡ FullSlots) ⊎ ((r ≡ DeviceFault) ⊎ (r ≡ OutOfMemory))))
+      ⊎ (((r ≡ FullSlots) × (IsTrue g.is_honest → LacksSlots g MOST_SLOTS old new)) ⊎ ((r ≡ DeviceFault) ⊎ (r ≡ OutOfMemory))))
+
+  -- Why a store was not opened with the greatest caps. What is told is true; one call of a device failed where that is told, else none; and the
+  -- journal and the roots are kept.
+  pub record IsNotOpened (old new : Devices D) (r : Refusal) : Type 0 where
+    pub is_true : IsTrueOf old new r
+    pub failed : CountedBy r (failures_of g old) (failures_of g new)
+    pub kept : KeepsFiles g old new

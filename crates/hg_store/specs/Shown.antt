@@ -53,6 +53,10 @@ captured g s = detect.content (pools.live g) s.frozen
 abbrev pub words : {D : Type 0} → ShownStore D → pool.ShownPool D
 words s = s.detector.words
 
+-- The greatest number of its pages in memory and its number of slots stay.
+abbrev pub KeepsLimits : {D : Type 0} → (old new : ShownStore D) → Type 0
+KeepsLimits old new = pool.HasSameLimits (words old) (words new)
+
 -- the phase if no checkpoint is in progress
 abbrev pub resting : List Named → StorePhase
 resting [] = store.Idle

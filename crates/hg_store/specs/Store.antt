@@ -9,7 +9,7 @@ use Rattle.hg_checkpoint.specs.declared.phase.Phase.TheVariants.{Idle}
 use Rattle.hg_journal.specs.Journal.{IsJournal}
 use Rattle.hg_contents.specs.Choices.{Stands}
 use Rattle.hg_contents.specs.Stores as stores
-use Rattle.hg_store.specs.Images.{EachImage, HasOpened, states_of}
+use Rattle.hg_store.specs.Images.{EachImage, HasNumber, HasOpened, states_of}
 use Rattle.hg_store.specs.Shown.{ShownStore, captured, live, saved}
 
 -- A store that works, with nothing pending and no checkpoint in progress.
@@ -27,6 +27,10 @@ module _ {D : Type 0} (g : disk.Ghosts D) where
   -- content. After a failed commit an image may have the live content instead.
   abbrev pub Backs : ShownStore D → Type 0
   Backs s = stores.Backs (view_of s) (saved g s)
+
+  -- The newest checkpoint in each image of the devices has the number of the store's newest root.
+  abbrev pub HasItsNumber : ShownStore D → Type 0
+  HasItsNumber s = HasNumber g s.devices s.progress.number
 
   -- A store with this content that works, with nothing pending and no checkpoint in progress.
   pub record IsFresh (s : ShownStore D) (c : Content) : Type 0 where

@@ -2,16 +2,14 @@
 
 ghost use Rattle.std.specs.Prelude.{◌≡◌, ◌≢◌, ◌⊎◌, ◌+◌, ◌<◌, ◌≤◌, ◌^◌, Err, true, false, IsTrue, OnOk, OnErr, IfOk};
 ghost use Rattle.hg_disk.specs.Calls.{CallsAtMost};
-ghost use Rattle.hg_pool.specs.Calls.{HasWaited, IsStale};
-ghost use Rattle.hg_checkpoint.specs.Calls.{IsOfDevice};
+ghost use Rattle.hg_pool.specs.Calls.{HasWaited, IsNextJob, IsStale, LosesWritten};
 ghost use Rattle.hg_checkpoint.specs.Phases.{Never};
 ghost use Rattle.hg_checkpoint.specs.declared.phase.Phase.TheVariants as phase;
 ghost use Rattle.hg_store.specs.Answers.{IfRefused, IsAllowed, breaks, breaks_by, failed_by, step_fault};
-ghost use Rattle.hg_store.specs.Shown.{HasNextNumber, IsFlushed, IsIn, live, phase_of, words};
-ghost use Rattle.hg_store.specs.Steps.{CheckpointDone};
+ghost use Rattle.hg_store.specs.Shown.{HasNextNumber, IsIn, KeepsLimits, live, phase_of, words};
 ghost use Rattle.hg_store.specs.Store.{HasOpenedFrozen, StandMeanwhile};
 ghost use Rattle.hg_store.specs.Images.{FailuresGrowBy, RootCallsAtMost};
-ghost use Rattle.hg_store.specs.Doing.{BeginsWhenIdle, IsFirstWaiting, PutsInAnyPhase, SameNumbers, SameRoots, SameWords, WritesWhenPrepared};
+ghost use Rattle.hg_store.specs.Doing.{BeginsWhenIdle, OpensWhenWritten, PreparesWhenSealed, PutsInAnyPhase, SameNumbers, SameRoots, SameWords, SealsWhenFlushed, WritesWhenPrepared};
 
 use crate::steps::{StepFault, StorePhase};
 use crate::store::Store;
@@ -86,6 +84,7 @@ impl<D: Disk> Store<D> {
         ensures devices { self.new.devices ≡ self.old.devices }
         ensures frozen { OnOk result (self.new.frozen ≡ self.old.detector) }
         ensures live { IsTrue D.is_honest → live ⟦<D as Disk>⟧ self.new ≡ live ⟦<D as Disk>⟧ self.old }
+        ensures limits { KeepsLimits self.old self.new }
     {
         if self.is_broken {
             return Err(StepFault::Refused(Cause::Broken));
@@ -117,7 +116,7 @@ impl<D: Disk> Store<D> {
     /// The waiting page with the least number, with its cells at the freeze, or none if no page waits. It calls no device.
     pub fn take_job(&self) -> Result<Option<Job>, StepFault>
         ensures allowed { IsAllowed self.now (IsIn phase.Flushing self.now) Never result }
-        ensures job { IfOk result (IsFirstWaiting (words self.now)) }
+        ensures job { IfOk result (IsNextJob (words self.now)) }
     {
         if self.is_broken {
             return Err(StepFault::Refused(Cause::Broken));
@@ -129,19 +128,21 @@ impl<D: Disk> Store<D> {
     }
 
     /// Writes a page to the slot that was picked for it: `Written` if it waits and the bytes are those of its cells at the
-    /// freeze. Else `Stale`: nothing was changed. It takes no memory.
+    /// freeze, and then one page less waits. Else `Stale`: nothing was changed. It takes no memory.
     pub fn put(&mut self, page: &EncodedPage) -> Result<Put, StepFault>
         ensures done { PutsInAnyPhase self.old self.new result }
         ensures frozen { self.new.frozen ≡ self.old.frozen }
         ensures written { IfOk result (λ put. put ≡ Put.Written → HasWaited (words self.old) page.now) }
         ensures stale { IfOk result (λ put. put ≡ Put.Stale → IsStale (words self.old) page.now) }
         ensures nothing { IfOk result (λ put. put ≡ Put.Stale → self.new ≡ self.old) }
+        ensures waiting { LosesWritten page.now.page (words self.old).waiting (words self.new).waiting result }
         ensures roots { SameRoots self.old self.new }
         ensures progress { self.new.progress ≡ self.old.progress }
         ensures calls { CallsAtMost ⟦<D as Disk>⟧ 1 self.old.devices.slots self.new.devices.slots }
         ensures device { FailuresGrowBy ⟦<D as Disk>⟧ self.old.devices self.new.devices (failed_by result) }
         ensures live { IsTrue D.is_honest → live ⟦<D as Disk>⟧ self.new ≡ live ⟦<D as Disk>⟧ self.old }
         ensures images { IsTrue D.is_honest → StandMeanwhile ⟦<D as Disk>⟧ self.old self.new self.old.in_doubt }
+        ensures limits { KeepsLimits self.old self.new }
     {
         if self.is_broken {
             return Err(StepFault::Refused(Cause::Broken));
@@ -157,7 +158,7 @@ impl<D: Disk> Store<D> {
 
     /// Makes the pages durable, once all are written. It takes no memory.
     pub fn seal_pages(&mut self) -> Result<(), StepFault>
-        ensures done { CheckpointDone self.old self.new (IsFlushed self.old) IsOfDevice phase.Sealed result }
+        ensures done { SealsWhenFlushed self.old self.new result }
         ensures frozen { self.new.frozen ≡ self.old.frozen }
         ensures roots { SameRoots self.old self.new }
         ensures number { SameNumbers self.old self.new }
@@ -165,6 +166,7 @@ impl<D: Disk> Store<D> {
         ensures device { FailuresGrowBy ⟦<D as Disk>⟧ self.old.devices self.new.devices (failed_by result) }
         ensures live { IsTrue D.is_honest → live ⟦<D as Disk>⟧ self.new ≡ live ⟦<D as Disk>⟧ self.old }
         ensures images { IsTrue D.is_honest → StandMeanwhile ⟦<D as Disk>⟧ self.old self.new self.old.in_doubt }
+        ensures limits { KeepsLimits self.old self.new }
     {
         if self.is_broken {
             return Err(StepFault::Refused(Cause::Broken));
@@ -178,7 +180,7 @@ impl<D: Disk> Store<D> {
 
     /// Closes the file that the next root goes to. It makes no device call if the file is closed already, and takes no memory.
     pub fn prepare_root(&mut self) -> Result<(), StepFault>
-        ensures done { CheckpointDone self.old self.new (IsIn phase.Sealed self.old) IsOfDevice phase.Prepared result }
+        ensures done { PreparesWhenSealed self.old self.new result }
         ensures frozen { self.new.frozen ≡ self.old.frozen }
         ensures slots { SameWords self.old self.new }
         ensures number { SameNumbers self.old self.new }
@@ -219,7 +221,7 @@ impl<D: Disk> Store<D> {
     /// Opens the root: from then on it is the newest one, and the slots of the former one are free. Answers its number. It takes
     /// no memory.
     pub fn open_root(&mut self) -> Result<u64, StepFault>
-        ensures done { CheckpointDone self.old self.new (IsIn phase.Written self.old) IsOfDevice phase.Idle result }
+        ensures done { OpensWhenWritten self.old self.new result }
         ensures frozen { self.new.frozen ≡ self.old.frozen }
         ensures number { IfOk result (λ n. (n ≡ self.old.progress.next) × (self.new.progress.number ≡ n)) }
         ensures slots { self.new.devices.slots ≡ self.old.devices.slots }
@@ -228,6 +230,7 @@ impl<D: Disk> Store<D> {
         ensures device { FailuresGrowBy ⟦<D as Disk>⟧ self.old.devices self.new.devices (failed_by result) }
         ensures live { live ⟦<D as Disk>⟧ self.new ≡ live ⟦<D as Disk>⟧ self.old }
         ensures images { IsTrue D.is_honest → StandMeanwhile ⟦<D as Disk>⟧ self.old self.new self.old.in_doubt }
+        ensures limits { KeepsLimits self.old self.new }
     {
         if self.is_broken {
             return Err(StepFault::Refused(Cause::Broken));

@@ -4,7 +4,7 @@ ghost use Rattle.std.specs.Prelude.{◌≡◌, ◌≢◌, ◌⊎◌, ◌+◌, �
 ghost use Rattle.hg_model.specs.ThreadSets.{HasThreadSets};
 ghost use Rattle.hg_journal.specs.Journal.{IsOfReading, failed_after};
 ghost use Rattle.hg_store.specs.Shown.{HasCounted, IsSameButJournal, broken_or_no_memory, live, phase_of, unless_broken};
-ghost use Rattle.hg_store.specs.Store.{Backs, HasFoundEvents, JournalCallsAtMost};
+ghost use Rattle.hg_store.specs.Store.{Backs, HasFoundEvents, HasItsNumber, JournalCallsAtMost};
 ghost use Rattle.hg_store.specs.Images.{FailuresBecome, KeepImages};
 
 use crate::steps::StorePhase;
@@ -23,6 +23,7 @@ impl<D: Disk> Store<D> {
         ensures backs { IsTrue D.is_honest → Backs ⟦<D as Disk>⟧ self.now }
         ensures count { IsTrue D.is_honest → HasCounted ⟦<D as Disk>⟧ self.now }
         ensures sets { IsTrue D.is_honest → HasThreadSets (live ⟦<D as Disk>⟧ self.now) }
+        ensures newest { IsTrue D.is_honest → self.now.is_broken ≡ false → HasItsNumber ⟦<D as Disk>⟧ self.now }
     {
         let _ = &self.pending;
     }

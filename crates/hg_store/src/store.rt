@@ -2,6 +2,7 @@
 
 ghost use Rattle.std.specs.Prelude.{◌≡◌, ◌≤◌, Ok, Err, true, IsTrue};
 ghost use Rattle.hg_journal.specs.Journal.{failed_after};
+ghost use Rattle.hg_store.specs.Shown.{KeepsLimits};
 ghost use Rattle.hg_store.specs.Steps.{CommitDone, ContentOffered, OfferDone};
 ghost use Rattle.hg_store.specs.Store.{JournalCallsAtMost, StandMeanwhile};
 ghost use Rattle.hg_store.specs.Images.{FailuresBecome};
@@ -84,6 +85,7 @@ impl<D: Disk> Store<D> {
         ensures content { IsTrue D.is_honest → ContentOffered ⟦<D as Disk>⟧ self.old self.new named.now result }
         ensures device { FailuresBecome ⟦<D as Disk>⟧ self.old.devices self.new.devices (failed_after result) }
         ensures images { IsTrue D.is_honest → StandMeanwhile ⟦<D as Disk>⟧ self.old self.new self.old.in_doubt }
+        ensures limits { KeepsLimits self.old self.new }
     {
         if self.is_broken {
             return Err(Refusal::Broken);

@@ -120,3 +120,16 @@ returns-in-Ok-clause-done g c = record {
   in_doubt = ap (λ (s : ShownStore g.row.D.Denot). s.in_doubt) c.self.view_is;
   journal = ap (λ (s : ShownStore g.row.D.Denot). s.devices.journal) c.self.view_is;
 }
+
+pub returns-in-Ok-clause-limits : goal.returns-in-Ok-clause-limits
+returns-in-Ok-clause-limits g c = rw (← c.self.view_is) (rw c.words_mut.ensures.value at c.freeze.ensures.limits)
+
+pub returns-in-Err-WrongPhase-clause-limits : goal.returns-in-Err-WrongPhase-clause-limits
+returns-in-Err-WrongPhase-clause-limits g c =
+    let same = same_shown g.D.Disk _ c.freeze.new.self c.freeze.new.pool c.in-Err-WrongPhase.ensures.refused.0 (c.in-Err-WrongPhase.ensures.refused.1 ∙ c.words_mut.ensures.value) _ c.self.invariant _ c.self.view_is in
+    (ap (λ (s : ShownStore g.row.D.Denot). (words s).most_frames) same, ap (λ (s : ShownStore g.row.D.Denot). (words s).slots) same)
+
+pub returns-clause-limits : goal.returns-clause-limits
+returns-clause-limits g c =
+    let same = same_shown g.D.Disk _ c.freeze.new.self c.freeze.new.pool c.in-Err-Refused.ensures.refused.0 (c.in-Err-Refused.ensures.refused.1 ∙ c.words_mut.ensures.value) _ c.self.invariant _ c.self.view_is in
+    (ap (λ (s : ShownStore g.row.D.Denot). (words s).most_frames) same, ap (λ (s : ShownStore g.row.D.Denot). (words s).slots) same)

@@ -116,3 +116,9 @@ returns-in-Err-clause-done g c =
       by_file = λ _. search rules;
       full = λ _ e. is_full c.accept.new.self.words c.in-Err.refusal c.in-Err.ensures.cause (cc e);
     }
+
+pub returns-in-Ok-clause-limits : goal.returns-in-Ok-clause-limits
+returns-in-Ok-clause-limits g c = rw (← c.self.view_is) c.accept.ensures.went.limits
+
+pub returns-in-Err-clause-limits : goal.returns-in-Err-clause-limits
+returns-in-Err-clause-limits g c = rw (← c.self.view_is) c.accept.ensures.went.limits

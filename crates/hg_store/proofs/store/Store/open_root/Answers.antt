@@ -104,3 +104,13 @@ returns-in-Err-clause-done g c =
     rw (← c.self.view_is) (step_not_made g.D.Disk _ c.open_root.new.self c.open_root.new.pool ℕ ℕ _ c.self.invariant _ _ phase.Idle c.self.inside.checkpointer.phase c.in-Err.fault c.not_made.result c.phase_now-phase.result c.not_made.new.is_broken c.if-self.false
     c.not_made.ensures.told (c.phase_now-phase.ensures ∙ ap (λ (s : ShownStore g.row.D.Denot). phase_of s) (sym c.self.view_is)) c.not_made.ensures.broken
     c.in-Err.ensures.phase (if_wrong ℕ c.in-Err.fault (λ e. (e, c.in-Err.ensures.same_pool ∙ c.words_mut.ensures.value)) c.in-Err.ensures.unchanged) (of_device ℕ _ _ c.self.inside.checkpointer.is_broken c.self.inside.checkpointer.phase c.in-Err.fault (c.self.invariant.checkpointer c.if-self.false) c.in-Err.ensures.phase))
+
+pub returns-in-Ok-clause-limits : goal.returns-in-Ok-clause-limits
+returns-in-Ok-clause-limits g c =
+    let same = rw c.words_mut.ensures.value at c.in-Ok.ensures.pool in
+    rw (← c.self.view_is) (ap (λ (p : Pool g.row.D.Denot). p.most_frames) same, ap (λ (p : Pool g.row.D.Denot). p.slots) same)
+
+pub returns-in-Err-clause-limits : goal.returns-in-Err-clause-limits
+returns-in-Err-clause-limits g c =
+    let same = c.in-Err.ensures.same_pool ∙ c.words_mut.ensures.value in
+    rw (← c.self.view_is) (ap (λ (p : Pool g.row.D.Denot). p.most_frames) same, ap (λ (p : Pool g.row.D.Denot). p.slots) same)

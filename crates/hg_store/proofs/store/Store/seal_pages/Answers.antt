@@ -105,3 +105,13 @@ returns-in-Ok-clause-calls g c =
 pub returns-in-Err-clause-calls : goal.returns-in-Err-clause-calls
 returns-in-Err-clause-calls g c =
     rw (← c.self.view_is) (subst (λ (p : Pool g.row.D.Denot). CallsAtMost g.D.Disk 1 (disk_of p) (disk_of c.seal_pages.new.pool)) c.words_mut.ensures.value c.seal_pages.ensures.calls)
+
+pub returns-in-Ok-clause-limits : goal.returns-in-Ok-clause-limits
+returns-in-Ok-clause-limits g c =
+    let stays = subst (λ (p : Pool g.row.D.Denot). Stays g.D.Disk p c.seal_pages.new.pool) c.words_mut.ensures.value c.seal_pages.ensures.stays in
+    rw (← c.self.view_is) stays.went.limits
+
+pub returns-in-Err-clause-limits : goal.returns-in-Err-clause-limits
+returns-in-Err-clause-limits g c =
+    let stays = subst (λ (p : Pool g.row.D.Denot). Stays g.D.Disk p c.seal_pages.new.pool) c.words_mut.ensures.value c.seal_pages.ensures.stays in
+    rw (← c.self.view_is) stays.went.limits
