@@ -14,7 +14,9 @@ use Rattle.hg_contents.specs.Choices.{Stands}
 use Rattle.hg_contents.specs.Images.{HasContent, Image}
 use Rattle.hg_contents.specs.Stores.{IsLeft}
 use Rattle.hg_store.specs.declared.devices.Devices.{Devices}
-use Rattle.hg_store.specs.Images.{HasOpened, failures_of, read_of, states_of}
+use Rattle.hg_disk.specs.Calls.{CallsAtMost}
+use Rattle.hg_store.specs.Doing.{SameRoots}
+use Rattle.hg_store.specs.Images.{HasOpened, RootCallsAtMost, failures_of, read_of, states_of}
 use Rattle.hg_store.specs.Recovering.{HasTable}
 use Rattle.hg_store.specs.Shown.{ShownStore, live, saved}
 use Rattle.hg_store.specs.Store.{Backs, IsFresh}
@@ -82,6 +84,12 @@ module _ {D : Type 0} (g : disk.Ghosts D) where
             printed_in_all source (live g s) (live g w) i.accepted made.checkpoint end o q r v x (ap (λ (c : Content). c.events) (same honest) ∙ come.count) come.printed
             (subst (λ (c : Content). Took q r (ack_text c.events)) (sym (same honest)) acked) made.printed ended;
         made = subst (λ (b : Bool). WasMade g b w.devices (live g w) made.checkpoint) due (made_of_same is_made w.devices (live g u) (live g w) made.checkpoint made.live made.made);
+        quiet = λ none.
+            let still = made.quiet (due ∙ none) in
+            record {
+              root0 = still.root0 ∙ (committed.roots.root0 ∙ goes.roots.root0);
+              root1 = still.root1 ∙ (committed.roots.root1 ∙ goes.roots.root1);
+            };
         failures = omega (arith, made.failures, committed.failures, goes.failures, took_intact o p resumed, took_intact q r acked, took_intact r v made.printed, took_intact v x ended);
         works = made.works;
         durable = λ honest.
@@ -94,10 +102,16 @@ module _ {D : Type 0} (g : disk.Ghosts D) where
       subst (λ (x : Content). HasContent image x) fresh.has
       (stands_for_one (saved g s) (live g s) s.in_doubt image (fresh.durable ∙ sym fresh.has) (fresh.backs.stands image (subst (λ (d : Devices D). IsLeft (states_of g d) image) is left)))
 
+  -- no root was called once the store was open
+  calls_stay : (old new : Devices D) (s u : ShownStore D) → RootCallsAtMost g 4 old s.devices → SameRoots s u → new ≡ u.devices → RootCallsAtMost g 4 old new
+  calls_stay old new s u calls same is =
+      subst (λ (d : Devices D). RootCallsAtMost g 4 old d) (sym is)
+      (subst (λ (d : D). CallsAtMost g 4 old.root0 d) (sym same.root0) calls.0, subst (λ (d : D). CallsAtMost g 4 old.root1 d) (sym same.root1) calls.1)
+
   pub feed_done : (reads later : List ReadCall) (source : ℕ) (asked : Bool) (old new : Devices D) (s u : ShownStore D) (o v : List WriteCall) (end : Ending)
-      → (IsTrue g.is_honest → (c : Content) × HasContent (read_of g old) c × IsFresh g s c) → (IsTrue g.is_honest → HasTable 262144 (read_of g old) (live g s) s.detector.sets) → failures_of g s.devices ≡ failures_of g old
+      → (IsTrue g.is_honest → (c : Content) × HasContent (read_of g old) c × IsFresh g s c) → (IsTrue g.is_honest → HasTable 262144 (read_of g old) (live g s) s.detector.sets) → failures_of g s.devices ≡ failures_of g old → RootCallsAtMost g 4 old s.devices
       → WasFed g reads later source asked s u o v end → new ≡ u.devices → FeedDone g reads later source asked old new o v end
-  feed_done reads later source asked old new s u o v end began sets failures was is = record {
+  feed_done reads later source asked old new s u o v end began sets failures calls was is = record {
     table = s.detector.sets;
     first = live g s;
     last = live g u;
@@ -105,6 +119,7 @@ module _ {D : Type 0} (g : disk.Ghosts D) where
     feeds = was.feeds;
     printed = was.printed;
     made = subst (λ (d : Devices D). WasMade g (is_due asked end) d (live g u) was.checkpoint) (sym is) was.made;
+    quiet = λ none. calls_stay old new s u calls (was.quiet none) is;
     failures = ap (λ (d : Devices D). failed_calls g d v) is ∙ (was.failures ∙ ap (λ (n : ℕ). n + failed_writes o) failures);
     began = λ honest.
         let b = began honest in

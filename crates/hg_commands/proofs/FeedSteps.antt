@@ -22,21 +22,22 @@ use Rattle.hg_detect.specs.Shown as detect
 use Rattle.hg_disk.specs.declared.disk.Disk as disk
 use Rattle.hg_pool.specs.Maps as pools
 use Rattle.hg_pool.specs.Shown as pool
-use Rattle.hg_store.specs.Shown.{ShownStore, live}
+use Rattle.hg_store.specs.Shown.{Progress, ShownStore, live}
 use Rattle.hg_store.specs.Steps.{ByVerdict, IsOfRoom, IsTaken, if_accepted}
 use Rattle.hg_wire.specs.declared.line.LineFault.{LineFault}
 use Rattle.hg_wire.specs.declared.reader.Reading.{Reading}
 use Rattle.hg_reading.specs.declared.ending.Ending.{Ending}
-use Rattle.hg_reading.specs.declared.ending.Ending.TheVariants.{Refused, Bad}
+use Rattle.hg_reading.specs.declared.ending.Ending.TheVariants.{Ended, Refused, Bad}
 use Rattle.hg_commands.specs.declared.lines.Fed.{Fed}
 use Rattle.hg_commands.specs.Feeding.{Answers, FeedsTo, HasRoom, IsOffered, ack_text, acks_text, sent}
 use Rattle.hg_commands.specs.Storing.{failed_calls}
-use Rattle.hg_commands.specs.FeedFaults.{IsFeedFault}
-use Rattle.hg_commands.specs.FeedRunning.{BreaksAt, EndsAt, EndsLine, IsEventFault, IsPrinted, IsReady, Passes, Place, WasCounted, WasSent, WentWell, content_at, place, table_at}
+use Rattle.hg_commands.specs.FeedFaults.{IsLineFault}
+use Rattle.hg_commands.specs.FeedRunning.{BreaksAt, EndsAt, EndsLine, IsEventFault, IsPrinted, IsReady, LeadsOn, Passes, Place, StaysOnWay, WasCounted, WasSent, WentWell, content_at, place, table_at}
 use Rattle.hg_streams.specs.Told.{told, told_refusal}
 use Rattle.hg_streams.proofs.Printed.{appends_on, front_more}
 use Rattle.hg_streams.specs.Printed.{IsPrintedNow}
 use Rattle.hg_streams.proofs.Fronts.{printed_front_on}
+use Rattle.hg_commands.proofs.Ruling.{rules_find_no_damage, rules_find_none_broken}
 use Rattle.hg_commands.proofs.Fronts.{acks_front, feeds_grow, printed_grown}
 use Rattle.hg_detect.proofs.Asking.{asks_not_both, asks_same}
 
@@ -101,23 +102,13 @@ record IsAfter {D : Type 0} (g : disk.Ghosts D) (old new : Place D) (n : Named) 
   content : content_at g new ≡ after (content_at g old) n
   sets : Asks (table_at old) (sets_asked (content_at g old) n.event) None (table_at new)
 
--- a refusal that ends feeding by a fault is one of the few
-pub fault_is_told : (line : ℕ) (r : Refusal) (given : Result (Option Ending) Refusal) → EndsLine line r given → IfErr given IsFeedFault
-fault_is_told line r given stops =
-    ⊎_elim
-    (λ fault. subst (λ x. IfErr x IsFeedFault) (sym fault.1) (as_feed_fault r fault.0))
-    (λ other. subst (λ x. IfErr x IsFeedFault) (sym other.1) tt)
-    stops
-  where
-    as_feed_fault : (r : Refusal) → IsEventFault r → IsFeedFault r
-    as_feed_fault r fault =
-        ⊎_elim
-        (λ memory. inl (inl memory))
-        (λ more. ⊎_elim
-        (λ device. inl (inr device))
-        (λ rest. ⊎_elim (λ damaged. inr (inl damaged)) (λ broken. inr (inr (inl broken))) rest)
-        more)
-        fault
+-- what room is refused for is no broken store
+no_room_is_broken : (r : Refusal) → IsOfRoom r → r ≡ refusal.Broken → ⊥
+no_room_is_broken r (inl sets) broken = absurd (cc)
+no_room_is_broken r (inr (inl memory)) broken = absurd (cc)
+no_room_is_broken r (inr (inr (inl slots))) broken = absurd (cc)
+no_room_is_broken r (inr (inr (inr (inl damaged)))) broken = absurd (cc)
+no_room_is_broken r (inr (inr (inr (inr device)))) broken = absurd (cc)
 
 module _ {D : Type 0} (g : disk.Ghosts D) where
   -- what was counted, whatever the content is
@@ -176,9 +167,11 @@ module _ {D : Type 0} (g : disk.Ghosts D) where
         goes = record {
           source = on.source;
           failures = omega (arith, counted.failures, was.failures);
+          roots = record { root0 = counted.roots.root0 ∙ was.done.same.root0; root1 = counted.roots.root1 ∙ was.done.same.root1 };
           printed = λ honest. prints_on s m t f i j e o p was counted (is honest);
           ready = record {
             works = counted.works;
+            phase = ap (λ (x : Progress). x.phase) (counted.progress ∙ was.done.same.progress) ∙ ready.phase;
             pending = counted.pending ∙ ap (λ (k : ℕ). k % 256) (sym (ap (λ (x : Fed). x.accepted) counted.fed));
             few = omega (arith, ready.few, on.accepted, on.number);
           };
@@ -224,12 +217,14 @@ module _ {D : Type 0} (g : disk.Ghosts D) where
       record {
         source = is.source;
         failures = omega (arith, was.failures, none);
+        roots = record { root0 = was.done.same.root0; root1 = was.done.same.root1 };
         printed = λ honest first front events h. record {
           count = omega (arith, ap (λ (c : Content). c.events) (same_content honest s m f i e r nothing was), h.count, is.accepted);
           printed = subst (λ (k : ℕ). Took first o (front ++ acks_text events k)) (sym is.accepted) h.printed;
         };
         ready = record {
           works = works ∙ ready.works;
+          phase = ap (λ (x : Progress). x.phase) was.done.same.progress ∙ ready.phase;
           pending = ap (λ (xs : List Named). length xs) (was.done.pending ∙ ap (λ (xs : List Named). s.pending ++ xs) nothing ∙ append-nil s.pending) ∙ (ready.pending ∙ ap (λ (k : ℕ). k % 256) (sym is.accepted));
           few = omega (arith, ready.few, is.accepted, is.number);
         };
@@ -347,6 +342,36 @@ module _ {D : Type 0} (g : disk.Ghosts D) where
                 (λ accept. (was.content honest).sets (record { works = ready.works; accepted = accept; room = few })) (same_content honest s m f i e (Err r) refl was)));
           }
 
+  -- an event that is refused for a fault of the store is one that the rules accept
+  of_room : (v : Verdict) (pending : ℕ) (r : Refusal) → pending < 1024 → ByVerdict v pending (Err r) → (v ≡ Refuse r → ⊥) → (v ≡ Accept) × IsOfRoom r
+  of_room Accept pending r few h by_rules =
+      ⊎_elim (λ a. absurd (cc)) (λ b. (refl, subst IsOfRoom (sym (error_is r b.0 b.1)) b.2)) (never_full pending (Err r) few h)
+  of_room (Duplicate k) pending r few h by_rules = absurd (cc)
+  of_room (Refuse x) pending r few h by_rules = absurd (by_rules (ap (λ (y : Refusal). Refuse y) (sym (error_is r x h))))
+
+  -- a refusal that ends feeding by a fault is one of the few
+  event_fault : (s m : ShownStore D) (f i : Fed) (e : Event) (r : Refusal) → IsReady s f → WasSent g s m f i e (Err r) → IsEventFault r → IsLineFault g r
+  event_fault s m f i e r ready was (inl memory) = inl (inl memory)
+  event_fault s m f i e r ready was (inr (inl device)) = inl (inr device)
+  event_fault s m f i e r ready was (inr (inr (inl damaged))) =
+      let n = sent f.source f.number e in
+      let few = few_pending s f ready in
+      let told_so = by_verdict s.is_broken (verdict (standing_of (live g s)) n) (length s.pending) (Err r) ready.works was.done.answer in
+      let accept = of_room (verdict (standing_of (live g s)) n) (length s.pending) r few told_so (λ is. rules_find_no_damage (standing_of (live g s)) n (is ∙ ap (λ (x : Refusal). Refuse x) damaged)) in
+      inr (damaged, λ honest. (was.content honest).undamaged (record { works = ready.works; accepted = accept.0; room = few }) (ap (λ (x : Refusal). Err x) damaged))
+  event_fault s m f i e r ready was (inr (inr (inr broken))) =
+      let n = sent f.source f.number e in
+      let told_so = by_verdict s.is_broken (verdict (standing_of (live g s)) n) (length s.pending) (Err r) ready.works was.done.answer in
+      let accept = of_room (verdict (standing_of (live g s)) n) (length s.pending) r (few_pending s f ready) told_so (λ is. rules_find_none_broken (standing_of (live g s)) n (is ∙ ap (λ (x : Refusal). Refuse x) broken)) in
+      absurd (no_room_is_broken r accept.1 broken)
+
+  pub fault_is_told : (s m : ShownStore D) (f i : Fed) (e : Event) (line : ℕ) (r : Refusal) (given : Result (Option Ending) Refusal) → IsReady s f → WasSent g s m f i e (Err r) → EndsLine line r given → IfErr given (IsLineFault g)
+  fault_is_told s m f i e line r given ready was stops =
+      ⊎_elim
+      (λ fault. subst (λ x. IfErr x (IsLineFault g)) (sym fault.1) (event_fault s m f i e r ready was fault.0))
+      (λ other. subst (λ x. IfErr x (IsLineFault g)) (sym other.1) tt)
+      stops
+
   -- what is told of a refusal that ends feeding by a fault
   pub fault_counted : (s m : ShownStore D) (f i : Fed) (e : Event) (o : List WriteCall) (line : ℕ) (r : Refusal) (given : Result (Option Ending) Refusal) → WasSent g s m f i e (Err r) → EndsLine line r given
       → failed_calls g m.devices o ≡ told given + failed_calls g s.devices o
@@ -361,6 +386,7 @@ module _ {D : Type 0} (g : disk.Ghosts D) where
   stays_there p ready = record {
     source = refl;
     failures = refl;
+    roots = record { root0 = refl; root1 = refl };
     printed = λ honest first front events h. h;
     ready = ready;
   }
@@ -369,6 +395,7 @@ module _ {D : Type 0} (g : disk.Ghosts D) where
   goes_on p q r first second = record {
     source = second.source ∙ first.source;
     failures = second.failures ∙ first.failures;
+    roots = record { root0 = second.roots.root0 ∙ first.roots.root0; root1 = second.roots.root1 ∙ first.roots.root1 };
     printed = λ honest start front events h. second.printed honest start front events (first.printed honest start front events h);
     ready = second.ready;
   }
@@ -381,21 +408,79 @@ module _ {D : Type 0} (g : disk.Ghosts D) where
         (refl, refl);
   }
 
+  -- an event that was accepted
+  record IsTakenUp (s m : ShownStore D) (n : Named) : Type 0 where
+    accept : verdict (standing_of (live g s)) n ≡ Accept
+    content : live g m ≡ after (live g s) n
+    sets : Asks s.detector.sets (sets_asked (live g s) n.event) None m.detector.sets
+
+  taken_up : IsTrue g.is_honest → (s m : ShownStore D) (f i : Fed) (e : Event) → IsReady s f → WasSent g s m f i e (Ok answer.Accepted) → IsTakenUp s m (sent f.source f.number e)
+  taken_up honest s m f i e ready was =
+      let c = live g s in
+      let n = sent f.source f.number e in
+      let accept = accepted_verdict (verdict (standing_of c) n) (length s.pending) (by_verdict s.is_broken (verdict (standing_of c) n) (length s.pending) (Ok answer.Accepted) ready.works was.done.answer) in
+      let taken : IsTaken g s n = record { works = ready.works; accepted = accept; room = few_pending s f ready } in
+      record {
+        accept = accept;
+        content = one_after (verdict (standing_of c) n) c (live g m) (after c n) accept (was.content honest).leads;
+        sets = (was.content honest).sets taken;
+      }
+
+  -- what its line led to is what is led to from behind it
+  led_behind : (s m : ShownStore D) (f : Fed) (e : Event) (reading : Reading) (later : List Reading) (last : Content) (end : Ending) (o : List WriteCall) → HasRoom end → reading.event ≡ Ok e → IsTakenUp s m (sent f.source f.number e)
+      → LeadsOn g (place s f o) (reading ∷ later) last end → FeedsTo f.source later m.detector.sets (after (live g s) (sent f.source f.number e)) (f.number + 1) last end
+  led_behind s m f e reading later last end o room event is l =
+      let c = live g s in
+      let n = sent f.source f.number e in
+      accepted_back s.detector.sets m.detector.sets c last n reading.line (λ t d. FeedsTo f.source later t d (f.number + 1) last end) end room is.sets
+      (subst (λ v. Answers v s.detector.sets c n reading.line (λ t d. FeedsTo f.source later t d (f.number + 1) last end) last end) is.accept
+      (subst (λ x. IsOffered x f.source s.detector.sets c f.number reading.line (λ t d. FeedsTo f.source later t d (f.number + 1) last end) last end) event l))
+
+  -- the content behind a line whose event was accepted lies on the way
+  pub way_accepted : (s m t : ShownStore D) (f i j : Fed) (e : Event) (o p : List WriteCall) (reading : Reading) → reading.event ≡ Ok e → IsReady s f → WasSent g s m f i e (Ok answer.Accepted) → t.detector ≡ m.detector
+      → StaysOnWay g (place s f o) (reading ∷ []) (place t j p)
+  way_accepted s m t f i j e o p reading event ready was still honest later last end room l =
+      let c = live g s in
+      let n = sent f.source f.number e in
+      let is = taken_up honest s m f i e ready was in
+      let same : live g t ≡ after c n = ap (λ (d : detect.ShownDetector (pool.ShownPool D)). detect.content (pools.live g) d) still ∙ is.content in
+      record {
+        passed = reading ∷ [];
+        rest = later;
+        all = refl;
+        before = subst (λ x. IsOffered x f.source s.detector.sets c f.number reading.line (λ u d. FeedsTo f.source [] u d (f.number + 1) (live g t) Ended) (live g t) Ended) (sym event)
+            (subst (λ v. Answers v s.detector.sets c n reading.line (λ u d. FeedsTo f.source [] u d (f.number + 1) (live g t) Ended) (live g t) Ended) (sym is.accept)
+            (inl (m.detector.sets, inl (is.sets, (same, refl)))));
+        between = m.detector.sets;
+        behind = feeds_same later last end f.source f.source m.detector.sets m.detector.sets (after c n) (live g t) (f.number + 1) (f.number + length (reading ∷ [])) refl refl (sym same) (omega arith)
+            (led_behind s m f e reading later last end o room event is l);
+      }
+
+  -- a line that accepts nothing leaves the content on the way
+  pub way_still : (s m : ShownStore D) (f i : Fed) (o p : List WriteCall) (reading : Reading) → (IsTrue g.is_honest → live g m ≡ live g s) → StaysOnWay g (place s f o) (reading ∷ []) (place m i p)
+  way_still s m f i o p reading same honest later last end room l = record {
+    passed = [];
+    rest = reading ∷ later;
+    all = refl;
+    before = (same honest, refl);
+    between = s.detector.sets;
+    behind = feeds_same (reading ∷ later) last end f.source f.source s.detector.sets s.detector.sets (live g s) (live g m) f.number (f.number + 0) refl refl (sym (same honest)) (omega arith) l;
+  }
+
+  pub way_refused : (s m : ShownStore D) (f i : Fed) (e : Event) (r : Result Answer Refusal) (o p : List WriteCall) (reading : Reading) → if_accepted (sent f.source f.number e) r ≡ [] → WasSent g s m f i e r
+      → StaysOnWay g (place s f o) (reading ∷ []) (place m i p)
+  way_refused s m f i e r o p reading nothing was = way_still s m f i o p reading (λ honest. same_content honest s m f i e r nothing was)
+
   -- an event was accepted, and its commit or the line of it was broken off
   pub breaks_accepted : (s m : ShownStore D) (f i : Fed) (e : Event) (o p : List WriteCall) (reading : Reading) → reading.event ≡ Ok e → IsReady s f → WasSent g s m f i e (Ok answer.Accepted)
       → IsPrintedNow o p (if nat_eq ((i.accepted + 1) % 256) 0 then ack_text (live g m).events else []) → BreaksAt g (place s f o) reading p
   breaks_accepted s m f i e o p reading event ready was now honest later last end room l first front events h =
       let c = live g s in
       let n = sent f.source f.number e in
-      let accept = accepted_verdict (verdict (standing_of c) n) (length s.pending) (by_verdict s.is_broken (verdict (standing_of c) n) (length s.pending) (Ok answer.Accepted) ready.works was.done.answer) in
-      let taken : IsTaken g s n = record { works = ready.works; accepted = accept; room = few_pending s f ready } in
-      let content : live g m ≡ after c n = one_after (verdict (standing_of c) n) c (live g m) (after c n) accept (was.content honest).leads in
-      let on : FeedsTo f.source later m.detector.sets (after c n) (f.number + 1) last end =
-      accepted_back s.detector.sets m.detector.sets c last n reading.line (λ t d. FeedsTo f.source later t d (f.number + 1) last end) end room ((was.content honest).sets taken)
-      (subst (λ v. Answers v s.detector.sets c n reading.line (λ t d. FeedsTo f.source later t d (f.number + 1) last end) last end) accept
-      (subst (λ x. IsOffered x f.source s.detector.sets c f.number reading.line (λ t d. FeedsTo f.source later t d (f.number + 1) last end) last end) event l)) in
+      let is = taken_up honest s m f i e ready was in
+      let on : FeedsTo f.source later m.detector.sets (after c n) (f.number + 1) last end = led_behind s m f e reading later last end o room event is l in
       let grown : c.events + 1 ≤ last.events = feeds_grow f.source later m.detector.sets (after c n) (f.number + 1) last end on in
-      let total : (live g m).events ≡ c.events + 1 = ap (λ (d : Content). d.events) content in
+      let total : (live g m).events ≡ c.events + 1 = ap (λ (d : Content). d.events) is.content in
       let same : i.accepted ≡ f.accepted = ap (λ (x : Fed). x.accepted) was.fed in
       let sum : (live g m).events ≡ events + (i.accepted + 1) = omega (arith, total, h.count, same) in
       let line = if nat_eq ((i.accepted + 1) % 256) 0 then ack_text (live g m).events else [] in

@@ -1,11 +1,13 @@
 -- What feeding a whole text leads to.
-use Rattle.std.proofs.Common.{◌≡◌, ℕ, List, [], ◌++◌, length, Option, None, Some, Result, Ok, Err, IsTrue, refl, sym, ap, ◌∙◌, subst, inl, inr, ⊎_elim, arith}
+use Rattle.std.proofs.Common.{◌≡◌, ℕ, Bool, false, List, [], ◌++◌, length, Option, None, Some, Result, Ok, Err, IsTrue, refl, sym, ap, ◌∙◌, subst, inl, inr, ⊎_elim, arith}
 use Rattle.std.proofs.lemmas.List.{append-nil, length-append}
 use Rattle.hg_model.specs.declared.verdict.Refusal.{Refusal}
 use Rattle.hg_model.specs.Contents.{Content}
 use Rattle.hg_streams.specs.declared.call.ReadCall.{ReadCall}
 use Rattle.hg_streams.specs.declared.call.WriteCall.{WriteCall}
-use Rattle.hg_streams.specs.Calls.{failed_reads, given}
+use Rattle.hg_streams.specs.Calls.{MayBe, failed_reads, given, failed_writes}
+use Rattle.std.proofs.lemmas.Bool.{true≢false}
+use Rattle.hg_store.specs.declared.devices.Devices.{Devices}
 use Rattle.hg_streams.specs.Told.{told_refusal}
 use Rattle.hg_sets.specs.Interning.{Table}
 use Rattle.hg_disk.specs.declared.disk.Disk as disk
@@ -17,8 +19,8 @@ use Rattle.hg_reading.specs.declared.ending.Ending.TheVariants.{Ended}
 use Rattle.hg_reading.specs.Endings.{ending_of}
 use Rattle.hg_reading.proofs.Inputs.{begins_with}
 use Rattle.hg_streams.proofs.Inputs.{failed_reads_on}
-use Rattle.hg_commands.specs.Feeding.{FeedsTo}
-use Rattle.hg_commands.specs.FeedRunning.{FeedEndsBy, Feeds, HasFront, LeadsOn, Place, WentWell, content_at, table_at}
+use Rattle.hg_commands.specs.Feeding.{FeedsTo, LiesOnWay}
+use Rattle.hg_commands.specs.FeedRunning.{FeedEndsBy, Feeds, HasFront, LeadsOn, LiesOnWayOfAny, Place, WentWell, content_at, table_at}
 use Rattle.hg_commands.specs.Instants.{Instant}
 use Rattle.hg_commands.specs.Keeping.{KeepsOn}
 use Rattle.hg_commands.specs.FeedFaults.{FeedFails}
@@ -122,26 +124,55 @@ module _ {D S : Type 0} (g : disk.Ghosts D) (takes : Taking S Ending) (at : S �
         → HasFront g first now (at s o).fed.source (table_at (at s o)) (content_at g (at s o)) (at s o) (at t p).output
     front first now s t o p x ready none reads = ⊎_elim (λ w. front_read first now s t o p x ready none w) (λ w. front_broke first now s t o p x ready none w) reads
 
+    -- Whatever the rest of the input is, the content lies on its way.
+    way_of : (first now : List ReadCall) (s t : S) (o p : List WriteCall) (later : List ReadCall) (lines : List Reading) (r : Result (Option Ending) Refusal) → IsReadyAt (at s o) → (at s o).fed.number ≡ 0 → now ≡ later ++ first
+        → takes s o lines r t p → ((input : List ℕ) → MayBe later input → (rest : List Reading) × (readings input ≡ lines ++ rest)) → IsTrue g.is_honest
+        → LiesOnWayOfAny (at s o).fed.source (table_at (at s o)) (content_at g (at s o)) first now (content_at g (at t p))
+    way_of first now s t o p later lines r ready none since steps begins honest = record {
+      later = later;
+      since = since;
+      way = λ input last end room m l.
+          let here = at s o in
+          let rest = begins input m in
+          subst (λ (xs : List Reading). LiesOnWay here.fed.source xs (table_at here) (content_at g here) 0 (content_at g (at t p)) last end) (sym rest.1)
+          (subst (λ (n : ℕ). LiesOnWay here.fed.source (lines ++ rest.0) (table_at here) (content_at g here) n (content_at g (at t p)) last end) none
+          ((seen s t o p lines r steps).way ready honest rest.0 last end room (subst (λ xs. LeadsOn g here xs last end) rest.1 (at_start g here (readings input) last end none l))));
+    }
+
+    way_read : (first now : List ReadCall) (s t : S) (o p : List WriteCall) (r : Result (Option Ending) Refusal) → IsReadyAt (at s o) → (at s o).fed.number ≡ 0 → WasRead takes first now s o r t p → IsTrue g.is_honest
+        → LiesOnWayOfAny (at s o).fed.source (table_at (at s o)) (content_at g (at s o)) first now (content_at g (at t p))
+    way_read first now s t o p r ready none w = way_of first now s t o p w.later w.lines r ready none w.since w.steps (λ input m. begins_with takes w.later w.lines r input w.due m)
+
+    way_broke : (first now : List ReadCall) (s t : S) (o p : List WriteCall) (x : Refusal) → IsReadyAt (at s o) → (at s o).fed.number ≡ 0 → ReadBroke takes first now s o x t p → IsTrue g.is_honest
+        → LiesOnWayOfAny (at s o).fed.source (table_at (at s o)) (content_at g (at s o)) first now (content_at g (at t p))
+    way_broke first now s t o p x ready none w =
+        way_of first now s t o p w.later w.lines (Ok None) ready none w.since w.steps (λ input m. let rest = w.front m.more in (rest.0, ap readings m.joined ∙ rest.1))
+
+    pub way : (first now : List ReadCall) (s t : S) (o p : List WriteCall) (r : Result (Option Ending) Refusal) → IsReadyAt (at s o) → (at s o).fed.number ≡ 0 → Reads takes first now s o r t p → IsTrue g.is_honest
+        → LiesOnWayOfAny (at s o).fed.source (table_at (at s o)) (content_at g (at s o)) first now (content_at g (at t p))
+    way first now s t o p (Ok stop) ready none w = way_read first now s t o p (Ok stop) ready none w
+    way first now s t o p (Err x) ready none reads = ⊎_elim (λ w. way_read first now s t o p (Err x) ready none w) (λ w. way_broke first now s t o p x ready none w) reads
+
     fails_read : (first now : List ReadCall) (s t : S) (o p : List WriteCall) (x : Refusal) → WasRead takes first now s o (Err x) t p
-        → FeedFails g (at s o).store.devices (at t p).store.devices first now (at s o).output (at t p).output x
+        → FeedFails g false (at s o).store.devices (at t p).store.devices first now (at s o).output (at t p).output x
     fails_read first now s t o p x w =
         let taken = seen s t o p w.lines (Err x) w.steps in
         record {
-          is = taken.cause x refl;
+          is = inl (taken.cause x refl);
           failed = inl (omega (arith, taken.failures, w.intact, ap failed_reads w.since, failed_reads_on w.later first));
         }
 
     fails_broke : (first now : List ReadCall) (s t : S) (o p : List WriteCall) (x : Refusal) → ReadBroke takes first now s o x t p
-        → FeedFails g (at s o).store.devices (at t p).store.devices first now (at s o).output (at t p).output x
+        → FeedFails g false (at s o).store.devices (at t p).store.devices first now (at s o).output (at t p).output x
     fails_broke first now s t o p x w =
         let taken = seen s t o p w.lines (Ok None) w.steps in
         ⊎_elim
         (λ memory. record {
-          is = inl (inl memory.0);
+          is = inl (inl (inl memory.0));
           failed = inl (omega (arith, taken.failures, ap told_refusal memory.0, ap failed_reads w.since, failed_reads_on w.later first, ap failed_reads memory.1));
         })
         (λ device. record {
-          is = inl (inr device.0);
+          is = inl (inl (inr device.0));
           failed = ⊎_elim
               (λ one. inl (omega (arith, taken.failures, ap told_refusal device.0, ap failed_reads w.since, failed_reads_on w.later first, one)))
               (λ many. inr (device.0, omega (arith, many, ap length w.since, length-append w.later first)))
@@ -150,13 +181,21 @@ module _ {D S : Type 0} (g : disk.Ghosts D) (takes : Taking S Ending) (at : S �
         w.cause
 
     pub fails : (first now : List ReadCall) (s t : S) (o p : List WriteCall) (x : Refusal) → Reads takes first now s o (Err x) t p
-        → FeedFails g (at s o).store.devices (at t p).store.devices first now (at s o).output (at t p).output x
+        → FeedFails g false (at s o).store.devices (at t p).store.devices first now (at s o).output (at t p).output x
     fails first now s t o p x reads = ⊎_elim (λ w. fails_read first now s t o p x w) (λ w. fails_broke first now s t o p x w) reads
 
     pub kept : (first now : List ReadCall) (s t : S) (o p : List WriteCall) (r : Result (Option Ending) Refusal) → Reads takes first now s o r t p
         → KeepsOn g (at s o).store (at s o).output (moments s) (at t p).store (at t p).output (moments t)
     kept first now s t o p (Ok stop) w = (seen s t o p w.lines (Ok stop) w.steps).kept
     kept first now s t o p (Err x) reads = ⊎_elim (λ w. (seen s t o p w.lines (Err x) w.steps).kept) (λ w. (seen s t o p w.lines (Ok None) w.steps).kept) reads
+
+-- reading broke a feeding off that had written a line before
+pub fails_behind : {D : Type 0} (g : disk.Ghosts D) (asked : Bool) (old new : Devices D) (first now : List ReadCall) (o p q : List WriteCall) (r : Refusal) → failed_writes p ≡ failed_writes o
+    → FeedFails g false old new first now p q r → FeedFails g asked old new first now o q r
+fails_behind g asked old new first now o p q r same f = record {
+  is = ⊎_elim (λ fault. inl fault) (λ due. absurd (true≢false (sym due.0))) f.is;
+  failed = ⊎_elim (λ one. inl (omega (arith, one, same))) (λ many. inr many) f.failed;
+}
 
 -- no read of an input failed that was fed
 pub reads_intact : {D : Type 0} (g : disk.Ghosts D) (first now : List ReadCall) (source : ℕ) (table : Table) (start last : Content) (end : Ending) → Feeds g first now source table start last end → failed_reads now ≡ failed_reads first

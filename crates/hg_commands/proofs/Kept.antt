@@ -1,6 +1,9 @@
 -- What a store that is fed keeps.
-use Rattle.std.proofs.Common.{◌≡◌, ℕ, ◌≤◌, List, [], ◌∷◌, ◌++◌, Some, Result, Ok, Err, IsTrue, Bool, true, refl, sym, ap, subst, ◌∙◌, inl, inr, arith}
+use Rattle.std.proofs.Common.{◌≡◌, ℕ, ◌≤◌, List, [], ◌∷◌, ◌++◌, All, Some, Result, Ok, Err, IsTrue, Bool, true, refl, sym, ap, subst, ◌∙◌, inl, inr, arith}
+use Rattle.std.proofs.lemmas.List.Elements.{All-nil, All-cons}
+use Rattle.hg_streams.specs.declared.call.ReadCall.{ReadCall}
 use Rattle.hg_streams.specs.declared.call.WriteCall.{WriteCall}
+use Rattle.hg_sets.specs.declared.table.TheConstants.{MOST_SETS}
 use Rattle.hg_model.specs.declared.event.Named.{Named}
 use Rattle.hg_model.specs.declared.verdict.Refusal.{Refusal}
 use Rattle.hg_model.specs.Contents.{Content}
@@ -16,13 +19,16 @@ use Rattle.hg_contents.proofs.Following.{followed_append, followed_events}
 use Rattle.hg_store.specs.declared.devices.Devices.{Devices}
 use Rattle.hg_store.specs.declared.steps.StepFault.{StepFault}
 use Rattle.hg_store.specs.Images.{EachImage, Recovers, read_of}
-use Rattle.hg_store.specs.Shown.{ShownStore, live, saved}
+use Rattle.hg_store.specs.Limits.{Limits, limits_of}
+use Rattle.hg_store.specs.Recovering.{HasTable}
+use Rattle.hg_store.specs.Shown.{KeepsLimits, ShownStore, live, saved}
 use Rattle.hg_store.specs.Steps.{CommitDone, ContentOffered, OfferDone, if_accepted}
 use Rattle.hg_store.specs.Store.{Backs, IsFresh}
 use Rattle.hg_store.proofs.Moments.{all_still}
-use Rattle.hg_commands.specs.FeedRunning.{WasStepped}
+use Rattle.hg_store.proofs.Refusals.{limits_stay}
+use Rattle.hg_commands.specs.FeedRunning.{LiesOnWayOfAny, WasStepped}
 use Rattle.hg_commands.specs.Feeding.{ack_text}
-use Rattle.hg_commands.specs.Instants.{Instant, instant}
+use Rattle.hg_commands.specs.Instants.{HasLimits, Instant, instant, instant_of}
 use Rattle.hg_commands.specs.Keeping.{AcksAtMost, EachAckIsKept, HasAtLeast, IsKept, IsKeptAlong, IsKeptBetween, KeepsOn}
 use Rattle.hg_streams.specs.Printed.{IsPrintedNow, WereGiven}
 use Rattle.hg_commands.proofs.Given.{given_none, given_printed, given_weaker, grows}
@@ -75,7 +81,7 @@ module _ {D : Type 0} (g : disk.Ghosts D) where
   )
 
   pub keeps_then : (a b c : ShownStore D) (x y z : List WriteCall) (k l m : List (Instant D)) → KeepsOn g a x k b y l → KeepsOn g b y l c z m → KeepsOn g a x k c z m
-  keeps_then a b c x y z k l m first second = λ start content honest h. second start content honest (first start content honest h)
+  keeps_then a b c x y z k l m first second = λ start limits content honest h. second start limits content honest (first start limits content honest h)
 
   -- what is kept while the devices are not called, and nothing is written but what acknowledges durable events
   standing : (s : ShownStore D) (calls : List WriteCall) (start newest : Instant D) (first : Content) (front : List Named) → Backs g s → followed first front ≡ Some (saved g s) → WereGiven (AcksAtMost (saved g s).events) start.calls calls
@@ -98,9 +104,10 @@ module _ {D : Type 0} (g : disk.Ghosts D) where
   pub keeps_step : (s m : ShownStore D) (calls : List WriteCall) (moments later : List (Instant D)) (moment : Instant D) (doubt : Bool) (events more : List Named)
       → (IsTrue g.is_honest → followed (live g s) events ≡ Some (live g m)) → (IsTrue g.is_honest → Backs g s → followed (saved g s) more ≡ Some (saved g m))
       → (IsTrue g.is_honest → Backs g s → EachImage g s.devices m.devices (Stands (saved g s) (live g s) doubt)) → (IsTrue g.is_honest → Backs g m)
-      → later ≡ moment ∷ moments → moment ≡ instant m.devices calls → KeepsOn g s calls moments m calls later
-  keeps_step s m calls moments later moment doubt events more leads durable images backs pushed is = λ start first honest h.
-      let mid = instant m.devices calls in
+      → KeepsLimits s m → later ≡ moment ∷ moments → moment ≡ instant_of m calls → KeepsOn g s calls moments m calls later
+  keeps_step s m calls moments later moment doubt events more leads durable images backs same pushed is = λ start limits first honest h.
+      let mid = instant_of m calls in
+      let has : limits_of m ≡ limits = limits_stay s m same ∙ h.has in
       let front = h.front ++ more in
       let next = durable honest h.backs in
       let before : followed first front ≡ Some (saved g m) = followed_append h.front more first (saved g s) h.before ∙ next in
@@ -129,38 +136,44 @@ module _ {D : Type 0} (g : disk.Ghosts D) where
           along_more first (live g s) (live g m) events start moments mid (leads honest)
               (subst (λ (t : List (Instant D)). IsKeptAlong g first (live g s) start t mid) (sym h.is) (between, h.along.1)),
         );
+        has = has;
+        had = subst (λ (t : List (Instant D)). All (HasLimits limits) t) (sym (pushed ∙ ap (λ x. x ∷ moments) is))
+            (All-cons (HasLimits limits) mid moments (ap (λ (l : Limits). Some l) has) h.had);
       }
 
   -- an event was offered
   pub keeps_offer : (s m : ShownStore D) (calls : List WriteCall) (moments later : List (Instant D)) (moment : Instant D) (n : Named) (r : Result Answer Refusal) → OfferDone g s m n r → (IsTrue g.is_honest → ContentOffered g s m n r)
-      → (IsTrue g.is_honest → EachImage g s.devices m.devices (Stands (saved g s) (live g s) s.in_doubt)) → (IsTrue g.is_honest → Backs g m) → later ≡ moment ∷ moments → moment ≡ instant m.devices calls
+      → (IsTrue g.is_honest → EachImage g s.devices m.devices (Stands (saved g s) (live g s) s.in_doubt)) → (IsTrue g.is_honest → Backs g m) → KeepsLimits s m → later ≡ moment ∷ moments → moment ≡ instant_of m calls
       → KeepsOn g s calls moments m calls later
-  keeps_offer s m calls moments later moment n r done content images backs pushed is =
+  keeps_offer s m calls moments later moment n r done content images backs limits pushed is =
       keeps_step s m calls moments later moment s.in_doubt (if_accepted n r) [] (λ honest. (content honest).leads)
-      (λ honest b. ap (λ (d : detect.ShownDetector (pool.ShownPool D)). Some (detect.content (pools.live g) d)) (sym done.same.committed)) (λ honest b. images honest) backs pushed is
+      (λ honest b. ap (λ (d : detect.ShownDetector (pool.ShownPool D)). Some (detect.content (pools.live g) d)) (sym done.same.committed)) (λ honest b. images honest) backs limits pushed is
+
+  same_detector : (s m : ShownStore D) → m.detector ≡ s.detector → KeepsLimits s m
+  same_detector s m same = (ap (λ (d : detect.ShownDetector (pool.ShownPool D)). d.words.most_frames) same, ap (λ (d : detect.ShownDetector (pool.ShownPool D)). d.words.slots) same)
 
   -- a commit was made, or failed
   pub keeps_commit : (s m : ShownStore D) (calls : List WriteCall) (moments later : List (Instant D)) (moment : Instant D) (r : Result ℕ Refusal) → CommitDone g s m r
-      → (IsTrue g.is_honest → EachImage g s.devices m.devices (Stands (saved g s) (live g s) true)) → (IsTrue g.is_honest → Backs g m) → later ≡ moment ∷ moments → moment ≡ instant m.devices calls
+      → (IsTrue g.is_honest → EachImage g s.devices m.devices (Stands (saved g s) (live g s) true)) → (IsTrue g.is_honest → Backs g m) → later ≡ moment ∷ moments → moment ≡ instant_of m calls
       → KeepsOn g s calls moments m calls later
   keeps_commit s m calls moments later moment (Ok count) done images backs pushed is =
       keeps_step s m calls moments later moment true [] s.pending (λ honest. ap (λ (d : detect.ShownDetector (pool.ShownPool D)). Some (detect.content (pools.live g) d)) (sym done.detector))
-      (λ honest b. b.live ∙ ap (λ (d : detect.ShownDetector (pool.ShownPool D)). Some (detect.content (pools.live g) d)) (sym done.answer.committed)) (λ honest b. images honest) backs pushed is
+      (λ honest b. b.live ∙ ap (λ (d : detect.ShownDetector (pool.ShownPool D)). Some (detect.content (pools.live g) d)) (sym done.answer.committed)) (λ honest b. images honest) backs (same_detector s m done.detector) pushed is
   keeps_commit s m calls moments later moment (Err refusal) done images backs pushed is =
       keeps_step s m calls moments later moment true [] [] (λ honest. ap (λ (d : detect.ShownDetector (pool.ShownPool D)). Some (detect.content (pools.live g) d)) (sym done.detector))
-      (λ honest b. ap (λ (d : detect.ShownDetector (pool.ShownPool D)). Some (detect.content (pools.live g) d)) (sym done.answer.committed)) (λ honest b. images honest) backs pushed is
+      (λ honest b. ap (λ (d : detect.ShownDetector (pool.ShownPool D)). Some (detect.content (pools.live g) d)) (sym done.answer.committed)) (λ honest b. images honest) backs (same_detector s m done.detector) pushed is
 
   -- a step of a checkpoint was made, or refused
   pub keeps_stepped : {T : Type 0} (s m : ShownStore D) (calls : List WriteCall) (moments later : List (Instant D)) (moment : Instant D) (result : Result T StepFault) → WasStepped g s m result
-      → (IsTrue g.is_honest → Backs g m) → later ≡ moment ∷ moments → moment ≡ instant m.devices calls → KeepsOn g s calls moments m calls later
+      → (IsTrue g.is_honest → Backs g m) → later ≡ moment ∷ moments → moment ≡ instant_of m calls → KeepsOn g s calls moments m calls later
   keeps_stepped s m calls moments later moment result stepped backs pushed is =
       keeps_step s m calls moments later moment s.in_doubt [] [] (λ honest. ap (λ (c : Content). Some c) (sym (stepped.live honest)))
-      (λ honest b. ap (λ (d : detect.ShownDetector (pool.ShownPool D)). Some (detect.content (pools.live g) d)) (sym stepped.committed)) (λ honest b. stepped.images honest b) backs pushed is
+      (λ honest b. ap (λ (d : detect.ShownDetector (pool.ShownPool D)). Some (detect.content (pools.live g) d)) (sym stepped.committed)) (λ honest b. stepped.images honest b) backs stepped.limits pushed is
 
   -- a text was printed that acknowledges no more than what is durable
   pub keeps_printed : (s : ShownStore D) (calls new : List WriteCall) (moments : List (Instant D)) (text : List ℕ) → IsPrintedNow calls new text
       → (IsTrue g.is_honest → Backs g s → AcksAtMost (saved g s).events text) → KeepsOn g s calls moments s new moments
-  keeps_printed s calls new moments text printed says = λ start first honest h.
+  keeps_printed s calls new moments text printed says = λ start limits first honest h.
       let acked = given_printed (AcksAtMost (saved g s).events) start.calls calls new text printed (says honest h.backs) (inr (inl refl)) h.acked in
       record {
         backs = h.backs;
@@ -175,6 +188,8 @@ module _ {D : Type 0} (g : disk.Ghosts D) where
           standing s new start h.newest first h.front h.backs h.before acked h.still (grows h.newest.calls calls new text printed (h.along.0.later, h.along.0.since)),
           h.along.1,
         );
+        has = h.has;
+        had = h.had;
       }
 
   -- what a commit counts is durable
@@ -187,7 +202,7 @@ module _ {D : Type 0} (g : disk.Ghosts D) where
 
   -- a store that was just opened
   fresh_kept : (old : Devices D) (s : ShownStore D) (first : Content) (calls : List WriteCall) → Recovers g old s.devices → IsFresh g s first
-      → IsKept g (instant old calls) first (instant s.devices calls ∷ []) s calls
+      → IsKept g (instant old calls) (limits_of s) first (instant_of s calls ∷ []) s calls
   fresh_kept old s first calls recovery fresh =
       let none = given_none (AcksAtMost (saved g s).events) calls in
       let before : followed first [] ≡ Some (saved g s) = ap (λ (c : Content). Some c) (sym fresh.durable) in
@@ -196,33 +211,61 @@ module _ {D : Type 0} (g : disk.Ghosts D) where
         front = [];
         before = before;
         acked = none;
-        newest = instant s.devices calls;
+        newest = instant_of s calls;
         earlier = [];
         is = refl;
         still = refl;
-        along = (standing s calls (instant old calls) (instant s.devices calls) first [] fresh.backs before none refl ([], refl), (recovery, refl));
+        along = (standing s calls (instant old calls) (instant_of s calls) first [] fresh.backs before none refl ([], refl), (recovery, refl));
+        has = refl;
+        had = All-cons (HasLimits (limits_of s)) (instant_of s calls) [] refl (All-nil (HasLimits (limits_of s)));
       }
 
+  -- a store was opened, and its opening is the first moment
+  opening_is : (s : ShownStore D) (before : List WriteCall) (none opening : List (Instant D)) (moment : Instant D) → opening ≡ moment ∷ none → moment ≡ instant_of s before → none ≡ [] → opening ≡ instant_of s before ∷ []
+  opening_is s before none opening moment pushed first empty = pushed ∙ (ap (λ x. x ∷ none) first ∙ ap (λ t. instant_of s before ∷ t) empty)
+
   -- a store was opened and fed
-  pub fed_is_kept : (old new : Devices D) (s u : ShownStore D) (before after : List WriteCall) (none opening moments : List (Instant D)) (moment : Instant D) → Recovers g old s.devices
-      → ((c : Content) × HasContent (read_of g old) c × IsFresh g s c) → IsTrue g.is_honest → KeepsOn g s before opening u after moments → opening ≡ moment ∷ none → moment ≡ instant s.devices before → none ≡ [] → new ≡ u.devices
-      → EachAckIsKept g (instant old before) moments (instant new after)
-  fed_is_kept old new s u before after none opening moments moment recovery began honest keeps pushed first empty is =
-      let one : opening ≡ instant s.devices before ∷ [] = pushed ∙ (ap (λ x. x ∷ none) first ∙ ap (λ t. instant s.devices before ∷ t) empty) in
-      let h = keeps (instant old before) began.0 honest (subst (λ t. IsKept g (instant old before) began.0 t s before) (sym one) (fresh_kept old s began.0 before recovery began.2)) in
+  fed_on : (old : Devices D) (s u : ShownStore D) (before after : List WriteCall) (none opening moments : List (Instant D)) (moment : Instant D) → Recovers g old s.devices
+      → (began : (c : Content) × HasContent (read_of g old) c × IsFresh g s c) → IsTrue g.is_honest → KeepsOn g s before opening u after moments → opening ≡ moment ∷ none → moment ≡ instant_of s before → none ≡ []
+      → IsKept g (instant old before) (limits_of s) began.0 moments u after
+  fed_on old s u before after none opening moments moment recovery began honest keeps pushed first empty =
+      keeps (instant old before) (limits_of s) began.0 honest (subst (λ t. IsKept g (instant old before) (limits_of s) began.0 t s before) (sym (opening_is s before none opening moment pushed first empty)) (fresh_kept old s began.0 before recovery began.2))
+
+  pub fed_is_kept : (source : ℕ) (reads now : List ReadCall) (old new : Devices D) (s u : ShownStore D) (before after : List WriteCall) (none opening moments : List (Instant D)) (moment : Instant D) → Recovers g old s.devices
+      → ((c : Content) × HasContent (read_of g old) c × IsFresh g s c) → HasTable MOST_SETS (read_of g old) (live g s) s.detector.sets → LiesOnWayOfAny source s.detector.sets (live g s) reads now (live g u)
+      → IsTrue g.is_honest → KeepsOn g s before opening u after moments → opening ≡ moment ∷ none → moment ≡ instant_of s before → none ≡ [] → new ≡ u.devices
+      → EachAckIsKept g source reads now (instant old before) moments (instant new after)
+  fed_is_kept source reads now old new s u before after none opening moments moment recovery began sets way honest keeps pushed first empty is =
+      let h = fed_on old s u before after none opening moments moment recovery began honest keeps pushed first empty in
       record {
         first = began.0;
         last = live g u;
         opened = λ _. began.1;
+        way = λ _. (
+          s.detector.sets,
+          (
+            subst (λ (c : Content). HasTable MOST_SETS (read_of g old) c s.detector.sets) began.2.has sets,
+            subst (λ (c : Content). LiesOnWayOfAny source s.detector.sets c reads now (live g u)) began.2.has way,
+          ),
+        );
         along = subst (λ (d : Devices D). IsKeptAlong g began.0 (live g u) (instant old before) moments (instant d after)) (sym is)
             (subst (λ (t : List (Instant D)). IsKeptAlong g began.0 (live g u) (instant old before) t (instant u.devices after)) (sym h.is) h.along);
       }
 
+  -- it had its limits at each moment
+  pub fed_had_limits : (limits : Limits) (old : Devices D) (s u : ShownStore D) (before after : List WriteCall) (none opening moments : List (Instant D)) (moment : Instant D) → limits_of s ≡ limits → Recovers g old s.devices
+      → ((c : Content) × HasContent (read_of g old) c × IsFresh g s c) → IsTrue g.is_honest → KeepsOn g s before opening u after moments → opening ≡ moment ∷ none → moment ≡ instant_of s before → none ≡ []
+      → All (HasLimits limits) moments
+  fed_had_limits limits old s u before after none opening moments moment has recovery began honest keeps pushed first empty =
+      subst (λ (l : Limits). All (HasLimits l) moments) has (fed_on old s u before after none opening moments moment recovery began honest keeps pushed first empty).had
+
   -- no store was opened
-  pub none_is_kept : (old new : Devices D) (calls : List WriteCall) (moments : List (Instant D)) → moments ≡ [] → Recovers g old new → EachAckIsKept g (instant old calls) moments (instant new calls)
-  none_is_kept old new calls moments none images = record {
+  pub none_is_kept : (source : ℕ) (reads now : List ReadCall) (old new : Devices D) (calls : List WriteCall) (moments : List (Instant D)) → moments ≡ [] → Recovers g old new
+      → EachAckIsKept g source reads now (instant old calls) moments (instant new calls)
+  none_is_kept source reads now old new calls moments none images = record {
     first = empty_content;
     last = empty_content;
     opened = λ some. absurd (some none);
+    way = λ some. absurd (some none);
     along = subst (λ (t : List (Instant D)). IsKeptAlong g empty_content empty_content (instant old calls) t (instant new calls)) (sym none) (images, refl);
   }

@@ -6,8 +6,11 @@ mod Fronts
 mod FeedFronts
 mod Outcome
 mod Unique
+mod Ways
 mod Kept
 mod Given
 mod Made
 mod Summing
 mod Causes
+mod Openings
+mod Ruling

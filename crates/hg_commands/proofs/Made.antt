@@ -15,7 +15,7 @@ use Rattle.hg_store.specs.Shown.{ShownStore, live, saved}
 use Rattle.hg_store.specs.Store.{IsFresh}
 use Rattle.hg_store.proofs.Moments.{all_still}
 use Rattle.hg_commands.specs.Creating.{CreatedIsKept, IsMadeBetween, IsOfNone}
-use Rattle.hg_commands.specs.Instants.{Instant, instant}
+use Rattle.hg_commands.specs.Instants.{Instant, instant, instant_of}
 use Rattle.hg_streams.specs.Printed.{IsPrintedNow}
 use Rattle.hg_commands.proofs.Given.{given_none, given_printed}
 
@@ -48,12 +48,12 @@ module _ {D : Type 0} (g : disk.Ghosts D) where
 
   -- a store was made; that was written, or its writing failed
   pub one_is_made : (old new : Devices D) (s : ShownStore D) (before after : List WriteCall) (none one two : List (Instant D)) (first second : Instant D) → IsFresh g s empty_content
-      → none ≡ [] → one ≡ first ∷ none → first ≡ instant s.devices before → two ≡ second ∷ one → second ≡ instant s.devices after
+      → none ≡ [] → one ≡ first ∷ none → first ≡ instant_of s before → two ≡ second ∷ one → second ≡ instant_of s after
       → (failed_writes before < failed_writes after) ⊎ (new ≡ s.devices) → CreatedIsKept g (instant old before) two (instant new after)
   one_is_made old new s before after none one two first second fresh empty pushed is pushed_again is_again ends =
       let start = instant old before in
-      let made = instant s.devices before in
-      let told = instant s.devices after in
+      let made = instant_of s before in
+      let told = instant_of s after in
       let mids : two ≡ told ∷ made ∷ [] = pushed_again ∙ (ap (λ x. x ∷ one) is_again ∙ ap (λ t. told ∷ t) (pushed ∙ (ap (λ x. x ∷ none) is ∙ ap (λ t. made ∷ t) empty))) in
       let last : IsMadeBetween g start told (instant new after) = inr (⊎_elim (λ failed. inl (failed, refl)) (λ same. inr (fresh_still s new fresh same)) ends) in
       subst (λ t. CreatedIsKept g start t (instant new after)) (sym mids)

@@ -17,14 +17,16 @@ use Rattle.hg_contents.specs.Images.{HasContent, Image}
 use Rattle.hg_contents.specs.Stores.{IsLeft}
 use Rattle.hg_contents.specs.Choices.{Stands}
 use Rattle.hg_checkpoint.specs.Phases.{failed_in}
+use Rattle.hg_checkpoint.specs.declared.phase.Phase.TheVariants.{Idle}
 use Rattle.hg_store.specs.Answers.{failed_by}
 use Rattle.hg_store.specs.declared.devices.Devices.{Devices}
 use Rattle.hg_store.specs.declared.steps.StepFault.{StepFault}
 use Rattle.hg_store.specs.declared.steps.StepFault.TheVariants as step
 use Rattle.hg_store.specs.declared.steps.StepFault.TheVariants.{WrongPhase}
-use Rattle.hg_store.specs.Images.{EachImage, HasOpened, failures_of, read_of, states_of}
+use Rattle.hg_store.specs.Doing.{SameRoots}
+use Rattle.hg_store.specs.Images.{EachImage, HasOpened, RootCallsAtMost, failures_of, read_of, states_of}
 use Rattle.hg_store.specs.Recovering.{HasTable}
-use Rattle.hg_store.specs.Shown.{ShownStore, live, saved}
+use Rattle.hg_store.specs.Shown.{KeepsLimits, ShownStore, live, saved}
 use Rattle.hg_store.specs.Steps.{ContentOffered, OfferDone}
 use Rattle.hg_store.specs.Store.{Backs}
 use Rattle.hg_wire.specs.declared.reader.Reading.{Reading}
@@ -34,7 +36,7 @@ use Rattle.hg_reading.specs.declared.ending.Ending.TheVariants.{Ended, Refused, 
 use Rattle.hg_streams.specs.Written.{Took, TookFront}
 use Rattle.hg_streams.specs.Faults.{IsTold}
 use Rattle.hg_commands.specs.declared.lines.Fed.{Fed}
-use Rattle.hg_commands.specs.Feeding.{FeedsTo, HasRoom, ack_text, acks_text, checkpoint_text, feed_text, sent}
+use Rattle.hg_commands.specs.Feeding.{FeedsTo, HasRoom, LiesOnWay, ack_text, acks_text, checkpoint_text, feed_text, sent}
 use Rattle.hg_commands.specs.Storing.{failed_calls}
 use Rattle.hg_commands.specs.FeedFaults.{HasFeedCause}
 
@@ -55,9 +57,10 @@ content_at g p = live g p.store
 abbrev pub table_at : {D : Type 0} → Place D → Table
 table_at p = p.store.detector.sets
 
--- The store is not broken. Pending are the events accepted since the last commit.
+-- The store works, and no checkpoint is in progress. Pending are the events accepted since the last commit.
 pub record IsReady {D : Type 0} (store : ShownStore D) (fed : Fed) : Type 0 where
   pub works : store.is_broken ≡ false
+  pub phase : store.progress.phase ≡ Idle
   pub pending : length store.pending ≡ fed.accepted % 256
   pub few : fed.accepted ≤ fed.number
 
@@ -96,6 +99,13 @@ pub record WroteFrontOfOne (source : ℕ) (table : Table) (start : Content) (rea
 abbrev pub WroteFrontFrom : ℕ → Table → Content → List ReadCall → List ReadCall → List WriteCall → List WriteCall → Type 0
 WroteFrontFrom source table start reads_old reads_new old new = WroteFrontOfAny source table start reads_old reads_new old new ⊎ WroteFrontOfOne source table start reads_old reads_new old new
 
+-- For each whole input that the reads allow, the content lies on the way from a table and the first content.
+pub record LiesOnWayOfAny (source : ℕ) (table : Table) (first : Content) (reads_old reads_new : List ReadCall) (c : Content) : Type 0 where
+  pub later : List ReadCall
+  pub since : reads_new ≡ later ++ reads_old
+  pub way : (input : List ℕ) (last : Content) (end : Ending) → HasRoom end → MayBe later input → FeedsTo source (readings input) table first 0 last end
+      → LiesOnWay source (readings input) table first 0 c last end
+
 -- how many device calls failed in a step of a checkpoint that was not made
 abbrev pub failed_of : StepFault → ℕ
 failed_of (WrongPhase phase) = 0
@@ -117,10 +127,12 @@ module _ {D : Type 0} (g : disk.Ghosts D) where
     pub count : (content_at g p).events ≡ events + p.fed.accepted
     pub printed : Took first p.output (front ++ acks_text events p.fed.accepted)
 
-  -- From one place to another no call of a device or of the output failed. What was printed is still what was due, and the store is ready.
+  -- From one place to another no call of a device or of the output failed, and the roots were not called. What was printed is still what was due,
+  -- and the store is ready.
   pub record WentWell (old new : Place D) : Type 0 where
     pub source : new.fed.source ≡ old.fed.source
     pub failures : failed_calls g new.store.devices new.output ≡ failed_calls g old.store.devices old.output
+    pub roots : SameRoots old.store new.store
     pub printed : IsTrue g.is_honest → (first : List WriteCall) (front : List ℕ) (events : ℕ) → IsPrinted first front events old → IsPrinted first front events new
     pub ready : IsReady new.store new.fed
 
@@ -161,6 +173,12 @@ module _ {D : Type 0} (g : disk.Ghosts D) where
   abbrev pub BreaksAt : Place D → Reading → List WriteCall → Type 0
   BreaksAt old reading now = IsTrue g.is_honest → (later : List Reading) (last : Content) (end : Ending) → HasRoom end → LeadsOn old (reading ∷ later) last end → FrontFor old now last
 
+  -- From one place to another these readings were offered. Whatever follows them, the content lies on the way.
+  abbrev pub StaysOnWay : Place D → List Reading → Place D → Type 0
+  StaysOnWay old lines new =
+      IsTrue g.is_honest → (later : List Reading) (last : Content) (end : Ending) → HasRoom end → LeadsOn old (lines ++ later) last end
+      → LiesOnWay old.fed.source (lines ++ later) (table_at old) (content_at g old) old.fed.number (content_at g new) last end
+
   -- For each whole input that the reads allow, a front of the text due for it was written.
   pub record HasFront (first reads : List ReadCall) (source : ℕ) (table : Table) (start : Content) (old : Place D) (now : List WriteCall) : Type 0 where
     pub later : List ReadCall
@@ -175,17 +193,18 @@ module _ {D : Type 0} (g : disk.Ghosts D) where
       × WroteFrontFrom source table first reads_old reads_new calls_old calls_new))))
 
   -- A feeding ended by a fault. The fault had a cause; it was told, or telling it failed; and before it a front of the due text was written.
-  abbrev pub EndsByFeedFault : ℕ → Devices D → Devices D → List ReadCall → List ReadCall → List WriteCall → List WriteCall → List WriteCall → List WriteCall → Type 0
-  EndsByFeedFault source old new reads_old reads_new calls_old calls_new faults_old faults_new =
-      (r : Refusal) × (HasFeedCause g old new reads_old reads_new calls_old calls_new r × (IsTold faults_old faults_new r × WroteFeedFront source old reads_old reads_new calls_old calls_new))
+  abbrev pub EndsByFeedFault : ℕ → Bool → Devices D → Devices D → List ReadCall → List ReadCall → List WriteCall → List WriteCall → List WriteCall → List WriteCall → Type 0
+  EndsByFeedFault source asked old new reads_old reads_new calls_old calls_new faults_old faults_new =
+      (r : Refusal) × (HasFeedCause g asked old new reads_old reads_new calls_old calls_new r × (IsTold faults_old faults_new r × WroteFeedFront source old reads_old reads_new calls_old calls_new))
 
-  -- A commit was answered Ok.
+  -- A commit was answered Ok. No root was called.
   pub record WasCommitted (old new : ShownStore D) : Type 0 where
     pub works : new.is_broken ≡ false
     pub none : new.pending ≡ []
     pub detector : new.detector ≡ old.detector
     pub committed : new.committed ≡ old.detector
     pub failures : failures_of g new.devices ≡ failures_of g old.devices
+    pub roots : SameRoots old new
 
   -- An event was sent to a store.
   pub record WasSent (old new : ShownStore D) (before now : Fed) (e : Event) (r : Result Answer Refusal) : Type 0 where
@@ -193,23 +212,28 @@ module _ {D : Type 0} (g : disk.Ghosts D) where
     pub content : IsTrue g.is_honest → ContentOffered g old new (sent before.source before.number e) r
     pub fed : now ≡ record before { number = before.number + 1 }
     pub failures : failures_of g new.devices ≡ told r + failures_of g old.devices
+    pub limits : KeepsLimits old new
 
   -- An accepted event was counted, and committed with those before it where it was the last of 256.
   pub record WasCounted (old new : Place D) : Type 0 where
     pub fed : new.fed ≡ record old.fed { accepted = old.fed.accepted + 1 }
     pub works : new.store.is_broken ≡ false
+    pub progress : new.store.progress ≡ old.store.progress
     pub pending : length new.store.pending ≡ (old.fed.accepted + 1) % 256
     pub detector : new.store.detector ≡ old.store.detector
     pub failures : failed_calls g new.store.devices new.output ≡ failed_calls g old.store.devices old.output
+    pub roots : SameRoots old.store new.store
     pub printed : Took old.output new.output (if nat_eq ((old.fed.accepted + 1) % 256) 0 then ack_text (content_at g old).events else [])
 
-  -- The store did one step of a checkpoint, or refused it: the events stay, in memory and in each image, and a call failed where that is answered.
+  -- The store did one step of a checkpoint, or refused it: the events stay, in memory and in each image, and so do the limits; a call failed where
+  -- that is answered.
   pub record WasStepped {T : Type 0} (old new : ShownStore D) (result : Result T StepFault) : Type 0 where
     pub images : IsTrue g.is_honest → Backs g old → EachImage g old.devices new.devices (Stands (saved g old) (live g old) old.in_doubt)
     pub live : IsTrue g.is_honest → live g new ≡ live g old
     pub committed : new.committed ≡ old.committed
     pub pending : new.pending ≡ old.pending
     pub failures : failures_of g new.devices ≡ failed_by result + failures_of g old.devices
+    pub limits : KeepsLimits old new
 
   -- One step of a checkpoint was made, or refused: the events stay, and a call failed where that is told.
   pub record StaysFed {T : Type 0} (old new : ShownStore D) (result : Result T Refusal) : Type 0 where
@@ -224,22 +248,24 @@ module _ {D : Type 0} (g : disk.Ghosts D) where
   WasMade true devices c None = ⊥
   WasMade false devices c checkpoint = checkpoint ≡ None
 
-  -- The checkpoint that was due was made, and told; or none was due.
+  -- The checkpoint that was due was made, and told; or none was due, and no root was called.
   pub record WasCheckpointed (is_made : Bool) (old new : ShownStore D) (before after : List WriteCall) : Type 0 where
     pub checkpoint : Option ℕ
     pub made : WasMade is_made new.devices (live g old) checkpoint
+    pub quiet : is_made ≡ false → SameRoots old new
     pub printed : Took before after (checkpoint_text checkpoint)
     pub live : IsTrue g.is_honest → live g new ≡ live g old
     pub committed : new.committed ≡ old.committed
     pub works : new.is_broken ≡ false
     pub failures : failures_of g new.devices ≡ failures_of g old.devices
 
-  -- A store was fed all of an input, or up to the line that ended it.
+  -- A store was fed all of an input, or up to the line that ended it. Where no checkpoint was due, no root was called.
   pub record WasFed (reads later : List ReadCall) (source : ℕ) (asked : Bool) (old new : ShownStore D) (before after : List WriteCall) (end : Ending) : Type 0 where
     pub checkpoint : Option ℕ
     pub feeds : Feeds reads later source old.detector.sets (live g old) (live g new) end
     pub printed : IsTrue g.is_honest → Took before after (feed_text source (live g old) (live g new) checkpoint end)
     pub made : WasMade (is_due asked end) new.devices (live g new) checkpoint
+    pub quiet : is_due asked end ≡ false → SameRoots old new
     pub failures : failed_calls g new.devices after ≡ failed_calls g old.devices before
     pub works : new.is_broken ≡ false
     pub durable : IsTrue g.is_honest → saved g new ≡ live g new
@@ -247,7 +273,8 @@ module _ {D : Type 0} (g : disk.Ghosts D) where
 
   -- What feeding the store on these devices did. The events that were read led from a table and a content to the last content, and exactly
   -- the text for it was printed. Of honest devices the first content is the one that they read, the table has its sets, and any crash from
-  -- now on leaves the last content. Where a checkpoint was asked for and the input came to its end, it is the newest one of each image.
+  -- now on leaves the last content. Where a checkpoint was asked for and the input came to its end, it is the newest one of each image. Where
+  -- none was due, the roots were called to open the store, and not after that.
   pub record FeedDone (reads later : List ReadCall) (source : ℕ) (asked : Bool) (old new : Devices D) (before after : List WriteCall) (end : Ending) : Type 0 where
     pub table : Table
     pub first : Content
@@ -256,6 +283,7 @@ module _ {D : Type 0} (g : disk.Ghosts D) where
     pub feeds : Feeds reads later source table first last end
     pub printed : IsTrue g.is_honest → Took before after (feed_text source first last checkpoint end)
     pub made : WasMade (is_due asked end) new last checkpoint
+    pub quiet : is_due asked end ≡ false → RootCallsAtMost g 4 old new
     pub failures : failed_calls g new after ≡ failed_calls g old before
     pub began : IsTrue g.is_honest → HasContent (read_of g old) first × HasTable MOST_SETS (read_of g old) first table
     pub ended : IsTrue g.is_honest → (image : Image) → IsLeft (states_of g new) image → HasContent image last

@@ -1,5 +1,5 @@
 -- What feeding a trace text to a store leads to, and what is printed of it.
-use Rattle.std.specs.Prelude.{◌≡◌, ◌⊎◌, ℕ, zero, suc, ◌+◌, ◌-◌, ◌%◌, nat_eq, List, [], ◌∷◌, ◌++◌, Option, Some, None, Result, Ok, Err, codes, if◌then◌else◌}
+use Rattle.std.specs.Prelude.{◌≡◌, ◌⊎◌, ℕ, zero, suc, ◌+◌, ◌-◌, ◌%◌, nat_eq, List, [], ◌∷◌, ◌++◌, length, Option, Some, None, Result, Ok, Err, codes, if◌then◌else◌}
 use Rattle.hg_model.specs.declared.event.Event.{Event}
 use Rattle.hg_model.specs.declared.event.Named.{Named}
 use Rattle.hg_model.specs.declared.verdict.Refusal.TheVariants.{FullSets, FullSlots}
@@ -40,6 +40,15 @@ IsOffered (Ok e) source table c lines line later last end = Answers (verdict (st
 abbrev pub FeedsTo : ℕ → List Reading → Table → Content → ℕ → Content → Ending → Type 0
 FeedsTo source [] table c lines last end = (last ≡ c) × (end ≡ Ended)
 FeedsTo source (r ∷ later) table c lines last end = IsOffered r.event source table c lines r.line (λ t d. FeedsTo source later t d (lines + 1) last end) last end
+
+-- The content lies on the way of these readings: the first of them lead to it, and the others lead on from it.
+pub record LiesOnWay (source : ℕ) (readings : List Reading) (table : Table) (first : Content) (lines : ℕ) (c last : Content) (end : Ending) : Type 0 where
+  pub passed : List Reading
+  pub rest : List Reading
+  pub all : readings ≡ passed ++ rest
+  pub before : FeedsTo source passed table first lines c Ended
+  pub between : Table
+  pub behind : FeedsTo source rest between c (lines + length passed) last end
 
 -- It did not end because no slot was free. All other ends are settled by the text, the table and the content.
 abbrev pub HasRoom : Ending → Type 0

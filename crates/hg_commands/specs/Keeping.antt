@@ -1,17 +1,23 @@
 -- What is kept of a store's events while it is fed, whatever fails meanwhile.
-use Rattle.std.specs.Prelude.{◌≡◌, ◌⊎◌, ℕ, ◌≤◌, List, [], ◌∷◌, ◌++◌, Some, IsTrue, codes}
+use Rattle.std.specs.Prelude.{◌≡◌, ◌⊎◌, ℕ, ◌≤◌, List, [], ◌∷◌, ◌++◌, All, Some, IsTrue, codes}
+use Rattle.hg_streams.specs.declared.call.ReadCall.{ReadCall}
 use Rattle.hg_streams.specs.declared.call.WriteCall.{WriteCall}
+use Rattle.hg_sets.specs.Interning.{Table}
+use Rattle.hg_sets.specs.declared.table.TheConstants.{MOST_SETS}
 use Rattle.hg_model.specs.declared.event.Named.{Named}
 use Rattle.hg_model.specs.Contents.{Content}
 use Rattle.hg_model.specs.Change.{followed}
 use Rattle.hg_disk.specs.declared.disk.Disk as disk
 use Rattle.hg_contents.specs.Images.{HasContent, Image}
 use Rattle.hg_store.specs.Images.{EachImage, IsOn, Recovers, read_of}
+use Rattle.hg_store.specs.Limits.{Limits, limits_of}
+use Rattle.hg_store.specs.Recovering.{HasTable}
 use Rattle.hg_store.specs.Shown.{ShownStore, live, saved}
 use Rattle.hg_store.specs.Store.{Backs}
 use Rattle.hg_reading.specs.declared.ending.Ending.{Ending}
 use Rattle.hg_commands.specs.Feeding.{ack_text, feed_end_text}
-use Rattle.hg_commands.specs.Instants.{Instant, instant}
+use Rattle.hg_commands.specs.FeedRunning.{LiesOnWayOfAny}
+use Rattle.hg_commands.specs.Instants.{HasLimits, Instant, instant}
 use Rattle.hg_streams.specs.Printed.{WereGiven}
 use Rattle.hg_streams.specs.Texts.{number_text}
 
@@ -46,17 +52,19 @@ module _ {D : Type 0} (g : disk.Ghosts D) where
   IsKeptAlong first last start (mid ∷ earlier) now = IsKeptBetween first last start.calls mid now × IsKeptAlong first last start earlier mid
 
   -- At each moment of a feeding, whatever ends it, each image of the devices has all events that any `ack` written by then counts. It
-  -- has a front of the accepted events, which lead from the content that the devices read at the start to the last one. Each moment lies
-  -- between two neighbours of this list. Only true moments can be listed (`Moment::of`); a list that lacks one asks for more, not for less.
-  pub record EachAckIsKept (start : Instant D) (moments : List (Instant D)) (now : Instant D) : Type 0 where
+  -- has a front of the accepted events, which lead from the content that the devices read at the start to the last one. That one lies on
+  -- the way of what was read. Each moment lies between two neighbours of this list. Only true moments can be listed (`Moment::of`); a
+  -- list that lacks one asks for more, not for less.
+  pub record EachAckIsKept (source : ℕ) (reads_old reads_new : List ReadCall) (start : Instant D) (moments : List (Instant D)) (now : Instant D) : Type 0 where
     pub first : Content
     pub last : Content
     pub opened : (moments ≡ [] → ⊥) → HasContent (read_of g start.devices) first
+    pub way : (moments ≡ [] → ⊥) → (table : Table) × (HasTable MOST_SETS (read_of g start.devices) first table × LiesOnWayOfAny source table first reads_old reads_new last)
     pub along : IsKeptAlong first last start moments now
 
   -- A store was opened on devices with the first content, and is fed. Its durable content follows from the first one by accepted events, and
-  -- has each acknowledged one. The devices are those of the newest moment, and all is kept so far.
-  pub record IsKept (start : Instant D) (first : Content) (moments : List (Instant D)) (s : ShownStore D) (now : List WriteCall) : Type 0 where
+  -- has each acknowledged one. The devices are those of the newest moment. These are the limits of the store, at each moment. All is kept so far.
+  pub record IsKept (start : Instant D) (limits : Limits) (first : Content) (moments : List (Instant D)) (s : ShownStore D) (now : List WriteCall) : Type 0 where
     pub backs : Backs g s
     pub front : List Named
     pub before : followed first front ≡ Some (saved g s)
@@ -66,8 +74,10 @@ module _ {D : Type 0} (g : disk.Ghosts D) where
     pub is : moments ≡ newest ∷ earlier
     pub still : s.devices ≡ newest.devices
     pub along : IsKeptAlong first (live g s) start (newest ∷ earlier) (instant s.devices now)
+    pub has : limits_of s ≡ limits
+    pub had : All (HasLimits limits) moments
 
   -- What is kept stays kept from one moment to another.
   abbrev pub KeepsOn : ShownStore D → List WriteCall → List (Instant D) → ShownStore D → List WriteCall → List (Instant D) → Type 0
   KeepsOn old before earlier new after later =
-      (start : Instant D) (first : Content) → IsTrue g.is_honest → IsKept start first earlier old before → IsKept start first later new after
+      (start : Instant D) (limits : Limits) (first : Content) → IsTrue g.is_honest → IsKept start limits first earlier old before → IsKept start limits first later new after

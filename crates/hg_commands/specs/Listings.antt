@@ -1,5 +1,5 @@
 -- What is printed of what a store holds, and how that ends.
-use Rattle.std.specs.Prelude.{◌≡◌, ◌⊎◌, ℕ, List, [], ◌++◌, Vec, Result, IsTrue}
+use Rattle.std.specs.Prelude.{◌≡◌, ◌⊎◌, ℕ, List, [], ◌++◌, Vec, Result, IfErr, IsTrue, OnOk}
 use Rattle.hg_model.specs.declared.report.Report.{Report}
 use Rattle.hg_model.specs.declared.verdict.Refusal.{Refusal}
 use Rattle.hg_model.specs.Contents.{Content}
@@ -11,13 +11,16 @@ use Rattle.hg_store.specs.Shown.{ShownStore, live}
 use Rattle.hg_streams.specs.Shown.{Outgoing}
 use Rattle.hg_streams.specs.Holding.{HoldsOrWrites, WritesFront, IsDue}
 use Rattle.hg_streams.specs.Texts.{line_text, reports_text, segments_text, counts_line}
-use Rattle.hg_streams.specs.Faults.{IsTold}
+use Rattle.hg_streams.specs.Calls.{failed_writes}
+use Rattle.hg_streams.specs.Faults.{IsStreamFault, IsTold}
 use Rattle.hg_streams.specs.Written.{Took, TookFront}
 use Rattle.hg_streams.specs.declared.listing.Listing.{Listing}
 use Rattle.hg_streams.specs.declared.listing.Listing.TheVariants.{Reports, Segments}
 use Rattle.hg_streams.specs.declared.output.Outputs.{Outputs}
-use Rattle.hg_commands.specs.Storing.{IsCounted, failed_calls}
-use Rattle.hg_store.specs.Refusals.{IsTrueOf}
+use Rattle.hg_commands.specs.Storing.{IsCounted, NoCallFailed}
+use Rattle.hg_commands.specs.Instants.{Instant, WasOpened}
+use Rattle.hg_commands.specs.declared.moment.Outcome.{Outcome}
+use Rattle.hg_store.specs.Refusals.{IsNotOpened}
 
 -- What is printed of a store's content.
 abbrev pub listing_text : Listing → Content → List ℕ
@@ -57,18 +60,50 @@ module _ {D V : Type 0} (g : disk.Ghosts D) where
       (after.calls ≡ before.calls)
       ⊎ ((c : Content) × ((IsTrue g.is_honest → HasContent (read_of g old) c) × TookFront before.calls after.calls (listing_text listing c)))
 
-  -- Why a listing ended by a fault: it is true of the devices, and the calls that failed are told.
-  pub record HasListingCause (old new : Devices D) (before after : Outgoing V) (r : Refusal) : Type 0 where
-    pub is_true : IsTrueOf g old r
-    pub failed : IsCounted r (failed_calls g old before.calls) (failed_calls g new after.calls)
+  -- Why the listing of an open store ended by a fault: a call of the output failed, where that is told, or memory was refused. The store was
+  -- opened with so many frames, and no call of a device failed.
+  pub record ListingBreaks (frames : ℕ) (old new : Devices D) (moments : List (Instant D)) (before after : Outgoing V) (r : Refusal) : Type 0 where
+    pub opened : WasOpened frames before.calls moments new
+    pub is : IsStreamFault r
+    pub failed : IsCounted r (failed_writes before.calls) (failed_writes after.calls)
+    pub device : NoCallFailed g old new
 
+  -- Why a listing ended by a fault: the store was not opened, and nothing was written; or its listing was broken off.
+  abbrev pub HasListingCause : ℕ → Devices D → Devices D → List (Instant D) → Outgoing V → Outgoing V → Refusal → Type 0
+  HasListingCause frames old new moments before after r =
+      (IsNotOpened g old new r × (after.calls ≡ before.calls) × (moments ≡ [])) ⊎ ListingBreaks frames old new moments before after r
+
+  -- A store was opened with so many frames, and listed; no call of a device failed. What was printed is the listing of what honest devices have.
+  pub record WasListed (listing : Listing) (frames : ℕ) (old new : Devices D) (moments : List (Instant D)) (before after : Outgoing V) : Type 0 where
+    pub prints : ListsContent listing old before after
+    pub opened : WasOpened frames before.calls moments new
+    pub device : NoCallFailed g old new
+
+-- what recovering a store and printing it answers: whether it was printed, the devices, and the moments since its opening
+abbrev pub Printed : Type 0 → Type 0
+Printed D = Result (Unit {0}) Refusal × Devices D × List (Instant D)
+
+module _ {D V : Type 0} (g : disk.Ghosts D) where
+  -- Where the store was listed.
+  abbrev pub ListedWhere : Listing → ℕ → Devices D → Outgoing V → Outgoing V → Printed D → Type 0
+  ListedWhere listing frames devices before after result =
+      OnOk result.0 (WasListed g listing frames devices result.1 result.2 before after)
+
+  -- Where it was not, why.
+  abbrev pub FailedFor : ℕ → Devices D → Outgoing V → Outgoing V → Printed D → Type 0
+  FailedFor frames devices before after result =
+      IfErr result.0 (HasListingCause g frames devices result.1 result.2 before after)
+
+-- For the command, which prints to one output and tells its faults on another.
 module _ {D W V : Type 0} (g : disk.Ghosts D) where
-  -- For the command: honest devices have a content, and its listing was printed.
-  abbrev pub IsListed : Listing → Devices D → Outputs W V → Outputs W V → Type 0
-  IsListed listing devices before after = ListsContent g listing devices before.output after.output
+  -- A store was opened with so many frames, and what honest devices have was printed.
+  abbrev pub IsListed : Listing → ℕ → Devices D → Outputs W V → Outputs W V → Outcome D W → Type 0
+  IsListed listing frames old before after outcome =
+      outcome.status ≡ 0 → WasListed g listing frames old outcome.devices outcome.moments before.output after.output
 
   -- A listing ended by a fault. The fault had a cause; it was told, or telling it failed; and before it a front of the due text was written.
-  abbrev pub CantList : Listing → Devices D → Devices D → Outputs W V → Outputs W V → Type 0
-  CantList listing old new before after =
-      (r : Refusal) × (HasListingCause g old new before.output after.output r
+  abbrev pub CantList : Listing → ℕ → Devices D → Outputs W V → Outputs W V → Outcome D W → Type 0
+  CantList listing frames old before after outcome =
+      outcome.status ≡ 3
+      → (r : Refusal) × (HasListingCause g frames old outcome.devices outcome.moments before.output after.output r
       × (IsTold before.faults.calls after.faults.calls r × WroteListing g listing old before.output after.output))

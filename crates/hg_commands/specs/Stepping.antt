@@ -1,5 +1,5 @@
 -- What was done to a store that is fed, with the input that was read and the output that was written.
-use Rattle.std.specs.Prelude.{◌≡◌, ℕ, ◌+◌, ◌%◌, nat_eq, Bool, List, [], Option, None, Some, Result, Ok, IfErr, IfOk, OnErr, IsTrue, if◌then◌else◌}
+use Rattle.std.specs.Prelude.{◌≡◌, ℕ, ◌+◌, ◌%◌, nat_eq, Bool, List, [], ◌∷◌, Option, None, Some, Result, Ok, IfErr, IfOk, OnErr, IsTrue, if◌then◌else◌}
 use Rattle.hg_model.specs.declared.verdict.Refusal.{Refusal}
 use Rattle.hg_streams.specs.Shown.{Incoming, Outgoing}
 use Rattle.hg_disk.specs.declared.disk.Disk as disk
@@ -14,7 +14,7 @@ use Rattle.hg_commands.specs.declared.moment.Outcome.{Outcome}
 use Rattle.hg_commands.specs.declared.settings.FeedSettings.{FeedSettings}
 use Rattle.hg_streams.specs.declared.streams.Streams.{Streams}
 use Rattle.hg_commands.specs.Feeding.{ack_text, checkpoint_text, feed_end_text}
-use Rattle.hg_commands.specs.FeedRunning.{BreaksAt, EndsAt, EndsByFeedFault, FeedDone, Feeds, HasFront, Passes, Place, WasCheckpointed, WasCounted, WasFed, WentWell, WroteFeedFront, WroteFrontFrom, place}
+use Rattle.hg_commands.specs.FeedRunning.{BreaksAt, EndsAt, EndsByFeedFault, FeedDone, Feeds, HasFront, LiesOnWayOfAny, Passes, Place, StaysOnWay, WasCheckpointed, WasCounted, WasFed, WentWell, WroteFeedFront, WroteFrontFrom, place}
 use Rattle.hg_commands.specs.Instants.{Instant, instant}
 use Rattle.hg_commands.specs.Keeping.{EachAckIsKept, KeepsOn}
 use Rattle.hg_streams.specs.Printed.{IsPrintedNow}
@@ -53,6 +53,10 @@ module _ {D W V : Type 0} (g : disk.Ghosts D) where
   -- An accepted event was counted.
   abbrev pub Counted : Feeding D W → Outgoing V → Feeding D W → Outgoing V → Type 0
   Counted old before new after = WasCounted g (at old before) (at new after)
+
+  -- Whatever follows a line, the content lies on the way.
+  abbrev pub KeepsToWay : Reading → Feeding D W → Outgoing V → Feeding D W → Outgoing V → Type 0
+  KeepsToWay reading old before new after = StaysOnWay g (at old before) (reading ∷ []) (at new after)
 
   -- Where a line was passed.
   abbrev pub PassesWhere : Reading → Feeding D W → Outgoing V → Result (Option Ending) Refusal → Feeding D W → Outgoing V → Type 0
@@ -96,6 +100,12 @@ module _ {D W R : Type 0} (g : disk.Ghosts D) where
   abbrev pub FeedsFrom : Incoming R → Incoming R → Feeding D W → Feeding D W → Ending → Type 0
   FeedsFrom first now old new end = Feeds g first.calls now.calls old.fed.source old.store.detector.sets (live g old.store) (live g new.store) end
 
+module _ {D W R : Type 0} (g : disk.Ghosts D) where
+  -- The content of now lies on the way of what was read since.
+  abbrev pub IsOnWay : Incoming R → Incoming R → Feeding D W → Feeding D W → Type 0
+  IsOnWay first now old new =
+      IsTrue g.is_honest → LiesOnWayOfAny old.fed.source old.store.detector.sets (live g old.store) first.calls now.calls (live g new.store)
+
 module _ {D W R V : Type 0} (g : disk.Ghosts D) where
   -- What was written since is a front of what is due for the input.
   abbrev pub LeftFront : Incoming R → Incoming R → Feeding D W → Outgoing V → Outgoing V → Type 0
@@ -103,9 +113,9 @@ module _ {D W R V : Type 0} (g : disk.Ghosts D) where
       HasFront g first.calls now.calls old.fed.source old.store.detector.sets (live g old.store) (at old before) after.calls
 
   -- Where it failed, it has one of the few causes, and each call that failed is told.
-  abbrev pub Fails : {T : Type 0} → Incoming R → Incoming R → Feeding D W → Outgoing V → Feeding D W → Outgoing V → Result T Refusal → Type 0
-  Fails first now old before new after result =
-      IfErr result (λ r. FeedFails g old.store.devices new.store.devices first.calls now.calls before.calls after.calls r)
+  abbrev pub Fails : {T : Type 0} → Bool → Incoming R → Incoming R → Feeding D W → Outgoing V → Feeding D W → Outgoing V → Result T Refusal → Type 0
+  Fails asked first now old before new after result =
+      IfErr result (λ r. FeedFails g asked old.store.devices new.store.devices first.calls now.calls before.calls after.calls r)
 
   -- Where it was done, the store was fed all of the input, or up to the line that ended it.
   abbrev pub Done : Bool → Incoming R → Incoming R → Feeding D W → Outgoing V → Feeding D W → Outgoing V → Result Ending Refusal → Type 0
@@ -129,14 +139,14 @@ module _ {D R V : Type 0} (g : disk.Ghosts D) where
       OnErr result.0 (WroteFeedFront g settings.source devices first.calls now.calls before.calls after.calls)
 
   -- Then, what was the cause.
-  abbrev pub FailedFor : Devices D → Incoming R → Incoming R → Outgoing V → Outgoing V → Recovered D → Type 0
-  FailedFor devices first now before after result =
-      IfErr result.0 (λ r. HasFeedCause g devices result.1 first.calls now.calls before.calls after.calls r)
+  abbrev pub FailedFor : FeedSettings → Devices D → Incoming R → Incoming R → Outgoing V → Outgoing V → Recovered D → Type 0
+  FailedFor settings devices first now before after result =
+      IfErr result.0 (λ r. HasFeedCause g settings.checkpoint devices result.1 first.calls now.calls before.calls after.calls r)
 
-module _ {D V : Type 0} (g : disk.Ghosts D) where
   -- A crash at any moment of it loses no event that an `ack` written by then counts.
-  abbrev pub AcksAreKept : Devices D → Outgoing V → List (Instant D) → Devices D → Outgoing V → Type 0
-  AcksAreKept old before moments new after = IsTrue g.is_honest → EachAckIsKept g (instant old before.calls) moments (instant new after.calls)
+  abbrev pub AcksAreKept : FeedSettings → Devices D → Incoming R → Incoming R → Outgoing V → Outgoing V → Recovered D → Type 0
+  AcksAreKept settings devices first now before after result =
+      IsTrue g.is_honest → EachAckIsKept g settings.source first.calls now.calls (instant devices before.calls) result.2 (instant result.1 after.calls)
 
 -- For the command, which reads one stream, prints to a second and tells its faults on a third.
 module _ {D R W V : Type 0} (g : disk.Ghosts D) where
@@ -151,9 +161,12 @@ module _ {D R W V : Type 0} (g : disk.Ghosts D) where
   abbrev pub FaultIsTold : FeedSettings → Devices D → Streams R W V → Streams R W V → Outcome D W → Type 0
   FaultIsTold settings devices before after outcome =
       outcome.status ≡ 3
-      → EndsByFeedFault g settings.source devices outcome.devices before.input.calls after.input.calls
+      → EndsByFeedFault g settings.source settings.checkpoint devices outcome.devices before.input.calls after.input.calls
       before.output.calls after.output.calls before.faults.calls after.faults.calls
 
   -- At each moment of a feeding that came to this outcome each `ack` is true.
-  abbrev pub KeepsAcks : Devices D → Streams R W V → Outcome D W → Streams R W V → Type 0
-  KeepsAcks old before outcome after = AcksAreKept g old before.output outcome.moments outcome.devices after.output
+  abbrev pub KeepsAcks : FeedSettings → Devices D → Streams R W V → Outcome D W → Streams R W V → Type 0
+  KeepsAcks settings old before outcome after =
+      IsTrue g.is_honest
+      → EachAckIsKept g settings.source before.input.calls after.input.calls
+      (instant old before.output.calls) outcome.moments (instant outcome.devices after.output.calls)

@@ -9,11 +9,11 @@ use Rattle.hg_wire.specs.declared.reader.Reading.{Reading}
 use Rattle.hg_reading.specs.declared.ending.Ending.{Ending}
 use Rattle.hg_commands.specs.declared.lines.Feeding.{Feeding}
 use Rattle.hg_commands.specs.Feeding.{HasRoom}
-use Rattle.hg_commands.specs.FeedRunning.{FrontFor, IsReady, LeadsOn, Place, WentWell, content_at, place}
+use Rattle.hg_commands.specs.FeedRunning.{FrontFor, IsReady, LeadsOn, Place, StaysOnWay, WentWell, content_at, place}
 use Rattle.hg_commands.specs.Instants.{Instant}
 use Rattle.hg_commands.specs.Keeping.{KeepsOn}
 use Rattle.hg_commands.specs.Storing.{failed_calls}
-use Rattle.hg_commands.specs.FeedFaults.{IsFeedFault}
+use Rattle.hg_commands.specs.FeedFaults.{IsLineFault}
 
 -- It is ready for lines that are offered next.
 abbrev pub IsReadyAt : {D : Type 0} → Place D → Type 0
@@ -36,7 +36,8 @@ module _ {D : Type 0} (g : disk.Ghosts D) where
     pub back : r ≡ Ok None → IsTrue g.is_honest → (more : List Reading) (last : Content) (end : Ending) → HasRoom end → LeadsOn g old (lines ++ more) last end → LeadsOn g new more last end
     pub ends : (end : Ending) → r ≡ Ok (Some end) → IsTrue g.is_honest → (more : List Reading) → LeadsOn g old (lines ++ more) (content_at g new) end
     pub front : (x : Refusal) → r ≡ Err x → IsReadyAt old → IsTrue g.is_honest → (more : List Reading) (last : Content) (end : Ending) → HasRoom end → LeadsOn g old (lines ++ more) last end → FrontFor g old new.output last
-    pub cause : (x : Refusal) → r ≡ Err x → IsFeedFault x
+    pub way : IsReadyAt old → StaysOnWay g old lines new
+    pub cause : (x : Refusal) → r ≡ Err x → IsLineFault g x
     pub failures : failed_calls g new.store.devices new.output ≡ told r + failed_calls g old.store.devices old.output
     pub kept : KeepsOn g old.store old.output earlier new.store new.output later
 

@@ -1,12 +1,14 @@
 -- The laws of feeding a store.
 use Rattle.std.specs.Prelude.{◌+◌, ℕ, List, [], ◌++◌, length, Option, None, Result, Ok, refl}
-use Rattle.std.proofs.Common.{sym, ◌∙◌, subst, arith}
+use Rattle.std.proofs.Common.{ap, sym, ◌∙◌, subst, arith}
 use Rattle.std.proofs.lemmas.List.{append_assoc, length-append}
 use Rattle.hg_model.specs.declared.verdict.Refusal.{Refusal}
 use Rattle.hg_disk.specs.declared.disk.Disk as disk
 use Rattle.hg_wire.specs.declared.reader.Reading.{Reading}
 use Rattle.hg_reading.specs.declared.ending.Ending.{Ending}
-use Rattle.hg_commands.specs.FeedRunning.{LeadsOn, Place, WentWell, content_at}
+use Rattle.hg_reading.specs.declared.ending.Ending.TheVariants.{Ended}
+use Rattle.hg_commands.specs.Feeding.{FeedsTo}
+use Rattle.hg_commands.specs.FeedRunning.{LeadsOn, Place, WentWell, content_at, table_at}
 use Rattle.hg_commands.specs.Instants.{Instant}
 use Rattle.hg_commands.specs.Taking.{FeedsLines, IsFine, IsReadyAt, MayTake}
 
@@ -15,12 +17,13 @@ passed x h = absurd (cc)
 
 module _ {D : Type 0} (g : disk.Ghosts D) where
   stays : (p : Place D) → IsReadyAt p → WentWell g p p
-  stays p ready = record { source = refl; failures = refl; printed = λ honest first front events h. h; ready = ready }
+  stays p ready = record { source = refl; failures = refl; roots = record { root0 = refl; root1 = refl }; printed = λ honest first front events h. h; ready = ready }
 
   goes_then : (p q r : Place D) → WentWell g p q → WentWell g q r → WentWell g p r
   goes_then p q r first second = record {
     source = second.source ∙ first.source;
     failures = second.failures ∙ first.failures;
+    roots = record { root0 = second.roots.root0 ∙ first.roots.root0; root1 = second.roots.root1 ∙ first.roots.root1 };
     printed = λ honest start front events h. second.printed honest start front events (first.printed honest start front events h);
     ready = second.ready;
   }
@@ -33,9 +36,17 @@ module _ {D : Type 0} (g : disk.Ghosts D) where
     back = λ is honest more last end room h. h;
     ends = λ end is. absurd (cc);
     front = λ x is. absurd (passed x is);
+    way = λ ready honest more last end room h. record {
+      passed = [];
+      rest = more;
+      all = refl;
+      before = (refl, refl);
+      between = table_at p;
+      behind = subst (λ (n : ℕ). FeedsTo p.fed.source more (table_at p) (content_at g p) n last end) (omega arith) h;
+    };
     cause = λ x is. absurd (passed x is);
     failures = omega arith;
-    kept = λ start content honest h. h;
+    kept = λ start limits content honest h. h;
   }
 
   pub takes_on : (a b c : Place D) (at_a at_b at_c : List (Instant D)) (first later : List Reading) (r : Result (Option Ending) Refusal)
@@ -50,9 +61,21 @@ module _ {D : Type 0} (g : disk.Ghosts D) where
         let goes = s.goes passed ready in
         t.front x is goes.ready honest more last end room (s.back refl honest (later ++ more) last end room (subst (λ xs. LeadsOn g a xs last end) (append_assoc first later more) h)) begun text events
         (goes.printed honest begun text events printed);
+    way = λ ready honest more last end room h.
+        let goes = s.goes passed ready in
+        let way = t.way goes.ready honest more last end room (s.back refl honest (later ++ more) last end room (subst (λ xs. LeadsOn g a xs last end) (append_assoc first later more) h)) in
+        record {
+          passed = first ++ way.passed;
+          rest = way.rest;
+          all = append_assoc first later more ∙ (ap (λ xs. first ++ xs) way.all ∙ sym (append_assoc first way.passed way.rest));
+          before = s.leads refl honest way.passed (content_at g c) Ended way.before;
+          between = way.between;
+          behind = subst (λ (n : ℕ). FeedsTo n way.rest way.between (content_at g c) (a.fed.number + length (first ++ way.passed)) last end) goes.source
+              (subst (λ (n : ℕ). FeedsTo b.fed.source way.rest way.between (content_at g c) n last end) (omega (arith, s.number refl, length-append first way.passed)) way.behind);
+        };
     cause = t.cause;
     failures = omega (arith, s.failures, t.failures);
-    kept = λ start content honest h. t.kept start content honest (s.kept start content honest h);
+    kept = λ start limits content honest h. t.kept start limits content honest (s.kept start limits content honest h);
   }
 
   pub takes_room : (a b : Place D) (at_a at_b : List (Instant D)) (first : List Reading) (n : ℕ) → MayTake a (length first + n) → FeedsLines g a at_a first (Ok None) b at_b → MayTake b n

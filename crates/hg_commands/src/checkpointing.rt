@@ -1,26 +1,29 @@
-//! A checkpoint, from the freeze to its open root.
+//! A checkpoint, from the freeze to its open root. Each step comes in its phase, so none is refused for that.
 
 ghost use Rattle.std.specs.Prelude.{◌≡◌, Ok, false, IfErr, IfOk, IsTrue, OnOk};
+ghost use Rattle.hg_streams.specs.Faults.{IsStreamFault};
 ghost use Rattle.hg_streams.specs.Told.{told_refusal};
+ghost use Rattle.hg_pool.specs.Calls.{IsStale};
+ghost use Rattle.hg_checkpoint.specs.declared.phase.Phase.TheVariants as phase;
+ghost use Rattle.hg_store.specs.Shown.{words};
 ghost use Rattle.hg_commands.specs.FeedRunning.{StaysFed, WasStepped, failed_of};
 ghost use Rattle.hg_commands.specs.Stepping.{KeepsStep, OpensFrozen, OpensLive, StaysKept};
-ghost use Rattle.hg_commands.specs.FeedFaults.{IsFeedFault};
+ghost use Rattle.hg_commands.specs.FeedFaults.{HasFlushed, IsCheckpointFault, IsToldBy, LosesOne, Rests, WorksIn, WritesOne, refusal_by};
 
 use crate::lines::Feeding;
 use crate::moment::Moment;
 use hg_checkpoint::Cause;
 use hg_disk::Disk;
 use hg_model::verdict::Refusal;
-use hg_store::devices::MOST_SLOTS;
 use hg_store::steps::{EncodedPage, Put, StepFault};
 use hg_store::store::Store;
 use hg_streams::output::Output;
 use std::alloc::Global;
 use std::snapshot::Snapshot;
 
-/// The refusal that ends feeding where a step of a checkpoint was not made. The steps come in their order, so that no phase is wrong.
+/// The refusal that ends feeding where a step of a checkpoint was not made.
 fn refusal_of(fault: StepFault) -> Refusal
-    ensures cause { IsFeedFault result }
+    ensures told { result ≡ refusal_by fault }
     ensures counted { told_refusal result ≡ failed_of fault }
 {
     match fault {
@@ -42,7 +45,7 @@ impl<D: Disk, W> Feeding<D, W> {
         ensures store { self.new.store ≡ self.old.store }
         ensures answer { IfOk result (λ answer. done ≡ Ok answer) }
         ensures stays { StaysFed ⟦<D as Disk>⟧ began.value self.new.store result }
-        ensures cause { IfErr result IsFeedFault }
+        ensures told { IfErr result (IsToldBy done) }
         ensures kept { KeepsStep ⟦<D as Disk>⟧ began.value self.old output.now self.new }
     {
         self.store.stands();
@@ -55,21 +58,28 @@ impl<D: Disk, W> Feeding<D, W> {
 
     /// Freezes the words.
     fn freeze(&mut self, alloc: Global, output: &Output<W>) -> Result<(), Refusal>
+        requires rests { Rests self.old.store }
         ensures stays { StaysFed ⟦<D as Disk>⟧ self.old.store self.new.store result }
         ensures frozen { OnOk result (self.new.store.frozen ≡ self.old.store.detector) }
-        ensures cause { IfErr result IsFeedFault }
+        ensures begun { OnOk result (WorksIn phase.Flushing self.new.store) }
+        ensures cause { IfErr result (IsCheckpointFault ⟦<D as Disk>⟧ self.old.store self.new.store.devices) }
         ensures kept { StaysKept ⟦<D as Disk>⟧ self.old output.now self.new output.now }
     {
+        self.store.stands();
         let began = Snapshot::of(&self.store);
         let done = self.store.freeze(alloc);
         self.note_step(began, done, output)
     }
 
-    /// Writes a page.
+    /// Writes a page that waits.
     fn put(&mut self, page: &EncodedPage, output: &Output<W>) -> Result<Put, Refusal>
+        requires flushing { WorksIn phase.Flushing self.old.store }
+        requires waits { ¬ IsStale (words self.old.store) page.now }
         ensures stays { StaysFed ⟦<D as Disk>⟧ self.old.store self.new.store result }
         ensures frozen { self.new.store.frozen ≡ self.old.store.frozen }
-        ensures cause { IfErr result IsFeedFault }
+        ensures flushing { OnOk result (WorksIn phase.Flushing self.new.store) }
+        ensures written { OnOk result (LosesOne self.old.store self.new.store) }
+        ensures cause { IfErr result IsStreamFault }
         ensures kept { StaysKept ⟦<D as Disk>⟧ self.old output.now self.new output.now }
     {
         let began = Snapshot::of(&self.store);
@@ -79,9 +89,12 @@ impl<D: Disk, W> Feeding<D, W> {
 
     /// Writes the page that is next, and answers whether there was one.
     fn write_page(&mut self, output: &Output<W>) -> Result<bool, Refusal>
+        requires flushing { WorksIn phase.Flushing self.old.store }
         ensures stays { StaysFed ⟦<D as Disk>⟧ self.old.store self.new.store result }
         ensures frozen { self.new.store.frozen ≡ self.old.store.frozen }
-        ensures cause { IfErr result IsFeedFault }
+        ensures flushing { OnOk result (WorksIn phase.Flushing self.new.store) }
+        ensures left { IfOk result (WritesOne self.old.store self.new.store) }
+        ensures cause { IfErr result IsStreamFault }
         ensures kept { StaysKept ⟦<D as Disk>⟧ self.old output.now self.new output.now }
     {
         let job = match self.store.take_job() {
@@ -96,28 +109,26 @@ impl<D: Disk, W> Feeding<D, W> {
         Ok(true)
     }
 
-    /// Writes the pages of the frozen words. They are at most as many as there may be slots.
+    /// Writes the pages of the frozen words, until none waits.
     fn write_pages(&mut self, output: &Output<W>) -> Result<(), Refusal>
+        requires flushing { WorksIn phase.Flushing self.old.store }
         ensures stays { StaysFed ⟦<D as Disk>⟧ self.old.store self.new.store result }
         ensures frozen { self.new.store.frozen ≡ self.old.store.frozen }
-        ensures cause { IfErr result IsFeedFault }
+        ensures flushed { OnOk result (HasFlushed self.new.store) }
+        ensures cause { IfErr result IsStreamFault }
         ensures kept { StaysKept ⟦<D as Disk>⟧ self.old output.now self.new output.now }
     {
-        let mut pages = 0;
-        while pages < MOST_SLOTS {
-            pages += 1;
-            if !self.write_page(output)? {
-                return Ok(());
-            }
-        }
+        while self.write_page(output)? {}
         Ok(())
     }
 
     /// Makes the pages durable.
     fn seal(&mut self, output: &Output<W>) -> Result<(), Refusal>
+        requires flushed { HasFlushed self.old.store }
         ensures stays { StaysFed ⟦<D as Disk>⟧ self.old.store self.new.store result }
         ensures frozen { self.new.store.frozen ≡ self.old.store.frozen }
-        ensures cause { IfErr result IsFeedFault }
+        ensures sealed { OnOk result (WorksIn phase.Sealed self.new.store) }
+        ensures cause { IfErr result IsStreamFault }
         ensures kept { StaysKept ⟦<D as Disk>⟧ self.old output.now self.new output.now }
     {
         let began = Snapshot::of(&self.store);
@@ -127,9 +138,11 @@ impl<D: Disk, W> Feeding<D, W> {
 
     /// Closes the file that the root goes to.
     fn prepare(&mut self, output: &Output<W>) -> Result<(), Refusal>
+        requires sealed { WorksIn phase.Sealed self.old.store }
         ensures stays { StaysFed ⟦<D as Disk>⟧ self.old.store self.new.store result }
         ensures frozen { self.new.store.frozen ≡ self.old.store.frozen }
-        ensures cause { IfErr result IsFeedFault }
+        ensures prepared { OnOk result (WorksIn phase.Prepared self.new.store) }
+        ensures cause { IfErr result IsStreamFault }
         ensures kept { StaysKept ⟦<D as Disk>⟧ self.old output.now self.new output.now }
     {
         let began = Snapshot::of(&self.store);
@@ -139,9 +152,11 @@ impl<D: Disk, W> Feeding<D, W> {
 
     /// Writes the root behind its closed gate.
     fn write(&mut self, alloc: Global, output: &Output<W>) -> Result<(), Refusal>
+        requires prepared { WorksIn phase.Prepared self.old.store }
         ensures stays { StaysFed ⟦<D as Disk>⟧ self.old.store self.new.store result }
         ensures frozen { self.new.store.frozen ≡ self.old.store.frozen }
-        ensures cause { IfErr result IsFeedFault }
+        ensures written { OnOk result (WorksIn phase.Written self.new.store) }
+        ensures cause { IfErr result IsStreamFault }
         ensures kept { StaysKept ⟦<D as Disk>⟧ self.old output.now self.new output.now }
     {
         let began = Snapshot::of(&self.store);
@@ -151,10 +166,11 @@ impl<D: Disk, W> Feeding<D, W> {
 
     /// Opens the root, and answers its number.
     fn open(&mut self, output: &Output<W>) -> Result<u64, Refusal>
+        requires written { WorksIn phase.Written self.old.store }
         ensures stays { StaysFed ⟦<D as Disk>⟧ self.old.store self.new.store result }
         ensures opened { IsTrue D.is_honest → IfOk result (OpensFrozen ⟦<D as Disk>⟧ self.old self.new) }
         ensures works { OnOk result (self.new.store.is_broken ≡ false) }
-        ensures cause { IfErr result IsFeedFault }
+        ensures cause { IfErr result IsStreamFault }
         ensures kept { StaysKept ⟦<D as Disk>⟧ self.old output.now self.new output.now }
     {
         let began = Snapshot::of(&self.store);
@@ -165,10 +181,11 @@ impl<D: Disk, W> Feeding<D, W> {
     /// Makes a checkpoint and answers its number. All events are durable before. At `Ok` it is the newest checkpoint of each image of the
     /// devices. No event is lost or added meanwhile, and each image has the same content.
     pub fn make_checkpoint(&mut self, alloc: Global, output: &Output<W>) -> Result<u64, Refusal>
+        requires rests { Rests self.old.store }
         ensures stays { StaysFed ⟦<D as Disk>⟧ self.old.store self.new.store result }
         ensures made { IsTrue D.is_honest → IfOk result (OpensLive ⟦<D as Disk>⟧ self.old self.new) }
         ensures works { OnOk result (self.new.store.is_broken ≡ false) }
-        ensures cause { IfErr result IsFeedFault }
+        ensures cause { IfErr result (IsCheckpointFault ⟦<D as Disk>⟧ self.old.store self.new.store.devices) }
         ensures kept { StaysKept ⟦<D as Disk>⟧ self.old output.now self.new output.now }
     {
         self.freeze(alloc, output)?;

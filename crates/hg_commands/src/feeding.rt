@@ -1,15 +1,17 @@
 //! Feeding the events of a trace text to a store.
 
-ghost use Rattle.std.specs.Prelude.{◌≡◌, ◌+◌, ◌<◌, ◌++◌, false, Option, [], Ok, IfOk, IfErr, OnErr, OnOk};
+ghost use Rattle.std.specs.Prelude.{◌≡◌, ◌+◌, ◌<◌, ◌++◌, false, Option, [], Ok, IfOk, IfErr, IsTrue, OnErr, OnOk};
 ghost use Rattle.hg_streams.specs.Calls.{failed_writes};
 ghost use Rattle.hg_streams.specs.Told.{told};
 ghost use Rattle.hg_streams.specs.Written.{Took};
+ghost use Rattle.hg_store.specs.Shown.{live};
 ghost use Rattle.hg_store.specs.Store.{IsIdle};
 ghost use Rattle.hg_commands.specs.FeedRunning.{IsReady, is_due, place};
 ghost use Rattle.hg_streams.specs.Faults.{IsStreamFault, TellsNoFault};
 ghost use Rattle.hg_streams.specs.Printed.{IsPrintedNow};
-ghost use Rattle.hg_commands.specs.Stepping.{AcksAreKept, Checkpointed, Done, Failed, FailedFor, Fails, FaultIsTold, FedOrFault, FedWhere, FeedsFrom, FrontWhere, KeepsAcks, LeavesFront, LeftFront, MayHaveTold, StaysKept, FeedsWell, end_of};
-ghost use Rattle.hg_commands.specs.FeedFaults.{IsFeedFault};
+ghost use Rattle.hg_commands.specs.Stepping.{AcksAreKept, Checkpointed, Done, Failed, FailedFor, Fails, FaultIsTold, FedOrFault, FedWhere, FeedsFrom, FrontWhere, IsOnWay, KeepsAcks, LeavesFront, LeftFront, MayHaveTold, StaysKept, FeedsWell, end_of};
+ghost use Rattle.hg_commands.specs.FeedFaults.{IsFeedFault, Rests};
+ghost use Rattle.hg_commands.specs.Instants.{WereOpenWith};
 
 use crate::lines::{Fed, Feeding};
 use crate::listing::hold_end_line;
@@ -134,7 +136,8 @@ impl<D: Disk, W: Write> Feeding<D, W> {
         ensures goes { OnOk result (FeedsWell ⟦<D as Disk>⟧ self.old output.old self.new output.new) }
         ensures feeds { IfOk result (FeedsFrom ⟦<D as Disk>⟧ input.old input.new self.old self.new) }
         ensures front { OnErr result (LeftFront ⟦<D as Disk>⟧ input.old input.new self.old output.old output.new) }
-        ensures cause { Fails ⟦<D as Disk>⟧ input.old input.new self.old output.old self.new output.new result }
+        ensures way { IsOnWay ⟦<D as Disk>⟧ input.old input.new self.old self.new }
+        ensures cause { Fails ⟦<D as Disk>⟧ false input.old input.new self.old output.old self.new output.new result }
         ensures kept { StaysKept ⟦<D as Disk>⟧ self.old output.old self.new output.new }
     {
         let stop = read(alloc, input, self, output)?;
@@ -148,10 +151,11 @@ impl<D: Disk, W: Write> Feeding<D, W> {
         is_made: bool,
         output: &mut Output<W>,
     ) -> Result<(), Refusal>
-        requires works { self.old.store.is_broken ≡ false }
+        requires rests { Rests self.old.store }
         ensures made { OnOk result (Checkpointed ⟦<D as Disk>⟧ is_made self.old output.old self.new output.new) }
         ensures front { OnErr result (MayHaveTold output.old output.new) }
-        ensures cause { IfErr result IsFeedFault }
+        ensures live { IsTrue D.is_honest → live ⟦<D as Disk>⟧ self.new.store ≡ live ⟦<D as Disk>⟧ self.old.store }
+        ensures cause { IfErr result (IsFeedFault ⟦<D as Disk>⟧ is_made self.new.store.devices) }
         ensures fault { Failed ⟦<D as Disk>⟧ (told result) self.old output.old self.new output.new }
         ensures kept { StaysKept ⟦<D as Disk>⟧ self.old output.old self.new output.new }
     {
@@ -175,7 +179,8 @@ impl<D: Disk, W: Write> Feeding<D, W> {
         requires accepted { self.old.fed.accepted ≡ 0 }
         ensures fed { Done ⟦<D as Disk>⟧ asked input.old input.new self.old output.old self.new output.new result }
         ensures front { FrontWhere ⟦<D as Disk>⟧ input.old input.new self.old output.old output.new result }
-        ensures cause { Fails ⟦<D as Disk>⟧ input.old input.new self.old output.old self.new output.new result }
+        ensures way { IsOnWay ⟦<D as Disk>⟧ input.old input.new self.old self.new }
+        ensures cause { Fails ⟦<D as Disk>⟧ asked input.old input.new self.old output.old self.new output.new result }
         ensures kept { StaysKept ⟦<D as Disk>⟧ self.old output.old self.new output.new }
     {
         let last = self.store.last(self.fed.source)?;
@@ -200,8 +205,9 @@ fn recover_and_feed<D: Disk, R: Read, W: Write>(
 ) -> (Result<Ending, Refusal>, Devices<D>, Trail<Moment<D, W>>)
     ensures fed { FedWhere ⟦<D as Disk>⟧ settings devices input.old input.new output.old output.new result }
     ensures front { LeavesFront ⟦<D as Disk>⟧ settings devices input.old input.new output.old output.new result }
-    ensures cause { FailedFor ⟦<D as Disk>⟧ devices input.old input.new output.old output.new result }
-    ensures kept { AcksAreKept ⟦<D as Disk>⟧ devices output.old result.2 result.1 output.new }
+    ensures cause { FailedFor ⟦<D as Disk>⟧ settings devices input.old input.new output.old output.new result }
+    ensures kept { AcksAreKept ⟦<D as Disk>⟧ settings devices input.old input.new output.old output.new result }
+    ensures limits { IsTrue D.is_honest → WereOpenWith settings.frames result.2 }
 {
     match Store::recover(alloc, devices, settings.frames, Caps::profile()) {
         Ok(store) => {
@@ -242,6 +248,9 @@ fn recover_and_feed<D: Disk, R: Read, W: Write>(
 ///
 /// Whatever the status, a crash at any moment of the call loses no event that an `ack` written by then counts. The moments in the
 /// outcome show it: the first is the opening of the store, and one comes after each step of the store. A checkpoint changes no content.
+///
+/// At each moment the store has the frames that were asked for, and the greatest number of slots. Where no checkpoint is due, the roots are
+/// called to open the store, four times each at most, and not after that.
 pub fn feed<D: Disk, R: Read, W: Write, V: Write>(
     alloc: Global,
     devices: Devices<D>,
@@ -251,7 +260,8 @@ pub fn feed<D: Disk, R: Read, W: Write, V: Write>(
     ensures fed { FedOrFault ⟦<D as Disk>⟧ settings devices streams.old streams.new result }
     ensures quiet { TellsNoFault result.status streams.old streams.new }
     ensures fault { FaultIsTold ⟦<D as Disk>⟧ settings devices streams.old streams.new result }
-    ensures kept { KeepsAcks ⟦<D as Disk>⟧ devices streams.old result streams.new }
+    ensures kept { KeepsAcks ⟦<D as Disk>⟧ settings devices streams.old result streams.new }
+    ensures limits { IsTrue D.is_honest → WereOpenWith settings.frames result.moments }
 {
     let (done, devices, moments) = recover_and_feed(
         alloc,

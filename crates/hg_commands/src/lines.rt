@@ -6,8 +6,8 @@ ghost use Rattle.hg_streams.specs.Written.{Took};
 ghost use Rattle.hg_commands.specs.FeedRunning.{EndsLine, IsReady, WasCommitted, WasSent};
 ghost use Rattle.hg_streams.specs.Faults.{IsStreamFault};
 ghost use Rattle.hg_streams.specs.Printed.{IsPrintedNow};
-ghost use Rattle.hg_commands.specs.Stepping.{BreaksWhere, Counted, EndsWhere, Failed, PassesWhere, StaysKept, ack_due, ack_of};
-ghost use Rattle.hg_commands.specs.FeedFaults.{IsFeedFault};
+ghost use Rattle.hg_commands.specs.Stepping.{BreaksWhere, Counted, EndsWhere, Failed, KeepsToWay, PassesWhere, StaysKept, ack_due, ack_of};
+ghost use Rattle.hg_commands.specs.FeedFaults.{IsLineFault};
 
 use crate::moment::Moment;
 use hg_detect::detector::Answer;
@@ -54,6 +54,7 @@ impl<D: Disk, W: Write> Feeding<D, W> {
         ensures calls { IsPrintedNow output.old.calls output.new.calls (ack_of ⟦<D as Disk>⟧ self.old) }
         ensures cause { IfErr result IsStreamFault }
         ensures fault { Failed ⟦<D as Disk>⟧ (told result) self.old output.old self.new output.new }
+        ensures detector { self.new.store.detector ≡ self.old.store.detector }
         ensures progress { self.new.store.progress ≡ self.old.store.progress }
         ensures fed { self.new.fed ≡ self.old.fed }
         ensures kept { StaysKept ⟦<D as Disk>⟧ self.old output.old self.new output.new }
@@ -73,6 +74,7 @@ impl<D: Disk, W: Write> Feeding<D, W> {
         ensures calls { IsPrintedNow output.old.calls output.new.calls (ack_due ⟦<D as Disk>⟧ self.old) }
         ensures cause { IfErr result IsStreamFault }
         ensures fault { Failed ⟦<D as Disk>⟧ (told result) self.old output.old self.new output.new }
+        ensures detector { self.new.store.detector ≡ self.old.store.detector }
         ensures kept { StaysKept ⟦<D as Disk>⟧ self.old output.old self.new output.new }
     {
         self.fed.accepted += 1;
@@ -110,7 +112,8 @@ impl<D: Disk, W: Write> Feeding<D, W> {
         ensures passes { PassesWhere ⟦<D as Disk>⟧ reading.now self.old output.old result self.new output.new }
         ensures ends { EndsWhere ⟦<D as Disk>⟧ reading.now self.old output.old result self.new output.new }
         ensures front { BreaksWhere ⟦<D as Disk>⟧ reading.now self.old output.old result output.new }
-        ensures cause { IfErr result IsFeedFault }
+        ensures way { KeepsToWay ⟦<D as Disk>⟧ reading.now self.old output.old self.new output.new }
+        ensures cause { IfErr result (IsLineFault ⟦<D as Disk>⟧) }
         ensures fault { Failed ⟦<D as Disk>⟧ (told result) self.old output.old self.new output.new }
         ensures kept { StaysKept ⟦<D as Disk>⟧ self.old output.old self.new output.new }
     {

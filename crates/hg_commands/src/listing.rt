@@ -6,10 +6,11 @@ ghost use Rattle.hg_streams.specs.Told.{told};
 ghost use Rattle.hg_store.specs.Images.{KeepsFiles, Recovers};
 ghost use Rattle.hg_streams.specs.Written.{Took};
 ghost use Rattle.hg_streams.specs.Faults.{IsStreamFault};
-ghost use Rattle.hg_commands.specs.Listings.{BreaksReports, CantList, HasListingCause, HoldsReports, IsListed, ListsButHeld, ListsContent, ListsFront, ListsStore, WroteListing};
+ghost use Rattle.hg_commands.specs.Listings.{BreaksReports, CantList, FailedFor, HoldsReports, IsListed, ListedWhere, ListsButHeld, ListsFront, ListsStore, WroteListing};
 ghost use Rattle.hg_store.specs.Limits.{IsFrameCount};
-ghost use Rattle.hg_commands.specs.Storing.{NoCallFailed, end_text};
+ghost use Rattle.hg_commands.specs.Storing.{end_text};
 
+use crate::moment::{Moment, Outcome};
 use hg_disk::Disk;
 use hg_model::report::Report;
 use hg_model::verdict::Refusal;
@@ -20,6 +21,7 @@ use hg_streams::listing::Listing;
 use hg_streams::output::{Output, Outputs};
 use hg_streams::printing::print_segments;
 use hg_streams::telling::end_by_fault;
+use hg_trail::Trail;
 use std::alloc::Global;
 use std::io::Write;
 
@@ -100,28 +102,29 @@ fn print_store<D: Disk, W: Write>(
     Ok(())
 }
 
-/// Recovers a store, prints what it holds, and hands its devices back.
+/// Recovers a store, prints what it holds, and hands its devices back, with the moment of its opening.
 fn recover_and_print<D: Disk, W: Write>(
     alloc: Global,
     devices: Devices<D>,
     frames: u16,
     listing: Listing,
     output: &mut Output<W>,
-) -> (Result<(), Refusal>, Devices<D>)
+) -> (Result<(), Refusal>, Devices<D>, Trail<Moment<D, W>>)
     requires { IsFrameCount frames }
-    ensures prints { OnOk result.0 (ListsContent ⟦<D as Disk>⟧ listing devices output.old output.new) }
+    ensures prints { ListedWhere ⟦<D as Disk>⟧ listing frames devices output.old output.new result }
     ensures front { OnErr result.0 (WroteListing ⟦<D as Disk>⟧ listing devices output.old output.new) }
-    ensures device { OnOk result.0 (NoCallFailed ⟦<D as Disk>⟧ devices result.1) }
-    ensures cause { IfErr result.0 (HasListingCause ⟦<D as Disk>⟧ devices result.1 output.old output.new) }
+    ensures cause { FailedFor ⟦<D as Disk>⟧ frames devices output.old output.new result }
     ensures files { KeepsFiles ⟦<D as Disk>⟧ devices result.1 }
     ensures images { IsTrue D.is_honest → Recovers ⟦<D as Disk>⟧ devices result.1 }
 {
     match Store::recover(alloc, devices, frames, Caps::profile()) {
         Ok(store) => {
+            let mut moments = Trail::new();
+            moments.push(Moment::of(&store, &*output));
             let printed = print_store(alloc, &store, listing, output);
-            (printed, store.into_devices())
+            (printed, store.into_devices(), moments)
         }
-        Err((refusal, devices)) => (Err(refusal), devices),
+        Err((refusal, devices)) => (Err(refusal), devices, Trail::new()),
     }
 }
 
@@ -129,23 +132,24 @@ fn recover_and_print<D: Disk, W: Write>(
 /// status and the devices: 0, or 3 where they hold no store, a device or the output failed, or memory or room was refused, which is
 /// told among the faults. What was printed before that is a front of what was due. A recovery may write pages, but it keeps the
 /// journal and the roots, and a crash at any moment leaves an image with the content of an image before.
+///
+/// The store is opened with so many frames and the greatest caps, and only looked at then. The one moment in the outcome shows it.
 pub fn list_store<D: Disk, W: Write, V: Write>(
     alloc: Global,
     devices: Devices<D>,
     frames: u16,
     listing: Listing,
     outputs: &mut Outputs<W, V>,
-) -> (u8, Devices<D>)
+) -> Outcome<D, W>
     requires { IsFrameCount frames }
-    ensures status { (result.0 ≡ 0) ⊎ (result.0 ≡ 3) }
-    ensures prints { result.0 ≡ 0 → IsListed ⟦<D as Disk>⟧ listing devices outputs.old outputs.new }
-    ensures device { result.0 ≡ 0 → NoCallFailed ⟦<D as Disk>⟧ devices result.1 }
-    ensures quiet { result.0 ≡ 0 → Took outputs.old.faults.calls outputs.new.faults.calls [] }
-    ensures fault { result.0 ≡ 3 → CantList ⟦<D as Disk>⟧ listing devices result.1 outputs.old outputs.new }
-    ensures files { KeepsFiles ⟦<D as Disk>⟧ devices result.1 }
-    ensures images { IsTrue D.is_honest → Recovers ⟦<D as Disk>⟧ devices result.1 }
+    ensures status { (result.status ≡ 0) ⊎ (result.status ≡ 3) }
+    ensures prints { IsListed ⟦<D as Disk>⟧ listing frames devices outputs.old outputs.new result }
+    ensures quiet { result.status ≡ 0 → Took outputs.old.faults.calls outputs.new.faults.calls [] }
+    ensures fault { CantList ⟦<D as Disk>⟧ listing frames devices outputs.old outputs.new result }
+    ensures files { KeepsFiles ⟦<D as Disk>⟧ devices result.devices }
+    ensures images { IsTrue D.is_honest → Recovers ⟦<D as Disk>⟧ devices result.devices }
 {
-    let (printed, devices) = recover_and_print(
+    let (printed, devices, moments) = recover_and_print(
         alloc,
         devices,
         frames,
@@ -153,7 +157,18 @@ pub fn list_store<D: Disk, W: Write, V: Write>(
         &mut outputs.output,
     );
     match printed {
-        Ok(()) => (0, devices),
-        Err(refusal) => (end_by_fault(refusal, &mut outputs.faults), devices),
+        Ok(()) => Outcome {
+            status: 0,
+            devices,
+            moments,
+        },
+        Err(refusal) => {
+            let status = end_by_fault(refusal, &mut outputs.faults);
+            Outcome {
+                status,
+                devices,
+                moments,
+            }
+        }
     }
 }

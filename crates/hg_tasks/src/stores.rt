@@ -85,7 +85,8 @@ pub fn print_of_store(
         Err(fault) => return fail_to_open(rt, &fault, verbose),
     };
     let mut outputs = noted_outputs(rt);
-    let (status, devices) = list_store(rt.alloc(), devices, frames.pages, listing, &mut outputs);
+    let outcome = list_store(rt.alloc(), devices, frames.pages, listing, &mut outputs);
+    let (status, devices) = (outcome.status, outcome.devices);
     if verbose {
         tell_of_listing(rt, &outputs, devices);
     }

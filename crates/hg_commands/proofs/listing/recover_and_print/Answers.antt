@@ -1,12 +1,32 @@
-use Rattle.std.proofs.Common.{inr, sym, subst}
+use Rattle.std.proofs.Common.{◌∙◌, inl, inr, sym, subst, refl, ap}
+use Rattle.std.proofs.lemmas.Result.{on_ok_weaker}
 use Rattle.hg_contents.specs.Images.{HasContent}
 use Rattle.hg_store.specs.Images.{KeepsFiles, Recovers, failures_of, read_of}
 use Rattle.hg_store.specs.Shown.{live}
-use Rattle.hg_store.proofs.Refusals.{recovery_is_true}
-use Rattle.hg_streams.specs.Calls.{failed_writes}
-use Rattle.hg_commands.proofs.Causes.{counted_with, recovery_is_counted}
+use Rattle.hg_store.proofs.Refusals.{is_not_opened, opened_with}
 use Rattle.hg_streams.proofs.Fronts.{on_err_weaker}
+use Rattle.hg_commands.proofs.Openings.{listing_breaks, was_opened}
 use Rattle.hg_commands.proofs.listing.recover_and_print.Goals as goal
+
+pub returns-in-Ok-clause-prints : goal.returns-in-Ok-clause-prints
+returns-in-Ok-clause-prints g c =
+    on_ok_weaker c.print_store-printed.result
+    (λ printed. record {
+      prints = λ honest.
+          let began = c.in-Ok.ensures.content honest in
+          (live g.D.Disk c.in-Ok.store, subst (λ x. HasContent (read_of g.D.Disk c.args.devices) x) (sym began.2.has) began.1, printed);
+      opened = was_opened c.in-Ok.store c.args.frames c.args.output.now.calls c.new-moments.result c.push.new.self c.of.result c.into_devices.result
+          (opened_with g.D.Disk c.in-Ok.store c.args.frames c.profile.result c.profile.ensures c.in-Ok.ensures.limits) c.new-moments.ensures c.push.ensures c.of.ensures c.into_devices.ensures;
+      device = ap (failures_of g.D.Disk) c.into_devices.ensures ∙ c.in-Ok.ensures.device;
+    })
+    c.print_store-printed.ensures.printed
+
+pub returns-in-Ok-clause-cause : goal.returns-in-Ok-clause-cause
+returns-in-Ok-clause-cause g c =
+    listing_breaks g.D.Disk c.args.frames c.args.devices c.into_devices.result c.push.new.self c.args.output.now c.print_store-printed.new.output c.print_store-printed.result
+    (was_opened c.in-Ok.store c.args.frames c.args.output.now.calls c.new-moments.result c.push.new.self c.of.result c.into_devices.result
+    (opened_with g.D.Disk c.in-Ok.store c.args.frames c.profile.result c.profile.ensures c.in-Ok.ensures.limits) c.new-moments.ensures c.push.ensures c.of.ensures c.into_devices.ensures)
+    (ap (failures_of g.D.Disk) c.into_devices.ensures ∙ c.in-Ok.ensures.device) c.print_store-printed.ensures.cause c.print_store-printed.ensures.fault
 
 pub returns-in-Ok-clause-front : goal.returns-in-Ok-clause-front
 returns-in-Ok-clause-front g c =
@@ -25,10 +45,9 @@ returns-in-Ok-clause-files g c = subst (λ d. KeepsFiles g.D.Disk c.args.devices
 
 pub returns-in-Err-clause-cause : goal.returns-in-Err-clause-cause
 returns-in-Err-clause-cause g c =
-    let old = failures_of g.D.Disk c.args.devices in
-    let new = failures_of g.D.Disk c.in-Err.devices in
-    record {
-      is_true = recovery_is_true g.D.Disk c.args.devices c.in-Err.refusal c.profile.result.sets
-          c.in-Err.ensures.refusal c.profile.ensures.0 c.in-Err.ensures.damaged c.in-Err.ensures.full;
-      failed = counted_with c.in-Err.refusal old new (failed_writes c.args.output.now.calls) (recovery_is_counted c.in-Err.refusal old new c.in-Err.ensures.device);
-    }
+    inl (
+      is_not_opened g.D.Disk c.args.devices c.in-Err.devices c.in-Err.refusal c.profile.result c.profile.ensures c.in-Err.ensures.refusal
+          c.in-Err.ensures.damaged c.in-Err.ensures.full c.in-Err.ensures.full_slots c.in-Err.ensures.device c.in-Err.ensures.files,
+      refl,
+      c.new.ensures,
+    )

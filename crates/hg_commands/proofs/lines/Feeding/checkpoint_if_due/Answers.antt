@@ -1,10 +1,10 @@
 use Rattle.std.proofs.Common.{ℕ, Option, Some, codes, inl, inr, refl}
-use Rattle.std.proofs.lemmas.Result.{on_ok_weaker}
+use Rattle.std.proofs.lemmas.Result.{err_from_is_err_and, on_ok_weaker}
 use Rattle.hg_streams.proofs.Printed.{always_err}
 use Rattle.hg_commands.specs.Feeding.{checkpoint_text}
 use Rattle.hg_streams.specs.Printed.{IsPrintedNow}
 use Rattle.hg_streams.specs.Texts.{number_text}
-use Rattle.hg_commands.proofs.Checkpointed.{checkpointed}
+use Rattle.hg_commands.proofs.Checkpointed.{checkpointed, fault_if_due}
 use Rattle.hg_commands.proofs.Kept.{keeps_printed, keeps_then}
 use Rattle.hg_commands.proofs.lines.Feeding.checkpoint_if_due.Goals as goal
 
@@ -30,3 +30,9 @@ returns-clause-kept g c =
     c.make_checkpoint.ensures.kept
     (keeps_printed g.D.Disk m calls c.print_number.new.output.calls c.make_checkpoint.new.self.moments (number_text (codes "checkpoint ") number) c.print_number.ensures.calls
     (λ honest backs. inr (inr (inr (inl (number, refl))))))
+
+pub returns-in_err-number-clause-cause : goal.returns-in_err-number-clause-cause
+returns-in_err-number-clause-cause g c =
+    let q = err_from_is_err_and c.from_residual.result c.from_residual.ensures.1 in
+    rw (q.1, q.2)
+    (fault_if_due g.D.Disk c.args.is_made c.args.self.now.store c.make_checkpoint.new.self.store.devices _ c.if-not-is_made.false c.in_err-number.ensures.cause)

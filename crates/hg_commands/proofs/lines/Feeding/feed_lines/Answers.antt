@@ -1,9 +1,9 @@
-use Rattle.std.proofs.Common.{Err, sym, subst}
+use Rattle.std.proofs.Common.{Err, Ok, sym, subst}
 use Rattle.std.proofs.lemmas.Result.{err_from_is_err_and}
 use Rattle.hg_store.specs.Shown.{live}
 use Rattle.hg_streams.proofs.Printed.{always_err}
 use Rattle.hg_commands.specs.FeedRunning.{Feeds, place}
-use Rattle.hg_commands.proofs.FeedWhole.{fails, feeds, front, kept}
+use Rattle.hg_commands.proofs.FeedWhole.{fails, feeds, front, kept, way}
 use Rattle.hg_commands.proofs.lines.Feeding.feed_lines.Goals as goal
 
 pub returns-in_err-stop-clause-front : goal.returns-in_err-stop-clause-front
@@ -29,3 +29,13 @@ returns-clause-feeds g c =
     (sym c.ended.ensures)
     (feeds g.D.Disk _ (λ s calls. place s.store s.fed calls) (λ s. s.moments) (λ a b at_a at_b lines r h. h) c.args.input.now.calls c.read.new.input.calls c.args.self.now c.read.new.sink
     c.args.output.now.calls c.read.new.output.calls c.in_ok-stop.stop c.requires.start c.in_ok-stop.ensures)
+
+pub returns-in_err-stop-clause-way : goal.returns-in_err-stop-clause-way
+returns-in_err-stop-clause-way g c =
+    way g.D.Disk _ (λ s calls. place s.store s.fed calls) (λ s. s.moments) (λ a b at_a at_b lines r h. h) c.args.input.now.calls c.read.new.input.calls c.args.self.now c.read.new.sink
+    c.args.output.now.calls c.read.new.output.calls (Err c.in_err-stop.field-0.0) c.requires.ready c.requires.start c.in_err-stop.ensures
+
+pub returns-clause-way : goal.returns-clause-way
+returns-clause-way g c =
+    way g.D.Disk _ (λ s calls. place s.store s.fed calls) (λ s. s.moments) (λ a b at_a at_b lines r h. h) c.args.input.now.calls c.read.new.input.calls c.args.self.now c.read.new.sink
+    c.args.output.now.calls c.read.new.output.calls (Ok c.in_ok-stop.stop) c.requires.ready c.requires.start c.in_ok-stop.ensures

@@ -1,7 +1,8 @@
-use Rattle.std.proofs.Common.{Ok, subst, ap, ◌∙◌}
+use Rattle.std.proofs.Common.{Ok, Err, refl, subst, ap, ◌∙◌}
 use Rattle.hg_detect.specs.declared.detector.Answer.{Answer}
+use Rattle.hg_detect.specs.declared.detector.Answer.TheVariants.{Duplicate}
 use Rattle.hg_commands.specs.FeedRunning.{WasSent}
-use Rattle.hg_commands.proofs.FeedSteps.{breaks_accepted, breaks_still, ends_refused, fault_counted, fault_is_told, passes_accepted, passes_duplicate}
+use Rattle.hg_commands.proofs.FeedSteps.{breaks_accepted, breaks_still, ends_refused, fault_counted, fault_is_told, passes_accepted, passes_duplicate, way_accepted, way_refused, way_still}
 use Rattle.hg_commands.proofs.Kept.{keeps_then}
 use Rattle.hg_streams.proofs.Printed.{always_err}
 use Rattle.hg_commands.proofs.lines.Feeding.feed_reading.Goals as goal
@@ -47,10 +48,43 @@ pub returns-in-Err-clause-front : goal.returns-in-Err-clause-front
 returns-in-Err-clause-front g c = always_err _ (breaks_still g.D.Disk c.args.self.now.store c.args.self.now.fed c.args.output.now.calls c.args.reading.now)
 
 pub returns-in-Err-clause-cause : goal.returns-in-Err-clause-cause
-returns-in-Err-clause-cause g c = fault_is_told c.args.reading.now.line c.in-Err.refusal c.end_line.result c.end_line.ensures
+returns-in-Err-clause-cause g c =
+    fault_is_told g.D.Disk c.args.self.now.store c.send.new.self.store c.args.self.now.fed c.send.new.self.fed c.in-Ok.event c.args.reading.now.line c.in-Err.refusal c.end_line.result c.requires.ready
+    (subst (λ r. WasSent g.D.Disk c.args.self.now.store c.send.new.self.store c.args.self.now.fed c.send.new.self.fed c.in-Ok.event r) c.in-Err.is c.send.ensures.sent)
+    c.end_line.ensures
 
 pub returns-in-Err-clause-fault : goal.returns-in-Err-clause-fault
 returns-in-Err-clause-fault g c =
     fault_counted g.D.Disk c.args.self.now.store c.send.new.self.store c.args.self.now.fed c.send.new.self.fed c.in-Ok.event c.args.output.now.calls c.args.reading.now.line c.in-Err.refusal c.end_line.result
     (subst (λ r. WasSent g.D.Disk c.args.self.now.store c.send.new.self.store c.args.self.now.fed c.send.new.self.fed c.in-Ok.event r) c.in-Err.is c.send.ensures.sent)
     c.end_line.ensures
+
+pub returns-in_err-count_accepted-in-Ok-Accepted-clause-way : goal.returns-in_err-count_accepted-in-Ok-Accepted-clause-way
+returns-in_err-count_accepted-in-Ok-Accepted-clause-way g c =
+    way_accepted g.D.Disk c.args.self.now.store c.send.new.self.store c.count_accepted.new.self.store c.args.self.now.fed c.send.new.self.fed c.count_accepted.new.self.fed c.in-Ok.event
+    c.args.output.now.calls c.count_accepted.new.output.calls c.args.reading.now c.in-Ok.is c.requires.ready
+    (subst (λ r. WasSent g.D.Disk c.args.self.now.store c.send.new.self.store c.args.self.now.fed c.send.new.self.fed c.in-Ok.event r) (c.in-Ok-Accepted.is ∙ ap (λ (a : Answer). Ok a) c.in-Ok-Accepted.field-0-is) c.send.ensures.sent)
+    c.count_accepted.ensures.detector
+
+pub returns-in_ok-count_accepted-in-Ok-Accepted-clause-way : goal.returns-in_ok-count_accepted-in-Ok-Accepted-clause-way
+returns-in_ok-count_accepted-in-Ok-Accepted-clause-way g c =
+    way_accepted g.D.Disk c.args.self.now.store c.send.new.self.store c.count_accepted.new.self.store c.args.self.now.fed c.send.new.self.fed c.count_accepted.new.self.fed c.in-Ok.event
+    c.args.output.now.calls c.count_accepted.new.output.calls c.args.reading.now c.in-Ok.is c.requires.ready
+    (subst (λ r. WasSent g.D.Disk c.args.self.now.store c.send.new.self.store c.args.self.now.fed c.send.new.self.fed c.in-Ok.event r) (c.in-Ok-Accepted.is ∙ ap (λ (a : Answer). Ok a) c.in-Ok-Accepted.field-0-is) c.send.ensures.sent)
+    c.count_accepted.ensures.detector
+
+pub returns-in-Ok-Duplicate-clause-way : goal.returns-in-Ok-Duplicate-clause-way
+returns-in-Ok-Duplicate-clause-way g c =
+    way_refused g.D.Disk c.args.self.now.store c.send.new.self.store c.args.self.now.fed c.send.new.self.fed c.in-Ok.event (Ok (Duplicate c.in-Ok-Duplicate.field-0-0))
+    c.args.output.now.calls c.args.output.now.calls c.args.reading.now refl
+    (subst (λ r. WasSent g.D.Disk c.args.self.now.store c.send.new.self.store c.args.self.now.fed c.send.new.self.fed c.in-Ok.event r) (c.in-Ok-Duplicate.is ∙ ap (λ (a : Answer). Ok a) c.in-Ok-Duplicate.field-0-is) c.send.ensures.sent)
+
+pub returns-in-Err-clause-way : goal.returns-in-Err-clause-way
+returns-in-Err-clause-way g c =
+    way_refused g.D.Disk c.args.self.now.store c.send.new.self.store c.args.self.now.fed c.send.new.self.fed c.in-Ok.event (Err c.in-Err.refusal)
+    c.args.output.now.calls c.args.output.now.calls c.args.reading.now refl
+    (subst (λ r. WasSent g.D.Disk c.args.self.now.store c.send.new.self.store c.args.self.now.fed c.send.new.self.fed c.in-Ok.event r) c.in-Err.is c.send.ensures.sent)
+
+pub returns-in_default-clause-way : goal.returns-in_default-clause-way
+returns-in_default-clause-way g c =
+    way_still g.D.Disk c.args.self.now.store c.args.self.now.store c.args.self.now.fed c.args.self.now.fed c.args.output.now.calls c.args.output.now.calls c.args.reading.now (λ honest. refl)

@@ -1,17 +1,20 @@
 use Rattle.std.proofs.Common.{◌≡◌, ℕ, Bool, true, false, None, Result, Ok, Err, cond, codes, refl, ap, subst, inl, inr, arith, ◌∙◌}
+use Rattle.hg_streams.specs.Calls.{failed_writes}
 use Rattle.hg_streams.specs.Written.{Took, TookFront}
 use Rattle.hg_model.specs.declared.verdict.Refusal.{Refusal}
 use Rattle.hg_model.specs.declared.verdict.Refusal.TheVariants as refusal
 use Rattle.hg_detect.specs.Shown as detect
 use Rattle.hg_pool.specs.Maps as pools
 use Rattle.hg_pool.specs.Shown as pool
-use Rattle.hg_store.specs.Shown.{live}
+use Rattle.hg_store.specs.Shown.{Progress, live}
 use Rattle.hg_commands.specs.Feeding.{feed_end_text}
 use Rattle.hg_streams.specs.Texts.{number_text}
 use Rattle.hg_commands.proofs.Kept.{keeps_printed, keeps_then}
 use Rattle.hg_commands.proofs.FeedDone.{was_fed}
+use Rattle.hg_commands.proofs.Ways.{way_at_start, way_same}
+use Rattle.hg_commands.proofs.Checkpointed.{fault_of_due, rests_behind}
 use Rattle.std.proofs.lemmas.Result.{err_from_is_err_and}
-use Rattle.hg_commands.proofs.FeedWhole.{reads_intact}
+use Rattle.hg_commands.proofs.FeedWhole.{fails_behind, reads_intact}
 use Rattle.hg_streams.proofs.Printed.{always_err, front_none}
 use Rattle.hg_streams.proofs.Fronts.{printed_front}
 use Rattle.hg_commands.proofs.FeedFronts.{resumed, wrote_acks, wrote_end, wrote_fed, wrote_made, wrote_resume}
@@ -34,12 +37,33 @@ returns-clause-fed g c =
     c.in_ok-end.ensures.goes c.in_ok-end.ensures.feeds
     c.in_ok-acknowledge.ensures.committed c.in_ok-acknowledge.ensures.printed c.in_ok-checkpoint_if_due.ensures.made c.in_ok-print_end.ensures.printed c.stands.ensures.backs
 
+never_fails : (b : Bool) (r : Refusal) (x : ℕ) → b ≡ false → ◌≡◌ {A = Result ℕ Refusal} (Err r) (cond b (Err refusal.Broken) (Ok x)) → ⊥
+never_fails true r x works h = absurd (cc)
+never_fails false r x works h = absurd (cc)
+
+pub returns-in_err-last-clause-cause : goal.returns-in_err-last-clause-cause
+returns-in_err-last-clause-cause g c =
+    let s = c.args.self.now.store in
+    absurd (never_fails s.is_broken _ ((live g.D.Disk s).last c.args.self.now.fed.source) c.requires.idle.works c.in_err-last.ensures)
+
+pub returns-in_err-end-clause-cause : goal.returns-in_err-end-clause-cause
+returns-in_err-end-clause-cause g c =
+    let same : failed_writes c.print_number.new.output.calls ≡ failed_writes c.args.output.now.calls = omega (arith, c.in_ok-print_number.ensures.fault) in
+    let q = err_from_is_err_and c.from_residual-in_err-end.result c.from_residual-in_err-end.ensures.1 in
+    rw (q.1, q.2)
+    (fails_behind g.D.Disk c.args.asked c.args.self.now.store.devices c.feed_lines.new.self.store.devices c.args.input.now.calls c.feed_lines.new.input.calls c.args.output.now.calls c.print_number.new.output.calls c.feed_lines.new.output.calls _
+    same c.in_err-end.ensures.cause)
+
+pub checkpoint_if_due-requires : goal.checkpoint_if_due-requires
+checkpoint_if_due-requires g c =
+    record { rests = rests_behind c.acknowledge.new.self.store c.in_ok-acknowledge.ensures.committed.works (ap (λ (p : Progress). p.phase) c.acknowledge.ensures.progress ∙ c.in_ok-end.ensures.goes.ready.phase) c.in_ok-acknowledge.ensures.committed.none }
+
 pub returns-in_err-acknowledge-clause-cause : goal.returns-in_err-acknowledge-clause-cause
 returns-in_err-acknowledge-clause-cause g c =
     let q = err_from_is_err_and c.from_residual-in_err-acknowledge.result c.from_residual-in_err-acknowledge.ensures.1 in
     rw (q.1, q.2)
     (record {
-      is = inl c.in_err-acknowledge.ensures.cause;
+      is = inl (inl c.in_err-acknowledge.ensures.cause);
       failed = inl (omega (
         arith,
         c.in_err-acknowledge.ensures.fault,
@@ -54,7 +78,7 @@ returns-in_err-checkpoint_if_due-clause-cause g c =
     let q = err_from_is_err_and c.from_residual-in_err-checkpoint_if_due.result c.from_residual-in_err-checkpoint_if_due.ensures.1 in
     rw (q.1, q.2)
     (record {
-      is = c.in_err-checkpoint_if_due.ensures.cause;
+      is = fault_of_due g.D.Disk c.args.asked c.checkpoint_is_due-is_made.result c.in_ok-end.end c.checkpoint_if_due.new.self.store.devices _ c.checkpoint_is_due-is_made.ensures c.in_err-checkpoint_if_due.ensures.cause;
       failed = inl (omega (
         arith,
         c.in_err-checkpoint_if_due.ensures.fault,
@@ -70,7 +94,7 @@ returns-in_err-print_end-clause-cause g c =
     let q = err_from_is_err_and c.from_residual-in_err-print_end.result c.from_residual-in_err-print_end.ensures.1 in
     rw (q.1, q.2)
     (record {
-      is = inl c.in_err-print_end.ensures.cause;
+      is = inl (inl c.in_err-print_end.ensures.cause);
       failed = inl (omega (
         arith,
         c.in_err-print_end.ensures.fault,
@@ -195,3 +219,37 @@ returns-in_err-print_end-clause-front g c = λ honest.
     o p c.feed_lines.new.output.calls c.acknowledge.new.output.calls c.checkpoint_if_due.new.output.calls c.print_end.new.output.calls (live g.D.Disk c.checkpoint_if_due.new.self.store) made.checkpoint c.in_ok-end.end c.requires.accepted (subst (λ (n : ℕ). Took o p (number_text (codes "resume ") n)) (last_is s.is_broken c.in_ok-last.last ((live g.D.Disk s).last c.args.self.now.fed.source) c.requires.idle.works c.in_ok-last.ensures) c.in_ok-print_number.ensures.printed)
     c.in_ok-end.ensures.goes c.in_ok-end.ensures.feeds c.in_ok-acknowledge.ensures.printed made.printed
     (made.live honest ∙ ap (λ (d : detect.ShownDetector (pool.ShownPool g.row.D.Denot)). detect.content (pools.live g.D.Disk) d) c.in_ok-acknowledge.ensures.committed.detector) c.print_end.ensures.calls)
+
+pub returns-in_err-last-clause-way : goal.returns-in_err-last-clause-way
+returns-in_err-last-clause-way g c = λ honest. way_at_start c.args.self.now.fed.source c.args.self.now.store.detector.sets (live g.D.Disk c.args.self.now.store) c.args.input.now.calls
+
+pub returns-in_err-print_number-clause-way : goal.returns-in_err-print_number-clause-way
+returns-in_err-print_number-clause-way g c = λ honest. way_at_start c.args.self.now.fed.source c.args.self.now.store.detector.sets (live g.D.Disk c.args.self.now.store) c.args.input.now.calls
+
+pub returns-in_err-acknowledge-clause-way : goal.returns-in_err-acknowledge-clause-way
+returns-in_err-acknowledge-clause-way g c = λ honest.
+    let s = c.args.self.now.store in
+    let fed = live g.D.Disk c.feed_lines.new.self.store in
+    way_same c.args.self.now.fed.source s.detector.sets (live g.D.Disk s) fed (live g.D.Disk c.acknowledge.new.self.store) c.args.input.now.calls c.feed_lines.new.input.calls
+    (ap (λ (d : detect.ShownDetector (pool.ShownPool g.row.D.Denot)). detect.content (pools.live g.D.Disk) d) c.acknowledge.ensures.detector) (c.feed_lines.ensures.way honest)
+
+pub returns-in_err-checkpoint_if_due-clause-way : goal.returns-in_err-checkpoint_if_due-clause-way
+returns-in_err-checkpoint_if_due-clause-way g c = λ honest.
+    let s = c.args.self.now.store in
+    let fed = live g.D.Disk c.feed_lines.new.self.store in
+    way_same c.args.self.now.fed.source s.detector.sets (live g.D.Disk s) fed (live g.D.Disk c.checkpoint_if_due.new.self.store) c.args.input.now.calls c.feed_lines.new.input.calls
+    (c.checkpoint_if_due.ensures.live honest ∙ ap (λ (d : detect.ShownDetector (pool.ShownPool g.row.D.Denot)). detect.content (pools.live g.D.Disk) d) c.acknowledge.ensures.detector) (c.feed_lines.ensures.way honest)
+
+pub returns-in_err-print_end-clause-way : goal.returns-in_err-print_end-clause-way
+returns-in_err-print_end-clause-way g c = λ honest.
+    let s = c.args.self.now.store in
+    let fed = live g.D.Disk c.feed_lines.new.self.store in
+    way_same c.args.self.now.fed.source s.detector.sets (live g.D.Disk s) fed (live g.D.Disk c.checkpoint_if_due.new.self.store) c.args.input.now.calls c.feed_lines.new.input.calls
+    (c.checkpoint_if_due.ensures.live honest ∙ ap (λ (d : detect.ShownDetector (pool.ShownPool g.row.D.Denot)). detect.content (pools.live g.D.Disk) d) c.acknowledge.ensures.detector) (c.feed_lines.ensures.way honest)
+
+pub returns-clause-way : goal.returns-clause-way
+returns-clause-way g c = λ honest.
+    let s = c.args.self.now.store in
+    let fed = live g.D.Disk c.feed_lines.new.self.store in
+    way_same c.args.self.now.fed.source s.detector.sets (live g.D.Disk s) fed (live g.D.Disk c.checkpoint_if_due.new.self.store) c.args.input.now.calls c.feed_lines.new.input.calls
+    (c.checkpoint_if_due.ensures.live honest ∙ ap (λ (d : detect.ShownDetector (pool.ShownPool g.row.D.Denot)). detect.content (pools.live g.D.Disk) d) c.acknowledge.ensures.detector) (c.feed_lines.ensures.way honest)

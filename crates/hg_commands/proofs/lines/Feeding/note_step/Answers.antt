@@ -1,4 +1,5 @@
-use Rattle.std.proofs.Common.{arith}
+use Rattle.std.proofs.Common.{arith, subst, sym}
+use Rattle.hg_commands.specs.FeedFaults.{IsToldBy}
 use Rattle.hg_commands.proofs.Checkpointed.{failed_is}
 use Rattle.hg_commands.proofs.Kept.{keeps_stepped}
 use Rattle.hg_commands.proofs.lines.Feeding.note_step.Goals as goal
@@ -18,3 +19,6 @@ returns-clause-stays g c = record {
   pending = c.requires.pending;
   failures = omega (arith, c.requires.failures, failed_is c.args.done c.in-Err.fault c.in-Err.is, c.refusal_of.ensures.counted);
 }
+
+pub returns-clause-told : goal.returns-clause-told
+returns-clause-told g c = subst (λ d. IsToldBy d c.refusal_of.result) (sym c.in-Err.is) c.refusal_of.ensures.told
