@@ -1,5 +1,5 @@
 -- What a server leaves of its devices.
-use Rattle.std.proofs.Common.{◌≡◌, inl, inr, ◌<◌, ◌≤◌, ◌∙◌, List, map, Result, Ok, Err, IfErr, IsTrue, Bool, arith, refl, sym, subst}
+use Rattle.std.proofs.Common.{◌≡◌, inl, inr, ◌<◌, ◌≤◌, ◌∙◌, ◌∷◌, [], ℕ, List, ap, map, Result, Ok, Err, IfErr, IsTrue, Bool, arith, refl, sym, subst}
 use Rattle.hg_model.specs.Contents.{Content}
 use Rattle.hg_model.specs.declared.verdict.Refusal.{Refusal}
 use Rattle.hg_disk.specs.declared.disk.Disk as disk
@@ -10,7 +10,9 @@ use Rattle.hg_store.specs.Shown.{ShownStore, live}
 use Rattle.hg_store.specs.Store.{IsFresh}
 use Rattle.hg_desk.specs.Going.{LeadsTo, Point, WentOn, began, of_points, oldest, points_of}
 use Rattle.hg_desk.proofs.Going.{along_of_points, each_of_points, each_to_points, oldest_point}
-use Rattle.hg_server.specs.Serving.{HasServeCause, IsServingFault, IsToldTruly, Served}
+use Rattle.hg_store.specs.Limits.{greatest_with, limits_of}
+use Rattle.hg_server.specs.Serving.{HasServeCause, IsServingFault, IsToldTruly, Served, WasOpened}
+use Rattle.hg_server.specs.declared.settings.Settings.{Settings}
 use Rattle.hg_server.specs.declared.fault.ServingFault.{ServingFault}
 use Rattle.hg_server.specs.declared.fault.ServingFault.TheVariants as fault
 
@@ -26,9 +28,13 @@ module _ {D : Type 0} (g : disk.Ghosts D) where
   told_truly old mid new has_failed told failed more is broken = let less = failed (is broken) in omega (arith, less, more)
 
   -- why serving ended early, by the devices before the store was opened, of which no call failed meanwhile
-  pub serve_cause : (old start new : Devices D) (r : Refusal) → failures_of g start ≡ failures_of g old → IsServingFault g start new r → HasServeCause g old new r
-  serve_cause old start new r same (inl is) = let less = is.1 in inr (inl (is.0, omega (arith, same, less)))
-  serve_cause old start new r same (inr is) = inr (inr is)
+  serving_fault : (old start new : Devices D) (r : Refusal) → failures_of g start ≡ failures_of g old → IsServingFault g start new r → IsServingFault g old new r
+  serving_fault old start new r same (inl is) = let less = is.1 in inl (is.0, omega (arith, same, less))
+  serving_fault old start new r same (inr is) = inr is
+
+  pub serve_cause : (settings : Settings) (old : Devices D) (opened : List (ShownStore D)) (moments : List (Devices D)) (start new : Devices D) (r : Refusal) → failures_of g start ≡ failures_of g old
+      → WasOpened g settings.frames opened moments new → IsServingFault g start new r → HasServeCause g settings old opened moments new r
+  serve_cause settings old opened moments start new r same began is = inr (began, serving_fault old start new r same is)
 
   module _ (old : Devices D) (start now : ShownStore D) (moments : List (Devices D)) (went : WentOn g (began g start) moments now) where
     abbrev opened : Devices D
@@ -36,6 +42,16 @@ module _ {D : Type 0} (g : disk.Ghosts D) where
 
     is_opening : points_of g opened ≡ points_of g start.devices
     is_opening = oldest_point g moments now.devices ∙ went.opening
+
+    -- it was opened with these limits
+    pub was_opened : (frames : ℕ) (none all : List (ShownStore D)) (first : ShownStore D) → limits_of start ≡ greatest_with frames → none ≡ [] → all ≡ first ∷ none → first ≡ start
+        → WasOpened g frames all moments now.devices
+    was_opened frames none all first limits empty pushed is = record {
+      store = start;
+      once = pushed ∙ (ap (λ s. s ∷ none) is ∙ ap (λ t. start ∷ t) empty);
+      limits = limits;
+      is_oldest = is_opening;
+    }
 
     -- a store that was opened, and went on
     pub served : (IsTrue g.is_honest → (c : Content) × HasContent (read_of g old) c × IsFresh g start c) → (IsTrue g.is_honest → Recovers g old start.devices)

@@ -1,5 +1,5 @@
 -- What a server prints, what it leaves of its devices, and how it may fail.
-use Rattle.std.specs.Prelude.{◌≡◌, ◌⊎◌, ◌<◌, ◌++◌, ℕ, List, Result, Ok, Err, IfErr, IfOk, IsTrue, OnErr, OnOk, codes, false}
+use Rattle.std.specs.Prelude.{◌≡◌, ◌⊎◌, ◌<◌, ◌++◌, ℕ, List, [], ◌∷◌, Result, Ok, Err, IfErr, IfOk, IsTrue, OnErr, OnOk, codes, false}
 use Rattle.hg_model.specs.Contents.{Content}
 use Rattle.hg_model.specs.declared.verdict.Refusal.{Refusal}
 use Rattle.hg_model.specs.declared.verdict.Refusal.TheVariants.{Broken, DeviceFault, OutOfMemory}
@@ -11,13 +11,13 @@ use Rattle.hg_store.specs.declared.devices.Devices.{Devices}
 use Rattle.hg_store.specs.Images.{EachImageAlong, IsOn, KeepsFiles, Recovers, failures_of, read_of}
 use Rattle.hg_store.specs.Shown.{ShownStore, live, saved}
 use Rattle.hg_store.specs.Store.{Backs}
-use Rattle.hg_desk.specs.Going.{Began, LeadsTo, WentOn, oldest}
+use Rattle.hg_desk.specs.Going.{Began, LeadsTo, WentOn, oldest, points_of}
 use Rattle.hg_streams.specs.Written.{Took, TookFront}
 use Rattle.hg_streams.specs.Texts.{line_text, number_text, counts_line}
 use Rattle.hg_streams.specs.Faults.{IsTold}
 use Rattle.hg_streams.specs.declared.output.Outputs.{Outputs}
-use Rattle.hg_store.specs.Recovering.{CountedBy}
-use Rattle.hg_store.specs.Refusals.{IsTrueOf}
+use Rattle.hg_store.specs.Limits.{greatest_with, limits_of}
+use Rattle.hg_store.specs.Refusals.{IsNotOpened}
 use Rattle.hg_server.specs.declared.fault.ServingFault.{ServingFault}
 use Rattle.hg_server.specs.declared.fault.ServingFault.TheVariants as fault
 use Rattle.hg_server.specs.declared.serving.Outcome.{Outcome}
@@ -45,6 +45,11 @@ AddsOnOk old new text result = OnOk result (Took old.calls new.calls text)
 abbrev pub AddsFrontOnErr : {W T E : Type 0} → (old new : Outgoing W) → List ℕ → Result T E → Type 0
 AddsFrontOnErr old new text result =
     (first : List WriteCall) (before : List ℕ) → Took first old.calls before → OnErr result (TookFront first new.calls (before ++ text))
+
+-- what recovering a store and serving it answers: the store, or why there is none, with the devices; the moments since its opening; and the
+-- store as it was opened, if it was
+abbrev pub Recovered : Type 0 → Type 0
+Recovered D = Result (ShownStore D) (Refusal × Devices D) × List (Devices D) × List (ShownStore D)
 
 -- 0 with a store that works, 3 without
 abbrev pub IsStatusOf : {S E : Type 0} → Result S E → ℕ → Type 0
@@ -84,6 +89,13 @@ module _ {D : Type 0} (g : disk.Ghosts D) where
   abbrev pub IsServingFault : (old new : Devices D) → Refusal → Type 0
   IsServingFault old new r = ((r ≡ Broken) × (failures_of g old < failures_of g new)) ⊎ ((r ≡ DeviceFault) ⊎ (r ≡ OutOfMemory))
 
+  -- A store was opened, once, with so many frames and the greatest caps. The devices of the oldest moment are as they were then.
+  pub record WasOpened (frames : ℕ) (opened : List (ShownStore D)) (moments : List (Devices D)) (new : Devices D) : Type 0 where
+    pub store : ShownStore D
+    pub once : opened ≡ store ∷ []
+    pub limits : limits_of store ≡ greatest_with frames
+    pub is_oldest : points_of g (oldest new moments) ≡ points_of g store.devices
+
   -- Each accepted event is durable, and each image has the content with all of them.
   pub record IsSettled (s : ShownStore D) : Type 0 where
     pub backs : Backs g s
@@ -102,15 +114,17 @@ module _ {D : Type 0} (g : disk.Ghosts D) where
     pub kept : EachImageAlong g opened moments new (IsOn first last)
 
   -- A server that came to its end: all was printed, and each accepted event is durable.
-  pub record EndsWell (settings : Settings) (old : Devices D) (moments : List (Devices D)) (store : ShownStore D) (calls_old calls_new : List WriteCall) : Type 0 where
+  pub record EndsWell (settings : Settings) (old : Devices D) (opened : List (ShownStore D)) (moments : List (Devices D)) (store : ShownStore D) (calls_old calls_new : List WriteCall) : Type 0 where
     pub printed : Took calls_old calls_new (serving_text settings (live g store))
+    pub began : WasOpened settings.frames opened moments store.devices
     pub served : IsTrue g.is_honest → Served old moments store.devices (live g store)
     pub settled : IsTrue g.is_honest → IsSettled store
     pub works : store.is_broken ≡ false
 
-  -- Why a server ends early: the devices have no store that fits, or as `IsServingFault` says.
-  abbrev pub HasServeCause : Devices D → Devices D → Refusal → Type 0
-  HasServeCause old new r = (IsTrueOf g old r × CountedBy r (failures_of g old) (failures_of g new)) ⊎ IsServingFault old new r
+  -- Why a server ends early: no store was opened; or one was, and it ended as `IsServingFault` says.
+  abbrev pub HasServeCause : Settings → Devices D → List (ShownStore D) → List (Devices D) → Devices D → Refusal → Type 0
+  HasServeCause settings old opened moments new r =
+      (IsNotOpened g old new r × (opened ≡ [])) ⊎ (WasOpened settings.frames opened moments new × IsServingFault old new r)
 
   -- Nothing was written, and the devices were only looked at, which keeps the journal and the roots; or a front of what is due
   -- for the last content was written.
@@ -120,13 +134,21 @@ module _ {D : Type 0} (g : disk.Ghosts D) where
       ⊎ ((last : Content) × ((IsTrue g.is_honest → Served old moments new last) × TookFront calls_old calls_new (serving_text settings last)))
 
   -- A server ended early. There was a cause; it was told, or telling it failed; and what stands and was written is as far as it came.
-  abbrev pub EndsEarly : Settings → Devices D → List (Devices D) → Devices D → List WriteCall → List WriteCall → List WriteCall → List WriteCall → Type 0
-  EndsEarly settings old moments new calls_old calls_new faults_old faults_new =
-      (r : Refusal) × (HasServeCause old new r × (IsTold faults_old faults_new r × WroteServing settings old moments new calls_old calls_new))
+  abbrev pub EndsEarly : Settings → Devices D → List (ShownStore D) → List (Devices D) → Devices D → List WriteCall → List WriteCall → List WriteCall → List WriteCall → Type 0
+  EndsEarly settings old opened moments new calls_old calls_new faults_old faults_new =
+      (r : Refusal) × (HasServeCause settings old opened moments new r × (IsTold faults_old faults_new r × WroteServing settings old moments new calls_old calls_new))
 
   -- With a store the server came to its end.
-  abbrev pub EndsWellOnOk : {W E : Type 0} → Settings → Devices D → List (Devices D) → (old new : Outgoing W) → Result (ShownStore D) E → Type 0
-  EndsWellOnOk settings devices moments old new ended = IfOk ended (λ s. EndsWell settings devices moments s old.calls new.calls)
+  abbrev pub EndsWellOnOk : {W E : Type 0} → Settings → Devices D → List (ShownStore D) → List (Devices D) → (old new : Outgoing W) → Result (ShownStore D) E → Type 0
+  EndsWellOnOk settings devices opened moments old new ended = IfOk ended (λ s. EndsWell settings devices opened moments s old.calls new.calls)
+
+  -- With a store that was recovered and served the server came to its end.
+  abbrev pub EndsWellWhere : {W : Type 0} → Settings → Devices D → (old new : Outgoing W) → Recovered D → Type 0
+  EndsWellWhere settings devices old new result = EndsWellOnOk settings devices result.2 result.1 old new result.0
+
+  -- Without one, why it ended early.
+  abbrev pub EndsEarlyFor : Settings → Devices D → Recovered D → Type 0
+  EndsEarlyFor settings devices result = IfErr result.0 (λ e. HasServeCause settings devices result.2 result.1 e.1 e.0)
 
   -- Without one, what was written.
   abbrev pub WroteServingOnErr : {W S : Type 0} → Settings → Devices D → List (Devices D) → (old new : Outgoing W) → Result S (Refusal × Devices D) → Type 0
@@ -136,9 +158,9 @@ module _ {D : Type 0} (g : disk.Ghosts D) where
 module _ {D W V : Type 0} (g : disk.Ghosts D) where
   -- With a store the server came to its end.
   abbrev pub ServesWell : Settings → Devices D → (before after : Outputs W V) → Outcome D → Type 0
-  ServesWell settings devices before after outcome = EndsWellOnOk g settings devices outcome.moments before.output after.output outcome.ended
+  ServesWell settings devices before after outcome = EndsWellOnOk g settings devices outcome.opened outcome.moments before.output after.output outcome.ended
 
   -- Without one it ended early.
   abbrev pub StopsEarly : Settings → Devices D → (before after : Outputs W V) → Outcome D → Type 0
   StopsEarly settings devices before after outcome =
-      IfErr outcome.ended (λ left. EndsEarly g settings devices outcome.moments left before.output.calls after.output.calls before.faults.calls after.faults.calls)
+      IfErr outcome.ended (λ left. EndsEarly g settings devices outcome.opened outcome.moments left before.output.calls after.output.calls before.faults.calls after.faults.calls)

@@ -4,6 +4,7 @@
 mod accepting;
 mod ending;
 mod fault;
+pub mod opened;
 pub mod serving;
 pub mod settings;
 mod settling;

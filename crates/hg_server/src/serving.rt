@@ -6,11 +6,12 @@ ghost use Rattle.hg_streams.specs.Faults.{IsStreamFault};
 ghost use Rattle.hg_store.specs.Limits.{IsFrameCount};
 ghost use Rattle.hg_desk.specs.Blanks.{IsBlankOf};
 ghost use Rattle.hg_desk.specs.Going.{FailedSince, WentOn, WentOnSince, began};
-ghost use Rattle.hg_server.specs.Serving.{AddsFrontOnErr, AddsOnOk, EndsWellOnOk, HasServeCause, IsServingFault, IsSettled, IsStatusOf, IsToldTruly, PrintsAllOnOk, PrintsFrontOnErr, ServesWell, StopsEarly, WroteServingOnErr, served_by};
+ghost use Rattle.hg_server.specs.Serving.{AddsFrontOnErr, AddsOnOk, EndsEarlyFor, EndsWellWhere, IsServingFault, IsSettled, IsStatusOf, IsToldTruly, PrintsAllOnOk, PrintsFrontOnErr, ServesWell, StopsEarly, WroteServingOnErr, served_by};
 
 use crate::accepting::accept_all;
 use crate::ending::hold_end_line;
 use crate::fault::ServingFault;
+use crate::opened::Opened;
 use crate::settings::Settings;
 use crate::settling::settle;
 use crate::worker::{Gate, Seat, worker};
@@ -250,7 +251,8 @@ fn serve_and_print<
     }
 }
 
-/// Recovers the store, serves the connections, and prints what is due. Gives the moments since the opening too, which contracts alone see.
+/// Recovers the store, serves the connections, and prints what is due. Gives the moments since the opening and the store as it was then
+/// too, which contracts alone see.
 fn recover_and_serve<
     D: Disk + Send + Drop,
     G: Gate + Sync,
@@ -262,24 +264,30 @@ fn recover_and_serve<
     devices: Devices<D>,
     door: &Door<G>,
     output: &mut Output<W>,
-) -> (Result<Store<D>, (Refusal, Devices<D>)>, Trail<Moment<D>>)
+) -> (
+    Result<Store<D>, (Refusal, Devices<D>)>,
+    Trail<Moment<D>>,
+    Trail<Opened<D>>,
+)
     requires frames { IsFrameCount door.now.settings.frames }
-    ensures well { EndsWellOnOk ⟦<D as Disk>⟧ door.now.settings devices result.1 output.old output.new result.0 }
-    ensures cause { IfErr result.0 (λ e. HasServeCause ⟦<D as Disk>⟧ devices e.1 e.0) }
+    ensures well { EndsWellWhere ⟦<D as Disk>⟧ door.now.settings devices output.old output.new result }
+    ensures cause { EndsEarlyFor ⟦<D as Disk>⟧ door.now.settings devices result }
     ensures wrote { WroteServingOnErr ⟦<D as Disk>⟧ door.now.settings devices result.1 output.old output.new result.0 }
 {
     let store = match Store::recover(alloc, devices, door.settings.frames, Caps::profile()) {
         Ok(store) => store,
-        Err(refused) => return (Err(refused), Trail::new()),
+        Err(refused) => return (Err(refused), Trail::new(), Trail::new()),
     };
+    let mut opened = Trail::new();
+    opened.push(Opened::of(&store));
     let Service {
         store,
         moments,
         ended,
     } = serve_and_print(rt, alloc, store, door, output);
     match ended {
-        Ok(()) => (Ok(store), moments),
-        Err(refusal) => (Err((refusal, store.into_devices())), moments),
+        Ok(()) => (Ok(store), moments, opened),
+        Err(refusal) => (Err((refusal, store.into_devices())), moments, opened),
     }
 }
 
@@ -292,13 +300,15 @@ pub struct Outcome<D: Disk> {
     pub ended: Result<Store<D>, Devices<D>>,
     /// The moments since the opening of the store, the newest first, which contracts alone see.
     pub moments: Trail<Moment<D>>,
+    /// The store as it was when it was opened, if it was. Contracts alone see it.
+    pub opened: Trail<Opened<D>>,
 }
 
 /// Recovers the store that the devices hold, prints `ready` and the port, takes the connections, holds their conversations, and prints
 /// `served`, how many were taken, and the end line. All accepted events are durable then. Answers the status, 0 with the store, or 3
 /// with the devices where they hold no store, the listener, a device or the output failed, or memory or room was refused,
 /// which is told among the faults. A connection that fails ends alone. Whatever ends it, no durable event is lost, and each image between two
-/// neighbouring moments has a front of the accepted events.
+/// neighbouring moments has a front of the accepted events. The store is opened with the frames of the settings and the greatest caps.
 ///
 /// It waits until so many connections were served.
 pub fn serve<
@@ -320,12 +330,13 @@ pub fn serve<
     ensures quiet { OnOk result.ended (outputs.new.faults.calls ≡ outputs.old.faults.calls) }
     ensures early { StopsEarly ⟦<D as Disk>⟧ door.now.settings devices outputs.old outputs.new result }
 {
-    let (ended, moments) = recover_and_serve(rt, alloc, devices, door, &mut outputs.output);
+    let (ended, moments, opened) = recover_and_serve(rt, alloc, devices, door, &mut outputs.output);
     match ended {
         Ok(store) => Outcome {
             status: 0,
             ended: Ok(store),
             moments,
+            opened,
         },
         Err((refusal, devices)) => {
             let status = end_by_fault(refusal, &mut outputs.faults);
@@ -333,6 +344,7 @@ pub fn serve<
                 status,
                 ended: Err(devices),
                 moments,
+                opened,
             }
         }
     }

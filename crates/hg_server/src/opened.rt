@@ -1,0 +1,33 @@
+//! The opening of a store that is served, which contracts alone see.
+
+ghost use Rattle.std.specs.Prelude.{◌≡◌};
+
+use hg_disk::Disk;
+use hg_store::store::Store;
+use std::marker::Model;
+use std::snapshot::Snapshot;
+
+/// A store as it was when it was opened. It has no bytes. Nothing but `of` makes one, and that borrows the store, so it is one that there was.
+#[derive(Drop)]
+pub struct Opened<D: Disk> {
+    store: Snapshot<Store<D>>,
+}
+
+impl<D: Disk> Model for Opened<D> {
+    ghost use Rattle.hg_store.specs.Shown.{ShownStore};
+
+    ghost Value = { ShownStore D };
+
+    ghost view = { λ o. o.store.value };
+}
+
+impl<D: Disk> Opened<D> {
+    /// This store.
+    pub fn of(store: &Store<D>) -> Opened<D>
+        ensures { result ≡ store.now }
+    {
+        Opened {
+            store: Snapshot::of(store),
+        }
+    }
+}
