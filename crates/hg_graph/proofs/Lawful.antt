@@ -11,6 +11,7 @@ use Rattle.hg_model.specs.Paths.{IsRising}
 use Rattle.hg_model.proofs.Graph.{rising_append}
 use Rattle.hg_model.proofs.Owners.{present_push}
 use Rattle.hg_graph.specs.Graph.{names}
+use Rattle.hg_graph.specs.Clocks.{HasRoom}
 use Rattle.hg_graph.specs.Kept.{IsInLine, IsKept, IsUnmarked}
 use Rattle.hg_graph.specs.Restoring.{AreSegments, stands_behind, has_thread, are_predecessors, has_former, former}
 use Rattle.hg_graph.proofs.Opening.{in_line_push}
@@ -135,5 +136,18 @@ restored segments table marks some few lawful rows each len clear =
     }
 
 -- what was lent as a slice
-pub lent : (marks rest : List Bool) (len : ℕ) → length marks ≡ len → take len (marks ++ rest) ≡ marks
-lent marks rest len is = ap (λ n. take n (marks ++ rest)) (sym is) ∙ take-append_seam marks rest
+pub lent : {A : Type 0} (items rest : List A) (len : ℕ) → length items ≡ len → take len (items ++ rest) ≡ items
+lent items rest len is = ap (λ n. take n (items ++ rest)) (sym is) ∙ take-append_seam items rest
+
+-- an empty clock has room for a segment whose threads are below the number of its entries
+pub room_of : (segments : List Segment) (g n : ℕ) (clock : List ℕ) → clock ≡ replicate n 0 → ((s : ℕ) → s ≤ g → thread_at segments s < n) → HasRoom segments g clock
+room_of segments g n clock is below =
+    record {
+      empty = λ u. ap (λ c. get_or c u 0) is ∙ zeros n u;
+      threads = λ s le. let len : length clock ≡ n = ap length is ∙ length-replicate n 0 in let low = below s le in omega arith;
+    }
+  where
+    zeros : (m i : ℕ) → get_or (replicate m zero) i zero ≡ zero
+    zeros zero i = refl
+    zeros (suc m) zero = refl
+    zeros (suc m) (suc i) = zeros m i

@@ -1,8 +1,8 @@
 //! Rebuilding what a graph keeps beside its segments.
 
-ghost use Rattle.std.specs.Prelude.{◌≡◌, ◌<◌, ◌≤◌, ℕ, length, IfOk, slice_index_or};
+ghost use Rattle.std.specs.Prelude.{◌≡◌, ◌<◌, ◌≤◌, ℕ, length, IfOk};
 ghost use Rattle.hg_model.specs.Segments.{thread_at};
-ghost use Rattle.hg_graph.specs.Clocks.{AreClocks, IsClock};
+ghost use Rattle.hg_graph.specs.Clocks.{AreClocks, HasRoom, HaveRoom, IsClock};
 ghost use Rattle.hg_graph.specs.Kept.{ArePresent, IsUnmarked};
 ghost use Rattle.hg_graph.specs.Restoring.{AreSegments};
 
@@ -26,13 +26,35 @@ pub(crate) fn present_segments(alloc: Global, segments: &[Segment]) -> Result<Ve
     Ok(table)
 }
 
-/// The clock of the present segment of each thread. The marks are clear before and after.
-pub(crate) fn clocks_of(
+/// An empty clock for each thread, with an entry for each thread that its present segment may need: for segment 0 that
+/// is thread 0.
+pub(crate) fn empty_clocks(
     alloc: Global,
     segments: &[Segment],
     present: &[u32],
-    marks: &mut [bool],
 ) -> Result<Vec<Clock>, AllocError>
+    requires some { 0 < length segments.now }
+    requires lawful { AreSegments segments.now }
+    requires rows { length present.now ≡ THREAD_NUMBERS }
+    requires each { ArePresent segments.now present.now }
+    ensures room { IfOk result (λ clocks. HaveRoom segments.now clocks.items) }
+{
+    let threads = named_threads(segments);
+    let mut clocks = Vec::with_capacity(alloc, THREAD_NUMBERS)?;
+    for t in 0..THREAD_NUMBERS {
+        let entries = if present[t] == 0 { 1 } else { threads };
+        clocks.push(Clock::empty(alloc, entries)?)?;
+    }
+    Ok(clocks)
+}
+
+/// Makes each empty clock that of the present segment of its thread. The marks are clear before and after.
+pub(crate) fn fill_clocks(
+    segments: &[Segment],
+    present: &[u32],
+    marks: &mut [bool],
+    clocks: &mut [Clock],
+)
     requires some { 0 < length segments.now }
     requires few { length segments.now ≤ MOST_SEGMENTS }
     requires lawful { AreSegments segments.now }
@@ -40,16 +62,13 @@ pub(crate) fn clocks_of(
     requires each { ArePresent segments.now present.now }
     requires marks { length marks.old ≡ length segments.now }
     requires clear { IsUnmarked marks.old }
-    ensures clocks { IfOk result (λ clocks. AreClocks segments.now clocks.items) }
+    requires room { HaveRoom segments.now clocks.old }
+    ensures clocks { AreClocks segments.now clocks.new }
     ensures clear { IsUnmarked marks.new }
 {
-    let threads = named_threads(segments);
-    let mut clocks = Vec::with_capacity(alloc, THREAD_NUMBERS)?;
     for t in 0..THREAD_NUMBERS {
-        let clock = clock_of(alloc, segments, marks, present[t] as usize, threads)?;
-        clocks.push(clock)?;
+        note(segments, marks, present[t] as usize, &mut clocks[t]);
     }
-    Ok(clocks)
 }
 
 /// The least number that is above the thread of each segment.
@@ -64,39 +83,13 @@ fn named_threads(segments: &[Segment]) -> usize
     threads
 }
 
-/// The clock of segment `to`. Each segment's thread is below `threads`. The marks are clear before and after.
-fn clock_of(
-    alloc: Global,
-    segments: &[Segment],
-    marks: &mut [bool],
-    to: usize,
-    threads: usize,
-) -> Result<Clock, AllocError>
-    requires within { to < length segments.now }
-    requires few { length segments.now ≤ MOST_SEGMENTS }
-    requires lawful { AreSegments segments.now }
-    requires threads { (s : ℕ) → s < length segments.now → thread_at segments.now s < threads }
-    requires marks { length marks.old ≡ length segments.now }
-    requires clear { IsUnmarked marks.old }
-    ensures clock { IfOk result (λ clock. IsClock segments.now to clock) }
-    ensures clear { IsUnmarked marks.new }
-{
-    if to == 0 {
-        return Clock::first(alloc);
-    }
-    let mut clock = Clock::empty(alloc, threads)?;
-    note(segments, marks, to, &mut clock);
-    Ok(clock)
-}
-
 /// Walks backwards from a segment over all that reach it, and gives the empty clock their entries. The marks are clear
 /// before and after.
 fn note(segments: &[Segment], marks: &mut [bool], to: usize, clock: &mut Clock)
     requires within { to < length segments.now }
     requires few { length segments.now ≤ MOST_SEGMENTS }
     requires lawful { AreSegments segments.now }
-    requires threads { (s : ℕ) → s < length segments.now → thread_at segments.now s < length clock.old }
-    requires empty { (u : ℕ) → slice_index_or clock.old u 0 ≡ 0 }
+    requires room { HasRoom segments.now to clock.old }
     requires marks { length marks.old ≡ length segments.now }
     requires clear { IsUnmarked marks.old }
     ensures clock { IsClock segments.now to clock.new }

@@ -11,7 +11,7 @@ use Rattle.hg_graph.proofs.restoring.note.Goals as goal
 pub loop-left-init : goal.loop-left-init
 loop-left-init c = (
   begun c.args.segments.now c.args.marks.now 0 c.args.to (omega arith) c.requires.within c.requires.marks c.requires.clear,
-  none_noted c.args.segments.now c.args.clock.now c.args.to (lawful_rising c.args.segments.now c.requires.lawful) c.requires.empty,
+  none_noted c.args.segments.now c.args.clock.now c.args.to (lawful_rising c.args.segments.now c.requires.lawful) c.requires.room.empty,
   refl,
 )
 
@@ -39,7 +39,7 @@ loop-left-preserved-then-marks-left c =
     let next : c.loop-left.left ≡ at + 1 = omega arith in
     let is = before_read segments at _ _ (omega arith) (c.as_slice.ensures ∙ ap (λ (s : Segment). s.before) c.index-segments-left.is) in
     let of_it : c.from.result ≡ thread_at segments at = thread_read segments at _ _ (omega arith) (c.from.ensures ∙ ap (λ (s : Segment). s.thread) c.index-segments-left.is) in
-    let small = c.requires.threads at (omega arith) in
+    let small = c.requires.room.threads at (omega arith) in
     let reached = w.sound at c.if-marks-left.true in (
       handed segments c.loop-left.marks _ 0 c.args.to c.loop-left.left at (lawful_rising segments c.requires.lawful) w next (omega arith) c.if-marks-left.true
           (record { len = c.mark.auto.marks; each = λ i. c.mark.ensures i ∙ ap (λ xs. get_or (set c.loop-left.marks at false) i false || (nat_le 0 i && list_any (λ x. nat_eq x i) xs)) is }),
