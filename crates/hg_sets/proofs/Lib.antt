@@ -3,3 +3,4 @@ pub mod Slots
 pub mod Listed
 pub mod Remembering
 pub mod Restored
+pub mod Reserved

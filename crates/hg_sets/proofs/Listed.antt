@@ -1,11 +1,12 @@
 -- Lists that stand one after another, by their numbers.
-use Rattle.std.proofs.Common.{◌≡◌, inl, inr, ℕ, suc, ◌+◌, ◌-◌, ◌<◌, ◌≤◌, ◌^◌, true, false, true≢false, nat_eq, List, [], ◌∷◌, ◌++◌, length, get_or, take, drop, All, refl, sym, ap, ◌∙◌, subst, arith, length-append}
+use Rattle.std.proofs.Common.{◌≡◌, inl, inr, ℕ, suc, ◌+◌, ◌-◌, ◌/◌, ◌<◌, ◌≤◌, ◌^◌, true, false, true≢false, nat_eq}
+use Rattle.std.proofs.Common.{List, [], ◌∷◌, ◌++◌, length, get_or, take, drop, All, refl, sym, ap, ◌∙◌, subst, arith, length-append}
 use Rattle.std.specs.Cmp.Lexicographic.{pointwise, bytes_decides}
 use Rattle.std.proofs.lemmas.Bool.{cases_eq}
 use Rattle.std.proofs.lemmas.List.{get_or-map, get_or_append_left, get_or_push, length-drop, length-map, map_push, take-append-le, take_all, drop-append-le, drop_at}
 use Rattle.std.proofs.lemmas.List.Elements.{All-push, All-weaker}
 use Rattle.hg_sets.specs.Interning.{StandsAt, set_at}
-use Rattle.hg_sets.specs.Listing.{AreFound, AreListed, HoldNumbers, IsFoundBy, hash_of, list_at, lists_of}
+use Rattle.hg_sets.specs.Listing.{AreFound, AreListed, HoldNumbers, IsFoundBy, hash_of, list_at, lists_of, taken}
 use Rattle.hg_sets.specs.declared.lists.Span.{Span}
 
 -- the list with this number
@@ -65,21 +66,12 @@ still_within : (elements list : List ℕ) (spans : List Span) → All (λ span. 
 still_within elements list spans within =
     All-weaker (λ (span : Span). span.start + span.len ≤ length elements) (λ (span : Span). span.start + span.len ≤ length (elements ++ list)) (λ span h. omega (arith, length-append elements list)) spans within
 
--- elements that no list has change nothing
-pub stay_listed : (elements list : List ℕ) (spans : List Span) (slots new : List ℕ) → AreListed elements spans slots → new ≡ slots → AreListed (elements ++ list) spans new
-stay_listed elements list spans slots new h same =
-    subst (AreListed (elements ++ list) spans) (sym same) (record {
-      few_lists = h.few_lists;
-      within = still_within elements list spans h.within;
-      few_slots = h.few_slots;
-      numbers = h.numbers;
-      found = subst (λ lists. AreFound lists slots (length spans)) (sym (lists_longer elements list spans h.within)) h.found;
-    })
-
 -- one list more
-pub more_listed : (elements list : List ℕ) (spans : List Span) (span : Span) (slots new : List ℕ) (hash : ℕ) → AreListed elements spans slots → length spans + 1 < 2 ^ 32 → span.start ≡ length elements → span.len ≡ length list → hash ≡ hash_of list
-    → length new ≡ length slots → HoldNumbers (length spans + 1) new → IsFoundBy new hash (length spans + 1) → ((h e : ℕ) → 0 < e → IsFoundBy slots h e → IsFoundBy new h e) → AreListed (elements ++ list) (spans ++ span ∷ []) new
-more_listed elements list spans span slots new hash h few start len is same numbers here kept =
+pub more_listed : (elements list : List ℕ) (spans : List Span) (span : Span) (slots new : List ℕ) (hash : ℕ) → AreListed elements spans slots
+    → length elements + length list < 2 ^ 32 → length spans < length slots / 2 → span.start ≡ length elements → span.len ≡ length list
+    → hash ≡ hash_of list → length new ≡ length slots → taken new ≡ taken slots + 1 → HoldNumbers (length spans + 1) new
+    → IsFoundBy new hash (length spans + 1) → ((h e : ℕ) → 0 < e → IsFoundBy slots h e → IsFoundBy new h e) → AreListed (elements ++ list) (spans ++ span ∷ []) new
+more_listed elements list spans span slots new hash h few room start len is same one numbers here kept =
     let longer : length spans + 1 ≡ length (spans ++ span ∷ []) = omega (arith, length-append spans (span ∷ [])) in
     let lists = lists_of elements spans in
     let count = count_of elements spans in
@@ -93,9 +85,11 @@ more_listed elements list spans span slots new hash h few start len is same numb
           subst (λ xs. IsFoundBy new (hash_of xs) (id + 1)) (sym one) (kept (hash_of (set_at lists id)) (id + 1) (omega arith) (h.found id (omega arith)))
     ] in
     record {
-      few_lists = omega arith;
-      within = All-push (λ (span : Span). span.start + span.len ≤ length (elements ++ list)) spans span (still_within elements list spans h.within) (omega (arith, length-append elements list));
+      few_elements = omega (arith, length-append elements list);
+      few_lists = omega (arith, length-append spans (span ∷ []));
       few_slots = omega (arith, h.few_slots);
+      within = All-push (λ (span : Span). span.start + span.len ≤ length (elements ++ list)) spans span (still_within elements list spans h.within) (omega (arith, length-append elements list));
       numbers = subst (λ n. HoldNumbers n new) longer numbers;
+      one_slot_each = omega (arith, h.one_slot_each, length-append spans (span ∷ []));
       found = subst (AreFound (lists_of (elements ++ list) (spans ++ span ∷ [])) new) longer (subst (λ lists. AreFound lists new (length spans + 1)) (sym (lists_pushed elements list spans span h.within start len)) pushed);
     }

@@ -1,7 +1,10 @@
 -- Searches among slots.
-use Rattle.std.proofs.Common.{◌≡◌, ◌≢◌, inl, inr, ℕ, zero, suc, ◌+◌, ◌-◌, ◌<◌, List, length, set, slice_index, sym, ap, ◌∙◌, subst, arith, length-set}
+use Rattle.std.proofs.Common.{◌≡◌, ◌≢◌, ◌⊎◌, inl, inr, ℕ, zero, suc, ◌+◌, ◌-◌, ◌<◌, ◌≤◌, List, [], ◌∷◌, cond, nat_lt}
+use Rattle.std.proofs.Common.{length, set, slice_index, refl, sym, ap, ◌∙◌, subst, arith, length-set}
+use Rattle.std.proofs.lemmas.Bool.{cases_eq, lt-ltb, le-ltb}
 use Rattle.std.proofs.lemmas.List.{get_or-set_same, get_or-set_other}
-use Rattle.hg_sets.specs.Listing.{IsFoundBy, IsMet, first_slot, next_slot}
+use Rattle.std.proofs.lemmas.List.Sums.{sum_by-cons}
+use Rattle.hg_sets.specs.Listing.{HoldNumbers, IsFoundBy, IsMet, first_slot, next_slot, taken}
 
 -- From a slot on, a search passes so many slots, none of them free, and comes to another one.
 abbrev pub IsPassed : List ℕ → ℕ → ℕ → ℕ → Type 0
@@ -66,3 +69,66 @@ met_next slots e at (suc n) lt other (inl h) = absurd (other h)
 met_next slots e at (suc n) lt other (inr h) =
     let left : n ≡ suc n - 1 = omega arith in
     subst (λ k. IsMet slots e (next_slot (length slots) at) k) left h.1
+
+-- the slot that comes next is the one behind, or the first one
+next_cases : (count at : ℕ) → at < count → ((at + 1 < count) × (next_slot count at ≡ at + 1)) ⊎ ((at + 1 ≡ count) × (next_slot count at ≡ 0))
+next_cases count at lt =
+    elim (cases_eq (at + 1) count) [
+      | inl last ↦ inr (last, rw (le-ltb (at + 1) count (omega arith)) refl)
+      | inr other ↦ inl (omega arith, rw (lt-ltb (at + 1) count (omega arith)) refl)
+    ]
+
+before : (i from : ℕ) → (i < from) ⊎ (from ≤ i)
+before zero zero = inr (omega arith)
+before zero (suc from) = inl (omega arith)
+before (suc i) zero = inr (omega arith)
+before (suc i) (suc from) =
+    elim (before i from) [
+      | inl lower ↦ inl (omega arith)
+      | inr upper ↦ inr (omega arith)
+    ]
+
+-- no slot that was passed is free, be it behind the one where the search began or before it
+none_free : (slots : List ℕ) (from n at i : ℕ) → IsPassed slots from n at → from < length slots → i < length slots
+    → (from ≤ i → i < from + n → slice_index slots i ≢ 0) × (i < from → i + length slots < from + n → slice_index slots i ≢ 0)
+none_free slots from zero at i p lt within = ((λ a b. absurd (omega arith)), (λ a b. absurd (omega arith)))
+none_free slots from (suc n) at i p lt within =
+    elim (cases_eq i from) [
+      | inl same ↦
+          let here : slice_index slots i ≢ 0 = λ free. p.0 (ap (slice_index slots) (sym same) ∙ free) in
+          ((λ a b. here), (λ a b. here))
+      | inr other ↦
+          elim (next_cases (length slots) from lt) [
+            | inl one ↦
+                let later = none_free slots (from + 1) n at i (subst (λ k. IsPassed slots k n at) one.1 p.1) one.0 within in
+                ((λ a b. later.0 (omega arith) (omega arith)), (λ a b. later.1 (omega arith) (omega arith)))
+            | inr one ↦
+                let later = none_free slots 0 n at i (subst (λ k. IsPassed slots k n at) one.1 p.1) (omega arith) within in
+                ((λ a b. absurd (omega arith)), (λ a b. later.0 (omega arith) (omega arith)))
+          ]
+    ]
+
+taken_all : (slots : List ℕ) → ((i : ℕ) → i < length slots → slice_index slots i ≢ 0) → taken slots ≡ length slots
+taken_all [] h = refl
+taken_all (x ∷ xs) h =
+    let full : x ≢ 0 = h 0 (omega arith) in
+    let rest : taken xs ≡ length xs = taken_all xs (λ i lt. h (suc i) (omega arith)) in
+    sum_by-cons (λ y. cond (nat_lt 0 y) 1 0) x xs ∙ rw (lt-ltb 0 x (omega arith)) (omega arith)
+
+-- each slot is taken where a search passed as many as there are
+pub all_taken : (slots : List ℕ) (from at n : ℕ) → IsPassed slots from n at → from < length slots → n ≡ length slots → taken slots ≡ length slots
+all_taken slots from at n p lt all =
+    taken_all slots (λ i within.
+    let there = none_free slots from n at i p lt within in
+    λ free. elim (before i from) [
+      | inl lower ↦ there.1 lower (omega arith) free
+      | inr upper ↦ there.0 upper (omega arith) free
+    ])
+
+-- no slot is taken where each is free
+pub none_taken : (slots : List ℕ) → HoldNumbers 0 slots → taken slots ≡ 0
+none_taken [] h = refl
+none_taken (x ∷ xs) h =
+    let free : x ≤ 0 = h 0 0 (omega arith) in
+    let rest : taken xs ≡ 0 = none_taken xs (λ k d lt. h (suc k) d (omega arith)) in
+    sum_by-cons (λ y. cond (nat_lt 0 y) 1 0) x xs ∙ rw (le-ltb 0 x free) (omega arith)

@@ -11,5 +11,5 @@ shown t = table_of t.interner
 -- the sets are in order, and what is remembered is true
 pub record IsConsistent (t : Inside) : Type 0 where
   pub sound : IsSound t.interner
-  pub joins : AreTrueJoins t.interner.lists t.joins.items
-  pub meets : AreTrueMeets t.interner.lists t.meets.items
+  pub joins : AreTrueJoins t.interner.lists.all t.joins.items
+  pub meets : AreTrueMeets t.interner.lists.all t.meets.items

@@ -1,7 +1,8 @@
 -- Lists that stand one after another in memory, each found by a hash of its elements.
-use Rattle.std.specs.Prelude.{◌≡◌, ◌≢◌, ◌⊎◌, ℕ, zero, suc, ◌+◌, ◌*◌, ◌/◌, ◌%◌, ◌^◌, ◌<◌, ◌≤◌, List, [], ◌∷◌, length, slice_index, take, drop, map, All, nat_lt, if◌then◌else◌, Contains, Option, MatchOption}
+use Rattle.std.specs.Prelude.{◌≡◌, ◌≢◌, ◌⊎◌, ℕ, zero, suc, ◌+◌, ◌-◌, ◌*◌, ◌/◌, ◌%◌, ◌^◌, ◌<◌, ◌≤◌, min, List, [], ◌∷◌, length, slice_index, take, drop, map, All, nat_lt, if◌then◌else◌, Contains, Option, MatchOption}
+use Rattle.std.specs.List.{count_by}
 use Rattle.hg_sets.specs.declared.lists.Span.{Span}
-use Rattle.hg_sets.specs.declared.lists.TheConstants.{SPREAD}
+use Rattle.hg_sets.specs.declared.lists.TheConstants.{MOST_ELEMENTS, SPREAD}
 use Rattle.hg_sets.specs.Interning.{StandsAt, set_at}
 
 -- the elements of a list
@@ -46,6 +47,10 @@ HoldNumbers count slots = All (λ entry. entry ≤ count) slots
 abbrev pub StillHold : ℕ → List ℕ → List ℕ → Type 0
 StillHold entry old new = (count : ℕ) → entry ≤ count → HoldNumbers count old → HoldNumbers count new
 
+-- how many slots are taken
+abbrev pub taken : List ℕ → ℕ
+taken slots = count_by (nat_lt 0) slots
+
 -- `found` is the number of this list, or None where the list is absent.
 abbrev pub IsNumberOf : List (List ℕ) → List ℕ → Option ℕ → Type 0
 IsNumberOf lists list found = MatchOption found (¬ Contains lists list) (StandsAt lists list)
@@ -54,10 +59,31 @@ IsNumberOf lists list found = MatchOption found (¬ Contains lists list) (Stands
 abbrev pub AreFound : List (List ℕ) → List ℕ → ℕ → Type 0
 AreFound lists slots count = (id : ℕ) → id < count → IsFoundBy slots (hash_of (set_at lists id)) (id + 1)
 
--- Each list stands within the elements, and is found among the slots.
+-- Each list stands within the elements, and is found among the slots. It takes one of these, and at least half of them are free.
 pub record AreListed (elements : List ℕ) (spans : List Span) (slots : List ℕ) : Type 0 where
-  pub few_lists : length spans < 2 ^ 32
-  pub within : All (λ span. span.start + span.len ≤ length elements) spans
+  pub few_elements : length elements < MOST_ELEMENTS
+  pub few_lists : length spans ≤ length slots / 2
   pub few_slots : length slots ≤ 2 ^ 32
+  pub within : All (λ span. span.start + span.len ≤ length elements) spans
   pub numbers : HoldNumbers (length spans) slots
+  pub one_slot_each : taken slots ≡ length spans
   pub found : AreFound (lists_of elements spans) slots (length spans)
+
+-- how many lists more have room, in memory for so many of them, while half of the slots stay free
+abbrev pub lists_left : ℕ → List Span → List ℕ → ℕ
+lists_left capacity spans slots = min capacity (length slots / 2) - length spans
+
+-- how many elements more have room, in memory for so many of them, while their places fit 32 bits
+abbrev pub elements_left : ℕ → List ℕ → ℕ
+elements_left capacity elements = min capacity (MOST_ELEMENTS - 1) - length elements
+
+-- All lists by their numbers, and how many lists and elements more take no memory.
+pub record Listing : Type 0 where
+  pub all : List (List ℕ)
+  pub spare_lists : ℕ
+  pub spare_elements : ℕ
+
+-- the lists that stand in memory for so many spans and so many elements
+abbrev pub listing : ℕ → ℕ → List ℕ → List Span → List ℕ → Listing
+listing most_spans most_elements elements spans slots =
+    record { all = lists_of elements spans; spare_lists = lists_left most_spans spans slots; spare_elements = elements_left most_elements elements }

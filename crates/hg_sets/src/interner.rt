@@ -1,10 +1,16 @@
 //! Interning over the lists, with a buffer for the set that is asked for.
 
 use crate::fault::SetFault;
-use crate::lists::{Lists, hash};
+use crate::lists::{Lists, MOST_ELEMENTS, hash};
 use crate::merging::{write_common, write_joined};
+use crate::reserving::Room;
+use crate::restoring::do_rise;
 use crate::table::MOST_SETS;
+use hg_model::sets::NumberSet;
 use std::alloc::{AllocError, Global};
+
+/// The buffer has room for so many members at least.
+const LEAST_BUFFER: usize = 64;
 
 /// Distinct sets, at most `limit` of them, and a buffer.
 #[derive(Drop)]
@@ -15,24 +21,27 @@ pub(crate) struct Interner {
 }
 
 impl Interner {
-    ghost use Rattle.std.specs.Prelude.{◌≡◌, ◌<◌, ◌≤◌, [], ◌∷◌, length, nat_lt, if◌then◌else◌, Contains, MatchOption, IfOk};
+    ghost use Rattle.std.specs.Prelude.{◌≡◌, ◌↔◌, ◌<◌, ◌≤◌, [], ◌∷◌, length, drop, nat_lt, if◌then◌else◌, Contains, IfOk, IsTrue};
     ghost use Rattle.std.specs.List.Sorted.{IsStrictlyIncreasing};
     ghost use Rattle.hg_model.specs.Sets.{common, with_member};
     ghost use Rattle.hg_sets.specs.declared.fault.SetFault.TheVariants.{Full};
-    ghost use Rattle.hg_sets.specs.Interning.{set_at, StandsAt};
-    ghost use Rattle.hg_sets.specs.Listing.{hash_of};
-    ghost use Rattle.hg_sets.specs.Soundness.{table_of, InternsBy, IsSound};
+    ghost use Rattle.hg_sets.specs.Interning.{set_at, AreSets, MayBeAdded, first_table, table_with, with_set};
+    ghost use Rattle.hg_sets.specs.Listing.{IsNumberOf, hash_of};
+    ghost use Rattle.hg_sets.specs.Soundness.{table_of, HasRoom, HasRoomFor, InternsBy, IsSound, LeavesRoom};
 
-    /// The table with the empty set alone.
-    pub(crate) fn with_limit(alloc: Global, limit: u32) -> Result<Self, AllocError>
-        requires least { 1 ≤ limit }
+    /// The table with the empty set alone, and room for so many sets in all. Only the numbers of `room` are known here.
+    pub(crate) fn with_room(alloc: Global, limit: u32, room: Room) -> Result<Self, AllocError>
         requires greatest { limit ≤ MOST_SETS }
-        ensures table { IfOk result (λ i. table_of i ≡ record { limit = limit; sets = [] ∷ [] }) }
+        requires some { 0 < room.count }
+        requires within { room.count ≤ limit }
+        requires short { room.longest < MOST_ELEMENTS }
+        ensures table { IfOk result (λ i. table_of i ≡ first_table limit) }
         ensures sound { IfOk result IsSound }
+        ensures room { IfOk result (HasRoom room) }
     {
-        let scratch = Vec::with_capacity(alloc, 64)?;
-        let mut lists = Lists::new(alloc);
-        lists.push(hash(&[]), &[])?;
+        let scratch = Vec::with_capacity(alloc, (room.longest + 1).max(LEAST_BUFFER))?;
+        let mut lists = Lists::with_room(alloc, room.count, room.members)?;
+        lists.push_reserved(hash(&[]), &[]);
         Ok(Interner {
             limit,
             lists,
@@ -40,9 +49,51 @@ impl Interner {
         })
     }
 
+    /// Adds all of these sets but the first, which is there. `false` where they are not a table's. Takes no memory.
+    pub(crate) fn fill(&mut self, sets: &[NumberSet]) -> bool
+        requires sound { IsSound self.old }
+        requires first { table_of self.old ≡ first_table self.old.limit }
+        requires within { length sets.now ≤ self.old.limit }
+        requires room { HasRoomFor (drop 1 sets.now) self.old }
+        ensures answer { IsTrue result ↔ AreSets (table_with self.old.limit sets.now) }
+        ensures filled { IsTrue result → table_of self.new ≡ table_with self.old.limit sets.now }
+        ensures sound { IsSound self.new }
+    {
+        if sets.is_empty() || !sets[0].as_slice().is_empty() {
+            return false;
+        }
+        for i in 1..sets.len() {
+            if !self.add(sets[i].as_slice()) {
+                return false;
+            }
+        }
+        true
+    }
+
+    /// Adds a set at the end, if its members rise strictly and it is not there. Takes no memory.
+    fn add(&mut self, members: &[u16]) -> bool
+        requires sound { IsSound self.old }
+        requires below { length self.old.lists.all < self.old.limit }
+        requires room { HasRoomFor (members.now ∷ []) self.old }
+        ensures answer { IsTrue result ↔ MayBeAdded self.old.lists.all members.now }
+        ensures added { IsTrue result → table_of self.new ≡ with_set (table_of self.old) members.now }
+        ensures sound { IsSound self.new }
+        ensures room { IsTrue result → LeavesRoom members.now self.old self.new }
+    {
+        if !do_rise(members) {
+            return false;
+        }
+        let hash = hash(members);
+        if self.lists.find(hash, members).is_some() {
+            return false;
+        }
+        self.lists.push_reserved(hash, members);
+        true
+    }
+
     #[inline]
     pub(crate) fn len(&self) -> u32
-        ensures { result ≡ length self.now.lists }
+        ensures { result ≡ length self.now.lists.all }
     {
         self.lists.len()
     }
@@ -56,14 +107,14 @@ impl Interner {
 
     #[inline]
     pub(crate) fn members(&self, id: u32) -> &[u16]
-        requires { id < length self.now.lists }
-        ensures { result.now ≡ set_at self.now.lists id }
+        requires { id < length self.now.lists.all }
+        ensures { result.now ≡ set_at self.now.lists.all id }
     {
         self.lists.get(id)
     }
 
     pub(crate) fn find(&self, members: &[u16]) -> Option<u32>
-        ensures { MatchOption result (¬ Contains self.now.lists members.now) (StandsAt self.now.lists members.now) }
+        ensures { IsNumberOf self.now.lists.all members.now result }
     {
         self.lists.find(hash(members), members)
     }
@@ -101,7 +152,7 @@ impl Interner {
 
     /// Full where no set more may be added.
     fn check_room(&self) -> Result<(), SetFault>
-        ensures { result ≡ (if nat_lt (length self.now.lists) self.now.limit then Ok tt else Err Full) }
+        ensures { result ≡ (if nat_lt (length self.now.lists.all) self.now.limit then Ok tt else Err Full) }
     {
         if self.lists.len() < self.limit {
             Ok(())
@@ -115,8 +166,8 @@ impl Interner {
         requires sound { IsSound self.old }
         requires hash { hash ≡ hash_of self.old.scratch.items }
         requires rising { IsStrictlyIncreasing self.old.scratch.items }
-        requires absent { ¬ Contains self.old.lists self.old.scratch.items }
-        requires below { length self.old.lists < self.old.limit }
+        requires absent { ¬ Contains self.old.lists.all self.old.scratch.items }
+        requires below { length self.old.lists.all < self.old.limit }
         ensures exact { InternsBy self.old self.old.scratch.items result self.new }
         ensures sound { IsSound self.new }
     {
@@ -128,8 +179,8 @@ impl Interner {
 
     pub(crate) fn join(&mut self, a: u32, member: u16) -> Result<u32, SetFault>
         requires sound { IsSound self.old }
-        requires known { a < length self.old.lists }
-        ensures exact { InternsBy self.old (with_member (set_at self.old.lists a) member) result self.new }
+        requires known { a < length self.old.lists.all }
+        ensures exact { InternsBy self.old (with_member (set_at self.old.lists.all a) member) result self.new }
         ensures sound { IsSound self.new }
     {
         let members = self.lists.get(a);
@@ -144,9 +195,9 @@ impl Interner {
 
     pub(crate) fn meet(&mut self, a: u32, others: &[u16]) -> Result<u32, SetFault>
         requires sound { IsSound self.old }
-        requires known { a < length self.old.lists }
+        requires known { a < length self.old.lists.all }
         requires rising { IsStrictlyIncreasing others.now }
-        ensures exact { InternsBy self.old (common (set_at self.old.lists a) others.now) result self.new }
+        ensures exact { InternsBy self.old (common (set_at self.old.lists.all a) others.now) result self.new }
         ensures sound { IsSound self.new }
     {
         write_common(self.lists.get(a), others, &mut self.scratch);

@@ -6,6 +6,7 @@ mod interner;
 mod lists;
 mod memo;
 mod merging;
+mod reserving;
 mod restoring;
 mod table;
 

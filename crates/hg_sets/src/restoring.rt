@@ -1,10 +1,12 @@
 //! A table made of sets that have their numbers already.
 
-ghost use Rattle.std.specs.Prelude.{◌≡◌, ◌<◌, ◌≤◌, ◌↔◌, true, false, length, IsTrue, IfOk, IfSome};
+ghost use Rattle.std.specs.Prelude.{◌≡◌, ◌≤◌, ◌↔◌, length, IsTrue, IfOk, IfSome};
 ghost use Rattle.std.specs.List.Sorted.{IsStrictlyIncreasing};
-ghost use Rattle.hg_sets.specs.Interning.{AreSets, IsRestored, MayBeAdded, table_with, with_set};
+ghost use Rattle.hg_sets.specs.Interning.{AreSets, IsRestored, table_with};
 
-use crate::fault::SetFault;
+use crate::interner::Interner;
+use crate::memo::{JOINS, MEETS, none_known};
+use crate::reserving::room_for;
 use crate::table::{MOST_SETS, SetTable};
 use hg_model::sets::NumberSet;
 use std::alloc::{AllocError, Global};
@@ -12,6 +14,7 @@ use std::alloc::{AllocError, Global};
 impl SetTable {
     /// The table of these sets, each numbered by its place, for at most `limit` sets. `None` where they are not a table's: the
     /// first has to be the empty set, members have to rise strictly, no set may stand twice, and there may be at most `limit`.
+    /// All memory is taken before the first set is added, for sets of these lengths; to add them takes none.
     pub fn restore(
         alloc: Global,
         limit: u32,
@@ -21,17 +24,23 @@ impl SetTable {
         ensures table { IfOk result (IsRestored (table_with limit sets.now)) }
         ensures sets { IfOk result (λ found. IfSome found AreSets) }
     {
-        if sets.len() == 0 || sets.len() > limit as usize || sets[0].as_slice().len() > 0 {
+        if sets.is_empty() || sets.len() > limit as usize {
             return Ok(None);
         }
-        let mut table = SetTable::with_limit(alloc, limit)?;
-        for i in 1..sets.len() {
-            if !table.add(sets[i].as_slice())? {
-                return Ok(None);
-            }
+        let Some(room) = room_for(sets) else {
+            return Err(AllocError);
+        };
+        let mut interner = Interner::with_room(alloc, limit, room)?;
+        let joins = none_known(alloc, JOINS)?;
+        let meets = none_known(alloc, MEETS)?;
+        if !interner.fill(sets) {
+            return Ok(None);
         }
-        let _count = table.len();
-        Ok(Some(table))
+        Ok(Some(SetTable {
+            interner,
+            joins,
+            meets,
+        }))
     }
 
     /// Sets how many sets there may be. The sets stay.
@@ -42,26 +51,10 @@ impl SetTable {
     {
         self.interner.set_limit(limit);
     }
-
-    /// Adds a set at the end, if its members rise strictly and the table does not have it.
-    fn add(&mut self, members: &[u16]) -> Result<bool, AllocError>
-        requires room { length self.old.sets < self.old.limit }
-        ensures added { IfOk result (λ added. added ≡ true → self.new ≡ with_set self.old members.now) }
-        ensures refused { IfOk result (λ added. added ≡ false → ¬ MayBeAdded self.old.sets members.now) }
-    {
-        if !do_rise(members) || self.find(members).is_some() {
-            return Ok(false);
-        }
-        match self.intern(members) {
-            Ok(_) => Ok(true),
-            Err(SetFault::Full) => Ok(false),
-            Err(SetFault::OutOfMemory) => Err(AllocError),
-        }
-    }
 }
 
 /// Whether each number is below the next.
-fn do_rise(members: &[u16]) -> bool
+pub(crate) fn do_rise(members: &[u16]) -> bool
     ensures { IsTrue result ↔ IsStrictlyIncreasing members.now }
 {
     for i in 1..members.len() {

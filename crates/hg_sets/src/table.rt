@@ -12,17 +12,25 @@ use crate::memo::{
     JOINS, KnownJoin, KnownMeet, LONGEST, MEETS, join_place, meet_place, none_known,
 };
 use crate::merging::is_subset;
+use crate::reserving::Room;
 use std::alloc::{AllocError, Global};
 use std::marker::Model;
 
 /// The most sets that a table may have.
 pub const MOST_SETS: u32 = 262_144;
 
+/// The room that a new table takes.
+const FIRST_ROOM: Room = Room {
+    count: 1,
+    members: 0,
+    longest: 0,
+};
+
 /// Interned sets of numbers. Each set stands once, under a number below `len`, which it keeps; number 0 is the empty set.
 pub struct SetTable {
     pub(crate) interner: Interner,
-    joins: Vec<Option<KnownJoin>>,
-    meets: Vec<Option<KnownMeet>>,
+    pub(crate) joins: Vec<Option<KnownJoin>>,
+    pub(crate) meets: Vec<Option<KnownMeet>>,
 }
 
 impl Drop for SetTable {
@@ -58,7 +66,7 @@ impl SetTable {
         ensures table { IfOk result (λ t. t ≡ first_table limit) }
         ensures sets { IfOk result AreSets }
     {
-        let interner = Interner::with_limit(alloc, limit)?;
+        let interner = Interner::with_room(alloc, limit, FIRST_ROOM)?;
         let joins = none_known(alloc, JOINS)?;
         let meets = none_known(alloc, MEETS)?;
         Ok(SetTable {

@@ -1,11 +1,12 @@
-use Rattle.std.proofs.Common.{◌≤◌, ◌^◌, length}
-use Rattle.hg_sets.specs.Listing.{AreFound, HoldNumbers, lists_of}
+use Rattle.std.proofs.Common.{◌≡◌, length}
+use Rattle.hg_sets.specs.Listing.{AreFound, HoldNumbers, lists_of, taken}
 use Rattle.hg_sets.proofs.lists.slots_for.Given as goal
 
 -- the first lists are found
 abbrev pub invariant-loop-i : goal.invariant-loop-i
 invariant-loop-i l = record {
-  few : length l.slots.items ≤ 2 ^ 32;
+  len : length l.slots.items ≡ l.count;
   numbers : HoldNumbers (length l.spans) l.slots.items;
+  one_slot_each : taken l.slots.items ≡ l.i;
   found : AreFound (lists_of l.elements l.spans) l.slots.items l.i;
 }

@@ -6,7 +6,7 @@ use Rattle.hg_sets.proofs.interner.Interner.join.Goals as goal
 use Rattle.hg_sets.proofs.interner.Interner.join.Goals.{After-write_joined}
 
 -- the buffer has the set with the member
-joined : (c : After-write_joined) → c.write_joined.new.joined.items ≡ with_member (set_at c.args.self.now.lists c.args.a) c.args.member
+joined : (c : After-write_joined) → c.write_joined.new.joined.items ≡ with_member (set_at c.args.self.now.lists.all c.args.a) c.args.member
 joined c =
     let found = rw c.get-members.ensures at c.in-Err.ensures.position in
     let rises = c.requires.sound.sets.rising c.args.a [] c.requires.known in
@@ -20,7 +20,7 @@ intern_scratch-requires-clause-rising c =
 pub returns-in-Ok-clause-exact : goal.returns-in-Ok-clause-exact
 returns-in-Ok-clause-exact c =
     let found = rw c.get-members.ensures at c.in-Ok.ensures.position in
-    let there = with_member-searched (set_at c.args.self.now.lists c.args.a) c.args.member (Ok c.in-Ok.field-0) (c.requires.sound.sets.rising c.args.a [] c.requires.known) found in
+    let there = with_member-searched (set_at c.args.self.now.lists.all c.args.a) c.args.member (Ok c.in-Ok.field-0) (c.requires.sound.sets.rising c.args.a [] c.requires.known) found in
     inl (c.args.a, (c.requires.known, sym there), refl, refl)
 
 pub returns-in-Err-clause-exact : goal.returns-in-Err-clause-exact

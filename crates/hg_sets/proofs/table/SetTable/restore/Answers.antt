@@ -1,6 +1,21 @@
-use Rattle.hg_sets.proofs.Restored.{not_new}
+use Rattle.std.proofs.Common.{length, sym, ap, arith}
+use Rattle.std.proofs.lemmas.Bool.{eqb-false}
+use Rattle.hg_sets.specs.Interning.{Table}
+use Rattle.hg_sets.proofs.Remembering.{joins_none, meets_none}
+use Rattle.hg_sets.proofs.Reserved.{room_behind_first}
 use Rattle.hg_sets.proofs.table.SetTable.restore.Goals as goal
 
-pub returns-then-not-branch-clause-table : goal.returns-then-not-branch-clause-table
-returns-then-not-branch-clause-table c =
-    not_new c.args.limit c.loop-i.i c.args.sets.now c.index-sets-i.result c.as_slice-in-loop-i.result.now c.loop-i.table c.loop-i-test.true c.index-sets-i.is c.as_slice-in-loop-i.ensures c.loop-i.invariant (c.in_ok-add.ensures.refused c.if-not-branch.true)
+pub fill-requires-clause-room : goal.fill-requires-clause-room
+fill-requires-clause-room c =
+    let made = c.in_ok-interner.ensures in
+    let one = ap (λ (t : Table). length t.sets) made.table in
+    let some = eqb-false (length c.args.sets.now) 0 (sym c.if-is_empty.ensures) in
+    room_behind_first c.args.sets.now c.in-Some.room c.in_ok-interner.interner c.in-Some.ensures.room made.room one (omega (arith, some))
+
+pub invariant_of-result : goal.invariant_of-result
+invariant_of-result c =
+    record {
+      sound = c.if-not-fill.ensures.sound;
+      joins = rw c.in_ok-joins.ensures (joins_none c.fill.new.self.lists.all);
+      meets = rw c.in_ok-meets.ensures (meets_none c.fill.new.self.lists.all);
+    }
