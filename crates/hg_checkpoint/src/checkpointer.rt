@@ -167,7 +167,7 @@ impl<D: Disk> Checkpointer<D> {
         requires { self.now.phase ≡ Phase.Prepared }
         ensures { SpellsBody self.now pool.now result }
     {
-        let pages = pages_in(alloc, pool.frozen_table().entries())?;
+        let pages = pages_in(alloc, pool.frozen_table())?;
         match &self.head {
             None => Err(AllocError),
             Some(head) => head.with_pages(alloc, &pages),

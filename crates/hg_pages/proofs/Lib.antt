@@ -5,5 +5,6 @@ pub mod Rising
 pub mod Parting
 pub mod Keeping
 pub mod OneReading
+pub mod Gaps
 pub mod Searching
 pub mod Places

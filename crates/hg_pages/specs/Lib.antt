@@ -6,3 +6,4 @@ pub mod Reading
 pub mod Stored
 pub mod Tables
 pub mod Marks
+pub mod Gaps

@@ -6,6 +6,7 @@ mod decoded;
 mod encoded;
 mod entries;
 mod fault;
+mod gap_buffer;
 pub mod laws;
 mod slot_file;
 mod table;

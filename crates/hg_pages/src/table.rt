@@ -5,6 +5,7 @@ ghost use Rattle.hg_pages.specs.Marks.{cleared, marked};
 ghost use Rattle.hg_pages.specs.Tables.{AreEntries, GivesSlot, GrowsByNew, IsNamed, LosesPage, slot_in};
 
 use crate::entries::{find, put, take_out};
+use crate::gap_buffer::GapBuffer;
 use std::alloc::{AllocError, Global};
 use std::marker::Model;
 
@@ -14,7 +15,7 @@ use std::marker::Model;
 /// below which slots can be named without new memory (`slots`). An entry takes 16 bytes, and each slot up to the greatest
 /// takes one byte.
 pub struct Table {
-    entries: Vec<(u64, u32)>,
+    entries: GapBuffer,
     // Whether each slot is named.
     named: Vec<bool>,
 }
@@ -28,7 +29,6 @@ impl Drop for Table {
 }
 
 impl Model for Table {
-    ghost use Rattle.std.specs.Vec.{vec_capacity};
     ghost use Rattle.std.specs.Prelude.{length};
     ghost use Rattle.hg_pages.specs.Marks.{AreMarks, IsInOrder};
     ghost use Rattle.hg_pages.specs.Tables.{ShownTable};
@@ -36,7 +36,7 @@ impl Model for Table {
 
     ghost Value = { ShownTable };
 
-    ghost view = { λ t. record { entries = t.entries.items; capacity = vec_capacity t.entries; slots = length t.named.items } };
+    ghost view = { λ t. record { entries = t.entries.items; capacity = t.entries.capacity; slots = length t.named.items } };
 
     ghost invariant = { λ t. IsInOrder t.entries.items × AreMarks t.named.items t.entries.items };
 }
@@ -47,7 +47,7 @@ impl Table {
         ensures { result.entries ≡ [] }
     {
         Table {
-            entries: Vec::new(alloc),
+            entries: GapBuffer::from_vec(Vec::new(alloc)),
             named: Vec::new(alloc),
         }
     }
@@ -64,7 +64,10 @@ impl Table {
             reach(&mut named, slot + 1)?;
             named[slot] = true;
         }
-        Ok(Table { entries, named })
+        Ok(Table {
+            entries: GapBuffer::from_vec(entries),
+            named,
+        })
     }
 
     /// Its pages, which rise, each with its slot. It takes no memory.
@@ -74,22 +77,23 @@ impl Table {
     {
         let Table { entries, named } = self;
         drop(named);
-        entries
+        entries.into_vec()
     }
 
     /// How many pages it has.
     pub fn len(&self) -> usize
-        ensures { result ≡ length self.now.entries }
+        ensures value { result ≡ length self.now.entries }
+        ensures entries { AreEntries self.now.entries }
     {
         self.entries.len()
     }
 
-    /// Its pages, which rise, each with its slot.
-    pub fn entries(&self) -> &[(u64, u32)]
-        ensures value { result.now ≡ self.now.entries }
-        ensures entries { AreEntries self.now.entries }
+    /// The page at this index, where pages rise, and its slot.
+    pub fn at(&self, index: usize) -> (u64, u32)
+        requires { index < length self.now.entries }
+        ensures { result ≡ slice_index_or self.now.entries index result }
     {
-        &self.entries
+        self.entries.at(index)
     }
 
     /// The slot of a page.
@@ -152,8 +156,7 @@ impl Table {
     pub fn copy(&self, alloc: Global) -> Result<Table, AllocError>
         ensures { IfOk result (λ table. table.entries ≡ self.now.entries) }
     {
-        let mut entries = Vec::with_capacity(alloc, self.entries.len())?;
-        entries.extend_from_slice(&self.entries)?;
+        let entries = self.entries.copy(alloc)?;
         let mut named = Vec::with_capacity(alloc, self.named.len())?;
         named.extend_from_slice(&self.named)?;
         Ok(Table { entries, named })

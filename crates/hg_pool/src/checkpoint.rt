@@ -35,11 +35,10 @@ impl<D: Disk> Parts<D> {
         requires sound { IsSound self.now }
         ensures { IsNextJob (shown_of self.now) result }
     {
-        let entries = self.waiting.entries();
-        if entries.is_empty() {
+        if self.waiting.len() == 0 {
             return None;
         }
-        let page = entries[0].0;
+        let page = self.waiting.at(0).0;
         match self.frozen_cells(page) {
             Some(cells) => Some(Job {
                 alloc: self.alloc,

@@ -1,5 +1,5 @@
 //! Pages leave their frames. Changed pages are written first.
-ghost use Rattle.std.specs.Prelude.{◌≡◌, ◌≢◌, ◌⊎◌, ◌↔◌, ◌+◌, ◌-◌, ◌<◌, ◌≤◌, ◌^◌, [], ◌∷◌, ◌++◌, length, map, true, false, Some, None, Ok, Err, is_some, IsTrue, OnOk, OnErr, IfOk, IfErr, ◌==◌, if◌then◌else◌};
+ghost use Rattle.std.specs.Prelude.{◌≡◌, ◌≢◌, ◌⊎◌, ◌↔◌, ◌+◌, ◌-◌, ◌<◌, ◌≤◌, ◌^◌, [], ◌∷◌, ◌++◌, length, map, true, false, Some, None, Ok, Err, is_some, IsTrue, OnOk, OnErr, IsErrOf, IfOk, IfErr, ◌==◌, if◌then◌else◌};
 ghost use Rattle.hg_disk.specs.Calls.{CallsAtMost};
 ghost use Rattle.hg_pages.specs.Tables.{IsNamed, slot_in};
 ghost use Rattle.hg_pool.specs.Maps.{copy_in, disk_of, frame_in};
@@ -72,6 +72,7 @@ impl<D: Disk> Parts<D> {
         ensures stays { Stays ⟦<D as Disk>⟧ (shown_of self.old) (shown_of self.new) }
         ensures refusal { IfErr result (IsTrueCause (shown_of self.new)) }
         ensures undamaged { IfErr result (λ r. r ≢ Refusal.Damaged) }
+        ensures breaks { IsErrOf result Refusal.DeviceFault → IsBroken (shown_of self.new) }
         ensures device { CountsFailures ⟦<D as Disk>⟧ (shown_of self.old) (shown_of self.new) result }
         ensures cells { CellsFrom self.old.frames.entries self.new.frames.entries }
         ensures order { map (λ e. e.0) self.new.frames.entries ≡ map (λ e. e.0) self.old.frames.entries }
@@ -126,6 +127,7 @@ impl<D: Disk> Parts<D> {
         ensures reached { IsReached self.new }
         ensures moves { MovesPages ⟦<D as Disk>⟧ 1 (shown_of self.old) (shown_of self.new) result }
         ensures undamaged { IfErr result (λ r. r ≢ Refusal.Damaged) }
+        ensures breaks { IsErrOf result Refusal.DeviceFault → IsBroken (shown_of self.new) }
         ensures cells { CellsFrom self.old.frames.entries self.new.frames.entries }
         ensures order { map (λ e. e.0) self.new.frames.entries ≡ map (λ e. e.0) self.old.frames.entries }
         ensures clean { OnOk result (IsClean self.new.frames.entries page) }
@@ -144,6 +146,7 @@ impl<D: Disk> Parts<D> {
         ensures reached { IsReached self.new }
         ensures moves { MovesPages ⟦<D as Disk>⟧ 1 (shown_of self.old) (shown_of self.new) result }
         ensures undamaged { IfErr result (λ r. r ≢ Refusal.Damaged) }
+        ensures breaks { IsErrOf result Refusal.DeviceFault → IsBroken (shown_of self.new) }
         ensures cells { CellsFrom self.old.frames.entries self.new.frames.entries }
         ensures order { map (λ e. e.0) self.new.frames.entries ≡ map (λ e. e.0) self.old.frames.entries }
         ensures clean { OnOk result (IsClean self.new.frames.entries page) }
@@ -162,6 +165,7 @@ impl<D: Disk> Parts<D> {
         ensures reached { IsReached self.new }
         ensures moves { MovesPages ⟦<D as Disk>⟧ 1 (shown_of self.old) (shown_of self.new) result }
         ensures undamaged { IfErr result (λ r. r ≢ Refusal.Damaged) }
+        ensures breaks { IsErrOf result Refusal.DeviceFault → IsBroken (shown_of self.new) }
         ensures cells { CellsFrom self.old.frames.entries self.new.frames.entries }
         ensures order { map (λ e. e.0) self.new.frames.entries ≡ map (λ e. e.0) self.old.frames.entries }
         ensures clean { OnOk result (IsClean self.new.frames.entries page) }
@@ -191,6 +195,7 @@ impl<D: Disk> Parts<D> {
         ensures reached { IsReached self.new }
         ensures moves { MovesPages ⟦<D as Disk>⟧ 1 (shown_of self.old) (shown_of self.new) result }
         ensures undamaged { IfErr result (λ r. r ≢ Refusal.Damaged) }
+        ensures breaks { IsErrOf result Refusal.DeviceFault → IsBroken (shown_of self.new) }
         ensures cells { CellsFrom self.old.frames.entries self.new.frames.entries }
         ensures none { result ≡ Ok None → (self.new ≡ self.old) × (self.old.frames.entries ≡ []) }
         ensures freed { IfOk result (HasFreed (shown_of self.old) (shown_of self.new)) }
@@ -221,6 +226,7 @@ impl<D: Disk> Parts<D> {
         ensures room { OnOk result (length self.new.frames.entries < self.new.frames.cap) }
         ensures quiet { length self.old.frames.entries < self.old.frames.cap → self.new ≡ self.old }
         ensures order { OnOk result (order_of (shown_of self.new) ≡ order_with_room (shown_of self.old)) }
+        ensures kept { OnErr result (order_of (shown_of self.new) ≡ order_of (shown_of self.old)) }
         ensures fewer { ArePagesOf self.new.frames.entries self.old.frames.entries }
     {
         if self.frames.len() < self.frames.most() {

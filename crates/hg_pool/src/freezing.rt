@@ -19,8 +19,8 @@ fn without(alloc: Global, table: &Table, pages: &Table) -> Result<Table, AllocEr
     ensures fewer { IfOk result (λ left. length left.entries ≤ length table.now.entries) }
 {
     let mut left = table.copy(alloc)?;
-    for entry in pages.entries() {
-        left.remove(entry.0);
+    for i in 0..pages.len() {
+        left.remove(pages.at(i).0);
     }
     Ok(left)
 }
@@ -49,11 +49,11 @@ impl<D: Disk> Parts<D> {
     {
         let mut picks = Table::new(self.alloc);
         let mut from = 0u32;
-        for entry in pages.entries() {
+        for i in 0..pages.len() {
             match self.free_slot_from(from) {
                 None => return Err(FreezeFault::FullSlots),
                 Some(slot) => {
-                    picks.set(entry.0, slot)?;
+                    picks.set(pages.at(i).0, slot)?;
                     from = slot + 1;
                 }
             }
@@ -101,7 +101,7 @@ impl<D: Disk> Parts<D> {
         self.search_from = 0;
         let _count = self.frames.len();
         let changed = changed_pages(self.alloc, &self.frames)?;
-        let _entries = changed.entries();
+        let _entries = changed.len();
         let waiting = self.pick(&changed)?;
         let mut frozen = without(self.alloc, &self.live, &changed)?;
         frozen.reserve(waiting.len(), self.slots)?;

@@ -9,7 +9,7 @@ ghost use Rattle.hg_pool.specs.Answers.{order_of, order_with};
 ghost use Rattle.hg_pool.specs.Picking.{AreLeastFree, LacksSlots};
 ghost use Rattle.hg_pool.specs.Shown.{HasSameLimits};
 ghost use Rattle.hg_pool.specs.Tables.{AreBelow, IsNameable};
-ghost use Rattle.hg_pool.specs.Calls.{FillsPage, FreezesOnOk, HasChanged, HasFreed, HasWaited, IsNextJob, IsStale, KeepsCopies, KeepsFirst, LeavesUnwritten, LoadsAgain, LoadsUndamaged, LosesWritten, MayChange, MovesPages, NamesDirty, SealsWhole, StayWithin, WritesPages, first_pool};
+ghost use Rattle.hg_pool.specs.Calls.{FillsPage, FreezesOnOk, HasChanged, HasFreed, HasWaited, IsNextJob, IsStale, KeepsCopies, KeepsFirst, LeavesUnwritten, LoadsAgain, LoadsUndamaged, LosesWritten, MayChange, MovesPages, NamesDirty, SealsWhole, StayWithin, WritesPages, first_pool, order_with_room};
 
 use crate::fault::FreezeFault;
 use crate::job::{Job, Put};
@@ -118,18 +118,23 @@ impl<D: Disk> Pool<D> {
         ensures none { result ≡ Ok None → (self.new ≡ self.old) × (self.old.frames ≡ []) }
         ensures freed { IfOk result (HasFreed self.old self.new) }
         ensures kept { OnErr result (order_of self.new ≡ order_of self.old) }
+        ensures cells { CellsFrom self.old.frames self.new.frames }
         ensures unwritten { IfOk result (LeavesUnwritten self.old self.new) }
         ensures changed { OnErr result (HasChanged self.old) }
         ensures undamaged { IfErr result (λ r. r ≢ Refusal.Damaged) }
+        ensures breaks { IsErrOf result Refusal.DeviceFault → IsTrue (is_broken self.new) }
     {
         self.parts.evict()
     }
 
-    /// Frees a frame if all are taken.
+    /// Frees a frame if all are taken: that of the page used least recently.
     pub fn make_room(&mut self) -> Result<(), Refusal>
         ensures moves { MovesPages ⟦<D as Disk>⟧ 1 self.old self.new result }
         ensures room { OnOk result (length self.new.frames < self.new.most_frames) }
         ensures quiet { length self.old.frames < self.old.most_frames → self.new ≡ self.old }
+        ensures order { OnOk result (order_of self.new ≡ order_with_room self.old) }
+        ensures kept { OnErr result (order_of self.new ≡ order_of self.old) }
+        ensures cells { CellsFrom self.old.frames self.new.frames }
         ensures undamaged { IfErr result (λ r. r ≢ Refusal.Damaged) }
     {
         self.parts.make_room()
@@ -250,7 +255,7 @@ impl<D: Disk> Pool<D> {
     pub fn all_written(&self) -> bool
         ensures { IsTrue result ↔ (self.now.waiting ≡ []) }
     {
-        self.parts.waiting.entries().is_empty()
+        self.parts.waiting.len() == 0
     }
 
     /// How many frozen copies there are: at most as many as frames.
@@ -275,7 +280,7 @@ impl<D: Disk> Pool<D> {
         ensures nameable { IsNameable self.now.slots self.now.frozen }
     {
         let table = self.parts.frozen_table();
-        let _entries = table.entries();
+        let _entries = table.len();
         table
     }
 

@@ -87,7 +87,7 @@ impl<D: Disk> Parts<D> {
         ensures fewer { length self.new.waiting.entries + 1 ≡ length self.old.waiting.entries }
         ensures unpicked { ¬ IsNamed self.new.waiting.entries slot }
     {
-        let _entries = self.waiting.entries();
+        let _entries = self.waiting.len();
         let _count = self.copies.len();
         name_frozen(&mut self.frozen, page, slot);
         self.waiting.remove(page);

@@ -22,7 +22,8 @@ pub fn page_of(token: &str) -> Option<u64>
 fn is_below(table: &Table, slots: u32) -> bool
     ensures { IsTrue result → AreBelow slots table.now.entries }
 {
-    for entry in table.entries() {
+    for i in 0..table.len() {
+        let entry = table.at(i);
         if entry.0 >= MOST_PAGES || entry.1 >= slots {
             return false;
         }

@@ -258,7 +258,9 @@ impl Trial {
 
     fn put_table(&self, out: &mut Text) {
         out.put(b"table");
-        for entry in self.pool.frozen_table().entries() {
+        let table = self.pool.frozen_table();
+        for i in 0..table.len() {
+            let entry = table.at(i);
             out.put_number(b" ", entry.0);
             out.put_number(b":", u64::from(entry.1));
         }

@@ -1,21 +1,40 @@
-use Rattle.std.proofs.Common.{◌<◌, ◌≤◌, ltb, get_or, arith, rules}
-use Rattle.std.proofs.lemmas.Bool.{ltb-false, ltb-true}
-use Rattle.std.proofs.lemmas.List.Sorted.{IsPartitionPoint-from_clause, IsPartitionedBy-ltb}
+use Rattle.std.proofs.Common.{◌≡◌, ◌<◌, ◌≤◌, ◌+◌, ◌-◌, ◌/◌, ℕ, ap, arith, get_or, length}
+use Rattle.std.proofs.lemmas.List.{get_or_read}
 use Rattle.hg_pages.proofs.Rising.{each_behind, each_front, none_falls}
 use Rattle.hg_pages.proofs.entries.count_below.Goals as goal
 
+pub loop-low-preserved-then-at-page : goal.loop-low-preserved-then-at-page
+loop-low-preserved-then-at-page c =
+    let entries = c.args.entries.now.items in
+    let middle = c.loop-low.low + (c.loop-low.high - c.loop-low.low) / 2 in
+    let less : middle < c.loop-low.high = omega (arith, c.loop-low-test.true) in
+    let inside : middle < length entries = omega (arith, less, c.loop-low.invariant.1) in (
+      omega (arith, less),
+      c.loop-low.invariant.1,
+      λ k d lt.
+          let here : c.at.result ≡ get_or entries middle d = get_or_read entries middle c.at.result inside c.at.ensures d in
+          omega (arith, none_falls entries k middle d c.requires (omega (arith, lt)) inside, ap (λ (e : ℕ × ℕ). e.0) here, c.if-at-page.true),
+      c.loop-low.invariant.3,
+    )
+
+pub loop-low-preserved : goal.loop-low-preserved
+loop-low-preserved c =
+    let entries = c.args.entries.now.items in
+    let middle = c.loop-low.low + (c.loop-low.high - c.loop-low.low) / 2 in
+    let less : middle < c.loop-low.high = omega (arith, c.loop-low-test.true) in
+    let inside : middle < length entries = omega (arith, less, c.loop-low.invariant.1) in (
+      omega arith,
+      omega (arith, inside),
+      c.loop-low.invariant.2,
+      λ k d le lt.
+          let here : c.at.result ≡ get_or entries middle d = get_or_read entries middle c.at.result inside c.at.ensures d in
+          omega (arith, none_falls entries middle k d c.requires le lt, ap (λ (e : ℕ × ℕ). e.0) here, c.if-at-page.false),
+    )
+
 pub returns-clause-below : goal.returns-clause-below
 returns-clause-below c =
-    let entries = c.args.entries.now in
-    let page = c.args.page in
-    let point = IsPartitionPoint-from_clause (λ e. ltb e.0 page) entries c.partition_point.result c.partition_point.ensures.partitioned
-    (IsPartitionedBy-ltb (λ e. e.0) entries page (λ i j d le lt. none_falls entries i j d c.requires le lt)) (λ a r q k. search rules) in
-    each_front (λ e. e.0 < page) entries c.partition_point.result (λ k d lt. ltb-true (get_or entries k d).0 page (point.0 k d (omega arith) lt)) c.partition_point.ensures.bound
+    each_front (λ e. e.0 < c.args.page) c.args.entries.now.items c.loop-low.low c.loop-low.invariant.2 (omega (arith, c.loop-low.invariant.0, c.loop-low.invariant.1))
 
 pub returns-clause-behind : goal.returns-clause-behind
 returns-clause-behind c =
-    let entries = c.args.entries.now in
-    let page = c.args.page in
-    let point = IsPartitionPoint-from_clause (λ e. ltb e.0 page) entries c.partition_point.result c.partition_point.ensures.partitioned
-    (IsPartitionedBy-ltb (λ e. e.0) entries page (λ i j d le lt. none_falls entries i j d c.requires le lt)) (λ a r q k. search rules) in
-    each_behind (λ e. page ≤ e.0) entries c.partition_point.result (λ k d le lt. ltb-false (get_or entries k d).0 page (point.1 k d le lt))
+    each_behind (λ e. c.args.page ≤ e.0) c.args.entries.now.items c.loop-low.low (λ k d le lt. c.loop-low.invariant.3 k d (omega (arith, le, c.loop-low-test.false)) lt)

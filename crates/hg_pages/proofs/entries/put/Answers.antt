@@ -6,17 +6,19 @@ use Rattle.hg_pages.proofs.entries.put.Goals as goal
 pub returns-in-Ok-clause-ok : goal.returns-in-Ok-clause-ok
 returns-in-Ok-clause-ok c =
     let entries = c.args.entries.now.items in
-    let at : StandsAt c.args.page entries c.in-Ok.place = subst (λ (l : List (ℕ × ℕ)). StandsAt c.args.page l c.in-Ok.place) c.deref.ensures.value c.in-Ok.ensures in
-    put_standing c.args.page c.index.result.now.1 c.args.slot c.in-Ok.place entries c.index.result.now at (ap (λ (e : ℕ × ℕ). e.1) (sym c.index.ensures))
+    let former = c.at-former.result in
+    let at : StandsAt c.args.page entries c.in-Ok.place = c.in-Ok.ensures in
+    subst (λ (l : List (ℕ × ℕ)). Puts c.args.page (Some former.1) (Some c.args.slot) entries l) (sym c.set.ensures.items)
+    (put_standing c.args.page former.1 c.args.slot c.in-Ok.place entries former at (ap (λ (e : ℕ × ℕ). e.1) (sym c.at-former.ensures)))
 
 pub returns-in_ok-insert-in-Err-clause-ok : goal.returns-in_ok-insert-in-Err-clause-ok
 returns-in_ok-insert-in-Err-clause-ok c =
     let entries = c.args.entries.now.items in
-    let at : BelongsAt c.args.page entries c.in-Err.place = subst (λ (l : List (ℕ × ℕ)). BelongsAt c.args.page l c.in-Err.place) c.deref.ensures.value c.in-Err.ensures in
+    let at : BelongsAt c.args.page entries c.in-Err.place = c.in-Err.ensures in
     subst (λ (l : List (ℕ × ℕ)). Puts c.args.page None (Some c.args.slot) entries l) (sym c.in_ok-insert-in-Err.ensures.items) (put_missing c.args.page c.args.slot c.in-Err.place entries at)
 
 pub returns-in_err-insert-in-Err-clause-replaces : goal.returns-in_err-insert-in-Err-clause-replaces
 returns-in_err-insert-in-Err-clause-replaces c there =
     let entries = c.args.entries.now.items in
-    let at : BelongsAt c.args.page entries c.in-Err.place = subst (λ (l : List (ℕ × ℕ)). BelongsAt c.args.page l c.in-Err.place) c.deref.ensures.value c.in-Err.ensures in
+    let at : BelongsAt c.args.page entries c.in-Err.place = c.in-Err.ensures in
     absurd (cc (sym (ap is_some (looked c.args.page None entries (parts_missing c.args.page c.in-Err.place entries at))) ∙ there))

@@ -6,12 +6,12 @@ use Rattle.hg_pages.proofs.entries.take_out.Goals as goal
 pub returns-in-Ok-clause-taken : goal.returns-in-Ok-clause-taken
 returns-in-Ok-clause-taken c =
     let entries = c.args.entries.now.items in
-    let at : StandsAt c.args.page entries c.in-Ok.place = subst (λ (l : List (ℕ × ℕ)). StandsAt c.args.page l c.in-Ok.place) c.deref.ensures.value c.in-Ok.ensures in
+    let at : StandsAt c.args.page entries c.in-Ok.place = c.in-Ok.ensures in
     subst (λ (l : List (ℕ × ℕ)). Puts c.args.page (Some c.remove.result.1) None entries l) (sym c.remove.ensures.items)
     (taken_standing c.args.page c.remove.result.1 c.in-Ok.place entries c.remove.result at (ap (λ (e : ℕ × ℕ). e.1) (sym c.remove.ensures.value)))
 
 pub returns-in-Err-clause-taken : goal.returns-in-Err-clause-taken
 returns-in-Err-clause-taken c =
     let entries = c.args.entries.now.items in
-    let at : BelongsAt c.args.page entries c.in-Err.field-0 = subst (λ (l : List (ℕ × ℕ)). BelongsAt c.args.page l c.in-Err.field-0) c.deref.ensures.value c.in-Err.ensures in
+    let at : BelongsAt c.args.page entries c.in-Err.field-0 = c.in-Err.ensures in
     taken_missing c.args.page c.in-Err.field-0 entries at

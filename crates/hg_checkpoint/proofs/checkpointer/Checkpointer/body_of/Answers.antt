@@ -7,4 +7,4 @@ use Rattle.hg_checkpoint.proofs.checkpointer.Checkpointer.body_of.Goals as goal
 pub with_pages-requires : goal.with_pages-requires
 with_pages-requires g c =
     let p = c.args.pool.now in
-    subst PagesFit (sym (c.deref.ensures.value ∙ c.in_ok-pages.ensures ∙ ap pages_of (c.entries.ensures.value ∙ c.frozen_table.ensures.entries))) (fit p.slots p.frozen c.frozen_table.ensures.nameable)
+    subst PagesFit (sym (c.deref.ensures.value ∙ c.in_ok-pages.ensures ∙ ap pages_of c.frozen_table.ensures.entries)) (fit p.slots p.frozen c.frozen_table.ensures.nameable)

@@ -1,6 +1,6 @@
 use Rattle.std.proofs.Common.{◌≡◌, ◌+◌, ◌∙◌, ℕ, true, List, length, take, get_or, set, ap, sym, subst, arith}
 use Rattle.std.proofs.lemmas.List.{take_all}
-use Rattle.hg_pages.specs.Marks.{AreMarks}
+use Rattle.hg_pages.specs.Marks.{AreMarks, IsInOrder}
 use Rattle.hg_pages.proofs.Places.{in_order, marks_more}
 use Rattle.hg_pages.proofs.table.Table.from_entries.Goals as goal
 
@@ -18,4 +18,5 @@ pub invariant_of-result : goal.invariant_of-result
 invariant_of-result c =
     let entries = c.args.entries.items in
     let all : take c.loop-entry.entry-index entries ≡ entries = take_all c.loop-entry.entry-index entries (omega (arith, c.loop-entry-test.false, ap length c.deref-entry-items.ensures.value)) in
+    subst (λ (l : List (ℕ × ℕ)). IsInOrder l × AreMarks c.loop-entry.named.items l) (sym c.from_vec.ensures.items)
     (in_order entries c.requires, subst (λ (l : List (ℕ × ℕ)). AreMarks c.loop-entry.named.items l) all c.loop-entry.invariant)

@@ -70,11 +70,11 @@ begin-requires-clause-left g c =
 
 pub begin-requires-clause-frozen_room : goal.begin-requires-clause-frozen_room
 begin-requires-clause-frozen_room g c =
-    (omega (arith, c.in_ok-reserve.ensures.capacity, ap (λ (es : List (ℕ × ℕ)). length es) c.reserve.ensures.entries, c.len.ensures), c.in_ok-reserve.ensures.slots)
+    (omega (arith, c.in_ok-reserve.ensures.capacity, ap (λ (es : List (ℕ × ℕ)). length es) c.reserve.ensures.entries, c.len.ensures.value), c.in_ok-reserve.ensures.slots)
 
 pub begin-requires-clause-live_room : goal.begin-requires-clause-live_room
 begin-requires-clause-live_room g c =
-    (omega (arith, c.in_ok-reserve-2.ensures.capacity, ap (λ (es : List (ℕ × ℕ)). length es) c.reserve-2.ensures.entries, c.len-2.ensures), c.in_ok-reserve-2.ensures.slots)
+    (omega (arith, c.in_ok-reserve-2.ensures.capacity, ap (λ (es : List (ℕ × ℕ)). length es) c.reserve-2.ensures.entries, c.len-2.ensures.value), c.in_ok-reserve-2.ensures.slots)
 
 pub returns-clause-picked : goal.returns-clause-picked
 returns-clause-picked g c =

@@ -28,7 +28,7 @@ pub returns-clause-unpicked : goal.returns-clause-unpicked
 returns-clause-unpicked g c named =
     let p = c.args.self.now in
     let left = no_page_left (c.args.page == named.0) (slot_in p.waiting.entries named.0) c.args.slot (sym (c.remove.ensures.removed named.0) ∙ named.1) in
-    let same = once p.waiting.entries c.args.page named.0 c.args.slot (in_order p.waiting.entries c.entries-entries.ensures.entries).distinct c.requires.waits left.1 in
+    let same = once p.waiting.entries c.args.page named.0 c.args.slot (in_order p.waiting.entries c.len-entries.ensures.entries).distinct c.requires.waits left.1 in
     absurd (cc (sym left.0 ∙ ap (λ (n : ℕ). c.args.page == n) (sym same) ∙ itself c.args.page))
 
 pub returns-clause-fewer : goal.returns-clause-fewer
@@ -49,7 +49,7 @@ returns-clause-sound g c =
     c.remove.ensures.removed (returns-clause-fewer g c)
     (λ q. ap (λ (x : LruCache ℕ (List Cell)). copy_in x.entries q) c.pop.ensures.entries ∙ looked_removed page q p.copies.entries c.len-count.ensures.valid.0)
     (ap (λ (x : LruCache ℕ (List Cell)). x.cap) c.pop.ensures.entries)
-    (λ q is. once p.waiting.entries page q c.args.slot (in_order p.waiting.entries c.entries-entries.ensures.entries).distinct c.requires.waits is))
+    (λ q is. once p.waiting.entries page q c.args.slot (in_order p.waiting.entries c.len-entries.ensures.entries).distinct c.requires.waits is))
 
 pub returns-clause-stays : goal.returns-clause-stays
 returns-clause-stays g c =

@@ -3,7 +3,7 @@ use Rattle.hg_pool.proofs.Stepping.{sound_room}
 use Rattle.hg_pool.proofs.parts.Parts.reserve_live.Goals as goal
 
 pub overflow_add-len : goal.overflow_add-len
-overflow_add-len g c = omega (arith, c.len.ensures, c.requires.sound.few, c.requires.sound.most_frames)
+overflow_add-len g c = omega (arith, c.len.ensures.value, c.requires.sound.few, c.requires.sound.most_frames)
 
 pub returns-in_err-reserve-clause-sound : goal.returns-in_err-reserve-clause-sound
 returns-in_err-reserve-clause-sound g c =
