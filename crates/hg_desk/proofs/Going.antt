@@ -84,6 +84,8 @@ more_fail (told.Sealed r) n = omega arith
 more_fail (told.Prepared r) n = omega arith
 more_fail (told.Written r) n = omega arith
 more_fail (told.Opened r) n = omega arith
+more_fail (told.Evicted r) n = omega arith
+more_fail (told.Loaded r) n = omega arith
 
 module _ {D : Type 0} (g : disk.Ghosts D) where
   each_weaker : (old new : Devices D) (P Q : Image → Type 0) → ((image : Image) → P image → Q image) → EachImage g old new P → EachImage g old new Q
@@ -158,6 +160,8 @@ module _ {D : Type 0} (g : disk.Ghosts D) where
     live_leads step.PrepareRoot result content = same_leads (live g old) (live g new) content
     live_leads step.WriteRoot result content = same_leads (live g old) (live g new) content
     live_leads step.OpenRoot result content = same_leads (live g old) (live g new) content.2.live
+    live_leads step.Evict result content = same_leads (live g old) (live g new) content
+    live_leads (step.Load page) result content = same_leads (live g old) (live g new) content.2.live
 
     commit_leads : (r : Result ℕ Refusal) → CommitDone g old new r → LeadsTo (saved g old) (live g old) → LeadsTo (saved g old) (saved g new)
     commit_leads (Ok count) done leads = subst (λ (c : Content). LeadsTo (saved g old) c) (sym (ap (λ (d : detect.ShownDetector (pool.ShownPool D)). detect.content (pools.live g) d) done.answer.committed)) leads
@@ -173,6 +177,8 @@ module _ {D : Type 0} (g : disk.Ghosts D) where
     saved_leads step.PrepareRoot result done leads = same_leads (saved g old) (saved g new) (saved_same done.2.done.committed)
     saved_leads step.WriteRoot result done leads = same_leads (saved g old) (saved g new) (saved_same done.2.done.committed)
     saved_leads step.OpenRoot result done leads = same_leads (saved g old) (saved g new) (saved_same done.2.done.committed)
+    saved_leads step.Evict result done leads = same_leads (saved g old) (saved g new) (saved_same done.2.moves.same.committed)
+    saved_leads (step.Load page) result done leads = same_leads (saved g old) (saved g new) (saved_same done.2.moves.same.committed)
 
     -- one step more
     pub step_went : (start : Began) (moments : List (Devices D)) (step : Step) (result : StepResult) → WentOn g start moments old → StepDone g old new step result

@@ -8,7 +8,9 @@ ghost use Rattle.hg_store.specs.Shown.{live};
 ghost use Rattle.hg_desk.specs.Blanks.{IsBlankOf};
 ghost use Rattle.hg_desk.specs.Conversation.{ReportsAnswer};
 ghost use Rattle.hg_desk.specs.Going.{began};
-ghost use Rattle.hg_desk.specs.Told.{StepKept, fitting, made_durable, nothing_told, taken};
+ghost use Rattle.hg_store.specs.declared.steps.Step.TheVariants as step;
+ghost use Rattle.hg_store.specs.declared.steps.StepResult.TheVariants as told;
+ghost use Rattle.hg_desk.specs.Told.{CommitKept, StepKept, fitting, made_durable, nothing_told, taken};
 
 use crate::desk::refused;
 use crate::moment::Moment;
@@ -135,6 +137,8 @@ fn tells_failure(answer: &StepResult) -> bool
         StepResult::Prepared(Err(StepFault::Refused(Cause::DeviceFault))) => true,
         StepResult::Written(Err(StepFault::Refused(Cause::DeviceFault))) => true,
         StepResult::Opened(Err(StepFault::Refused(Cause::DeviceFault))) => true,
+        StepResult::Evicted(Err(StepFault::Refused(Cause::DeviceFault))) => true,
+        StepResult::Loaded(Err(StepFault::Refused(Cause::DeviceFault))) => true,
         _ => false,
     }
 }
@@ -204,6 +208,31 @@ impl<D: Disk, A: Opening, B: Column> Core<D, A, B> {
             durable_by(before, &result),
         );
         result
+    }
+
+    /// The step `Commit`.
+    pub(crate) fn commit(
+        &mut self,
+        alloc: Global,
+        share: &mut Share<A, B>,
+    ) -> Result<u64, StepFault>
+        ensures { CommitKept ⟦<D as Disk>⟧ self.old self.new share.old share.new result }
+    {
+        match self.step(alloc, share, &Step::Commit) {
+            StepResult::Committed(Ok(count)) => Ok(count),
+            StepResult::Committed(Err(Refusal::Broken)) => Err(StepFault::Refused(Cause::Broken)),
+            _ => Err(StepFault::Refused(Cause::DeviceFault)),
+        }
+    }
+
+    /// The step `Freeze`.
+    pub(crate) fn freeze(&mut self, alloc: Global, share: &mut Share<A, B>) -> Result<(), StepFault>
+        ensures { StepKept ⟦<D as Disk>⟧ self.old self.new share.old share.new step.Freeze (told.Frozen result) }
+    {
+        match self.step(alloc, share, &Step::Freeze) {
+            StepResult::Frozen(result) => result,
+            _ => Err(StepFault::Refused(Cause::Broken)),
+        }
     }
 
     /// How many events were accepted and made durable since the opening, through all shares: at least as many as this share was told of.

@@ -5,7 +5,7 @@ ghost use Rattle.hg_protocol.specs.Spelling.{FitsFrames};
 ghost use Rattle.hg_store.specs.Shown.{live};
 ghost use Rattle.hg_desk.specs.Conversation.{Answers, AskTold};
 ghost use Rattle.hg_desk.specs.Counting.{AreSince, FindsAtLeast};
-ghost use Rattle.hg_desk.specs.Told.{Told, StepKept, StepTold};
+ghost use Rattle.hg_desk.specs.Told.{BeginKept, BeginTold, Told, StepKept, StepTold};
 
 use crate::desk::Desk;
 use crate::locked::{Core, Counts};
@@ -13,7 +13,7 @@ use crate::share::{Column, Opening, Share};
 use hg_disk::Disk;
 use hg_protocol::frame::Frame;
 use hg_protocol::reply::Reply;
-use hg_store::steps::{Step, StepResult};
+use hg_store::steps::{Step, StepFault, StepResult};
 use std::alloc::Global;
 
 /// A task that may run under the lock.
@@ -46,6 +46,29 @@ impl<D: Disk, A: Opening, B: Column> Task<D, A, B> for StepTask {
         ensures step { StepKept ⟦<D as Disk>⟧ core.old core.new share.old share.new self.step result }
     {
         core.step(self.alloc, share, &self.step)
+    }
+}
+
+/// Begins a checkpoint: a commit and, where it answers Ok, a freeze of what it made durable.
+#[derive(Drop)]
+pub struct BeginTask {
+    pub alloc: Global,
+}
+
+impl<D: Disk, A: Opening, B: Column> Task<D, A, B> for BeginTask {
+    type Out = Result<u64, StepFault>;
+
+    ghost promise = { λ t old new res. BeginTold old new };
+
+    /// The count of the durable events, or the refusal of the step that was not made. In one hold no event comes between the
+    /// two steps.
+    fn run(self, core: &mut Core<D, A, B>, share: &mut Share<A, B>) -> Result<u64, StepFault>
+        ensures promise { BeginTold share.old share.new }
+        ensures steps { BeginKept ⟦<D as Disk>⟧ core.old core.new share.old share.new result }
+    {
+        let count = core.commit(self.alloc, share)?;
+        core.freeze(self.alloc, share)?;
+        Ok(count)
     }
 }
 

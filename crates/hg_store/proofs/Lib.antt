@@ -19,3 +19,4 @@ pub mod Replaying
 pub mod Making
 pub mod Telling
 pub mod Refusals
+pub mod Loading

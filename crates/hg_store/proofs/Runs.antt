@@ -44,7 +44,7 @@ refused_doubts true false refusal is = ap is_device_fault is
 refused_doubts false true refusal is = refl
 refused_doubts false false refusal is = ap is_device_fault is
 
--- a broken store refuses a step of a checkpoint so
+-- a broken store refuses a step of a checkpoint, an eviction and a load so
 refuses : {D X : Type 0} (s : ShownStore D) (Allowed : Type 0) (Causes : Cause → Type 0) (result : Result X StepFault) → IsAllowed s Allowed Causes result → IfBroken s.is_broken result
 refuses s Allowed Causes (Ok value) is broken = absurd (cc (sym is.0 ∙ broken))
 refuses s Allowed Causes (Err (WrongPhase p)) is broken = absurd (cc (sym is.0 ∙ broken))
@@ -70,6 +70,8 @@ module _ {D : Type 0} (g : disk.Ghosts D) where
     is_lawful run s new step.PrepareRoot result at done = (done.0, done.1, refuses s _ _ done.0 done.2.done.allowed)
     is_lawful run s new step.WriteRoot result at done = (done.0, done.1, refuses s _ _ done.0 done.2.done.allowed)
     is_lawful run s new step.OpenRoot result at done = (done.0, done.1, refuses s _ _ done.0 done.2.done.allowed)
+    is_lawful run s new step.Evict result at done = (done.0, done.1, refuses s _ _ done.0 done.2.allowed)
+    is_lawful run s new (step.Load page) result at done = (done.0, done.1, refuses s _ _ done.0 done.2.allowed)
 
     -- the content of a detector that did not change
     saved_same : (s new : ShownStore D) → new.committed ≡ s.committed → saved g s ≡ saved g new
@@ -132,6 +134,8 @@ module _ {D : Type 0} (g : disk.Ghosts D) where
     is_after run s new step.PrepareRoot result at done content backed = at_same run s new at done.2.done.committed content done.2.done.pending done.2.done.in_doubt backed
     is_after run s new step.WriteRoot result at done content backed = at_same run s new at done.2.done.committed content done.2.done.pending done.2.done.in_doubt backed
     is_after run s new step.OpenRoot result at done content backed = at_same run s new at done.2.done.committed content.2.live done.2.done.pending done.2.done.in_doubt backed
+    is_after run s new step.Evict result at done content backed = at_same run s new at done.2.moves.same.committed content done.2.moves.pending done.2.moves.same.in_doubt backed
+    is_after run s new (step.Load page) result at done content backed = at_same run s new at done.2.moves.same.committed content.2.live done.2.moves.pending done.2.moves.same.in_doubt backed
 
     module _ (s new : ShownStore D) (step : Step) (result : StepResult) where
       begins_more : (told : Told D) → begins (told ++ (s, result) ∷ []) new ≡ begins told s

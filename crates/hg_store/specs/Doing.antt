@@ -13,6 +13,7 @@ use Rattle.hg_checkpoint.specs.Phases.{Never}
 use Rattle.hg_checkpoint.specs.declared.cause.Cause.TheVariants as cause
 use Rattle.hg_checkpoint.specs.declared.phase.Phase.TheVariants as phase
 use Rattle.hg_store.specs.Answers.{IfRefused, IsAllowed, IsOfFreezing, failed_by}
+use Rattle.hg_store.specs.Paging.{ContentLoaded, EvictDone, LoadDone}
 use Rattle.hg_store.specs.Shown.{HasNextNumber, IsFlushed, IsIn, ShownStore, live, phase_of, words}
 use Rattle.hg_store.specs.Steps.{CheckpointDone, CommitDone, ContentOffered, OfferDone}
 use Rattle.hg_store.specs.Store.{HasOpenedFrozen, StandMeanwhile}
@@ -132,6 +133,8 @@ StepDone g old new step.SealPages result = Tells told.Sealed result (λ r. SealD
 StepDone g old new step.PrepareRoot result = Tells told.Prepared result (λ r. PrepareDone old new r)
 StepDone g old new step.WriteRoot result = Tells told.Written result (λ r. WriteDone old new r)
 StepDone g old new step.OpenRoot result = Tells told.Opened result (λ r. OpenDone old new r)
+StepDone g old new step.Evict result = Tells told.Evicted result (λ r. EvictDone old new r)
+StepDone g old new (step.Load page) result = Tells told.Loaded result (λ r. LoadDone old new page r)
 
 -- Over honest devices each part of a detector has a spelling.
 pub record ContentFrozen {D : Type 0} (g : disk.Ghosts D) (old new : ShownStore D) (result : Result (Unit {0}) StepFault) : Type 0 where
@@ -148,6 +151,7 @@ abbrev pub ContentDone : {D : Type 0} → disk.Ghosts D → (old new : ShownStor
 ContentDone g old new (step.Offer n) result = Tells told.Offered result (λ r. ContentOffered g old new n r)
 ContentDone g old new step.Freeze result = Tells told.Frozen result (λ r. ContentFrozen g old new r)
 ContentDone g old new step.OpenRoot result = Tells told.Opened result (λ r. ContentOpened g old new r)
+ContentDone g old new (step.Load page) result = Tells told.Loaded result (λ r. ContentLoaded g old new r)
 ContentDone g old new _ result = live g new ≡ live g old
 
 -- During a commit, and after a failed one, an image may have either content.
@@ -170,3 +174,5 @@ fails_by (told.Sealed result) n = failed_by result + n
 fails_by (told.Prepared result) n = failed_by result + n
 fails_by (told.Written result) n = failed_by result + n
 fails_by (told.Opened result) n = failed_by result + n
+fails_by (told.Evicted result) n = failed_by result + n
+fails_by (told.Loaded result) n = failed_by result + n

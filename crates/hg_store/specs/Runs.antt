@@ -24,7 +24,7 @@ abbrev pub is_device_fault : Refusal → Bool
 is_device_fault DeviceFault = true
 is_device_fault _ = false
 
--- The run after one more answer. The steps of a checkpoint do not change it.
+-- The run after one more answer. The steps of a checkpoint, evictions and loads do not change it.
 abbrev pub run_after : Run → Step → StepResult → Run
 run_after run (step.Offer n) (told.Offered result) = record { acknowledged = run.acknowledged; pending = run.pending ++ if_accepted n result; in_doubt = run.in_doubt }
 run_after run step.Commit (told.Committed (Ok count)) = record { acknowledged = accepted run; pending = []; in_doubt = run.in_doubt }
@@ -60,6 +60,8 @@ Lawful start run is_broken step.SealPages result = Tells told.Sealed result (IfB
 Lawful start run is_broken step.PrepareRoot result = Tells told.Prepared result (IfBroken is_broken)
 Lawful start run is_broken step.WriteRoot result = Tells told.Written result (IfBroken is_broken)
 Lawful start run is_broken step.OpenRoot result = Tells told.Opened result (IfBroken is_broken)
+Lawful start run is_broken step.Evict result = Tells told.Evicted result (IfBroken is_broken)
+Lawful start run is_broken (step.Load page) result = Tells told.Loaded result (IfBroken is_broken)
 
 -- the store when the first of these steps began; without steps, the store at the end
 abbrev pub begins : {D : Type 0} → Told D → ShownStore D → ShownStore D

@@ -41,6 +41,8 @@ impl<D: Disk> Store<D> {
             Step::PrepareRoot => StepResult::Prepared(self.prepare_root()),
             Step::WriteRoot => StepResult::Written(self.write_root(alloc)),
             Step::OpenRoot => StepResult::Opened(self.open_root()),
+            Step::Evict => StepResult::Evicted(self.evict()),
+            Step::Load(page) => StepResult::Loaded(self.load(page)),
         }
     }
 

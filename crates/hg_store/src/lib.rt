@@ -8,6 +8,8 @@ pub mod checkpoints;
 pub mod create;
 pub mod devices;
 pub mod drive;
+pub mod page_number;
+pub mod paging;
 pub mod queries;
 mod recover;
 mod replay;

@@ -1,6 +1,7 @@
 //! The steps of a store, and what they answer.
 ghost use Rattle.std.specs.Prelude.{◌≡◌};
 
+pub use crate::page_number::PageNumber;
 pub use hg_checkpoint::Cause;
 use hg_checkpoint::HeadFault;
 use hg_detect::detector::Answer;
@@ -26,7 +27,7 @@ pub enum StorePhase {
     Written,
 }
 
-/// Why a step of a checkpoint was not made.
+/// Why a step of a checkpoint, an eviction or a load was not made.
 #[derive(Clone, Copy, Debug, PartialEq, Eq, Drop)]
 pub enum StepFault {
     /// This phase does not allow the step. Nothing was changed.
@@ -70,6 +71,10 @@ pub enum Step {
     WriteRoot,
     /// Opens the root.
     OpenRoot,
+    /// Takes the page used least recently out of memory.
+    Evict,
+    /// Brings a page into memory.
+    Load(PageNumber),
 }
 
 /// The answer of a step.
@@ -93,4 +98,8 @@ pub enum StepResult {
     Written(Result<(), StepFault>),
     /// The number of the checkpoint that was opened.
     Opened(Result<u64, StepFault>),
+    /// The page that left the memory, or none if no page was there.
+    Evicted(Result<Option<u64>, StepFault>),
+    /// Of a load.
+    Loaded(Result<(), StepFault>),
 }
