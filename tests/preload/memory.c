@@ -1,6 +1,7 @@
-/* A library for LD_PRELOAD that refuses a program one allocation.
+/* A library for LD_PRELOAD that refuses a program one allocation, or all from one on.
  *
  *   MEMORY_REFUSE=N   the N-th allocation, counted from 1, finds no memory
+ *   MEMORY_ONWARD=1   neither does any that follows it
  *   MEMORY_COUNT=PATH where the program ends, the number of its allocations is written there
  *
  * Allocations are malloc, calloc, realloc to another place or size, aligned_alloc and posix_memalign.
@@ -19,15 +20,17 @@ extern void *__libc_realloc(void *former, size_t size);
 extern void *__libc_memalign(size_t align, size_t size);
 
 static long made, refused = -1;
+static int onward;
 
 static int is_refused(void)
 {
     if (refused < 0) {
         const char *text = getenv("MEMORY_REFUSE");
         refused = text ? atol(text) : 0;
+        onward = getenv("MEMORY_ONWARD") != NULL;
     }
     made++;
-    if (made != refused)
+    if (made != refused && !(onward && refused > 0 && made > refused))
         return 0;
     errno = ENOMEM;
     return 1;

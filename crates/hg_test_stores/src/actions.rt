@@ -8,7 +8,7 @@ use hg_store::steps::StorePhase;
 use hg_test_kit::answers::put_refusal;
 use hg_test_kit::events::put_events;
 use hg_test_kit::text::Text;
-use hg_test_kit::tokens::Halt;
+use hg_test_kit::tokens::{Halt, Tokens};
 use std::alloc::Global;
 
 /// A step of a store. `Put` hands in the page of the job that was taken last.
@@ -23,6 +23,9 @@ pub enum Action {
     Prepare,
     WriteRoot,
     OpenRoot,
+    Evict,
+    /// Brings the page with this number.
+    Load(u64),
 }
 
 /// What an action was answered.
@@ -32,10 +35,10 @@ pub enum Told {
     /// The count of the events that a commit made durable.
     Committed(u64),
     Done,
-    /// The page of the job that was taken.
+    /// The page of the job that was taken, or the one that left its frame.
     Page(u64),
-    /// No page waits.
-    NoneWaits,
+    /// No page waits, or none is in a frame.
+    NoPageLeft,
     Put(Put),
     /// The number of the root that was opened.
     Root(u64),
@@ -72,7 +75,7 @@ pub fn put_told(told: Told, out: &mut Text) {
         Told::Committed(count) => out.put_decimal(count),
         Told::Done => out.put(b"ok"),
         Told::Page(page) => out.put_number(b"page ", page),
-        Told::NoneWaits => out.put(b"none"),
+        Told::NoPageLeft => out.put(b"none"),
         Told::Put(Put::Written) => out.put(b"written"),
         Told::Put(Put::Stale) => out.put(b"stale"),
         Told::Root(number) => out.put_number(b"root ", number),
@@ -94,6 +97,7 @@ fn action_of(token: &str) -> Result<Action, Halt> {
         "prepare" => Ok(Action::Prepare),
         "write-root" => Ok(Action::WriteRoot),
         "open-root" => Ok(Action::OpenRoot),
+        "evict" => Ok(Action::Evict),
         _ => Err(Halt::Misspelt),
     }
 }
@@ -107,6 +111,14 @@ fn put_offers(alloc: Global, text: &str, actions: &mut Vec<Action>) -> Result<()
     Ok(())
 }
 
+/// The loading of a page.
+fn load_of(text: &str) -> Result<Action, Halt> {
+    let mut tokens = Tokens::of(text);
+    let page = tokens.number();
+    tokens.check()?;
+    Ok(Action::Load(page))
+}
+
 /// Appends the actions that a line names: a row of offers, or one step.
 pub fn put_actions(
     alloc: Global,
@@ -116,6 +128,7 @@ pub fn put_actions(
 ) -> Result<(), Halt> {
     match token {
         "offer" => put_offers(alloc, rest, actions),
+        "load" => Ok(actions.push(load_of(rest)?)?),
         _ => Ok(actions.push(action_of(token)?)?),
     }
 }

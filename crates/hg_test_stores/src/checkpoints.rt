@@ -21,7 +21,7 @@ fn make_done(machine: &mut impl Machine, action: Action) -> Result<(), Told> {
 fn put_one(machine: &mut impl Machine) -> Result<bool, Told> {
     match machine.make(Action::Take) {
         Told::Page(_) => {}
-        Told::NoneWaits => return Ok(false),
+        Told::NoPageLeft => return Ok(false),
         other => return Err(other),
     }
     match machine.make(Action::Put) {

@@ -3,7 +3,7 @@
 use crate::actions::{Action, Told, put_told};
 use hg_model::verdict::Refusal;
 use hg_pages::EncodedPage;
-use hg_store::steps::{Step, StepFault, StepResult};
+use hg_store::steps::{PageNumber, Step, StepFault, StepResult};
 use hg_test_kit::text::Text;
 use hg_test_kit::tokens::Halt;
 use std::alloc::{AllocError, Global};
@@ -31,7 +31,7 @@ pub fn told_of(answer: &StepResult) -> Told {
         StepResult::Committed(Err(refusal)) => Told::Refused(*refusal),
         StepResult::Frozen(done) => done_told(done),
         StepResult::Taken(Ok(Some(job))) => Told::Page(job.page),
-        StepResult::Taken(Ok(None)) => Told::NoneWaits,
+        StepResult::Taken(Ok(None)) => Told::NoPageLeft,
         StepResult::Taken(Err(fault)) => fault_told(*fault),
         StepResult::Put(Ok(put)) => Told::Put(*put),
         StepResult::Put(Err(fault)) => fault_told(*fault),
@@ -40,6 +40,10 @@ pub fn told_of(answer: &StepResult) -> Told {
         StepResult::Written(done) => done_told(done),
         StepResult::Opened(Ok(number)) => Told::Root(*number),
         StepResult::Opened(Err(fault)) => fault_told(*fault),
+        StepResult::Evicted(Ok(Some(page))) => Told::Page(*page),
+        StepResult::Evicted(Ok(None)) => Told::NoPageLeft,
+        StepResult::Evicted(Err(fault)) => fault_told(*fault),
+        StepResult::Loaded(done) => done_told(done),
     }
 }
 
@@ -54,7 +58,7 @@ fn put_step(alloc: Global, page: &Option<EncodedPage>) -> Result<Option<Step>, A
     }
 }
 
-/// An action as a step. `Put` gives none where there is no page.
+/// An action as a step. `Put` gives none where there is no page, and `Load` none of a number that no page has.
 pub fn step_of(
     alloc: Global,
     action: Action,
@@ -70,6 +74,8 @@ pub fn step_of(
         Action::Prepare => Ok(Some(Step::PrepareRoot)),
         Action::WriteRoot => Ok(Some(Step::WriteRoot)),
         Action::OpenRoot => Ok(Some(Step::OpenRoot)),
+        Action::Evict => Ok(Some(Step::Evict)),
+        Action::Load(page) => Ok(PageNumber::new(page).map(Step::Load)),
     }
 }
 
