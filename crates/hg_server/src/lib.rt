@@ -1,9 +1,10 @@
-//! Workers that hold conversations with clients, and the server that runs them over a listener.
+//! Workers that hold conversations with clients, a flusher that makes checkpoints meanwhile, and the server that runs them over a listener.
 #![tactic(auto)]
 
 mod accepting;
 mod ending;
 mod fault;
+pub mod flusher;
 pub mod opened;
 pub mod serving;
 pub mod settings;

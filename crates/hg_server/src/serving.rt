@@ -1,6 +1,6 @@
 //! The server: a listener, and workers in threads of their own.
 
-ghost use Rattle.std.specs.Prelude.{◌≡◌, Some, IfErr, IsTrue, OnOk, false};
+ghost use Rattle.std.specs.Prelude.{◌≡◌, ◌+◌, Some, IfErr, IsTrue, OnOk, false};
 ghost use Rattle.hg_store.specs.Shown.{live};
 ghost use Rattle.hg_streams.specs.Faults.{IsStreamFault};
 ghost use Rattle.hg_store.specs.Limits.{IsFrameCount};
@@ -11,10 +11,12 @@ ghost use Rattle.hg_server.specs.Serving.{AddsFrontOnErr, AddsOnOk, EndsEarlyFor
 use crate::accepting::accept_all;
 use crate::ending::hold_end_line;
 use crate::fault::ServingFault;
+use crate::flusher::{Due, flusher};
 use crate::opened::Opened;
 use crate::settings::Settings;
 use crate::settling::settle;
 use crate::worker::{Gate, Seat, worker};
+use crossbeam_channel::Sender;
 use hg_desk::moment::Moment;
 use hg_desk::share::{Column, Opening, Share};
 use hg_desk::shared::{Shared, TakenIn, gather};
@@ -36,7 +38,7 @@ use std::thread;
 use std::thread::Threads;
 use std::time::Clock;
 
-/// Where a server takes its connections, how it runs, and what its workers ask between two holds of the lock.
+/// Where a server takes its connections, how it runs, and what its threads ask between two holds of the lock.
 #[derive(Drop)]
 pub struct Door<'a, G> {
     pub listener: &'a TcpListener,
@@ -44,7 +46,7 @@ pub struct Door<'a, G> {
     pub gate: &'a G,
 }
 
-/// Runs the workers until the connections are served: their shares, and whether all connections were taken.
+/// Runs the workers until the connections are served: their shares, and whether all connections were taken. Their nudges end with them.
 fn run_workers<
     D: Disk + Send + Drop,
     A: Opening + Send + Sync,
@@ -56,12 +58,14 @@ fn run_workers<
     alloc: Global,
     shared: &Shared<D, A, B>,
     shares: Vec<Share<A, B>>,
+    nudges: Sender<()>,
     door: &Door<G>,
 ) -> (Result<Vec<Share<A, B>>, AllocError>, bool) {
     let Ok((to, from)) = crossbeam_channel::unbounded(alloc) else {
         return (Err(AllocError), false);
     };
     let queue = &from;
+    let nudges = &nudges;
     let listener = door.listener;
     let settings = door.settings;
     let gate = door.gate;
@@ -81,6 +85,7 @@ fn run_workers<
                             gate,
                         },
                         queue,
+                        nudges,
                     )
                 },
             )
@@ -89,7 +94,65 @@ fn run_workers<
     )
 }
 
-/// Takes the workers' shares in, and the store with them.
+/// Runs the flusher and the workers until the connections are served: the shares of all, and whether all connections were taken. The last
+/// of the shares is the flusher's. It ends behind the workers, with its checkpoint in progress.
+fn run_all<
+    D: Disk + Send + Drop,
+    A: Opening + Send + Sync,
+    B: Column + Send + Sync,
+    G: Gate + Sync,
+    R: Threads + Wait + Clock + Sync,
+>(
+    rt: &R,
+    alloc: Global,
+    shared: &Shared<D, A, B>,
+    shares: Vec<Share<A, B>>,
+    begun: u64,
+    door: &Door<G>,
+) -> (Result<Vec<Share<A, B>>, AllocError>, bool) {
+    let mut shares = shares;
+    let Some(share) = shares.pop() else {
+        return (Err(AllocError), false);
+    };
+    let Ok((to, from)) = crossbeam_channel::unbounded(alloc) else {
+        return (Err(AllocError), false);
+    };
+    let gate = door.gate;
+    let due = Due {
+        every: u64::from(door.settings.every),
+        begun,
+    };
+    let (share, (shares, are_all_taken)) = thread::join(
+        rt,
+        move || {
+            flusher(
+                Seat {
+                    rt,
+                    alloc,
+                    shared,
+                    share,
+                    gate,
+                },
+                &from,
+                due,
+            )
+        },
+        move || run_workers(rt, alloc, shared, shares, to, door),
+    );
+    (with_one_more(shares, share), are_all_taken)
+}
+
+/// The shares of all threads, that of the flusher last.
+fn with_one_more<A: Opening, B: Column>(
+    shares: Result<Vec<Share<A, B>>, AllocError>,
+    share: Share<A, B>,
+) -> Result<Vec<Share<A, B>>, AllocError> {
+    let mut shares = shares?;
+    shares.push(share)?;
+    Ok(shares)
+}
+
+/// Takes the threads' shares in, and the store with them.
 fn take_in<D: Disk, A: Opening, B: Column>(
     back: Result<Vec<Share<A, B>>, AllocError>,
     shared: Shared<D, A, B>,
@@ -115,7 +178,7 @@ struct Service<D: Disk, E> {
     ended: Result<(), E>,
 }
 
-/// Opens the lock over a store, runs the workers until the connections are served, and takes them in. At `Ok` all accepted events are
+/// Opens the lock over a store, runs flusher and workers until the connections are served, and takes them in. At `Ok` all accepted events are
 /// durable. `DeviceFault` says that the listener or a device failed, `Broken` that a device failed for a client before, and
 /// `OutOfMemory` that memory was refused.
 ///
@@ -134,8 +197,8 @@ fn serve_by<
     durable: Blank,
     door: &Door<G>,
 ) -> Service<D, ServingFault>
-    requires accepted { IsBlankOf A.name A.parts door.now.settings.workers accepted }
-    requires durable { IsBlankOf B.name B.parts door.now.settings.workers durable }
+    requires accepted { IsBlankOf A.name A.parts (door.now.settings.workers + 1) accepted }
+    requires durable { IsBlankOf B.name B.parts (door.now.settings.workers + 1) durable }
     requires opening { ((live ⟦<D as Disk>⟧ store).events ≡ A.opening) × (store.durable ≡ B.opening) }
     requires start { A.start ≡ Some (began ⟦<D as Disk>⟧ store) }
     ensures went { WentOn ⟦<D as Disk>⟧ (began ⟦<D as Disk>⟧ store) result.moments result.store }
@@ -143,7 +206,8 @@ fn serve_by<
     ensures settled { OnOk result.ended (IsTrue D.is_honest → IsSettled ⟦<D as Disk>⟧ result.store) }
     ensures cause { IfErr result.ended (IsToldTruly ⟦<D as Disk>⟧ store.devices result.store.devices) }
 {
-    let count = usize::from(door.settings.workers);
+    let count = usize::from(door.settings.workers) + 1;
+    let begun = store.durable().unwrap_or(0);
     store.stands();
     let (shared, shares) = match Shared::<D, A, B>::new(alloc, store, accepted, durable, count) {
         Ok(opened) => opened,
@@ -155,7 +219,7 @@ fn serve_by<
             };
         }
     };
-    let (back, are_all_taken) = run_workers(rt, alloc, &shared, shares, door);
+    let (back, are_all_taken) = run_all(rt, alloc, &shared, shares, begun, door);
     let (back, taken_in) = take_in(back, shared);
     let TakenIn {
         mut store,
@@ -223,7 +287,7 @@ fn serve_and_print<
             ended: Err(refusal),
         };
     }
-    let workers = u64::from(door.settings.workers);
+    let threads = u64::from(door.settings.workers) + 1;
     let Service {
         store,
         moments,
@@ -232,8 +296,8 @@ fn serve_and_print<
         rt,
         alloc,
         store,
-        Blank::new(workers),
-        Blank::new(workers),
+        Blank::new(threads),
+        Blank::new(threads),
         door,
     );
     if let Err(fault) = ended {
@@ -304,8 +368,8 @@ pub struct Outcome<D: Disk> {
     pub opened: Trail<Opened<D>>,
 }
 
-/// Recovers the store that the devices hold, prints `ready` and the port, takes the connections, holds their conversations, and prints
-/// `served`, how many were taken, and the end line. All accepted events are durable then. Answers the status, 0 with the store, or 3
+/// Recovers the store that the devices hold, prints `ready` and the port, takes the connections, holds their conversations, makes
+/// checkpoints meanwhile, and prints `served`, how many were taken, and the end line. All accepted events are durable then. Answers the status, 0 with the store, or 3
 /// with the devices where they hold no store, the listener, a device or the output failed, or memory or room was refused,
 /// which is told among the faults. A connection that fails ends alone. Whatever ends it, no durable event is lost, and each image between two
 /// neighbouring moments has a front of the accepted events. The store is opened with the frames of the settings and the greatest caps.

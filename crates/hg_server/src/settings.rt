@@ -13,6 +13,8 @@ pub struct Settings {
     pub connections: u16,
     /// How many workers hold conversations.
     pub workers: u16,
+    /// How many events have to be committed since the last checkpoint was begun, or since the opening, for another one.
+    pub every: u32,
     /// How long a client may say nothing before its connection ends, or for ever.
     pub silence: Option<Duration>,
 }

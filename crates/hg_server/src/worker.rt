@@ -2,7 +2,7 @@
 
 ghost use Rattle.std.specs.Prelude.{◌≤◌};
 
-use crossbeam_channel::Receiver;
+use crossbeam_channel::{Receiver, Sender};
 use hg_desk::desk::Desk;
 use hg_desk::share::{Column, Opening, Share};
 use hg_desk::shared::Shared;
@@ -21,8 +21,18 @@ use std::sync::Wait;
 /// Where a thread is between two holds of the lock.
 #[derive(Clone, Copy, Debug, PartialEq, Eq, Drop)]
 pub enum Point {
-    /// A frame was answered.
+    /// A worker answered a frame.
     Answered,
+    /// The flusher took a page that is to be written.
+    JobTaken,
+    /// The flusher encoded it.
+    Encoded,
+    /// The flusher wrote it, or it was written already.
+    Put,
+    /// No page waits any more, and the flusher is about to make the pages durable.
+    BeforeSeal,
+    /// The flusher opened the root.
+    RootOpen,
 }
 
 /// Whether a thread goes on.
@@ -58,41 +68,50 @@ enum Course {
     Stop,
 }
 
-/// What a worker works with.
+/// What a worker works with, or the flusher.
 #[derive(Drop)]
 pub struct Seat<'a, D: Disk, A: Opening, B: Column, G, R> {
     pub rt: &'a R,
     pub alloc: Global,
-    /// The store that all workers share.
+    /// The store that all threads share.
     pub shared: &'a Shared<D, A, B>,
-    /// What this worker was told of it.
+    /// What this thread was told of it.
     pub share: Share<A, B>,
     pub gate: &'a G,
 }
 
-/// One conversation under way: its connection, how far it is, the bytes of a frame that is not whole yet, and the replies that are not
-/// written yet.
+/// One conversation under way: its connection, how far it is, the bytes of a frame that is not whole yet, the replies that are not
+/// written yet, and where the flusher is nudged.
 #[derive(Drop)]
-struct Talk<S> {
+struct Talk<'a, S> {
     stream: S,
     desk: Desk,
     feed: Feed<Frame>,
     replies: Vec<u8>,
+    nudges: &'a Sender<()>,
 }
 
-impl<S> Talk<S> {
+impl<'a, S> Talk<'a, S> {
     /// A conversation that has not begun.
-    fn new(alloc: Global, stream: S) -> Talk<S> {
+    fn new(alloc: Global, stream: S, nudges: &'a Sender<()>) -> Talk<'a, S> {
         Talk {
             stream,
             desk: Desk::new(),
             feed: Feed::new(alloc),
             replies: Vec::new(alloc),
+            nudges,
         }
     }
 
-    /// Answers a frame under one hold of the lock, and holds the reply back. Tells whether the conversation goes on: it ends at a
-    /// Bye, and where no memory is left for the reply.
+    /// Nudges the flusher, unless a nudge waits for it. One that finds no memory is dropped: the next Ack brings another.
+    fn nudge<R: Wait>(&self, rt: &R) {
+        if self.nudges.is_empty() {
+            let _ = self.nudges.send(rt, ());
+        }
+    }
+
+    /// Answers a frame under one hold of the lock, and holds the reply back. Nudges the flusher behind an Ack. Tells whether the
+    /// conversation goes on: it ends at a Bye, and where no memory is left for the reply.
     fn answer<D: Disk, A: Opening, B: Column, G, R: Wait>(
         &mut self,
         seat: &mut Seat<D, A, B, G, R>,
@@ -109,13 +128,15 @@ impl<S> Talk<S> {
         let (desk, reply) = seat.shared.hold(seat.rt, &mut seat.share, task);
         self.desk = desk;
         match reply {
-            Reply::Nothing => false,
-            _ => put_reply(&reply, &mut self.replies).is_ok(),
+            Reply::Nothing => return false,
+            Reply::Ack { .. } => self.nudge(seat.rt),
+            _ => {}
         }
+        put_reply(&reply, &mut self.replies).is_ok()
     }
 }
 
-impl<S: Write> Talk<S> {
+impl<'a, S: Write> Talk<'a, S> {
     /// Writes the replies out, all in one write where the connection takes them.
     fn write_out(&mut self) -> bool {
         let is_written = self.stream.write_all(self.replies.as_slice()).is_ok();
@@ -182,12 +203,13 @@ impl<S: Write> Talk<S> {
 fn converse<D: Disk, A: Opening, B: Column, S: Read + Write + Drop, G: Gate, R: Wait>(
     seat: &mut Seat<D, A, B, G, R>,
     stream: S,
+    nudges: &Sender<()>,
     piece: &mut [u8],
 ) -> Course
     ensures accepted { seat.old.share.accepted ≤ seat.new.share.accepted }
     ensures durable { seat.old.share.durable ≤ seat.new.share.durable }
 {
-    let mut talk = Talk::new(seat.alloc, stream);
+    let mut talk = Talk::new(seat.alloc, stream, nudges);
     for _ in 0..MOST_READS {
         let len = match talk.stream.read(piece) {
             Ok(0) => break,
@@ -205,12 +227,13 @@ fn converse<D: Disk, A: Opening, B: Column, S: Read + Write + Drop, G: Gate, R: 
 
 /// Holds the conversations of a channel, one after another, until it is closed and empty or the gate says stop, and gives the share
 /// back. A connection is one value that is read and written; it is closed when its conversation ends. One that fails ends alone.
-/// Where memory is refused for a piece of 64 KiB no conversation is held.
+/// Where memory is refused for a piece of 64 KiB no conversation is held. Behind each Ack it leaves a nudge for the flusher, if none waits.
 ///
 /// It waits for the lock, for connections, and in reads and writes.
 pub fn worker<D: Disk, A: Opening, B: Column, S: Read + Write + Drop, G: Gate, R: Wait>(
     seat: Seat<D, A, B, G, R>,
     connections: &Receiver<S>,
+    nudges: &Sender<()>,
 ) -> Share<A, B>
     ensures accepted { seat.entry.share.accepted ≤ result.accepted }
     ensures durable { seat.entry.share.durable ≤ result.durable }
@@ -224,7 +247,7 @@ pub fn worker<D: Disk, A: Opening, B: Column, S: Read + Write + Drop, G: Gate, R
         let Ok(stream) = connections.recv(seat.rt) else {
             break;
         };
-        if converse(&mut seat, stream, piece.as_mut_slice()) == Course::Stop {
+        if converse(&mut seat, stream, nudges, piece.as_mut_slice()) == Course::Stop {
             break;
         }
     }

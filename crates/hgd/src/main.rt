@@ -163,6 +163,7 @@ fn serve_on<
         frames: serving.frames.pages,
         connections: serving.connections,
         workers: serving.workers,
+        every: serving.every,
         silence: silence_of(serving),
     };
     let door = Door {

@@ -1,0 +1,287 @@
+//! The flusher, which makes checkpoints while clients go on.
+
+ghost use Rattle.std.specs.Prelude.{◌≤◌};
+
+use crate::worker::{Gate, Pass, Point, Seat};
+use crossbeam_channel::Receiver;
+use hg_desk::share::{Column, Opening, Share};
+use hg_desk::tasks::{BeginTask, StepTask};
+use hg_disk::Disk;
+use hg_model::verdict::Refusal;
+use hg_store::steps::{Cause, EncodedPage, Job, Step, StepFault, StepResult, StorePhase};
+use std::sync::Wait;
+
+/// When a checkpoint is due.
+#[derive(Clone, Copy, Debug, PartialEq, Eq, Drop)]
+pub struct Due {
+    /// How many events have to be committed since the last checkpoint was begun.
+    pub every: u64,
+    /// How many were durable then, or when the flusher is started.
+    pub begun: u64,
+}
+
+impl Due {
+    /// Whether a checkpoint is due when so many events are durable.
+    fn is_due(&self, count: u64) -> bool {
+        count >= self.begun.saturating_add(self.every)
+    }
+}
+
+/// What becomes of a round, and of the flusher.
+#[derive(Clone, Copy, PartialEq, Eq, Drop)]
+enum Course {
+    /// The round goes on.
+    GoOn,
+    /// The round ends: nothing is left of it, or a step was refused. The next nudge goes on from there.
+    End,
+    /// The round ends, and the flusher too.
+    Stop,
+}
+
+/// A checkpoint that is made step by step, each in a hold of the lock of its own.
+#[derive(Drop)]
+struct Round<'a, D: Disk, A: Opening, B: Column, G, R> {
+    seat: Seat<'a, D, A, B, G, R>,
+    due: Due,
+    /// How far the checkpoint is: `Idle` where none is in progress.
+    phase: StorePhase,
+}
+
+impl<'a, D: Disk, A: Opening, B: Column, G: Gate, R: Wait> Round<'a, D, A, B, G, R> {
+    /// Asks the gate whether the round goes on.
+    fn pass(&self, point: Point) -> Course {
+        match self.seat.gate.at(point) {
+            Pass::Go => Course::GoOn,
+            Pass::Stop => Course::Stop,
+        }
+    }
+
+    /// What a step that was not made leads to: a store that is broken ends the flusher, and in another phase the round goes on from there.
+    fn refused(&mut self, fault: StepFault) -> Course
+        ensures accepted { self.old.seat.share.accepted ≤ self.new.seat.share.accepted }
+        ensures durable { self.old.seat.share.durable ≤ self.new.seat.share.durable }
+    {
+        match fault {
+            StepFault::WrongPhase(phase) => {
+                self.phase = phase;
+                Course::GoOn
+            }
+            StepFault::Refused(Cause::Broken) => Course::Stop,
+            StepFault::Refused(_) => Course::End,
+        }
+    }
+
+    /// The answer of a step that leads to this phase.
+    fn reach<T>(&mut self, phase: StorePhase, done: Result<T, StepFault>) -> Course
+        ensures accepted { self.old.seat.share.accepted ≤ self.new.seat.share.accepted }
+        ensures durable { self.old.seat.share.durable ≤ self.new.seat.share.durable }
+    {
+        match done {
+            Ok(_) => {
+                self.phase = phase;
+                Course::GoOn
+            }
+            Err(fault) => self.refused(fault),
+        }
+    }
+
+    /// Makes one step of the store in a hold of its own.
+    fn step(&mut self, step: Step) -> StepResult
+        ensures accepted { self.old.seat.share.accepted ≤ self.new.seat.share.accepted }
+        ensures durable { self.old.seat.share.durable ≤ self.new.seat.share.durable }
+    {
+        let task = StepTask {
+            alloc: self.seat.alloc,
+            step,
+        };
+        self.seat
+            .shared
+            .hold(self.seat.rt, &mut self.seat.share, task)
+    }
+
+    /// Commits, and begins a checkpoint where one is due then.
+    fn begin(&mut self) -> Course
+        ensures accepted { self.old.seat.share.accepted ≤ self.new.seat.share.accepted }
+        ensures durable { self.old.seat.share.durable ≤ self.new.seat.share.durable }
+    {
+        let count = match self.step(Step::Commit) {
+            StepResult::Committed(Ok(count)) => count,
+            StepResult::Committed(Err(Refusal::Broken)) => return Course::Stop,
+            _ => return Course::End,
+        };
+        if !self.due.is_due(count) {
+            return Course::End;
+        }
+        let task = BeginTask {
+            alloc: self.seat.alloc,
+        };
+        match self
+            .seat
+            .shared
+            .hold(self.seat.rt, &mut self.seat.share, task)
+        {
+            Ok(count) => {
+                self.due.begun = count;
+                self.phase = StorePhase::Flushing;
+                Course::GoOn
+            }
+            Err(fault) => self.refused(fault),
+        }
+    }
+
+    /// Writes a page that was encoded.
+    fn put(&mut self, page: EncodedPage) -> Course
+        ensures accepted { self.old.seat.share.accepted ≤ self.new.seat.share.accepted }
+        ensures durable { self.old.seat.share.durable ≤ self.new.seat.share.durable }
+    {
+        match self.step(Step::Put(page)) {
+            StepResult::Put(Ok(_)) => self.pass(Point::Put),
+            StepResult::Put(Err(fault)) => self.refused(fault),
+            _ => Course::End,
+        }
+    }
+
+    /// Encodes a page outside the lock, and writes it. Where memory is refused, the page waits on.
+    fn flush(&mut self, job: Job) -> Course
+        ensures accepted { self.old.seat.share.accepted ≤ self.new.seat.share.accepted }
+        ensures durable { self.old.seat.share.durable ≤ self.new.seat.share.durable }
+    {
+        if self.pass(Point::JobTaken) == Course::Stop {
+            return Course::Stop;
+        }
+        let Ok(page) = job.encode() else {
+            return Course::End;
+        };
+        if self.pass(Point::Encoded) == Course::Stop {
+            return Course::Stop;
+        }
+        self.put(page)
+    }
+
+    /// Makes the pages durable.
+    fn seal(&mut self) -> Course
+        ensures accepted { self.old.seat.share.accepted ≤ self.new.seat.share.accepted }
+        ensures durable { self.old.seat.share.durable ≤ self.new.seat.share.durable }
+    {
+        if self.pass(Point::BeforeSeal) == Course::Stop {
+            return Course::Stop;
+        }
+        match self.step(Step::SealPages) {
+            StepResult::Sealed(done) => self.reach(StorePhase::Sealed, done),
+            _ => Course::End,
+        }
+    }
+
+    /// Writes the page that is next, or makes the pages durable where none waits.
+    fn write_page(&mut self) -> Course
+        ensures accepted { self.old.seat.share.accepted ≤ self.new.seat.share.accepted }
+        ensures durable { self.old.seat.share.durable ≤ self.new.seat.share.durable }
+    {
+        match self.step(Step::TakeJob) {
+            StepResult::Taken(Ok(Some(job))) => self.flush(job),
+            StepResult::Taken(Ok(None)) => self.seal(),
+            StepResult::Taken(Err(fault)) => self.refused(fault),
+            _ => Course::End,
+        }
+    }
+
+    /// Closes the file that the root goes to.
+    fn prepare(&mut self) -> Course
+        ensures accepted { self.old.seat.share.accepted ≤ self.new.seat.share.accepted }
+        ensures durable { self.old.seat.share.durable ≤ self.new.seat.share.durable }
+    {
+        match self.step(Step::PrepareRoot) {
+            StepResult::Prepared(done) => self.reach(StorePhase::Prepared, done),
+            _ => Course::End,
+        }
+    }
+
+    /// Writes the root behind its closed gate.
+    fn write_root(&mut self) -> Course
+        ensures accepted { self.old.seat.share.accepted ≤ self.new.seat.share.accepted }
+        ensures durable { self.old.seat.share.durable ≤ self.new.seat.share.durable }
+    {
+        match self.step(Step::WriteRoot) {
+            StepResult::Written(done) => self.reach(StorePhase::Written, done),
+            _ => Course::End,
+        }
+    }
+
+    /// Opens the root.
+    fn open_root(&mut self) -> Course
+        ensures accepted { self.old.seat.share.accepted ≤ self.new.seat.share.accepted }
+        ensures durable { self.old.seat.share.durable ≤ self.new.seat.share.durable }
+    {
+        let course = match self.step(Step::OpenRoot) {
+            StepResult::Opened(done) => self.reach(StorePhase::Idle, done),
+            _ => Course::End,
+        };
+        if course == Course::GoOn {
+            return self.pass(Point::RootOpen);
+        }
+        course
+    }
+
+    /// Makes the next step of the checkpoint.
+    fn go_on(&mut self) -> Course
+        ensures accepted { self.old.seat.share.accepted ≤ self.new.seat.share.accepted }
+        ensures durable { self.old.seat.share.durable ≤ self.new.seat.share.durable }
+    {
+        match self.phase {
+            StorePhase::Idle | StorePhase::Pending => Course::End,
+            StorePhase::Flushing => self.write_page(),
+            StorePhase::Sealed => self.prepare(),
+            StorePhase::Prepared => self.write_root(),
+            StorePhase::Written => self.open_root(),
+        }
+    }
+
+    /// Goes on with the checkpoint in progress as far as it comes, or begins one where none is and one is due. Tells whether the flusher
+    /// goes on.
+    fn run(&mut self) -> Pass
+        ensures accepted { self.old.seat.share.accepted ≤ self.new.seat.share.accepted }
+        ensures durable { self.old.seat.share.durable ≤ self.new.seat.share.durable }
+    {
+        let mut course = match self.phase {
+            StorePhase::Idle | StorePhase::Pending => self.begin(),
+            _ => Course::GoOn,
+        };
+        for _ in self.seat.rt.forever() {
+            if course != Course::GoOn {
+                break;
+            }
+            course = self.go_on();
+        }
+        match course {
+            Course::Stop => Pass::Stop,
+            _ => Pass::Go,
+        }
+    }
+}
+
+/// Makes checkpoints, until its channel is closed and empty, the gate says stop or the store is broken, and gives the share back. At a
+/// nudge it goes on with the checkpoint that a refusal has held up. Where none is in progress, it commits, and begins one if it is due. Each step is made in a hold of
+/// the lock of its own, and pages are encoded outside of it, so clients are answered meanwhile.
+///
+/// It waits for the lock and for nudges.
+pub fn flusher<D: Disk, A: Opening, B: Column, G: Gate, R: Wait>(
+    seat: Seat<D, A, B, G, R>,
+    nudges: &Receiver<()>,
+    due: Due,
+) -> Share<A, B>
+    ensures accepted { seat.entry.share.accepted ≤ result.accepted }
+    ensures durable { seat.entry.share.durable ≤ result.durable }
+{
+    let rt = seat.rt;
+    let mut round = Round {
+        seat,
+        due,
+        phase: StorePhase::Idle,
+    };
+    for _ in rt.forever() {
+        if nudges.recv(rt).is_err() || round.run() == Pass::Stop {
+            break;
+        }
+    }
+    round.seat.share
+}
