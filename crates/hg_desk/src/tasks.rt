@@ -5,7 +5,7 @@ ghost use Rattle.hg_protocol.specs.Spelling.{FitsFrames};
 ghost use Rattle.hg_store.specs.Shown.{live};
 ghost use Rattle.hg_desk.specs.Conversation.{Answers, AskTold};
 ghost use Rattle.hg_desk.specs.Counting.{AreSince, FindsAtLeast};
-ghost use Rattle.hg_desk.specs.Told.{BeginKept, BeginTold, Told, StepKept, StepTold};
+ghost use Rattle.hg_desk.specs.Told.{BeginKept, BeginTold, Told, StepKept, StepToldOf};
 
 use crate::desk::Desk;
 use crate::locked::{Core, Counts};
@@ -39,10 +39,10 @@ pub struct StepTask {
 impl<D: Disk, A: Opening, B: Column> Task<D, A, B> for StepTask {
     type Out = StepResult;
 
-    ghost promise = { λ t old new res. StepTold D.is_honest old new res };
+    ghost promise = { λ t old new res. StepToldOf D.is_honest t.step old new res };
 
     fn run(self, core: &mut Core<D, A, B>, share: &mut Share<A, B>) -> StepResult
-        ensures promise { StepTold D.is_honest share.old share.new result }
+        ensures promise { StepToldOf D.is_honest self.step share.old share.new result }
         ensures step { StepKept ⟦<D as Disk>⟧ core.old core.new share.old share.new self.step result }
     {
         core.step(self.alloc, share, &self.step)

@@ -118,7 +118,7 @@ pub(crate) const WORKERS_OPTION: NumberOption = NumberOption {
 pub(crate) const EVERY_OPTION: NumberOption = NumberOption {
     name: EVERY,
     value: "E",
-    help: "After how many committed events a checkpoint begins (without effect yet)",
+    help: "After how many committed events a checkpoint begins",
     required: false,
     least: 1,
     most: MOST_EVERY as i64,

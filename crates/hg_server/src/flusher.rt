@@ -1,6 +1,7 @@
 //! The flusher, which makes checkpoints while clients go on.
 
-ghost use Rattle.std.specs.Prelude.{◌≤◌};
+ghost use Rattle.std.specs.Prelude.{◌≡◌, ◌≤◌};
+ghost use Rattle.hg_desk.specs.Told.{may_accept};
 
 use crate::worker::{Gate, Pass, Point, Seat};
 use crossbeam_channel::Receiver;
@@ -58,7 +59,7 @@ impl<'a, D: Disk, A: Opening, B: Column, G: Gate, R: Wait> Round<'a, D, A, B, G,
 
     /// What a step that was not made leads to: a store that is broken ends the flusher, and in another phase the round goes on from there.
     fn refused(&mut self, fault: StepFault) -> Course
-        ensures accepted { self.old.seat.share.accepted ≤ self.new.seat.share.accepted }
+        ensures accepted { self.new.seat.share.accepted ≡ self.old.seat.share.accepted }
         ensures durable { self.old.seat.share.durable ≤ self.new.seat.share.durable }
     {
         match fault {
@@ -72,8 +73,8 @@ impl<'a, D: Disk, A: Opening, B: Column, G: Gate, R: Wait> Round<'a, D, A, B, G,
     }
 
     /// The answer of a step that leads to this phase.
-    fn reach<T>(&mut self, phase: StorePhase, done: Result<T, StepFault>) -> Course
-        ensures accepted { self.old.seat.share.accepted ≤ self.new.seat.share.accepted }
+    fn reach<T: Drop>(&mut self, phase: StorePhase, done: Result<T, StepFault>) -> Course
+        ensures accepted { self.new.seat.share.accepted ≡ self.old.seat.share.accepted }
         ensures durable { self.old.seat.share.durable ≤ self.new.seat.share.durable }
     {
         match done {
@@ -85,9 +86,10 @@ impl<'a, D: Disk, A: Opening, B: Column, G: Gate, R: Wait> Round<'a, D, A, B, G,
         }
     }
 
-    /// Makes one step of the store in a hold of its own.
+    /// Makes one step of the store in a hold of its own, and offers no event.
     fn step(&mut self, step: Step) -> StepResult
-        ensures accepted { self.old.seat.share.accepted ≤ self.new.seat.share.accepted }
+        requires offers_none { may_accept step ≡ 0 }
+        ensures accepted { self.new.seat.share.accepted ≡ self.old.seat.share.accepted }
         ensures durable { self.old.seat.share.durable ≤ self.new.seat.share.durable }
     {
         let task = StepTask {
@@ -101,7 +103,7 @@ impl<'a, D: Disk, A: Opening, B: Column, G: Gate, R: Wait> Round<'a, D, A, B, G,
 
     /// Commits, and begins a checkpoint where one is due then.
     fn begin(&mut self) -> Course
-        ensures accepted { self.old.seat.share.accepted ≤ self.new.seat.share.accepted }
+        ensures accepted { self.new.seat.share.accepted ≡ self.old.seat.share.accepted }
         ensures durable { self.old.seat.share.durable ≤ self.new.seat.share.durable }
     {
         let count = match self.step(Step::Commit) {
@@ -131,7 +133,7 @@ impl<'a, D: Disk, A: Opening, B: Column, G: Gate, R: Wait> Round<'a, D, A, B, G,
 
     /// Writes a page that was encoded.
     fn put(&mut self, page: EncodedPage) -> Course
-        ensures accepted { self.old.seat.share.accepted ≤ self.new.seat.share.accepted }
+        ensures accepted { self.new.seat.share.accepted ≡ self.old.seat.share.accepted }
         ensures durable { self.old.seat.share.durable ≤ self.new.seat.share.durable }
     {
         match self.step(Step::Put(page)) {
@@ -143,7 +145,7 @@ impl<'a, D: Disk, A: Opening, B: Column, G: Gate, R: Wait> Round<'a, D, A, B, G,
 
     /// Encodes a page outside the lock, and writes it. Where memory is refused, the page waits on.
     fn flush(&mut self, job: Job) -> Course
-        ensures accepted { self.old.seat.share.accepted ≤ self.new.seat.share.accepted }
+        ensures accepted { self.new.seat.share.accepted ≡ self.old.seat.share.accepted }
         ensures durable { self.old.seat.share.durable ≤ self.new.seat.share.durable }
     {
         if self.pass(Point::JobTaken) == Course::Stop {
@@ -160,7 +162,7 @@ impl<'a, D: Disk, A: Opening, B: Column, G: Gate, R: Wait> Round<'a, D, A, B, G,
 
     /// Makes the pages durable.
     fn seal(&mut self) -> Course
-        ensures accepted { self.old.seat.share.accepted ≤ self.new.seat.share.accepted }
+        ensures accepted { self.new.seat.share.accepted ≡ self.old.seat.share.accepted }
         ensures durable { self.old.seat.share.durable ≤ self.new.seat.share.durable }
     {
         if self.pass(Point::BeforeSeal) == Course::Stop {
@@ -174,7 +176,7 @@ impl<'a, D: Disk, A: Opening, B: Column, G: Gate, R: Wait> Round<'a, D, A, B, G,
 
     /// Writes the page that is next, or makes the pages durable where none waits.
     fn write_page(&mut self) -> Course
-        ensures accepted { self.old.seat.share.accepted ≤ self.new.seat.share.accepted }
+        ensures accepted { self.new.seat.share.accepted ≡ self.old.seat.share.accepted }
         ensures durable { self.old.seat.share.durable ≤ self.new.seat.share.durable }
     {
         match self.step(Step::TakeJob) {
@@ -187,7 +189,7 @@ impl<'a, D: Disk, A: Opening, B: Column, G: Gate, R: Wait> Round<'a, D, A, B, G,
 
     /// Closes the file that the root goes to.
     fn prepare(&mut self) -> Course
-        ensures accepted { self.old.seat.share.accepted ≤ self.new.seat.share.accepted }
+        ensures accepted { self.new.seat.share.accepted ≡ self.old.seat.share.accepted }
         ensures durable { self.old.seat.share.durable ≤ self.new.seat.share.durable }
     {
         match self.step(Step::PrepareRoot) {
@@ -198,7 +200,7 @@ impl<'a, D: Disk, A: Opening, B: Column, G: Gate, R: Wait> Round<'a, D, A, B, G,
 
     /// Writes the root behind its closed gate.
     fn write_root(&mut self) -> Course
-        ensures accepted { self.old.seat.share.accepted ≤ self.new.seat.share.accepted }
+        ensures accepted { self.new.seat.share.accepted ≡ self.old.seat.share.accepted }
         ensures durable { self.old.seat.share.durable ≤ self.new.seat.share.durable }
     {
         match self.step(Step::WriteRoot) {
@@ -209,7 +211,7 @@ impl<'a, D: Disk, A: Opening, B: Column, G: Gate, R: Wait> Round<'a, D, A, B, G,
 
     /// Opens the root.
     fn open_root(&mut self) -> Course
-        ensures accepted { self.old.seat.share.accepted ≤ self.new.seat.share.accepted }
+        ensures accepted { self.new.seat.share.accepted ≡ self.old.seat.share.accepted }
         ensures durable { self.old.seat.share.durable ≤ self.new.seat.share.durable }
     {
         let course = match self.step(Step::OpenRoot) {
@@ -224,7 +226,7 @@ impl<'a, D: Disk, A: Opening, B: Column, G: Gate, R: Wait> Round<'a, D, A, B, G,
 
     /// Makes the next step of the checkpoint.
     fn go_on(&mut self) -> Course
-        ensures accepted { self.old.seat.share.accepted ≤ self.new.seat.share.accepted }
+        ensures accepted { self.new.seat.share.accepted ≡ self.old.seat.share.accepted }
         ensures durable { self.old.seat.share.durable ≤ self.new.seat.share.durable }
     {
         match self.phase {
@@ -239,7 +241,7 @@ impl<'a, D: Disk, A: Opening, B: Column, G: Gate, R: Wait> Round<'a, D, A, B, G,
     /// Goes on with the checkpoint in progress as far as it comes, or begins one where none is and one is due. Tells whether the flusher
     /// goes on.
     fn run(&mut self) -> Pass
-        ensures accepted { self.old.seat.share.accepted ≤ self.new.seat.share.accepted }
+        ensures accepted { self.new.seat.share.accepted ≡ self.old.seat.share.accepted }
         ensures durable { self.old.seat.share.durable ≤ self.new.seat.share.durable }
     {
         let mut course = match self.phase {
@@ -260,8 +262,9 @@ impl<'a, D: Disk, A: Opening, B: Column, G: Gate, R: Wait> Round<'a, D, A, B, G,
 }
 
 /// Makes checkpoints, until its channel is closed and empty, the gate says stop or the store is broken, and gives the share back. At a
-/// nudge it goes on with the checkpoint that a refusal has held up. Where none is in progress, it commits, and begins one if it is due. Each step is made in a hold of
-/// the lock of its own, and pages are encoded outside of it, so clients are answered meanwhile.
+/// nudge it goes on with the checkpoint that a refusal has held up. Where none is in progress, it commits, and begins one if it is due.
+/// Each step is made in a hold of the lock of its own, and pages are encoded outside of it, so clients are answered meanwhile. It offers no
+/// event.
 ///
 /// It waits for the lock and for nudges.
 pub fn flusher<D: Disk, A: Opening, B: Column, G: Gate, R: Wait>(
@@ -269,7 +272,7 @@ pub fn flusher<D: Disk, A: Opening, B: Column, G: Gate, R: Wait>(
     nudges: &Receiver<()>,
     due: Due,
 ) -> Share<A, B>
-    ensures accepted { seat.entry.share.accepted ≤ result.accepted }
+    ensures accepted { result.accepted ≡ seat.entry.share.accepted }
     ensures durable { seat.entry.share.durable ≤ result.durable }
 {
     let rt = seat.rt;
