@@ -1,6 +1,8 @@
 pub mod Encoding
 pub mod Decoding
 pub mod Members
+mod Numbers
+mod Putting
 pub mod Rising
 pub mod Parting
 pub mod Keeping

@@ -1,10 +1,10 @@
 //! The bytes of a slot as a page.
-ghost use Rattle.std.specs.Prelude.{◌≡◌, ◌<◌, ◌≤◌, length, take, IfSome, IfNone};
+ghost use Rattle.std.specs.Prelude.{◌≡◌, ◌<◌, ◌≤◌, ◌-◌, length, take, IfSome, IfNone, IsTrue};
 ghost use Rattle.std.specs.Int.{w64, to_be_bytes};
 ghost use Rattle.hg_pages.specs.Reading.{cell_bytes};
 ghost use Rattle.hg_pages.specs.Slots.{AreKnown, IsKnownCell, IsNoKnownCell, IsNoKnownSlot, IsSlot};
 
-use crate::cell::{CELL_LEN, cell_of, is_known};
+use crate::cell::{CELL_LEN, are_same_bytes, cell_of, is_known};
 use crate::encoded::SLOT_LEN;
 use hg_cells::{Cell, PAGE_WORDS, Page};
 use hg_sets::SetTable;
@@ -38,24 +38,65 @@ pub fn decode(bytes: &[u8], page: u64, segments: u32, sets: &SetTable) -> Option
         return None;
     }
     let mut cells = Page::new();
+    let mut former = Cell::New;
     for word in 0..PAGE_WORDS {
-        match known_cell(bytes, word, segments, sets) {
-            Some(cell) => cells.set(word, cell),
+        match known_cell(bytes, word, former, segments, sets) {
+            Some(cell) => {
+                cells.set(word, cell);
+                former = cell;
+            }
             None => return None,
         }
     }
     Some(cells)
 }
 
-// The cell of a word, if it is spelled right and names only known segments and sets.
-fn known_cell(bytes: &[u8], word: usize, segments: u32, sets: &SetTable) -> Option<Cell>
+// The bytes of a word's cell.
+#[inline(always)]
+fn cell_part(bytes: &[u8], word: usize) -> &[u8]
     requires word { word < 256 }
     requires length { length bytes.now ≡ SLOT_LEN }
+    ensures bytes { result.now ≡ cell_bytes bytes.now word }
+    ensures length { length result.now ≡ CELL_LEN }
+{
+    let at = CELLS_AT + CELL_LEN * word;
+    &bytes[at..at + CELL_LEN]
+}
+
+// Whether a word's cell has the bytes of the cell before it.
+#[inline(always)]
+fn repeats(bytes: &[u8], word: usize) -> bool
+    requires word { word < 256 }
+    requires length { length bytes.now ≡ SLOT_LEN }
+    ensures first { IsTrue result → 0 < word }
+    ensures same { IsTrue result → cell_bytes bytes.now word ≡ cell_bytes bytes.now (word - 1) }
+{
+    if word == 0 {
+        return false;
+    }
+    are_same_bytes(cell_part(bytes, word), cell_part(bytes, word - 1))
+}
+
+// The cell of a word, if it is spelled right and names only known segments and sets. What is known of the cell before it,
+// `former`, holds of one with the same bytes, so a run of equal cells is looked at once.
+#[inline(always)]
+fn known_cell(
+    bytes: &[u8],
+    word: usize,
+    former: Cell,
+    segments: u32,
+    sets: &SetTable,
+) -> Option<Cell>
+    requires word { word < 256 }
+    requires length { length bytes.now ≡ SLOT_LEN }
+    requires former { 0 < word → IsKnownCell segments sets.now.sets (cell_bytes bytes.now (word - 1)) former }
     ensures some { IfSome result (IsKnownCell segments sets.now.sets (cell_bytes bytes.now word)) }
     ensures none { IfNone result (IsNoKnownCell segments sets.now.sets (cell_bytes bytes.now word)) }
 {
-    let at = CELLS_AT + CELL_LEN * word;
-    let cell = cell_of(&bytes[at..at + CELL_LEN])?;
+    if repeats(bytes, word) {
+        return Some(former);
+    }
+    let cell = cell_of(cell_part(bytes, word))?;
     if is_known(cell, segments, sets) {
         Some(cell)
     } else {

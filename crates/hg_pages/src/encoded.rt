@@ -1,10 +1,12 @@
 //! A page as the bytes of its slot.
-ghost use Rattle.std.specs.Prelude.{◌≡◌, ◌<◌, ◌^◌, ◌↔◌, length, IfOk, IsTrue};
+ghost use Rattle.std.specs.Prelude.{◌≡◌, ◌+◌, ◌*◌, ◌<◌, ◌≤◌, ◌^◌, ◌↔◌, length, IfOk, IsTrue};
+ghost use Rattle.std.specs.Int.{w32, to_be_bytes};
+ghost use Rattle.hg_disk.specs.State.{replaced};
 ghost use Rattle.hg_pages.specs.Reading.{cell_bytes};
 ghost use Rattle.hg_pages.specs.Slots.{CellFits, IsSlot, cell_text, slot_text};
 ghost use Rattle.std.specs.List.{AllByRecursion};
 
-use crate::cell::{CELL_LEN, bytes_of};
+use crate::cell::{CELL_LEN, numbers_of, spell};
 use crate::decoded::{MOST_PAGES, page_in};
 use hg_cells::{Cell, PAGE_WORDS, Page};
 use std::alloc::{AllocError, Global};
@@ -73,6 +75,7 @@ impl EncodedPage {
 }
 
 // Whether the cell of a word is spelled so.
+#[inline(always)]
 fn has_cell(bytes: &[u8], word: usize, cell: Cell) -> bool
     requires word { word < 256 }
     requires length { length bytes.now ≡ SLOT_LEN }
@@ -80,9 +83,7 @@ fn has_cell(bytes: &[u8], word: usize, cell: Cell) -> bool
     ensures fits { CellFits cell }
 {
     let at = 8 + CELL_LEN * word;
-    let spelling = bytes_of(cell);
-    let part = &bytes[at..at + CELL_LEN];
-    part == spelling.as_slice()
+    spell(&bytes[at..at + CELL_LEN], cell)
 }
 
 // Whether these are the bytes of a page.
@@ -104,17 +105,53 @@ fn is_text(bytes: &[u8], page: u64, cells: &Page) -> bool
     true
 }
 
+// Puts a number into bytes, at a place.
+#[inline(always)]
+fn put_number(bytes: &mut [u8], at: usize, number: u32)
+    requires { at + 4 ≤ length bytes.old }
+    ensures bytes { bytes.new ≡ replaced bytes.old at (to_be_bytes w32 number) }
+    ensures length { length bytes.new ≡ length bytes.old }
+{
+    bytes[at..at + 4].copy_from_slice(&number.to_be_bytes());
+}
+
+// Puts the cell of a word into the bytes of a slot.
+#[inline(always)]
+fn put_cell(bytes: &mut [u8], word: usize, cell: Cell)
+    requires word { word < 256 }
+    requires length { length bytes.old ≡ SLOT_LEN }
+    ensures bytes { bytes.new ≡ replaced bytes.old (8 + 12 * word) (cell_text cell) }
+    ensures length { length bytes.new ≡ SLOT_LEN }
+    ensures fits { CellFits cell }
+{
+    let at = 8 + CELL_LEN * word;
+    let (head, first, second) = numbers_of(cell);
+    put_number(bytes, at, head);
+    put_number(bytes, at + 4, first);
+    put_number(bytes, at + 8, second);
+}
+
+// Writes a page into the bytes of a slot, whatever they were.
+fn put_page(bytes: &mut [u8], page: u64, cells: &Page)
+    requires { length bytes.old ≡ SLOT_LEN }
+    ensures bytes { bytes.new ≡ slot_text page cells.now }
+    ensures words { length cells.now ≡ 256 }
+    ensures fit { AllByRecursion CellFits cells.now }
+{
+    let _lowest = cells.get(0);
+    bytes[0..8].copy_from_slice(&page.to_be_bytes());
+    for word in 0..PAGE_WORDS {
+        put_cell(bytes, word, cells.get(word));
+    }
+}
+
 /// A page as the bytes of its slot. It takes 3,080 bytes of memory; the only error is want of memory.
 pub fn encode(alloc: Global, page: u64, cells: &Page) -> Result<EncodedPage, AllocError>
     ensures page { IfOk result (λ encoded. encoded.page ≡ page) }
     ensures bytes { IfOk result (λ encoded. encoded.bytes ≡ slot_text page cells.now) }
     ensures slot { page < MOST_PAGES → IfOk result (λ encoded. IsSlot page cells.now encoded.bytes) }
 {
-    let _lowest = cells.get(0);
-    let mut bytes = Vec::with_capacity(alloc, SLOT_LEN)?;
-    bytes.extend_from_slice(&page.to_be_bytes())?;
-    for word in 0..PAGE_WORDS {
-        bytes.extend_from_slice(&bytes_of(cells.get(word)))?;
-    }
+    let mut bytes = Vec::from_elem(alloc, 0, SLOT_LEN)?;
+    put_page(&mut bytes, page, cells);
     Ok(EncodedPage { page, bytes })
 }
