@@ -184,7 +184,9 @@ impl<D: Disk, A: Opening, B: Column> Core<D, A, B> {
         Ok((core, all))
     }
 
-    /// One step of the store, which the books and the share count. `Freeze` and `WriteRoot` take memory.
+    /// One step of the store, which the books and the share count. `Freeze` and `WriteRoot` take memory. It is inlined, since an answer may
+    /// have a page of 3 KiB, which would be copied.
+    #[inline(always)]
     pub fn step(&mut self, alloc: Global, share: &mut Share<A, B>, step: &Step) -> StepResult
         ensures { StepKept ⟦<D as Disk>⟧ self.old self.new share.old share.new step.now result }
     {
