@@ -1,7 +1,8 @@
 //! The flusher, which makes checkpoints while clients go on.
 
-ghost use Rattle.std.specs.Prelude.{◌≡◌, ◌≤◌};
+ghost use Rattle.std.specs.Prelude.{◌≡◌};
 ghost use Rattle.hg_desk.specs.Told.{may_accept};
+ghost use Rattle.hg_server.specs.Flushing.{IsToldOfNone};
 
 use crate::worker::{Gate, Pass, Point, Seat};
 use crossbeam_channel::Receiver;
@@ -59,8 +60,7 @@ impl<'a, D: Disk, A: Opening, B: Column, G: Gate, R: Wait> Round<'a, D, A, B, G,
 
     /// What a step that was not made leads to: a store that is broken ends the flusher, and in another phase the round goes on from there.
     fn refused(&mut self, fault: StepFault) -> Course
-        ensures accepted { self.new.seat.share.accepted ≡ self.old.seat.share.accepted }
-        ensures durable { self.old.seat.share.durable ≤ self.new.seat.share.durable }
+        ensures told { IsToldOfNone self.old.seat.share self.new.seat.share }
     {
         match fault {
             StepFault::WrongPhase(phase) => {
@@ -74,8 +74,7 @@ impl<'a, D: Disk, A: Opening, B: Column, G: Gate, R: Wait> Round<'a, D, A, B, G,
 
     /// The answer of a step that leads to this phase.
     fn reach<T: Drop>(&mut self, phase: StorePhase, done: Result<T, StepFault>) -> Course
-        ensures accepted { self.new.seat.share.accepted ≡ self.old.seat.share.accepted }
-        ensures durable { self.old.seat.share.durable ≤ self.new.seat.share.durable }
+        ensures told { IsToldOfNone self.old.seat.share self.new.seat.share }
     {
         match done {
             Ok(_) => {
@@ -89,8 +88,7 @@ impl<'a, D: Disk, A: Opening, B: Column, G: Gate, R: Wait> Round<'a, D, A, B, G,
     /// Makes one step of the store in a hold of its own, and offers no event.
     fn step(&mut self, step: Step) -> StepResult
         requires offers_none { may_accept step ≡ 0 }
-        ensures accepted { self.new.seat.share.accepted ≡ self.old.seat.share.accepted }
-        ensures durable { self.old.seat.share.durable ≤ self.new.seat.share.durable }
+        ensures told { IsToldOfNone self.old.seat.share self.new.seat.share }
     {
         let task = StepTask {
             alloc: self.seat.alloc,
@@ -103,8 +101,7 @@ impl<'a, D: Disk, A: Opening, B: Column, G: Gate, R: Wait> Round<'a, D, A, B, G,
 
     /// Commits, and begins a checkpoint where one is due then.
     fn begin(&mut self) -> Course
-        ensures accepted { self.new.seat.share.accepted ≡ self.old.seat.share.accepted }
-        ensures durable { self.old.seat.share.durable ≤ self.new.seat.share.durable }
+        ensures told { IsToldOfNone self.old.seat.share self.new.seat.share }
     {
         let count = match self.step(Step::Commit) {
             StepResult::Committed(Ok(count)) => count,
@@ -133,8 +130,7 @@ impl<'a, D: Disk, A: Opening, B: Column, G: Gate, R: Wait> Round<'a, D, A, B, G,
 
     /// Writes a page that was encoded.
     fn put(&mut self, page: EncodedPage) -> Course
-        ensures accepted { self.new.seat.share.accepted ≡ self.old.seat.share.accepted }
-        ensures durable { self.old.seat.share.durable ≤ self.new.seat.share.durable }
+        ensures told { IsToldOfNone self.old.seat.share self.new.seat.share }
     {
         match self.step(Step::Put(page)) {
             StepResult::Put(Ok(_)) => self.pass(Point::Put),
@@ -145,8 +141,7 @@ impl<'a, D: Disk, A: Opening, B: Column, G: Gate, R: Wait> Round<'a, D, A, B, G,
 
     /// Encodes a page outside the lock, and writes it. Where memory is refused, the page waits on.
     fn flush(&mut self, job: Job) -> Course
-        ensures accepted { self.new.seat.share.accepted ≡ self.old.seat.share.accepted }
-        ensures durable { self.old.seat.share.durable ≤ self.new.seat.share.durable }
+        ensures told { IsToldOfNone self.old.seat.share self.new.seat.share }
     {
         if self.pass(Point::JobTaken) == Course::Stop {
             return Course::Stop;
@@ -162,8 +157,7 @@ impl<'a, D: Disk, A: Opening, B: Column, G: Gate, R: Wait> Round<'a, D, A, B, G,
 
     /// Makes the pages durable.
     fn seal(&mut self) -> Course
-        ensures accepted { self.new.seat.share.accepted ≡ self.old.seat.share.accepted }
-        ensures durable { self.old.seat.share.durable ≤ self.new.seat.share.durable }
+        ensures told { IsToldOfNone self.old.seat.share self.new.seat.share }
     {
         if self.pass(Point::BeforeSeal) == Course::Stop {
             return Course::Stop;
@@ -176,8 +170,7 @@ impl<'a, D: Disk, A: Opening, B: Column, G: Gate, R: Wait> Round<'a, D, A, B, G,
 
     /// Writes the page that is next, or makes the pages durable where none waits.
     fn write_page(&mut self) -> Course
-        ensures accepted { self.new.seat.share.accepted ≡ self.old.seat.share.accepted }
-        ensures durable { self.old.seat.share.durable ≤ self.new.seat.share.durable }
+        ensures told { IsToldOfNone self.old.seat.share self.new.seat.share }
     {
         match self.step(Step::TakeJob) {
             StepResult::Taken(Ok(Some(job))) => self.flush(job),
@@ -189,8 +182,7 @@ impl<'a, D: Disk, A: Opening, B: Column, G: Gate, R: Wait> Round<'a, D, A, B, G,
 
     /// Closes the file that the root goes to.
     fn prepare(&mut self) -> Course
-        ensures accepted { self.new.seat.share.accepted ≡ self.old.seat.share.accepted }
-        ensures durable { self.old.seat.share.durable ≤ self.new.seat.share.durable }
+        ensures told { IsToldOfNone self.old.seat.share self.new.seat.share }
     {
         match self.step(Step::PrepareRoot) {
             StepResult::Prepared(done) => self.reach(StorePhase::Prepared, done),
@@ -200,8 +192,7 @@ impl<'a, D: Disk, A: Opening, B: Column, G: Gate, R: Wait> Round<'a, D, A, B, G,
 
     /// Writes the root behind its closed gate.
     fn write_root(&mut self) -> Course
-        ensures accepted { self.new.seat.share.accepted ≡ self.old.seat.share.accepted }
-        ensures durable { self.old.seat.share.durable ≤ self.new.seat.share.durable }
+        ensures told { IsToldOfNone self.old.seat.share self.new.seat.share }
     {
         match self.step(Step::WriteRoot) {
             StepResult::Written(done) => self.reach(StorePhase::Written, done),
@@ -211,8 +202,7 @@ impl<'a, D: Disk, A: Opening, B: Column, G: Gate, R: Wait> Round<'a, D, A, B, G,
 
     /// Opens the root.
     fn open_root(&mut self) -> Course
-        ensures accepted { self.new.seat.share.accepted ≡ self.old.seat.share.accepted }
-        ensures durable { self.old.seat.share.durable ≤ self.new.seat.share.durable }
+        ensures told { IsToldOfNone self.old.seat.share self.new.seat.share }
     {
         let course = match self.step(Step::OpenRoot) {
             StepResult::Opened(done) => self.reach(StorePhase::Idle, done),
@@ -226,8 +216,7 @@ impl<'a, D: Disk, A: Opening, B: Column, G: Gate, R: Wait> Round<'a, D, A, B, G,
 
     /// Makes the next step of the checkpoint.
     fn go_on(&mut self) -> Course
-        ensures accepted { self.new.seat.share.accepted ≡ self.old.seat.share.accepted }
-        ensures durable { self.old.seat.share.durable ≤ self.new.seat.share.durable }
+        ensures told { IsToldOfNone self.old.seat.share self.new.seat.share }
     {
         match self.phase {
             StorePhase::Idle | StorePhase::Pending => Course::End,
@@ -241,8 +230,7 @@ impl<'a, D: Disk, A: Opening, B: Column, G: Gate, R: Wait> Round<'a, D, A, B, G,
     /// Goes on with the checkpoint in progress as far as it comes, or begins one where none is and one is due. Tells whether the flusher
     /// goes on.
     fn run(&mut self) -> Pass
-        ensures accepted { self.new.seat.share.accepted ≡ self.old.seat.share.accepted }
-        ensures durable { self.old.seat.share.durable ≤ self.new.seat.share.durable }
+        ensures told { IsToldOfNone self.old.seat.share self.new.seat.share }
     {
         let mut course = match self.phase {
             StorePhase::Idle | StorePhase::Pending => self.begin(),
@@ -272,8 +260,7 @@ pub fn flusher<D: Disk, A: Opening, B: Column, G: Gate, R: Wait>(
     nudges: &Receiver<()>,
     due: Due,
 ) -> Share<A, B>
-    ensures accepted { result.accepted ≡ seat.entry.share.accepted }
-    ensures durable { seat.entry.share.durable ≤ result.durable }
+    ensures told { IsToldOfNone seat.entry.share result }
 {
     let rt = seat.rt;
     let mut round = Round {
