@@ -1,10 +1,16 @@
-//! Conversations over stores on disks in memory, line by line.
+//! Conversations over stores on disks in memory, and flushers and workers over such stores, line by line.
 #![tactic(auto)]
 
+mod flushing;
 mod load;
+mod meeting;
+mod peer;
 mod replies;
+mod table;
+mod telling;
 mod world;
 
+pub use crate::flushing::run_flushers;
 use crate::world::run_store;
 use hg_test_kit::text::Text;
 use std::alloc::Global;

@@ -139,7 +139,7 @@ fn put_replies(fed: &Fed<Reply>, out: &mut Text) {
 }
 
 /// An empty store on disks in memory.
-fn empty_store(alloc: Global) -> Option<Store<MemDisk>>
+pub(crate) fn empty_store(alloc: Global) -> Option<Store<MemDisk>>
     ensures { IfSome result (λ store. IsFresh ⟦<MemDisk as Disk>⟧ store empty_content) }
 {
     let devices = Devices {
