@@ -2,6 +2,7 @@
  *
  *   MEMORY_REFUSE=N   the N-th allocation, counted from 1, finds no memory
  *   MEMORY_ONWARD=1   neither does any that follows it
+ *   MEMORY_LAST=N     neither do those that follow it up to the N-th
  *   MEMORY_COUNT=PATH where the program ends, the number of its allocations is written there
  *
  * Allocations are malloc, calloc, realloc to another place or size, aligned_alloc and posix_memalign.
@@ -9,6 +10,7 @@
 #define _GNU_SOURCE
 #include <errno.h>
 #include <fcntl.h>
+#include <limits.h>
 #include <stdio.h>
 #include <stdlib.h>
 #include <sys/syscall.h>
@@ -19,18 +21,19 @@ extern void *__libc_calloc(size_t count, size_t size);
 extern void *__libc_realloc(void *former, size_t size);
 extern void *__libc_memalign(size_t align, size_t size);
 
-static long made, refused = -1;
-static int onward;
+static long made, first = -1, last;
 
 static int is_refused(void)
 {
-    if (refused < 0) {
-        const char *text = getenv("MEMORY_REFUSE");
-        refused = text ? atol(text) : 0;
-        onward = getenv("MEMORY_ONWARD") != NULL;
+    if (first < 0) {
+        const char *text = getenv("MEMORY_REFUSE"), *end = getenv("MEMORY_LAST");
+        long number = text ? atol(text) : 0;
+        last = getenv("MEMORY_ONWARD") ? LONG_MAX : end ? atol(end) : number;
+        first = number;
     }
-    made++;
-    if (made != refused && !(onward && refused > 0 && made > refused))
+    /* Threads count together. */
+    long number = __atomic_add_fetch(&made, 1, __ATOMIC_RELAXED);
+    if (first == 0 || number < first || number > last)
         return 0;
     errno = ENOMEM;
     return 1;

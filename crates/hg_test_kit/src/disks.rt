@@ -4,7 +4,7 @@
 //! its own: what lets them go is one call.
 
 use crate::device::{DEVICES, Device, PerDevice};
-use crate::shelf::{Fuse, Image, TestDisk, copy_image, disk_with};
+use crate::shelf::{Fuse, Image, TestDisk, calls_of, copy_image, disk_with};
 use hg_disk::{Answer, Call, MemDisk, Tear};
 use std::alloc::{AllocError, Global};
 
@@ -110,7 +110,7 @@ fn since_sync(disk: &MemDisk) -> (u64, usize) {
 impl Memories {
     /// How many calls a device had.
     pub fn calls(&self, device: Device) -> u64 {
-        self.parts.of(device).calls().len() as u64
+        calls_of(self.parts.of(device))
     }
 
     /// How many bytes were written to a device since its last sync.

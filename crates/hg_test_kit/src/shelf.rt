@@ -7,7 +7,7 @@ use crate::disks::Disks;
 use crate::tears::tear;
 use crate::text::Text;
 use crate::tokens::{self, Halt, Tokens};
-use hg_disk::{FuseDisk, MemDisk, Tear};
+use hg_disk::{Disk, FuseDisk, MemDisk, Tear};
 use std::alloc::{AllocError, Global};
 
 /// A disk of a scenario.
@@ -96,9 +96,35 @@ pub fn disk_of(alloc: Global, digits: &str) -> Option<MemDisk> {
     memory_with(alloc, bytes_of(alloc, digits)?).ok()
 }
 
+/// How many calls and bytes the disk of a scenario has room for beforehand. A run within them takes no memory for its disks, so where
+/// memory is refused it is the store that tells.
+const ROOM_OF_CALLS: usize = 4096;
+
+const ROOM_OF_BYTES: usize = 1 << 20;
+
+/// How many calls give a disk its first bytes.
+const FIRST_CALLS: usize = 2;
+
+/// A disk in memory with these bytes, all of them durable, and with room.
+fn roomy_with(alloc: Global, bytes: &[u8]) -> Result<MemDisk, AllocError> {
+    if bytes.len() > MOST_BYTES {
+        return Err(AllocError);
+    }
+    let mut disk = MemDisk::with_room(alloc, ROOM_OF_CALLS, ROOM_OF_BYTES + bytes.len())?;
+    if disk.write_at(0, bytes).is_err() || disk.sync().is_err() {
+        return Err(AllocError);
+    }
+    Ok(disk)
+}
+
+/// How many calls a disk of a scenario had since it got its first bytes.
+pub fn calls_of(disk: &MemDisk) -> u64 {
+    disk.calls().len().saturating_sub(FIRST_CALLS) as u64
+}
+
 /// A disk with these bytes that fails as the fuse says.
 pub fn disk_with(alloc: Global, bytes: &[u8], fuse: Fuse) -> Result<TestDisk, AllocError> {
-    let disk = memory_with(alloc, Vec::from_slice(alloc, bytes)?)?;
+    let disk = roomy_with(alloc, bytes)?;
     Ok(match fuse {
         Fuse::Once(after) => FuseDisk::once(disk, after.saturating_add(1)),
         Fuse::On(after) => FuseDisk::stop(disk, after.saturating_add(1)),
@@ -130,7 +156,7 @@ fn put_back(
     calls: &mut u64,
 ) -> Result<(), AllocError> {
     let disk = disk.into_inner();
-    *calls = disk.calls().len() as u64;
+    *calls = calls_of(&disk);
     copy_image(&disk, tear, bytes)
 }
 

@@ -48,6 +48,8 @@ pub enum Told {
     NoPage,
     /// No store is open.
     Closed,
+    /// The trial has no memory for what it notes itself, and nothing was done.
+    NoMemory,
 }
 
 /// The name of a phase.
@@ -83,6 +85,7 @@ pub fn put_told(told: Told, out: &mut Text) {
         Told::Refused(refusal) => put_refusal(refusal, out),
         Told::NoPage => out.put(b"no page"),
         Told::Closed => out.put(b"nothing is open"),
+        Told::NoMemory => out.put(b"no memory"),
     }
 }
 

@@ -243,7 +243,9 @@ impl Machine for MemoryStore {
         fuses: &PerDevice<Fuse>,
         opening: Opening,
     ) -> Result<u64, Halt> {
-        self.leave();
+        // The page of a job stays, so that another store can be handed it.
+        self.put_opened(None);
+        self.put_left(None);
         self.made.clear();
         let disks = Disks::new(self.alloc, image, fuses)?;
         match open(self.alloc, disks, opening) {
@@ -264,7 +266,7 @@ impl Machine for MemoryStore {
             return Told::Closed;
         };
         if self.made.push(action).is_err() {
-            return Told::Refused(Refusal::OutOfMemory);
+            return Told::NoMemory;
         }
         match step_of(self.alloc, action, &self.page) {
             Ok(Some(step)) => {
@@ -272,7 +274,7 @@ impl Machine for MemoryStore {
                 self.keep(answer)
             }
             Ok(None) => Told::NoPage,
-            Err(AllocError) => Told::Refused(Refusal::OutOfMemory),
+            Err(AllocError) => Told::NoMemory,
         }
     }
 
