@@ -22,9 +22,14 @@ use hg_store::store::Store;
 use hg_test_kit::digits::bytes_of;
 use hg_test_kit::text::Text;
 use hg_test_kit::tokens::front;
-use std::alloc::Global;
+use std::alloc::{AllocError, Global};
 use std::marker::Brand;
 use std::sync::ledger::Blank;
+
+/// How many calls and bytes each disk has room for beforehand: where memory is refused within them, it is the store that tells.
+const ROOM_OF_CALLS: usize = 4096;
+
+const ROOM_OF_BYTES: usize = 1 << 20;
 
 /// A store, what its one thread was told, and a conversation.
 pub struct World<A: Opening, B: Column> {
@@ -138,15 +143,27 @@ fn put_replies(fed: &Fed<Reply>, out: &mut Text) {
     }
 }
 
+/// An empty disk in memory with room for many calls and bytes.
+fn roomy_disk(alloc: Global) -> Result<MemDisk, AllocError> {
+    MemDisk::with_room(alloc, ROOM_OF_CALLS, ROOM_OF_BYTES)
+}
+
+/// Four of them.
+fn roomy_devices(alloc: Global) -> Result<Devices<MemDisk>, AllocError> {
+    Ok(Devices {
+        journal: roomy_disk(alloc)?,
+        slots: roomy_disk(alloc)?,
+        root0: roomy_disk(alloc)?,
+        root1: roomy_disk(alloc)?,
+    })
+}
+
 /// An empty store on disks in memory.
 pub(crate) fn empty_store(alloc: Global) -> Option<Store<MemDisk>>
     ensures { IfSome result (λ store. IsFresh ⟦<MemDisk as Disk>⟧ store empty_content) }
 {
-    let devices = Devices {
-        journal: MemDisk::new(alloc),
-        slots: MemDisk::new(alloc),
-        root0: MemDisk::new(alloc),
-        root1: MemDisk::new(alloc),
+    let Ok(devices) = roomy_devices(alloc) else {
+        return None;
     };
     match Store::create(alloc, devices, 4, Caps::profile()) {
         Ok(store) => Some(store),
