@@ -1,19 +1,28 @@
 #!/usr/bin/env python3
 """A reader and a writer of root bodies, root files and page slots, by docs/FORMATS.md alone. tests/formats compares `hg_test_trials roots` with it.
 
-roots.py            checks itself: the worked root and slot in both directions, 1,000 random contents there and back, each change of a byte
+roots.py            checks itself: the worked roots and slot in both directions, 1,000 random contents there and back, each change of a byte
 roots.py verdicts   prints, for each byte of the worked body and each other value, whether the change is a root's body
 """
 import random
 import sys
 
-HEADER = b"HGROOT1\n"
+HEADER = b"HGROOT2\n"
+# Roots with this header have no marks. They are read, and not written any more.
+FORMER_HEADER = b"HGROOT1\n"
 WORKED = bytes.fromhex(
+    "A50000000000000064" "4847524F4F54320A" "0000000000000001" "0000000000000001"
+    "00000003" "00000000" "0001010000000000" "0000010000000000"
+    "0002" "0000010000000200" "0001010000000100"
+    "000000010000" "000000000000000000000000" "0001" "00030000000000000001" "00000000")
+
+
+# The same content as it was written with the former header.
+FORMER = bytes.fromhex(
     "A50000000000000061" "4847524F4F54310A" "0000000000000001" "0000000000000001"
     "00000003" "000000" "00010100000000" "00000100000000"
     "0002" "0000010000000200" "0001010000000100"
     "000000010000" "000000000000000000000000" "0001" "00030000000000000001" "00000000")
-
 
 # Page 4, of a root with three segments and these sets.
 SLOT_BYTES = 3080
@@ -23,6 +32,10 @@ WORKED_SLOT = bytes.fromhex(
 WORKED_SETS = [(), (0, 1), (5,)]
 
 NEW, EXCLUSIVE, SHARED_READ, SHARED_MODIFIED = range(4)
+
+# A mark is its kind and a message, which is 0 for PLAIN.
+PLAIN, SENT, GOT = range(3)
+UNMARKED = (PLAIN, 0)
 
 
 class Damaged(Exception):
@@ -49,13 +62,28 @@ def rise(numbers):
     return all(a < b for a, b in zip(numbers, numbers[1:]))
 
 
+def read_mark(r, thread, before, segments, messages):
+    """The mark of a segment. `messages` has those that were sent, each with whether it was received."""
+    kind = r.number(1)
+    want(kind <= GOT)
+    message = r.number(4) if kind != PLAIN else 0
+    if kind == SENT:
+        want(message not in messages and len(before) == 1 and segments[before[0]][0] == thread)
+        messages[message] = False
+    if kind == GOT:
+        want(messages.get(message) is False)
+        messages[message] = True
+    return kind, message
+
+
 def read_body(data):
     r = Reader(data)
-    want(data[:8] == HEADER)
+    want(data[:8] in (HEADER, FORMER_HEADER))
+    marked = data[:8] == HEADER
     r.at = 8
     root = {"number": r.number(8), "events": r.number(8)}
     want(1 <= root["number"] <= 2**58 and root["events"] <= 2**58)
-    segments, last = [], {}
+    segments, last, messages = [], {}, {}
     count = r.number(4)
     want(1 <= count <= 1048576)
     for n in range(count):
@@ -65,7 +93,7 @@ def read_body(data):
         want(thread == 0 and not before if n == 0 else 1 <= len(before) <= 2)
         want(thread not in last or last[thread] in before)
         last[thread] = n
-        segments.append((thread, before))
+        segments.append((thread, before, read_mark(r, thread, before, segments, messages) if marked else UNMARKED))
     threads, modes = [], {}
     for _ in range(r.number(2)):
         thread, alive, own = r.number(2), r.number(1), r.number(4)
@@ -104,14 +132,18 @@ def read_body(data):
     return root
 
 
-def fields_of(root):
+def fields_of(root, former=False):
     """The fields of a body in order: of each a name, how many bytes it has, and its number."""
     last = {}
-    out = [("header", 8, int.from_bytes(HEADER, "big")), ("number", 8, root["number"]), ("events", 8, root["events"])]
+    header = FORMER_HEADER if former else HEADER
+    out = [("header", 8, int.from_bytes(header, "big")), ("number", 8, root["number"]), ("events", 8, root["events"])]
     out.append(("segments", 4, len(root["segments"])))
-    for n, (thread, before) in enumerate(root["segments"]):
+    for n, (thread, before, (kind, message)) in enumerate(root["segments"]):
         out += [(f"segment {n} thread", 2, thread), (f"segment {n} count", 1, len(before))]
         out += [(f"segment {n} before {k}", 4, it) for k, it in enumerate(before)]
+        if not former:
+            out.append((f"segment {n} mark", 1, kind))
+            out += [(f"segment {n} message", 4, message)] if kind != PLAIN else []
         last[thread] = n
     out.append(("threads", 2, len(root["threads"])))
     for n, (thread, alive, held) in enumerate(root["threads"]):
@@ -142,6 +174,11 @@ def spelled(fields):
 
 def write_body(root):
     return spelled(fields_of(root))
+
+
+def write_former_body(root):
+    """The body under the former header, of a content without marks."""
+    return spelled(fields_of(root, former=True))
 
 
 def write_file(body):
@@ -203,21 +240,38 @@ def is_root(data):
         return False
 
 
+def random_mark(dice, own, messages):
+    """A lawful mark. `own`: the segment has one predecessor, of its own thread. `messages`: as in read_mark."""
+    waiting = [message for message, received in messages.items() if not received]
+    draw = dice.random()
+    if draw < 0.3 and own:
+        message = dice.choice((0, 2**32 - 1, dice.randrange(2**32), dice.randrange(9)))
+        if message not in messages:
+            messages[message] = False
+            return SENT, message
+    if draw > 0.6 and waiting:
+        message = dice.choice(waiting)
+        messages[message] = True
+        return GOT, message
+    return UNMARKED
+
+
 def random_segments(dice, most):
-    segments, last = [(0, [])], {0: 0}
+    segments, last, messages, marked = [(0, [], UNMARKED)], {0: 0}, {}, dice.random() < 0.7
     for n in range(1, dice.randint(1, most)):
         thread = dice.choice(list(last) + [dice.randint(0, 1023)])
         before = {last[thread]} if thread in last else {dice.randrange(n)}
         if dice.random() < 0.5:
             before.add(dice.randrange(n))
-        segments.append((thread, sorted(before)))
+        own = thread in last and len(before) == 1
+        segments.append((thread, sorted(before), random_mark(dice, own, messages) if marked else UNMARKED))
         last[thread] = n
     return segments
 
 
 def random_threads(dice, segments, most):
     threads, modes = [], {}
-    for thread in sorted({thread for thread, _ in segments}):
+    for thread in sorted({thread for thread, _, _ in segments}):
         alive, held = int(dice.random() < 0.7), []
         locks = dice.sample(range(65536), dice.randint(0, most)) + dice.sample(sorted(modes), min(2, len(modes)))
         for lock in sorted(set(locks))[:64] if alive else []:
@@ -283,8 +337,9 @@ def random_page(dice):
 
 def main():
     body = WORKED[9:]
-    assert len(WORKED) == 106 and int.from_bytes(WORKED[1:9], "big") == len(body) == 97
+    assert len(WORKED) == 109 and int.from_bytes(WORKED[1:9], "big") == len(body) == 100
     assert write_body(read_body(body)) == body and write_file(body) == WORKED and read_file(WORKED + b"?") == body
+    assert read_body(FORMER[9:]) == read_body(body) and write_file(write_former_body(read_body(body))) == FORMER and len(FORMER) == 106
     assert write_slot(4, read_slot(WORKED_SLOT, 4, 3, WORKED_SETS)) == WORKED_SLOT
     verdicts = []
     for at in range(len(body)):
@@ -300,9 +355,11 @@ def main():
     for _ in range(1000):
         root = random_root(dice)
         assert read_body(write_body(root)) == root
+        if all(mark == UNMARKED for _, _, mark in root["segments"]):
+            assert read_body(write_former_body(root)) == root
         page, segments, known, cells = random_page(dice)
         assert read_slot(write_slot(page, cells), page, segments, known) == cells
-    print("worked root and slot read and written, 1000 random contents of each there and back,",
+    print("worked roots and slot read and written, 1000 random contents of each there and back,",
           sum(v for _, _, v in verdicts), "of", len(verdicts), "changed bytes are roots")
 
 
