@@ -16,6 +16,7 @@
 #include <stdlib.h>
 #include <string.h>
 #include <sys/mman.h>
+#include <sys/random.h>
 #include <sys/resource.h>
 #include <sys/stat.h>
 #include <sys/syscall.h>
@@ -43,13 +44,15 @@ static const char HELP[] =
     "Usage: hgd-record [OPTIONS] PROGRAM [ARGUMENT]..\n"
     "Runs a program that was built with hgd-cc or hgd-c++, and writes a trace of its events for `hgd`.\n"
     "\n"
-    "  -o, --output FILE     the trace goes to FILE, `-` for standard output (default: PROGRAM's name with .trace)\n"
-    "      --check           the trace goes to `hgd check`, whose lines are printed\n"
-    "      --feed DIR SOURCE the trace goes to `hgd feed DIR SOURCE`\n"
+    "  -o, --output FILE     the trace goes to FILE, `-` for standard output (default: PROGRAM's name with .trace,\n"
+    "                        but no file with --check or --feed)\n"
+    "      --check           the trace goes to `hgd check`, whose lines are printed, and with -o FILE to that too\n"
+    "      --feed DIR SOURCE the same with `hgd feed DIR SOURCE`\n"
     "      --hgd PATH        the `hgd` of these (default: $HGD, or `hgd` of the path)\n"
     "  -p, --pcs FILE        also writes the code address of each event to FILE, for the script `where`\n"
-    "  -n, --no-filter       also writes accesses that cannot change anything\n"
-    "      --unfiltered FILE writes the trace with them to FILE too, of the same run\n"
+    "  -n, --no-filter       also writes accesses that cannot change anything, and those made while all other threads\n"
+    "                        had been joined\n"
+    "      --unfiltered FILE writes the trace with the former to FILE too, of the same run\n"
     "      --no-comments     writes no comments of semaphores, barriers, condition variables and atomics\n"
     "  -l, --limit N         the trace ends after N events\n"
     "  -q, --quiet           tells only what went wrong\n"
@@ -82,6 +85,8 @@ struct sink {
 };
 
 static struct sink trace = {.file = -1}, codes = {.file = -1}, all_events = {.file = -1};
+/* the pipe into hgd, where the trace goes to a file too */
+static struct sink into_detector = {.file = -1};
 static struct ring *ring;
 static pid_t program = -1, detector = -1;
 static int program_status = -1, detector_status;
@@ -89,6 +94,10 @@ static int recorded = -1;
 static uint64_t events, lines_of_comments, limit;
 static int most_thread, locks_seen = -1;
 static bool is_quiet;
+/* a number that the trace and the codes of one run have together */
+static uint64_t run_number;
+/* how much of the ring's maps the codes have */
+static uint32_t maps_put;
 
 __attribute__((format(printf, 1, 2))) static void tell(const char *format, ...)
 {
@@ -141,6 +150,26 @@ static void flush_sink(struct sink *sink)
     sink->used = 0;
 }
 
+/* The trace in its file, and in hgd where that reads along. If hgd has gone, the file goes on. */
+static void flush_trace(void)
+{
+    if (into_detector.file >= 0 && !into_detector.failed) {
+        memcpy(into_detector.buffer, trace.buffer, trace.used);
+        into_detector.used = trace.used;
+        flush_sink(&into_detector);
+    }
+    flush_sink(&trace);
+}
+
+/* The codes first: who kills this program is to have one for each event. */
+static void flush_outputs(void)
+{
+    if (codes.file >= 0) {
+        flush_sink(&codes);
+    }
+    flush_trace();
+}
+
 static char *put_word(char *at, const char *word)
 {
     while (*word) {
@@ -178,7 +207,11 @@ static char *put_hexadecimal(char *at, uint64_t number)
 static char *begin_line(struct sink *sink)
 {
     if (sink->used >= BUFFER) {
-        flush_sink(sink);
+        if (sink == &trace) {
+            flush_outputs();
+        } else {
+            flush_sink(sink);
+        }
     }
     return sink->buffer + sink->used;
 }
@@ -191,21 +224,34 @@ static void end_line(struct sink *sink, char *at)
 
 /* ---- addresses of code ---- */
 
+/* Where the files lie of which the code is: `where` needs it. The program tells it before the first event of each file. */
+static void put_maps(void)
+{
+    uint32_t used = atomic_load(&ring->maps_used);
+    while (maps_put < used) {
+        flush_sink(&codes);
+        codes.used = used - maps_put < BUFFER ? used - maps_put : BUFFER;
+        memcpy(codes.buffer, ring->maps + maps_put, codes.used);
+        maps_put += (uint32_t)codes.used;
+        flush_sink(&codes);
+    }
+}
+
 /* One line for each event. */
 static void put_code(uint64_t code)
 {
+    if (atomic_load_explicit(&ring->maps_used, memory_order_relaxed) != maps_put) {
+        put_maps();
+    }
     end_line(&codes, put_hexadecimal(begin_line(&codes), code));
 }
 
-/* Where the files lie of which the code is: `where` needs it. */
-static void put_maps(void)
+/* What tells that a trace and codes are of one run. */
+static void put_run_number(void)
 {
-    flush_sink(&codes);
-    uint32_t used = atomic_load(&ring->maps_used);
-    for (uint32_t at = 0; at < used; at += BUFFER) {
-        codes.used = used - at < BUFFER ? used - at : BUFFER;
-        memcpy(codes.buffer, ring->maps + at, codes.used);
-        flush_sink(&codes);
+    if (codes.file >= 0) {
+        end_line(&codes, put_hexadecimal(put_word(begin_line(&codes), "run "), run_number));
+        end_line(&trace, put_hexadecimal(put_word(begin_line(&trace), "# run "), run_number));
     }
 }
 
@@ -342,6 +388,11 @@ static void put_lines(struct sink *sink, enum kind kind, const struct event *eve
 /* False where the trace ends with this event. */
 static bool put_event(const struct event *event)
 {
+    static bool has_begun;
+    if (!has_begun) {
+        has_begun = true;
+        put_run_number();
+    }
     if (event->kind == KIND_STOP) {
         return put_stop(event);
     }
@@ -439,7 +490,7 @@ static void follow_program(void)
         if (is_idle) {
             if (++idle == 64) {
                 /* Who reads along sees what has happened. */
-                flush_sink(&trace);
+                flush_outputs();
             }
             nanosleep(&little, NULL);
         } else {
@@ -456,10 +507,13 @@ static void wait_for_program(void)
     }
 }
 
-static void forward(int signal)
+/* The terminal sends its signals to the program itself; another program may have meant this one alone. */
+static void forward(int signal, siginfo_t *from, void *ignored)
 {
+    (void)ignored;
     int kept = errno;
-    if (program > 0) {
+    bool is_of_terminal = from->si_code > 0 && (signal == SIGINT || signal == SIGQUIT);
+    if (program > 0 && !is_of_terminal) {
         kill(program, signal);
     }
     errno = kept;
@@ -538,13 +592,13 @@ static void reset_signals(void)
 /* The signals of a terminal go to the program too: it decides what becomes of it, and the trace is written to its end. */
 static void set_signals(void)
 {
+    static const int forwarded[] = {SIGINT, SIGQUIT, SIGTERM, SIGHUP};
     signal(SIGPIPE, SIG_IGN);
     signal(SIGXFSZ, SIG_IGN);
-    signal(SIGINT, SIG_IGN);
-    signal(SIGQUIT, SIG_IGN);
-    struct sigaction action = {.sa_handler = forward, .sa_flags = SA_RESTART};
-    sigaction(SIGTERM, &action, NULL);
-    sigaction(SIGHUP, &action, NULL);
+    struct sigaction action = {.sa_sigaction = forward, .sa_flags = SA_RESTART | SA_SIGINFO};
+    for (size_t i = 0; i < sizeof forwarded / sizeof *forwarded; i++) {
+        sigaction(forwarded[i], &action, NULL);
+    }
 }
 
 static void run(const char *what, char *const *words)
@@ -555,8 +609,10 @@ static void run(const char *what, char *const *words)
     _exit(status);
 }
 
+/* The pipe is the trace's own place, where no file is asked for. */
 static void start_detector(const struct options *options)
 {
+    struct sink *sink = options->output ? &into_detector : &trace;
     int ends[2];
     if (pipe2(ends, O_CLOEXEC)) {
         fail(STATUS_FAILED, "no pipe: %s", strerror(errno));
@@ -577,8 +633,8 @@ static void start_detector(const struct options *options)
         run(options->hgd, options->check ? check : feed);
     }
     close(ends[0]);
-    trace.file = ends[1];
-    trace.name = "hgd";
+    sink->file = ends[1];
+    sink->name = "hgd";
 }
 
 static void start_program(const struct options *options, const bool *closed, bool output_is_taken)
@@ -603,13 +659,11 @@ static void start_program(const struct options *options, const bool *closed, boo
 
 static void open_outputs(const struct options *options, bool is_output_closed)
 {
-    if (options->check || options->directory) {
-        start_detector(options);
-    } else if (strcmp(options->output, "-") == 0) {
+    if (options->output && strcmp(options->output, "-") == 0) {
         trace.name = "standard output";
         trace.file = is_output_closed ? -1 : STDOUT_FILENO;
         trace.failed = is_output_closed;
-    } else {
+    } else if (options->output) {
         open_sink(&trace, options->output);
     }
     if (options->pcs) {
@@ -617,6 +671,9 @@ static void open_outputs(const struct options *options, bool is_output_closed)
     }
     if (options->unfiltered) {
         open_sink(&all_events, options->unfiltered);
+    }
+    if (options->check || options->directory) {
+        start_detector(options);
     }
 }
 
@@ -638,6 +695,11 @@ static void tell_counts(void)
         [COUNT_FORKED_PROCESSES] = "processes were forked: what they did is not in the trace",
         [COUNT_OTHER_PROGRAMS] = "other programs built with hgd-cc were started: they were not recorded",
         [COUNT_LOST_MESSAGES] = "messages are not among the comments: there was no room for them",
+        [COUNT_ANNOTATIONS] = "hand-overs that the program tells of: the trace has them as comments",
+        [COUNT_BENIGN] = "accesses of memory whose races the program calls benign are not in the trace",
+        [COUNT_IGNORED] = "accesses that the program asks to ignore are not in the trace",
+        [COUNT_UNSAID] = "annotations of the program are not in the trace: it has no word for them",
+        [COUNT_FIBERS] = "switches of fibers: the trace has the thread that ran them",
     };
     for (int i = 0; i < COUNTS; i++) {
         uint64_t counted = atomic_load(&ring->counts[i]);
@@ -655,21 +717,36 @@ static void tell_end(void)
     }
     tell("%" PRIu64 " events, %d threads, %d locks; %" PRIu64 " accesses left out, since they change nothing; %" PRIu64 " comments", events,
          most_thread + 1, locks_seen + 1, left_out, lines_of_comments);
+    if (ring->left_out_alone.value) {
+        tell("%" PRIu64 " accesses left out, since all other threads had been joined", ring->left_out_alone.value);
+    }
     tell_counts();
+}
+
+static void close_sink(struct sink *sink)
+{
+    if (sink->file > STDERR_FILENO && close(sink->file)) {
+        tell("%s: %s", sink->name, strerror(errno));
+        sink->failed = true;
+    }
 }
 
 static void finish_sinks(void)
 {
-    flush_sink(&trace);
-    if (codes.file >= 0) {
-        put_maps();
-    }
+    flush_outputs();
     if (all_events.file >= 0) {
         flush_sink(&all_events);
     }
-    if (trace.file > STDERR_FILENO && close(trace.file)) {
-        tell("%s: %s", trace.name, strerror(errno));
-        trace.failed = true;
+    close_sink(&trace);
+    close_sink(&into_detector);
+}
+
+/* A file that nothing was written to tells nothing. */
+static void remove_empty(const struct sink *sink)
+{
+    struct stat found;
+    if (sink->file > STDERR_FILENO && lstat(sink->name, &found) == 0 && S_ISREG(found.st_mode) && found.st_size == 0) {
+        unlink(sink->name);
     }
 }
 
@@ -689,7 +766,8 @@ static int final_status(void)
     if (program_status == 0 && detector_status) {
         return detector_status;
     }
-    return program_status == 0 && (trace.failed || codes.failed) ? STATUS_FAILED : program_status;
+    bool has_failed = trace.failed || codes.failed || into_detector.failed;
+    return program_status == 0 && has_failed ? STATUS_FAILED : program_status;
 }
 
 /* ---- the command line ---- */
@@ -779,12 +857,16 @@ static struct options read_options(int number, char **words)
     if (optind >= number) {
         fail(STATUS_FAILED, "no program is named; hgd-record --help tells more");
     }
-    if (options.check + (options.directory != NULL) + (options.output != NULL) > 1) {
-        fail(STATUS_FAILED, "one of --output, --check and --feed");
+    bool is_read_along = options.check || options.directory;
+    if (options.check && options.directory) {
+        fail(STATUS_FAILED, "one of --check and --feed");
+    }
+    if (is_read_along && options.output && strcmp(options.output, "-") == 0) {
+        fail(STATUS_FAILED, "standard output has the lines of hgd: the trace needs a file");
     }
     options.program = words + optind;
     options.hgd = options.hgd && *options.hgd ? options.hgd : "hgd";
-    options.output = options.output ? options.output : default_output(options.program[0]);
+    options.output = options.output || is_read_along ? options.output : default_output(options.program[0]);
     return options;
 }
 
@@ -796,6 +878,9 @@ int main(int number, char **words)
     limit = options.limit;
     is_quiet = options.quiet;
     bool output_is_taken = options.check || options.directory || strcmp(options.output, "-") == 0;
+    if (getrandom(&run_number, sizeof run_number, GRND_NONBLOCK) != sizeof run_number) {
+        run_number = (uint64_t)time(NULL) << 32 | (uint32_t)getpid();
+    }
     set_signals();
     make_ring(&options);
     open_outputs(&options, closed[STDOUT_FILENO]);
@@ -807,6 +892,9 @@ int main(int number, char **words)
     wait_for_detector();
     if (!atomic_load(&ring->owner)) {
         tell("%s: nothing was recorded: no program that was built with hgd-cc has run", options.program[0]);
+        remove_empty(&trace);
+        remove_empty(&codes);
+        remove_empty(&all_events);
     } else if (!is_quiet) {
         tell_end();
     }

@@ -170,6 +170,14 @@ static bool is_before_all_threads(void)
     return lines && !atomic_load_explicit(&has_forked, memory_order_relaxed);
 }
 
+/* While all other threads have been joined, the one that is left comes behind all that they did. What it reads and writes changes no
+ * word that has one owner; of a shared word it would only be told what is in good order. Blocks are another matter: memory that is
+ * given to another use is new, also then. */
+static bool is_alone(void)
+{
+    return ring->filter && !atomic_load_explicit(&others, memory_order_relaxed);
+}
+
 /* Memory that is new from here on, or nobody's any more, while an event has begun. */
 void record_own_block(enum kind kind, uintptr_t address, size_t length, uintptr_t code)
 {
@@ -217,8 +225,17 @@ void record_access(bool is_write, uintptr_t address, size_t length, uintptr_t co
         return;
     }
     note_stack(address);
-    if (is_before_all_threads()) {
+    if (is_write ? self.ignores_writes : self.ignores_reads) {
+        count(COUNT_IGNORED);
+        length = 0;
+    } else if (atomic_load_explicit(&has_benign_ranges, memory_order_relaxed) && is_benign(address, length)) {
+        count(COUNT_BENIGN);
+        length = 0;
+    } else if (is_before_all_threads()) {
         access_before_all_threads(is_write ? KIND_WRITE : KIND_READ, address, length, code);
+        length = 0;
+    } else if (is_alone()) {
+        ring->left_out_alone.value++;
         length = 0;
     }
     while (length) {

@@ -108,6 +108,89 @@ ATOMICS(16, uint16_t)
 ATOMICS(32, uint32_t)
 ATOMICS(64, uint64_t)
 
+/* Of 16 bytes the processor has one operation. */
+typedef unsigned __int128 uint128;
+
+static uint128 exchange_if(volatile uint128 *atomic, uint128 expected, uint128 value)
+{
+    return __sync_val_compare_and_swap(atomic, expected, value);
+}
+
+/* A load may store what stands there again, so the memory has to be one that can be written. */
+static uint128 load_16_bytes(const volatile uint128 *atomic)
+{
+    return exchange_if((volatile uint128 *)atomic, 0, 0);
+}
+
+#define UPDATE_16_BYTES(name, result)                                                                        \
+    CALLED_BY_COMPILER uint128 __tsan_atomic128_##name(volatile uint128 *atomic, uint128 value, int order)   \
+    {                                                                                                        \
+        before_store(atomic, sizeof *atomic, order, CALLER);                                                 \
+        uint128 old = load_16_bytes(atomic), found;                                                          \
+        while ((found = exchange_if(atomic, old, result)) != old) {                                          \
+            old = found;                                                                                     \
+        }                                                                                                    \
+        after_update(atomic, sizeof *atomic, (uint64_t)old, order, CALLER);                                  \
+        return old;                                                                                          \
+    }
+
+UPDATE_16_BYTES(exchange, value)
+UPDATE_16_BYTES(fetch_add, old + value)
+UPDATE_16_BYTES(fetch_sub, old - value)
+UPDATE_16_BYTES(fetch_and, old &value)
+UPDATE_16_BYTES(fetch_or, old | value)
+UPDATE_16_BYTES(fetch_xor, old ^ value)
+UPDATE_16_BYTES(fetch_nand, ~(old & value))
+
+CALLED_BY_COMPILER uint128 __tsan_atomic128_load(const volatile uint128 *atomic, int order)
+{
+    uint128 value = load_16_bytes(atomic);
+    after_load(atomic, sizeof *atomic, (uint64_t)value, order, CALLER);
+    return value;
+}
+
+CALLED_BY_COMPILER void __tsan_atomic128_store(volatile uint128 *atomic, uint128 value, int order)
+{
+    before_store(atomic, sizeof *atomic, order, CALLER);
+    uint128 old = load_16_bytes(atomic), found;
+    while ((found = exchange_if(atomic, old, value)) != old) {
+        old = found;
+    }
+}
+
+static bool compare_16_bytes(volatile uint128 *atomic, uint128 *expected, uint128 value, int order, uintptr_t code)
+{
+    uint128 found = load_16_bytes(atomic);
+    bool is_exchanged = false;
+    if (found == *expected) {
+        before_store(atomic, sizeof *atomic, order, code);
+        found = exchange_if(atomic, *expected, value);
+        is_exchanged = found == *expected;
+    }
+    after_load(atomic, sizeof *atomic, (uint64_t)found, order, code);
+    *expected = found;
+    return is_exchanged;
+}
+
+CALLED_BY_COMPILER int __tsan_atomic128_compare_exchange_strong(volatile uint128 *atomic, uint128 *expected, uint128 value, int order, int failure)
+{
+    (void)failure;
+    return compare_16_bytes(atomic, expected, value, order, CALLER);
+}
+
+CALLED_BY_COMPILER int __tsan_atomic128_compare_exchange_weak(volatile uint128 *atomic, uint128 *expected, uint128 value, int order, int failure)
+{
+    (void)failure;
+    return compare_16_bytes(atomic, expected, value, order, CALLER);
+}
+
+CALLED_BY_COMPILER uint128 __tsan_atomic128_compare_exchange_val(volatile uint128 *atomic, uint128 expected, uint128 value, int order, int failure)
+{
+    (void)failure;
+    compare_16_bytes(atomic, &expected, value, order, CALLER);
+    return expected;
+}
+
 CALLED_BY_COMPILER void __tsan_atomic_thread_fence(int order)
 {
     __atomic_thread_fence(ORDER);

@@ -235,6 +235,9 @@ void publish_atomic(enum kind kind, uintptr_t address, uint64_t length, uint64_t
 void publish_block(unsigned kind, int thread, uintptr_t address, size_t length, uintptr_t code)
 {
     enum { LONGEST = 1 << 30 };
+    if (atomic_load_explicit(&has_benign_ranges, memory_order_relaxed)) {
+        forget_benign(address, length);
+    }
     while (length) {
         size_t part = length < LONGEST ? length : LONGEST;
         publish(kind, thread, address, part, code);

@@ -1,4 +1,4 @@
-/* Semaphores, condition variables and barriers: what one thread hands to another through them.
+/* Semaphores, condition variables, barriers and what a program says of itself: what one thread hands to another through them.
  *
  * The language of traces has no event for it yet. It is written as comments, `#send T K` and `#recv T K`, where K is a number that each
  * message has alone, and each is received once at most. Where it isn't known which message a thread was woken by, the oldest one
@@ -180,9 +180,9 @@ void channel_is_new(const void *address, unsigned parties)
     }
 }
 
-void message_is_sent(const void *address, uintptr_t code)
+void message_is_sent(const void *address, enum count what, uintptr_t code)
 {
-    count(COUNT_SEMAPHORES);
+    count(what);
     struct channel *channel = enter_channel(address);
     if (channel) {
         send(channel, code);

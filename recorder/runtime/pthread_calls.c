@@ -285,7 +285,7 @@ REPLACES int sem_init(sem_t *semaphore, int shared, unsigned value)
 
 REPLACES int sem_post(sem_t *semaphore)
 {
-    message_is_sent(semaphore, CALLER);
+    message_is_sent(semaphore, COUNT_SEMAPHORES, CALLER);
     return REAL(sem_post)(semaphore);
 }
 

@@ -62,6 +62,8 @@ struct self {
     /* the latest atomic load, so that a loop which waits is written once */
     uintptr_t latest_load;
     uint64_t latest_value;
+    /* how often the program asked to leave its reads and its writes alone, and has not taken it back */
+    unsigned ignores_reads, ignores_writes;
 };
 
 extern __thread struct self self __attribute__((tls_model("initial-exec")));
@@ -70,6 +72,8 @@ extern struct thread threads[MOST_THREADS];
 extern _Atomic int threads_used;
 /* whether a second thread was ever begun */
 extern _Atomic bool has_forked;
+/* how many threads were begun and not joined */
+extern _Atomic int others;
 
 /* ---- begin.c ---- */
 /* A page that reads as zeros in a forked process, so that no such process records, however it was forked. */
@@ -111,6 +115,13 @@ void record_access(bool is_write, uintptr_t address, size_t length, uintptr_t co
 void forget(uintptr_t address, size_t length);
 void unlock_line(struct line *line);
 
+/* ---- annotations.c ---- */
+extern _Atomic bool has_benign_ranges;
+/* Whether each byte is of memory whose races the program calls benign. */
+bool is_benign(uintptr_t address, size_t length);
+/* The memory is another's now. */
+void forget_benign(uintptr_t address, size_t length);
+
 /* ---- threads.c ---- */
 void begin_main_thread(void);
 
@@ -131,7 +142,7 @@ void note_code(uintptr_t code);
 
 /* ---- messages.c ---- */
 void make_channels(void);
-void message_is_sent(const void *channel, uintptr_t code);
+void message_is_sent(const void *channel, enum count what, uintptr_t code);
 void message_is_received(const void *channel, uintptr_t code);
 void channel_is_new(const void *channel, unsigned parties);
 void wait_begins(const void *channel);

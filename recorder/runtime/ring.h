@@ -79,6 +79,11 @@ enum count {
     COUNT_FORKED_PROCESSES,
     COUNT_OTHER_PROGRAMS,
     COUNT_LOST_MESSAGES,
+    COUNT_ANNOTATIONS,
+    COUNT_BENIGN,
+    COUNT_IGNORED,
+    COUNT_UNSAID,
+    COUNT_FIBERS,
     COUNTS,
 };
 
@@ -102,6 +107,8 @@ struct ring {
     _Atomic uint64_t counts[COUNTS];
     /* accesses that were left out because they change nothing, by thread */
     struct lone_counter left_out[MOST_THREADS];
+    /* accesses that were left out because all other threads had been joined */
+    struct lone_counter left_out_alone;
     /* lines `map LOW HIGH OFFSET FILE` of the files whose code had events */
     _Atomic uint32_t maps_used;
     char maps[1 << 18];

@@ -7,6 +7,7 @@
 struct thread threads[MOST_THREADS];
 _Atomic int threads_used;
 _Atomic bool has_forked;
+_Atomic int others;
 
 extern void *__libc_malloc(size_t length);
 extern void __libc_free(void *block);
@@ -122,6 +123,7 @@ static int fork_thread(bool is_detached, uintptr_t code)
         atomic_store(&threads[number].is_detached, is_detached);
         publish(KIND_FORK, self.number, (uint64_t)number, 0, code);
         next_epoch(self.number);
+        atomic_fetch_add(&others, 1);
         atomic_store(&has_forked, true);
     }
     end_event();
@@ -137,6 +139,7 @@ static void join_thread(int number, uintptr_t code)
     let_all_go(number);
     publish(KIND_JOIN, self.number, (uint64_t)number, 0, code);
     next_epoch(self.number);
+    atomic_fetch_sub(&others, 1);
     end_event();
 }
 
