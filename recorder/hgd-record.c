@@ -49,7 +49,7 @@ static const char HELP[] =
     "      --check           the trace goes to `hgd check`, whose lines are printed, and with -o FILE to that too\n"
     "      --feed DIR SOURCE the same with `hgd feed DIR SOURCE`\n"
     "      --hgd PATH        the `hgd` of these (default: $HGD, or `hgd` of the path)\n"
-    "  -p, --pcs FILE        also writes the code address of each event to FILE, for the script `where`\n"
+    "  -p, --pcs FILE        also writes the code address of each event to FILE, for `where` and `hgd-report`\n"
     "  -n, --no-filter       also writes accesses that cannot change anything, and those made while all other threads\n"
     "                        had been joined\n"
     "      --unfiltered FILE writes the trace with the former to FILE too, of the same run\n"
@@ -318,6 +318,28 @@ static void put_atomic(struct sink *sink, const char *verb, const struct event *
     lines_of_comments += sink == &trace;
 }
 
+/* `# lock 7 0x1000`: for who wants to name it. */
+static void put_lock_place(struct sink *sink, const struct event *event)
+{
+    char *at = put_thread(sink, "# lock ", event->length);
+    *at++ = ' ';
+    end_line(sink, put_hexadecimal(at, event->value));
+    lines_of_comments += sink == &trace;
+}
+
+/* `# alloc 0 0x1000 64 0x5555` with the address of the code: what the block is that a report names. */
+static void put_early_block(struct sink *sink, const struct event *event)
+{
+    char *at = put_thread(sink, "# alloc ", event->thread);
+    *at++ = ' ';
+    at = put_hexadecimal(at, event->value);
+    *at++ = ' ';
+    at = put_decimal(at, event->length);
+    *at++ = ' ';
+    end_line(sink, put_hexadecimal(at, event->code));
+    lines_of_comments += sink == &trace;
+}
+
 static void put_comment(const char *text)
 {
     end_line(&trace, put_word(begin_line(&trace), text));
@@ -381,6 +403,12 @@ static void put_lines(struct sink *sink, enum kind kind, const struct event *eve
     case KIND_ATOMIC_STORE:
     case KIND_FENCE:
         put_atomic(sink, verbs[kind], event);
+        break;
+    case KIND_LOCK_PLACE:
+        put_lock_place(sink, event);
+        break;
+    case KIND_EARLY_BLOCK:
+        put_early_block(sink, event);
         break;
     }
 }

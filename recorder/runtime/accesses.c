@@ -183,8 +183,13 @@ void record_own_block(enum kind kind, uintptr_t address, size_t length, uintptr_
 {
     if (!is_before_all_threads()) {
         publish_block(kind, self.number, address, length, code);
-    } else if (ring->filter == FILTER_MARKS) {
+        return;
+    }
+    if (ring->filter == FILTER_MARKS) {
         publish_block(kind | LEFT_OUT, self.number, address, length, code);
+    }
+    if (ring->wants_codes && kind == KIND_ALLOC && length <= UINT32_MAX) {
+        publish(KIND_EARLY_BLOCK, self.number, address, length, code);
     }
 }
 

@@ -88,6 +88,7 @@ static bool enter(struct lock *lock, bool for_writing, uint32_t *number)
 {
     uint64_t before = atomic_load(&lock->state);
     struct lock_state state;
+    bool is_new = false;
     do {
         state = unpack(before);
         bool is_stale = state.is_numbered && excludes(state, for_writing);
@@ -99,6 +100,7 @@ static bool enter(struct lock *lock, bool for_writing, uint32_t *number)
             if (!take_number(&state.number)) {
                 return false;
             }
+            is_new = true;
         }
         if (for_writing) {
             state.owner = (uint16_t)self.number;
@@ -107,6 +109,9 @@ static bool enter(struct lock *lock, bool for_writing, uint32_t *number)
         }
     } while (!atomic_compare_exchange_strong(&lock->state, &before, pack(state)));
     *number = state.number;
+    if (is_new && ring->wants_codes) {
+        publish(KIND_LOCK_PLACE, self.number, atomic_load(&lock->address), state.number, 0);
+    }
     return true;
 }
 

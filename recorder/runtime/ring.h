@@ -39,6 +39,10 @@ enum kind {
     KIND_ATOMIC_LOAD,
     KIND_ATOMIC_STORE,
     KIND_FENCE,
+    /* where a lock lies: `value` is the address, `length` its number */
+    KIND_LOCK_PLACE,
+    /* a block that was allocated before there was a second thread, which is no event of the trace */
+    KIND_EARLY_BLOCK,
     /* the trace ends here; `value` says why */
     KIND_STOP,
 };

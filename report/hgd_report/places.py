@@ -1,0 +1,132 @@
+"""Places in the source: from the addresses of code that `hgd-record --pcs` wrote to functions, files and lines, and from addresses of
+memory to global variables. It asks binutils: readelf, addr2line, nm."""
+import bisect
+import os
+import re
+import subprocess
+
+
+class OtherRun(Exception):
+    pass
+
+
+class Codes:
+    """The addresses of the events asked for, and where the program's files lay in memory."""
+
+    def __init__(self, path, wanted):
+        self.address, self.maps, self.run = {}, [], None
+        number = 0
+        with open(path) as lines:
+            for line in lines:
+                if line.startswith("run "):
+                    self.run = line.split()[1]
+                    continue
+                if line.startswith("map "):
+                    low, high, offset, name = line.split(maxsplit=4)[1:]
+                    self.maps.append((int(low, 0), int(high, 0), int(offset, 0), name.rstrip("\n")))
+                    continue
+                number += 1
+                if number in wanted:
+                    self.address[number] = int(line, 0)
+        if wanted and max(wanted) > number:
+            raise OtherRun(f"{path} has {number} events, and not event {max(wanted)}: it is of another run")
+        self.maps.sort()
+        self.begins = [part[0] for part in self.maps]
+
+    def files(self):
+        return {part[3] for part in self.maps}
+
+    def part(self, address):
+        """The name of the file that lies at an address."""
+        at = bisect.bisect_right(self.begins, address) - 1
+        return self.maps[at][3] if at >= 0 and address < self.maps[at][1] else None
+
+
+class File:
+    """A program or library: from places in memory to the addresses that its own tables have, which are less by `bias`."""
+
+    def __init__(self, path, maps):
+        self.path, self.loads, self.names = path, [], None
+        if not os.path.exists(path):
+            return
+        headers = subprocess.run(["readelf", "-lW", path], capture_output=True, text=True).stdout
+        for words in (line.split() for line in headers.splitlines()):
+            if words and words[0] == "LOAD":
+                self.loads.append((int(words[1], 16), int(words[2], 16), int(words[5], 16)))
+        self.bias = self.find_bias([part for part in maps if part[3] == path])
+
+    def find_bias(self, parts):
+        for low, _, place, _ in parts:
+            for offset, address, _ in self.loads:
+                if place == offset & ~0xFFF:
+                    return low - (address & ~0xFFF)
+        self.loads = []
+        return 0
+
+    def own_address(self, address):
+        own = address - self.bias if self.loads else 0
+        return own if any(begin <= own < begin + size for _, begin, size in self.loads) else None
+
+    def source_lines(self, addresses):
+        """`function at file:line` of each address."""
+        words = ["addr2line", "-f", "-C", "-e", self.path]
+        # the address behind a call is that of the next line: one byte before it is the call
+        given = "".join(f"{address - 1:#x}\n" for address in addresses)
+        answer = subprocess.run(words, input=given, capture_output=True, text=True).stdout.splitlines()
+        pairs = zip(answer[::2], answer[1::2])
+        return [f"{function} at {re.sub(r' .discriminator.*', '', line)}" for function, line in pairs]
+
+    def variable(self, address):
+        """The global variable that has a byte of the word at an address, and how far behind its beginning the word is."""
+        if self.names is None:
+            table = subprocess.run(["nm", "-nSC", "--defined-only", self.path], capture_output=True, text=True).stdout
+            rows = (line.split(maxsplit=3) for line in table.splitlines())
+            self.names = [(int(row[0], 16), int(row[1], 16), row[3]) for row in rows if len(row) == 4 and row[2] in "bBdDvVuS"]
+        at = bisect.bisect_right(self.names, (address, 0, "")) - 1
+        for begin, size, name in self.names[max(at, 0) : at + 2]:
+            if begin < address + 4 and address < begin + size:
+                return name if address <= begin else f"{name}+{address - begin}"
+        return None
+
+
+class Places:
+    def __init__(self, codes):
+        self.codes, self.files = codes, {}
+
+    def file(self, name):
+        if name not in self.files:
+            self.files[name] = File(name, self.codes.maps)
+        return self.files[name]
+
+    def of_events(self):
+        """The place of each event, by its number."""
+        by_file, places = {}, {}
+        for number, address in self.codes.address.items():
+            name = self.codes.part(address)
+            own = self.file(name).own_address(address) if name else None
+            if own is None:
+                places[number] = "no source line" if address else "the recorder's own"
+            else:
+                by_file.setdefault(name, []).append((number, own))
+        for name, pairs in by_file.items():
+            lines = self.file(name).source_lines([own for _, own in pairs])
+            for (number, own), line in zip(pairs, lines):
+                places[number] = f"{name}+{own:#x}" if "??" in line else line
+        return places
+
+    def variable(self, word):
+        for name in sorted(self.codes.files()):
+            own = self.file(name).own_address(word)
+            found = self.file(name).variable(own) if own is not None else None
+            if found:
+                return found
+        return None
+
+
+def run_of(path):
+    """The number of the run that a trace is of, where its first lines tell it."""
+    with open(path) as lines:
+        for line, _ in zip(lines, range(100)):
+            if line.startswith("# run "):
+                return line.split()[2]
+    return None
