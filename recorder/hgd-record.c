@@ -48,6 +48,8 @@ static const char HELP[] =
     "                        but no file with --check or --feed)\n"
     "      --check           the trace goes to `hgd check`, whose lines are printed, and with -o FILE to that too\n"
     "      --feed DIR SOURCE the same with `hgd feed DIR SOURCE`\n"
+    "      --report          at the end `hgd-report` prints the races, by the trace and its codes, which are kept (default:\n"
+    "                        PROGRAM's name with .codes)\n"
     "      --hgd PATH        the `hgd` of these (default: $HGD, or `hgd` of the path)\n"
     "  -p, --pcs FILE        also writes the code address of each event to FILE, for `where` and `hgd-report`\n"
     "  -n, --no-filter       also writes accesses that cannot change anything, and those made while all other threads\n"
@@ -68,7 +70,7 @@ struct options {
     const char *directory, *source;
     const char *pcs;
     const char *unfiltered;
-    bool check, filter, comments, quiet;
+    bool check, report, filter, comments, quiet;
     uint64_t limit;
     char **program;
 };
@@ -786,6 +788,29 @@ static void wait_for_detector(void)
     detector_status = WIFSIGNALED(status) ? STATUS_SIGNAL + WTERMSIG(status) : WEXITSTATUS(status);
 }
 
+/* hgd-report lies beside this program. */
+static int report_races(const struct options *options)
+{
+    char path[4096];
+    ssize_t used = readlink("/proc/self/exe", path, sizeof path - sizeof "hgd-report");
+    char *name = used > 0 ? memrchr(path, '/', (size_t)used) : NULL;
+    strcpy(name ? name + 1 : path, "hgd-report");
+    pid_t reporter = fork();
+    if (reporter < 0) {
+        tell("no process for hgd-report: %s", strerror(errno));
+        return STATUS_FAILED;
+    }
+    if (reporter == 0) {
+        reset_signals();
+        char *words[] = {"hgd-report", "--hgd", (char *)options->hgd, (char *)options->output, (char *)options->pcs, NULL};
+        run(path, words);
+    }
+    int status = 0;
+    while (waitpid(reporter, &status, 0) < 0 && errno == EINTR) {
+    }
+    return WIFSIGNALED(status) ? STATUS_SIGNAL + WTERMSIG(status) : WEXITSTATUS(status);
+}
+
 static int final_status(void)
 {
     if (!atomic_load(&ring->owner) && program_status == 0) {
@@ -811,7 +836,7 @@ static uint64_t read_limit(const char *text)
     return number;
 }
 
-enum { OPTION_CHECK = 256, OPTION_FEED, OPTION_HGD, OPTION_NO_COMMENTS, OPTION_UNFILTERED };
+enum { OPTION_CHECK = 256, OPTION_FEED, OPTION_REPORT, OPTION_HGD, OPTION_NO_COMMENTS, OPTION_UNFILTERED };
 
 static void take_option(struct options *options, int option, int number, char **words)
 {
@@ -844,6 +869,9 @@ static void take_option(struct options *options, int option, int number, char **
         }
         options->source = words[optind++];
         break;
+    case OPTION_REPORT:
+        options->report = true;
+        break;
     case OPTION_HGD:
         options->hgd = optarg;
         break;
@@ -858,11 +886,13 @@ static void take_option(struct options *options, int option, int number, char **
     }
 }
 
-static const char *default_output(const char *name)
+static const char *default_name(const char *program_name, const char *ending)
 {
-    static char made[4096];
-    const char *last = strrchr(name, '/');
-    snprintf(made, sizeof made, "%s.trace", last ? last + 1 : name);
+    char *made;
+    const char *last = strrchr(program_name, '/');
+    if (asprintf(&made, "%s%s", last ? last + 1 : program_name, ending) < 0) {
+        fail(STATUS_FAILED, "no memory for a name");
+    }
     return made;
 }
 
@@ -871,6 +901,7 @@ static struct options read_options(int number, char **words)
     static const struct option known[] = {
         {"output", required_argument, NULL, 'o'},       {"check", no_argument, NULL, OPTION_CHECK},
         {"feed", required_argument, NULL, OPTION_FEED}, {"hgd", required_argument, NULL, OPTION_HGD},
+        {"report", no_argument, NULL, OPTION_REPORT},
         {"pcs", required_argument, NULL, 'p'},          {"no-filter", no_argument, NULL, 'n'},
         {"limit", required_argument, NULL, 'l'},        {"no-comments", no_argument, NULL, OPTION_NO_COMMENTS},
         {"unfiltered", required_argument, NULL, OPTION_UNFILTERED},
@@ -894,7 +925,11 @@ static struct options read_options(int number, char **words)
     }
     options.program = words + optind;
     options.hgd = options.hgd && *options.hgd ? options.hgd : "hgd";
-    options.output = options.output || is_read_along ? options.output : default_output(options.program[0]);
+    if (options.report && (is_read_along || (options.output && strcmp(options.output, "-") == 0))) {
+        fail(STATUS_FAILED, "--report reads a file at the end: it goes without --check and --feed");
+    }
+    options.output = options.output || is_read_along ? options.output : default_name(options.program[0], ".trace");
+    options.pcs = options.pcs || !options.report ? options.pcs : default_name(options.program[0], ".codes");
     return options;
 }
 
@@ -926,5 +961,10 @@ int main(int number, char **words)
     } else if (!is_quiet) {
         tell_end();
     }
-    return final_status();
+    int status = final_status();
+    if (options.report && atomic_load(&ring->owner) && !trace.failed && !codes.failed) {
+        int reported = report_races(&options);
+        return status ? status : reported;
+    }
+    return status;
 }

@@ -22,7 +22,7 @@ int RunningOnValgrind(void);
 static int counter, statistics[4], ignored_word, shared;
 static _Atomic int own_lock, flag;
 /* what the lock's own code touches */
-static int turns;
+static int held_by;
 
 static void take_own_lock(void)
 {
@@ -30,14 +30,14 @@ static void take_own_lock(void)
     while (atomic_exchange(&own_lock, 1)) {
         sched_yield();
     }
-    turns++;
+    held_by++;
     __tsan_mutex_post_lock(&own_lock, 0, 0);
 }
 
 static void let_own_lock_go(void)
 {
     __tsan_mutex_pre_unlock(&own_lock, 0);
-    turns--;
+    held_by--;
     atomic_store(&own_lock, 0);
     __tsan_mutex_post_unlock(&own_lock, 0);
 }

@@ -4,10 +4,10 @@
 #include "threads.h"
 
 typedef unsigned __int128 uint128;
-unsigned __int128 __tsan_atomic128_load(const volatile uint128 *atomic, int order);
-void __tsan_atomic128_store(volatile uint128 *atomic, uint128 value, int order);
-unsigned __int128 __tsan_atomic128_fetch_add(volatile uint128 *atomic, uint128 value, int order);
-int __tsan_atomic128_compare_exchange_strong(volatile uint128 *atomic, uint128 *expected, uint128 value, int order, int failure);
+uint128 __tsan_atomic128_load(const volatile void *atomic, int order);
+void __tsan_atomic128_store(volatile void *atomic, uint128 value, int order);
+uint128 __tsan_atomic128_fetch_add(volatile void *atomic, uint128 value, int order);
+_Bool __tsan_atomic128_compare_exchange_strong(volatile void *atomic, void *expected, uint128 value, int order, int failure);
 
 static uint128 counter;
 
