@@ -13,7 +13,7 @@ use Rattle.hg_model.proofs.Graph.{rising_append}
 use Rattle.hg_model.proofs.Owners.{present_push}
 use Rattle.hg_graph.specs.Graph.{names}
 use Rattle.hg_graph.specs.Clocks.{HasRoom}
-use Rattle.hg_graph.specs.Kept.{IsInLine, IsKept, IsUnmarked}
+use Rattle.hg_graph.specs.Kept.{IsInLine, IsKept, IsUnvisited}
 use Rattle.hg_graph.specs.Restoring.{AreSegments, stands_behind, has_thread, are_predecessors, has_former, former}
 use Rattle.hg_graph.proofs.Opening.{in_line_push}
 use Rattle.hg_graph.proofs.Sweeping.{contains_from}
@@ -121,9 +121,9 @@ pub whole_table : (segments : List Segment) (k : ℕ) (table : List ℕ) → IsT
 whole_table segments k table w le t lt = w.each t lt ∙ ap (λ ss. present ss t) (take_all k segments le)
 
 -- the fields of a graph that was made of its segments
-pub restored : (segments : List Segment) (table : List ℕ) (marks : List Bool) → 0 < length segments → length segments ≤ 1048576 → AreSegments segments → length table ≡ 1024 → ((t : ℕ) → t < 1024 → get_or table t 0 ≡ present segments t) → length marks ≡ length segments → IsUnmarked marks →
-    IsKept segments table marks 0 0 true
-restored segments table marks some few lawful rows each len clear =
+pub restored : (segments : List Segment) (table : List ℕ) (visited : List Bool) → 0 < length segments → length segments ≤ 1048576 → AreSegments segments → length table ≡ 1024 → ((t : ℕ) → t < 1024 → get_or table t 0 ≡ present segments t) → length visited ≡ length segments → IsUnvisited visited →
+    IsKept segments table visited 0 0 true
+restored segments table visited some few lawful rows each len clear =
     record {
       some = some;
       few = few;
@@ -131,8 +131,8 @@ restored segments table marks some few lawful rows each len clear =
       in_line = lawful_in_line segments lawful;
       threads = rows;
       present = each;
-      marks_len = len;
-      unmarked = clear;
+      visited_len = len;
+      unvisited = clear;
       to_in = some;
       answer_is = refl;
     }

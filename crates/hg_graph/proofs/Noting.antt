@@ -42,20 +42,20 @@ none_noted segments entries to rising empty =
       stems = λ u some. let e = empty u in absurd (omega arith);
     }
 
--- a place without a mark reaches nothing
-pub note_passed : (segments : List Segment) (marks : List Bool) (entries : List ℕ) (to n at : ℕ) → IsRising segments → Swept segments marks 0 to n → Noted segments entries to n → n ≡ at + 1 → get_or marks at false ≡ false → Noted segments entries to at
-note_passed segments marks entries to n at rising w noted is no_mark =
+-- a place that is not visited reaches nothing
+pub note_passed : (segments : List Segment) (visited : List Bool) (entries : List ℕ) (to n at : ℕ) → IsRising segments → Swept segments visited 0 to n → Noted segments entries to n → n ≡ at + 1 → get_or visited at false ≡ false → Noted segments entries to at
+note_passed segments visited entries to n at rising w noted is unseen =
     record {
-      each = λ s le h. ⊎_elim (λ same. absurd (unmarked (subst (λ m. reaches segments m to ≡ true) same h))) (λ other. noted.each s (omega arith) h) (cases_eq s at);
+      each = λ s le h. ⊎_elim (λ same. absurd (unvisited (subst (λ m. reaches segments m to ≡ true) same h))) (λ other. noted.each s (omega arith) h) (cases_eq s at);
       stems = noted.stems;
     }
   where
-    unmarked : reaches segments at to ≡ true → ⊥
-    unmarked h =
+    unvisited : reaches segments at to ≡ true → ⊥
+    unvisited h =
         let found = w.complete at (omega arith) (omega arith) h in
         let low : at ≤ found.0 = reaches_le segments rising at found.0 found.2 in
         ⊎_elim
-        (λ less. let here : found.0 ≡ at = omega arith in false≢true (sym no_mark ∙ ap (λ m. get_or marks m false) (sym here) ∙ found.1))
+        (λ less. let here : found.0 ≡ at = omega arith in false≢true (sym unseen ∙ ap (λ m. get_or visited m false) (sym here) ∙ found.1))
         (λ more. false≢true (sym (w.above found.0 more) ∙ found.1))
         (cases_lt found.0 n)
 

@@ -3,11 +3,11 @@
 ghost use Rattle.std.specs.Prelude.{◌≡◌, ◌<◌, ◌≤◌, ℕ, length, IfOk};
 ghost use Rattle.hg_model.specs.Segments.{thread_at};
 ghost use Rattle.hg_graph.specs.Clocks.{AreClocks, HasRoom, HaveRoom, IsClock};
-ghost use Rattle.hg_graph.specs.Kept.{ArePresent, IsUnmarked};
+ghost use Rattle.hg_graph.specs.Kept.{ArePresent, IsUnvisited};
 ghost use Rattle.hg_graph.specs.Restoring.{AreSegments};
 
 use crate::clock::Clock;
-use crate::sweep::mark;
+use crate::sweep::visit;
 use hg_model::limits::{MOST_SEGMENTS, THREAD_NUMBERS};
 use hg_model::segment::Segment;
 use std::alloc::{AllocError, Global};
@@ -48,11 +48,11 @@ pub(crate) fn empty_clocks(
     Ok(clocks)
 }
 
-/// Makes each empty clock that of the present segment of its thread. The marks are clear before and after.
+/// Makes each empty clock that of the present segment of its thread. No segment is visited before and after.
 pub(crate) fn fill_clocks(
     segments: &[Segment],
     present: &[u32],
-    marks: &mut [bool],
+    visited: &mut [bool],
     clocks: &mut [Clock],
 )
     requires some { 0 < length segments.now }
@@ -60,14 +60,14 @@ pub(crate) fn fill_clocks(
     requires lawful { AreSegments segments.now }
     requires rows { length present.now ≡ THREAD_NUMBERS }
     requires each { ArePresent segments.now present.now }
-    requires marks { length marks.old ≡ length segments.now }
-    requires clear { IsUnmarked marks.old }
+    requires visited { length visited.old ≡ length segments.now }
+    requires clear { IsUnvisited visited.old }
     requires room { HaveRoom segments.now clocks.old }
     ensures clocks { AreClocks segments.now clocks.new }
-    ensures clear { IsUnmarked marks.new }
+    ensures clear { IsUnvisited visited.new }
 {
     for t in 0..THREAD_NUMBERS {
-        note(segments, marks, present[t] as usize, &mut clocks[t]);
+        note(segments, visited, present[t] as usize, &mut clocks[t]);
     }
 }
 
@@ -83,27 +83,27 @@ fn named_threads(segments: &[Segment]) -> usize
     threads
 }
 
-/// Walks backwards from a segment over all that reach it, and gives the empty clock their entries. The marks are clear
-/// before and after.
-fn note(segments: &[Segment], marks: &mut [bool], to: usize, clock: &mut Clock)
+/// Walks backwards from a segment over all that reach it, and gives the empty clock their entries. No segment is
+/// visited before and after.
+fn note(segments: &[Segment], visited: &mut [bool], to: usize, clock: &mut Clock)
     requires within { to < length segments.now }
     requires few { length segments.now ≤ MOST_SEGMENTS }
     requires lawful { AreSegments segments.now }
     requires room { HasRoom segments.now to clock.old }
-    requires marks { length marks.old ≡ length segments.now }
-    requires clear { IsUnmarked marks.old }
+    requires visited { length visited.old ≡ length segments.now }
+    requires clear { IsUnvisited visited.old }
     ensures clock { IsClock segments.now to clock.new }
-    ensures clear { IsUnmarked marks.new }
+    ensures clear { IsUnvisited visited.new }
 {
-    marks[to] = true;
+    visited[to] = true;
     let mut left = to + 1;
     while left > 0 {
         left -= 1;
-        if marks[left] {
-            marks[left] = false;
+        if visited[left] {
+            visited[left] = false;
             let segment = &segments[left];
             clock.raise(usize::from(segment.thread), left as u32 + 1);
-            mark(marks, segment.before.as_slice(), 0);
+            visit(visited, segment.before.as_slice(), 0);
         }
     }
 }

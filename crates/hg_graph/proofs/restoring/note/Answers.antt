@@ -10,13 +10,13 @@ use Rattle.hg_graph.proofs.restoring.note.Goals as goal
 
 pub loop-left-init : goal.loop-left-init
 loop-left-init c = (
-  begun c.args.segments.now c.args.marks.now 0 c.args.to (omega arith) c.requires.within c.requires.marks c.requires.clear,
+  begun c.args.segments.now c.args.visited.now 0 c.args.to (omega arith) c.requires.within c.requires.visited c.requires.clear,
   none_noted c.args.segments.now c.args.clock.now c.args.to (lawful_rising c.args.segments.now c.requires.lawful) c.requires.room.empty,
   refl,
 )
 
-pub mark-requires : goal.mark-requires
-mark-requires c = λ i some.
+pub visit-requires : goal.visit-requires
+visit-requires c = λ i some.
     let w = c.loop-left.invariant.0 in
     let high = w.high in
     let len = w.len in
@@ -24,10 +24,10 @@ mark-requires c = λ i some.
     let more = c.loop-left-test.true in
     let is = before_read c.args.segments.now (c.loop-left.left - 1) _ _ (omega arith) (c.as_slice.ensures ∙ ap (λ (s : Segment). s.before) c.index-segments-left.is) in
     let less = member_below c.args.segments.now (lawful_rising c.args.segments.now c.requires.lawful) i (c.loop-left.left - 1) (contains_from _ i (ap (list_any (λ x. nat_eq x i)) (sym is) ∙ some)) in
-    omega (arith, length-set c.loop-left.marks (c.loop-left.left - 1) false)
+    omega (arith, length-set c.loop-left.visited (c.loop-left.left - 1) false)
 
-pub loop-left-preserved-then-marks-left : goal.loop-left-preserved-then-marks-left
-loop-left-preserved-then-marks-left c =
+pub loop-left-preserved-then-visited-left : goal.loop-left-preserved-then-visited-left
+loop-left-preserved-then-visited-left c =
     let segments = c.args.segments.now in
     let w = c.loop-left.invariant.0 in
     let noted = c.loop-left.invariant.1 in
@@ -40,9 +40,9 @@ loop-left-preserved-then-marks-left c =
     let is = before_read segments at _ _ (omega arith) (c.as_slice.ensures ∙ ap (λ (s : Segment). s.before) c.index-segments-left.is) in
     let of_it : c.from.result ≡ thread_at segments at = thread_read segments at _ _ (omega arith) (c.from.ensures ∙ ap (λ (s : Segment). s.thread) c.index-segments-left.is) in
     let small = c.requires.room.threads at (omega arith) in
-    let reached = w.sound at c.if-marks-left.true in (
-      handed segments c.loop-left.marks _ 0 c.args.to c.loop-left.left at (lawful_rising segments c.requires.lawful) w next (omega arith) c.if-marks-left.true
-          (record { len = c.mark.auto.marks; each = λ i. c.mark.ensures i ∙ ap (λ xs. get_or (set c.loop-left.marks at false) i false || (nat_le 0 i && list_any (λ x. nat_eq x i) xs)) is }),
+    let reached = w.sound at c.if-visited-left.true in (
+      handed segments c.loop-left.visited _ 0 c.args.to c.loop-left.left at (lawful_rising segments c.requires.lawful) w next (omega arith) c.if-visited-left.true
+          (record { len = c.visit.auto.visited; each = λ i. c.visit.ensures i ∙ ap (λ xs. get_or (set c.loop-left.visited at false) i false || (nat_le 0 i && list_any (λ x. nat_eq x i) xs)) is }),
       subst (λ entries. Noted segments entries c.args.to at) (sym c.raise.ensures) (note_raised segments c.loop-left.clock c.args.to c.loop-left.left at c.from.result noted next reached of_it (omega arith)),
       ap length c.raise.ensures ∙ length-set c.loop-left.clock c.from.result (max (get_or c.loop-left.clock c.from.result 0) (at + 1)) ∙ same_len,
     )
@@ -52,8 +52,8 @@ loop-left-preserved c =
     let w = c.loop-left.invariant.0 in
     let more = c.loop-left-test.true in
     let next : c.loop-left.left ≡ c.loop-left.left - 1 + 1 = omega arith in (
-      passed c.args.segments.now c.loop-left.marks 0 c.args.to c.loop-left.left (c.loop-left.left - 1) w next c.if-marks-left.false,
-      note_passed c.args.segments.now c.loop-left.marks c.loop-left.clock c.args.to c.loop-left.left (c.loop-left.left - 1) (lawful_rising c.args.segments.now c.requires.lawful) w c.loop-left.invariant.1 next c.if-marks-left.false,
+      passed c.args.segments.now c.loop-left.visited 0 c.args.to c.loop-left.left (c.loop-left.left - 1) w next c.if-visited-left.false,
+      note_passed c.args.segments.now c.loop-left.visited c.loop-left.clock c.args.to c.loop-left.left (c.loop-left.left - 1) (lawful_rising c.args.segments.now c.requires.lawful) w c.loop-left.invariant.1 next c.if-visited-left.false,
       c.loop-left.invariant.2,
     )
 
