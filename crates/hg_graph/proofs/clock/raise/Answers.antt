@@ -1,5 +1,5 @@
 use Rattle.std.proofs.Common.{arith}
-use Rattle.hg_graph.proofs.Clocking.{raised_all, raised_more}
+use Rattle.hg_graph.proofs.Clocking.{raised_more}
 use Rattle.hg_graph.proofs.clock.raise.Goals as goal
 
 pub loop-u-preserved : goal.loop-u-preserved
