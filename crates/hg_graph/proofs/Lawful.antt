@@ -6,6 +6,7 @@ use Rattle.std.proofs.lemmas.List.{take_more, take_all, length-take-le, length-r
 use Rattle.std.proofs.lemmas.Option.{slice_get-get_or}
 use Rattle.std.specs.List.{AllByRecursion}
 use Rattle.hg_model.specs.declared.segment.Segment.{Segment}
+use Rattle.hg_model.specs.Restoring.{marks_lawfully}
 use Rattle.hg_model.specs.Segments.{of_thread, thread_at, present}
 use Rattle.hg_model.specs.Paths.{IsRising}
 use Rattle.hg_model.proofs.Graph.{rising_append}
@@ -47,13 +48,14 @@ small n t h =
 
 pub standing : (earlier : List Segment) (s : Segment) → stands_behind earlier s ≡ true → Standing earlier s
 standing earlier s h =
-    let parts = and_parts (has_thread (length earlier) s.thread) (are_predecessors (length earlier) s.before && has_former (former earlier s.thread) s.before) h in
-    let others = and_parts (are_predecessors (length earlier) s.before) (has_former (former earlier s.thread) s.before) parts.1 in
+    let parts = and_parts (has_thread (length earlier) s.thread) (are_predecessors (length earlier) s.before && (has_former (former earlier s.thread) s.before && marks_lawfully earlier s.mark s)) h in
+    let others = and_parts (are_predecessors (length earlier) s.before) (has_former (former earlier s.thread) s.before && marks_lawfully earlier s.mark s) parts.1 in
+    let last = and_parts (has_former (former earlier s.thread) s.before) (marks_lawfully earlier s.mark s) others.1 in
     record {
       thread = (small (length earlier) s.thread parts.0).0;
       first = (small (length earlier) s.thread parts.0).1;
       below = below_it (length earlier) s.before others.0;
-      own = own_former earlier s.thread s.before others.1;
+      own = own_former earlier s.thread s.before last.0;
     }
 
 stands_at : (segments : List Segment) → AreSegments segments → (k : ℕ) → k < length segments → Standing (take k segments) (get_or segments k (of_thread 0 []))
@@ -81,7 +83,7 @@ ordered_upto segments lawful (suc k) le =
     let stands = stands_at segments lawful k (omega arith) in
     let more : k + 1 ≡ suc k = omega arith in
     subst IsOrdered (sym (take_more segments k (of_thread 0 []) (omega arith)) ∙ ap (λ n. take n segments) more)
-    (rising_append (take k segments) (s ∷ []) so_far.0 (stands.below, tt), in_line_push (take k segments) s.thread s.before so_far.0 stands.below so_far.1 stands.own)
+    (rising_append (take k segments) (s ∷ []) so_far.0 (stands.below, tt), in_line_push (take k segments) s so_far.0 stands.below so_far.1 stands.own)
 
 ordered : (segments : List Segment) → AreSegments segments → IsOrdered segments
 ordered segments lawful = subst IsOrdered (take_all (length segments) segments (omega arith)) (ordered_upto segments lawful (length segments) (omega arith))

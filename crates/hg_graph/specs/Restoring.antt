@@ -4,6 +4,7 @@ use Rattle.std.specs.List.{list_any}
 use Rattle.hg_model.specs.declared.limits.TheConstants.{THREAD_NUMBERS}
 use Rattle.hg_model.specs.Segments.{present}
 use Rattle.hg_model.specs.declared.segment.Segment.{Segment}
+use Rattle.hg_model.specs.Restoring.{marks_lawfully}
 use Rattle.hg_graph.specs.Graph.{names}
 
 -- the last of these segments that is of thread t, where there is one
@@ -26,9 +27,10 @@ has_former (Some s) before = list_any (λ k. k == s) before
 abbrev pub has_thread : ℕ → ℕ → Bool
 has_thread n t = nat_lt t (if n == 0 then 1 else THREAD_NUMBERS)
 
--- A segment may come after these: its predecessors are among them, and have the former segment of its thread, if there is one.
+-- A segment may come after these: its predecessors are among them, and have the former segment of its thread, if there is one. Its mark
+-- may stand there.
 abbrev pub stands_behind : List Segment → Segment → Bool
-stands_behind earlier s = has_thread (length earlier) s.thread && (are_predecessors (length earlier) s.before && has_former (former earlier s.thread) s.before)
+stands_behind earlier s = has_thread (length earlier) s.thread && (are_predecessors (length earlier) s.before && (has_former (former earlier s.thread) s.before && marks_lawfully earlier s.mark s))
 
 -- Each segment may come after those before it.
 abbrev pub AreSegments : List Segment → Type 0
