@@ -1,5 +1,5 @@
 -- The next checkpoint, once its pages are durable and its root is opened.
-use Rattle.std.proofs.Common.{◌≡◌, ◌+◌, ◌*◌, ◌≤◌, ℕ, List, ◌++◌, length, get_or, Option, Some, None, refl, sym, ap, subst, arith, length-append}
+use Rattle.std.proofs.Common.{◌≡◌, ◌+◌, ◌*◌, ◌≤◌, ℕ, List, ◌++◌, length, get_or, Option, Some, None, inl, refl, sym, ap, subst, arith, length-append}
 use Rattle.std.specs.Prelude.{IfSome}
 use Rattle.hg_disk.specs.declared.disk.Disk as disk
 use Rattle.hg_disk.specs.Laws.{Holds}
@@ -61,7 +61,7 @@ head_with p table h = record {
 
 pub is_root : (now : Option Checkpoint) (p : Parts) (head : List ℕ) (number slots : ℕ) (table : List (ℕ × ℕ)) → IsHead now p head number → IsNameable slots table → IsRoot (head ++ pages_text (pages_of table)) (root_with p table)
 is_root now p head number slots table is nameable = record {
-  text = ap (λ (front : List ℕ). front ++ pages_text (pages_of table)) is.text;
+  spelled = inl (ap (λ (front : List ℕ). front ++ pages_text (pages_of table)) is.text);
   lawful = record { head = head_with p table is.lawful; pages_fit = fit slots table nameable; pages = have_slots slots table nameable };
 }
 
