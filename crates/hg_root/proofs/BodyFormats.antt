@@ -1,8 +1,8 @@
 -- The parts of a body: what is read is spelled so, and what is spelled so is read.
-use Rattle.std.proofs.Common.{◌≡◌, ◌⊎◌, inl, inr, ℕ, suc, nat_le, ◌^◌, ◌<◌, ◌≤◌, Bool, true, false, cond, eqb, ◌||◌, List, [], ◌∷◌, ◌++◌, length, Some, None, refl, sym, ap, ⊎_elim, ◌∙◌, arith}
+use Rattle.std.proofs.Common.{◌≡◌, ◌⊎◌, inl, inr, ℕ, suc, zero, nat_le, ◌^◌, ◌<◌, ◌≤◌, Bool, true, false, cond, eqb, ◌||◌, List, [], ◌∷◌, ◌++◌, length, Some, None, refl, sym, ap, ⊎_elim, ◌∙◌, arith}
 use Rattle.std.specs.Int.{w16, w32, w64, to_be_bytes}
 use Rattle.std.specs.List.{AllByRecursion}
-use Rattle.std.proofs.lemmas.Bool.{eqb-true, eq-eqb, and_parts, le-leb, leb-true, or_cases, false≢true}
+use Rattle.std.proofs.lemmas.Bool.{eqb-true, eq-eqb, and_parts, le-leb, leb-true, ne_eqb, or_cases, false≢true}
 use Rattle.hg_model.specs.Segments.{present}
 use Rattle.hg_model.specs.declared.segment.Mark.{Mark}
 use Rattle.hg_model.specs.declared.segment.Mark.TheVariants.{Plain, Sent, Got}
@@ -15,15 +15,15 @@ use Rattle.hg_root.specs.Grammar.{LockFits, MarkFits, PageFits, ReportFits, Segm
 use Rattle.hg_root.specs.Lawful.{AreHeld}
 use Rattle.hg_root.specs.declared.form.Form.{Form}
 use Rattle.hg_root.specs.declared.form.Form.TheVariants.{Former, Written}
-use Rattle.hg_root.specs.Reading.{RawThread, alive_at, are_held, before_at, chained, given, is_last, is_thread, kind_at, lock_at, mark_at, mark_code_at, mark_of, members_at, message_at, mode_at, page_at, raw_thread_at, report_at, segment_at, source_at, thread_at}
+use Rattle.hg_root.specs.Reading.{RawThread, alive_at, are_held, before_at, chained, given, is_last, is_thread, kind_at, lock_at, mark_at, mark_code_at, mark_of, members_at, message_at, number_at, mode_at, page_at, raw_thread_at, report_at, segment_at, source_at, thread_at}
 use Rattle.hg_root.proofs.Formats.{IsFormat, as_format, both_format, chained_format, format8, format16, format32, format64, listed_format, given_format, made_format, spelled_format, such_that_format}
 use Rattle.hg_root.proofs.ThreadReading.{held_is, is_held, is_its_last, last_is}
 
 -- a message, or none
-message_text : ℕ → ℕ → List ℕ
+abbrev message_text : ℕ → ℕ → List ℕ
 message_text code k = cond (eqb code 0) [] (to_be_bytes w32 k)
 
-MessageFits : ℕ → ℕ → Type 0
+abbrev MessageFits : ℕ → ℕ → Type 0
 MessageFits code k = cond (eqb code 0) (k ≡ 0) (k < 2 ^ 32)
 
 message_format : (code : ℕ) → IsFormat (message_text code) (message_at code) (MessageFits code)
@@ -33,10 +33,13 @@ message_format code = pick (eqb code 0)
     pick true = given_format 0
     pick false = format32
 
-code_of : Mark → ℕ × ℕ
+abbrev code_of : Mark → ℕ × ℕ
 code_of Plain = (0, 0)
 code_of (Sent k) = (1, k)
 code_of (Got k) = (2, k)
+
+no_code : (n : ℕ) → 3 ≤ n → (eqb n 0 || (eqb n 1 || eqb n 2)) ≡ false
+no_code n more = rw (ne_eqb n 0 (λ e. omega (arith, e, more)), ne_eqb n 1 (λ e. omega (arith, e, more)), ne_eqb n 2 (λ e. omega (arith, e, more))) refl
 
 pub mark_format : IsFormat (mark_text Written) (mark_at Written) MarkFits
 mark_format =
@@ -44,10 +47,10 @@ mark_format =
     (made_format _ _ _ mark_of code_of (chained_format _ _ _ message_text message_at MessageFits (such_that_format _ _ _ (λ b. eqb b 0 || (eqb b 1 || eqb b 2)) format8) message_format) there back) to from) text
   where
     there : (a : ℕ × ℕ) → ((a.0 < 2 ^ 8) × ((eqb a.0 0 || (eqb a.0 1 || eqb a.0 2)) ≡ true)) × MessageFits a.0 a.1 → code_of (mark_of a) ≡ a
-    there (0, k) f = ap (λ (n : ℕ). (0, n)) (sym f.1)
-    there (1, k) f = refl
-    there (2, k) f = refl
-    there (suc (suc (suc n)), k) f = absurd (false≢true f.0.1)
+    there (zero, k) f = ap (λ (n : ℕ). (0, n)) (sym f.1)
+    there (suc zero, k) f = refl
+    there (suc (suc zero), k) f = refl
+    there (suc (suc (suc n)), k) f = absurd (false≢true (sym (no_code (suc (suc (suc n))) (omega arith)) ∙ f.0.1))
 
     back : (m : Mark) → mark_of (code_of m) ≡ m
     back Plain = refl

@@ -214,9 +214,11 @@ fn put_mark(mark: Mark, out: &mut Vec<u8>) -> Result<(), AllocError>
 }
 
 impl Piece for Segment {
-    ghost text = { text.segment_text Form.Written };
+    ghost use Rattle.hg_root.specs.declared.form.Form.TheVariants.{Written};
 
-    ghost reading = { reading.segment_at Form.Written };
+    ghost text = { text.segment_text Written };
+
+    ghost reading = { reading.segment_at Written };
 
     ghost fits = { text.SegmentFits };
 
