@@ -1,5 +1,5 @@
 -- The predecessors of a segment: none, one or two, each read in its turn.
-use Rattle.std.proofs.Common.{◌≡◌, ℕ, ◌-◌, ◌<◌, true, nat_le, List, [], ◌∷◌, ◌++◌, Option, Some, None, refl, ◌∙◌, arith}
+use Rattle.std.proofs.Common.{◌≡◌, ℕ, true, nat_le, List, [], ◌∷◌, Option, Some, None, refl, ◌∙◌, arith}
 use Rattle.std.specs.Int.{w32}
 use Rattle.hg_root.specs.declared.fault.RootFault.{RootFault}
 use Rattle.hg_root.specs.Reading.{Fails, before_at, byte_at, number_at, times}

@@ -8,7 +8,6 @@ use Rattle.std.proofs.lemmas.List.{nil_from_length}
 use Rattle.std.proofs.lemmas.Option.{slice_get-get_or}
 use Rattle.std.proofs.lemmas.List.Elements.{All-from_recursion, recursion_from_All}
 use Rattle.hg_model.specs.Segments.{present}
-use Rattle.hg_model.specs.declared.segment.Mark.{Mark}
 use Rattle.hg_model.specs.declared.segment.Mark.TheVariants.{Plain}
 use Rattle.hg_model.specs.declared.segment.Segment.{Segment}
 use Rattle.hg_model.specs.declared.thread.ThreadState.{ThreadState}

@@ -2,7 +2,7 @@
 use Rattle.std.proofs.Common.{◌≡◌, ◌⊎◌, inl, inr, ℕ, suc, zero, nat_le, ◌^◌, ◌<◌, ◌≤◌, Bool, true, false, cond, eqb, ◌||◌, List, [], ◌∷◌, ◌++◌, length, Some, None, refl, sym, ap, ⊎_elim, ◌∙◌, arith}
 use Rattle.std.specs.Int.{w16, w32, w64, to_be_bytes}
 use Rattle.std.specs.List.{AllByRecursion}
-use Rattle.std.proofs.lemmas.Bool.{eqb-true, eq-eqb, and_parts, le-leb, leb-true, ne_eqb, or_cases, false≢true}
+use Rattle.std.proofs.lemmas.Bool.{eqb-true, and_parts, le-leb, leb-true, ne_eqb, or_cases, false≢true}
 use Rattle.hg_model.specs.Segments.{present}
 use Rattle.hg_model.specs.declared.segment.Mark.{Mark}
 use Rattle.hg_model.specs.declared.segment.Mark.TheVariants.{Plain, Sent, Got}
@@ -10,12 +10,12 @@ use Rattle.hg_model.specs.declared.segment.Segment.{Segment}
 use Rattle.hg_model.specs.declared.thread.ThreadState.{ThreadState}
 use Rattle.hg_graph.specs.Graph.{names}
 use Rattle.hg_graph.specs.Restoring.{former}
-use Rattle.hg_root.specs.Body.{BackParts, FrontParts, back_at, form_at, front_at, front_in, header_number, middle_at}
-use Rattle.hg_root.specs.Grammar.{LockFits, MarkFits, PageFits, ReportFits, SegmentFits, SetFits, SourceFits, ThreadFits, few_text, lock_text, many_text, mark_text, page_text, report_text, segment_text, set_text, some_text, source_text, thread_text}
+use Rattle.hg_root.specs.Body.{BackParts, FrontParts, back_at, form_at, front_in, header_number, middle_at}
+use Rattle.hg_root.specs.Grammar.{LockFits, MarkFits, PageFits, ReportFits, SetFits, SourceFits, ThreadFits, few_text, lock_text, many_text, mark_text, page_text, report_text, segment_text, set_text, some_text, source_text, thread_text}
 use Rattle.hg_root.specs.Lawful.{AreHeld}
 use Rattle.hg_root.specs.declared.form.Form.{Form}
 use Rattle.hg_root.specs.declared.form.Form.TheVariants.{Former, Written}
-use Rattle.hg_root.specs.Reading.{RawThread, alive_at, are_held, before_at, chained, given, is_last, is_thread, kind_at, lock_at, mark_at, mark_code_at, mark_of, members_at, message_at, number_at, mode_at, page_at, raw_thread_at, report_at, segment_at, source_at, thread_at}
+use Rattle.hg_root.specs.Reading.{RawThread, alive_at, are_held, chained, given, is_last, is_thread, kind_at, lock_at, mark_at, mark_of, members_at, message_at, number_at, mode_at, page_at, raw_thread_at, report_at, segment_at, source_at, thread_at}
 use Rattle.hg_root.proofs.Formats.{IsFormat, as_format, both_format, chained_format, format8, format16, format32, format64, listed_format, given_format, made_format, spelled_format, such_that_format}
 use Rattle.hg_root.proofs.ThreadReading.{held_is, is_held, is_its_last, last_is}
 

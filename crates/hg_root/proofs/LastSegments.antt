@@ -5,7 +5,6 @@ use Rattle.std.proofs.lemmas.Bool.{and_parts, false≢true, cases_lt, cases_eq, 
 use Rattle.std.proofs.lemmas.Option.{get_or_from_slice_get, slice_get-get_or, slice_get_read, slice_get_within}
 use Rattle.std.proofs.lemmas.List.{take_more, take_all}
 use Rattle.std.proofs.lemmas.List.Folds.{list_any-append}
-use Rattle.hg_model.specs.Messages.{was_received, was_sent}
 use Rattle.hg_model.specs.Restoring.{marks_lawfully}
 use Rattle.hg_model.specs.Segments.{present}
 use Rattle.hg_model.specs.declared.segment.Mark.{Mark}

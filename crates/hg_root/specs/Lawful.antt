@@ -91,3 +91,8 @@ IsSpelled body p = (body ≡ root_text p) ⊎ ((body ≡ former_text p) × All (
 pub record IsRoot (body : List ℕ) (p : Parts) : Type 0 where
   pub spelled : IsSpelled body p
   pub lawful : IsLawful p
+
+-- The body is the one that is written for these parts, which obey the rules.
+pub record IsWritten (body : List ℕ) (p : Parts) : Type 0 where
+  pub text : body ≡ root_text p
+  pub lawful : IsLawful p

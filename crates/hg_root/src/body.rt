@@ -53,11 +53,7 @@ fn some_of<T: Piece + Drop>(alloc: Global, bytes: &[u8]) -> Result<(Vec<T>, &[u8
 }
 
 /// So many segments of the former form.
-fn former_times(
-    alloc: Global,
-    count: u32,
-    bytes: &[u8],
-) -> Result<(Vec<Segment>, &[u8]), RootFault>
+fn former_times(alloc: Global, count: u32, bytes: &[u8]) -> Result<(Vec<Segment>, &[u8]), RootFault>
     ensures { Gives (λ x. (x.0.items, x.1.now)) result (times (segment_at Form.Former) count bytes.now) }
 {
     let mut segments = Vec::new(alloc);
@@ -71,11 +67,7 @@ fn former_times(
 }
 
 /// How many segments there are, and each.
-fn segments_of(
-    alloc: Global,
-    form: Form,
-    bytes: &[u8],
-) -> Result<(Vec<Segment>, &[u8]), RootFault>
+fn segments_of(alloc: Global, form: Form, bytes: &[u8]) -> Result<(Vec<Segment>, &[u8]), RootFault>
     ensures { Gives (λ x. (x.0.items, x.1.now)) result (listed (number_at w32) (segment_at form) bytes.now) }
 {
     let (count, rest) = u32_at(bytes)?;
