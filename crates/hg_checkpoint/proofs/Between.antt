@@ -7,7 +7,7 @@ use Rattle.hg_pool.specs.Maps.{disk_of}
 use Rattle.hg_root.specs.Checkpoints.{HasSlotsOf, root_of}
 use Rattle.hg_checkpoint.specs.Standing.{CallsBetweenKeep}
 use Rattle.hg_root.specs.Grammar.{pages_text}
-use Rattle.hg_root.specs.Lawful.{IsRoot}
+use Rattle.hg_root.specs.Lawful.{IsWritten}
 use Rattle.hg_checkpoint.specs.Tables.{NamesOf, pages_of}
 use Rattle.hg_checkpoint.proofs.Staying.{frozen_slots_stay, slots_stay}
 
@@ -26,7 +26,7 @@ module _ {D : Type 0} (g : disk.Ghosts D) (bytes : (d : D) → IsImage (g.state 
       known = is.known;
     };
     next = λ now next is. record {
-      head = (is.head.0, is.head.1, subst (λ (table : List (ℕ × ℕ)). IsRoot (is.head.0 ++ pages_text (pages_of table)) next.root) (sym (went.sealed_table is.sealed)) is.head.2);
+      head = (is.head.0, is.head.1, subst (λ (table : List (ℕ × ℕ)). IsWritten (is.head.0 ++ pages_text (pages_of table)) next.root) (sym (went.sealed_table is.sealed)) is.head.2);
       sealed = went.sealed is.sealed;
       body = is.body;
       below = is.below;

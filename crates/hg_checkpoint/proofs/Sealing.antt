@@ -1,5 +1,5 @@
 -- The next checkpoint, once its pages are durable and its root is opened.
-use Rattle.std.proofs.Common.{◌≡◌, ◌+◌, ◌*◌, ◌≤◌, ℕ, List, ◌++◌, length, get_or, Option, Some, None, refl, sym, ap, subst, arith, length-append}
+use Rattle.std.proofs.Common.{◌≡◌, ◌+◌, ◌*◌, ◌≤◌, ℕ, List, ◌++◌, length, get_or, Option, Some, None, inl, refl, sym, ap, subst, arith, length-append}
 use Rattle.std.specs.Prelude.{IfSome}
 use Rattle.hg_disk.specs.declared.disk.Disk as disk
 use Rattle.hg_disk.specs.Laws.{Holds}
@@ -13,7 +13,7 @@ use Rattle.hg_pool.specs.Shown.{ShownPool}
 use Rattle.hg_pool.specs.Tables.{IsNameable}
 use Rattle.hg_root.specs.Checkpoints.{Checkpoint, HasPages, HasSlotsOf, LieWithin, root_of}
 use Rattle.hg_root.specs.Grammar.{HeadFits, pages_text}
-use Rattle.hg_root.specs.Lawful.{IsLawfulHead, IsRoot}
+use Rattle.hg_root.specs.Lawful.{IsLawfulHead, IsRoot, IsWritten}
 use Rattle.hg_root.specs.Newest.{IsBelow}
 use Rattle.hg_root.specs.Parts.{Parts}
 use Rattle.hg_contents.specs.Maps.{IsKnownTo, checkpoint_of}
@@ -59,11 +59,15 @@ head_with p table h = record {
   sources = h.sources;
 }
 
-pub is_root : (now : Option Checkpoint) (p : Parts) (head : List ℕ) (number slots : ℕ) (table : List (ℕ × ℕ)) → IsHead now p head number → IsNameable slots table → IsRoot (head ++ pages_text (pages_of table)) (root_with p table)
-is_root now p head number slots table is nameable = record {
+pub is_written : (now : Option Checkpoint) (p : Parts) (head : List ℕ) (number slots : ℕ) (table : List (ℕ × ℕ)) → IsHead now p head number → IsNameable slots table → IsWritten (head ++ pages_text (pages_of table)) (root_with p table)
+is_written now p head number slots table is nameable = record {
   text = ap (λ (front : List ℕ). front ++ pages_text (pages_of table)) is.text;
   lawful = record { head = head_with p table is.lawful; pages_fit = fit slots table nameable; pages = have_slots slots table nameable };
 }
+
+-- a body that is written is a root's
+pub as_root : (body : List ℕ) (p : Parts) → IsWritten body p → IsRoot body p
+as_root body p is = record { spelled = inl is.text; lawful = is.lawful }
 
 pub below_with : (root : Option Parts) (p : Parts) (table : List (ℕ × ℕ)) → IsBelow root (Some p) → IsBelow root (Some (root_with p table))
 below_with None p table is = tt

@@ -9,7 +9,7 @@ use Rattle.hg_pool.specs.Maps.{disk_of, frozen}
 use Rattle.hg_pool.specs.Shown.{ShownPool}
 use Rattle.hg_root.specs.Checkpoints.{Checkpoint, HasSlotsOf, root_of}
 use Rattle.hg_root.specs.Grammar.{head_text, pages_text}
-use Rattle.hg_root.specs.Lawful.{IsLawfulHead, IsRoot}
+use Rattle.hg_root.specs.Lawful.{IsLawfulHead, IsWritten}
 use Rattle.hg_root.specs.Newest.{IsBelow, IsNewest}
 use Rattle.hg_root.specs.Pairs as pairs
 use Rattle.hg_root.specs.Pairs.{IsPrepared, first_of, second_of}
@@ -59,11 +59,11 @@ module _ {D : Type 0} (g : disk.Ghosts D) where
   IsDraft c pool now parts cells = IsDraftOf c.head c.next pool now parts cells
 
   -- The next checkpoint once its pages are durable: the frozen map is sealed, each image of the slots has the pages, and
-  -- the head with the frozen table spells the root. In Written the body spells it too.
+  -- the head with the frozen table is the body that is written for the root. In Written that body is there.
   pub record IsNextOf (phase : Phase) (head_in : Option (List ℕ)) (root_body : List ℕ) (next_number : ℕ) (pool : ShownPool D) (now : Option Checkpoint) (next : Checkpoint) : Type 0 where
-    pub head : (head : List ℕ) × (head_in ≡ Some head) × IsRoot (head ++ pages_text (pages_of pool.frozen)) next.root
+    pub head : (head : List ℕ) × (head_in ≡ Some head) × IsWritten (head ++ pages_text (pages_of pool.frozen)) next.root
     pub sealed : IsTrue pool.is_sealed
-    pub body : phase ≡ Written → IsRoot root_body next.root
+    pub body : phase ≡ Written → IsWritten root_body next.root
     pub below : IsBelow (root_of now) (Some next.root)
     pub number : next_number ≡ next.root.number
     pub slots : Leaves (HasSlotsOf (Some next) (root_of now)) (g.state (disk_of pool))

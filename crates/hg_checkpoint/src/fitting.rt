@@ -8,7 +8,7 @@ ghost use Rattle.hg_checkpoint.specs.Capturing.{IsNumbered};
 use hg_cells::KeptReport;
 use hg_model::held::HeldLock;
 use hg_model::limits::THREAD_NUMBERS;
-use hg_model::segment::Segment;
+use hg_model::segment::{Mark, Segment};
 use hg_model::thread::ThreadState;
 use hg_root::SourceCount;
 use hg_sets::SetTable;
@@ -52,12 +52,21 @@ fn are_members(members: &[u16]) -> bool
     members.len() < COUNTS
 }
 
+// A message has a spelling, as each number of four bytes.
+fn is_spelled(mark: Mark) -> bool
+    ensures { IsTrue result ↔ text.MarkFits mark }
+{
+    match mark {
+        Mark::Plain | Mark::Sent(_) | Mark::Got(_) => true,
+    }
+}
+
 impl Part for Segment {
     ghost fits = { text.SegmentFits };
 
     fn has_spelling(&self) -> bool {
         let _thread = self.thread;
-        are_few(self.before.as_slice())
+        is_spelled(self.mark) && are_few(self.before.as_slice())
     }
 }
 

@@ -8,7 +8,7 @@ use Rattle.hg_sets.specs.Interning.{AreSets}
 use Rattle.hg_detect.specs.Shown.{ShownDetector, content}
 use Rattle.hg_root.specs.declared.parts.SourceCount.{SourceCount}
 use Rattle.hg_root.specs.Checking.{last_number}
-use Rattle.hg_root.specs.Grammar.{LockFits, SetFits}
+use Rattle.hg_root.specs.Grammar.{LockFits, MarkFits, SetFits}
 use Rattle.hg_root.specs.Heads.{head_parts}
 use Rattle.hg_root.specs.Lawful.{IsLawfulHead}
 use Rattle.hg_contents.specs.Lawful.{IsLawfulContent, sources}
@@ -17,11 +17,12 @@ use Rattle.hg_contents.specs.Lawful.{IsLawfulContent, sources}
 abbrev pub source_counts : (ℕ → ℕ) → List SourceCount
 source_counts last = map (λ s. record { source = s; last = last s }) (filter (λ s. nat_lt 0 (last s)) sources)
 
--- The content is lawful, the reports name sets of the table, and locks and members have two bytes.
+-- The content is lawful, the reports name sets of the table, messages have four bytes, and locks and members have two.
 pub record FitsARoot {W : Type 0} (cell_of : W → ℕ → Cell) (d : ShownDetector W) : Type 0 where
   pub lawful : IsLawfulContent (content cell_of d)
   pub table : AreSets d.sets
   pub members : All SetFits d.sets.sets
+  pub messages : All (λ s. MarkFits s.mark) d.segments
   pub locks : All (λ t. All LockFits t.held) d.parts.threads
   pub named : All (λ r. r.threads < length d.sets.sets) d.kept
 

@@ -1,4 +1,4 @@
--- Contents whose locks and sets have a spelling in a root.
+-- Contents whose messages, locks and sets have a spelling in a root.
 use Rattle.std.specs.Prelude.{◌≡◌, ℕ, List, Option, Some, All}
 use Rattle.std.specs.List.{AllByRecursion}
 use Rattle.hg_model.specs.declared.event.Named.{Named}
@@ -8,10 +8,11 @@ use Rattle.hg_records.specs.Records.{RecordFits}
 use Rattle.hg_sets.specs.Interning.{Table}
 use Rattle.hg_sets.specs.declared.fault.SetFault.{SetFault}
 use Rattle.hg_detect.specs.Making.{Asks, sets_asked, sets_in}
-use Rattle.hg_root.specs.Grammar.{LockFits, SetFits}
+use Rattle.hg_root.specs.Grammar.{LockFits, MarkFits, SetFits}
 
--- the locks that are held, and the sets of each word
+-- the messages of the segments, the locks that are held, and the sets of each word
 pub record HasSpellings (c : Content) : Type 0 where
+  pub messages : All (λ s. MarkFits s.mark) c.segments
   pub locks : All (λ t. All LockFits t.held) c.threads
   pub words : (w : ℕ) → All SetFits (sets_in (c.words w))
 

@@ -33,7 +33,7 @@ IsLawfulWord segments (Exclusive s) = s < segments
 IsLawfulWord segments (SharedRead threads locks) = 2 ≤ length threads
 IsLawfulWord segments (SharedModified threads locks) = 2 ≤ length threads
 
--- The content obeys the rules of a root, its locks and sets have a spelling, its thread sets are sets of thread numbers, and its words are lawful.
+-- The content obeys the rules of a root, its messages, locks and sets have a spelling, its thread sets are sets of thread numbers, and its words are lawful.
 pub record IsLawfulState (c : Content) : Type 0 where
   pub lawful : IsLawfulContent c
   pub spelled : HasSpellings c

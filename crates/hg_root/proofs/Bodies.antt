@@ -1,29 +1,34 @@
 -- A whole body: what is read is a root, and a root is read.
-use Rattle.std.proofs.Common.{◌≡◌, ℕ, zero, suc, ◌+◌, ◌<◌, ◌≤◌, Bool, true, false, cond, eqb, List, [], ◌∷◌, ◌++◌, length, map, filter, Option, Some, None, inl, inr, Result, Ok, Err, refl, sym, ap, subst, ◌∙◌, append_assoc, append-nil, arith}
+use Rattle.std.proofs.Common.{◌≡◌, ℕ, zero, suc, ◌+◌, ◌<◌, ◌≤◌, Bool, true, false, cond, eqb, ◌&&◌, List, [], ◌∷◌, ◌++◌, length, get_or, take, ⊎_elim, map, filter, Option, Some, None, inl, inr, Result, Ok, Err, refl, sym, ap, subst, ◌∙◌, append_assoc, append-nil, arith}
 use Rattle.std.specs.Prelude.{IfOk}
 use Rattle.std.specs.Int.{w64, to_be_bytes}
 use Rattle.std.specs.List.{AllByRecursion, range_with_len}
-use Rattle.std.proofs.lemmas.Bool.{eqb-true}
+use Rattle.std.proofs.lemmas.Bool.{and_parts, eqb-true, false≢true}
 use Rattle.std.proofs.lemmas.List.{nil_from_length}
+use Rattle.std.proofs.lemmas.Option.{slice_get-get_or}
 use Rattle.std.proofs.lemmas.List.Elements.{All-from_recursion, recursion_from_All}
 use Rattle.hg_model.specs.Segments.{present}
+use Rattle.hg_model.specs.declared.segment.Mark.TheVariants.{Plain}
 use Rattle.hg_model.specs.declared.segment.Segment.{Segment}
 use Rattle.hg_model.specs.declared.thread.ThreadState.{ThreadState}
 use Rattle.hg_graph.specs.Graph.{names}
-use Rattle.hg_graph.specs.Restoring.{AreSegments}
+use Rattle.hg_graph.specs.Restoring.{AreSegments, are_predecessors, former, has_former, has_thread, stands_behind}
+use Rattle.hg_model.specs.Restoring.{marks_lawfully}
 use Rattle.hg_model.proofs.Graph.{last_of_lt}
-use Rattle.hg_root.specs.Body.{BackParts, FrontParts, back_at, front_at, header_number, middle_at}
+use Rattle.hg_root.specs.Body.{BackParts, FrontParts, back_at, form_at, front_at, front_in, header_number, middle_at}
 use Rattle.hg_root.specs.Checking.{IsChecked, made_parts}
-use Rattle.hg_root.specs.Grammar.{ThreadFits, header, many_text, pages_text, report_text, root_text, segment_text, set_text, some_text, source_text, thread_text}
+use Rattle.hg_root.specs.Grammar.{MarkFits, SegmentFits, ThreadFits, header, many_text, pages_text, report_text, segment_text, text_in, set_text, some_text, source_text, thread_text}
 use Rattle.hg_root.specs.Fault.{IsDamagedOrMemory}
-use Rattle.hg_root.specs.Lawful.{AreHeld, IsRoot, named_threads}
+use Rattle.hg_root.specs.Lawful.{AreHeld, IsRoot, IsSpelled, named_threads}
 use Rattle.hg_root.specs.Parts.{Parts}
+use Rattle.hg_root.specs.declared.form.Form.{Form}
+use Rattle.hg_root.specs.declared.form.Form.TheVariants.{Former, Written}
 use Rattle.hg_root.specs.declared.fault.RootFault.{RootFault}
 use Rattle.hg_root.specs.declared.fault.RootFault.TheVariants as faults
 use Rattle.hg_root.specs.declared.root.Root.{Root}
-use Rattle.hg_root.specs.Reading.{◌>>=◌, Fails, ended}
+use Rattle.hg_root.specs.Reading.{◌>>=◌, Fails, chained, ended}
 use Rattle.hg_root.specs.Roots.{parts_of}
-use Rattle.hg_root.proofs.BodyFormats.{BackFits, IsThread, back_format, back_text, front_format, front_text, middle_format}
+use Rattle.hg_root.proofs.BodyFormats.{BackFits, FrontFits, IsSegmentIn, IsThread, back_format, back_text, front_text, headed_format, middle_format}
 use Rattle.hg_root.proofs.Formats.{IsBytes, bind_some, some_is}
 
 ended_some : {A : Type 0} (b : Bool) (x y : A) → cond b (Some x) None ≡ Some y → (b ≡ true) × (x ≡ y)
@@ -45,13 +50,61 @@ behind_segments p = some_text (thread_text p.segments) p.threads ++ behind_threa
 regroup : (h a b c t s o r u p : List ℕ) → (h ++ (a ++ (b ++ (c ++ (t ++ (s ++ (o ++ (r ++ u)))))))) ++ p ≡ (h ++ (a ++ (b ++ c))) ++ (t ++ ((s ++ (o ++ (r ++ (u ++ p)))) ++ []))
 regroup h a b c t s o r u p = simp (append_assoc, append-nil)
 
-header_is : to_be_bytes w64 header_number ≡ header
-header_is = refl
+header_is : (form : Form) → to_be_bytes w64 (header_number form) ≡ header form
+header_is Written = refl
+header_is Former = refl
 
-root_is : (p : Parts) → root_text p ≡ front_text (front_of p) ++ behind_segments p
-root_is p =
-    regroup header (to_be_bytes w64 p.number) (to_be_bytes w64 p.events) (many_text segment_text p.segments) (some_text (thread_text p.segments) p.threads) (many_text set_text p.sets) (to_be_bytes w64 p.total)
+-- the header and the front
+abbrev headed_text : Form → FrontParts → List ℕ
+headed_text form f = to_be_bytes w64 (header_number form) ++ front_text form f
+
+root_is : (form : Form) (p : Parts) → text_in form p ≡ headed_text form (front_of p) ++ behind_segments p
+root_is form p =
+    regroup (header form) (to_be_bytes w64 p.number) (to_be_bytes w64 p.events) (many_text (segment_text form) p.segments) (some_text (thread_text p.segments) p.threads) (many_text set_text p.sets) (to_be_bytes w64 p.total)
     (many_text report_text p.reports) (some_text source_text p.sources) (pages_text p.pages)
+    ∙ ap (λ (h : List ℕ). (h ++ front_text form (front_of p)) ++ behind_segments p) (sym (header_is form))
+
+-- ---- segments that a form can spell
+
+few_before : (n : ℕ) (before : List ℕ) → are_predecessors n before ≡ true → length before ≤ 2
+few_before n [] are = omega arith
+few_before n (a ∷ []) are = omega arith
+few_before n (a ∷ b ∷ []) are = omega arith
+few_before n (a ∷ b ∷ d ∷ before) are = absurd (false≢true are)
+
+few_behind : (earlier : List Segment) (s : Segment) → stands_behind earlier s ≡ true → length s.before ≤ 2
+few_behind earlier s stands =
+    let others = and_parts (has_thread (length earlier) s.thread) (are_predecessors (length earlier) s.before && (has_former (former earlier s.thread) s.before && marks_lawfully earlier s.mark s)) stands in
+    few_before (length earlier) s.before (and_parts (are_predecessors (length earlier) s.before) (has_former (former earlier s.thread) s.before && marks_lawfully earlier s.mark s) others.1).0
+
+-- those of a root have two predecessors at most
+each_few : (segments : List Segment) → AreSegments segments → AllByRecursion (λ s. length s.before ≤ 2) segments
+each_few segments are = recursion_from_All (λ (s : Segment). length s.before ≤ 2) segments (λ k d lt. few_behind (take k segments) (get_or segments k d) (are k (get_or segments k d) (slice_get-get_or segments k d lt)))
+
+each_written : (segments : List Segment) → AllByRecursion SegmentFits segments → AllByRecursion (λ s. length s.before ≤ 2) segments → AllByRecursion (IsSegmentIn Written) segments
+each_written [] fits few = tt
+each_written (s ∷ segments) fits few = (record { thread = fits.0.0; few = few.0; each = fits.0.1.0.1; mark = fits.0.1.1 }, each_written segments fits.1 few.1)
+
+each_former : (segments : List Segment) → AllByRecursion SegmentFits segments → AllByRecursion (λ s. length s.before ≤ 2) segments → AllByRecursion (λ s. s.mark ≡ Plain) segments → AllByRecursion (IsSegmentIn Former) segments
+each_former [] fits few plain = tt
+each_former (s ∷ segments) fits few plain = (record { thread = fits.0.0; few = few.0; each = fits.0.1.0.1; mark = plain.0 }, each_former segments fits.1 few.1 plain.1)
+
+mark_fits : (form : Form) (s : Segment) → IsSegmentIn form s → MarkFits s.mark
+mark_fits Written s is = is.mark
+mark_fits Former s is = subst MarkFits (sym is.mark) tt
+
+each_segment : (form : Form) (segments : List Segment) → AllByRecursion (IsSegmentIn form) segments → AllByRecursion SegmentFits segments
+each_segment form [] are = tt
+each_segment form (s ∷ segments) are = ((are.0.thread, ((omega (arith, are.0.few), are.0.each), mark_fits form s are.0)), each_segment form segments are.1)
+
+each_plain : (segments : List Segment) → AllByRecursion (IsSegmentIn Former) segments → AllByRecursion (λ s. s.mark ≡ Plain) segments
+each_plain [] are = tt
+each_plain (s ∷ segments) are = (are.0.mark, each_plain segments are.1)
+
+-- a body in a form that can spell its segments
+to_spelled : (form : Form) (bytes : List ℕ) (p : Parts) → bytes ≡ text_in form p → AllByRecursion (IsSegmentIn form) p.segments → IsSpelled bytes p
+to_spelled Written bytes p text are = inl text
+to_spelled Former bytes p text are = inr (text, All-from_recursion (λ (s : Segment). s.mark ≡ Plain) p.segments (each_plain p.segments are))
 
 each_named : (p : ℕ → Bool) (n : ℕ) (xs : List ℕ) → AllByRecursion (λ x. x < n) xs → AllByRecursion (λ x. (x < n) × (p x ≡ true)) (filter p xs)
 each_named p n [] fits = tt
@@ -86,10 +139,18 @@ each_held segments [] is = tt
 each_held segments (t ∷ ts) is = (is.0.held, each_held segments ts is.1)
 
 module _ (bytes : List ℕ) (p : Parts) (root : IsRoot bytes p) where
+  again_in : (form : Form) → bytes ≡ text_in form p → AllByRecursion (IsSegmentIn form) p.segments → front_at bytes ≡ Some (front_of p, behind_segments p)
+  again_in form text are =
+      let fits = root.lawful.head.fits in
+      ap front_at (text ∙ root_is form p)
+      ∙ ap (λ r. r >>= λ a. Some (a.0.1, a.1)) (headed_format.again (form, front_of p) (behind_segments p) (tt, (fits.number, (fits.events, (fits.segment_count, are)))))
+
   pub front_again : front_at bytes ≡ Some (front_of p, behind_segments p)
   front_again =
-      let fits = root.lawful.head.fits in
-      ap front_at (root.text ∙ root_is p) ∙ front_format.again (front_of p) (behind_segments p) (fits.number, (fits.events, (fits.segment_count, fits.segments)))
+      let fits = root.lawful.head.fits.segments in
+      let few = each_few p.segments root.lawful.head.segments in
+      ⊎_elim (λ text. again_in Written text (each_written p.segments fits few))
+      (λ is. again_in Former is.0 (each_former p.segments fits few (recursion_from_All (λ (s : Segment). s.mark ≡ Plain) p.segments is.1))) root.spelled
 
   pub middle_again : middle_at p.segments (behind_segments p) ≡ Some (p.threads, behind_threads p)
   middle_again =
@@ -121,10 +182,19 @@ module _ (bytes : List ℕ) (p : Parts) (root : IsRoot bytes p) where
         pages = root.lawful.pages;
       }
 
+-- the form in which a front was read
+in_form : (bytes : List ℕ) (f : FrontParts) (r1 : List ℕ) → front_at bytes ≡ Some (f, r1) → (form : Form) × (chained form_at front_in bytes ≡ Some ((form, f), r1))
+in_form bytes f r1 e =
+    let a = bind_some (chained form_at front_in bytes) (λ (x : (Form × FrontParts) × List ℕ). Some (x.0.1, x.1)) (f, r1) e in
+    let is = some_is (a.0.0.1, a.0.1) (f, r1) a.2 in
+    (a.0.0.0, a.1 ∙ ap (λ (x : FrontParts × List ℕ). Some ((a.0.0.0, x.0), x.1)) is)
+
 pub found : (bytes : List ℕ) → IsBytes bytes → (f : FrontParts) (r1 : List ℕ) (threads : List ThreadState) (r2 : List ℕ) (b : BackParts) → front_at bytes ≡ Some (f, r1) → AreSegments f.1.1 → (1 ≤ length f.1.1) × (length f.1.1 ≤ 1048576)
     → middle_at f.1.1 r1 ≡ Some (threads, r2) → ended back_at r2 ≡ Some b → IsChecked (made_parts f.0 f.1.0 f.1.1 threads b) → IsRoot bytes (made_parts f.0 f.1.0 f.1.1 threads b)
 found bytes are f r1 threads r2 b e1 segments count e2 e3 checked =
-    let one = front_format.takes bytes f r1 are e1 in
+    let form = (in_form bytes f r1 e1).0 in
+    let one = headed_format.takes bytes (form, f) r1 are (in_form bytes f r1 e1).1 in
+    let front : FrontFits form f = one.1.1 in
     let two = (middle_format f.1.1).takes r1 threads r2 one.0.rest_fits e2 in
     let last = bind_some (back_at r2) (λ x. cond (eqb (length x.1) 0) (Some x.0) None) b e3 in
     let done = ended_some (eqb (length last.0.1) 0) last.0.0 b last.2 in
@@ -133,17 +203,17 @@ found bytes are f r1 threads r2 b e1 segments count e2 e3 checked =
     let back_fits : BackFits b = subst BackFits done.1 three.1 in
     let rest : r2 ≡ back_text b ++ [] = three.0.parts ∙ ap (λ (x : BackParts). back_text x ++ last.0.1) done.1 ∙ ap (λ (x : List ℕ). back_text b ++ x) nothing in
     let p = made_parts f.0 f.1.0 f.1.1 threads b in
-    let text : bytes ≡ root_text p =
-    one.0.parts ∙ ap (λ (x : List ℕ). front_text f ++ x) (two.0.parts ∙ ap (λ (x : List ℕ). some_text (thread_text f.1.1) threads ++ x) rest) ∙ sym (root_is p) in
+    let text : bytes ≡ text_in form p =
+    one.0.parts ∙ ap (λ (x : List ℕ). headed_text form f ++ x) (two.0.parts ∙ ap (λ (x : List ℕ). some_text (thread_text f.1.1) threads ++ x) rest) ∙ sym (root_is form p) in
     record {
-      text = text;
+      spelled = to_spelled form bytes p text front.1.1.1;
       lawful = record {
         head = record {
           fits = record {
-            number = one.1.0;
-            events = one.1.1.0;
-            segment_count = one.1.1.1.0;
-            segments = one.1.1.1.1;
+            number = front.0;
+            events = front.1.0;
+            segment_count = front.1.1.0;
+            segments = each_segment form f.1.1 front.1.1.1;
             thread_count = two.1.0;
             threads = each_fits f.1.1 threads two.1.1;
             set_count = back_fits.0.0;

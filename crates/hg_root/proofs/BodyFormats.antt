@@ -1,24 +1,99 @@
 -- The parts of a body: what is read is spelled so, and what is spelled so is read.
-use Rattle.std.proofs.Common.{◌≡◌, ◌⊎◌, inl, inr, ℕ, ◌^◌, ◌<◌, Bool, true, false, cond, eqb, ◌||◌, List, [], ◌∷◌, ◌++◌, length, Some, None, refl, sym, ap, ⊎_elim, ◌∙◌, arith}
+use Rattle.std.proofs.Common.{◌≡◌, ◌⊎◌, inl, inr, ℕ, suc, zero, nat_le, ◌^◌, ◌<◌, ◌≤◌, Bool, true, false, cond, eqb, ◌||◌, List, [], ◌∷◌, ◌++◌, length, Some, None, refl, sym, ap, ⊎_elim, ◌∙◌, arith}
 use Rattle.std.specs.Int.{w16, w32, w64, to_be_bytes}
 use Rattle.std.specs.List.{AllByRecursion}
-use Rattle.std.proofs.lemmas.Bool.{eqb-true, eq-eqb, and_parts, or_cases, false≢true}
+use Rattle.std.proofs.lemmas.Bool.{eqb-true, and_parts, le-leb, leb-true, ne_eqb, or_cases, false≢true}
 use Rattle.hg_model.specs.Segments.{present}
+use Rattle.hg_model.specs.declared.segment.Mark.{Mark}
+use Rattle.hg_model.specs.declared.segment.Mark.TheVariants.{Plain, Sent, Got}
 use Rattle.hg_model.specs.declared.segment.Segment.{Segment}
 use Rattle.hg_model.specs.declared.thread.ThreadState.{ThreadState}
 use Rattle.hg_graph.specs.Graph.{names}
 use Rattle.hg_graph.specs.Restoring.{former}
-use Rattle.hg_root.specs.Body.{BackParts, FrontParts, back_at, front_at, header_number, middle_at}
-use Rattle.hg_root.specs.Grammar.{LockFits, PageFits, ReportFits, SegmentFits, SetFits, SourceFits, ThreadFits, few_text, lock_text, many_text, page_text, report_text, segment_text, set_text, some_text, source_text, thread_text}
+use Rattle.hg_root.specs.Body.{BackParts, FrontParts, back_at, form_at, front_in, header_number, middle_at}
+use Rattle.hg_root.specs.Grammar.{LockFits, MarkFits, PageFits, ReportFits, SetFits, SourceFits, ThreadFits, few_text, lock_text, many_text, mark_text, page_text, report_text, segment_text, set_text, some_text, source_text, thread_text}
 use Rattle.hg_root.specs.Lawful.{AreHeld}
-use Rattle.hg_root.specs.Reading.{RawThread, alive_at, are_held, is_last, is_thread, kind_at, lock_at, members_at, mode_at, page_at, raw_thread_at, report_at, segment_at, source_at, thread_at}
-use Rattle.hg_root.proofs.Formats.{IsFormat, as_format, both_format, format8, format16, format32, format64, listed_format, made_format, such_that_format}
+use Rattle.hg_root.specs.declared.form.Form.{Form}
+use Rattle.hg_root.specs.declared.form.Form.TheVariants.{Former, Written}
+use Rattle.hg_root.specs.Reading.{RawThread, alive_at, are_held, chained, given, is_last, is_thread, kind_at, lock_at, mark_at, mark_of, members_at, message_at, number_at, mode_at, page_at, raw_thread_at, report_at, segment_at, source_at, thread_at}
+use Rattle.hg_root.proofs.Formats.{IsFormat, as_format, both_format, chained_format, format8, format16, format32, format64, listed_format, given_format, made_format, spelled_format, such_that_format}
 use Rattle.hg_root.proofs.ThreadReading.{held_is, is_held, is_its_last, last_is}
 
-pub segment_format : IsFormat segment_text segment_at SegmentFits
-segment_format =
-    made_format _ _ _ (λ p. record { thread = p.0; before = p.1 }) (λ s. (s.thread, s.before))
-    (both_format _ _ _ _ _ _ format16 (listed_format _ _ _ format32 _ _ _ format8)) (λ a f. refl) (λ x. refl)
+-- a message, or none
+abbrev message_text : ℕ → ℕ → List ℕ
+message_text code k = cond (eqb code 0) [] (to_be_bytes w32 k)
+
+abbrev MessageFits : ℕ → ℕ → Type 0
+MessageFits code k = cond (eqb code 0) (k ≡ 0) (k < 2 ^ 32)
+
+message_format : (code : ℕ) → IsFormat (message_text code) (message_at code) (MessageFits code)
+message_format code = pick (eqb code 0)
+  where
+    pick : (b : Bool) → IsFormat (λ k. cond b [] (to_be_bytes w32 k)) (cond b (given 0) (number_at w32)) (λ k. cond b (k ≡ 0) (k < 2 ^ 32))
+    pick true = given_format 0
+    pick false = format32
+
+abbrev code_of : Mark → ℕ × ℕ
+code_of Plain = (0, 0)
+code_of (Sent k) = (1, k)
+code_of (Got k) = (2, k)
+
+no_code : (n : ℕ) → 3 ≤ n → (eqb n 0 || (eqb n 1 || eqb n 2)) ≡ false
+no_code n more = rw (ne_eqb n 0 (λ e. omega (arith, e, more)), ne_eqb n 1 (λ e. omega (arith, e, more)), ne_eqb n 2 (λ e. omega (arith, e, more))) refl
+
+pub mark_format : IsFormat (mark_text Written) (mark_at Written) MarkFits
+mark_format =
+    spelled_format _ _ _ _ (as_format _ _ _ _
+    (made_format _ _ _ mark_of code_of (chained_format _ _ _ message_text message_at MessageFits (such_that_format _ _ _ (λ b. eqb b 0 || (eqb b 1 || eqb b 2)) format8) message_format) there back) to from) text
+  where
+    there : (a : ℕ × ℕ) → ((a.0 < 2 ^ 8) × ((eqb a.0 0 || (eqb a.0 1 || eqb a.0 2)) ≡ true)) × MessageFits a.0 a.1 → code_of (mark_of a) ≡ a
+    there (zero, k) f = ap (λ (n : ℕ). (0, n)) (sym f.1)
+    there (suc zero, k) f = refl
+    there (suc (suc zero), k) f = refl
+    there (suc (suc (suc n)), k) f = absurd (false≢true (sym (no_code (suc (suc (suc n))) (omega arith)) ∙ f.0.1))
+
+    back : (m : Mark) → mark_of (code_of m) ≡ m
+    back Plain = refl
+    back (Sent k) = refl
+    back (Got k) = refl
+
+    to : (m : Mark) → (((code_of m).0 < 2 ^ 8) × ((eqb (code_of m).0 0 || (eqb (code_of m).0 1 || eqb (code_of m).0 2)) ≡ true)) × MessageFits (code_of m).0 (code_of m).1 → MarkFits m
+    to Plain f = tt
+    to (Sent k) f = f.1
+    to (Got k) f = f.1
+
+    from : (m : Mark) → MarkFits m → (((code_of m).0 < 2 ^ 8) × ((eqb (code_of m).0 0 || (eqb (code_of m).0 1 || eqb (code_of m).0 2)) ≡ true)) × MessageFits (code_of m).0 (code_of m).1
+    from Plain f = ((omega arith, refl), refl)
+    from (Sent k) f = ((omega arith, refl), f)
+    from (Got k) f = ((omega arith, refl), f)
+
+    text : (m : Mark) → ((code_of m).0 ∷ message_text (code_of m).0 (code_of m).1) ≡ mark_text Written m
+    text Plain = refl
+    text (Sent k) = refl
+    text (Got k) = refl
+
+-- the former form has plain marks alone
+abbrev pub MarkFitsIn : Form → Mark → Type 0
+MarkFitsIn Written m = MarkFits m
+MarkFitsIn Former m = m ≡ Plain
+
+mark_format_in : (form : Form) → IsFormat (mark_text form) (mark_at form) (MarkFitsIn form)
+mark_format_in Written = mark_format
+mark_format_in Former = given_format Plain
+
+-- a segment that a form can spell
+pub record IsSegmentIn (form : Form) (s : Segment) : Type 0 where
+  pub thread : s.thread < 2 ^ 16
+  pub few : length s.before ≤ 2
+  pub each : AllByRecursion (λ k. k < 2 ^ 32) s.before
+  pub mark : MarkFitsIn form s.mark
+
+pub segment_format : (form : Form) → IsFormat (segment_text form) (segment_at form) (IsSegmentIn form)
+segment_format form =
+    as_format _ _ _ _ (made_format _ _ _ (λ p. record { thread = p.0; before = p.1.0; mark = p.1.1 }) (λ s. (s.thread, (s.before, s.mark)))
+    (both_format _ _ _ _ _ _ format16 (both_format _ _ _ _ _ _ (listed_format _ _ _ format32 _ _ _ (such_that_format _ _ _ (λ n. nat_le n 2) format8)) (mark_format_in form))) (λ a f. refl) (λ x. refl))
+    (λ s f. record { thread = f.0; few = leb-true (length s.before) 2 f.1.0.0.1; each = f.1.0.1; mark = f.1.1 })
+    (λ s is. (is.thread, (((omega (arith, is.few), le-leb (length s.before) 2 is.few), is.each), is.mark)))
 
 -- one of two codes
 codes : (one none a : ℕ) → (eqb a one ≡ true) ⊎ (eqb a none ≡ true) → cond (eqb a one) one none ≡ a
@@ -131,18 +206,42 @@ thread_format segments =
     from : (t : ThreadState) → IsThread segments t → ((t.number < 2 ^ 16) × (Unit {0} × ((present segments t.number < 2 ^ 32) × ((length t.held < 2 ^ 8) × AllByRecursion LockFits t.held)))) × (is_thread segments (raw_of segments t) ≡ true)
     from t is = ((is.fits.0, (tt, (is.few, is.fits.1))), rw (last_is segments t.number (present segments t.number) is.small is.last, held_is t.held is.held) refl)
 
-abbrev pub front_text : FrontParts → List ℕ
-front_text f = to_be_bytes w64 header_number ++ (to_be_bytes w64 f.0 ++ (to_be_bytes w64 f.1.0 ++ many_text segment_text f.1.1))
+abbrev pub front_text : Form → FrontParts → List ℕ
+front_text form f = to_be_bytes w64 f.0 ++ (to_be_bytes w64 f.1.0 ++ many_text (segment_text form) f.1.1)
 
-abbrev pub FrontFits : FrontParts → Type 0
-FrontFits f = (f.0 < 2 ^ 64) × ((f.1.0 < 2 ^ 64) × ((length f.1.1 < 2 ^ 32) × AllByRecursion SegmentFits f.1.1))
+abbrev pub FrontFits : Form → FrontParts → Type 0
+FrontFits form f = (f.0 < 2 ^ 64) × ((f.1.0 < 2 ^ 64) × ((length f.1.1 < 2 ^ 32) × AllByRecursion (IsSegmentIn form) f.1.1))
 
-pub front_format : IsFormat front_text front_at FrontFits
-front_format =
-    as_format _ _ _ _ (made_format _ _ _ (λ (p : ℕ × FrontParts). p.1) (λ f. (header_number, f))
-    (both_format _ _ _ _ _ _ (such_that_format _ _ _ (λ n. eqb n header_number) format64) (both_format _ _ _ _ _ _ format64 (both_format _ _ _ _ _ _ format64 (listed_format _ _ _ segment_format _ _ _ format32))))
-    (λ a f. ap (λ (n : ℕ). (n, a.1)) (sym (eqb-true a.0 header_number f.0.1))) (λ x. refl))
-    (λ x f. f.1) (λ x f. ((omega arith, eq-eqb header_number header_number refl), f))
+front_format : (form : Form) → IsFormat (front_text form) (front_in form) (FrontFits form)
+front_format form = both_format _ _ _ _ _ _ format64 (both_format _ _ _ _ _ _ format64 (listed_format _ _ _ (segment_format form) _ _ _ format32))
+
+abbrev form_of : ℕ → Form
+form_of n = cond (eqb n (header_number Written)) Written Former
+
+form_format : IsFormat (λ form. to_be_bytes w64 (header_number form)) form_at (λ form. Unit {0})
+form_format =
+    as_format _ _ _ _ (made_format _ _ _ form_of header_number (such_that_format _ _ _ (λ n. eqb n (header_number Written) || eqb n (header_number Former)) format64) there back) (λ x f. tt) fits
+  where
+    there : (n : ℕ) → (n < 2 ^ 64) × ((eqb n (header_number Written) || eqb n (header_number Former)) ≡ true) → header_number (form_of n) ≡ n
+    there n f = pick (eqb n (header_number Written)) refl
+      where
+        pick : (b : Bool) → eqb n (header_number Written) ≡ b → header_number (cond (eqb n (header_number Written)) Written Former) ≡ n
+        pick true e = ap (λ c. header_number (cond c Written Former)) e ∙ sym (eqb-true n (header_number Written) e)
+        pick false e =
+            ap (λ c. header_number (cond c Written Former)) e
+            ∙ sym (eqb-true n (header_number Former) (⊎_elim (λ t. absurd (false≢true (sym e ∙ t))) (λ t. t) (or_cases (eqb n (header_number Written)) (eqb n (header_number Former)) f.1)))
+
+    back : (form : Form) → form_of (header_number form) ≡ form
+    back Written = refl
+    back Former = refl
+
+    fits : (form : Form) → Unit {0} → (header_number form < 2 ^ 64) × ((eqb (header_number form) (header_number Written) || eqb (header_number form) (header_number Former)) ≡ true)
+    fits Written f = (omega arith, refl)
+    fits Former f = (omega arith, refl)
+
+-- the header, and what stands behind it in this form
+pub headed_format : IsFormat (λ (p : Form × FrontParts). to_be_bytes w64 (header_number p.0) ++ front_text p.0 p.1) (chained form_at front_in) (λ p. Unit {0} × FrontFits p.0 p.1)
+headed_format = chained_format _ _ _ front_text front_in FrontFits form_format front_format
 
 pub middle_format : (segments : List Segment) → IsFormat (some_text (thread_text segments)) (middle_at segments) (λ ts. (length ts < 2 ^ 16) × AllByRecursion (IsThread segments) ts)
 middle_format segments = listed_format _ _ _ (thread_format segments) _ _ _ format16

@@ -5,7 +5,7 @@ use Rattle.std.specs.List.{flat_map, AllByRecursion}
 use Rattle.std.proofs.lemmas.Bool.{cases_lt, ltb-false, le-ltb}
 use Rattle.std.proofs.lemmas.List.{take_at, drop_at, take-append-drop, length-append, length-take, get_or-drop, get_or-take, get_or_past}
 use Rattle.std.proofs.lemmas.Nat.{be_bytes_2, be_bytes_4, be_bytes_8, from_be_bytes-to_be_bytes_2, from_be_bytes-to_be_bytes_4, from_be_bytes-to_be_bytes_8}
-use Rattle.hg_root.specs.Reading.{◌>>=◌, Reader, both, byte_at, listed, made, number_at, such_that, times}
+use Rattle.hg_root.specs.Reading.{◌>>=◌, Reader, both, byte_at, chained, given, listed, made, number_at, such_that, times}
 
 abbrev pub IsBytes : List ℕ → Type 0
 IsBytes bytes = (i : ℕ) → get_or bytes i 0 < 256
@@ -137,6 +137,39 @@ both_format {A = A} {B = B} ta ra FA tb rb FB one other = record {
       ap (λ (bytes : List ℕ). both ra rb bytes) (append_assoc (ta p.0) (tb p.1) rest)
       ∙ ap (λ r. r >>= λ a. rb a.1 >>= λ b. Some ((a.0, b.0), b.1)) (one.again p.0 (tb p.1 ++ rest) fits.0)
       ∙ ap (λ r. r >>= λ b. Some ((p.0, b.0), b.1)) (other.again p.1 rest fits.1);
+}
+
+-- one, and then another that depends on it
+pub chained_format : {A B : Type 0} (ta : A → List ℕ) (ra : Reader A) (FA : A → Type 0) (tb : A → B → List ℕ) (rb : A → Reader B) (FB : A → B → Type 0) → IsFormat ta ra FA → ((a : A) → IsFormat (tb a) (rb a) (FB a))
+    → IsFormat (λ (p : A × B). ta p.0 ++ tb p.0 p.1) (chained ra rb) (λ p. FA p.0 × FB p.0 p.1)
+chained_format {A = A} {B = B} ta ra FA tb rb FB one other = record {
+  takes = λ bytes p rest fits e.
+      let a = bind_some (ra bytes) (λ x. rb x.0 x.1 >>= λ y. Some ((x.0, y.0), y.1)) (p, rest) e in
+      let b = bind_some (rb a.0.0 a.0.1) (λ y. Some ((a.0.0, y.0), y.1)) (p, rest) a.2 in
+      let first = one.takes bytes a.0.0 a.0.1 fits a.1 in
+      let second = (other a.0.0).takes a.0.1 b.0.0 b.0.1 first.0.rest_fits b.1 in
+      let is = some_is ((a.0.0, b.0.0), b.0.1) (p, rest) b.2 in
+      subst (λ (x : (A × B) × List ℕ). Takes bytes (ta x.0.0 ++ tb x.0.0 x.0.1) x.1 × (FA x.0.0 × FB x.0.0 x.0.1)) is
+      (Takes-then bytes (ta a.0.0) a.0.1 (tb a.0.0 b.0.0) b.0.1 first.0 second.0, (first.1, second.1));
+  again = λ p rest fits.
+      ap (λ (bytes : List ℕ). chained ra rb bytes) (append_assoc (ta p.0) (tb p.0 p.1) rest)
+      ∙ ap (λ r. r >>= λ a. rb a.0 a.1 >>= λ b. Some ((a.0, b.0), b.1)) (one.again p.0 (tb p.0 p.1 ++ rest) fits.0)
+      ∙ ap (λ r. r >>= λ b. Some ((p.0, b.0), b.1)) ((other p.0).again p.1 rest fits.1);
+}
+
+-- a value of no bytes
+pub given_format : {X : Type 0} (x : X) → IsFormat (λ (y : X). []) (given x) (λ y. y ≡ x)
+given_format {X = X} x = record {
+  takes = λ bytes y rest fits e.
+      subst (λ (z : X × List ℕ). Takes bytes [] z.1 × (z.0 ≡ x)) (some_is (x, bytes) (y, rest) e) (record { parts = refl; rest_fits = fits }, refl);
+  again = λ y rest is. ap (λ (z : X). Some (z, rest)) (sym is);
+}
+
+-- a format, where the bytes are said in other words
+pub spelled_format : {X : Type 0} (t u : X → List ℕ) (r : Reader X) (F : X → Type 0) → IsFormat t r F → ((x : X) → t x ≡ u x) → IsFormat u r F
+spelled_format t u r F format same = record {
+  takes = λ bytes x rest fits e. let both = format.takes bytes x rest fits e in (subst (λ (l : List ℕ). Takes bytes l rest) (same x) both.0, both.1);
+  again = λ x rest fits. ap (λ (l : List ℕ). r (l ++ rest)) (sym (same x)) ∙ format.again x rest fits;
 }
 
 pub made_format : {A X : Type 0} (t : A → List ℕ) (r : Reader A) (F : A → Type 0) (make : A → X) (parts : X → A) → IsFormat t r F → ((a : A) → F a → parts (make a) ≡ a) → ((x : X) → make (parts x) ≡ x)

@@ -1,21 +1,26 @@
 -- The last segments of threads, as a loop over the segments finds them.
 use Rattle.std.proofs.Common.{◌≡◌, inl, inr, ℕ, ◌+◌, ◌<◌, ◌≤◌, Bool, true, false, cond, ◌&&◌, ◌||◌, eqb, List, [], ◌∷◌, ◌++◌, length, take, get_or, set, slice_get, Option, Some, None, refl, sym, ap, subst, ◌∙◌, arith, length-set, length-take, get_or-set_same, get_or-set_other}
 use Rattle.std.specs.Prelude.{slice_index_or}
-use Rattle.std.proofs.lemmas.Bool.{and_parts, cases_lt, cases_eq, eq-eqb, ne_eqb, ltb-true}
+use Rattle.std.proofs.lemmas.Bool.{and_parts, false≢true, cases_lt, cases_eq, eq-eqb, ne_eqb, ltb-true}
 use Rattle.std.proofs.lemmas.Option.{get_or_from_slice_get, slice_get-get_or, slice_get_read, slice_get_within}
 use Rattle.std.proofs.lemmas.List.{take_more, take_all}
 use Rattle.std.proofs.lemmas.List.Folds.{list_any-append}
+use Rattle.hg_model.specs.Restoring.{marks_lawfully}
 use Rattle.hg_model.specs.Segments.{present}
+use Rattle.hg_model.specs.declared.segment.Mark.{Mark}
+use Rattle.hg_model.specs.declared.segment.Mark.TheVariants.{Plain, Sent, Got}
 use Rattle.hg_model.specs.declared.segment.Segment.{Segment}
 use Rattle.hg_model.proofs.Owners.{present_push}
 use Rattle.hg_graph.specs.Graph.{names}
 use Rattle.hg_graph.specs.Restoring.{AreSegments, are_predecessors, former, has_former, has_thread, stands_behind}
-use Rattle.hg_root.specs.Last.{IsLastTable}
+use Rattle.hg_rules.specs.Messages.{Agrees, Messages, at, is_taken, is_there, may_follow}
+use Rattle.hg_root.specs.Last.{IsLastTable, may_stand, sends_lawfully}
 
--- the first k segments are lawful, and the table has their last ones
-pub record Underway (segments : List Segment) (k : ℕ) (lasts : List (Option ℕ)) : Type 0 where
+-- the first k segments are lawful, and the tables have their last ones and their messages
+pub record Underway (segments : List Segment) (k : ℕ) (lasts : List (Option ℕ)) (messages : Messages) : Type 0 where
   pub within : k ≤ length segments
   pub table : IsLastTable (take k segments) lasts
+  pub agrees : Agrees (take k segments) messages
   pub lawful : (j : ℕ) (s : Segment) → j < k → slice_get segments j ≡ Some s → stands_behind (take j segments) s ≡ true
 
 former_pick : (named mine : Bool) (here before : ℕ) → cond (named || (mine || false)) (Some (cond mine here before)) None ≡ cond mine (Some here) (cond named (Some before) None)
@@ -28,27 +33,56 @@ former_more : (segments : List Segment) (s : Segment) (t : ℕ) → former (segm
 former_more segments s t =
     rw (list_any-append (λ x. eqb x.thread t) segments (s ∷ []), present_push segments s t) (former_pick (names segments t) (eqb s.thread t) (length segments) (present segments t))
 
-pub begun : (segments : List Segment) (lasts : List (Option ℕ)) → length lasts ≡ 1024 → ((t : ℕ) → t < 1024 → slice_index_or lasts t None ≡ None) → Underway segments 0 lasts
-begun segments lasts len none = record { within = omega arith; table = record { len = len; each = none }; lawful = λ j s lt is. absurd (omega arith) }
+pub begun : (segments : List Segment) (lasts : List (Option ℕ)) (messages : Messages) → length lasts ≡ 1024 → ((t : ℕ) → t < 1024 → slice_index_or lasts t None ≡ None) → Agrees [] messages → Underway segments 0 lasts messages
+begun segments lasts messages len none agrees = record { within = omega arith; table = record { len = len; each = none }; agrees = agrees; lawful = λ j s lt is. absurd (omega arith) }
 
--- what may stand here, by the table
-pub by_table : (segments : List Segment) (k t : ℕ) (lasts : List (Option ℕ)) (s : Segment) → Underway segments k lasts → k < length segments → t ≡ s.thread → t < 1024 →
-    (has_thread k s.thread && (are_predecessors k s.before && has_former (slice_index_or lasts t None) s.before)) ≡ stands_behind (take k segments) s
-by_table segments k t lasts s u within mine small =
-    let count : length (take k segments) ≡ k = omega (arith, length-take k segments) in
-    let at : slice_index_or lasts t None ≡ former (take k segments) s.thread = u.table.each t small ∙ ap (former (take k segments)) mine in
-    rw (count, at) refl
+and_true : (b : Bool) → b ≡ (b && true)
+and_true true = refl
+and_true false = refl
+
+marks_are : (earlier : List Segment) (mark : Mark) (s : Segment) → marks_lawfully earlier mark s ≡ (may_follow earlier mark && sends_lawfully earlier mark s)
+marks_are earlier Plain s = refl
+marks_are earlier (Sent k) s = refl
+marks_are earlier (Got k) s = and_true (may_follow earlier (Got k))
+
+last_first : (a b c d f m : Bool) → m ≡ (f && d) → (a && (b && (c && m))) ≡ ((a && (b && (c && d))) && f)
+last_first false b c d f m is = refl
+last_first true false c d f m is = refl
+last_first true true false d f m is = refl
+last_first true true true d true m is = is ∙ and_true d
+last_first true true true true false m is = is
+last_first true true true false false m is = is
+
+-- the two tests
+stands_is : (earlier : List Segment) (s : Segment) → stands_behind earlier s ≡ (may_stand earlier s (former earlier s.thread) && may_follow earlier s.mark)
+stands_is earlier s =
+    last_first (has_thread (length earlier) s.thread) (are_predecessors (length earlier) s.before) (has_former (former earlier s.thread) s.before) (sends_lawfully earlier s.mark s) (may_follow earlier s.mark) (marks_lawfully earlier s.mark s)
+    (marks_are earlier s.mark s)
 
 -- what was read of the table, and answered
-pub told : (segments : List Segment) (k t : ℕ) (lasts : List (Option ℕ)) (s : Segment) (read : Option ℕ) (result : Bool) → Underway segments k lasts → k < length segments → t ≡ s.thread → t < 1024 → read ≡ get_or lasts t read
-    → result ≡ (has_thread k s.thread && (are_predecessors k s.before && has_former read s.before)) → result ≡ stands_behind (take k segments) s
-told segments k t lasts s read result u within mine small at is =
+pub told : (segments : List Segment) (k t : ℕ) (lasts : List (Option ℕ)) (messages : Messages) (s : Segment) (read : Option ℕ) (result : Bool) → Underway segments k lasts messages → t ≡ s.thread → t < 1024 → read ≡ get_or lasts t read
+    → result ≡ may_stand (take k segments) s read → result ≡ may_stand (take k segments) s (former (take k segments) s.thread)
+told segments k t lasts messages s read result u mine small at is =
     let one : slice_index_or lasts t None ≡ read = get_or_from_slice_get lasts t read None (slice_get_read lasts 1024 t read (sym u.table.len) small at) in
-    is ∙ ap (λ (f : Option ℕ). has_thread k s.thread && (are_predecessors k s.before && has_former f s.before)) (sym one) ∙ by_table segments k t lasts s u within mine small
+    is ∙ ap (may_stand (take k segments) s) (sym one ∙ u.table.each t small ∙ ap (former (take k segments)) mine)
 
-pub step : (segments : List Segment) (k t : ℕ) (lasts : List (Option ℕ)) (s d : Segment) → Underway segments k lasts → k < length segments → s ≡ get_or segments k d → t ≡ s.thread → t < 1024 → stands_behind (take k segments) s ≡ true
-    → Underway segments (k + 1) (set lasts t (Some k))
-step segments k t lasts s d u within at mine small stands =
+pub stands_so : (earlier : List Segment) (s : Segment) → true ≡ may_stand earlier s (former earlier s.thread) → true ≡ may_follow earlier s.mark → stands_behind earlier s ≡ true
+stands_so earlier s one other = stands_is earlier s ∙ ap (λ (b : Bool). b && may_follow earlier s.mark) (sym one) ∙ sym other
+
+-- one of the tests fails
+pub no_place : (earlier : List Segment) (s : Segment) → false ≡ may_stand earlier s (former earlier s.thread) → stands_behind earlier s ≡ true → ⊥
+no_place earlier s not stands = false≢true (not ∙ (and_parts (may_stand earlier s (former earlier s.thread)) (may_follow earlier s.mark) (sym (stands_is earlier s) ∙ stands)).0)
+
+pub no_mark : (earlier : List Segment) (s : Segment) → false ≡ may_follow earlier s.mark → stands_behind earlier s ≡ true → ⊥
+no_mark earlier s not stands = false≢true (not ∙ (and_parts (may_stand earlier s (former earlier s.thread)) (may_follow earlier s.mark) (sym (stands_is earlier s) ∙ stands)).1)
+
+-- a table with the same look-ups
+pub agrees_still : (segments : List Segment) (old new : Messages) → ((k : ℕ) → at new k ≡ at old k) → Agrees segments old → Agrees segments new
+agrees_still segments old new same agrees = record { sent = λ k. ap is_there (same k) ∙ agrees.sent k; received = λ k. ap is_taken (same k) ∙ agrees.received k }
+
+pub step : (segments : List Segment) (k t : ℕ) (lasts : List (Option ℕ)) (old new : Messages) (s d : Segment) → Underway segments k lasts old → k < length segments → s ≡ get_or segments k d → t ≡ s.thread → t < 1024 → stands_behind (take k segments) s ≡ true
+    → Agrees (take k segments ++ s ∷ []) new → Underway segments (k + 1) (set lasts t (Some k)) new
+step segments k t lasts old new s d u within at mine small stands noted =
     let count : length (take k segments) ≡ k = omega (arith, length-take k segments) in
     let more : take (k + 1) segments ≡ take k segments ++ s ∷ [] = take_more segments k d within ∙ ap (λ (x : Segment). take k segments ++ x ∷ []) (sym at) in
     let each : (u' : ℕ) → u' < 1024 → slice_index_or (set lasts t (Some k)) u' None ≡ former (take (k + 1) segments) u' = λ u' lt.
@@ -65,6 +99,7 @@ step segments k t lasts s d u within at mine small stands =
     record {
       within = omega arith;
       table = record { len = length-set lasts t (Some k) ∙ u.table.len; each = each };
+      agrees = subst (λ (xs : List Segment). Agrees xs new) (sym more) noted;
       lawful = λ j x lt is. elim (cases_lt j k) [
         | inl before ↦ u.lawful j x before is
         | inr last ↦
@@ -74,11 +109,11 @@ step segments k t lasts s d u within at mine small stands =
       ];
     }
 
-pub done_table : (segments : List Segment) (k : ℕ) (lasts : List (Option ℕ)) → Underway segments k lasts → length segments ≤ k → IsLastTable segments lasts
-done_table segments k lasts u all = subst (λ (xs : List Segment). IsLastTable xs lasts) (take_all k segments all) u.table
+pub done_table : (segments : List Segment) (k : ℕ) (lasts : List (Option ℕ)) (messages : Messages) → Underway segments k lasts messages → length segments ≤ k → IsLastTable segments lasts
+done_table segments k lasts messages u all = subst (λ (xs : List Segment). IsLastTable xs lasts) (take_all k segments all) u.table
 
-pub done_lawful : (segments : List Segment) (k : ℕ) (lasts : List (Option ℕ)) → Underway segments k lasts → length segments ≤ k → AreSegments segments
-done_lawful segments k lasts u all j s is = u.lawful j s (let lt = slice_get_within segments j s is in omega arith) is
+pub done_lawful : (segments : List Segment) (k : ℕ) (lasts : List (Option ℕ)) (messages : Messages) → Underway segments k lasts messages → length segments ≤ k → AreSegments segments
+done_lawful segments k lasts messages u all j s is = u.lawful j s (let lt = slice_get_within segments j s is in omega arith) is
 
 -- a segment that may not stand there
 pub refused : (segments : List Segment) (k : ℕ) (s d : Segment) → k < length segments → s ≡ get_or segments k d → (stands_behind (take k segments) s ≡ true → ⊥) → AreSegments segments → ⊥
@@ -87,7 +122,7 @@ refused segments k s d within at none are = none (are k s (slice_get-get_or segm
 -- nor one of a thread beyond the profile
 pub no_such_thread : (segments : List Segment) (s : Segment) → 1024 ≤ s.thread → stands_behind segments s ≡ true → ⊥
 no_such_thread segments s more stands =
-    let parts = and_parts (has_thread (length segments) s.thread) (are_predecessors (length segments) s.before && has_former (former segments s.thread) s.before) stands in
+    let parts = and_parts (has_thread (length segments) s.thread) (are_predecessors (length segments) s.before && (has_former (former segments s.thread) s.before && marks_lawfully segments s.mark s)) stands in
     let below : s.thread < cond (eqb (length segments) 0) 1 1024 = ltb-true s.thread _ parts.0 in
     pick (eqb (length segments) 0) below
   where

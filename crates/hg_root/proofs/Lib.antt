@@ -1,4 +1,5 @@
 pub mod Times
+pub mod Before
 pub mod Rising
 pub mod ThreadReading
 pub mod Formats

@@ -1,19 +1,24 @@
--- The bytes of a root's body. All numbers are written high byte first.
+-- The bytes of a root's body, in the form that is written and in the former one. All numbers are written high byte first.
 use Rattle.std.specs.Prelude.{ℕ, ◌<◌, ◌^◌, List, [], ◌∷◌, ◌++◌, length, if◌then◌else◌}
 use Rattle.std.specs.List.{AllByRecursion, flat_map}
 use Rattle.std.specs.Int.{w16, w32, w64, to_be_bytes}
 use Rattle.hg_model.specs.Segments.{present}
 use Rattle.hg_model.specs.declared.held.HeldLock.{HeldLock}
+use Rattle.hg_model.specs.declared.segment.Mark.{Mark}
+use Rattle.hg_model.specs.declared.segment.Mark.TheVariants.{Plain, Sent, Got}
 use Rattle.hg_model.specs.declared.segment.Segment.{Segment}
 use Rattle.hg_model.specs.declared.thread.ThreadState.{ThreadState}
 use Rattle.hg_cells.specs.declared.report.KeptReport.{KeptReport}
+use Rattle.hg_root.specs.declared.form.Form.{Form}
+use Rattle.hg_root.specs.declared.form.Form.TheVariants.{Former, Written}
 use Rattle.hg_root.specs.declared.parts.PageSlot.{PageSlot}
 use Rattle.hg_root.specs.declared.parts.SourceCount.{SourceCount}
 use Rattle.hg_root.specs.Parts.{Parts}
 
--- "HGROOT1" and a line feed
-abbrev pub header : List ℕ
-header = 72 ∷ 71 ∷ 82 ∷ 79 ∷ 79 ∷ 84 ∷ 49 ∷ 10 ∷ []
+-- "HGROOT2" and a line feed; in the former form "HGROOT1" and a line feed
+abbrev pub header : Form → List ℕ
+header Written = 72 ∷ 71 ∷ 82 ∷ 79 ∷ 79 ∷ 84 ∷ 50 ∷ 10 ∷ []
+header Former = 72 ∷ 71 ∷ 82 ∷ 79 ∷ 79 ∷ 84 ∷ 49 ∷ 10 ∷ []
 
 -- their number in four bytes, and then each
 abbrev pub many_text : {X : Type 0} → (X → List ℕ) → List X → List ℕ
@@ -27,9 +32,16 @@ some_text text items = to_be_bytes w16 (length items) ++ flat_map text items
 abbrev pub few_text : {X : Type 0} → (X → List ℕ) → List X → List ℕ
 few_text text items = length items ∷ flat_map text items
 
--- the thread, and the segments right before this one
-abbrev pub segment_text : Segment → List ℕ
-segment_text s = to_be_bytes w16 s.thread ++ few_text (to_be_bytes w32) s.before
+-- 0, or 1 and the message that was sent, or 2 and the message that was received; nothing in the former form
+abbrev pub mark_text : Form → Mark → List ℕ
+mark_text Written Plain = 0 ∷ []
+mark_text Written (Sent k) = 1 ∷ to_be_bytes w32 k
+mark_text Written (Got k) = 2 ∷ to_be_bytes w32 k
+mark_text Former mark = []
+
+-- the thread, the segments right before this one, and the mark
+abbrev pub segment_text : Form → Segment → List ℕ
+segment_text form s = to_be_bytes w16 s.thread ++ (few_text (to_be_bytes w32) s.before ++ mark_text form s.mark)
 
 -- the lock, and 1 if it is held for writing, 2 if for reading
 abbrev pub lock_text : HeldLock → List ℕ
@@ -58,23 +70,39 @@ abbrev pub pages_text : List PageSlot → List ℕ
 pages_text pages = many_text page_text pages
 
 -- the body up to the page table, part after part
-abbrev pub head_text : Parts → List ℕ
-head_text p =
-    header ++ (to_be_bytes w64 p.number ++ (to_be_bytes w64 p.events
-    ++ (many_text segment_text p.segments
+abbrev pub head_in : Form → Parts → List ℕ
+head_in form p =
+    header form ++ (to_be_bytes w64 p.number ++ (to_be_bytes w64 p.events
+    ++ (many_text (segment_text form) p.segments
     ++ (some_text (thread_text p.segments) p.threads
     ++ (many_text set_text p.sets
     ++ (to_be_bytes w64 p.total ++ (many_text report_text p.reports
     ++ some_text source_text p.sources)))))))
 
--- The body.
+-- the body
+abbrev pub text_in : Form → Parts → List ℕ
+text_in form p = head_in form p ++ pages_text p.pages
+
+-- The head that is written, and the body.
+abbrev pub head_text : Parts → List ℕ
+head_text p = head_in Written p
+
 abbrev pub root_text : Parts → List ℕ
-root_text p = head_text p ++ pages_text p.pages
+root_text p = text_in Written p
+
+-- The body in the former form, which spells no mark.
+abbrev pub former_text : Parts → List ℕ
+former_text p = text_in Former p
 
 -- ---- which parts have a spelling: each number and each count fits its field
 
+abbrev pub MarkFits : Mark → Type 0
+MarkFits Plain = Unit {0}
+MarkFits (Sent k) = k < 2 ^ 32
+MarkFits (Got k) = k < 2 ^ 32
+
 abbrev pub SegmentFits : Segment → Type 0
-SegmentFits s = (s.thread < 2 ^ 16) × ((length s.before < 2 ^ 8) × AllByRecursion (λ k. k < 2 ^ 32) s.before)
+SegmentFits s = (s.thread < 2 ^ 16) × (((length s.before < 2 ^ 8) × AllByRecursion (λ k. k < 2 ^ 32) s.before) × MarkFits s.mark)
 
 abbrev pub LockFits : HeldLock → Type 0
 LockFits h = h.lock < 2 ^ 16

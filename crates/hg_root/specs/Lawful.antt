@@ -7,6 +7,7 @@ use Rattle.hg_model.specs.declared.limits.TheConstants.{GREATEST_SOURCE, GREATES
 use Rattle.hg_model.specs.Locks.{IsByRisingLock}
 use Rattle.hg_model.specs.Restoring.{AreThreads}
 use Rattle.hg_model.specs.declared.held.HeldLock.{HeldLock}
+use Rattle.hg_model.specs.declared.segment.Mark.TheVariants.{Plain}
 use Rattle.hg_model.specs.declared.segment.Segment.{Segment}
 use Rattle.hg_cells.specs.declared.report.KeptReport.{KeptReport}
 use Rattle.hg_graph.specs.Graph.{names}
@@ -17,7 +18,7 @@ use Rattle.hg_pages.specs.declared.decoded.TheConstants.{MOST_PAGES}
 use Rattle.hg_pages.specs.declared.slot_file.TheConstants.{MOST_SLOTS}
 use Rattle.hg_root.specs.declared.parts.PageSlot.{PageSlot}
 use Rattle.hg_root.specs.declared.parts.SourceCount.{SourceCount}
-use Rattle.hg_root.specs.Grammar.{HeadFits, PagesFit, root_text}
+use Rattle.hg_root.specs.Grammar.{HeadFits, PagesFit, former_text, root_text}
 use Rattle.hg_root.specs.Parts.{Parts}
 
 -- the numbers below n of the threads that a segment names, rising
@@ -82,7 +83,16 @@ pub record IsLawful (p : Parts) : Type 0 where
   pub pages_fit : PagesFit p.pages
   pub pages : HaveSlots p.pages
 
+-- The body spells these parts: as it is written, or, if all marks are plain, in the former form.
+abbrev pub IsSpelled : List ℕ → Parts → Type 0
+IsSpelled body p = (body ≡ root_text p) ⊎ ((body ≡ former_text p) × All (λ s. s.mark ≡ Plain) p.segments)
+
 -- The body spells these parts, which obey the rules.
 pub record IsRoot (body : List ℕ) (p : Parts) : Type 0 where
+  pub spelled : IsSpelled body p
+  pub lawful : IsLawful p
+
+-- The body is the one that is written for these parts, which obey the rules.
+pub record IsWritten (body : List ℕ) (p : Parts) : Type 0 where
   pub text : body ≡ root_text p
   pub lawful : IsLawful p

@@ -2,13 +2,17 @@
 use Rattle.std.specs.Prelude.{◌≡◌, ℕ, zero, suc, Bool, true, false, ◌&&◌, ◌||◌, ◌==◌, nat_lt, nat_le, List, [], ◌∷◌, length, map, take, drop, Option, Some, None, Result, Ok, Err, if◌then◌else◌}
 use Rattle.std.specs.Int.{Width, w16, w32, w64, byte_len, from_be_bytes}
 use Rattle.hg_graph.specs.Restoring.{former}
-use Rattle.hg_model.specs.declared.limits.TheConstants.{MOST_HELD, THREAD_NUMBERS}
+use Rattle.hg_model.specs.declared.limits.TheConstants.{MOST_HELD, MOST_PREDECESSORS, THREAD_NUMBERS}
 use Rattle.hg_model.specs.declared.held.HeldLock.{HeldLock}
+use Rattle.hg_model.specs.declared.segment.Mark.{Mark}
+use Rattle.hg_model.specs.declared.segment.Mark.TheVariants.{Plain, Sent, Got}
 use Rattle.hg_model.specs.declared.segment.Segment.{Segment}
 use Rattle.hg_model.specs.declared.thread.ThreadState.{ThreadState}
 use Rattle.hg_cells.specs.declared.report.KeptReport.{KeptReport}
 use Rattle.hg_root.specs.declared.fault.RootFault.{RootFault}
 use Rattle.hg_root.specs.declared.fault.RootFault.TheVariants.{Broken, Damaged, DeviceFault, OutOfMemory}
+use Rattle.hg_root.specs.declared.form.Form.{Form}
+use Rattle.hg_root.specs.declared.form.Form.TheVariants.{Former, Written}
 use Rattle.hg_root.specs.declared.parts.PageSlot.{PageSlot}
 use Rattle.hg_root.specs.declared.parts.SourceCount.{SourceCount}
 
@@ -32,6 +36,14 @@ byte_at (b ∷ bytes) = Some (b, bytes)
 abbrev pub both : {A B : Type 0} → Reader A → Reader B → Reader (A × B)
 both first second bytes = first bytes >>= λ a. second a.1 >>= λ b. Some ((a.0, b.0), b.1)
 
+-- one, and then another that depends on it
+abbrev pub chained : {A B : Type 0} → Reader A → (A → Reader B) → Reader (A × B)
+chained first second bytes = first bytes >>= λ a. second a.0 a.1 >>= λ b. Some ((a.0, b.0), b.1)
+
+-- this value, of no bytes
+abbrev pub given : {X : Type 0} → X → Reader X
+given x bytes = Some (x, bytes)
+
 -- a function of the value
 abbrev pub made : {A X : Type 0} → (A → X) → Reader A → Reader X
 made make read bytes = read bytes >>= λ a. Some (make a.0, a.1)
@@ -49,8 +61,28 @@ times read (suc n) bytes = read bytes >>= λ first. times read n first.1 >>= λ 
 abbrev pub listed : {X : Type 0} → Reader ℕ → Reader X → Reader (List X)
 listed count read bytes = count bytes >>= λ n. times read n.0 n.1
 
-abbrev pub segment_at : Reader Segment
-segment_at = made (λ p. record { thread = p.0; before = p.1 }) (both (number_at w16) (listed byte_at (number_at w32)))
+-- 0, 1 or 2
+abbrev pub mark_code_at : Reader ℕ
+mark_code_at = such_that (λ b. (b == 0) || ((b == 1) || (b == 2))) byte_at
+
+-- the message of a mark with this code, if it has one
+abbrev pub message_at : ℕ → Reader ℕ
+message_at code = if code == 0 then given 0 else number_at w32
+
+abbrev pub mark_of : ℕ × ℕ → Mark
+mark_of p = if p.0 == 0 then Plain else if p.0 == 1 then Sent p.1 else Got p.1
+
+-- a mark, which the former form does not spell
+abbrev pub mark_at : Form → Reader Mark
+mark_at Written = made mark_of (chained mark_code_at message_at)
+mark_at Former = given Plain
+
+-- two numbers at most
+abbrev pub before_at : Reader (List ℕ)
+before_at = listed (such_that (λ n. nat_le n MOST_PREDECESSORS) byte_at) (number_at w32)
+
+abbrev pub segment_at : Form → Reader Segment
+segment_at form = made (λ p. record { thread = p.0; before = p.1.0; mark = p.1.1 }) (both (number_at w16) (both before_at (mark_at form)))
 
 -- 1 or 2
 abbrev pub mode_at : Reader Bool

@@ -3,6 +3,7 @@
 
 mod body;
 mod fault;
+mod form;
 mod found;
 mod head;
 mod head_parts;

@@ -1,16 +1,17 @@
 //! The pieces of a body. Each is read from the front of the remaining bytes, and written at the end of the bytes so far.
-ghost use Rattle.std.specs.Prelude.{◌≡◌, ◌++◌, ◌<◌, ◌^◌, ℕ, List, Option, All, OnOk};
+ghost use Rattle.std.specs.Prelude.{◌≡◌, ◌∷◌, ◌++◌, ◌<◌, ◌^◌, ℕ, List, Option, All, OnOk};
 ghost use Rattle.std.specs.Int.{w16, w32, w64, to_be_bytes};
 ghost use Rattle.std.specs.List.{flat_map};
 ghost use Rattle.hg_root.specs.Grammar as text;
 ghost use Rattle.hg_root.specs.Reading as reading;
-ghost use Rattle.hg_root.specs.Reading.{Gives, byte_at, number_at, times, mode_at, alive_at, kind_at};
+ghost use Rattle.hg_root.specs.Reading.{Gives, before_at, byte_at, mark_at, number_at, segment_at, times, mode_at, alive_at, kind_at};
 
 use crate::fault::RootFault;
+use crate::form::Form;
 use crate::parts::{PageSlot, SourceCount};
 use hg_cells::KeptReport;
 use hg_model::held::HeldLock;
-use hg_model::segment::{Predecessors, Segment};
+use hg_model::segment::{Mark, Predecessors, Segment};
 use hg_model::sets::NumberSet;
 use std::alloc::{AllocError, Global};
 
@@ -139,26 +140,106 @@ impl Piece for u32 {
     }
 }
 
-impl Piece for Segment {
-    ghost text = { text.segment_text };
+/// The predecessors of a segment, two at most.
+fn before_of(bytes: &[u8]) -> Result<(Predecessors, &[u8]), RootFault>
+    ensures { Gives (λ x. (x.0, x.1.now)) result (before_at bytes.now) }
+{
+    match u8_at(bytes)? {
+        (0, rest) => Ok((Predecessors::none(), rest)),
+        (1, rest) => {
+            let (one, rest) = u32_at(rest)?;
+            Ok((Predecessors::one(one), rest))
+        }
+        (2, rest) => {
+            let (first, rest) = u32_at(rest)?;
+            let (second, rest) = u32_at(rest)?;
+            Ok((Predecessors::two(first, second), rest))
+        }
+        _ => Err(RootFault::Damaged),
+    }
+}
 
-    ghost reading = { reading.segment_at };
+/// The mark of a segment: 0, or 1 and a message that was sent, or 2 and a message that was received.
+fn mark_of(bytes: &[u8]) -> Result<(Mark, &[u8]), RootFault>
+    ensures { Gives (λ x. (x.0, x.1.now)) result (mark_at Form.Written bytes.now) }
+{
+    match u8_at(bytes)? {
+        (0, rest) => Ok((Mark::Plain, rest)),
+        (1, rest) => {
+            let (message, rest) = u32_at(rest)?;
+            Ok((Mark::Sent(message), rest))
+        }
+        (2, rest) => {
+            let (message, rest) = u32_at(rest)?;
+            Ok((Mark::Got(message), rest))
+        }
+        _ => Err(RootFault::Damaged),
+    }
+}
+
+/// A segment of the former form, whose mark is plain.
+pub(crate) fn former_segment_of(bytes: &[u8]) -> Result<(Segment, &[u8]), RootFault>
+    ensures { Gives (λ x. (x.0, x.1.now)) result (segment_at Form.Former bytes.now) }
+{
+    let (thread, rest) = u16_at(bytes)?;
+    let (before, rest) = before_of(rest)?;
+    let segment = Segment {
+        thread,
+        before,
+        mark: Mark::Plain,
+    };
+    Ok((segment, rest))
+}
+
+/// Puts the code of a mark and its message at the end.
+fn put_message(code: u8, message: u32, out: &mut Vec<u8>) -> Result<(), AllocError>
+    ensures { OnOk result (out.new.items ≡ out.old.items ++ code ∷ to_be_bytes w32 message) }
+{
+    out.push(code)?;
+    out.extend_from_slice(&message.to_be_bytes())
+}
+
+/// Puts a mark at the end.
+fn put_mark(mark: Mark, out: &mut Vec<u8>) -> Result<(), AllocError>
+    ensures { OnOk result (out.new.items ≡ out.old.items ++ text.mark_text Form.Written mark) }
+{
+    match mark {
+        Mark::Plain => {
+            out.push(0)?;
+            Ok(())
+        }
+        Mark::Sent(message) => put_message(1, message, out),
+        Mark::Got(message) => put_message(2, message, out),
+    }
+}
+
+impl Piece for Segment {
+    ghost use Rattle.hg_root.specs.declared.form.Form.TheVariants.{Written};
+
+    ghost text = { text.segment_text Written };
+
+    ghost reading = { reading.segment_at Written };
 
     ghost fits = { text.SegmentFits };
 
-    fn take(alloc: Global, bytes: &[u8]) -> Result<(Segment, &[u8]), RootFault> {
+    fn take(_alloc: Global, bytes: &[u8]) -> Result<(Segment, &[u8]), RootFault> {
         let (thread, rest) = u16_at(bytes)?;
-        let (count, rest) = u8_at(rest)?;
-        let (before, rest) = take_times(alloc, u32::from(count), rest)?;
-        let before = Predecessors::from_vec(before);
-        Ok((Segment { thread, before }, rest))
+        let (before, rest) = before_of(rest)?;
+        let (mark, rest) = mark_of(rest)?;
+        let segment = Segment {
+            thread,
+            before,
+            mark,
+        };
+        Ok((segment, rest))
     }
 
     fn put(&self, out: &mut Vec<u8>) -> Result<(), AllocError> {
         out.extend_from_slice(&self.thread.to_be_bytes())?;
         let before = self.before.as_slice();
         out.push(before.len() as u8)?;
-        put_each(before, out)
+        put_each(before, out)?;
+        put_mark(self.mark, out)
     }
 }
 

@@ -294,11 +294,11 @@ fn checked(
 }
 
 impl Root {
-    /// The root whose body these bytes are. `Damaged` exactly if they are not a root's body, `OutOfMemory` if memory is
-    /// refused.
+    /// The root whose body these bytes are, in either form. `Damaged` exactly if they are not a root's body, `OutOfMemory`
+    /// if memory is refused.
     ///
     /// Memory grows with the bytes that were read, whatever a count says: the parts themselves, sets and threads twice for
-    /// a while, and 2 MiB for tables of the profile.
+    /// a while, an entry for each message while the segments are tested, and 2 MiB for tables of the profile.
     pub fn decode(alloc: Global, body: &[u8]) -> Result<Root, RootFault>
         ensures found { IfOk result (λ r. IsRoot body.now (parts_of r)) }
         ensures known { IfOk result IsWhole }

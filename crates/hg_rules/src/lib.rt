@@ -2,6 +2,7 @@
 #![tactic(auto)]
 
 pub mod judging;
+pub mod messages;
 mod places;
 mod rebuilding;
 pub mod state;

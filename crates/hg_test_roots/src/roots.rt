@@ -7,7 +7,7 @@ use crate::threads::put_threads;
 use hg_cells::KeptReport;
 use hg_gate::{GateFault, Gated};
 use hg_model::limits::GREATEST_SOURCE;
-use hg_model::segment::Segment;
+use hg_model::segment::{Mark, Segment};
 use hg_root::{Newest, PageSlot, Root, RootFault, RootPair, SourceCount};
 use hg_sets::SetTable;
 use hg_test_kit::digits::bytes_of;
@@ -26,12 +26,22 @@ fn put_members(members: &[u16], out: &mut Text) {
     out.put(b"}");
 }
 
+/// A mark. Nothing for a plain one.
+fn put_mark(mark: Mark, out: &mut Text) {
+    match mark {
+        Mark::Plain => {}
+        Mark::Sent(message) => out.put_number(b",sent:", u64::from(message)),
+        Mark::Got(message) => out.put_number(b",got:", u64::from(message)),
+    }
+}
+
 fn put_segments(segments: &[Segment], out: &mut Text) {
     for segment in segments.iter() {
         out.put_number(b" ", u64::from(segment.thread));
         for before in segment.before.as_slice() {
             out.put_number(b",", u64::from(*before));
         }
+        put_mark(segment.mark, out);
     }
 }
 

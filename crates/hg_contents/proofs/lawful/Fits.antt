@@ -7,9 +7,10 @@ use Rattle.std.proofs.lemmas.Option.{slice_get-get_or}
 use Rattle.hg_model.specs.declared.segment.Segment.{Segment}
 use Rattle.hg_model.specs.declared.thread.ThreadState.{ThreadState}
 use Rattle.hg_cells.specs.declared.report.KeptReport.{KeptReport}
+use Rattle.hg_model.specs.Restoring.{marks_lawfully}
 use Rattle.hg_graph.specs.Graph.{names}
 use Rattle.hg_graph.specs.Restoring.{AreSegments, are_predecessors, former, has_former, has_thread, stands_behind}
-use Rattle.hg_root.specs.Grammar.{LockFits, ReportFits, SegmentFits, ThreadFits}
+use Rattle.hg_root.specs.Grammar.{LockFits, MarkFits, ReportFits, SegmentFits, ThreadFits}
 use Rattle.hg_root.specs.Lawful.{AreHeld, IsReport, named_threads}
 use Rattle.hg_sets.specs.Interning.{set_at}
 use Rattle.hg_contents.proofs.lawful.Changing.{numbers}
@@ -35,15 +36,16 @@ thread_fits n t has = pick (nat_eq n 0) (ltb-true t (cond (nat_eq n 0) 1 1024) h
     pick true lt = omega (arith, lt)
     pick false lt = omega (arith, lt)
 
-segment_fits : (earlier : List Segment) (s : Segment) → length earlier ≤ 1048576 → stands_behind earlier s ≡ true → SegmentFits s
-segment_fits earlier s few stands =
-    let parts = and_parts (has_thread (length earlier) s.thread) (are_predecessors (length earlier) s.before && has_former (former earlier s.thread) s.before) stands in
-    let others = and_parts (are_predecessors (length earlier) s.before) (has_former (former earlier s.thread) s.before) parts.1 in
-    (thread_fits (length earlier) s.thread parts.0, predecessors_fit (length earlier) s.before few others.0)
+segment_fits : (earlier : List Segment) (s : Segment) → length earlier ≤ 1048576 → stands_behind earlier s ≡ true → MarkFits s.mark → SegmentFits s
+segment_fits earlier s few stands mark =
+    let parts = and_parts (has_thread (length earlier) s.thread) (are_predecessors (length earlier) s.before && (has_former (former earlier s.thread) s.before && marks_lawfully earlier s.mark s)) stands in
+    let others = and_parts (are_predecessors (length earlier) s.before) (has_former (former earlier s.thread) s.before && marks_lawfully earlier s.mark s) parts.1 in
+    (thread_fits (length earlier) s.thread parts.0, (predecessors_fit (length earlier) s.before few others.0, mark))
 
-pub segments_fit : (segments : List Segment) → length segments ≤ 1048576 → AreSegments segments → AllByRecursion SegmentFits segments
-segments_fit segments few are =
-    recursion_from_All SegmentFits segments (λ k d lt. segment_fits (take k segments) (get_or segments k d) (omega (arith, few, length-take k segments)) (are k (get_or segments k d) (slice_get-get_or segments k d lt)))
+pub segments_fit : (segments : List Segment) → length segments ≤ 1048576 → AreSegments segments → All (λ s. MarkFits s.mark) segments → AllByRecursion SegmentFits segments
+segments_fit segments few are marks =
+    recursion_from_All SegmentFits segments
+    (λ k d lt. segment_fits (take k segments) (get_or segments k d) (omega (arith, few, length-take k segments)) (are k (get_or segments k d) (slice_get-get_or segments k d lt)) (marks k d lt))
 
 pub threads_few : (threads : List ThreadState) (segments : List Segment) → numbers threads ≡ named_threads segments → length threads ≤ 1024
 unfolding named_threads

@@ -12,7 +12,7 @@ use Rattle.hg_cells.specs.declared.cell.Cell.{Cell}
 use Rattle.hg_cells.specs.declared.report.KeptReport.{KeptReport}
 use Rattle.hg_sets.specs.Interning.{AreSets, Table}
 use Rattle.hg_detect.specs.Shown.{content, report_of}
-use Rattle.hg_root.specs.Grammar.{HeadFits, LockFits, ReportFits, SetFits}
+use Rattle.hg_root.specs.Grammar.{HeadFits, LockFits, MarkFits, ReportFits, SetFits}
 use Rattle.hg_root.specs.Heads.{head_parts}
 use Rattle.hg_root.specs.Lawful.{IsLawfulHead, IsReport}
 use Rattle.hg_root.specs.Lawful as root
@@ -33,6 +33,7 @@ pub record IsShown (c : Content) (sets : Table) (kept : List KeptReport) : Type 
   pub lawful : IsLawfulContent c
   pub table : AreSets sets
   pub members : All SetFits sets.sets
+  pub messages : All (λ s. MarkFits s.mark) c.segments
   pub locks : All (λ t. All LockFits t.held) c.threads
   pub reports : c.reports ≡ map (report_of sets.sets) kept
   pub named : All (λ r. r.threads < length sets.sets) kept
@@ -73,7 +74,7 @@ module _ (c : Content) (sets : Table) (kept : List KeptReport) (shown : IsShown 
         number = omega (arith, most);
         events = omega (arith, few);
         segment_count = omega (arith, count);
-        segments = segments_fit c.segments count lawful.segments;
+        segments = segments_fit c.segments count lawful.segments shown.messages;
         thread_count = omega (arith, threads_few c.threads c.segments lawful.named);
         threads = threads_fit c.threads c.segments lawful.named lawful.held shown.locks;
         set_count = omega (arith, sets_few);
@@ -107,7 +108,7 @@ module _ (c : Content) (sets : Table) (kept : List KeptReport) (shown : IsShown 
 
 pub detector_head : {W : Type 0} (cell_of : W → ℕ → Cell) → ADetectorHasALawfulHead cell_of
 detector_head cell_of d number fits least most =
-    head (content cell_of d) d.sets d.kept (record { lawful = fits.lawful; table = fits.table; members = fits.members; locks = fits.locks; reports = refl; named = fits.named }) number least most
+    head (content cell_of d) d.sets d.kept (record { lawful = fits.lawful; table = fits.table; members = fits.members; messages = fits.messages; locks = fits.locks; reports = refl; named = fits.named }) number least most
 
 pub small_numbers : (c : Content) → IsLawfulContent c → All (λ t. t.number < 1024) c.threads
 small_numbers c lawful = All-from_recursion (λ (t : ThreadState). t.number < 1024) c.threads (each_unmapped (λ n. n < 1024) c.threads (numbered c.threads c.segments lawful.named).small)

@@ -7,6 +7,7 @@ use Rattle.std.proofs.lemmas.Option.{slice_get-get_or}
 use Rattle.std.specs.List.{AllByRecursion, list_any}
 use Rattle.hg_model.specs.declared.segment.Segment.{Segment}
 use Rattle.hg_model.specs.Paths.{HasEdge, IsRising, Itself, Reaches, before, reaches}
+use Rattle.hg_model.specs.Restoring.{marks_lawfully}
 use Rattle.hg_model.specs.Segments.{of_thread, present, thread_at}
 use Rattle.hg_model.proofs.Graph.{goes_on, reaches_is_path}
 use Rattle.hg_model.proofs.Owners.{present_push}
@@ -41,9 +42,9 @@ module _ (segments : List Segment) (are : AreSegments segments) where
       let s = get_or segments k (of_thread 0 []) in
       let earlier = take k segments in
       let stands = are k s (slice_get-get_or segments k (of_thread 0 []) lt) in
-      let links = (and_parts (has_thread (length earlier) s.thread) (are_predecessors (length earlier) s.before && has_former (former earlier s.thread) s.before) stands).1 in
-      let parts = and_parts (are_predecessors (length earlier) s.before) (has_former (former earlier s.thread) s.before) links in
-      (ap (λ (n : ℕ). are_predecessors n s.before) (sym (length-take-le k segments (omega (arith, lt)))) ∙ parts.0, parts.1)
+      let links = (and_parts (has_thread (length earlier) s.thread) _ stands).1 in
+      let parts = and_parts (are_predecessors (length earlier) s.before) (has_former (former earlier s.thread) s.before && marks_lawfully earlier s.mark s) links in
+      (ap (λ (n : ℕ). are_predecessors n s.before) (sym (length-take-le k segments (omega (arith, lt)))) ∙ parts.0, (and_parts (has_former (former earlier s.thread) s.before) (marks_lawfully earlier s.mark s) parts.1).0)
 
   edges_rise : IsRising segments
   edges_rise g = pick (cases_lt g (length segments))

@@ -24,7 +24,7 @@ use Rattle.hg_detect.specs.Shown.{report_of}
 use Rattle.hg_pages.specs.Slots.{AreKnown, IsKnown}
 use Rattle.hg_root.specs.declared.parts.PageSlot.{PageSlot}
 use Rattle.hg_root.specs.Checkpoints.{Checkpoint, HasPages}
-use Rattle.hg_root.specs.Grammar.{LockFits, ReportFits, SetFits, ThreadFits}
+use Rattle.hg_root.specs.Grammar.{LockFits, MarkFits, ReportFits, SegmentFits, SetFits, ThreadFits}
 use Rattle.hg_root.specs.Lawful.{IsLawful, IsReport}
 use Rattle.hg_root.specs.Lawful as root
 use Rattle.hg_contents.specs.Images.{cell_of, content_of, has_slot}
@@ -146,6 +146,7 @@ module _ (c : Checkpoint) (slots : List ℕ) (is : IsLawful c.root) (pages : Has
 
   content_is_spelled : HasSpellings (content_of c)
   content_is_spelled = record {
+    messages = All-from_recursion (λ (s : Segment). MarkFits s.mark) c.root.segments (each_weaker SegmentFits (λ s. MarkFits s.mark) (λ s fits. fits.1.1) c.root.segments is.head.fits.segments);
     locks = All-from_recursion (λ (t : ThreadState). All LockFits t.held) c.root.threads (each_weaker ThreadFits (λ t. All LockFits t.held) (λ t fits. All-from_recursion LockFits t.held fits.1.1) c.root.threads is.head.fits.threads);
     words = λ w. All-from_recursion SetFits _ (word_sets sets is.head.fits.sets (cell_of c w));
   }

@@ -15,15 +15,15 @@ use Rattle.hg_model.specs.Contents.{Content}
 use Rattle.hg_model.specs.History.{overlaps}
 use Rattle.hg_model.specs.Locks.{counted, with_hold}
 use Rattle.hg_model.specs.Paths.{reaches}
-use Rattle.hg_model.specs.Segments.{present, thread_at}
+use Rattle.hg_model.specs.Segments.{opened, present, thread_at}
 use Rattle.hg_model.specs.Sets.{common, contains, set_of, with_member}
 use Rattle.hg_model.specs.Sharing.{shared}
 use Rattle.hg_model.specs.Change.{after, dead, empty_content, locks_of, threads_after, touched, word_after}
 use Rattle.hg_records.specs.Records.{EventFits, RecordFits}
-use Rattle.hg_root.specs.Grammar.{LockFits}
+use Rattle.hg_root.specs.Grammar.{LockFits, MarkFits}
 use Rattle.hg_contents.proofs.lawful.Changing.{each_added, each_changed}
 use Rattle.hg_contents.proofs.lawful.Holding.{EachHolds, Holds, holds_after, holds_first}
-use Rattle.hg_contents.proofs.lawful.Lists.{each_mapped}
+use Rattle.hg_contents.proofs.lawful.Lists.{each_both, each_mapped}
 use Rattle.hg_contents.proofs.lawful.Ordering.{each_filter}
 use Rattle.hg_contents.proofs.lawful.Passing.{Passed}
 
@@ -109,6 +109,7 @@ either false x y one other = other
 -- the locks of threads and of words
 pub record IsSpelled (c : Content) : Type 0 where
   pub holds : EachHolds c
+  pub messages : AllByRecursion (λ s. MarkFits s.mark) c.segments
   pub locks : AllByRecursion LocksFit c.threads
   pub words : (w : ℕ) → IsFew (candidates (c.words w))
 
@@ -123,12 +124,25 @@ word_few c (Write a) w is = either (overlaps a.at a.len w) _ _ (touched_few c.se
 word_few c (Alloc b) w is = either (overlaps b.at b.len w) New (c.words w) none_few (is.words w)
 word_few c (Free b) w is = either (overlaps b.at b.len w) New (c.words w) none_few (is.words w)
 
+-- no event marks a segment
+opened_fit : (segments : List Segment) (e : Event) → AllByRecursion (λ s. MarkFits s.mark) (opened segments e)
+opened_fit segments (Fork p c) = (tt, (tt, tt))
+opened_fit segments (Join p c) = (tt, tt)
+opened_fit segments (Lock t l) = tt
+opened_fit segments (RdLock t l) = tt
+opened_fit segments (Unlock t l) = tt
+opened_fit segments (Read a) = tt
+opened_fit segments (Write a) = tt
+opened_fit segments (Alloc b) = tt
+opened_fit segments (Free b) = tt
+
 pub spelled_first : IsSpelled empty_content
-spelled_first = record { holds = holds_first; locks = (tt, tt); words = λ w. none_few }
+spelled_first = record { holds = holds_first; messages = (tt, tt); locks = (tt, tt); words = λ w. none_few }
 
 pub spelled_after : (c : Content) (n : Named) → RecordFits n → Passed c n → IsSpelled c → IsSpelled (after c n)
 spelled_after c n fits pass is = record {
   holds = holds_after c n pass is.holds;
+  messages = each_both (λ s. MarkFits s.mark) c.segments (opened c.segments n.event) is.messages (opened_fit c.segments n.event);
   locks = locks_fit n.event c.threads fits.1.1 is.locks;
   words = λ w. word_few c n.event w is;
 }

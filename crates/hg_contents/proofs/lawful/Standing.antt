@@ -48,7 +48,7 @@ pub stands : (earlier : List Segment) (t : ℕ) (xs : List ℕ) → 1 ≤ length
 stands earlier t xs some small preceding own =
     and_from (has_thread (length earlier) t) _
     (ap (λ b. nat_lt t (cond b 1 1024)) (ne_eqb (length earlier) 0 (λ e. omega (arith, e, some))) ∙ lt-ltb t 1024 (omega (arith, small)))
-    (and_from (are_predecessors (length earlier) xs) (has_former (former earlier t) xs) preceding own)
+    (and_from (are_predecessors (length earlier) xs) _ preceding (and_from (has_former (former earlier t) xs) true own refl))
 
 pub present_below : (segments : List Segment) (t : ℕ) → 1 ≤ length segments → present segments t < length segments
 present_below segments t some = last_of_lt t 0 0 (length segments) segments (omega (arith, some)) (omega arith)

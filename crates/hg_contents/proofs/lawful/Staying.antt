@@ -3,6 +3,7 @@ use Rattle.std.proofs.Common.{◌≡◌, inl, inr, ℕ, suc, ◌+◌, List, [], 
 use Rattle.std.specs.List.{AllByRecursion}
 use Rattle.std.specs.Option.{option_and_then}
 use Rattle.std.proofs.lemmas.List.Elements.{recursion_from_All}
+use Rattle.hg_model.specs.declared.segment.Segment.{Segment}
 use Rattle.hg_model.specs.declared.event.Named.{Named}
 use Rattle.hg_model.specs.declared.report.Report.{Report}
 use Rattle.hg_model.specs.declared.thread.ThreadState.{ThreadState}
@@ -16,7 +17,7 @@ use Rattle.hg_model.proofs.ThreadSets.{kept, start}
 use Rattle.hg_records.specs.Records.{RecordFits}
 use Rattle.hg_cells.specs.declared.cell.Cell.{Cell}
 use Rattle.hg_detect.specs.Making.{sets_in}
-use Rattle.hg_root.specs.Grammar.{LockFits, SetFits}
+use Rattle.hg_root.specs.Grammar.{LockFits, MarkFits, SetFits}
 use Rattle.hg_contents.specs.Lawful.{AreInOrder, IsBefore, IsLawfulContent, IsReportOf}
 use Rattle.hg_contents.specs.Spellings.{HasSpellings}
 use Rattle.hg_contents.specs.States.{IsLawfulState, StatesFit}
@@ -83,6 +84,7 @@ locks_few (SharedModified threads locks) all = let fits = (recursion_from_All Se
 spelled : (c : Content) → IsLawfulContent c → HasSpellings c → IsSpelled c
 spelled c is has = record {
   holds = holds c is;
+  messages = recursion_from_All (λ (s : Segment). MarkFits s.mark) c.segments has.messages;
   locks = each_weaker (λ x. All LockFits x.held) LocksFit (λ x all. recursion_from_All LockFits x.held all) c.threads (recursion_from_All (λ (x : ThreadState). All LockFits x.held) c.threads has.locks);
   words = λ w. locks_few (c.words w) (has.words w);
 }
@@ -109,4 +111,4 @@ pub one_stays : (c : Content) (n : Named) → IsLawfulState c → RecordFits n �
 one_stays c n state fits accepted = followed_stay c (after c n) (n ∷ []) state (fits, tt) (ap (λ v. option_and_then (λ d. followed d []) (cond (is_accept v) (Some (after c n)) None)) accepted)
 
 pub fits_a_root : {W : Type 0} (cell_of : W → ℕ → Cell) → StatesFit cell_of
-fits_a_root cell_of d state table members named = record { lawful = state.lawful; table = table; members = members; locks = state.spelled.locks; named = named }
+fits_a_root cell_of d state table members named = record { lawful = state.lawful; table = table; members = members; messages = state.spelled.messages; locks = state.spelled.locks; named = named }

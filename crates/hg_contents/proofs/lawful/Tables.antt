@@ -3,6 +3,7 @@ use Rattle.std.proofs.Common.{◌≡◌, ◌⊎◌, inl, inr, ℕ, ◌≤◌, �
 use Rattle.std.specs.Prelude.{flat_map}
 use Rattle.std.specs.List.{AllByRecursion}
 use Rattle.std.proofs.lemmas.List.Elements.{All-append, All-cons, All-from_recursion, All-nil, recursion_from_All}
+use Rattle.hg_model.specs.declared.segment.Segment.{Segment}
 use Rattle.hg_model.specs.declared.event.Event.{Event}
 use Rattle.hg_model.specs.declared.event.Event.TheVariants.{Fork, Join, Lock, RdLock, Unlock, Read, Write, Alloc, Free}
 use Rattle.hg_model.specs.declared.event.Named.{Named}
@@ -22,7 +23,7 @@ use Rattle.hg_sets.specs.Interning.{Interns, Table}
 use Rattle.hg_sets.specs.declared.fault.SetFault.{SetFault}
 use Rattle.hg_sets.specs.declared.fault.SetFault.TheVariants.{Full, OutOfMemory}
 use Rattle.hg_detect.specs.Making.{Asks, AsksBy, sets_asked, sets_in}
-use Rattle.hg_root.specs.Grammar.{LockFits, SetFits}
+use Rattle.hg_root.specs.Grammar.{LockFits, MarkFits, SetFits}
 use Rattle.hg_contents.specs.Spellings.{HasSpellings}
 use Rattle.hg_contents.proofs.lawful.Lists.{each_both, each_weaker}
 use Rattle.hg_contents.proofs.lawful.Passing.{kept_with}
@@ -43,6 +44,7 @@ both_fit (SharedModified threads locks) rises is = All-from_recursion SetFits (t
 
 pub has_spellings : (c : Content) → IsSpelled c → HasThreadSets c → HasSpellings c
 has_spellings c is sets = record {
+  messages = All-from_recursion (λ (s : Segment). MarkFits s.mark) c.segments is.messages;
   locks = All-from_recursion (λ (x : ThreadState). All LockFits x.held) c.threads (each_weaker LocksFit (λ x. All LockFits x.held) (λ x all. All-from_recursion LockFits x.held all) c.threads is.locks);
   words = λ w. both_fit (c.words w) (sets.words w) (is.words w);
 }

@@ -1,6 +1,7 @@
 use Rattle.std.proofs.Common.{◌≡◌, ◌∙◌, ◌++◌, List, ap, rules}
 use Rattle.std.specs.Int.{w64, to_be_bytes}
 use Rattle.hg_model.specs.declared.segment.Segment.{Segment}
+use Rattle.hg_root.specs.declared.form.Form.TheVariants.{Written}
 use Rattle.hg_root.specs.Grammar.{ReportFits, SegmentFits, SetFits, SourceFits, ThreadFits, header, many_text, report_text, segment_text, set_text, some_text, source_text, thread_text}
 use Rattle.std.proofs.lemmas.List.Elements.{All-from_recursion}
 use Rattle.hg_root.proofs.HeadChain.{chain}
@@ -39,11 +40,11 @@ put_some-requires-clause-fits c = All-from_recursion SourceFits c.args.parts.now
 
 pub returns : goal.returns
 returns c = on_ok c.put_some.result (λ last.
-    let e1 : c.extend_from_slice.new.self.items ≡ c.args.out.now.items ++ header = search rules in
+    let e1 : c.extend_from_slice.new.self.items ≡ c.args.out.now.items ++ header Written = search rules in
     let e2 : c.extend_from_slice-2.new.self.items ≡ c.extend_from_slice.new.self.items ++ to_be_bytes w64 c.args.parts.now.number = search rules in
     let e3 : c.extend_from_slice-3.new.self.items ≡ c.extend_from_slice-2.new.self.items ++ to_be_bytes w64 c.args.parts.now.events = search rules in
-    let e4 : c.put_many.new.out.items ≡ c.extend_from_slice-3.new.self.items ++ many_text segment_text c.args.parts.now.graph.now = c.in_ok-put_many.ensures ∙ ap (λ (s : List Segment). c.extend_from_slice-3.new.self.items ++ many_text segment_text s) c.segments.ensures.value in
+    let e4 : c.put_many.new.out.items ≡ c.extend_from_slice-3.new.self.items ++ many_text (segment_text Written) c.args.parts.now.graph.now = c.in_ok-put_many.ensures ∙ ap (λ (s : List Segment). c.extend_from_slice-3.new.self.items ++ many_text (segment_text Written) s) c.segments.ensures.value in
     chain c.args.out.now.items c.extend_from_slice.new.self.items c.extend_from_slice-2.new.self.items c.extend_from_slice-3.new.self.items c.put_many.new.out.items c.put_threads.new.out.items c.put_sets.new.out.items
-    c.extend_from_slice-4.new.self.items c.put_many-2.new.out.items c.put_some.new.out.items header (to_be_bytes w64 c.args.parts.now.number) (to_be_bytes w64 c.args.parts.now.events) (many_text segment_text c.args.parts.now.graph.now)
+    c.extend_from_slice-4.new.self.items c.put_many-2.new.out.items c.put_some.new.out.items (header Written) (to_be_bytes w64 c.args.parts.now.number) (to_be_bytes w64 c.args.parts.now.events) (many_text (segment_text Written) c.args.parts.now.graph.now)
     (some_text (thread_text c.args.parts.now.graph.now) c.args.parts.now.threads.now) (many_text set_text c.args.parts.now.sets.now.sets) (to_be_bytes w64 c.args.parts.now.total) (many_text report_text c.args.parts.now.reports.now) (some_text source_text c.args.parts.now.sources.now)
     e1 e2 e3 e4 c.in_ok-put_threads.ensures c.in_ok-put_sets.ensures (search rules) c.in_ok-put_many-2.ensures last) c.put_some.ensures

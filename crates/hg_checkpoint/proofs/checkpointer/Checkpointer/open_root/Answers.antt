@@ -6,7 +6,7 @@ use Rattle.hg_checkpoint.specs.declared.phase.Phase.{Phase}
 use Rattle.hg_checkpoint.specs.Standing.{RootsStand}
 use Rattle.hg_checkpoint.proofs.Rooting.{either_moment, still_either, turned_moment}
 use Rattle.hg_checkpoint.proofs.Answering.{counted_fault, root_calls, same_fault}
-use Rattle.hg_checkpoint.proofs.Sealing.{opened_names, opened_slots}
+use Rattle.hg_checkpoint.proofs.Sealing.{as_root, opened_names, opened_slots}
 use Rattle.hg_checkpoint.proofs.checkpointer.Checkpointer.open_root.Goals as goal
 
 pub returns-in-Err-clause-any_moment : goal.returns-in-Err-clause-any_moment
@@ -17,7 +17,7 @@ returns-in-Ok-clause-stands g c = λ now former next stands is.
     let old = c.args.self.now in
     let at = subst (λ (phase : Phase). RootsStand g.D.Disk phase old.roots (root_of now) former old.body.value.items) c.in_default.ensures.phase.1 stands.roots in
     record {
-      roots = c.take_turns.ensures.stands (root_of now) next.root (c.in-Ok.ensures.opened (root_of now) next.root old.body.value.items at (is.body c.in_default.ensures.phase.1) is.below);
+      roots = c.take_turns.ensures.stands (root_of now) next.root (c.in-Ok.ensures.opened (root_of now) next.root old.body.value.items at (as_root old.body.value.items next.root (is.body c.in_default.ensures.phase.1)) is.below);
       slots = opened_slots g.D.Disk c.args.pool.now c.root_opened.new.self (HasSlotsOf (Some next) (root_of now)) c.root_opened.ensures is.slots;
       names = opened_names c.args.pool.now c.root_opened.new.self next.root c.root_opened.ensures is.names;
     }
@@ -26,14 +26,14 @@ pub returns-in-Ok-clause-any_moment : goal.returns-in-Ok-clause-any_moment
 returns-in-Ok-clause-any_moment g c = λ now former next stands is.
     let old = c.args.self.now in
     let at = subst (λ (phase : Phase). RootsStand g.D.Disk phase old.roots (root_of now) former old.body.value.items) c.in_default.ensures.phase.1 stands.roots in
-    let opened = either_moment g.D.Disk old.roots c.open_gate.new.self (root_of now) former next.root c.open_gate.ensures.older.turn (c.open_gate.ensures.any_moment (root_of now) next.root old.body.value.items at (is.body c.in_default.ensures.phase.1) is.below) in
+    let opened = either_moment g.D.Disk old.roots c.open_gate.new.self (root_of now) former next.root c.open_gate.ensures.older.turn (c.open_gate.ensures.any_moment (root_of now) next.root old.body.value.items at (as_root old.body.value.items next.root (is.body c.in_default.ensures.phase.1)) is.below) in
     turned_moment g.D.Disk old.roots c.open_gate.new.self c.take_turns.new.self _ c.take_turns.ensures.first c.take_turns.ensures.second opened
 
 pub returns-in-Err-open_gate-clause-any_moment : goal.returns-in-Err-open_gate-clause-any_moment
 returns-in-Err-open_gate-clause-any_moment g c = λ now former next stands is.
     let old = c.args.self.now in
     let at = subst (λ (phase : Phase). RootsStand g.D.Disk phase old.roots (root_of now) former old.body.value.items) c.in_default.ensures.phase.1 stands.roots in
-    either_moment g.D.Disk old.roots c.open_gate.new.self (root_of now) former next.root c.open_gate.ensures.older.turn (c.open_gate.ensures.any_moment (root_of now) next.root old.body.value.items at (is.body c.in_default.ensures.phase.1) is.below)
+    either_moment g.D.Disk old.roots c.open_gate.new.self (root_of now) former next.root c.open_gate.ensures.older.turn (c.open_gate.ensures.any_moment (root_of now) next.root old.body.value.items at (as_root old.body.value.items next.root (is.body c.in_default.ensures.phase.1)) is.below)
 
 pub returns-in-Err-clause-device : goal.returns-in-Err-clause-device
 returns-in-Err-clause-device g c = same_fault (Unit {0}) ℕ c.args.self.now.is_broken c.in-Err.fault c.in-Err.ensures.device

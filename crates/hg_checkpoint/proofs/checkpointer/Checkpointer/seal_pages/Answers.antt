@@ -8,7 +8,7 @@ use Rattle.hg_checkpoint.specs.declared.phase.Phase.{Phase}
 use Rattle.hg_checkpoint.specs.Standing.{RootsStand}
 use Rattle.hg_checkpoint.specs.Tables.{NamesOf}
 use Rattle.hg_checkpoint.proofs.Staying.{slots_stay}
-use Rattle.hg_checkpoint.proofs.Sealing.{below_with, is_root, named_rows, next_slots}
+use Rattle.hg_checkpoint.proofs.Sealing.{below_with, is_written, named_rows, next_slots}
 use Rattle.hg_checkpoint.proofs.Tables.{new_elsewhere}
 use Rattle.hg_checkpoint.proofs.checkpointer.Checkpointer.seal_pages.Goals as goal
 
@@ -51,7 +51,7 @@ returns-in-Ok-clause-next g c = λ now former parts cells stands draft.
     let slots = at_end g.D.Disk (disk_of from) (disk_of to) (HasSlotsOf now former) (slots_stay g.D.Disk g.met.D.Disk.has_its_bytes from to now former went stands.names stands.slots) in
     let sealed = c.in-Ok.ensures.sealed draft.whole c.in_default.ensures.phase.1.1 in
     record {
-      head = (draft.head.0, draft.head.1, is_root now parts draft.head.0 old.next to.slots to.frozen draft.head.2 nameable);
+      head = (draft.head.0, draft.head.1, is_written now parts draft.head.0 old.next to.slots to.frozen draft.head.2 nameable);
       sealed = c.in-Ok.ensures.marked c.in_default.ensures.phase.1.1;
       body = λ written. absurd (cc written);
       below = below_with (root_of now) parts to.frozen draft.head.2.below;

@@ -1,0 +1,98 @@
+//! The messages of a trace: which were sent, and which of those were received.
+
+ghost use Rattle.std.specs.Prelude.{◌≡◌, ◌≤◌, ◌==◌, ◌∷◌, ◌++◌, [], true, List, ℕ, None, Some, OnOk, if◌then◌else◌};
+ghost use Rattle.hg_model.specs.declared.segment.Segment.{Segment};
+ghost use Rattle.hg_rules.specs.Messages.{Agrees, at, is_taken, is_there, may_follow, may_note, noted};
+
+use hg_model::segment::Mark;
+use std::alloc::{AllocError, Global};
+use std::collections::HashMap;
+use std::marker::Model;
+
+/// The messages that were sent, each with whether it was received. A contract sees look-ups, and for how many more
+/// messages there is room.
+#[derive(Drop)]
+pub struct MessageTable {
+    received: HashMap<u32, bool>,
+}
+
+impl Model for MessageTable {
+    ghost use Rattle.std.specs.HashMap.{spare};
+    ghost use Rattle.hg_rules.specs.Messages.{Messages};
+
+    ghost Value = { Messages };
+
+    ghost view = { λ s. record { entries = s.received.entries; room = spare s.received } };
+}
+
+impl MessageTable {
+    /// No message. It takes no memory yet.
+    pub fn new(alloc: Global) -> Self
+        ensures none { (k : ℕ) → at result k ≡ None }
+        ensures agrees { Agrees [] result }
+    {
+        MessageTable {
+            received: HashMap::new(alloc),
+        }
+    }
+
+    /// Whether the message was sent.
+    pub fn is_sent(&self, message: u32) -> bool
+        ensures { result ≡ is_there (at self.now message) }
+    {
+        self.received.get(&message).is_some()
+    }
+
+    /// Whether the message was received.
+    pub fn is_received(&self, message: u32) -> bool
+        ensures { result ≡ is_taken (at self.now message) }
+    {
+        match self.received.get(&message) {
+            Some(received) => *received,
+            None => false,
+        }
+    }
+
+    /// Whether the next segment may have this mark: a message is sent once, and received once, behind its send.
+    pub fn may_note(&self, mark: Mark) -> bool
+        ensures value { result ≡ may_note self.now mark }
+        ensures follows { (segments : List Segment) → Agrees segments self.now → result ≡ may_follow segments mark }
+    {
+        match mark {
+            Mark::Plain => true,
+            Mark::Sent(message) => !self.is_sent(message),
+            Mark::Got(message) => self.is_sent(message) && !self.is_received(message),
+        }
+    }
+
+    /// Makes room for one more message. The messages stay.
+    pub fn make_room(&mut self) -> Result<(), AllocError>
+        ensures room { OnOk result (1 ≤ self.new.room) }
+        ensures same { (k : ℕ) → at self.new k ≡ at self.old k }
+    {
+        self.received.reserve(1)
+    }
+
+    /// Notes the mark of the next segment. It takes no memory.
+    pub fn note(&mut self, mark: Mark)
+        requires lawful { may_note self.old mark ≡ true }
+        requires room { 1 ≤ self.old.room }
+        ensures noted { (k : ℕ) → at self.new k ≡ noted self.old mark k }
+        ensures agrees { (segments : List Segment) (s : Segment) → s.mark ≡ mark → Agrees segments self.old →
+            Agrees (segments ++ s ∷ []) self.new }
+    {
+        match mark {
+            Mark::Plain => {}
+            Mark::Sent(message) => self.set(message, false),
+            Mark::Got(message) => self.set(message, true),
+        }
+    }
+
+    // Notes whether a message was received.
+    fn set(&mut self, message: u32, received: bool)
+        requires { 1 ≤ self.old.room }
+        ensures { (k : ℕ) → at self.new k ≡ (if message == k then Some received else at self.old k) }
+    {
+        let _ = self.received.insert(message, received);
+    }
+}
