@@ -5,7 +5,9 @@
 # make scenarios  proves and builds the program that runs tests/scenarios, and runs them
 # make test     proves all crates from nothing, and tries what no proof says
 # make mutants  tries every wrong program, also those that make test leaves out (dev/mutants)
-# make install  copies the program to PREFIX/bin (PREFIX is /usr/local, DESTDIR goes before it)
+# make install  copies the program to PREFIX/bin, with its manual page, and the recorder where it is built (PREFIX is /usr/local,
+#               DESTDIR goes before it)
+# make deb      makes a Debian package of the program and the recorder, at build
 # make recorder builds what records traces of pthread programs, at build/recorder (not proved; needs a C compiler)
 # make bench    speed and memory beside the yardstick (needs rustc)
 # make picture  draws docs/graph-example.svg anew (needs Graphviz)
@@ -15,7 +17,7 @@ PREFIX ?= /usr/local
 # What the program is made of; what `rt` made is no source.
 SOURCES := crates.txt $(shell find crates -type d \( -name out -o -name must-fail -o -name mutants \) -prune -o -type f -print)
 
-.PHONY: try run build quick scenarios test mutants install recorder bench picture clean
+.PHONY: try run build quick scenarios test mutants install deb recorder bench picture clean
 
 try:
 	@echo 'hgd check < examples/unordered-writes.trace, built without its proof:'
@@ -46,7 +48,10 @@ mutants:
 	dev/mutants --all
 
 install: build/hgd
-	install -D -m 755 build/hgd $(DESTDIR)$(PREFIX)/bin/hgd
+	packaging/install "$(PREFIX)" "$(DESTDIR)"
+
+deb: build/hgd recorder
+	packaging/deb
 
 recorder:
 	$(MAKE) -C recorder
