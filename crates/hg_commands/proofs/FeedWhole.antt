@@ -5,7 +5,7 @@ use Rattle.hg_model.specs.declared.verdict.Refusal.{Refusal}
 use Rattle.hg_model.specs.Contents.{Content}
 use Rattle.hg_streams.specs.declared.call.ReadCall.{ReadCall}
 use Rattle.hg_streams.specs.declared.call.WriteCall.{WriteCall}
-use Rattle.hg_streams.specs.Calls.{MayBe, failed_reads, given, failed_writes}
+use Rattle.hg_streams.specs.Calls.{MayBe, NoneRefused, failed_reads, given, failed_writes, refused_reads}
 use Rattle.std.proofs.lemmas.Bool.{true≢false}
 use Rattle.hg_store.specs.declared.devices.Devices.{Devices}
 use Rattle.hg_streams.specs.Told.{told_refusal}
@@ -18,7 +18,7 @@ use Rattle.hg_reading.specs.declared.ending.Ending.{Ending}
 use Rattle.hg_reading.specs.declared.ending.Ending.TheVariants.{Ended}
 use Rattle.hg_reading.specs.Endings.{ending_of}
 use Rattle.hg_reading.proofs.Inputs.{begins_with}
-use Rattle.hg_streams.proofs.Inputs.{failed_reads_on}
+use Rattle.hg_streams.proofs.Inputs.{failed_reads_on, none_refused, refused_reads_on}
 use Rattle.hg_commands.specs.Feeding.{FeedsTo, LiesOnWay}
 use Rattle.hg_commands.specs.FeedRunning.{FeedEndsBy, Feeds, HasFront, LeadsOn, LiesOnWayOfAny, Place, WentWell, content_at, table_at}
 use Rattle.hg_commands.specs.Instants.{Instant}
@@ -160,6 +160,7 @@ module _ {D S : Type 0} (g : disk.Ghosts D) (takes : Taking S Ending) (at : S �
         record {
           is = inl (taken.cause x refl);
           failed = inl (omega (arith, taken.failures, w.intact, ap failed_reads w.since, failed_reads_on w.later first));
+          memory = inr (none_refused first now w.later w.since w.intact);
         }
 
     fails_broke : (first now : List ReadCall) (s t : S) (o p : List WriteCall) (x : Refusal) → ReadBroke takes first now s o x t p
@@ -169,14 +170,16 @@ module _ {D S : Type 0} (g : disk.Ghosts D) (takes : Taking S Ending) (at : S �
         ⊎_elim
         (λ memory. record {
           is = inl (inl (inl memory.0));
-          failed = inl (omega (arith, taken.failures, ap told_refusal memory.0, ap failed_reads w.since, failed_reads_on w.later first, ap failed_reads memory.1));
+          failed = inl (omega (arith, taken.failures, ap told_refusal memory.0, ap failed_reads w.since, failed_reads_on w.later first, memory.1.0));
+          memory = inl memory.0;
         })
         (λ device. record {
           is = inl (inl (inr device.0));
           failed = ⊎_elim
               (λ one. inl (omega (arith, taken.failures, ap told_refusal device.0, ap failed_reads w.since, failed_reads_on w.later first, one)))
               (λ many. inr (device.0, omega (arith, many, ap length w.since, length-append w.later first)))
-              device.1;
+              device.1.1;
+          memory = inr (omega (arith, device.1.0, ap refused_reads w.since, refused_reads_on w.later first));
         })
         w.cause
 
@@ -195,8 +198,13 @@ pub fails_behind : {D : Type 0} (g : disk.Ghosts D) (asked : Bool) (old new : De
 fails_behind g asked old new first now o p q r same f = record {
   is = ⊎_elim (λ fault. inl fault) (λ due. absurd (true≢false (sym due.0))) f.is;
   failed = ⊎_elim (λ one. inl (omega (arith, one, same))) (λ many. inr many) f.failed;
+  memory = f.memory;
 }
 
 -- no read of an input failed that was fed
 pub reads_intact : {D : Type 0} (g : disk.Ghosts D) (first now : List ReadCall) (source : ℕ) (table : Table) (start last : Content) (end : Ending) → Feeds g first now source table start last end → failed_reads now ≡ failed_reads first
 reads_intact g first now source table start last end f = ap failed_reads f.since ∙ omega (arith, failed_reads_on f.later first, f.whole)
+
+-- nor was one refused memory
+pub reads_served : {D : Type 0} (g : disk.Ghosts D) (first now : List ReadCall) (source : ℕ) (table : Table) (start last : Content) (end : Ending) → Feeds g first now source table start last end → NoneRefused first now
+reads_served g first now source table start last end f = none_refused first now f.later f.since f.whole

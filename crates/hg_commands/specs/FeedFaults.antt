@@ -1,7 +1,7 @@
 -- How feeding a store ends by a fault.
 use Rattle.std.specs.Prelude.{◌≡◌, ◌⊎◌, ◌+◌, ◌≤◌, ◌^◌, Bool, true, false, List, [], length, Result, Ok, Err, IsTrue}
 use Rattle.hg_model.specs.declared.verdict.Refusal.{Refusal}
-use Rattle.hg_model.specs.declared.verdict.Refusal.TheVariants.{Broken, Damaged, FullEvents, FullSlots, DeviceFault}
+use Rattle.hg_model.specs.declared.verdict.Refusal.TheVariants.{Broken, Damaged, FullEvents, FullSlots, DeviceFault, OutOfMemory}
 use Rattle.hg_disk.specs.declared.disk.Disk as disk
 use Rattle.hg_checkpoint.specs.Told.{refusal_of}
 use Rattle.hg_checkpoint.specs.declared.cause.Cause.TheVariants as cause
@@ -16,7 +16,7 @@ use Rattle.hg_store.specs.Shown.{IsFlushed, IsIn, ShownStore, phase_of, words}
 use Rattle.hg_store.specs.Store.{HasItsNumber}
 use Rattle.hg_streams.specs.declared.call.ReadCall.{ReadCall}
 use Rattle.hg_streams.specs.declared.call.WriteCall.{WriteCall}
-use Rattle.hg_streams.specs.Calls.{failed_reads}
+use Rattle.hg_streams.specs.Calls.{NoneRefused, failed_reads}
 use Rattle.hg_streams.specs.Told.{told_refusal}
 use Rattle.hg_streams.specs.Faults.{IsStreamFault}
 use Rattle.hg_commands.specs.Storing.{failed_calls}
@@ -85,11 +85,13 @@ module _ {D : Type 0} (g : disk.Ghosts D) where
     pub unread : reads_new ≡ reads_old
     pub unwritten : calls_new ≡ calls_old
 
-  -- Why feeding a store ended: one call of a device or a stream failed where that is told, and none where another cause is; or 2^32 reads were made.
+  -- Why feeding a store ended: one call of a device or a stream failed where that is told, and none where another cause is; or 2^32 reads
+  -- were made. A read that was refused memory is told as want of memory.
   pub record FeedFails (asked : Bool) (old new : Devices D) (reads_old reads_new : List ReadCall) (calls_old calls_new : List WriteCall) (r : Refusal) : Type 0 where
     pub is : IsFeedFault asked new r
     pub failed : (failed_reads reads_new + failed_calls g new calls_new ≡ told_refusal r + (failed_reads reads_old + failed_calls g old calls_old))
         ⊎ ((r ≡ DeviceFault) × (2 ^ 32 + length reads_old ≤ length reads_new))
+    pub memory : (r ≡ OutOfMemory) ⊎ NoneRefused reads_old reads_new
 
   -- Why a command that feeds a store ended by a fault: the store was not opened, or feeding it failed then.
   abbrev pub HasFeedCause : Bool → Devices D → Devices D → List ReadCall → List ReadCall → List WriteCall → List WriteCall → Refusal → Type 0

@@ -10,7 +10,7 @@ use Rattle.hg_detect.specs.declared.detector.Answer.{Answer}
 use Rattle.hg_streams.specs.declared.call.ReadCall.{ReadCall}
 use Rattle.hg_streams.specs.declared.call.ReadCall.TheVariants.{Gave}
 use Rattle.hg_streams.specs.declared.call.WriteCall.{WriteCall}
-use Rattle.hg_streams.specs.Calls.{ends_met, failed_reads, given, MayBe}
+use Rattle.hg_streams.specs.Calls.{NoneFailed, ends_met, given, MayBe}
 use Rattle.hg_streams.specs.Told.{told}
 use Rattle.hg_disk.specs.declared.disk.Disk as disk
 use Rattle.hg_contents.specs.Images.{HasContent, Image}
@@ -157,11 +157,11 @@ module _ {D : Type 0} (g : disk.Ghosts D) where
     pub underway : ends_met earlier ≡ 0
     pub passed : IsTrue g.is_honest → (content : Content) × FeedsTo source (ended_readings (given earlier)) table start 0 content Ended
 
-  -- No read since `first` failed, each was needed, and their bytes lead from a table and a content to the last content and the ending.
+  -- No read since `first` failed or was refused memory, each was needed, and their bytes lead from a table and a content to the last content and the ending.
   pub record Feeds (first now : List ReadCall) (source : ℕ) (table : Table) (start last : Content) (end : Ending) : Type 0 where
     pub later : List ReadCall
     pub since : now ≡ later ++ first
-    pub whole : failed_reads later ≡ 0
+    pub whole : NoneFailed later
     pub needed : EachIsNeeded source table start later
     pub leads : IsTrue g.is_honest → FeedEndsBy source table start later last end
 

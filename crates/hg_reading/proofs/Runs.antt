@@ -1,5 +1,5 @@
 -- A run between two reads.
-use Rattle.std.proofs.Common.{◌≡◌, ℕ, ◌+◌, ◌-◌, ◌^◌, ◌≤◌, ◌<◌, List, [], ◌∷◌, ◌++◌, length, Option, None, Result, Ok, Err, refl, sym, ap, ◌∙◌, subst, inl, inr, arith}
+use Rattle.std.proofs.Common.{◌≡◌, ℕ, ◌+◌, ◌-◌, ◌^◌, ◌≤◌, ◌<◌, List, [], ◌∷◌, ◌++◌, length, Option, None, Result, Ok, Err, refl, sym, ap, ◌∙◌, subst, inl, inr, ⊎_elim, arith}
 use Rattle.std.proofs.lemmas.List.{append-nil, append_assoc, length-append}
 use Rattle.std.specs.declared.io.ErrorKind.{ErrorKind}
 use Rattle.std.specs.declared.io.ErrorKind.TheVariants.{Interrupted}
@@ -8,7 +8,9 @@ use Rattle.hg_model.specs.declared.verdict.Refusal.TheVariants.{DeviceFault, Out
 use Rattle.hg_streams.specs.declared.call.ReadCall.{ReadCall}
 use Rattle.hg_streams.specs.declared.call.ReadCall.TheVariants.{Erred, Gave}
 use Rattle.hg_streams.specs.declared.call.WriteCall.{WriteCall}
-use Rattle.hg_streams.specs.Calls.{ends_met, failed_reads, given}
+use Rattle.hg_streams.specs.Calls.{ends_met, failed_reads, given, refused_reads}
+use Rattle.hg_streams.specs.Faults.{IsStreamFault}
+use Rattle.hg_streams.specs.Told.{lacked_refusal, told_refusal}
 use Rattle.hg_wire.specs.declared.reader.Reading.{Reading}
 use Rattle.hg_wire.specs.Streams.{LinesRead, at_start, ended_from, ended_readings, readings, readings_from}
 use Rattle.hg_reading.specs.Taking.{EachIsNeeded, HasNoneLeft, HasRead, Passes, ReadBroke, Reads, StopsIn, Taking, WasRead}
@@ -156,17 +158,33 @@ module _ {S E : Type 0} (takes : Taking S E)
     reads_all first now start calls (Ok stop) t at_t w = w
     reads_all first now start calls (Err r) t at_t w = inl w
 
-    -- a read failed
+    -- a read failed, or was refused memory
     pub read_failed : (first reads now : List ReadCall) (start : S) (at_start : List WriteCall) (p : LinesRead) (s : S) (at_s : List WriteCall) (kind : ErrorKind) (r : Refusal)
-        → now ≡ Erred kind ∷ reads → failed_reads now ≡ 1 + failed_reads reads → r ≡ DeviceFault → HasRead takes first reads start at_start p s at_s → ReadBroke takes first now start at_start r s at_s
-    read_failed first reads now start at_start p s at_s kind r is failed fault h = record {
+        → now ≡ Erred kind ∷ reads → failed_reads now ≡ told_refusal r + failed_reads reads → refused_reads now ≡ lacked_refusal r + refused_reads reads → IsStreamFault r
+        → HasRead takes first reads start at_start p s at_s → ReadBroke takes first now start at_start r s at_s
+    read_failed first reads now start at_start p s at_s kind r is failed refused fault h = record {
       later = Erred kind ∷ h.later;
       since = is ∙ ap (λ xs. Erred kind ∷ xs) h.since;
       underway = h.underway;
       lines = h.lines;
       front = λ more. (readings_from p more, h.readings more);
       steps = h.steps;
-      cause = inr (fault, inl (omega (arith, failed, ap failed_reads is, h.intact)));
+      cause = ⊎_elim
+          (λ memory. inl (
+            memory,
+            (
+              omega (arith, failed, ap told_refusal memory, ap failed_reads is, h.intact),
+              inr (omega (arith, refused, ap lacked_refusal memory, ap refused_reads is, h.intact)),
+            ),
+          ))
+          (λ device. inr (
+            device,
+            (
+              omega (arith, refused, ap lacked_refusal device, ap refused_reads is, h.intact),
+              inl (omega (arith, failed, ap told_refusal device, ap failed_reads is, h.intact)),
+            ),
+          ))
+          fault;
     }
 
     -- so many reads were made
@@ -179,7 +197,7 @@ module _ {S E : Type 0} (takes : Taking S E)
       lines = h.lines;
       front = λ more. (readings_from p more, h.readings more);
       steps = h.steps;
-      cause = inr (refl, inr (omega (arith, counted, many, ap length h.since, length-append h.later first)));
+      cause = inr (refl, (omega (arith, h.intact), inr (omega (arith, counted, many, ap length h.since, length-append h.later first))));
     }
 
     -- memory was refused before the first read
@@ -191,5 +209,5 @@ module _ {S E : Type 0} (takes : Taking S E)
       lines = [];
       front = λ more. (readings more, refl);
       steps = none;
-      cause = inl (memory, refl);
+      cause = inl (memory, (refl, inl refl));
     }

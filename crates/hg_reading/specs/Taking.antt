@@ -8,7 +8,7 @@ use Rattle.hg_streams.specs.declared.call.ReadCall.{ReadCall}
 use Rattle.hg_streams.specs.declared.call.ReadCall.TheVariants.{Gave}
 use Rattle.hg_streams.specs.declared.call.WriteCall.{WriteCall}
 use Rattle.hg_streams.specs.Shown.{Outgoing}
-use Rattle.hg_streams.specs.Calls.{ends_met, failed_reads, given}
+use Rattle.hg_streams.specs.Calls.{NoneFailed, ends_met, failed_reads, given, refused_reads}
 use Rattle.hg_wire.specs.Accesses.{event_of}
 use Rattle.hg_wire.specs.declared.line.AccessLine.{AccessLine}
 use Rattle.hg_wire.specs.declared.reader.Reading.{Reading}
@@ -70,7 +70,7 @@ module _ {S E : Type 0} (takes : Taking S E) where
   pub record HasRead (first now : List ReadCall) (before : S) (at_first : List WriteCall) (p : LinesRead) (here : S) (at_last : List WriteCall) : Type 0 where
     pub later : List ReadCall
     pub since : now ≡ later ++ first
-    pub intact : failed_reads later ≡ 0
+    pub intact : NoneFailed later
     pub underway : ends_met later ≡ 0
     pub lines : List Reading
     pub steps : takes before at_first lines (Ok None) here at_last
@@ -99,15 +99,23 @@ module _ {S E : Type 0} (takes : Taking S E) where
   pub record WasRead (first now : List ReadCall) (before : S) (at_first : List WriteCall) (r : Result (Option E) Refusal) (here : S) (at_last : List WriteCall) : Type 0 where
     pub later : List ReadCall
     pub since : now ≡ later ++ first
-    pub intact : failed_reads later ≡ 0
+    pub intact : NoneFailed later
     pub needed : EachIsNeeded before at_first later
     pub lines : List Reading
     pub due : AreDue later lines r
     pub steps : takes before at_first lines r here at_last
 
-  -- Why the reading itself was broken off: no memory before the first read, a read that failed, or 2 ^ 32 reads.
+  -- There was no memory before the first read, or one read was refused memory.
+  abbrev pub LackedMemory : List ReadCall → Type 0
+  LackedMemory reads = (failed_reads reads ≡ 0) × ((reads ≡ []) ⊎ (refused_reads reads ≡ 1))
+
+  -- One read failed, or 2 ^ 32 were made.
+  abbrev pub LackedInput : List ReadCall → Type 0
+  LackedInput reads = (refused_reads reads ≡ 0) × ((failed_reads reads ≡ 1) ⊎ (2 ^ 32 ≤ length reads))
+
+  -- Why the reading itself was broken off: for want of memory, or since a read failed or too many were made.
   abbrev pub ReadCause : List ReadCall → Refusal → Type 0
-  ReadCause reads r = ((r ≡ OutOfMemory) × (reads ≡ [])) ⊎ ((r ≡ DeviceFault) × ((failed_reads reads ≡ 1) ⊎ (2 ^ 32 ≤ length reads)))
+  ReadCause reads r = ((r ≡ OutOfMemory) × LackedMemory reads) ⊎ ((r ≡ DeviceFault) × LackedInput reads)
 
   -- The reading itself was broken off, behind lines that were passed.
   pub record ReadBroke (first now : List ReadCall) (before : S) (at_first : List WriteCall) (r : Refusal) (here : S) (at_last : List WriteCall) : Type 0 where

@@ -1,7 +1,7 @@
 -- What the calls of a stream gave and took. Lists of calls have the newest first.
 use Rattle.std.specs.Prelude.{ℕ, ◌+◌, List, [], ◌∷◌, ◌++◌, ◌≡◌, ◌<◌, take, ⊤, Option, Some, None, Result, Ok, Err}
 use Rattle.std.specs.declared.io.ErrorKind.{ErrorKind}
-use Rattle.std.specs.declared.io.ErrorKind.TheVariants.{Interrupted}
+use Rattle.std.specs.declared.io.ErrorKind.TheVariants.{Interrupted, OutOfMemory}
 use Rattle.hg_streams.specs.declared.call.ReadCall.{ReadCall}
 use Rattle.hg_streams.specs.declared.call.ReadCall.TheVariants.{Gave, Erred}
 use Rattle.hg_streams.specs.declared.call.WriteCall.{WriteCall}
@@ -13,16 +13,36 @@ given [] = []
 given (Gave bytes ∷ earlier) = given earlier ++ bytes
 given (Erred kind ∷ earlier) = given earlier
 
--- how many failures an error of a read counts as: none for an interruption, else one
+-- how many failures an error of a read counts as: none for an interruption or for want of memory, else one
 abbrev pub failure : ErrorKind → ℕ
 failure Interrupted = 0
+failure OutOfMemory = 0
 failure _ = 1
+
+-- how many refusals of memory an error of a read counts as
+abbrev pub shortage : ErrorKind → ℕ
+shortage OutOfMemory = 1
+shortage _ = 0
 
 -- how many reads failed
 abbrev pub failed_reads : List ReadCall → ℕ
 failed_reads [] = 0
 failed_reads (Gave bytes ∷ earlier) = failed_reads earlier
 failed_reads (Erred kind ∷ earlier) = failure kind + failed_reads earlier
+
+-- how many reads were refused memory
+abbrev pub refused_reads : List ReadCall → ℕ
+refused_reads [] = 0
+refused_reads (Gave bytes ∷ earlier) = refused_reads earlier
+refused_reads (Erred kind ∷ earlier) = shortage kind + refused_reads earlier
+
+-- No read failed, and none was refused memory.
+abbrev pub NoneFailed : List ReadCall → Type 0
+NoneFailed reads = failed_reads reads + refused_reads reads ≡ 0
+
+-- From some reads to later ones none was refused memory.
+abbrev pub NoneRefused : List ReadCall → List ReadCall → Type 0
+NoneRefused old new = refused_reads new ≡ refused_reads old
 
 -- how many reads met the end of the input
 abbrev pub ends_met : List ReadCall → ℕ

@@ -4,7 +4,7 @@ use Rattle.hg_model.specs.declared.verdict.Refusal.{Refusal}
 use Rattle.hg_model.specs.Codes.{code_of}
 use Rattle.hg_streams.specs.declared.call.ReadCall.{ReadCall}
 use Rattle.hg_streams.specs.declared.call.WriteCall.{WriteCall}
-use Rattle.hg_streams.specs.Calls.{failed_reads, failed_writes}
+use Rattle.hg_streams.specs.Calls.{NoneRefused, failed_reads, failed_writes}
 use Rattle.hg_streams.specs.declared.streams.Streams.{Streams}
 use Rattle.hg_streams.specs.Written.{Took}
 use Rattle.hg_streams.specs.Texts.{fault_text}
@@ -18,9 +18,10 @@ WriteFailed old new = failed_writes old < failed_writes new
 abbrev pub ReadFailed : List ReadCall → List ReadCall → Type 0
 ReadFailed old new = (failed_reads old < failed_reads new) ⊎ (2 ^ 32 + length old ≤ length new)
 
--- A device fault has its cause in a stream that failed, and the one other fault is want of memory.
+-- A device fault has its cause in a stream that failed, where no read was refused memory. The one other fault is want of memory.
 abbrev pub HasCause : List ReadCall → List ReadCall → List WriteCall → List WriteCall → Refusal → Type 0
-HasCause reads_old reads_new old new r = (r ≡ OutOfMemory) ⊎ ((r ≡ DeviceFault) × (ReadFailed reads_old reads_new ⊎ WriteFailed old new))
+HasCause reads_old reads_new old new r =
+    (r ≡ OutOfMemory) ⊎ ((r ≡ DeviceFault) × (NoneRefused reads_old reads_new × (ReadFailed reads_old reads_new ⊎ WriteFailed old new)))
 
 -- a fault of a stream or a device, or want of memory
 abbrev pub IsStreamFault : Refusal → Type 0

@@ -8,7 +8,7 @@ use std::io::ErrorKind;
 pub enum ReadCall {
     /// It gave these bytes: none only at the end of the input.
     Gave { bytes: Trail<u8> },
-    /// It gave none, for this reason. `Interrupted` is no failure: the read can be made again.
+    /// It gave none, for this reason. `Interrupted` is no failure: the read can be made again. `OutOfMemory` is want of memory.
     Erred { kind: ErrorKind },
 }
 

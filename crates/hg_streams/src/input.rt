@@ -3,9 +3,10 @@
 ghost use Rattle.std.specs.Prelude.{◌≡◌, ◌+◌, ◌<◌, ◌≤◌, ◌∷◌, [], length, IfOk, IfErr, IfSome, OnErr};
 ghost use Rattle.std.specs.declared.io.ErrorKind.{ErrorKind as ErrorKindOf};
 ghost use Rattle.hg_streams.specs.declared.call.ReadCall.TheVariants.{Erred};
-ghost use Rattle.hg_streams.specs.Calls.{as_got, as_read, failed_reads, got_call, read_call};
+ghost use Rattle.hg_streams.specs.Calls.{as_got, as_read, failed_reads, got_call, read_call, refused_reads};
+ghost use Rattle.hg_streams.specs.Faults.{IsStreamFault};
 ghost use Rattle.hg_streams.specs.Shown.{ReadsFrom};
-ghost use Rattle.hg_streams.specs.Told.{told};
+ghost use Rattle.hg_streams.specs.Told.{lacked, told};
 
 use crate::call::ReadCall;
 use hg_model::verdict::Refusal;
@@ -79,20 +80,23 @@ impl<R: Read> Input<R> {
         }
     }
 
-    /// Reads once. `None` says that the read was interrupted.
+    /// Reads once. `None` says that the read was interrupted. `OutOfMemory` says that the reader was refused memory, by the kind of its
+    /// error, and `DeviceFault` that it failed otherwise.
     pub fn read(&mut self, buffer: &mut [u8]) -> Result<Option<usize>, Refusal>
         requires room { 0 < length buffer.old }
         ensures calls { IfOk result (λ count. self.new.calls ≡ got_call count buffer.new ∷ self.old.calls) }
         ensures failed { OnErr result ((kind : ErrorKindOf) × (self.new.calls ≡ Erred kind ∷ self.old.calls)) }
         ensures within { IfOk result (λ count. IfSome count (λ n. n ≤ length buffer.new)) }
         ensures known { ReadsFrom R.remaining self.old self.new (as_got result) buffer.new }
-        ensures cause { IfErr result (λ r. r ≡ Refusal.DeviceFault) }
+        ensures cause { IfErr result IsStreamFault }
         ensures fault { failed_reads self.new.calls ≡ told result + failed_reads self.old.calls }
+        ensures memory { refused_reads self.new.calls ≡ lacked result + refused_reads self.old.calls }
         ensures counted { length self.new.calls ≡ 1 + length self.old.calls }
     {
         match self.ask(buffer) {
             Ok(count) => Ok(Some(count)),
             Err(ErrorKind::Interrupted) => Ok(None),
+            Err(ErrorKind::OutOfMemory) => Err(Refusal::OutOfMemory),
             Err(_) => Err(Refusal::DeviceFault),
         }
     }

@@ -1,8 +1,7 @@
 use Rattle.std.proofs.Common.{◌≡◌, ℕ, suc, ◌+◌, ◌-◌, ◌*◌, ◌^◌, ◌<◌, ◌≤◌, List, ◌∷◌, IfSome, Option, None, Some, Result, Ok, Err, length, take, refl, sym, ap, ◌∙◌, subst, inl, inr, arith}
 use Rattle.std.proofs.Math.Nat.{mul-suc}
 use Rattle.std.proofs.lemmas.List.{length-take}
-use Rattle.hg_streams.specs.Calls.{failed_reads, got_call}
-use Rattle.hg_streams.specs.Told.{told_refusal}
+use Rattle.hg_streams.specs.Calls.{got_call}
 use Rattle.hg_streams.specs.declared.call.ReadCall.TheVariants.{Gave}
 use Rattle.hg_wire.specs.Streams.{LinesRead}
 use Rattle.hg_reading.specs.Taking.{Pushes, Reads}
@@ -53,10 +52,9 @@ pub returns-in_err-count : goal.returns-in_err-count
 returns-in_err-count g c =
     let same : c.from_residual.result ≡ Err c.in_err-count.field-0.0 = grind arith in
     let failed = c.in_err-count.ensures.failed in
-    let counted = c.in_err-count.ensures.fault ∙ ap (λ x. told_refusal x + failed_reads c.loop-reads.input.calls) c.in_err-count.ensures.cause in
     subst (λ x. Reads g.S.Sink.takes c.args.input.now.calls c.read.new.self.calls c.args.sink.now c.args.output.now.calls x c.loop-reads.sink c.loop-reads.output.calls) (sym same)
     (inr (read_failed g.S.Sink.takes g.met.S.Sink.on c.args.input.now.calls c.loop-reads.input.calls c.read.new.self.calls c.args.sink.now c.args.output.now.calls c.loop-reads.reader c.loop-reads.sink
-    c.loop-reads.output.calls failed.0 c.in_err-count.field-0.0 failed.1 counted c.in_err-count.ensures.cause c.loop-reads.invariant.run))
+    c.loop-reads.output.calls failed.0 c.in_err-count.field-0.0 failed.1 c.in_err-count.ensures.fault c.in_err-count.ensures.memory c.in_err-count.ensures.cause c.loop-reads.invariant.run))
 
 pub loop-reads-preserved-in_default : goal.loop-reads-preserved-in_default
 loop-reads-preserved-in_default g c =

@@ -66,7 +66,7 @@ returns-in_err-write_out-clause-cause g c =
     let all_due : IsDue old mid c.hold_end.new.held.items [] goal_text = due_line old mid c.run.new.explaining.held.items c.hold_end.new.held.items rest (head ++ ran.told) c.in_ok-hold_end.ensures.ok due in
     let q = err_from_is_err_and c.from_residual-in_err-write_out.result c.from_residual-in_err-write_out.ensures.1 in
     rw (q.1, q.2)
-    (cause_by_write c.args.input.now.calls c.run.new.input.calls old mid c.write_out.new.output.calls c.hold_end.new.held.items [] goal_text c.in_err-write_out.field-0.0
+    (cause_by_write c.args.input.now.calls c.run.new.input.calls old mid c.write_out.new.output.calls c.hold_end.new.held.items [] goal_text c.in_err-write_out.field-0.0 c.in_ok-end.ensures.memory
     all_due c.in_err-write_out.ensures.cause c.in_err-write_out.ensures.fault)
 
 pub returns-in_err-flush-clause-front : goal.returns-in_err-flush-clause-front
@@ -99,7 +99,7 @@ returns-in_err-flush-clause-cause g c =
     let all_due : IsDue old mid c.hold_end.new.held.items [] goal_text = due_line old mid c.run.new.explaining.held.items c.hold_end.new.held.items rest (head ++ ran.told) c.in_ok-hold_end.ensures.ok due in
     let q = err_from_is_err_and c.from_residual-in_err-flush.result c.from_residual-in_err-flush.ensures.1 in
     rw (q.1, q.2)
-    (cause_by_flush c.args.input.now.calls c.run.new.input.calls old c.write_out.new.output.calls c.flush.new.self.calls c.write_out.new.held.items [] goal_text c.in_err-flush.field-0.0
+    (cause_by_flush c.args.input.now.calls c.run.new.input.calls old c.write_out.new.output.calls c.flush.new.self.calls c.write_out.new.held.items [] goal_text c.in_err-flush.field-0.0 c.in_ok-end.ensures.memory
     (c.in_ok-write_out.ensures.printed old [] goal_text all_due) c.in_err-flush.ensures.cause c.in_err-flush.ensures.calls)
 
 pub returns-clause-prints : goal.returns-clause-prints

@@ -1,6 +1,7 @@
 use Rattle.std.proofs.Common.{arith, sym, ap, subst}
 use Rattle.std.proofs.lemmas.Result.{err_from_is_err_and}
 use Rattle.hg_model.specs.Contents.{Content}
+use Rattle.hg_streams.proofs.Inputs.{none_refused}
 use Rattle.hg_streams.proofs.Printed.{always_err}
 use Rattle.hg_detect.specs.Memory.{content_of}
 use Rattle.hg_check.specs.Telling.{HasRun}
@@ -25,3 +26,7 @@ returns-clause-ends g c =
     subst (λ end. HasRun c.args.explaining.now.asked.word c.args.explaining.now.asked.form c.args.input.now.calls c.read.new.input.calls c.args.output.now.calls c.read.new.output.calls c.args.explaining.now.held.items
     c.read.new.sink.held.items (content_of c.read.new.sink.detector) c.read.new.sink.more end) (sym c.ended.ensures)
     (has_run c.args.input.now.calls c.read.new.input.calls c.args.explaining.now c.read.new.sink c.args.output.now.calls c.read.new.output.calls c.in_ok-stop.stop c.requires.fresh c.in_ok-stop.ensures)
+
+pub returns-clause-memory : goal.returns-clause-memory
+returns-clause-memory g c =
+    none_refused c.args.input.now.calls c.read.new.input.calls c.in_ok-stop.ensures.later c.in_ok-stop.ensures.since c.in_ok-stop.ensures.intact

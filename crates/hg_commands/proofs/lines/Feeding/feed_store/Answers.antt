@@ -14,7 +14,7 @@ use Rattle.hg_commands.proofs.FeedDone.{was_fed}
 use Rattle.hg_commands.proofs.Ways.{way_at_start, way_same}
 use Rattle.hg_commands.proofs.Checkpointed.{fault_of_due, rests_behind}
 use Rattle.std.proofs.lemmas.Result.{err_from_is_err_and}
-use Rattle.hg_commands.proofs.FeedWhole.{fails_behind, reads_intact}
+use Rattle.hg_commands.proofs.FeedWhole.{fails_behind, reads_intact, reads_served}
 use Rattle.hg_streams.proofs.Printed.{always_err, front_none}
 use Rattle.hg_streams.proofs.Fronts.{printed_front}
 use Rattle.hg_commands.proofs.FeedFronts.{resumed, wrote_acks, wrote_end, wrote_fed, wrote_made, wrote_resume}
@@ -71,6 +71,7 @@ returns-in_err-acknowledge-clause-cause g c =
         c.in_ok-print_number.ensures.fault,
         reads_intact g.D.Disk c.args.input.now.calls c.feed_lines.new.input.calls c.args.self.now.fed.source c.args.self.now.store.detector.sets (live g.D.Disk c.args.self.now.store) (live g.D.Disk c.feed_lines.new.self.store) c.in_ok-end.end c.in_ok-end.ensures.feeds,
       ));
+      memory = inr (reads_served g.D.Disk c.args.input.now.calls c.feed_lines.new.input.calls c.args.self.now.fed.source c.args.self.now.store.detector.sets (live g.D.Disk c.args.self.now.store) (live g.D.Disk c.feed_lines.new.self.store) c.in_ok-end.end c.in_ok-end.ensures.feeds);
     })
 
 pub returns-in_err-checkpoint_if_due-clause-cause : goal.returns-in_err-checkpoint_if_due-clause-cause
@@ -87,6 +88,7 @@ returns-in_err-checkpoint_if_due-clause-cause g c =
         c.in_ok-print_number.ensures.fault,
         reads_intact g.D.Disk c.args.input.now.calls c.feed_lines.new.input.calls c.args.self.now.fed.source c.args.self.now.store.detector.sets (live g.D.Disk c.args.self.now.store) (live g.D.Disk c.feed_lines.new.self.store) c.in_ok-end.end c.in_ok-end.ensures.feeds,
       ));
+      memory = inr (reads_served g.D.Disk c.args.input.now.calls c.feed_lines.new.input.calls c.args.self.now.fed.source c.args.self.now.store.detector.sets (live g.D.Disk c.args.self.now.store) (live g.D.Disk c.feed_lines.new.self.store) c.in_ok-end.end c.in_ok-end.ensures.feeds);
     })
 
 pub returns-in_err-print_end-clause-cause : goal.returns-in_err-print_end-clause-cause
@@ -104,6 +106,7 @@ returns-in_err-print_end-clause-cause g c =
         c.in_ok-print_number.ensures.fault,
         reads_intact g.D.Disk c.args.input.now.calls c.feed_lines.new.input.calls c.args.self.now.fed.source c.args.self.now.store.detector.sets (live g.D.Disk c.args.self.now.store) (live g.D.Disk c.feed_lines.new.self.store) c.in_ok-end.end c.in_ok-end.ensures.feeds,
       ));
+      memory = inr (reads_served g.D.Disk c.args.input.now.calls c.feed_lines.new.input.calls c.args.self.now.fed.source c.args.self.now.store.detector.sets (live g.D.Disk c.args.self.now.store) (live g.D.Disk c.feed_lines.new.self.store) c.in_ok-end.end c.in_ok-end.ensures.feeds);
     })
 
 pub returns-in_err-print_number-clause-kept : goal.returns-in_err-print_number-clause-kept
