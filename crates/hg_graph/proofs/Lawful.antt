@@ -1,19 +1,17 @@
 -- Segments that obey the rules of a root: their edges rise, and each thread's stand in line.
-use Rattle.std.proofs.Common.{◌≡◌, ℕ, zero, suc, ◌+◌, ◌<◌, ◌≤◌, Bool, true, cond, ◌&&◌, nat_eq, nat_lt, Some, None, replicate, List, [], ◌∷◌, ◌++◌, length, take, set, get_or, Contains, refl, sym, ap, ◌∙◌, subst, ⊎_elim, arith, length-set, get_or-set_same, get_or-set_other}
-use Rattle.std.proofs.Math.Seq.{take-append_seam}
-use Rattle.std.proofs.lemmas.Bool.{false≢true, and_parts, cases_eq, eq-eqb, ne_eqb, ltb-true}
+use Rattle.std.proofs.Common.{◌≡◌, ℕ, zero, suc, ◌+◌, ◌<◌, ◌≤◌, Bool, true, false, cond, ◌&&◌, nat_eq, nat_lt, Some, None, replicate, List, [], ◌∷◌, length, take, set, get_or, Contains, refl, sym, ap, ◌∙◌, subst, ⊎_elim, arith, length-set, get_or-set_same, get_or-set_other}
+use Rattle.std.proofs.lemmas.Bool.{false≢true, and_parts, cases_eq, eq-eqb, eqb-true, ne_eqb, ltb-true}
 use Rattle.std.proofs.lemmas.List.{take_more, take_all, length-take-le, length-replicate, get_or-replicate}
 use Rattle.std.proofs.lemmas.Option.{slice_get-get_or}
 use Rattle.std.specs.List.{AllByRecursion}
 use Rattle.hg_model.specs.declared.segment.Segment.{Segment}
 use Rattle.hg_model.specs.Restoring.{marks_lawfully}
 use Rattle.hg_model.specs.Segments.{of_thread, thread_at, present}
-use Rattle.hg_model.specs.Paths.{IsRising}
+use Rattle.hg_model.specs.Paths.{IsRising, before}
 use Rattle.hg_model.proofs.Graph.{rising_append}
 use Rattle.hg_model.proofs.Owners.{present_push}
 use Rattle.hg_graph.specs.Graph.{names}
-use Rattle.hg_graph.specs.Clocks.{HasRoom}
-use Rattle.hg_graph.specs.Kept.{IsInLine, IsKept, IsUnmarked}
+use Rattle.hg_graph.specs.Kept.{IsInLine, IsKept, IsUnvisited}
 use Rattle.hg_graph.specs.Restoring.{AreSegments, stands_behind, has_thread, are_predecessors, has_former, former}
 use Rattle.hg_graph.proofs.Opening.{in_line_push}
 use Rattle.hg_graph.proofs.Sweeping.{contains_from}
@@ -28,6 +26,16 @@ below_it n (a ∷ b ∷ []) h =
     (omega arith, (second, tt))
 below_it n (a ∷ b ∷ d ∷ before) h = absurd (false≢true h)
 
+some_before : (n : ℕ) (before : List ℕ) → are_predecessors n before ≡ true → 0 < n → 0 < length before
+some_before n [] h more = let none = eqb-true n 0 h in absurd (omega arith)
+some_before n (a ∷ before) h more = omega arith
+
+few_before : (n : ℕ) (before : List ℕ) → are_predecessors n before ≡ true → length before ≤ 2
+few_before n [] h = omega arith
+few_before n (a ∷ []) h = omega arith
+few_before n (a ∷ b ∷ []) h = omega arith
+few_before n (a ∷ b ∷ d ∷ before) h = absurd (false≢true h)
+
 own_former : (earlier : List Segment) (t : ℕ) (before : List ℕ) → has_former (former earlier t) before ≡ true → names earlier t ≡ true → Contains before (present earlier t)
 own_former earlier t before h named =
     contains_from before (present earlier t) (subst (λ b. has_former (cond b (Some (present earlier t)) None) before ≡ true) named h)
@@ -37,6 +45,8 @@ pub record Standing (earlier : List Segment) (s : Segment) : Type 0 where
   pub thread : s.thread < 1024
   pub first : length earlier ≡ 0 → s.thread ≡ 0
   pub below : AllByRecursion (λ x. x < length earlier) s.before
+  pub some : 0 < length earlier → 0 < length s.before
+  pub few : length s.before ≤ 2
   pub own : names earlier s.thread ≡ true → Contains s.before (present earlier s.thread)
 
 small : (n t : ℕ) → has_thread n t ≡ true → (t < 1024) × (n ≡ 0 → t ≡ 0)
@@ -55,6 +65,8 @@ standing earlier s h =
       thread = (small (length earlier) s.thread parts.0).0;
       first = (small (length earlier) s.thread parts.0).1;
       below = below_it (length earlier) s.before others.0;
+      some = some_before (length earlier) s.before others.0;
+      few = few_before (length earlier) s.before others.0;
       own = own_former earlier s.thread s.before last.0;
     }
 
@@ -66,6 +78,12 @@ thread_small segments lawful s lt = (stands_at segments lawful s lt).thread
 
 pub first_thread : (segments : List Segment) → AreSegments segments → 0 < length segments → thread_at segments 0 ≡ 0
 first_thread segments lawful some = (stands_at segments lawful 0 some).first refl
+
+pub behind_some : (segments : List Segment) → AreSegments segments → (s : ℕ) → s < length segments → 0 < s → 0 < length (before segments s)
+behind_some segments lawful s lt more = (stands_at segments lawful s lt).some (let len = length-take-le s segments (omega arith) in omega arith)
+
+pub behind_few : (segments : List Segment) → AreSegments segments → (s : ℕ) → s < length segments → length (before segments s) ≤ 2
+behind_few segments lawful s lt = (stands_at segments lawful s lt).few
 
 -- the edges of segments rise, and they are in line
 abbrev pub IsOrdered : List Segment → Type 0
@@ -121,9 +139,9 @@ pub whole_table : (segments : List Segment) (k : ℕ) (table : List ℕ) → IsT
 whole_table segments k table w le t lt = w.each t lt ∙ ap (λ ss. present ss t) (take_all k segments le)
 
 -- the fields of a graph that was made of its segments
-pub restored : (segments : List Segment) (table : List ℕ) (marks : List Bool) → 0 < length segments → length segments ≤ 1048576 → AreSegments segments → length table ≡ 1024 → ((t : ℕ) → t < 1024 → get_or table t 0 ≡ present segments t) → length marks ≡ length segments → IsUnmarked marks →
-    IsKept segments table marks 0 0 true
-restored segments table marks some few lawful rows each len clear =
+pub restored : (segments : List Segment) (table : List ℕ) (visited : List Bool) → 0 < length segments → length segments ≤ 1048576 → AreSegments segments → length table ≡ 1024 → ((t : ℕ) → t < 1024 → get_or table t 0 ≡ present segments t) → visited ≡ replicate (length segments) false →
+    IsKept segments table visited 0 0 true
+restored segments table visited some few lawful rows each is =
     record {
       some = some;
       few = few;
@@ -131,25 +149,13 @@ restored segments table marks some few lawful rows each len clear =
       in_line = lawful_in_line segments lawful;
       threads = rows;
       present = each;
-      marks_len = len;
-      unmarked = clear;
+      visited_len = ap length is ∙ length-replicate (length segments) false;
+      unvisited = λ i. ap (λ v. get_or v i false) is ∙ none (length segments) i;
       to_in = some;
       answer_is = refl;
     }
-
--- what was lent as a slice
-pub lent : {A : Type 0} (items rest : List A) (len : ℕ) → length items ≡ len → take len (items ++ rest) ≡ items
-lent items rest len is = ap (λ n. take n (items ++ rest)) (sym is) ∙ take-append_seam items rest
-
--- an empty clock has room for a segment whose threads are below the number of its entries
-pub room_of : (segments : List Segment) (g n : ℕ) (clock : List ℕ) → clock ≡ replicate n 0 → ((s : ℕ) → s ≤ g → thread_at segments s < n) → HasRoom segments g clock
-room_of segments g n clock is below =
-    record {
-      empty = λ u. ap (λ c. get_or c u 0) is ∙ zeros n u;
-      threads = λ s le. let len : length clock ≡ n = ap length is ∙ length-replicate n 0 in let low = below s le in omega arith;
-    }
   where
-    zeros : (m i : ℕ) → get_or (replicate m zero) i zero ≡ zero
-    zeros zero i = refl
-    zeros (suc m) zero = refl
-    zeros (suc m) (suc i) = zeros m i
+    none : (n : ℕ) → IsUnvisited (replicate n false)
+    none zero i = refl
+    none (suc n) zero = refl
+    none (suc n) (suc i) = none n i

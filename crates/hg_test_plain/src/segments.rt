@@ -4,7 +4,7 @@ ghost use Rattle.std.specs.Prelude.{◌≡◌, ◌+◌, ◌*◌, ◌^◌, ◌<�
 ghost use Rattle.hg_model.specs.Segments as segs;
 
 use hg_model::event::Event;
-use hg_model::segment::{Predecessors, Segment};
+use hg_model::segment::{Mark, Predecessors, Segment};
 use std::alloc::{AllocError, Global};
 
 fn last_of(thread: u16, found: u32, place: u32, segments: &[Segment]) -> u32
@@ -28,42 +28,31 @@ pub fn present(segments: &[Segment], thread: u16) -> u32
     last_of(thread, 0, 0, segments)
 }
 
-fn after_one(alloc: Global, thread: u16, before: u32) -> Result<Segment, AllocError>
-    ensures { IfOk result (λ s. s ≡ segs.of_thread thread (before ∷ [])) }
+fn plain(thread: u16, before: Predecessors) -> Segment
+    ensures { result ≡ segs.of_thread thread before }
 {
-    let mut numbers = Vec::new(alloc);
-    numbers.push(before)?;
-    Ok(Segment {
+    Segment {
         thread,
-        before: Predecessors::from_vec(numbers),
-    })
+        before,
+        mark: Mark::Plain,
+    }
 }
 
-fn after_two(alloc: Global, thread: u16, a: u32, b: u32) -> Result<Segment, AllocError>
-    ensures { IfOk result (λ s. s ≡ segs.of_thread thread (segs.rising a b)) }
+fn rising(a: u32, b: u32) -> Predecessors
+    ensures { result ≡ segs.rising a b }
 {
-    let mut numbers = Vec::new(alloc);
     if a < b {
-        numbers.push(a)?;
-        numbers.push(b)?;
+        Predecessors::two(a, b)
     } else {
-        numbers.push(b)?;
-        numbers.push(a)?;
+        Predecessors::two(b, a)
     }
-    Ok(Segment {
-        thread,
-        before: Predecessors::from_vec(numbers),
-    })
 }
 
 fn root(alloc: Global) -> Result<Vec<Segment>, AllocError>
     ensures { IfOk result (λ v. v.items ≡ segs.of_thread 0 [] ∷ []) }
 {
     let mut all = Vec::new(alloc);
-    all.push(Segment {
-        thread: 0,
-        before: Predecessors::from_vec(Vec::new(alloc)),
-    })?;
+    all.push(plain(0, Predecessors::none()))?;
     Ok(all)
 }
 
@@ -80,15 +69,13 @@ pub fn segments_of(alloc: Global, past: &[Event]) -> Result<Vec<Segment>, AllocE
     match *event {
         Event::Fork { p, c } => {
             let now = present(&all, p);
-            let child = after_one(alloc, c, now)?;
-            let next = after_one(alloc, p, now)?;
-            all.push(child)?;
-            all.push(next)?;
+            all.push(plain(c, Predecessors::one(now)))?;
+            all.push(plain(p, Predecessors::one(now)))?;
             Ok(all)
         }
         Event::Join { p, c } => {
-            let next = after_two(alloc, p, present(&all, p), present(&all, c))?;
-            all.push(next)?;
+            let before = rising(present(&all, p), present(&all, c));
+            all.push(plain(p, before))?;
             Ok(all)
         }
         _ => Ok(all),

@@ -8,7 +8,7 @@ use crate::tests::own::Own;
 use hg_graph::Graph;
 use hg_model::event::Event;
 use hg_model::limits::MOST_SEGMENTS;
-use hg_model::segment::{Predecessors, Segment};
+use hg_model::segment::{Mark, Predecessors, Segment};
 use std::alloc::{AllocError, Global};
 use std::process::Abort;
 use std::test::Fail;
@@ -139,14 +139,13 @@ fn follows_forks_and_joins(rt: HostRuntime) -> Result<(), Fail> {
 }
 
 /// Adds a segment of a thread.
-fn add(segments: &mut Vec<Segment>, thread: u16, before: &[u32]) -> Result<(), AllocError>
-    ensures { IfOk result (λ done. segments.new.items ≡ segments.old.items ++ of_thread thread before.now ∷ []) }
+fn add(segments: &mut Vec<Segment>, thread: u16, before: Predecessors) -> Result<(), AllocError>
+    ensures { IfOk result (λ done. segments.new.items ≡ segments.old.items ++ of_thread thread before ∷ []) }
 {
-    let mut numbers = Vec::with_capacity(*segments.allocator(), before.len())?;
-    numbers.extend_from_slice(before)?;
     segments.push(Segment {
         thread,
-        before: Predecessors::from_vec(numbers),
+        before,
+        mark: Mark::Plain,
     })?;
     Ok(())
 }
@@ -156,11 +155,11 @@ fn earlier_segments(alloc: Global) -> Result<Vec<Segment>, AllocError>
     ensures { IfOk result (λ segments. segments.items ≡ earlier) }
 {
     let mut segments = Vec::with_capacity(alloc, 5)?;
-    add(&mut segments, 0, &[])?;
-    add(&mut segments, 1, &[0])?;
-    add(&mut segments, 0, &[0])?;
-    add(&mut segments, 0, &[1, 2])?;
-    add(&mut segments, 2, &[2])?;
+    add(&mut segments, 0, Predecessors::none())?;
+    add(&mut segments, 1, Predecessors::one(0))?;
+    add(&mut segments, 0, Predecessors::one(0))?;
+    add(&mut segments, 0, Predecessors::two(1, 2))?;
+    add(&mut segments, 2, Predecessors::one(2))?;
     Ok(segments)
 }
 
