@@ -1,5 +1,5 @@
 -- Which contents go into the head of a root.
-use Rattle.std.specs.Prelude.{◌≡◌, ◌<◌, ◌≤◌, ◌^◌, ℕ, List, length, map, filter, nat_lt, slice_index, All}
+use Rattle.std.specs.Prelude.{◌≡◌, ◌<◌, ◌≤◌, ℕ, List, length, map, filter, nat_lt, slice_index, All}
 use Rattle.hg_root.specs.declared.root.TheConstants.{MOST_CHECKPOINTS}
 use Rattle.hg_model.specs.declared.limits.TheConstants.{THREAD_NUMBERS}
 use Rattle.hg_model.specs.Contents.{Content}
