@@ -194,12 +194,17 @@ fn sync(name: &'static str, file: &File) -> Result<(), OpenFault>
 }
 
 /// Opens `pages`. `Make` makes the empty file durable: a new store has no page to write. `Look` gets a scratch copy, since opening a store
-/// may write pages. Where no copy can be made it gets `pages` itself, which is enough as long as all pages have room in memory.
+/// may write pages. Where no copy can be made it gets `pages` itself, which is enough as long as all pages have room in memory; but
+/// where memory for the copy is refused, that is told.
 fn open_pages(rt: &HostRuntime, directory: &str, mode: OpenMode) -> Result<FileDisk, OpenFault> {
     let pages = open_file(rt, directory, "pages", mode)?;
     if mode == OpenMode::Look {
-        if let Ok(copy) = scratch_copy(rt, &pages) {
-            return device("pages", Some(copy));
+        match scratch_copy(rt, &pages) {
+            Ok(copy) => return device("pages", Some(copy)),
+            Err(error) if error.kind() == ErrorKind::OutOfMemory => {
+                return Err(out_of_memory("pages"));
+            }
+            Err(_) => {}
         }
     }
     if mode == OpenMode::Make {

@@ -1,7 +1,10 @@
 //! The events of a store, as a trace text.
 
+ghost use Rattle.std.specs.Prelude.{◌≡◌};
+
 use hg_disk::FileDisk;
 use hg_model::event::{Access, Block, Event};
+use hg_model::verdict::Refusal;
 use hg_store::store::Store;
 use std::alloc::{AllocError, Global};
 use std::fmt::Write;
@@ -48,6 +51,17 @@ fn put_event(event: Event, text: &mut String) -> Result<(), AllocError> {
     }
 }
 
+/// Why events can't be had, by the kind of a reader's error.
+fn kind_of(refusal: Refusal) -> ErrorKind
+    ensures memory { refusal ≡ Refusal.OutOfMemory → result ≡ ErrorKind.OutOfMemory }
+    ensures other { (refusal ≡ Refusal.OutOfMemory → ⊥) → result ≡ ErrorKind.Other }
+{
+    match refusal {
+        Refusal::OutOfMemory => ErrorKind::OutOfMemory,
+        _ => ErrorKind::Other,
+    }
+}
+
 impl EventText {
     /// For a store of which no event was taken yet.
     pub fn new(alloc: Global, store: Store<FileDisk>) -> EventText {
@@ -60,27 +74,25 @@ impl EventText {
         }
     }
 
-    /// Takes the next events. Tells whether that went well; without events the text is empty.
-    fn refill(&mut self) -> bool {
+    /// Takes the next events. Without events the text is empty.
+    fn refill(&mut self) -> Result<(), Refusal> {
         self.text.clear();
         self.used = 0;
-        let Ok(events) = self.store.durable_events(self.alloc, self.next, PIECE) else {
-            return false;
-        };
+        let events = self.store.durable_events(self.alloc, self.next, PIECE)?;
         for named in events.iter() {
-            if put_event(named.event, &mut self.text).is_err() {
-                return false;
-            }
+            put_event(named.event, &mut self.text)?;
         }
         self.next = self.next.saturating_add(events.len() as u64);
-        true
+        Ok(())
     }
 }
 
 impl Read for EventText {
     fn read(&mut self, buf: &mut [u8]) -> io::Result<usize> {
-        if self.used >= self.text.len() && !self.refill() {
-            return Err(io::Error::from(ErrorKind::Other));
+        if self.used >= self.text.len() {
+            if let Err(refusal) = self.refill() {
+                return Err(io::Error::from(kind_of(refusal)));
+            }
         }
         let text = self.text.as_bytes();
         if self.used >= text.len() {
