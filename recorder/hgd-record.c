@@ -33,6 +33,7 @@ enum {
     STATUS_SIGNAL = 128,
     LONGEST_LINE = 128,
     LONGEST_BLOCK = 1024,
+    MOST_LINES_OF_A_STACK = 1024,
     BUFFER = 1 << 16,
 };
 
@@ -55,6 +56,7 @@ static const char HELP[] =
     "  -n, --no-filter       also writes accesses that cannot change anything, and those made while all other threads\n"
     "                        had been joined\n"
     "      --unfiltered FILE writes the trace with the former to FILE too, of the same run\n"
+    "      --no-stacks       writes no call stacks into that file\n"
     "      --no-comments     writes no comments of semaphores, barriers, condition variables and atomics\n"
     "  -l, --limit N         the trace ends after N events\n"
     "  -q, --quiet           tells only what went wrong\n"
@@ -70,7 +72,7 @@ struct options {
     const char *directory, *source;
     const char *pcs;
     const char *unfiltered;
-    bool check, report, filter, comments, quiet;
+    bool check, report, filter, comments, stacks, quiet;
     uint64_t limit;
     char **program;
 };
@@ -98,8 +100,9 @@ static int most_thread, locks_seen = -1;
 static bool is_quiet;
 /* a number that the trace and the codes of one run have together */
 static uint64_t run_number;
-/* how much of the ring's maps the codes have */
+/* how much of the ring's maps the codes have, and which of its stacks */
 static uint32_t maps_put;
+static bool is_stack_put[MOST_STACKS];
 
 __attribute__((format(printf, 1, 2))) static void tell(const char *format, ...)
 {
@@ -239,13 +242,40 @@ static void put_maps(void)
     }
 }
 
-/* One line for each event. */
+/* `stack 7 3 0x1000`: stack 7 is a call from that address, by stack 3. Outer frames first, each once. */
+static void put_stack(uint32_t stack)
+{
+    uint32_t inner[MOST_LINES_OF_A_STACK], used = 0;
+    for (; stack && stack < MOST_STACKS && !is_stack_put[stack] && used < MOST_LINES_OF_A_STACK; stack = ring->stacks[stack].outer) {
+        inner[used++] = stack;
+    }
+    while (used) {
+        const struct stack *frame = &ring->stacks[inner[--used]];
+        is_stack_put[inner[used]] = true;
+        char *at = put_decimal(put_word(begin_line(&codes), "stack "), inner[used]);
+        *at++ = ' ';
+        at = put_decimal(at, frame->outer);
+        *at++ = ' ';
+        end_line(&codes, put_hexadecimal(at, frame->caller));
+    }
+}
+
+/* One line for each event: the address of its code, and its stack where it has one. */
 static void put_code(uint64_t code)
 {
+    uint32_t stack = (uint32_t)(code >> CODE_BITS);
     if (atomic_load_explicit(&ring->maps_used, memory_order_relaxed) != maps_put) {
         put_maps();
     }
-    end_line(&codes, put_hexadecimal(begin_line(&codes), code));
+    if (stack) {
+        put_stack(stack);
+    }
+    char *at = put_hexadecimal(begin_line(&codes), code & (((uint64_t)1 << CODE_BITS) - 1));
+    if (stack) {
+        *at++ = ' ';
+        at = put_decimal(at, stack);
+    }
+    end_line(&codes, at);
 }
 
 /* What tells that a trace and codes are of one run. */
@@ -338,7 +368,14 @@ static void put_early_block(struct sink *sink, const struct event *event)
     *at++ = ' ';
     at = put_decimal(at, event->length);
     *at++ = ' ';
-    end_line(sink, put_hexadecimal(at, event->code));
+    at = put_hexadecimal(at, event->code & (((uint64_t)1 << CODE_BITS) - 1));
+    uint32_t stack = (uint32_t)(event->code >> CODE_BITS);
+    if (stack && codes.file >= 0) {
+        put_stack(stack);
+        *at++ = ' ';
+        at = put_decimal(at, stack);
+    }
+    end_line(sink, at);
     lines_of_comments += sink == &trace;
 }
 
@@ -579,6 +616,7 @@ static void make_ring(const struct options *options)
     ring->filter = options->unfiltered ? FILTER_MARKS : options->filter ? FILTER_LEAVES_OUT : FILTER_NOTHING;
     ring->comments = options->comments;
     ring->wants_codes = options->pcs != NULL;
+    ring->wants_stacks = options->pcs != NULL && options->stacks;
     atomic_store(&ring->reader, (int32_t)getpid());
     char name[64];
     snprintf(name, sizeof name, "/proc/%d/fd/%d", (int)getpid(), file);
@@ -729,6 +767,7 @@ static void tell_counts(void)
         [COUNT_BENIGN] = "accesses of memory whose races the program calls benign are not in the trace",
         [COUNT_IGNORED] = "accesses that the program asks to ignore are not in the trace",
         [COUNT_UNSAID] = "annotations of the program are not in the trace: it has no word for them",
+        [COUNT_LOST_STACKS] = "events have no call stack: there was no room for it",
         [COUNT_FIBERS] = "switches of fibers: the trace has the thread that ran them",
     };
     for (int i = 0; i < COUNTS; i++) {
@@ -836,7 +875,7 @@ static uint64_t read_limit(const char *text)
     return number;
 }
 
-enum { OPTION_CHECK = 256, OPTION_FEED, OPTION_REPORT, OPTION_HGD, OPTION_NO_COMMENTS, OPTION_UNFILTERED };
+enum { OPTION_CHECK = 256, OPTION_FEED, OPTION_REPORT, OPTION_HGD, OPTION_NO_COMMENTS, OPTION_NO_STACKS, OPTION_UNFILTERED };
 
 static void take_option(struct options *options, int option, int number, char **words)
 {
@@ -878,6 +917,9 @@ static void take_option(struct options *options, int option, int number, char **
     case OPTION_NO_COMMENTS:
         options->comments = false;
         break;
+    case OPTION_NO_STACKS:
+        options->stacks = false;
+        break;
     case OPTION_UNFILTERED:
         options->unfiltered = optarg;
         break;
@@ -904,11 +946,11 @@ static struct options read_options(int number, char **words)
         {"report", no_argument, NULL, OPTION_REPORT},
         {"pcs", required_argument, NULL, 'p'},          {"no-filter", no_argument, NULL, 'n'},
         {"limit", required_argument, NULL, 'l'},        {"no-comments", no_argument, NULL, OPTION_NO_COMMENTS},
-        {"unfiltered", required_argument, NULL, OPTION_UNFILTERED},
+        {"no-stacks", no_argument, NULL, OPTION_NO_STACKS}, {"unfiltered", required_argument, NULL, OPTION_UNFILTERED},
         {"quiet", no_argument, NULL, 'q'},              {"help", no_argument, NULL, 'h'},
         {NULL, 0, NULL, 0},
     };
-    struct options options = {.filter = true, .comments = true, .hgd = getenv("HGD")};
+    struct options options = {.filter = true, .comments = true, .stacks = true, .hgd = getenv("HGD")};
     int option;
     while ((option = getopt_long(number, words, "+o:p:nl:qh", known, NULL)) != -1) {
         take_option(&options, option, number, words);

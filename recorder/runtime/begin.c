@@ -81,6 +81,7 @@ static void begin_recording(void)
     }
     make_lock_table();
     make_channels();
+    make_stacks();
     pthread_atfork(NULL, NULL, in_forked_process);
     begin_main_thread();
     self.inside = 0;

@@ -82,9 +82,11 @@ CALLED_BY_COMPILER void *__tsan_memset(void *to, int byte, size_t length)
     return REAL(memset)(to, byte, length);
 }
 
-CALLED_BY_COMPILER void __tsan_func_entry(void *code)
+CALLED_BY_COMPILER void __tsan_func_entry(void *caller)
 {
-    (void)code;
+    if (wants_stacks && is_recording()) {
+        function_is_entered((uintptr_t)caller, (uintptr_t)__builtin_frame_address(0));
+    }
 }
 
 /* The frame that ends loses its words: the next function's variables there are others. The frame pointer of the function that ends is
@@ -92,6 +94,7 @@ CALLED_BY_COMPILER void __tsan_func_entry(void *code)
 CALLED_BY_COMPILER void __tsan_func_exit(void)
 {
     uintptr_t frame = *(uintptr_t *)__builtin_frame_address(0);
+    function_is_left();
     if (self.stack_touched >= frame || frame <= self.stack_low || frame > self.stack_high || !begin_event()) {
         return;
     }

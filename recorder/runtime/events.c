@@ -191,6 +191,7 @@ static void publish_event(unsigned kind, int thread, uint64_t value, uint32_t le
     if (ring->wants_codes && code && (code < self.code_low || code >= self.code_high)) {
         note_code(code);
     }
+    uint64_t stack = wants_stacks && code ? current_stack() : 0;
     set_pending(NO_TICKET_YET);
     uint64_t ticket = atomic_fetch_add_explicit(&ring->next_ticket, 1, memory_order_acq_rel);
     set_pending(ticket + 1);
@@ -200,7 +201,7 @@ static void publish_event(unsigned kind, int thread, uint64_t value, uint32_t le
     }
     struct event *slot = &ring->events[ticket % RING_EVENTS];
     slot->value = value;
-    slot->code = code;
+    slot->code = code | stack << CODE_BITS;
     slot->length = length;
     slot->thread = (uint16_t)thread;
     slot->kind = (uint8_t)kind;

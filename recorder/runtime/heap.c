@@ -95,6 +95,43 @@ REPLACES int posix_memalign(void **block, size_t alignment, size_t length)
     return 0;
 }
 
+/* ---- C++ ---- */
+
+/* The C++ library's own call of malloc is not recorded: its code is not where the program asked for the memory. It may end by an
+ * exception, past this runtime. */
+static void end_own_call(int *ignored)
+{
+    (void)ignored;
+    self.is_own_call = false;
+    self.inside = 0;
+}
+
+#define OPERATOR_NEW(name, parameters, arguments)                                                    \
+    extern void *name parameters;                                                                    \
+    REPLACES void *name parameters                                                                   \
+    {                                                                                                \
+        __typeof__(&name) real = REAL(name);                                                         \
+        void *block;                                                                                 \
+        if (self.inside || !is_recording()) {                                                        \
+            return real arguments;                                                                   \
+        }                                                                                            \
+        {                                                                                            \
+            __attribute__((cleanup(end_own_call))) int ends = 0;                                     \
+            (void)ends;                                                                              \
+            self.inside = (uintptr_t)__builtin_frame_address(0);                                     \
+            self.is_own_call = true;                                                                 \
+            block = real arguments;                                                                  \
+        }                                                                                            \
+        return made(block, CALLER);                                                                  \
+    }
+
+OPERATOR_NEW(_Znwm, (size_t length), (length))
+OPERATOR_NEW(_Znam, (size_t length), (length))
+OPERATOR_NEW(_ZnwmRKSt9nothrow_t, (size_t length, const void *nothrow), (length, nothrow))
+OPERATOR_NEW(_ZnamRKSt9nothrow_t, (size_t length, const void *nothrow), (length, nothrow))
+OPERATOR_NEW(_ZnwmSt11align_val_t, (size_t length, size_t alignment), (length, alignment))
+OPERATOR_NEW(_ZnamSt11align_val_t, (size_t length, size_t alignment), (length, alignment))
+
 REPLACES int munmap(void *area, size_t length)
 {
     if (length <= LARGEST_UNMAP) {

@@ -46,6 +46,13 @@ struct thread {
     _Atomic int holds_used;
 };
 
+/* A function that was entered: the address behind its call, where its frame lies, and the number of the stack up to it, or 0. */
+struct frame {
+    uintptr_t caller;
+    uintptr_t place;
+    uint32_t stack;
+};
+
 /* What a thread knows of itself. */
 struct self {
     int number;
@@ -64,6 +71,9 @@ struct self {
     uint64_t latest_value;
     /* how often the program asked to leave its reads and its writes alone, and has not taken it back */
     unsigned ignores_reads, ignores_writes;
+    /* the functions that the thread is in, and how many of them; above MOST_FRAMES they are only counted */
+    struct frame *frames;
+    size_t depth;
 };
 
 extern __thread struct self self __attribute__((tls_model("initial-exec")));
@@ -114,6 +124,19 @@ void record_block(enum kind kind, uintptr_t address, size_t length, uintptr_t co
 void record_access(bool is_write, uintptr_t address, size_t length, uintptr_t code);
 void forget(uintptr_t address, size_t length);
 void unlock_line(struct line *line);
+
+/* ---- stacks.c ---- */
+extern bool wants_stacks;
+void make_stacks(void);
+void function_is_entered(uintptr_t caller, uintptr_t place);
+/* The number of the calling thread's stack. */
+uint32_t current_stack(void);
+void drop_frames(void);
+
+static inline void function_is_left(void)
+{
+    self.depth -= self.depth > 0;
+}
 
 /* ---- annotations.c ---- */
 extern _Atomic bool has_benign_ranges;

@@ -19,6 +19,9 @@ enum {
     RING_MAGIC = 0x68676431,
     MOST_THREADS = 1024,
     MOST_LOCKS = 65536,
+    MOST_STACKS = 1 << 17,
+    /* an address of code has so many bits; above them an event has the number of its stack */
+    CODE_BITS = 47,
     CACHE_LINE = 64,
 };
 
@@ -59,7 +62,7 @@ struct event {
     _Atomic uint64_t published;
     /* an address, a child, a lock, a message or a reason */
     uint64_t value;
-    /* the address of the code */
+    /* the address of the code, and above it the number of the stack that it was called by, or 0 */
     uint64_t code;
     uint32_t length;
     uint16_t thread;
@@ -88,7 +91,15 @@ enum count {
     COUNT_IGNORED,
     COUNT_UNSAID,
     COUNT_FIBERS,
+    COUNT_LOST_STACKS,
     COUNTS,
+};
+
+/* One frame of a call stack, and the number of the frames that called it, or 0. */
+struct stack {
+    uint64_t caller;
+    uint32_t outer;
+    uint32_t unused;
 };
 
 /* A counter alone in its cache line, so that threads don't wait for one another's. */
@@ -103,6 +114,7 @@ struct ring {
     uint8_t filter;
     uint8_t comments;
     uint8_t wants_codes;
+    uint8_t wants_stacks;
     /* the process that records; 0 until one has begun */
     _Atomic int32_t owner;
     _Atomic int32_t reader;
@@ -113,6 +125,9 @@ struct ring {
     struct lone_counter left_out[MOST_THREADS];
     /* accesses that were left out because all other threads had been joined */
     struct lone_counter left_out_alone;
+    /* the stacks that events name: number 0 is none, and a number is greater than that of its outer frames */
+    _Atomic uint32_t stacks_used;
+    struct stack stacks[MOST_STACKS];
     /* lines `map LOW HIGH OFFSET FILE` of the files whose code had events */
     _Atomic uint32_t maps_used;
     char maps[1 << 18];

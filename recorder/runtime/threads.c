@@ -82,6 +82,7 @@ static void renew_stack(void)
 static void end_thread(void *ignored)
 {
     (void)ignored;
+    drop_frames();
     if (self.number >= 0 && is_recording()) {
         drop_pending();
         if (atomic_load(&threads[self.number].is_detached)) {

@@ -37,7 +37,7 @@ def parser() -> Parser:
     made.add_argument("codes", metavar="CODES", nargs="?", help="the file of hgd-record --pcs of the same run, for places in the source")
     made.add_argument("--format", choices=("text", "json", "sarif"), default="text", help="text by default")
     made.add_argument("--suppressions", metavar="FILE", action="append", default=[],
-                      help="leaves out what FILE fits: lines `function GLOB and variable GLOB`, with the keys function, file, variable and lock; "
+                      help="leaves out what FILE fits: lines `function GLOB and variable GLOB`, with the keys function, frame, file, variable and lock; "
                            "or a file of Helgrind or ThreadSanitizer, as far as it says the same")
     made.add_argument("--gen-suppressions", action="store_true", help="prints with each report the line that would suppress it")
     made.add_argument("--error-exitcode", metavar="N", type=exit_code, default=0, help="the status where races are reported (1 to 255)")

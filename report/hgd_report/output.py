@@ -12,10 +12,21 @@ from .verdicts import Verdict
 BOLD, RED, PLAIN = "\033[1m", "\033[1;31m", "\033[0m"
 
 
+# So many calls of a stack are shown; JSON has them all.
+MOST_SHOWN = 12
+
+
 def shown(place: Place) -> str:
     if not place.line:
         return place.text or "a place that is not known"
     return f"{place.function} {place.file}:{place.line}"
+
+
+def stack_text(place: Place) -> str:
+    """A place with the calls that led there, a line each."""
+    frames = [place, *place.callers]
+    left = len(frames) - MOST_SHOWN
+    return "\n".join([*(f"      {shown(it)}" for it in frames[:MOST_SHOWN]), *([f"      and {left} calls more"] if left > 0 else [])])
 
 
 def locks_text(locks: tuple[str, ...]) -> str:
@@ -23,7 +34,7 @@ def locks_text(locks: tuple[str, ...]) -> str:
 
 
 def side_text(side: Side) -> str:
-    return f"{side.access.kind} by thread {side.access.thread}, event {side.access.event}, {locks_text(side.locks)}\n      {shown(side.place)}"
+    return f"{side.access.kind} by thread {side.access.thread}, event {side.access.event}, {locks_text(side.locks)}\n{stack_text(side.place)}"
 
 
 def memory_text(memory: Memory) -> str:
@@ -34,7 +45,7 @@ def memory_text(memory: Memory) -> str:
     if block is None:
         return f"{text}: memory that the trace does not allocate"
     what = "block" if block.kind == "alloc" else "memory that was given back, as a function's variables are at its end,"
-    place = f"\n      {shown(memory.place)}" if memory.place and memory.place.text != "the recorder's own" else ""
+    place = f"\n{stack_text(memory.place)}" if memory.place and memory.place.text != "the recorder's own" else ""
     made = f" allocated by thread {block.thread}" if block.kind == "alloc" else f" by thread {block.thread}"
     return f"{text}: {memory.word - block.address} bytes inside a {what} of {block.length} bytes{made}{place}"
 
@@ -42,7 +53,7 @@ def memory_text(memory: Memory) -> str:
 def thread_text(thread: Creation) -> str:
     if thread.parent is None:
         return f"thread {thread.thread} is the first"
-    place = f"\n      {shown(thread.place)}" if thread.place else ""
+    place = f"\n{stack_text(thread.place)}" if thread.place else ""
     return f"thread {thread.thread} was created by thread {thread.parent}{place}"
 
 
@@ -92,7 +103,9 @@ def suppression_of(pair: Pair) -> str:
 
 
 def place_json(place: Place | None):
-    return None if place is None or not place.text else {"text": place.text, "function": place.function, "file": place.file, "line": place.line}
+    if place is None or not place.text:
+        return None
+    return {"text": place.text, "function": place.function, "file": place.file, "line": place.line, "callers": [place_json(it) for it in place.callers]}
 
 
 def side_json(side: Side | None):
@@ -132,9 +145,17 @@ def fingerprint(pair: Pair) -> str:
     return hashlib.sha256("\n".join([*sides, (pair.memory.variable or "").partition("+")[0]]).encode()).hexdigest()
 
 
+def sarif_side(side: Side) -> str:
+    return f"{side.access.kind} by thread {side.access.thread}, {locks_text(side.locks)}, in {shown(side.place)}"
+
+
+def sarif_stack(place: Place, message: str):
+    return {"message": {"text": message}, "frames": [{"location": location(it, it.function)} for it in (place, *place.callers) if it.file]}
+
+
 def sarif_result(pair: Pair):
-    other = f" conflicts with {side_text(pair.other)}" if pair.other else ""
-    text = f"Data race: {side_text(pair.racy)}{other}; {memory_text(pair.memory)}"
+    other = f" conflicts with {sarif_side(pair.other)}" if pair.other else ""
+    text = f"Data race: {sarif_side(pair.racy)}{other}; {memory_text(pair.memory).splitlines()[0]}"
     result = {"ruleId": "data-race", "ruleIndex": 0, "level": "error", "message": {"text": " ".join(text.split())},
               "partialFingerprints": {"pairOfPlaces/v1": fingerprint(pair)}}
     if pair.racy.place.file:
@@ -143,6 +164,7 @@ def sarif_result(pair: Pair):
     related += [(it.place, f"thread {it.thread} is created here") for it in pair.threads if it.place]
     related += [(pair.memory.place, "the memory is allocated here")] if pair.memory.place and not pair.memory.variable else []
     result["relatedLocations"] = [{"id": number, **location(place, said)} for number, (place, said) in enumerate(related) if place.file]
+    result["stacks"] = [sarif_stack(side.place, f"{side.access.kind} by thread {side.access.thread}") for side in (pair.racy, pair.other) if side and side.place.file]
     if pair.is_suppressed:
         result["suppressions"] = [{"kind": "external"}]
     return result

@@ -15,20 +15,22 @@ PLACE = re.compile(r"(?P<function>.*) at (?P<file>\S.*):(?P<line>\d+|\?)")
 
 @dataclass(frozen=True)
 class Place:
-    """A place in the source, as far as it is known. `text` is what is known where there is no line."""
+    """A place in the source, as far as it is known, and the calls that led there, the innermost first. `text` is what is known where
+    there is no line."""
 
     text: str
     function: str = ""
     file: str = ""
     line: int = 0
+    callers: tuple[Place, ...] = ()
 
     @staticmethod
-    def of(text: str) -> Place:
-        found = PLACE.fullmatch(text)
+    def of(text: str, callers=()) -> Place:
+        found, outer = PLACE.fullmatch(text), tuple(Place.of(it) for it in callers)
         if not found:
-            return Place(text)
+            return Place(text, callers=outer)
         line = found["line"]
-        return Place(text, found["function"], found["file"], int(line) if line != "?" else 0)
+        return Place(text, found["function"], found["file"], int(line) if line != "?" else 0, outer)
 
 
 @dataclass(frozen=True)
@@ -84,6 +86,7 @@ class Pair:
         variable = (self.memory.variable or "").partition("+")[0]
         return {
             "function": {name for side in sides for name in names_of(side.place.function)},
+            "frame": {name for side in sides for place in (side.place, *side.place.callers) for name in names_of(place.function)},
             "file": {name for side in sides for name in (side.place.file, os.path.basename(side.place.file)) if name},
             "variable": {variable} - {""},
             "lock": {name for side in sides for name in side.locks},
@@ -104,14 +107,16 @@ class Source:
     def addresses(self, events) -> dict[int, int]:
         return Codes(self.codes, set(events)).address if self.codes else {}
 
-    def places(self, events, early: dict[int, int]) -> tuple[dict[int, Place], Places | None]:
+    def places(self, events, early: dict[int, tuple[str, ...]]) -> tuple[dict[int, Place], Places | None]:
         """The places of events, and of the code of what was allocated before all events."""
         if not self.codes:
             return {}, None
         codes = Codes(self.codes, set(events))
-        codes.address.update(early)
+        for event, words in early.items():
+            codes.note(event, words)
         names = Places(codes)
-        return {event: Place.of(text) for event, text in names.of_events().items()}, names
+        stacks = names.stacks_of_events()
+        return {event: Place.of(text, stacks[event]) for event, text in names.of_events().items()}, names
 
 
 def group(races: list[Race], source: Source) -> list[list[Race]]:

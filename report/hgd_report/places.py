@@ -14,7 +14,7 @@ class Codes:
     """The addresses of the events asked for, and where the program's files lay in memory."""
 
     def __init__(self, path, wanted):
-        self.address, self.maps, self.run = {}, [], None
+        self.address, self.stack, self.frames, self.maps, self.run = {}, {}, {}, [], None
         number = 0
         with open(path) as lines:
             for line in lines:
@@ -25,13 +25,30 @@ class Codes:
                     low, high, offset, name = line.split(maxsplit=4)[1:]
                     self.maps.append((int(low, 0), int(high, 0), int(offset, 0), name.rstrip("\n")))
                     continue
+                if line.startswith("stack "):
+                    stack, outer, caller = line.split()[1:]
+                    self.frames[int(stack)] = (int(outer), int(caller, 0))
+                    continue
                 number += 1
                 if number in wanted:
-                    self.address[number] = int(line, 0)
+                    self.note(number, line.split())
         if wanted and max(wanted) > number:
             raise OtherRun(f"{path} has {number} events, and not event {max(wanted)}: it is of another run")
         self.maps.sort()
         self.begins = [part[0] for part in self.maps]
+
+    def note(self, event, words):
+        """The code of an event, and the number of its stack where it has one."""
+        self.address[event] = int(words[0], 0)
+        self.stack[event] = int(words[1]) if len(words) > 1 else 0
+
+    def callers(self, event):
+        """The addresses behind the calls by which an event was come to, the innermost first."""
+        stack, found = self.stack.get(event, 0), []
+        while stack in self.frames:
+            stack, caller = self.frames[stack]
+            found.append(caller)
+        return found
 
     def files(self):
         return {part[3] for part in self.maps}
@@ -68,13 +85,21 @@ class File:
         return own if any(begin <= own < begin + size for _, begin, size in self.loads) else None
 
     def source_lines(self, addresses):
-        """`function at file:line` of each address."""
-        words = ["addr2line", "-f", "-C", "-e", self.path]
+        """For each address `function at file:line`, and behind it the same of each function that this one was put into in line."""
+        words = ["addr2line", "-a", "-f", "-i", "-C", "-e", self.path]
         # the address behind a call is that of the next line: one byte before it is the call
         given = "".join(f"{address - 1:#x}\n" for address in addresses)
         answer = subprocess.run(words, input=given, capture_output=True, text=True).stdout.splitlines()
-        pairs = zip(answer[::2], answer[1::2])
-        return [f"{function} at {re.sub(r' .discriminator.*', '', line)}" for function, line in pairs]
+        found, at = [], 0
+        while at < len(answer):
+            if re.fullmatch(r"0x[0-9a-f]+", answer[at]):
+                found.append([])
+                at += 1
+            else:
+                line = re.sub(r" .discriminator.*", "", answer[at + 1]) if at + 1 < len(answer) else "??:0"
+                found[-1].append(f"{answer[at]} at {line}")
+                at += 2
+        return found
 
     def variable(self, address):
         """The global variable that has a byte of the word at an address, and how far behind its beginning the word is."""
@@ -89,6 +114,22 @@ class File:
         return None
 
 
+# The recorder's own functions that call the first one of a thread.
+BEGINNINGS = ("run_thread at ", "run_standard_thread at ")
+
+
+def outer_part(frames):
+    """What is worth telling of a stack: up to `main` or to the first function of a thread, and to the last call that has a line."""
+    for at, text in enumerate(frames):
+        if text.startswith(BEGINNINGS):
+            return frames[:at]
+        if text.startswith("main at "):
+            return frames[: at + 1]
+    while len(frames) > 1 and " at " not in frames[-1]:
+        frames = frames[:-1]
+    return frames
+
+
 class Places:
     def __init__(self, codes):
         self.codes, self.files = codes, {}
@@ -98,21 +139,32 @@ class Places:
             self.files[name] = File(name, self.codes.maps)
         return self.files[name]
 
-    def of_events(self):
-        """The place of each event, by its number."""
+    def of_addresses(self, addresses):
+        """The places of each address of code: more than one where functions were put into others in line, the innermost first."""
         by_file, places = {}, {}
-        for number, address in self.codes.address.items():
+        for address in addresses:
             name = self.codes.part(address)
             own = self.file(name).own_address(address) if name else None
             if own is None:
-                places[number] = "no source line" if address else "the recorder's own"
+                places[address] = ["no source line" if address else "the recorder's own"]
             else:
-                by_file.setdefault(name, []).append((number, own))
+                by_file.setdefault(name, []).append((address, own))
         for name, pairs in by_file.items():
             lines = self.file(name).source_lines([own for _, own in pairs])
-            for (number, own), line in zip(pairs, lines):
-                places[number] = f"{name}+{own:#x}" if "??" in line else line
+            for (address, own), known in zip(pairs, lines):
+                places[address] = [f"{name}+{own:#x}"] if not known or "??" in known[0] else known
         return places
+
+    def of_events(self):
+        """The place of each event, by its number."""
+        places = self.of_addresses(set(self.codes.address.values()))
+        return {event: places[address][0] for event, address in self.codes.address.items()}
+
+    def stacks_of_events(self):
+        """For each event the places of the calls that led to it, the innermost first."""
+        stacks = {event: [address, *self.codes.callers(event)] for event, address in self.codes.address.items()}
+        places = self.of_addresses({address for stack in stacks.values() for address in stack})
+        return {event: outer_part([it for address in stack for it in places[address]])[1:] for event, stack in stacks.items()}
 
     def variable(self, word):
         for name in sorted(self.codes.files()):

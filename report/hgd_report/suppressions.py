@@ -1,8 +1,8 @@
 """Which pairs a user knows of already.
 
-A line of the own form is `KEY PATTERN [and KEY PATTERN]..`: KEY is `function`, `file`, `variable` or `lock`, PATTERN a glob. A pair is
-suppressed where each of them fits one of its two accesses, its memory or its locks. Of Helgrind's and ThreadSanitizer's files is read what
-says the same: the innermost function of one of the accesses, its file, the variable. The rest is counted and told.
+A line of the own form is `KEY PATTERN [and KEY PATTERN]..`: KEY is `function` (the innermost one), `frame` (any function of a stack), `file`,
+`variable` or `lock`, PATTERN a glob. A pair is suppressed where each of them fits one of its two accesses, its memory or its locks. Of
+Helgrind's and ThreadSanitizer's files is read what says the same. The rest is counted and told.
 """
 from __future__ import annotations
 
@@ -10,7 +10,7 @@ import fnmatch
 import re
 from dataclasses import dataclass
 
-KEYS = ("function", "file", "variable", "lock")
+KEYS = ("function", "frame", "file", "variable", "lock")
 
 
 class BadSuppressions(Exception):
@@ -77,7 +77,7 @@ def read_tsan(text: str) -> tuple[list[Suppression], int]:
             unread += 1
             continue
         glob = ("" if pattern.startswith("^") else "*") + pattern.strip("^$") + ("" if pattern.endswith("$") else "*")
-        found.append(Suppression((("function|file|variable" if kind == "race" else "function|file", glob),)))
+        found.append(Suppression((("frame|file|variable" if kind == "race" else "function|file", glob),)))
     return found, unread
 
 

@@ -18,14 +18,14 @@ def number_of(text: str) -> int:
 @dataclass(frozen=True)
 class Block:
     """Memory that an event made new, or gave back. The trace has parts of 1,024 bytes of a large one: they are one block here. One that
-    was allocated before there was a second thread is no event: it has the event number 0 or less, and the address of its code."""
+    was allocated before there was a second thread is no event: it has the event number 0 or less, and the words of its code."""
 
     kind: str
     event: int
     thread: int
     address: int
     length: int
-    code: int = 0
+    code: tuple[str, ...] = ()
 
 
 @dataclass
@@ -103,9 +103,9 @@ def note_lock(line: str, found: Surroundings):
 
 
 def early_block(line: str, event: int) -> Block | None:
-    """`# alloc THREAD ADDRESS LENGTH CODE` is a block from before there was a second thread."""
-    said = re.match(r"# alloc (\d+) (0x[0-9a-f]+) (\d+) (0x[0-9a-f]+)$", line)
-    return Block("alloc", event, int(said[1]), int(said[2], 16), int(said[3]), int(said[4], 16)) if said else None
+    """`# alloc THREAD ADDRESS LENGTH CODE [STACK]` is a block from before there was a second thread."""
+    said = re.match(r"# alloc (\d+) (0x[0-9a-f]+) (\d+) (0x[0-9a-f]+(?: \d+)?)$", line)
+    return Block("alloc", event, int(said[1]), int(said[2], 16), int(said[3]), tuple(said[4].split())) if said else None
 
 
 def note_event(said: list[str], found: Surroundings, blocks: Blocks):
