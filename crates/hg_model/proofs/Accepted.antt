@@ -3,7 +3,7 @@ use Rattle.std.proofs.Common.{◌≡◌, ℕ, ◌+◌, ◌<◌, ◌≤◌, Bool,
 use Rattle.std.proofs.lemmas.Bool.{lt-leb, le-ltb, or_cases, or_parts, or_left, or_right, and_parts, and_from, not_from_false, false≢true, not-false, false_from_ne_true}
 use Rattle.std.specs.List.{list_any, AllByRecursion}
 use Rattle.hg_model.specs.declared.event.Event.{Event}
-use Rattle.hg_model.specs.declared.event.Event.TheVariants.{Fork, Join, Lock, RdLock, Unlock, Read, Write, Alloc, Free}
+use Rattle.hg_model.specs.declared.event.Event.TheVariants.{Fork, Join, Lock, RdLock, Unlock, Read, Write, Alloc, Free, Send, Recv}
 use Rattle.hg_model.specs.declared.event.Named.{Named}
 use Rattle.hg_model.specs.declared.thread.ThreadState.{ThreadState}
 use Rattle.hg_model.specs.declared.held.HeldLock.{HeldLock}
@@ -87,6 +87,8 @@ child_is_used past (Read a) h = tt
 child_is_used past (Write a) h = tt
 child_is_used past (Alloc b) h = tt
 child_is_used past (Free b) h = tt
+child_is_used past (Send t k) h = tt
+child_is_used past (Recv t k) h = tt
 
 child_is_fresh : (past : List Event) (e : Event) → child_used (threads_of past) e ≡ false → ChildIsFresh past e
 child_is_fresh past (Fork p c) h = sym (numbers_of past (used past) c) ∙ h
@@ -98,6 +100,8 @@ child_is_fresh past (Read a) h = tt
 child_is_fresh past (Write a) h = tt
 child_is_fresh past (Alloc b) h = tt
 child_is_fresh past (Free b) h = tt
+child_is_fresh past (Send t k) h = tt
+child_is_fresh past (Recv t k) h = tt
 
 -- the acting thread and a joined child are used, and a forked child is not
 pub record Passes (past : List Event) (e : Event) : Type 0 where
@@ -164,6 +168,8 @@ blank_step past (Read a) c h before fresh = before fresh
 blank_step past (Write a) c h before fresh = before fresh
 blank_step past (Alloc b) c h before fresh = before fresh
 blank_step past (Free b) c h before fresh = before fresh
+blank_step past (Send t k) c h before fresh = before fresh
+blank_step past (Recv t k) c h before fresh = before fresh
 
 pub fresh_is_blank : (trace : List Named) → IsAccepted trace → (c : ℕ) → IsFresh (events_of trace) c → IsBlank (events_of trace) c
 fresh_is_blank [] h c fresh = (refl, refl)
@@ -207,6 +213,8 @@ threads_law past (Read a) h blank = refl
 threads_law past (Write a) h blank = refl
 threads_law past (Alloc b) h blank = refl
 threads_law past (Free b) h blank = refl
+threads_law past (Send t k) h blank = refl
+threads_law past (Recv t k) h blank = refl
 
 -- an acting thread that is alive and not full of locks
 room_from : (threads : List ThreadState) (t : ℕ) (p q : ThreadState → Bool) → has_thread threads t p ≡ true → has_thread threads t q ≡ false → has_thread threads t (λ x. not (q x)) ≡ true

@@ -3,7 +3,7 @@ use Rattle.std.proofs.Common.{◌≡◌, ℕ, zero, suc, ◌+◌, ◌-◌, ◌*�
 use Rattle.std.proofs.lemmas.Bool.{or_left, or_right, or_cases, and_parts, cases_eq}
 use Rattle.std.specs.List.{list_any, range_with_len, AllByRecursion}
 use Rattle.hg_model.specs.declared.event.Event.{Event}
-use Rattle.hg_model.specs.declared.event.Event.TheVariants.{Fork, Join, Lock, RdLock, Unlock, Read, Write, Alloc, Free}
+use Rattle.hg_model.specs.declared.event.Event.TheVariants.{Fork, Join, Lock, RdLock, Unlock, Read, Write, Alloc, Free, Send, Recv}
 use Rattle.hg_model.specs.declared.report.Report.{Report}
 use Rattle.hg_model.specs.Segments.{segments_of}
 use Rattle.hg_model.specs.declared.segment.Segment.{Segment}
@@ -38,6 +38,8 @@ history_early w (Join p c ∷ past) = later (suc (length past)) (history w past)
 history_early w (Lock t l ∷ past) = later (suc (length past)) (history w past) (history_early w past)
 history_early w (RdLock t l ∷ past) = later (suc (length past)) (history w past) (history_early w past)
 history_early w (Unlock t l ∷ past) = later (suc (length past)) (history w past) (history_early w past)
+history_early w (Send t k ∷ past) = later (suc (length past)) (history w past) (history_early w past)
+history_early w (Recv t k ∷ past) = later (suc (length past)) (history w past) (history_early w past)
 
 -- what happened before is not reported now
 not_again : (segments : List Segment) (w : ℕ) (past : List Event) → is_number (suc (length past)) (reported_item segments (history w past)) ≡ false
@@ -100,3 +102,5 @@ none_missed (Join p c ∷ past) k h = sym (not_again (segments_of (Join p c ∷ 
 none_missed (Lock t l ∷ past) k h = sym (not_again (segments_of (Lock t l ∷ past)) k past) ∙ h
 none_missed (RdLock t l ∷ past) k h = sym (not_again (segments_of (RdLock t l ∷ past)) k past) ∙ h
 none_missed (Unlock t l ∷ past) k h = sym (not_again (segments_of (Unlock t l ∷ past)) k past) ∙ h
+none_missed (Send t m ∷ past) k h = sym (not_again (segments_of (Send t m ∷ past)) k past) ∙ h
+none_missed (Recv t m ∷ past) k h = sym (not_again (segments_of (Recv t m ∷ past)) k past) ∙ h

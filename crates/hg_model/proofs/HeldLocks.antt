@@ -1,7 +1,7 @@
 -- The list of held locks agrees with the last event of thread and lock.
 use Rattle.std.proofs.Common.{◌≡◌, ℕ, Bool, true, false, cond, not, ◌&&◌, nat_eq, nat_lt, List, [], ◌∷◌, find, Option, Some, None, option_map, refl, sym, ap, ◌∙◌, subst, eqb-true}
 use Rattle.hg_model.specs.declared.event.Event.{Event}
-use Rattle.hg_model.specs.declared.event.Event.TheVariants.{Fork, Join, Lock, RdLock, Unlock, Read, Write, Alloc, Free}
+use Rattle.hg_model.specs.declared.event.Event.TheVariants.{Fork, Join, Lock, RdLock, Unlock, Read, Write, Alloc, Free, Send, Recv}
 use Rattle.hg_model.specs.declared.held.HeldLock.{HeldLock}
 use Rattle.hg_model.specs.Locks.{mode_held, with_hold, without_lock, held}
 
@@ -78,3 +78,5 @@ held_by_last (Read a ∷ past) t l = held_by_last past t l
 held_by_last (Write a ∷ past) t l = held_by_last past t l
 held_by_last (Alloc b ∷ past) t l = held_by_last past t l
 held_by_last (Free b ∷ past) t l = held_by_last past t l
+held_by_last (Send u k ∷ past) t l = held_by_last past t l
+held_by_last (Recv u k ∷ past) t l = held_by_last past t l

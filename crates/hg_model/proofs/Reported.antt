@@ -6,7 +6,7 @@ use Rattle.std.proofs.lemmas.List.{append_assoc}
 use Rattle.std.specs.List.{list_any, list_all, range_with_len}
 use Rattle.std.specs.List.Sorted.{IsStrictlyIncreasing}
 use Rattle.hg_model.specs.declared.event.Event.{Event}
-use Rattle.hg_model.specs.declared.event.Event.TheVariants.{Fork, Join, Lock, RdLock, Unlock, Read, Write, Alloc, Free}
+use Rattle.hg_model.specs.declared.event.Event.TheVariants.{Fork, Join, Lock, RdLock, Unlock, Read, Write, Alloc, Free, Send, Recv}
 use Rattle.hg_model.specs.declared.segment.Segment.{Segment}
 use Rattle.hg_model.specs.declared.held.HeldLock.{HeldLock}
 use Rattle.hg_model.specs.declared.word.HistoryItem.{HistoryItem}
@@ -132,6 +132,8 @@ held_rise_lem (Read a ∷ past) t = held_rise_lem past t
 held_rise_lem (Write a ∷ past) t = held_rise_lem past t
 held_rise_lem (Alloc b ∷ past) t = held_rise_lem past t
 held_rise_lem (Free b ∷ past) t = held_rise_lem past t
+held_rise_lem (Send u k ∷ past) t = held_rise_lem past t
+held_rise_lem (Recv u k ∷ past) t = held_rise_lem past t
 
 -- ---- the words of an access
 

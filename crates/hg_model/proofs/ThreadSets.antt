@@ -4,7 +4,7 @@ use Rattle.std.specs.List.{AllByRecursion}
 use Rattle.std.specs.Option.{option_and_then}
 use Rattle.std.proofs.lemmas.Bool.{eq-eqb, ltb-false, ltb-true, false≢true}
 use Rattle.hg_model.specs.declared.event.Event.{Event}
-use Rattle.hg_model.specs.declared.event.Event.TheVariants.{Fork, Join, Lock, RdLock, Unlock, Read, Write, Alloc, Free}
+use Rattle.hg_model.specs.declared.event.Event.TheVariants.{Fork, Join, Lock, RdLock, Unlock, Read, Write, Alloc, Free, Send, Recv}
 use Rattle.hg_model.specs.declared.event.Named.{Named}
 use Rattle.hg_model.specs.declared.report.Report.{Report}
 use Rattle.hg_model.specs.declared.segment.Segment.{Segment}
@@ -109,6 +109,8 @@ small_numbers source (Read a) low = record { actor_is = one_number source (Read 
 small_numbers source (Write a) low = record { actor_is = one_number source (Write a) low; opens = λ segments. tt }
 small_numbers source (Alloc b) low = record { actor_is = one_number source (Alloc b) low; opens = λ segments. tt }
 small_numbers source (Free b) low = record { actor_is = one_number source (Free b) low; opens = λ segments. tt }
+small_numbers source (Send t k) low = let small = one_number source (Send t k) low in record { actor_is = small; opens = λ segments. (small, tt) }
+small_numbers source (Recv t k) low = let small = one_number source (Recv t k) low in record { actor_is = small; opens = λ segments. (small, tt) }
 
 -- ---- words
 
@@ -146,6 +148,8 @@ word_set c (Read a) w has numbers = either (overlaps a.at a.len w) _ _ (touched_
 word_set c (Write a) w has numbers = either (overlaps a.at a.len w) _ _ (touched_set c.segments a.t (present c.segments a.t) true _ (c.words w) has.segments numbers.actor_is (has.words w)) (has.words w)
 word_set c (Alloc b) w has numbers = either (overlaps b.at b.len w) New (c.words w) tt (has.words w)
 word_set c (Free b) w has numbers = either (overlaps b.at b.len w) New (c.words w) tt (has.words w)
+word_set c (Send t k) w has numbers = has.words w
+word_set c (Recv t k) w has numbers = has.words w
 
 report_sets : (c : Content) (e : Event) → HasThreadSets c → HasSmallNumbers e → AllByRecursion (λ r. IsThreadSet r.threads) (new_reports c e)
 report_sets c (Fork p d) has numbers = tt
@@ -157,6 +161,8 @@ report_sets c (Read a) has numbers = all_map (λ (r : Report). IsThreadSet r.thr
 report_sets c (Write a) has numbers = all_map (λ (r : Report). IsThreadSet r.threads) _ _ (λ w. word_set c (Write a) w has numbers)
 report_sets c (Alloc b) has numbers = tt
 report_sets c (Free b) has numbers = tt
+report_sets c (Send t k) has numbers = tt
+report_sets c (Recv t k) has numbers = tt
 
 -- ---- events
 

@@ -4,7 +4,7 @@ use Rattle.std.proofs.lemmas.Bool.{false≢true}
 use Rattle.std.proofs.lemmas.List.{get_or_append_left, length-map}
 use Rattle.std.specs.List.{list_any, AllByRecursion}
 use Rattle.hg_model.specs.declared.event.Event.{Event}
-use Rattle.hg_model.specs.declared.event.Event.TheVariants.{Fork, Join, Lock, RdLock, Unlock, Read, Write, Alloc, Free}
+use Rattle.hg_model.specs.declared.event.Event.TheVariants.{Fork, Join, Lock, RdLock, Unlock, Read, Write, Alloc, Free, Send, Recv}
 use Rattle.hg_model.specs.declared.event.Named.{Named}
 use Rattle.hg_model.specs.declared.report.Report.{Report}
 use Rattle.hg_model.specs.Locks.{held, counted}
@@ -73,6 +73,8 @@ history_step w past (Read a) pass h = access_fits w past a.t a.at a.len false (u
 history_step w past (Write a) pass h = access_fits w past a.t a.at a.len true (used_owns past a.t pass.actor_used) h
 history_step w past (Alloc b) pass h = reset_fits w past (Alloc b) (overlaps b.at b.len w) h
 history_step w past (Free b) pass h = reset_fits w past (Free b) (overlaps b.at b.len w) h
+history_step w past (Send t k) pass h = history_more w past (Send t k) h
+history_step w past (Recv t k) pass h = history_more w past (Recv t k) h
 
 pub history_fits : (trace : List Named) → IsAccepted trace → (w : ℕ) → HistoryFits w (events_of trace)
 history_fits [] h w = tt
@@ -122,6 +124,8 @@ word_law trace (Read a) w pass h = word_accessed trace w a.t a.at a.len false pa
 word_law trace (Write a) w pass h = word_accessed trace w a.t a.at a.len true pass.actor_used h
 word_law trace (Alloc b) w pass h = word_reset (events_of trace) (Alloc b) w (overlaps b.at b.len w) h
 word_law trace (Free b) w pass h = word_reset (events_of trace) (Free b) w (overlaps b.at b.len w) h
+word_law trace (Send t k) w pass h = word_stays (events_of trace) (Send t k) w h
+word_law trace (Recv t k) w pass h = word_stays (events_of trace) (Recv t k) w h
 
 -- no earlier item is the present event
 first_race_early : (n : ℕ) (first : HistoryItem) (front later : List HistoryItem) → AllByRecursion (EarlierThan n) later → is_number n (first_race (first ∷ front) later) ≡ false
@@ -191,3 +195,5 @@ reports_law trace (RdLock t l) pass h = refl
 reports_law trace (Unlock t l) pass h = refl
 reports_law trace (Alloc b) pass h = refl
 reports_law trace (Free b) pass h = refl
+reports_law trace (Send t k) pass h = refl
+reports_law trace (Recv t k) pass h = refl

@@ -1,7 +1,7 @@
 -- The numbers that refusals are printed with.
 use Rattle.std.specs.Prelude.{ℕ}
 use Rattle.hg_model.specs.declared.verdict.Refusal.{Refusal}
-use Rattle.hg_model.specs.declared.verdict.Refusal.TheVariants.{Gap, BadNumber, BadLength, AddressEnd, NoThread, ChildUsed, SelfJoin, ChildNotAlive, ChildHoldsLocks, Broken, Damaged, AlreadyHeld, LockBusy, NotHeld, FullHeld, FullSegments, FullEvents, FullPending, FullSets, FullSlots, DeviceFault, OutOfMemory}
+use Rattle.hg_model.specs.declared.verdict.Refusal.TheVariants.{Gap, BadNumber, BadLength, AddressEnd, NoThread, ChildUsed, SelfJoin, ChildNotAlive, ChildHoldsLocks, Broken, Damaged, AlreadyHeld, LockBusy, NotHeld, FullHeld, FullSegments, FullEvents, FullPending, FullSets, FullSlots, DeviceFault, OutOfMemory, MessageUsed, NotSent, MessageTaken}
 
 -- the number of a refusal
 abbrev pub code_of : Refusal → ℕ
@@ -27,3 +27,6 @@ code_of FullSets = 19
 code_of FullSlots = 20
 code_of DeviceFault = 21
 code_of OutOfMemory = 22
+code_of MessageUsed = 23
+code_of NotSent = 24
+code_of MessageTaken = 25

@@ -1,5 +1,5 @@
 -- What restoring a trace state requires of its parts.
-use Rattle.std.specs.Prelude.{◌≡◌, ◌⊎◌, IfErr, ℕ, ◌≤◌, ◌^◌, Bool, true, false, ◌&&◌, ◌||◌, ◌==◌, not, nat_lt, List, [], ◌∷◌, Result, length, take, slice_get, Some, if◌then◌else◌}
+use Rattle.std.specs.Prelude.{◌≡◌, ◌⊎◌, IfErr, ℕ, ◌≤◌, Bool, true, false, ◌&&◌, ◌||◌, ◌==◌, not, nat_lt, List, [], ◌∷◌, Result, length, take, slice_get, Some, if◌then◌else◌}
 use Rattle.std.specs.List.{list_any, list_all}
 use Rattle.hg_model.specs.declared.limits.TheConstants.{MOST_EVENTS, MOST_SEGMENTS, SOURCE_NUMBERS, THREAD_NUMBERS}
 use Rattle.hg_model.specs.declared.held.HeldLock.{HeldLock}
@@ -10,7 +10,7 @@ use Rattle.hg_model.specs.Locks.{has_lock, has_lock_for_writing}
 use Rattle.hg_model.specs.declared.segment.Mark.{Mark}
 use Rattle.hg_model.specs.declared.segment.Mark.TheVariants.{Plain, Sent, Got}
 use Rattle.hg_model.specs.declared.segment.Segment.{Segment}
-use Rattle.hg_model.specs.Messages.{was_sent, was_received}
+use Rattle.hg_model.specs.Messages.{Messages, was_sent, was_received}
 use Rattle.hg_model.specs.Segments.{thread_at}
 use Rattle.hg_model.specs.Parts.{Parts}
 
@@ -58,8 +58,8 @@ pub record AreInRange (p : Parts) : Type 0 where
   pub last : length p.last ≡ SOURCE_NUMBERS
 
 -- the parts of a trace state, as it is restored from them
-abbrev pub parts_of : ℕ → ℕ → List ThreadState → List ℕ → Parts
-parts_of events segments threads last = record { events = events; segments = segments; threads = threads; last = last }
+abbrev pub parts_of : ℕ → ℕ → List ThreadState → List ℕ → Messages → Parts
+parts_of events segments threads last messages = record { events = events; segments = segments; threads = threads; last = last; messages = messages }
 
 -- The refusal is Damaged, and P does not hold, or it is OutOfMemory.
 abbrev pub RefusesUnless : Type 0 → Refusal → Type 0

@@ -3,14 +3,15 @@ use Rattle.std.specs.Prelude.{◌≡◌, ℕ, ◌+◌, ◌^◌, Bool, false, ◌
 use Rattle.std.specs.List.{list_any}
 use Rattle.hg_model.specs.declared.limits.TheConstants.{GREATEST_ACCESS, GREATEST_BLOCK, GREATEST_SOURCE, GREATEST_THREAD, MOST_EVENTS, MOST_HELD, MOST_SEGMENTS}
 use Rattle.hg_model.specs.declared.event.Event.{Event}
-use Rattle.hg_model.specs.declared.event.Event.TheVariants.{Fork, Join, Lock, RdLock, Unlock, Read, Write, Alloc, Free}
+use Rattle.hg_model.specs.declared.event.Event.TheVariants.{Fork, Join, Lock, RdLock, Unlock, Read, Write, Alloc, Free, Send, Recv}
 use Rattle.hg_model.specs.declared.event.Named.{Named}
 use Rattle.hg_model.specs.Locks.{has_lock, has_lock_for_writing}
 use Rattle.hg_model.specs.declared.thread.ThreadState.{ThreadState}
 use Rattle.hg_model.specs.declared.verdict.Refusal.{Refusal}
-use Rattle.hg_model.specs.declared.verdict.Refusal.TheVariants.{Gap, BadNumber, BadLength, AddressEnd, NoThread, ChildUsed, SelfJoin, ChildNotAlive, ChildHoldsLocks, AlreadyHeld, LockBusy, NotHeld, FullHeld, FullSegments, FullEvents}
+use Rattle.hg_model.specs.declared.verdict.Refusal.TheVariants.{Gap, BadNumber, BadLength, AddressEnd, NoThread, ChildUsed, SelfJoin, ChildNotAlive, ChildHoldsLocks, AlreadyHeld, LockBusy, NotHeld, FullHeld, FullSegments, FullEvents, MessageUsed, NotSent, MessageTaken}
 use Rattle.hg_model.specs.declared.verdict.Verdict.{Verdict}
 use Rattle.hg_model.specs.declared.verdict.Verdict.TheVariants.{Accept, Duplicate, Refuse}
+use Rattle.hg_model.specs.Messages.{at, is_taken, is_there, was_received, was_sent}
 use Rattle.hg_model.specs.Contents.{Content, summary}
 use Rattle.hg_model.specs.Parts.{Parts}
 
@@ -20,14 +21,16 @@ pub record Standing : Type 0 where
   pub segments : ℕ
   pub threads : List ThreadState
   pub last : ℕ → ℕ
+  pub sent : ℕ → Bool
+  pub received : ℕ → Bool
 
 -- what a verdict reads of a content
 abbrev pub standing_of : Content → Standing
-standing_of c = record { events = c.events; segments = length c.segments; threads = c.threads; last = c.last }
+standing_of c = record { events = c.events; segments = length c.segments; threads = c.threads; last = c.last; sent = was_sent c.segments; received = was_received c.segments }
 
 -- what a verdict reads of the parts of a trace state
 abbrev pub standing : Parts → Standing
-standing p = record { events = p.events; segments = p.segments; threads = p.threads; last = slice_index p.last }
+standing p = record { events = p.events; segments = p.segments; threads = p.threads; last = slice_index p.last; sent = λ k. is_there (at p.messages k); received = λ k. is_taken (at p.messages k) }
 
 -- the thread that acts
 abbrev pub actor : Event → ℕ
@@ -40,6 +43,8 @@ actor (Read a) = a.t
 actor (Write a) = a.t
 actor (Alloc b) = b.t
 actor (Free b) = b.t
+actor (Send t k) = t
+actor (Recv t k) = t
 
 -- a thread of this number was started, and the test holds of it
 abbrev pub has_thread : List ThreadState → ℕ → (ThreadState → Bool) → Bool
@@ -126,23 +131,47 @@ full_held threads (Lock t l) = has_thread threads t (λ x. nat_le MOST_HELD (len
 full_held threads (RdLock t l) = has_thread threads t (λ x. nat_le MOST_HELD (length x.held))
 full_held threads _ = false
 
--- the new segments would pass the limit: a fork opens two and a join one
+-- the message was sent before
+abbrev pub message_used : (ℕ → Bool) → Event → Bool
+message_used sent (Send t k) = sent k
+message_used sent _ = false
+
+-- the message was not sent
+abbrev pub not_sent : (ℕ → Bool) → Event → Bool
+not_sent sent (Recv t k) = not (sent k)
+not_sent sent _ = false
+
+-- the message was received before
+abbrev pub message_taken : (ℕ → Bool) → Event → Bool
+message_taken received (Recv t k) = received k
+message_taken received _ = false
+
+-- the new segments would pass the limit: a fork opens two, and a join, a send and a receive one
 abbrev pub full_segments : ℕ → Event → Bool
 full_segments segments (Fork p c) = nat_lt MOST_SEGMENTS (segments + 2)
 full_segments segments (Join p c) = nat_lt MOST_SEGMENTS (segments + 1)
+full_segments segments (Send t k) = nat_lt MOST_SEGMENTS (segments + 1)
+full_segments segments (Recv t k) = nat_lt MOST_SEGMENTS (segments + 1)
 full_segments segments _ = false
 
 -- 2^58 events were accepted
 abbrev pub full_events : ℕ → Bool
 full_events events = nat_le MOST_EVENTS events
 
--- Causes for a refusal are tested in this order: the event's form, the threads, the locks and limits. Here the last group.
+-- Causes for a refusal are tested in this order: the event's form, the threads, the locks, the messages and limits. Here the last
+-- group.
+abbrev pub message_causes : Standing → Event → List (Bool × Refusal)
+message_causes s e =
+    (message_used s.sent e, MessageUsed) ∷ (not_sent s.sent e, NotSent) ∷ (message_taken s.received e, MessageTaken)
+    ∷ (full_segments s.segments e, FullSegments) ∷ (full_events s.events, FullEvents) ∷ []
+
+-- the causes that lie in the locks, and then those in the messages and limits
 abbrev pub lock_causes : Standing → Event → List (Bool × Refusal)
 lock_causes s e =
     (already_held s.threads e, AlreadyHeld) ∷ (lock_busy s.threads e, LockBusy) ∷ (not_held s.threads e, NotHeld)
-    ∷ (full_held s.threads e, FullHeld) ∷ (full_segments s.segments e, FullSegments) ∷ (full_events s.events, FullEvents) ∷ []
+    ∷ (full_held s.threads e, FullHeld) ∷ message_causes s e
 
--- the causes that lie in the threads, and then those in the locks and limits
+-- the causes that lie in the threads, and then those in the locks, the messages and limits
 abbrev pub thread_causes : Standing → Event → List (Bool × Refusal)
 thread_causes s e =
     (no_thread s.threads e, NoThread) ∷ (child_used s.threads e, ChildUsed) ∷ (self_join e, SelfJoin)

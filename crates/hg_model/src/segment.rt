@@ -71,13 +71,13 @@ pub enum Mark {
     Got(u32),
 }
 
-/// A part of a thread between two forks or joins, and the segments that stand right before it.
+/// A part of a thread between two forks, joins, sends or receives, and the segments that stand right before it.
 #[derive(Drop)]
 pub struct Segment {
     /// The thread.
     pub thread: u16,
-    /// The segments right before it: none for the first, one after a fork, two after a join.
+    /// The segments right before it: none for the first, one after a fork or a send, two after a join or a receive.
     pub before: Predecessors,
-    /// Whether a message was sent or received as it was opened. No event does that yet: a store's root has the place.
+    /// The message that was sent or received as it was opened.
     pub mark: Mark,
 }

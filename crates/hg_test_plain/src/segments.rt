@@ -1,6 +1,7 @@
 //! The segments of threads.
 
-ghost use Rattle.std.specs.Prelude.{◌≡◌, ◌+◌, ◌*◌, ◌^◌, ◌<◌, ◌≤◌, ◌∷◌, [], IfOk, length};
+ghost use Rattle.std.specs.Prelude.{◌≡◌, ◌+◌, ◌*◌, ◌^◌, ◌<◌, ◌≤◌, ◌∷◌, [], IfOk, length, slice_index};
+ghost use Rattle.hg_model.specs.Messages as messages;
 ghost use Rattle.hg_model.specs.Segments as segs;
 
 use hg_model::event::Event;
@@ -28,13 +29,44 @@ pub fn present(segments: &[Segment], thread: u16) -> u32
     last_of(thread, 0, 0, segments)
 }
 
-fn plain(thread: u16, before: Predecessors) -> Segment
-    ensures { result ≡ segs.of_thread thread before }
+fn is_sent(message: u32, mark: Mark) -> bool
+    ensures { result ≡ messages.is_sent message mark }
+{
+    match mark {
+        Mark::Sent(sent) => sent == message,
+        _ => false,
+    }
+}
+
+fn first_number(numbers: &[u32]) -> u32
+    ensures { result ≡ slice_index numbers.now 0 }
+{
+    match numbers.first() {
+        Some(number) => *number,
+        None => 0,
+    }
+}
+
+/// The segment that the send of a message ended, 0 where it was not sent.
+fn sent_in(segments: &[Segment], message: u32) -> u32
+    ensures { result ≡ messages.sent_in segments.now message }
+{
+    let Some((first, others)) = segments.split_first() else {
+        return 0;
+    };
+    if is_sent(message, first.mark) {
+        return first_number(first.before.as_slice());
+    }
+    sent_in(others, message)
+}
+
+fn segment(thread: u16, before: Predecessors, mark: Mark) -> Segment
+    ensures { result ≡ segs.of_message mark thread before }
 {
     Segment {
         thread,
         before,
-        mark: Mark::Plain,
+        mark,
     }
 }
 
@@ -52,7 +84,7 @@ fn root(alloc: Global) -> Result<Vec<Segment>, AllocError>
     ensures { IfOk result (λ v. v.items ≡ segs.of_thread 0 [] ∷ []) }
 {
     let mut all = Vec::new(alloc);
-    all.push(plain(0, Predecessors::none()))?;
+    all.push(segment(0, Predecessors::none(), Mark::Plain))?;
     Ok(all)
 }
 
@@ -69,13 +101,23 @@ pub fn segments_of(alloc: Global, past: &[Event]) -> Result<Vec<Segment>, AllocE
     match *event {
         Event::Fork { p, c } => {
             let now = present(&all, p);
-            all.push(plain(c, Predecessors::one(now)))?;
-            all.push(plain(p, Predecessors::one(now)))?;
+            all.push(segment(c, Predecessors::one(now), Mark::Plain))?;
+            all.push(segment(p, Predecessors::one(now), Mark::Plain))?;
             Ok(all)
         }
         Event::Join { p, c } => {
             let before = rising(present(&all, p), present(&all, c));
-            all.push(plain(p, before))?;
+            all.push(segment(p, before, Mark::Plain))?;
+            Ok(all)
+        }
+        Event::Send { t, k } => {
+            let before = Predecessors::one(present(&all, t));
+            all.push(segment(t, before, Mark::Sent(k)))?;
+            Ok(all)
+        }
+        Event::Recv { t, k } => {
+            let before = rising(present(&all, t), sent_in(&all, k));
+            all.push(segment(t, before, Mark::Got(k)))?;
             Ok(all)
         }
         _ => Ok(all),
