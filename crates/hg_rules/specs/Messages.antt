@@ -1,34 +1,11 @@
--- A table of messages: which were sent, and which of those were received.
-use Rattle.std.specs.Prelude.{◌≡◌, ℕ, nat_eq, Bool, true, false, ◌&&◌, ◌==◌, not, List, Option, Some, None, if◌then◌else◌}
-use Rattle.std.specs.Map.{lookup}
+-- Which marks may come next by a table of messages, and what it has after one.
+use Rattle.std.specs.Prelude.{ℕ, Bool, true, false, ◌&&◌, ◌==◌, not, List, Option, Some, if◌then◌else◌}
+use Rattle.hg_model.specs.declared.event.Event.{Event}
+use Rattle.hg_model.specs.declared.event.Event.TheVariants.{Send, Recv}
 use Rattle.hg_model.specs.declared.segment.Mark.{Mark}
 use Rattle.hg_model.specs.declared.segment.Mark.TheVariants.{Plain, Sent, Got}
 use Rattle.hg_model.specs.declared.segment.Segment.{Segment}
-use Rattle.hg_model.specs.Messages.{was_received, was_sent}
-
--- The messages that were sent, each with whether it was received, and for how many more there is room.
-pub record Messages : Type 0 where
-  pub entries : List (ℕ × Bool)
-  pub room : ℕ
-
--- what a table has at a number: whether the message was received, or nothing if it was not sent
-abbrev pub at : Messages → ℕ → Option Bool
-at m k = lookup (nat_eq k) m.entries
-
--- the message was sent, by its entry
-abbrev pub is_there : Option Bool → Bool
-is_there None = false
-is_there (Some received) = true
-
--- the message was received, by its entry
-abbrev pub is_taken : Option Bool → Bool
-is_taken None = false
-is_taken (Some received) = received
-
--- The table agrees with the marks of these segments.
-pub record Agrees (segments : List Segment) (m : Messages) : Type 0 where
-  pub sent : (k : ℕ) → is_there (at m k) ≡ was_sent segments k
-  pub received : (k : ℕ) → is_taken (at m k) ≡ was_received segments k
+use Rattle.hg_model.specs.Messages.{Messages, at, is_taken, is_there, was_received, was_sent}
 
 -- A mark may come next, by the table: a message is sent once, and received once, behind its send.
 abbrev pub may_note : Messages → Mark → Bool
@@ -47,3 +24,15 @@ abbrev pub noted : Messages → Mark → ℕ → Option Bool
 noted m Plain k = at m k
 noted m (Sent n) k = if n == k then Some false else at m k
 noted m (Got n) k = if n == k then Some true else at m k
+
+-- the mark of the segments that an event opens
+abbrev pub mark_of : Event → Mark
+mark_of (Send t k) = Sent k
+mark_of (Recv t k) = Got k
+mark_of _ = Plain
+
+-- for how many messages noting a mark takes room
+abbrev pub room_for : Mark → ℕ
+room_for Plain = 0
+room_for (Sent k) = 1
+room_for (Got k) = 1

@@ -128,6 +128,8 @@ fn judge_event(state: &TraceState, named: &Named) -> Verdict
         Event::Write(access) => judge_access(state, source, access),
         Event::Alloc(block) => judge_block(state, source, block),
         Event::Free(block) => judge_block(state, source, block),
+        Event::Send { t, k } => judge_send(state, source, *t, *k),
+        Event::Recv { t, k } => judge_recv(state, source, *t, *k),
     }
 }
 
@@ -276,6 +278,47 @@ fn judge_block(state: &TraceState, source: u16, block: &Block) -> Verdict
     }
     if !state.threads.is_alive(block.t) {
         return Verdict::Refuse(Refusal::NoThread);
+    }
+    judge_room(state)
+}
+
+#[inline]
+fn judge_send(state: &TraceState, source: u16, t: u16, k: u32) -> Verdict
+    ensures { IsFirstCause state.now source (Event.Send t k) result }
+{
+    if source > GREATEST_SOURCE || t > GREATEST_THREAD {
+        return Verdict::Refuse(Refusal::BadNumber);
+    }
+    if !state.threads.is_alive(t) {
+        return Verdict::Refuse(Refusal::NoThread);
+    }
+    if state.messages.is_sent(k) {
+        return Verdict::Refuse(Refusal::MessageUsed);
+    }
+    if u64::from(state.segments()) + 1 > u64::from(MOST_SEGMENTS) {
+        return Verdict::Refuse(Refusal::FullSegments);
+    }
+    judge_room(state)
+}
+
+#[inline]
+fn judge_recv(state: &TraceState, source: u16, t: u16, k: u32) -> Verdict
+    ensures { IsFirstCause state.now source (Event.Recv t k) result }
+{
+    if source > GREATEST_SOURCE || t > GREATEST_THREAD {
+        return Verdict::Refuse(Refusal::BadNumber);
+    }
+    if !state.threads.is_alive(t) {
+        return Verdict::Refuse(Refusal::NoThread);
+    }
+    if !state.messages.is_sent(k) {
+        return Verdict::Refuse(Refusal::NotSent);
+    }
+    if state.messages.is_received(k) {
+        return Verdict::Refuse(Refusal::MessageTaken);
+    }
+    if u64::from(state.segments()) + 1 > u64::from(MOST_SEGMENTS) {
+        return Verdict::Refuse(Refusal::FullSegments);
     }
     judge_room(state)
 }

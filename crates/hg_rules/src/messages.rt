@@ -2,7 +2,8 @@
 
 ghost use Rattle.std.specs.Prelude.{◌≡◌, ◌≤◌, ◌==◌, ◌∷◌, ◌++◌, [], true, List, ℕ, None, Some, OnOk, if◌then◌else◌};
 ghost use Rattle.hg_model.specs.declared.segment.Segment.{Segment};
-ghost use Rattle.hg_rules.specs.Messages.{Agrees, at, is_taken, is_there, may_follow, may_note, noted};
+ghost use Rattle.hg_model.specs.Messages.{Agrees, at, is_taken, is_there};
+ghost use Rattle.hg_rules.specs.Messages.{may_follow, may_note, noted, room_for};
 
 use hg_model::segment::Mark;
 use std::alloc::{AllocError, Global};
@@ -18,7 +19,7 @@ pub struct MessageTable {
 
 impl Model for MessageTable {
     ghost use Rattle.std.specs.HashMap.{spare};
-    ghost use Rattle.hg_rules.specs.Messages.{Messages};
+    ghost use Rattle.hg_model.specs.Messages.{Messages};
 
     ghost Value = { Messages };
 
@@ -76,7 +77,7 @@ impl MessageTable {
     /// Notes the mark of the next segment. It takes no memory.
     pub fn note(&mut self, mark: Mark)
         requires lawful { may_note self.old mark ≡ true }
-        requires room { 1 ≤ self.old.room }
+        requires room { room_for mark ≤ self.old.room }
         ensures noted { (k : ℕ) → at self.new k ≡ noted self.old mark k }
         ensures agrees { (segments : List Segment) (s : Segment) → s.mark ≡ mark → Agrees segments self.old →
             Agrees (segments ++ s ∷ []) self.new }

@@ -1,6 +1,6 @@
 //! What the trace rules need of the events so far.
 
-ghost use Rattle.std.specs.Prelude.{◌≡◌, IfOk, Bool, List, length, slice_index};
+ghost use Rattle.std.specs.Prelude.{◌≡◌, ◌≤◌, ℕ, IfOk, OnOk, Bool, List, length, slice_index};
 ghost use Rattle.hg_model.specs.declared.segment.Segment.{Segment};
 ghost use Rattle.hg_model.specs.Segments.{opened};
 ghost use Rattle.std.specs.List.Sorted.{IsStrictlyIncreasing};
@@ -11,24 +11,30 @@ ghost use Rattle.hg_model.specs.Change.{Follows, empty_content, locks_of};
 ghost use Rattle.hg_model.specs.Accessing.{MayAccess, access_named};
 ghost use Rattle.hg_model.specs.Holding.{hold_named};
 ghost use Rattle.hg_model.specs.declared.event.Access.{Access};
+ghost use Rattle.hg_model.specs.Messages.{at};
+ghost use Rattle.hg_rules.specs.Messages.{mark_of, room_for};
 
+use crate::messages::MessageTable;
 use crate::table::ThreadTable;
 use hg_model::event::{Event, Hold, Named};
 use hg_model::limits::{MOST_EVENTS, MOST_SEGMENTS, SOURCE_NUMBERS};
+use hg_model::segment::Mark;
 use hg_model::thread::ThreadState;
 use hg_model::verdict::{Refusal, Verdict};
 use std::alloc::{AllocError, Global};
 use std::marker::Model;
 
 /// What the verdict on the next event depends on. A contract sees its parts: the counts of events and of
-/// segments, the threads by rising number, and the last accepted number of each source.
+/// segments, the threads by rising number, the last accepted number of each source, and the table of messages.
 ///
-/// It takes all its memory when it is made. Following an event takes none.
+/// It takes all its memory when it is made, but for the messages. Following an event takes none: room for a message is
+/// made before.
 pub struct TraceState {
     events: u64,
     segments: u32,
     pub(crate) threads: ThreadTable,
     last: Vec<u64>,
+    pub(crate) messages: MessageTable,
 }
 
 impl Drop for TraceState {
@@ -38,9 +44,11 @@ impl Drop for TraceState {
             segments: _,
             threads,
             last,
+            messages,
         } = self;
         drop(threads);
         drop(last);
+        drop(messages);
     }
 }
 
@@ -51,7 +59,7 @@ impl Model for TraceState {
 
     ghost Value = { Parts };
 
-    ghost view = { λ s. record { events = s.events; segments = s.segments; threads = s.threads; last = s.last.items } };
+    ghost view = { λ s. record { events = s.events; segments = s.segments; threads = s.threads; last = s.last.items; messages = s.messages } };
 
     ghost invariant = { λ s. (length s.last.items ≡ SOURCE_NUMBERS) × (s.segments ≤ MOST_SEGMENTS) };
 }
@@ -66,11 +74,12 @@ impl TraceState {
             segments: 1,
             threads: ThreadTable::new(alloc)?,
             last: vec![in alloc; 0; SOURCE_NUMBERS]?,
+            messages: MessageTable::new(alloc),
         })
     }
 
-    /// The state with these parts: at most 2^58 events and 1,048,576 segments, the threads by rising number, and the
-    /// last accepted number of each of the 1,024 sources.
+    /// The state with these parts: at most 2^58 events and 1,048,576 segments, the threads by rising number, the last
+    /// accepted number of each of the 1,024 sources, and the table of messages.
     ///
     /// Damaged where a part is out of range: a number or a count, a dead thread that holds a lock, or a lock that one
     /// thread holds for writing and another one in any mode. OutOfMemory where memory runs out.
@@ -80,10 +89,11 @@ impl TraceState {
         segments: u32,
         threads: &[ThreadState],
         last: Vec<u64>,
+        messages: MessageTable,
     ) -> Result<Self, Refusal>
-        ensures value { IfOk result (λ s. s ≡ parts_of events segments threads.now last.items) }
+        ensures value { IfOk result (λ s. s ≡ parts_of events segments threads.now last.items messages) }
         ensures range { IfOk result AreInRange }
-        ensures refusal { RefusesParts (parts_of events segments threads.now last.items) result }
+        ensures refusal { RefusesParts (parts_of events segments threads.now last.items messages) result }
     {
         if events > MOST_EVENTS || segments > MOST_SEGMENTS || last.len() != SOURCE_NUMBERS {
             return Err(Refusal::Damaged);
@@ -94,6 +104,7 @@ impl TraceState {
             segments,
             threads,
             last,
+            messages,
         })
     }
 
@@ -143,16 +154,27 @@ impl TraceState {
         self.threads.counted(t, write)
     }
 
-    /// Counts an accepted event. It takes no memory.
+    /// Makes room for one more message. Nothing else changes.
+    pub fn make_room(&mut self) -> Result<(), AllocError>
+        ensures room { OnOk result (1 ≤ self.new.messages.room) }
+        ensures rest { self.new ≡ record self.old { messages = self.new.messages } }
+        ensures same { (k : ℕ) → at self.new.messages k ≡ at self.old.messages k }
+    {
+        self.messages.make_room()
+    }
+
+    /// Counts an accepted event. It takes no memory: a send and a receive need the room of one message.
     #[inline(always)]
     pub fn follow(&mut self, named: &Named)
-        requires { MayBeNext self.old named.now }
+        requires accepted { MayBeNext self.old named.now }
+        requires room { room_for (mark_of named.now.event) ≤ self.old.messages.room }
         ensures { Follows self.old named.now self.new }
     {
         self.events += 1;
         self.segments += opened_by(named.event);
         self.last[usize::from(named.source)] = named.number;
         self.threads.follow(named.event);
+        self.messages.note(mark_of(named.event));
     }
 
     /// Counts an accepted read or write, which changes only the counts. It takes no memory.
@@ -185,7 +207,19 @@ fn opened_by(event: Event) -> u32
 {
     match event {
         Event::Fork { p: _, c: _ } => 2,
-        Event::Join { p: _, c: _ } => 1,
+        Event::Join { p: _, c: _ } | Event::Send { t: _, k: _ } | Event::Recv { t: _, k: _ } => 1,
         _ => 0,
+    }
+}
+
+/// The mark of the segments that an event opens.
+#[inline(always)]
+fn mark_of(event: Event) -> Mark
+    ensures { result ≡ mark_of event }
+{
+    match event {
+        Event::Send { t: _, k } => Mark::Sent(k),
+        Event::Recv { t: _, k } => Mark::Got(k),
+        _ => Mark::Plain,
     }
 }

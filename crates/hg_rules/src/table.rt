@@ -101,6 +101,7 @@ impl ThreadTable {
             Event::RdLock { t, l } => self.read_lock(t, l),
             Event::Unlock { t, l } => self.unlock(t, l),
             Event::Read(_) | Event::Write(_) | Event::Alloc(_) | Event::Free(_) => {}
+            Event::Send { t: _, k: _ } | Event::Recv { t: _, k: _ } => {}
         }
     }
 

@@ -35,3 +35,9 @@ returns-in-Alloc c = let n = c.args.named.now in c.judge_block.ensures.alloc n.n
 
 pub returns-in-Free : goal.returns-in-Free
 returns-in-Free c = let n = c.args.named.now in c.judge_block-in-Free.ensures.free n.number ∙ ap (first_of (standing c.args.state.now) n) (sym c.in-Free.is)
+
+pub returns-in-Send : goal.returns-in-Send
+returns-in-Send c = let n = c.args.named.now in c.judge_send.ensures n.number ∙ ap (first_of (standing c.args.state.now) n) (sym c.in-Send.is)
+
+pub returns-in-Recv : goal.returns-in-Recv
+returns-in-Recv c = let n = c.args.named.now in c.judge_recv.ensures n.number ∙ ap (first_of (standing c.args.state.now) n) (sym c.in-Recv.is)

@@ -11,5 +11,5 @@ follow_hold-requires c = (standing c.args.self.now, hold_named c.args.source c.a
 
 pub overflow_add-self : goal.overflow_add-self
 overflow_add-self c =
-    let few = leb-false (2 ^ 58) c.args.self.now.events (no_cause (standing c.args.self.now) (hold_named c.args.source c.args.number c.args.hold) c.requires).1.1.1.1.1.1.1.1.1.1.1.1.1.0 in
+    let few = leb-false (2 ^ 58) c.args.self.now.events (no_cause (standing c.args.self.now) (hold_named c.args.source c.args.number c.args.hold) c.requires).1.1.1.1.1.1.1.1.1.1.1.1.1.1.1.1.0 in
     omega (arith, few, ap (λ (p : Parts). p.events) c.self.view_is)

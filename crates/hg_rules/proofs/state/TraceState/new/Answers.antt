@@ -12,4 +12,5 @@ returns c = record {
   segments = refl;
   threads = c.in_ok-new.ensures;
   last = λ source. ap (λ xs. get_or xs source 0) (c.in_ok-vec.ensures.items_if_clones_equal (λ y h. h)) ∙ zeros 1024 source;
+  messages = record { sent = c.new-2.ensures.agrees.sent; received = c.new-2.ensures.agrees.received };
 }

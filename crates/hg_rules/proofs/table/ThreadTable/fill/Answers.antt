@@ -1,5 +1,5 @@
 use Rattle.std.proofs.Common.{refl, sym, ◌∙◌, arith}
-use Rattle.hg_rules.proofs.Restoring.{all_restored, none_restored, one_restored, refused_thread}
+use Rattle.hg_rules.proofs.Restoring.{all_restored, none_restored, one_restored}
 use Rattle.hg_rules.proofs.table.ThreadTable.fill.Goals as goal
 
 pub loop-thread-init : goal.loop-thread-init
