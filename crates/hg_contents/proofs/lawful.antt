@@ -9,6 +9,7 @@ mod Changing
 mod Holding
 mod Numbers
 mod Standing
+mod Handing
 mod Opening
 mod Living
 mod Excluding

@@ -20,7 +20,7 @@ use Rattle.hg_detect.specs.Shown.{Accepts, ShownDetector}
 pub admitted : {W : Type 0} (cell_of : W → ℕ → Cell) (e : Engine W) (d : ShownDetector W) (n : Named) → IsSound e → shown_of e ≡ d → is_accept (verdict (standing e.state) n) ≡ true → Accepts cell_of d n
 admitted {W} cell_of e d n sound shows accepts =
     subst (λ (x : ShownDetector W). Accepts cell_of x n) shows
-    (ap (λ (k : ℕ). verdict (record (standing e.state) { segments = k }) n) (sym sound.segments) ∙ accept_is (verdict (standing e.state) n) accepts)
+    ((λ i. verdict (record (standing e.state) { segments = sym sound.segments i; sent = λ k. sym (sound.messages.sent k) i; received = λ k. sym (sound.messages.received k) i }) n) ∙ accept_is (verdict (standing e.state) n) accepts)
 
 -- the answer where the event is accepted
 pub answered : {W : Type 0} (g : words.Ghosts W) (old new : ShownDetector W) (n : Named) → Accepts g.cell_of old n → IsAnswered g old n (Ok Accepted) new

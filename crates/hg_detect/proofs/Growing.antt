@@ -140,6 +140,8 @@ grows_from g d mid (event.Alloc b) brought kept same h = λ ready. h (λ w is. l
 grows_from g d mid (event.Free b) brought kept same h = λ ready. h (λ w is. let r = ready w is in (brought w r.0, kept w r.1))
 grows_from g d mid (event.Fork p c) brought kept same h = h
 grows_from g d mid (event.Join p c) brought kept same h = h
+grows_from g d mid (event.Send t k) brought kept same h = h
+grows_from g d mid (event.Recv t k) brought kept same h = h
 grows_from g d mid (event.Lock t l) brought kept same h = h
 grows_from g d mid (event.RdLock t l) brought kept same h = h
 grows_from g d mid (event.Unlock t l) brought kept same h = h

@@ -26,7 +26,7 @@ module _ {W : Type 0} (g : words.Ghosts W) where
   abbrev pub AccessMayGrow : ShownDetector W → ℕ → ℕ → Event → Type 0
   AccessMayGrow d at len e = LacksWords d at len ⊎ (LacksSets d e ⊎ KeepsReports d e)
 
-  -- The event may make something grow. A fork and a join open segments.
+  -- The event may make something grow. A fork, a join, a send and a receive open segments.
   abbrev pub MayGrow : ShownDetector W → Event → Type 0
   MayGrow d (event.Read a) = AccessMayGrow d a.at a.len (event.Read a)
   MayGrow d (event.Write a) = AccessMayGrow d a.at a.len (event.Write a)
@@ -34,4 +34,6 @@ module _ {W : Type 0} (g : words.Ghosts W) where
   MayGrow d (event.Free b) = LacksWords d b.at b.len
   MayGrow d (event.Fork p c) = Unit {0}
   MayGrow d (event.Join p c) = Unit {0}
+  MayGrow d (event.Send t k) = Unit {0}
+  MayGrow d (event.Recv t k) = Unit {0}
   MayGrow d _ = ⊥

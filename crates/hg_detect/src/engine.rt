@@ -4,6 +4,7 @@ ghost use Rattle.std.specs.Prelude.{◌≡◌, ◌≢◌, ◌⊎◌, ℕ, ◌+�
 ghost use Rattle.std.specs.List.{list_any};
 ghost use Rattle.hg_graph.specs.Graph.{names};
 ghost use Rattle.hg_model.specs.Segments.{of_thread};
+ghost use Rattle.hg_model.specs.Messages.{Agrees};
 ghost use Rattle.hg_model.specs.Parts.{HasParts};
 ghost use Rattle.hg_model.specs.Accessing.{access_event};
 ghost use Rattle.hg_model.specs.Holding.{hold_named};
@@ -117,6 +118,7 @@ impl<W: Words> Engine<W> {
     pub(crate) fn restore(alloc: Global, parts: DetectorParts, words: W) -> Result<Self, W>
         requires segments { parts.state.segments ≡ length parts.graph }
         requires threads { (t : ℕ) → list_any (λ x. x.number == t) parts.state.threads ≡ names parts.graph t }
+        requires messages { Agrees parts.graph parts.state.messages }
         requires reports { All (λ r. r.threads < length parts.sets.sets) parts.kept.items }
         requires few { length parts.kept.items ≤ MOST_REPORTS }
         requires total { parts.total ≤ MOST_ACCESS_WORDS * parts.state.events }
@@ -266,6 +268,38 @@ impl<W: Words> Engine<W> {
         Ok(())
     }
 
+    /// Accepts a send.
+    fn send(&mut self, named: &Named, t: u16, k: u32) -> Result<(), Refusal>
+        requires event { named.now.event ≡ Event.Send t k }
+        requires sound { IsSound self.old }
+        requires accepted { MayBeNext self.old.state named.now }
+        requires lawful { AtPresent W.may_bring (shown_of self.old) }
+        ensures answers { Answers ⟦<W as Words>⟧ self.old named.now result self.new }
+        ensures went { W.went self.old.words self.new.words }
+        ensures failures { W.failures self.new.words ≡ failed_after result (W.failures self.old.words) }
+    {
+        self.state.make_room()?;
+        self.graph.send(t, k)?;
+        self.state.follow(named);
+        Ok(())
+    }
+
+    /// Accepts a receive.
+    fn recv(&mut self, named: &Named, t: u16, k: u32) -> Result<(), Refusal>
+        requires event { named.now.event ≡ Event.Recv t k }
+        requires sound { IsSound self.old }
+        requires accepted { MayBeNext self.old.state named.now }
+        requires lawful { AtPresent W.may_bring (shown_of self.old) }
+        ensures answers { Answers ⟦<W as Words>⟧ self.old named.now result self.new }
+        ensures went { W.went self.old.words self.new.words }
+        ensures failures { W.failures self.new.words ≡ failed_after result (W.failures self.old.words) }
+    {
+        self.state.make_room()?;
+        self.graph.recv(t, k)?;
+        self.state.follow(named);
+        Ok(())
+    }
+
     /// Accepts an event on a lock.
     #[inline(always)]
     pub(crate) fn hold(&mut self, source: u16, number: u64, hold: Hold)
@@ -323,6 +357,8 @@ impl<W: Words> Engine<W> {
             }),
             Event::Fork { p, c } => self.fork(named, *p, *c),
             Event::Join { p, c } => self.join(named, *p, *c),
+            Event::Send { t, k } => self.send(named, *t, *k),
+            Event::Recv { t, k } => self.recv(named, *t, *k),
             Event::Alloc(block) | Event::Free(block) => self.reset(named, block),
             Event::Lock { t, l } => {
                 let (t, l, kind) = (*t, *l, HoldKind::Lock);

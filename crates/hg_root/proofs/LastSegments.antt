@@ -13,7 +13,8 @@ use Rattle.hg_model.specs.declared.segment.Segment.{Segment}
 use Rattle.hg_model.proofs.Owners.{present_push}
 use Rattle.hg_graph.specs.Graph.{names}
 use Rattle.hg_graph.specs.Restoring.{AreSegments, are_predecessors, former, has_former, has_thread, stands_behind}
-use Rattle.hg_rules.specs.Messages.{Agrees, Messages, at, is_taken, is_there, may_follow}
+use Rattle.hg_model.specs.Messages.{Agrees, Messages, at, is_taken, is_there}
+use Rattle.hg_rules.specs.Messages.{may_follow}
 use Rattle.hg_root.specs.Last.{IsLastTable, may_stand, sends_lawfully}
 
 -- the first k segments are lawful, and the tables have their last ones and their messages
@@ -111,6 +112,9 @@ step segments k t lasts old new s d u within at mine small stands noted =
 
 pub done_table : (segments : List Segment) (k : ℕ) (lasts : List (Option ℕ)) (messages : Messages) → Underway segments k lasts messages → length segments ≤ k → IsLastTable segments lasts
 done_table segments k lasts messages u all = subst (λ (xs : List Segment). IsLastTable xs lasts) (take_all k segments all) u.table
+
+pub done_messages : (segments : List Segment) (k : ℕ) (lasts : List (Option ℕ)) (messages : Messages) → Underway segments k lasts messages → length segments ≤ k → Agrees segments messages
+done_messages segments k lasts messages u all = subst (λ (xs : List Segment). Agrees xs messages) (take_all k segments all) u.agrees
 
 pub done_lawful : (segments : List Segment) (k : ℕ) (lasts : List (Option ℕ)) (messages : Messages) → Underway segments k lasts messages → length segments ≤ k → AreSegments segments
 done_lawful segments k lasts messages u all j s is = u.lawful j s (let lt = slice_get_within segments j s is in omega arith) is

@@ -1,6 +1,7 @@
 //! The segments of a body: whether each may follow those before it, and the last one of each thread.
 ghost use Rattle.std.specs.Prelude.{◌≡◌, ◌<◌, ◌≤◌, ◌==◌, ◌&&◌, Option, length, IfErr, IfOk, IsErrOf};
 ghost use Rattle.std.specs.List.{list_any};
+ghost use Rattle.hg_model.specs.Messages.{Agrees};
 ghost use Rattle.hg_model.specs.Restoring.{is_behind_own};
 ghost use Rattle.hg_model.specs.Segments.{thread_at};
 ghost use Rattle.hg_graph.specs.Restoring.{AreSegments, are_predecessors, has_former};
@@ -87,12 +88,16 @@ fn fits(earlier: &[Segment], segment: &Segment, former: Option<u32>) -> bool
         && sends_lawfully(earlier, segment)
 }
 
-/// The last segment of each of the 1,024 threads, or none. Damaged if there are no segments or more than 1,048,576, or if
-/// one of them may not follow those before it.
-pub(crate) fn lasts_of(alloc: Global, segments: &[Segment]) -> Result<Vec<Option<u32>>, RootFault>
-    ensures table { IfOk result (λ lasts. IsLastTable segments.now lasts.items) }
-    ensures lawful { IfOk result (λ lasts. AreSegments segments.now) }
-    ensures count { IfOk result (λ lasts. (1 ≤ length segments.now) × (length segments.now ≤ MOST_SEGMENTS)) }
+/// The last segment of each of the 1,024 threads, or none, and the messages that the marks tell. Damaged if there are no
+/// segments or more than 1,048,576, or if one of them may not follow those before it.
+pub(crate) fn lasts_of(
+    alloc: Global,
+    segments: &[Segment],
+) -> Result<(Vec<Option<u32>>, MessageTable), RootFault>
+    ensures table { IfOk result (λ x. IsLastTable segments.now x.0.items) }
+    ensures messages { IfOk result (λ x. Agrees segments.now x.1) }
+    ensures lawful { IfOk result (λ x. AreSegments segments.now) }
+    ensures count { IfOk result (λ x. (1 ≤ length segments.now) × (length segments.now ≤ MOST_SEGMENTS)) }
     ensures damaged { IsErrOf result RootFault.Damaged → AreNoSegments MOST_SEGMENTS segments.now }
     ensures fault { IfErr result IsDamagedOrMemory }
 {
@@ -117,5 +122,5 @@ pub(crate) fn lasts_of(alloc: Global, segments: &[Segment]) -> Result<Vec<Option
         messages.note(segment.mark);
         lasts[thread] = Some(k as u32);
     }
-    Ok(lasts)
+    Ok((lasts, messages))
 }

@@ -1,5 +1,6 @@
 //! A root, as its body spells it.
 ghost use Rattle.std.specs.Prelude.{◌≡◌, ◌↔◌, ◌≤◌, ◌^◌, ◌++◌, ◌∷◌, [], All, OnOk, if◌then◌else◌, IsTrue, IsErrOf, length, map, IfErr, IfOk};
+ghost use Rattle.hg_model.specs.Messages.{Agrees};
 ghost use Rattle.hg_model.specs.Restoring.{AreThreads};
 ghost use Rattle.hg_sets.specs.Interning.{AreSets};
 ghost use Rattle.hg_root.specs.Body.{seen};
@@ -24,6 +25,7 @@ use hg_model::segment::Segment;
 use hg_model::sets::NumberSet;
 use hg_model::thread::ThreadState;
 use hg_model::verdict::Refusal;
+use hg_rules::messages::MessageTable;
 use hg_rules::state::TraceState;
 use hg_sets::{MOST_SETS, SetTable};
 use std::alloc::{AllocError, Global};
@@ -142,6 +144,7 @@ fn state_of(
     segments: u32,
     threads: &[ThreadState],
     sources: &[SourceCount],
+    messages: MessageTable,
 ) -> Result<TraceState, RootFault>
     requires few_events { events ≤ MOST_EVENTS }
     requires few_segments { segments ≤ MOST_SEGMENTS }
@@ -150,12 +153,13 @@ fn state_of(
     ensures segments { IfOk result (λ state. state.segments ≡ segments) }
     ensures threads { IfOk result (λ state. state.threads ≡ threads.now) }
     ensures last { IfOk result (λ state. HaveLast sources.now state.last) }
+    ensures messages { IfOk result (λ state. state.messages ≡ messages) }
     ensures lawful { IfOk result (λ state. AreThreads threads.now) }
     ensures damaged { IsErrOf result RootFault.Damaged → ¬ AreThreads threads.now }
     ensures fault { IfErr result IsDamagedOrMemory }
 {
     let last = last_numbers(alloc, sources)?;
-    match TraceState::restore(alloc, events, segments, threads, last) {
+    match TraceState::restore(alloc, events, segments, threads, last, messages) {
         Ok(state) => Ok(state),
         Err(Refusal::Damaged) => Err(RootFault::Damaged),
         Err(_) => Err(RootFault::OutOfMemory),
@@ -219,6 +223,7 @@ fn tables_of(
     alloc: Global,
     front: &Front,
     lasts: &[Option<u32>],
+    messages: MessageTable,
     threads: &[ThreadState],
     back: &Back,
 ) -> Result<(SetTable, TraceState), RootFault>
@@ -230,6 +235,7 @@ fn tables_of(
     ensures segments { IfOk result (λ x. x.1.segments ≡ length front.now.1.1.items) }
     ensures threads { IfOk result (λ x. x.1.threads ≡ threads.now) }
     ensures last { IfOk result (λ x. HaveLast back.now.sources.items x.1.last) }
+    ensures messages { IfOk result (λ x. x.1.messages ≡ messages) }
     ensures checked { IfOk result (λ x. IsChecked (parts_read front.now threads.now back.now)) }
     ensures damaged { IsErrOf result RootFault.Damaged → ¬ IsChecked (parts_read front.now threads.now back.now) }
     ensures fault { IfErr result IsDamagedOrMemory }
@@ -251,6 +257,7 @@ fn tables_of(
         segments.len() as u32,
         threads,
         &back.sources,
+        messages,
     )?;
     Ok((sets, state))
 }
@@ -260,10 +267,12 @@ fn checked(
     alloc: Global,
     front: Front,
     lasts: &[Option<u32>],
+    messages: MessageTable,
     threads: &[ThreadState],
     back: Back,
 ) -> Result<Root, RootFault>
     requires lasts { length lasts.now ≡ THREAD_NUMBERS }
+    requires agrees { Agrees front.1.1.items messages }
     requires table { IsLastTable front.1.1.items lasts.now }
     requires few_segments { length front.1.1.items ≤ MOST_SEGMENTS }
     ensures parts { IfOk result (λ r. parts_of r ≡ parts_read front threads.now back) }
@@ -272,7 +281,7 @@ fn checked(
     ensures damaged { IsErrOf result RootFault.Damaged → ¬ IsChecked (parts_read front threads.now back) }
     ensures fault { IfErr result IsDamagedOrMemory }
 {
-    let (sets, state) = tables_of(alloc, &front, lasts, threads, &back)?;
+    let (sets, state) = tables_of(alloc, &front, lasts, messages, threads, &back)?;
     let (number, (_, segments)) = front;
     let Back {
         total,
@@ -306,9 +315,9 @@ impl Root {
         ensures fault { IfErr result IsDamagedOrMemory }
     {
         let (front, rest) = front_of(alloc, body)?;
-        let lasts = lasts_of(alloc, &front.1.1)?;
+        let (lasts, messages) = lasts_of(alloc, &front.1.1)?;
         let (threads, rest) = middle_of(alloc, &lasts, rest)?;
         let back = back_of(alloc, rest)?;
-        checked(alloc, front, &lasts, &threads, back)
+        checked(alloc, front, &lasts, messages, &threads, back)
     }
 }

@@ -6,7 +6,7 @@ use Rattle.std.proofs.lemmas.List.FromFn.{length-range_with_len}
 use Rattle.std.proofs.lemmas.List.Sums.{count_by-le-length, length-filter}
 use Rattle.hg_model.specs.declared.limits.TheConstants.{GREATEST_ACCESS, MOST_ACCESS_WORDS}
 use Rattle.hg_model.specs.declared.event.Event.{Event}
-use Rattle.hg_model.specs.declared.event.Event.TheVariants.{Fork, Join, Lock, RdLock, Unlock, Read, Write, Alloc, Free}
+use Rattle.hg_model.specs.declared.event.Event.TheVariants.{Fork, Join, Lock, RdLock, Unlock, Read, Write, Alloc, Free, Send, Recv}
 use Rattle.hg_model.specs.declared.segment.Segment.{Segment}
 use Rattle.hg_model.specs.Contents.{Content}
 use Rattle.hg_model.specs.Reporting.{words_of}
@@ -25,6 +25,8 @@ pub record IsCounted (c : Content) : Type 0 where
 opened_few : (segments : List Segment) (n : ℕ) (e : Event) → n ≡ length segments → n ≤ 1048576 → full_segments n e ≡ false → n + length (opened segments e) ≤ 1048576
 opened_few segments n (Fork p c) is few full = ltb-false 1048576 (n + 2) full
 opened_few segments n (Join p c) is few full = ltb-false 1048576 (n + 1) full
+opened_few segments n (Send t k) is few full = ltb-false 1048576 (n + 1) full
+opened_few segments n (Recv t k) is few full = ltb-false 1048576 (n + 1) full
 opened_few segments n (Lock t l) is few full = omega (arith, few)
 opened_few segments n (RdLock t l) is few full = omega (arith, few)
 opened_few segments n (Unlock t l) is few full = omega (arith, few)
@@ -51,6 +53,8 @@ mapped_few f (w ∷ words) few = omega (arith, few, length-map words f)
 reports_few : (c : Content) (e : Event) → bad_length e ≡ false → length (new_reports c e) ≤ 17
 reports_few c (Fork p d) low = omega arith
 reports_few c (Join p d) low = omega arith
+reports_few c (Send t k) low = omega arith
+reports_few c (Recv t k) low = omega arith
 reports_few c (Lock t l) low = omega arith
 reports_few c (RdLock t l) low = omega arith
 reports_few c (Unlock t l) low = omega arith

@@ -3,7 +3,7 @@ use Rattle.std.proofs.Common.{◌≡◌, ◌⊎◌, inl, inr, ℕ, Bool, true, f
 use Rattle.std.proofs.lemmas.Bool.{and_left, cases_eq, false_from_ne_true, false≢true, ne_eqb, or_cases, or_from, or_left, or_parts, or_right}
 use Rattle.std.specs.List.{AllByRecursion, list_any}
 use Rattle.hg_model.specs.declared.event.Event.{Event}
-use Rattle.hg_model.specs.declared.event.Event.TheVariants.{Fork, Join, Lock, RdLock, Unlock, Read, Write, Alloc, Free}
+use Rattle.hg_model.specs.declared.event.Event.TheVariants.{Fork, Join, Lock, RdLock, Unlock, Read, Write, Alloc, Free, Send, Recv}
 use Rattle.hg_model.specs.declared.held.HeldLock.{HeldLock}
 use Rattle.hg_model.specs.declared.thread.ThreadState.{ThreadState}
 use Rattle.hg_model.specs.Locks.{has_lock, has_lock_for_writing, with_hold, without_lock}
@@ -129,3 +129,5 @@ apart_after (Read a) threads lacked free apart = apart
 apart_after (Write a) threads lacked free apart = apart
 apart_after (Alloc b) threads lacked free apart = apart
 apart_after (Free b) threads lacked free apart = apart
+apart_after (Send t k) threads lacked free apart = apart
+apart_after (Recv t k) threads lacked free apart = apart

@@ -4,7 +4,7 @@ use Rattle.std.proofs.lemmas.Bool.{leb-false}
 use Rattle.std.proofs.lemmas.List.Sums.{count_by-le-length, length-filter}
 use Rattle.std.specs.List.{AllByRecursion}
 use Rattle.hg_model.specs.declared.event.Event.{Event}
-use Rattle.hg_model.specs.declared.event.Event.TheVariants.{Fork, Join, Lock, RdLock, Unlock, Read, Write, Alloc, Free}
+use Rattle.hg_model.specs.declared.event.Event.TheVariants.{Fork, Join, Lock, RdLock, Unlock, Read, Write, Alloc, Free, Send, Recv}
 use Rattle.hg_model.specs.declared.held.HeldLock.{HeldLock}
 use Rattle.hg_model.specs.declared.thread.ThreadState.{ThreadState}
 use Rattle.hg_model.specs.Contents.{Content}
@@ -58,6 +58,8 @@ held_after (Read a) threads room all = all
 held_after (Write a) threads room all = all
 held_after (Alloc b) threads room all = all
 held_after (Free b) threads room all = all
+held_after (Send t k) threads room all = all
+held_after (Recv t k) threads room all = all
 
 abbrev pub EachHolds : Content → Type 0
 EachHolds c = AllByRecursion Holds c.threads

@@ -3,7 +3,7 @@ use Rattle.std.proofs.Common.{◌≡◌, ◌⊎◌, inl, inr, ℕ, ◌<◌, Bool
 use Rattle.std.proofs.lemmas.Bool.{eq-eqb, eqb-false, eqb-true, false≢true, ltb-false, not-false, or_cases, or_left}
 use Rattle.std.specs.List.{AllByRecursion}
 use Rattle.hg_model.specs.declared.event.Event.{Event}
-use Rattle.hg_model.specs.declared.event.Event.TheVariants.{Fork, Join, Lock, RdLock, Unlock, Read, Write, Alloc, Free}
+use Rattle.hg_model.specs.declared.event.Event.TheVariants.{Fork, Join, Lock, RdLock, Unlock, Read, Write, Alloc, Free, Send, Recv}
 use Rattle.hg_model.specs.declared.held.HeldLock.{HeldLock}
 use Rattle.hg_model.specs.declared.thread.ThreadState.{ThreadState}
 use Rattle.hg_model.specs.Restoring.{holds_alive}
@@ -60,3 +60,5 @@ module _ (threads : List ThreadState) (sorted : IsSorted ◌<◌ (numbers thread
   lives_after (Write a) alive emptied = all
   lives_after (Alloc b) alive emptied = all
   lives_after (Free b) alive emptied = all
+  lives_after (Send t k) alive emptied = all
+  lives_after (Recv t k) alive emptied = all

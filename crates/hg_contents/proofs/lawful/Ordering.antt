@@ -2,7 +2,7 @@
 use Rattle.std.proofs.Common.{◌≡◌, ◌⊎◌, inl, inr, ℕ, zero, suc, ◌+◌, ◌-◌, ◌*◌, ◌/◌, ◌≤◌, ◌<◌, Bool, true, false, cond, List, [], ◌∷◌, ◌++◌, map, filter, take, slice_get, Some, refl, sym, ap, ◌∙◌, subst, arith}
 use Rattle.std.specs.List.{AllByRecursion, range_with_len}
 use Rattle.hg_model.specs.declared.event.Event.{Event}
-use Rattle.hg_model.specs.declared.event.Event.TheVariants.{Fork, Join, Lock, RdLock, Unlock, Read, Write, Alloc, Free}
+use Rattle.hg_model.specs.declared.event.Event.TheVariants.{Fork, Join, Lock, RdLock, Unlock, Read, Write, Alloc, Free, Send, Recv}
 use Rattle.hg_model.specs.declared.report.Report.{Report}
 use Rattle.hg_model.specs.Contents.{Content}
 use Rattle.hg_model.specs.Reporting.{words_of}
@@ -65,6 +65,8 @@ words_sorted p at len = sorted_filter ◌<◌ p (words_of at len) (range_sorted 
 reports_sorted : (c : Content) (e : Event) → IsSorted IsBefore (new_reports c e)
 reports_sorted c (Fork p d) = tt
 reports_sorted c (Join p d) = tt
+reports_sorted c (Send t k) = tt
+reports_sorted c (Recv t k) = tt
 reports_sorted c (Lock t l) = tt
 reports_sorted c (RdLock t l) = tt
 reports_sorted c (Unlock t l) = tt
@@ -77,6 +79,8 @@ reports_sorted c (Free b) = tt
 reports_new : (c : Content) (e : Event) → AllByRecursion (λ r. r.event ≡ c.events + 1) (new_reports c e)
 reports_new c (Fork p d) = tt
 reports_new c (Join p d) = tt
+reports_new c (Send t k) = tt
+reports_new c (Recv t k) = tt
 reports_new c (Lock t l) = tt
 reports_new c (RdLock t l) = tt
 reports_new c (Unlock t l) = tt

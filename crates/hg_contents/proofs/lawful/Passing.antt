@@ -5,7 +5,8 @@ use Rattle.std.specs.Option.{option_and_then}
 use Rattle.hg_model.specs.declared.event.Named.{Named}
 use Rattle.hg_model.specs.declared.verdict.Verdict.TheVariants.{Accept}
 use Rattle.hg_model.specs.Contents.{Content}
-use Rattle.hg_model.specs.Verdicts.{already_held, bad_length, bad_number, child_holds_locks, child_not_alive, child_used, full_held, full_segments, lock_busy, no_thread, not_held, past_address_end, self_join, standing_of, verdict}
+use Rattle.hg_model.specs.Messages.{was_received, was_sent}
+use Rattle.hg_model.specs.Verdicts.{already_held, bad_length, bad_number, child_holds_locks, child_not_alive, child_used, full_held, full_segments, lock_busy, message_taken, message_used, no_thread, not_held, not_sent, past_address_end, self_join, standing_of, verdict}
 use Rattle.hg_model.specs.Change.{after, followed, is_accept}
 use Rattle.hg_model.proofs.Accepted.{no_cause}
 use Rattle.hg_model.proofs.Following.{accept_is}
@@ -25,6 +26,9 @@ pub record Passed (c : Content) (n : Named) : Type 0 where
   pub free : lock_busy c.threads n.event ≡ false
   pub holds : not_held c.threads n.event ≡ false
   pub room : full_held c.threads n.event ≡ false
+  pub unused : message_used (was_sent c.segments) n.event ≡ false
+  pub sent : not_sent (was_sent c.segments) n.event ≡ false
+  pub untaken : message_taken (was_received c.segments) n.event ≡ false
   pub segments : full_segments (length c.segments) n.event ≡ false
   pub events : nat_le (2 ^ 58) c.events ≡ false
 
@@ -45,8 +49,11 @@ passed c n accepted =
       free = later.1.0;
       holds = later.1.1.0;
       room = later.1.1.1.0;
-      segments = later.1.1.1.1.0;
-      events = later.1.1.1.1.1.0;
+      unused = later.1.1.1.1.0;
+      sent = later.1.1.1.1.1.0;
+      untaken = later.1.1.1.1.1.1.0;
+      segments = later.1.1.1.1.1.1.1.0;
+      events = later.1.1.1.1.1.1.1.1.0;
     }
 
 -- what each accepted event keeps

@@ -3,7 +3,7 @@ use Rattle.std.proofs.Common.{◌≡◌, ◌⊎◌, inl, inr, ℕ, suc, ◌+◌,
 use Rattle.std.proofs.lemmas.Bool.{and_parts, eq-eqb, eqb-true, false≢true, ltb-false, ltb-true, or_cases, or_left, or_right}
 use Rattle.std.specs.List.{AllByRecursion}
 use Rattle.hg_model.specs.declared.event.Event.{Event}
-use Rattle.hg_model.specs.declared.event.Event.TheVariants.{Fork, Join, Lock, RdLock, Unlock, Read, Write, Alloc, Free}
+use Rattle.hg_model.specs.declared.event.Event.TheVariants.{Fork, Join, Lock, RdLock, Unlock, Read, Write, Alloc, Free, Send, Recv}
 use Rattle.hg_model.specs.declared.report.Report.{Report}
 use Rattle.hg_model.specs.declared.segment.Segment.{Segment}
 use Rattle.hg_model.specs.declared.word.WordState.{WordState}
@@ -116,6 +116,8 @@ reports_made c (Read a) low = each_mapped (IsMade (c.events + 1)) _ _ (each_weak
 reports_made c (Write a) low = each_mapped (IsMade (c.events + 1)) _ _ (each_weaker (λ w. becomes_racy c (Write a) w ≡ true) _ (made c a.t a.at a.len true low) _ (each_kept (becomes_racy c (Write a)) (words_of a.at a.len)))
 reports_made c (Alloc b) low = tt
 reports_made c (Free b) low = tt
+reports_made c (Send t k) low = tt
+reports_made c (Recv t k) low = tt
 
 abbrev pub AreMade : Content → Type 0
 AreMade c = AllByRecursion (IsMade c.events) c.reports

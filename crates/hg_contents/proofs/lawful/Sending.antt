@@ -5,7 +5,7 @@ use Rattle.std.specs.List.{range_with_len}
 use Rattle.std.proofs.lemmas.Bool.{cases_eq, eq-eqb, ltb-false, ne_eqb, or_parts}
 use Rattle.std.proofs.lemmas.List.Sums.{sum_by-cons}
 use Rattle.hg_model.specs.declared.event.Event.{Event}
-use Rattle.hg_model.specs.declared.event.Event.TheVariants.{Fork, Join, Lock, RdLock, Unlock, Read, Write, Alloc, Free}
+use Rattle.hg_model.specs.declared.event.Event.TheVariants.{Fork, Join, Lock, RdLock, Unlock, Read, Write, Alloc, Free, Send, Recv}
 use Rattle.hg_model.specs.Contents.{Content}
 use Rattle.hg_model.specs.Verdicts.{bad_number, is_bad_source, is_bad_thread}
 use Rattle.hg_model.specs.Change.{empty_content}
@@ -26,6 +26,8 @@ source_small source (Read a) low = small source (or_parts (is_bad_source source)
 source_small source (Write a) low = small source (or_parts (is_bad_source source) _ low).0
 source_small source (Alloc b) low = small source (or_parts (is_bad_source source) _ low).0
 source_small source (Free b) low = small source (or_parts (is_bad_source source) _ low).0
+source_small source (Send t k) low = small source (or_parts (is_bad_source source) _ low).0
+source_small source (Recv t k) low = small source (or_parts (is_bad_source source) _ low).0
 
 pub actor_small : (source p : ℕ) (later : Bool) → ((is_bad_source source || is_bad_thread p) || later) ≡ false → p ≤ 1023
 actor_small source p later low = small p (or_parts (is_bad_source source) (is_bad_thread p) (or_parts (is_bad_source source || is_bad_thread p) later low).0).1

@@ -3,7 +3,7 @@ use Rattle.std.proofs.Common.{◌≡◌, ℕ, ◌≤◌, ◌<◌, Bool, true, fa
 use Rattle.std.proofs.lemmas.Bool.{eqb-true, false≢true}
 use Rattle.std.proofs.lemmas.List.Elements.{All-from_recursion}
 use Rattle.hg_model.specs.declared.event.Event.{Event}
-use Rattle.hg_model.specs.declared.event.Event.TheVariants.{Fork, Join, Lock, RdLock, Unlock, Read, Write, Alloc, Free}
+use Rattle.hg_model.specs.declared.event.Event.TheVariants.{Fork, Join, Lock, RdLock, Unlock, Read, Write, Alloc, Free, Send, Recv}
 use Rattle.hg_model.specs.declared.segment.Segment.{Segment}
 use Rattle.hg_model.specs.declared.word.WordState.{WordState}
 use Rattle.hg_model.specs.declared.word.WordState.TheVariants.{New, Exclusive, SharedRead, SharedModified}
@@ -85,6 +85,8 @@ pub record AreShared (c : Content) : Type 0 where
 word_is : (c : Content) (e : Event) (w : ℕ) → AreShared c → IsLawfulWord (length c.segments) (word_after c e w)
 word_is c (Fork p d) w is = is.words w
 word_is c (Join p d) w is = is.words w
+word_is c (Send t k) w is = is.words w
+word_is c (Recv t k) w is = is.words w
 word_is c (Lock t l) w is = is.words w
 word_is c (RdLock t l) w is = is.words w
 word_is c (Unlock t l) w is = is.words w

@@ -4,7 +4,7 @@ use Rattle.std.specs.List.{AllByRecursion}
 use Rattle.std.proofs.lemmas.List.{length-map}
 use Rattle.std.proofs.lemmas.List.Sums.{count_by-le-length, length-filter}
 use Rattle.hg_model.specs.declared.event.Event.{Event}
-use Rattle.hg_model.specs.declared.event.Event.TheVariants.{Fork, Join, Lock, RdLock, Unlock, Read, Write, Alloc, Free}
+use Rattle.hg_model.specs.declared.event.Event.TheVariants.{Fork, Join, Lock, RdLock, Unlock, Read, Write, Alloc, Free, Send, Recv}
 use Rattle.hg_model.specs.declared.event.Named.{Named}
 use Rattle.hg_model.specs.declared.held.HeldLock.{HeldLock}
 use Rattle.hg_model.specs.declared.segment.Segment.{Segment}
@@ -68,6 +68,8 @@ locks_fit (Read a) threads fits all = all
 locks_fit (Write a) threads fits all = all
 locks_fit (Alloc b) threads fits all = all
 locks_fit (Free b) threads fits all = all
+locks_fit (Send t k) threads fits all = all
+locks_fit (Recv t k) threads fits all = all
 
 -- ---- the locks that count
 
@@ -116,6 +118,8 @@ pub record IsSpelled (c : Content) : Type 0 where
 word_few : (c : Content) (e : Event) (w : ℕ) → IsSpelled c → IsFew (candidates (word_after c e w))
 word_few c (Fork p d) w is = is.words w
 word_few c (Join p d) w is = is.words w
+word_few c (Send t k) w is = is.words w
+word_few c (Recv t k) w is = is.words w
 word_few c (Lock t l) w is = is.words w
 word_few c (RdLock t l) w is = is.words w
 word_few c (Unlock t l) w is = is.words w
@@ -124,17 +128,19 @@ word_few c (Write a) w is = either (overlaps a.at a.len w) _ _ (touched_few c.se
 word_few c (Alloc b) w is = either (overlaps b.at b.len w) New (c.words w) none_few (is.words w)
 word_few c (Free b) w is = either (overlaps b.at b.len w) New (c.words w) none_few (is.words w)
 
--- no event marks a segment
-opened_fit : (segments : List Segment) (e : Event) → AllByRecursion (λ s. MarkFits s.mark) (opened segments e)
-opened_fit segments (Fork p c) = (tt, (tt, tt))
-opened_fit segments (Join p c) = (tt, tt)
-opened_fit segments (Lock t l) = tt
-opened_fit segments (RdLock t l) = tt
-opened_fit segments (Unlock t l) = tt
-opened_fit segments (Read a) = tt
-opened_fit segments (Write a) = tt
-opened_fit segments (Alloc b) = tt
-opened_fit segments (Free b) = tt
+-- the mark of a segment has the message of its event
+opened_fit : (segments : List Segment) (e : Event) → EventFits e → AllByRecursion (λ s. MarkFits s.mark) (opened segments e)
+opened_fit segments (Fork p c) fits = (tt, (tt, tt))
+opened_fit segments (Join p c) fits = (tt, tt)
+opened_fit segments (Lock t l) fits = tt
+opened_fit segments (RdLock t l) fits = tt
+opened_fit segments (Unlock t l) fits = tt
+opened_fit segments (Read a) fits = tt
+opened_fit segments (Write a) fits = tt
+opened_fit segments (Alloc b) fits = tt
+opened_fit segments (Free b) fits = tt
+opened_fit segments (Send t k) fits = (fits.1, tt)
+opened_fit segments (Recv t k) fits = (fits.1, tt)
 
 pub spelled_first : IsSpelled empty_content
 spelled_first = record { holds = holds_first; messages = (tt, tt); locks = (tt, tt); words = λ w. none_few }
@@ -142,7 +148,7 @@ spelled_first = record { holds = holds_first; messages = (tt, tt); locks = (tt, 
 pub spelled_after : (c : Content) (n : Named) → RecordFits n → Passed c n → IsSpelled c → IsSpelled (after c n)
 spelled_after c n fits pass is = record {
   holds = holds_after c n pass is.holds;
-  messages = each_both (λ s. MarkFits s.mark) c.segments (opened c.segments n.event) is.messages (opened_fit c.segments n.event);
+  messages = each_both (λ s. MarkFits s.mark) c.segments (opened c.segments n.event) is.messages (opened_fit c.segments n.event fits.1.1);
   locks = locks_fit n.event c.threads fits.1.1 is.locks;
   words = λ w. word_few c n.event w is;
 }

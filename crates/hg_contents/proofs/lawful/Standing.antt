@@ -6,7 +6,10 @@ use Rattle.std.proofs.lemmas.List.{take-append-le}
 use Rattle.std.proofs.lemmas.Option.{slice_get_within}
 use Rattle.std.specs.List.{list_any}
 use Rattle.hg_model.specs.declared.segment.Segment.{Segment}
-use Rattle.hg_model.specs.Segments.{last_of, of_thread, present, rising, thread_at}
+use Rattle.hg_model.specs.declared.segment.Mark.{Mark}
+use Rattle.hg_model.specs.declared.segment.Mark.TheVariants.{Plain}
+use Rattle.hg_model.specs.Restoring.{marks_lawfully}
+use Rattle.hg_model.specs.Segments.{last_of, of_message, of_thread, present, rising, thread_at}
 use Rattle.hg_model.proofs.Graph.{last_of_lt}
 use Rattle.hg_model.proofs.Owners.{present_push}
 use Rattle.hg_graph.specs.Graph.{names}
@@ -44,11 +47,16 @@ one_behind segments s are stands k x at = pick (cases_lt k (length segments))
         last (omega (arith, lt, behind, length-append segments (s ∷ [])))
 
 -- what lets a segment stand there
-pub stands : (earlier : List Segment) (t : ℕ) (xs : List ℕ) → 1 ≤ length earlier → t ≤ 1023 → are_predecessors (length earlier) xs ≡ true → has_former (former earlier t) xs ≡ true → stands_behind earlier (of_thread t xs) ≡ true
-stands earlier t xs some small preceding own =
+pub stands_marked : (mark : Mark) (earlier : List Segment) (t : ℕ) (xs : List ℕ) → marks_lawfully earlier mark (of_message mark t xs) ≡ true → 1 ≤ length earlier → t ≤ 1023 → are_predecessors (length earlier) xs ≡ true
+    → has_former (former earlier t) xs ≡ true → stands_behind earlier (of_message mark t xs) ≡ true
+stands_marked mark earlier t xs lawful some small preceding own =
     and_from (has_thread (length earlier) t) _
     (ap (λ b. nat_lt t (cond b 1 1024)) (ne_eqb (length earlier) 0 (λ e. omega (arith, e, some))) ∙ lt-ltb t 1024 (omega (arith, small)))
-    (and_from (are_predecessors (length earlier) xs) _ preceding (and_from (has_former (former earlier t) xs) true own refl))
+    (and_from (are_predecessors (length earlier) xs) _ preceding (and_from (has_former (former earlier t) xs) _ own lawful))
+
+-- and one without a mark
+pub stands : (earlier : List Segment) (t : ℕ) (xs : List ℕ) → 1 ≤ length earlier → t ≤ 1023 → are_predecessors (length earlier) xs ≡ true → has_former (former earlier t) xs ≡ true → stands_behind earlier (of_thread t xs) ≡ true
+stands earlier t xs = stands_marked Plain earlier t xs refl
 
 pub present_below : (segments : List Segment) (t : ℕ) → 1 ≤ length segments → present segments t < length segments
 present_below segments t some = last_of_lt t 0 0 (length segments) segments (omega (arith, some)) (omega arith)
@@ -99,7 +107,7 @@ last_found t n k (s ∷ segments) h = from (last_found t (cond (nat_eq s.thread 
         let here : nat_eq s.thread t ≡ true = ⊎_elim (λ yes. yes) (λ later. absurd (false≢true (sym none ∙ later))) (or_cases (nat_eq s.thread t) (names segments t) h) in
         (0, omega arith, (last_none t (cond (nat_eq s.thread t) k n) (k + 1) segments none ∙ ap (λ b. cond b k n) here ∙ sym (add-zero k)), eqb-true s.thread t here)
 
-present_own : (segments : List Segment) (t : ℕ) → names segments t ≡ true → thread_at segments (present segments t) ≡ t
+pub present_own : (segments : List Segment) (t : ℕ) → names segments t ≡ true → thread_at segments (present segments t) ≡ t
 present_own segments t h = let f = last_found t 0 0 segments h in ap (thread_at segments) (f.2 ∙ zero-add f.0) ∙ f.3
 
 pub present_apart : (segments : List Segment) (p c : ℕ) → names segments p ≡ true → names segments c ≡ true → (p ≡ c → ⊥) → present segments p ≡ present segments c → ⊥

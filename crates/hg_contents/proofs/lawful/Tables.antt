@@ -5,7 +5,7 @@ use Rattle.std.specs.List.{AllByRecursion}
 use Rattle.std.proofs.lemmas.List.Elements.{All-append, All-cons, All-from_recursion, All-nil, recursion_from_All}
 use Rattle.hg_model.specs.declared.segment.Segment.{Segment}
 use Rattle.hg_model.specs.declared.event.Event.{Event}
-use Rattle.hg_model.specs.declared.event.Event.TheVariants.{Fork, Join, Lock, RdLock, Unlock, Read, Write, Alloc, Free}
+use Rattle.hg_model.specs.declared.event.Event.TheVariants.{Fork, Join, Lock, RdLock, Unlock, Read, Write, Alloc, Free, Send, Recv}
 use Rattle.hg_model.specs.declared.event.Named.{Named}
 use Rattle.hg_model.specs.declared.thread.ThreadState.{ThreadState}
 use Rattle.hg_model.specs.declared.verdict.Refusal.{Refusal}
@@ -68,6 +68,8 @@ event_fits c (Read a) each = asked_fit c (Read a) each (words_of a.at a.len)
 event_fits c (Write a) each = asked_fit c (Write a) each (words_of a.at a.len)
 event_fits c (Alloc b) each = tt
 event_fits c (Free b) each = tt
+event_fits c (Send t k) each = tt
+event_fits c (Recv t k) each = tt
 
 abbrev AreFitting : Table → Type 0
 AreFitting t = All SetFits t.sets

@@ -1,6 +1,6 @@
 use Rattle.std.proofs.Common.{◌≡◌, ◌∙◌, ℕ, List, Option, None, get_or, length, replicate, take, refl, sym, ap, arith, rules}
 use Rattle.std.proofs.lemmas.List.{get_or-replicate, length-replicate}
-use Rattle.hg_root.proofs.LastSegments.{agrees_still, begun, done_lawful, done_table, no_mark, no_place, no_such_thread, refused, stands_so, step, told}
+use Rattle.hg_root.proofs.LastSegments.{agrees_still, begun, done_lawful, done_messages, done_table, no_mark, no_place, no_such_thread, refused, stands_so, step, told}
 use Rattle.hg_root.proofs.lasts.lasts_of.Goals as goal
 
 pub loop-k-preserved : goal.loop-k-preserved
@@ -44,3 +44,6 @@ loop-k-init c =
 
 pub returns-clause-table : goal.returns-clause-table
 returns-clause-table c = done_table c.args.segments.now c.loop-k.k c.loop-k.lasts.items c.loop-k.messages c.loop-k.invariant c.loop-k-test.false
+
+pub returns-clause-messages : goal.returns-clause-messages
+returns-clause-messages c = done_messages c.args.segments.now c.loop-k.k c.loop-k.lasts.items c.loop-k.messages c.loop-k.invariant c.loop-k-test.false

@@ -11,4 +11,4 @@ returns-in-Err-Damaged-clause-damaged c = λ _ threads.
     ⊎_elim
     (λ bad. bad.1 (record { events = c.requires.few_events; segments = c.requires.few_segments; threads = threads; last = c.in_ok-last.ensures.len }))
     (λ memory. let clash = sym c.in-Err-Damaged.field-0-is ∙ memory in absurd cc)
-    (c.in-Err-Damaged.ensures.refusal (record { events = c.args.events; segments = c.args.segments; threads = c.args.threads.now; last = c.in_ok-last.last.items }) refl)
+    (c.in-Err-Damaged.ensures.refusal (record { events = c.args.events; segments = c.args.segments; threads = c.args.threads.now; last = c.in_ok-last.last.items; messages = c.args.messages }) refl)
