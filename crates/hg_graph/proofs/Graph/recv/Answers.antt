@@ -25,7 +25,7 @@ invariant_of-self-2 c =
     let h = sent_in segments c.args.k in
     let kept = c.self.invariant.2 c.args.k (ap (λ (s : List Segment). was_sent s c.args.k) c.self.view_is ∙ c.requires.sent) (ap (λ (s : List Segment). was_received s c.args.k) c.self.view_is ∙ c.requires.untaken) in
     let found : c.index-sent.result.now ≡ kept.0 = same_Some c.index-sent.result.now kept.0 (sym c.index-sent.ensures ∙ kept.1) in
-    let a = table_read table c.from.result c.args.t c.index.result.now g c.from.ensures (omega (arith, c.requires.receiver)) c.index.ensures (k.present c.args.t c.requires.receiver) in
+    let a = table_read table c.from.result c.args.t c.index-present.result.now g c.from.ensures (omega (arith, c.requires.receiver)) c.index-present.ensures (k.present c.args.t c.requires.receiver) in
     let b : c.index-sent.result.now.segment ≡ h = ap (λ (p : Pending). p.segment) found ∙ kept.2.segment in
     let before = c.pair-before.ensures ∙ (λ i. rising (a i) (b i)) in
     let h_in = sent_in_lt segments c.args.k some k.rising in
@@ -34,16 +34,16 @@ invariant_of-self-2 c =
     let few : length segments < 1048576 = let room = c.requires.room in omega (arith, ap length c.self.view_is) in
     let clocks = c.self.inside.clocks.items in
     let rows = c.self.invariant.1.rows in
-    let row : c.index-2.result.now ≡ get_or clocks c.args.t (1 ∷ []) = row_read clocks c.from-2.result c.args.t c.index-2.result.now c.from-2.ensures (omega (arith, c.requires.receiver)) c.index-2.ensures in
-    let n : c.len.result ≡ length segments = omega (arith, c.len.ensures) in
+    let row : c.index-clock.result.now ≡ get_or clocks c.args.t (1 ∷ []) = row_read clocks c.from-2.result c.args.t c.index-clock.result.now c.from-2.ensures (omega (arith, c.requires.receiver)) c.index-clock.ensures in
+    let n : c.len-number.result ≡ length segments = omega (arith, c.len-number.ensures) in
     let known : IsClock segments h kept.0.clock = subst (λ i. IsClock segments i kept.0.clock) kept.2.segment kept.2.clock in
-    let opens = meeting_clocks (Got c.args.k) segments c.args.t h clocks kept.0.clock c.in_ok-clock.clock some k.rising k.in_line c.requires.receiver h_in c.self.invariant.1 known
-    (λ u. c.in_ok-clock.ensures u ∙ (λ i. cond (nat_eq u (c.from-3.ensures i)) (n i + 1) (max (get_or (row i) u 0) (get_or (found i).clock u 0)))) in (
+    let opens = meeting_clocks (Got c.args.k) segments c.args.t h clocks kept.0.clock c.in_ok-of_next.of_next some k.rising k.in_line c.requires.receiver h_in c.self.invariant.1 known
+    (λ u. c.in_ok-of_next.ensures u ∙ (λ i. cond (nat_eq u (c.from-3.ensures i)) (n i + 1) (max (get_or (row i) u 0) (get_or (found i).clock u 0)))) in (
       kept_at (Got c.args.k) segments table c.self.inside.visited.items _ _ _ _ _ _ c.args.t (rising g h) (λ s u m. IsKept s u m c.self.inside.recent.from c.self.inside.recent.to c.self.inside.recent.reaches)
           c.in_ok-make_room.ensures.same c.in_ok-make_room.ensures.visited_same before c.open-next.ensures.segments c.open-next.ensures.present c.open-next.ensures.visited
           (opened_one segments table c.self.inside.visited.items _ _ _ (of_message (Got c.args.k) c.args.t (rising g h)) k c.requires.receiver few below (λ _. rising_has g h)),
-      subst (λ s. AreClocks s (set clocks c.from-4.result c.in_ok-clock.clock)) (sym new)
-          (subst (AreClocks (segments ++ of_message (Got c.args.k) c.args.t (rising g h) ∷ [])) (sym (λ i. set clocks (c.from-4.ensures i) c.in_ok-clock.clock)) opens),
+      subst (λ s. AreClocks s (set clocks c.from-4.result c.in_ok-of_next.of_next)) (sym new)
+          (subst (AreClocks (segments ++ of_message (Got c.args.k) c.args.t (rising g h) ∷ [])) (sym (λ i. set clocks (c.from-4.ensures i) c.in_ok-of_next.of_next)) opens),
       subst (λ s. ArePending s c.take_out.new.pending.entries) (sym new)
           (recv_pending segments c.args.t c.args.k (rising g h) c.self.inside.pending.entries c.take_out.new.pending.entries some k.rising below c.self.invariant.2 c.take_out.ensures),
     )
