@@ -1,5 +1,5 @@
 -- Segments that obey the rules of a root: their edges rise, and each thread's stand in line.
-use Rattle.std.proofs.Common.{◌≡◌, ℕ, zero, suc, ◌+◌, ◌<◌, ◌≤◌, Bool, true, false, cond, not, ◌&&◌, ◌||◌, nat_eq, nat_lt, Some, None, replicate, List, [], ◌∷◌, length, take, set, get_or, Contains, refl, sym, ap, ◌∙◌, subst, ⊎_elim, arith, length-set, get_or-set_same, get_or-set_other}
+use Rattle.std.proofs.Common.{◌≡◌, ℕ, zero, suc, ◌+◌, ◌<◌, ◌≤◌, Bool, true, false, cond, not, ◌&&◌, nat_eq, nat_lt, Some, None, replicate, List, [], ◌∷◌, length, take, set, get_or, Contains, refl, sym, ap, ◌∙◌, subst, ⊎_elim, arith, length-set, get_or-set_same, get_or-set_other}
 use Rattle.std.proofs.lemmas.Bool.{false≢true, and_parts, cases_eq, eq-eqb, eqb-true, ne_eqb, ltb-true, not-true}
 use Rattle.std.proofs.lemmas.List.{take_more, take_all, length-take-le, length-replicate, get_or-replicate}
 use Rattle.std.proofs.lemmas.Option.{slice_get-get_or}
@@ -7,7 +7,7 @@ use Rattle.std.specs.List.{AllByRecursion}
 use Rattle.hg_model.specs.declared.segment.Segment.{Segment}
 use Rattle.hg_model.specs.declared.segment.Mark.{Mark}
 use Rattle.hg_model.specs.declared.segment.Mark.TheVariants.{Plain, Sent, Got}
-use Rattle.hg_model.specs.Messages.{is_sent, was_sent}
+use Rattle.hg_model.specs.Messages.{was_sent}
 use Rattle.hg_model.specs.Restoring.{is_behind_own, marks_lawfully}
 use Rattle.hg_model.specs.Segments.{of_thread, thread_at, present}
 use Rattle.hg_model.specs.Paths.{IsRising, before}
@@ -90,10 +90,14 @@ sent_anew segments lawful n k lt is =
     not-true (was_sent (take n segments) k)
     (and_parts (not (was_sent (take n segments) k)) _ (subst (λ m. marks_lawfully (take n segments) m (get_or segments n (of_thread 0 [])) ≡ true) is (stands_at segments lawful n lt).mark)).0
 
--- segment 0 sends nothing
-pub first_sends_none : (segments : List Segment) → AreSegments segments → 0 < length segments → (k : ℕ) → was_sent (take 1 segments) k ≡ false
-first_sends_none segments lawful some k =
-    ap (λ (ss : List Segment). was_sent ss k) (take_more segments 0 (of_thread 0 []) some) ∙ none s.mark (below_none s.before (stands_at segments lawful 0 some).below) (stands_at segments lawful 0 some).mark
+-- a message that a segment receives was sent before
+pub got_behind : (segments : List Segment) → AreSegments segments → (n k : ℕ) → n < length segments → (get_or segments n (of_thread 0 [])).mark ≡ Got k → was_sent (take n segments) k ≡ true
+got_behind segments lawful n k lt is =
+    (and_parts (was_sent (take n segments) k) _ (subst (λ m. marks_lawfully (take n segments) m (get_or segments n (of_thread 0 [])) ≡ true) is (stands_at segments lawful n lt).mark)).0
+
+-- segment 0 neither sends nor receives
+pub first_is_plain : (segments : List Segment) → AreSegments segments → 0 < length segments → (get_or segments 0 (of_thread 0 [])).mark ≡ Plain
+first_is_plain segments lawful some = by s.mark refl (below_none s.before (stands_at segments lawful 0 some).below) (stands_at segments lawful 0 some).mark
   where
     s : Segment
     s = get_or segments 0 (of_thread 0 [])
@@ -102,10 +106,10 @@ first_sends_none segments lawful some k =
     below_none [] h = refl
     below_none (x ∷ before) h = absurd (let lt : x < 0 = h.0 in omega arith)
 
-    none : (m : Mark) → s.before ≡ [] → marks_lawfully [] m s ≡ true → (is_sent k m || false) ≡ false
-    none Plain is h = refl
-    none (Got j) is h = refl
-    none (Sent j) is h = absurd (false≢true (subst (λ before. is_behind_own [] s.thread before ≡ true) is h))
+    by : (m : Mark) → s.mark ≡ m → s.before ≡ [] → marks_lawfully [] m s ≡ true → s.mark ≡ Plain
+    by Plain e is h = e
+    by (Got j) e is h = absurd (false≢true h)
+    by (Sent j) e is h = absurd (false≢true (subst (λ before. is_behind_own [] s.thread before ≡ true) is h))
 
 pub behind_some : (segments : List Segment) → AreSegments segments → (s : ℕ) → s < length segments → 0 < s → 0 < length (before segments s)
 behind_some segments lawful s lt more = (stands_at segments lawful s lt).some (let len = length-take-le s segments (omega arith) in omega arith)

@@ -1,5 +1,5 @@
 -- What is kept of the messages that were sent and not received. (No promise to a reader rests on this file.)
-use Rattle.std.specs.Prelude.{◌≡◌, ℕ, nat_eq, true, false, List, Option, Some}
+use Rattle.std.specs.Prelude.{◌≡◌, ℕ, nat_eq, true, false, List, Option, None, Some}
 use Rattle.std.specs.Map.{lookup}
 use Rattle.hg_model.specs.declared.segment.Segment.{Segment}
 use Rattle.hg_model.specs.Messages.{sent_in, was_received, was_sent}
@@ -16,10 +16,13 @@ pub record IsKeptOf (all segments : List Segment) (k : ℕ) (kept : Pending) : T
   pub segment : kept.segment ≡ sent_in segments k
   pub clock : IsClock all kept.segment kept.clock
 
--- Each message that these segments sent and did not receive is kept.
-abbrev pub AreKept : List Segment → List Segment → List (ℕ × Pending) → Type 0
-AreKept all segments entries = (k : ℕ) → was_sent segments k ≡ true → was_received segments k ≡ false → (m : Pending) × (kept_of entries k ≡ Some m) × IsKeptOf all segments k m
+-- Each message that these segments sent and did not receive is kept, and no other one.
+pub record AreKept (all segments : List Segment) (entries : List (ℕ × Pending)) : Type 0 where
+  pub each : (k : ℕ) → was_sent segments k ≡ true → was_received segments k ≡ false → (m : Pending) × (kept_of entries k ≡ Some m) × IsKeptOf all segments k m
+  pub not_sent : (k : ℕ) → was_sent segments k ≡ false → kept_of entries k ≡ None
+  pub received : (k : ℕ) → was_received segments k ≡ true → kept_of entries k ≡ None
+  pub sent_first : (k : ℕ) → was_received segments k ≡ true → was_sent segments k ≡ true
 
--- Each message that was sent and not received is kept.
+-- Each message that was sent and not received is kept, and no other one.
 abbrev pub ArePending : List Segment → List (ℕ × Pending) → Type 0
 ArePending segments entries = AreKept segments segments entries

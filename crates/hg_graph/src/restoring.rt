@@ -43,6 +43,7 @@ pub(crate) fn present_clocks(
     requires lawful { AreSegments segments.now }
     requires rows { length present.now ≡ THREAD_NUMBERS }
     requires each { ArePresent segments.now present.now }
+    requires none { pending.old.entries ≡ [] }
     ensures clocks { IfOk result (λ clocks. AreClocks segments.now clocks.items) }
     ensures pending { OnOk result (ArePending segments.now pending.new.entries) }
 {
@@ -109,6 +110,7 @@ fn needed_clocks(
     requires few { length segments.now ≤ MOST_SEGMENTS }
     requires lawful { AreSegments segments.now }
     requires late { AreLastUses segments.now late.now }
+    requires none { pending.old.entries ≡ [] }
     ensures clocks { IfOk result (λ clocks. AreNeeded segments.now late.now (length segments.now) clocks.items) }
     ensures pending { OnOk result (ArePending segments.now pending.new.entries) }
 {

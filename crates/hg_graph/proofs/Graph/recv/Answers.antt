@@ -1,4 +1,4 @@
-use Rattle.std.proofs.Common.{◌+◌, ◌++◌, sym, subst, set, max, cond, nat_eq, ◌<◌, ◌≡◌, get_or, ◌∷◌, [], ap, ◌∙◌, arith, length, List}
+use Rattle.std.proofs.Common.{true, ◌+◌, ◌++◌, sym, subst, set, max, cond, nat_eq, ◌<◌, ◌≡◌, get_or, ◌∷◌, [], ap, ◌∙◌, arith, length, List}
 use Rattle.std.proofs.lemmas.Option.{same_Some}
 use Rattle.hg_model.specs.declared.segment.Mark.TheVariants.{Got}
 use Rattle.hg_model.specs.declared.segment.Segment.{Segment}
@@ -23,7 +23,8 @@ invariant_of-self-2 c =
     let threads = k.threads in
     let g = present segments c.args.t in
     let h = sent_in segments c.args.k in
-    let kept = c.self.invariant.2 c.args.k (ap (λ (s : List Segment). was_sent s c.args.k) c.self.view_is ∙ c.requires.sent) (ap (λ (s : List Segment). was_received s c.args.k) c.self.view_is ∙ c.requires.untaken) in
+    let was : was_sent segments c.args.k ≡ true = ap (λ (s : List Segment). was_sent s c.args.k) c.self.view_is ∙ c.requires.sent in
+    let kept = c.self.invariant.2.each c.args.k was (ap (λ (s : List Segment). was_received s c.args.k) c.self.view_is ∙ c.requires.untaken) in
     let found : c.index-sent.result.now ≡ kept.0 = same_Some c.index-sent.result.now kept.0 (sym c.index-sent.ensures ∙ kept.1) in
     let a = table_read table c.from.result c.args.t c.index-present.result.now g c.from.ensures (omega (arith, c.requires.receiver)) c.index-present.ensures (k.present c.args.t c.requires.receiver) in
     let b : c.index-sent.result.now.segment ≡ h = ap (λ (p : Pending). p.segment) found ∙ kept.2.segment in
@@ -45,5 +46,5 @@ invariant_of-self-2 c =
       subst (λ s. AreClocks s (set clocks c.from-4.result c.in_ok-of_next.of_next)) (sym new)
           (subst (AreClocks (segments ++ of_message (Got c.args.k) c.args.t (rising g h) ∷ [])) (sym (λ i. set clocks (c.from-4.ensures i) c.in_ok-of_next.of_next)) opens),
       subst (λ s. ArePending s c.take_out.new.pending.entries) (sym new)
-          (recv_pending segments c.args.t c.args.k (rising g h) c.self.inside.pending.entries c.take_out.new.pending.entries some k.rising below c.self.invariant.2 c.take_out.ensures),
+          (recv_pending segments c.args.t c.args.k (rising g h) c.self.inside.pending.entries c.take_out.new.pending.entries some k.rising below was c.self.invariant.2 c.take_out.ensures),
     )

@@ -1,7 +1,7 @@
 use Rattle.std.proofs.Common.{◌++◌, ◌∷◌, [], ◌∙◌, subst, sym, arith}
 use Rattle.hg_graph.specs.Needed.{AreBehind}
-use Rattle.hg_graph.proofs.Keeping.{kept_all, none_kept}
-use Rattle.hg_graph.proofs.Lawful.{first_sends_none, first_thread, lawful_rising}
+use Rattle.hg_graph.proofs.Keeping.{kept_all, first_kept}
+use Rattle.hg_graph.proofs.Lawful.{first_thread, lawful_rising}
 use Rattle.hg_graph.proofs.Needing.{behind_at, needed_first}
 use Rattle.hg_graph.proofs.restoring.needed_clocks.Goals as goal
 
@@ -9,7 +9,7 @@ pub loop-number-init : goal.loop-number-init
 loop-number-init c = (
   needed_first c.args.segments.now c.args.late.now c.push.new.self.items c.requires.some (first_thread c.args.segments.now c.requires.lawful c.requires.some)
       (c.in_ok-push.ensures.items ∙ (λ i. c.in_ok-clocks.ensures.items i ++ c.in_ok-first.ensures i ∷ [])),
-  none_kept c.args.segments.now _ _ (first_sends_none c.args.segments.now c.requires.lawful c.requires.some),
+  first_kept c.args.segments.now c.args.pending.now.entries c.requires.lawful c.requires.some c.requires.none,
 )
 
 pub note_message-requires-clause-clocks : goal.note_message-requires-clause-clocks

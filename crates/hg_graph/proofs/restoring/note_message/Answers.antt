@@ -26,4 +26,4 @@ returns-in_ok-make_message_room-in-Sent c =
 pub returns-in-Got : goal.returns-in-Got
 returns-in-Got c =
     let segments : List Segment = c.args.segments.now in
-    upto_got segments c.args.number c.requires.within c.in-Got.message c.args.pending.now.entries c.take_out.new.pending.entries (mark_read segments c.args.number _ (Got c.in-Got.message) c.requires.within c.in-Got.is) c.requires.pending c.take_out.ensures
+    upto_got segments c.args.number c.requires.within c.in-Got.message c.args.pending.now.entries c.take_out.new.pending.entries c.requires.lawful (mark_read segments c.args.number _ (Got c.in-Got.message) c.requires.within c.in-Got.is) c.requires.pending c.take_out.ensures
