@@ -14,7 +14,7 @@ use Rattle.hg_model.proofs.Graph.{rising_append, sent_in_lt}
 use Rattle.hg_model.proofs.Messages.{sent_left, sent_right}
 use Rattle.hg_graph.specs.Clocks.{IsClock}
 use Rattle.hg_graph.specs.declared.pending.Pending.{Pending}
-use Rattle.hg_graph.specs.Pending.{kept_of, IsKeptOf, AreKept, ArePending}
+use Rattle.hg_graph.specs.Pending.{kept_of, IsKeptOf, AreKept, ArePending, Notes}
 use Rattle.hg_graph.specs.Restoring.{AreSegments}
 use Rattle.hg_graph.proofs.Clocking.{clock_stays}
 use Rattle.hg_graph.proofs.Lawful.{first_is_plain, got_behind, sent_anew}
@@ -89,7 +89,7 @@ kept_plain all segments x entries is before =
 
 -- a segment that sends message k
 pub kept_sent : (all segments : List Segment) (x : Segment) (k : ℕ) (m : Pending) (old new : List (ℕ × Pending)) → x.mark ≡ Sent k → was_sent segments k ≡ false → m.segment ≡ slice_index x.before 0 → IsClock all m.segment m.clock →
-    AreKept all segments old → ((j : ℕ) → kept_of new j ≡ cond (nat_eq k j) (Some m) (kept_of old j)) → AreKept all (segments ++ x ∷ []) new
+    AreKept all segments old → Notes old k (Some m) new → AreKept all (segments ++ x ∷ []) new
 kept_sent all segments x k m old new is fresh ended clock before noted =
     kept_after all segments x old new before
     (λ j other _. noted j ∙ ap (λ b. cond b (Some m) (kept_of old j)) (ap (is_sent j) (sym is) ∙ other)) mine
@@ -112,7 +112,7 @@ kept_sent all segments x k m old new is fresh ended clock before noted =
 
 -- a segment that receives message k
 pub kept_got : (all segments : List Segment) (x : Segment) (k : ℕ) (old new : List (ℕ × Pending)) → x.mark ≡ Got k → was_sent segments k ≡ true → AreKept all segments old →
-    ((j : ℕ) → kept_of new j ≡ cond (nat_eq k j) None (kept_of old j)) → AreKept all (segments ++ x ∷ []) new
+    Notes old k None new → AreKept all (segments ++ x ∷ []) new
 kept_got all segments x k old new is sent before noted =
     kept_after all segments x old new before
     (λ j _ other. noted j ∙ ap (λ b. cond b None (kept_of old j)) (ap (is_got j) (sym is) ∙ other))
@@ -144,14 +144,14 @@ fork_pending segments p c g entries some rising g_in before =
 
 -- a send keeps the clock of the segment that it ends
 pub send_pending : (segments : List Segment) (t k g : ℕ) (clock : List ℕ) (old new : List (ℕ × Pending)) → 0 < length segments → IsRising segments → g < length segments → was_sent segments k ≡ false → IsClock segments g clock → ArePending segments old →
-    ((j : ℕ) → kept_of new j ≡ cond (nat_eq k j) (Some (record { segment = g; clock = clock })) (kept_of old j)) → ArePending (segments ++ of_message (Sent k) t (g ∷ []) ∷ []) new
+    Notes old k (Some (record { segment = g; clock = clock })) new → ArePending (segments ++ of_message (Sent k) t (g ∷ []) ∷ []) new
 send_pending segments t k g clock old new some rising g_in fresh is before noted =
     let x : Segment = of_message (Sent k) t (g ∷ []) in
     kept_sent (segments ++ x ∷ []) segments x k (record { segment = g; clock = clock }) old new refl fresh refl (clock_stays segments x g clock rising (g_in, tt) g_in is) (kept_over segments x old some rising (g_in, tt) before) noted
 
 -- a receive lets go of what was kept of its message
 pub recv_pending : (segments : List Segment) (t k : ℕ) (xs : List ℕ) (old new : List (ℕ × Pending)) → 0 < length segments → IsRising segments → AllByRecursion (λ y. y < length segments) xs → was_sent segments k ≡ true → ArePending segments old →
-    ((j : ℕ) → kept_of new j ≡ cond (nat_eq k j) None (kept_of old j)) → ArePending (segments ++ of_message (Got k) t xs ∷ []) new
+    Notes old k None new → ArePending (segments ++ of_message (Got k) t xs ∷ []) new
 recv_pending segments t k xs old new some rising below sent before noted =
     let x : Segment = of_message (Got k) t xs in
     kept_got (segments ++ x ∷ []) segments x k old new refl sent (kept_over segments x old some rising below before) noted
@@ -172,10 +172,10 @@ module _ (segments : List Segment) (n : ℕ) (lt : n < length segments) where
   upto_plain entries is before = one_more entries (kept_plain segments (take n segments) x entries is before)
 
   pub upto_sent : (k : ℕ) (m : Pending) (old new : List (ℕ × Pending)) → AreSegments segments → x.mark ≡ Sent k → m.segment ≡ slice_index x.before 0 → IsClock segments m.segment m.clock → AreKept segments (take n segments) old →
-      ((j : ℕ) → kept_of new j ≡ cond (nat_eq k j) (Some m) (kept_of old j)) → AreKept segments (take (n + 1) segments) new
+      Notes old k (Some m) new → AreKept segments (take (n + 1) segments) new
   upto_sent k m old new lawful is ended clock before noted = one_more new (kept_sent segments (take n segments) x k m old new is (sent_anew segments lawful n k lt is) ended clock before noted)
 
-  pub upto_got : (k : ℕ) (old new : List (ℕ × Pending)) → AreSegments segments → x.mark ≡ Got k → AreKept segments (take n segments) old → ((j : ℕ) → kept_of new j ≡ cond (nat_eq k j) None (kept_of old j)) → AreKept segments (take (n + 1) segments) new
+  pub upto_got : (k : ℕ) (old new : List (ℕ × Pending)) → AreSegments segments → x.mark ≡ Got k → AreKept segments (take n segments) old → Notes old k None new → AreKept segments (take (n + 1) segments) new
   upto_got k old new lawful is before noted = one_more new (kept_got segments (take n segments) x k old new is (got_behind segments lawful n k lt is) before noted)
 
 -- what is kept once all segments were gone through

@@ -1,5 +1,5 @@
 -- What is kept of the messages that were sent and not received. (No promise to a reader rests on this file.)
-use Rattle.std.specs.Prelude.{◌≡◌, ℕ, nat_eq, true, false, List, Option, None, Some}
+use Rattle.std.specs.Prelude.{◌≡◌, ℕ, nat_eq, true, false, List, Option, None, Some, ◌==◌, if◌then◌else◌}
 use Rattle.std.specs.Map.{lookup}
 use Rattle.hg_model.specs.declared.segment.Segment.{Segment}
 use Rattle.hg_model.specs.Messages.{sent_in, was_received, was_sent}
@@ -9,6 +9,10 @@ use Rattle.hg_graph.specs.Clocks.{IsClock}
 -- what is kept of message k
 abbrev pub kept_of : List (ℕ × Pending) → ℕ → Option Pending
 kept_of entries k = lookup (nat_eq k) entries
+
+-- From then on this is kept of message k, or nothing, and of each other message what was.
+abbrev pub Notes : List (ℕ × Pending) → ℕ → Option Pending → List (ℕ × Pending) → Type 0
+Notes old k kept new = (j : ℕ) → kept_of new j ≡ (if k == j then kept else kept_of old j)
 
 -- What is kept of message k, which one of these segments sent, is the segment that its send ended and the clock of that segment,
 -- among all segments.

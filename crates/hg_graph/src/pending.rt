@@ -1,8 +1,8 @@
 //! What is kept of the messages that were sent and not received.
 
-ghost use Rattle.std.specs.Prelude.{◌≡◌, ◌≤◌, ◌==◌, ℕ, None, Some, OnOk, if◌then◌else◌};
+ghost use Rattle.std.specs.Prelude.{◌≡◌, ◌≤◌, ℕ, None, Some, OnOk};
 ghost use Rattle.std.specs.HashMap.{spare};
-ghost use Rattle.hg_graph.specs.Pending.{kept_of};
+ghost use Rattle.hg_graph.specs.Pending.{Notes, kept_of};
 
 use crate::clock::Clock;
 use std::alloc::{AllocError, Global};
@@ -26,14 +26,14 @@ pub(crate) fn make_message_room(pending: &mut HashMap<u32, Pending>) -> Result<(
 /// Keeps what a message needs. There is room for it.
 pub(crate) fn keep(pending: &mut HashMap<u32, Pending>, message: u32, kept: Pending)
     requires { 1 ≤ spare pending.old }
-    ensures { (k : ℕ) → kept_of pending.new.entries k ≡ (if message == k then Some kept else kept_of pending.old.entries k) }
+    ensures { Notes pending.old.entries message (Some kept) pending.new.entries }
 {
     let _ = pending.insert(message, kept);
 }
 
 /// Lets go of what is kept of a message.
 pub(crate) fn take_out(pending: &mut HashMap<u32, Pending>, message: u32)
-    ensures { (k : ℕ) → kept_of pending.new.entries k ≡ (if message == k then None else kept_of pending.old.entries k) }
+    ensures { Notes pending.old.entries message None pending.new.entries }
 {
     let _ = pending.remove(&message);
 }
