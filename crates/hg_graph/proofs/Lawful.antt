@@ -1,11 +1,14 @@
 -- Segments that obey the rules of a root: their edges rise, and each thread's stand in line.
-use Rattle.std.proofs.Common.{◌≡◌, ℕ, zero, suc, ◌+◌, ◌<◌, ◌≤◌, Bool, true, false, cond, ◌&&◌, nat_eq, nat_lt, Some, None, replicate, List, [], ◌∷◌, length, take, set, get_or, Contains, refl, sym, ap, ◌∙◌, subst, ⊎_elim, arith, length-set, get_or-set_same, get_or-set_other}
-use Rattle.std.proofs.lemmas.Bool.{false≢true, and_parts, cases_eq, eq-eqb, eqb-true, ne_eqb, ltb-true}
+use Rattle.std.proofs.Common.{◌≡◌, ℕ, zero, suc, ◌+◌, ◌<◌, ◌≤◌, Bool, true, false, cond, not, ◌&&◌, nat_eq, nat_lt, Some, None, replicate, List, [], ◌∷◌, length, take, set, get_or, Contains, refl, sym, ap, ◌∙◌, subst, ⊎_elim, arith, length-set, get_or-set_same, get_or-set_other}
+use Rattle.std.proofs.lemmas.Bool.{false≢true, and_parts, cases_eq, eq-eqb, eqb-true, ne_eqb, ltb-true, not-true}
 use Rattle.std.proofs.lemmas.List.{take_more, take_all, length-take-le, length-replicate, get_or-replicate}
 use Rattle.std.proofs.lemmas.Option.{slice_get-get_or}
 use Rattle.std.specs.List.{AllByRecursion}
 use Rattle.hg_model.specs.declared.segment.Segment.{Segment}
-use Rattle.hg_model.specs.Restoring.{marks_lawfully}
+use Rattle.hg_model.specs.declared.segment.Mark.{Mark}
+use Rattle.hg_model.specs.declared.segment.Mark.TheVariants.{Plain, Sent, Got}
+use Rattle.hg_model.specs.Messages.{was_sent}
+use Rattle.hg_model.specs.Restoring.{is_behind_own, marks_lawfully}
 use Rattle.hg_model.specs.Segments.{of_thread, thread_at, present}
 use Rattle.hg_model.specs.Paths.{IsRising, before}
 use Rattle.hg_model.proofs.Graph.{rising_append}
@@ -48,6 +51,7 @@ pub record Standing (earlier : List Segment) (s : Segment) : Type 0 where
   pub some : 0 < length earlier → 0 < length s.before
   pub few : length s.before ≤ 2
   pub own : names earlier s.thread ≡ true → Contains s.before (present earlier s.thread)
+  pub mark : marks_lawfully earlier s.mark s ≡ true
 
 small : (n t : ℕ) → has_thread n t ≡ true → (t < 1024) × (n ≡ 0 → t ≡ 0)
 small n t h =
@@ -68,6 +72,7 @@ standing earlier s h =
       some = some_before (length earlier) s.before others.0;
       few = few_before (length earlier) s.before others.0;
       own = own_former earlier s.thread s.before last.0;
+      mark = last.1;
     }
 
 stands_at : (segments : List Segment) → AreSegments segments → (k : ℕ) → k < length segments → Standing (take k segments) (get_or segments k (of_thread 0 []))
@@ -78,6 +83,33 @@ thread_small segments lawful s lt = (stands_at segments lawful s lt).thread
 
 pub first_thread : (segments : List Segment) → AreSegments segments → 0 < length segments → thread_at segments 0 ≡ 0
 first_thread segments lawful some = (stands_at segments lawful 0 some).first refl
+
+-- a message that a segment sends was not sent before
+pub sent_anew : (segments : List Segment) → AreSegments segments → (n k : ℕ) → n < length segments → (get_or segments n (of_thread 0 [])).mark ≡ Sent k → was_sent (take n segments) k ≡ false
+sent_anew segments lawful n k lt is =
+    not-true (was_sent (take n segments) k)
+    (and_parts (not (was_sent (take n segments) k)) _ (subst (λ m. marks_lawfully (take n segments) m (get_or segments n (of_thread 0 [])) ≡ true) is (stands_at segments lawful n lt).mark)).0
+
+-- a message that a segment receives was sent before
+pub got_behind : (segments : List Segment) → AreSegments segments → (n k : ℕ) → n < length segments → (get_or segments n (of_thread 0 [])).mark ≡ Got k → was_sent (take n segments) k ≡ true
+got_behind segments lawful n k lt is =
+    (and_parts (was_sent (take n segments) k) _ (subst (λ m. marks_lawfully (take n segments) m (get_or segments n (of_thread 0 [])) ≡ true) is (stands_at segments lawful n lt).mark)).0
+
+-- segment 0 neither sends nor receives
+pub first_is_plain : (segments : List Segment) → AreSegments segments → 0 < length segments → (get_or segments 0 (of_thread 0 [])).mark ≡ Plain
+first_is_plain segments lawful some = by s.mark refl (below_none s.before (stands_at segments lawful 0 some).below) (stands_at segments lawful 0 some).mark
+  where
+    s : Segment
+    s = get_or segments 0 (of_thread 0 [])
+
+    below_none : (before : List ℕ) → AllByRecursion (λ x. x < 0) before → before ≡ []
+    below_none [] h = refl
+    below_none (x ∷ before) h = absurd (let lt : x < 0 = h.0 in omega arith)
+
+    by : (m : Mark) → s.mark ≡ m → s.before ≡ [] → marks_lawfully [] m s ≡ true → s.mark ≡ Plain
+    by Plain e is h = e
+    by (Got j) e is h = absurd (false≢true h)
+    by (Sent j) e is h = absurd (false≢true (subst (λ before. is_behind_own [] s.thread before ≡ true) is h))
 
 pub behind_some : (segments : List Segment) → AreSegments segments → (s : ℕ) → s < length segments → 0 < s → 0 < length (before segments s)
 behind_some segments lawful s lt more = (stands_at segments lawful s lt).some (let len = length-take-le s segments (omega arith) in omega arith)

@@ -8,7 +8,7 @@ use Rattle.hg_model.specs.Paths.{IsRising, before}
 use Rattle.hg_model.proofs.Graph.{member_below}
 use Rattle.hg_graph.specs.Clocks.{IsClock, AreClocks}
 use Rattle.hg_graph.specs.Kept.{ArePresent}
-use Rattle.hg_graph.specs.Needed.{AreEnds, AreUses, AreLastUses, AreNeeded, KeepsNeeded, AreApart, AreMoved, clock_at}
+use Rattle.hg_graph.specs.Needed.{AreBehind, AreEnds, AreUses, AreLastUses, AreNeeded, KeepsNeeded, AreApart, AreMoved, clock_at}
 use Rattle.hg_graph.proofs.Clocking.{first_clock}
 use Rattle.hg_graph.proofs.Opening.{present_in, present_of_own}
 
@@ -125,6 +125,9 @@ needed_more segments late n clocks one two clock w first second own =
 -- a predecessor's clock is needed
 pub needed_at : (segments : List Segment) (late : List ℕ) (n a : ℕ) (clocks : List (List ℕ)) → IsRising segments → AreLastUses segments late → AreNeeded segments late n clocks → n < length segments → Contains (before segments n) a → IsClock segments a (get_or clocks a [])
 needed_at segments late n a clocks rising uses w lt has = w.each a (member_below segments rising a n has) (uses.uses.each n a lt has)
+
+pub behind_at : (segments : List Segment) (late : List ℕ) (n : ℕ) (clocks : List (List ℕ)) → IsRising segments → AreLastUses segments late → AreNeeded segments late n clocks → n < length segments → AreBehind segments n clocks
+behind_at segments late n clocks rising uses w lt = record { rows = w.rows; each = λ a has. needed_at segments late n a clocks rising uses w lt has }
 
 -- present segments other than segment 0 differ
 pub apart_of : (segments : List Segment) (table : List ℕ) → ArePresent segments table → AreApart table

@@ -27,6 +27,11 @@ pub record AreNeeded (segments : List Segment) (late : List ℕ) (n : ℕ) (cloc
   pub rows : length clocks ≡ n
   pub each : (s : ℕ) → s < n → n ≤ slice_index_or late s 0 → IsClock segments s (slice_index_or clocks s [])
 
+-- The clocks of the segments below n, of which those are known that stand right before n.
+pub record AreBehind (segments : List Segment) (n : ℕ) (clocks : List (List ℕ)) : Type 0 where
+  pub rows : length clocks ≡ n
+  pub each : (a : ℕ) → Contains (before segments n) a → IsClock segments a (slice_index_or clocks a [])
+
 -- Clocks that are needed behind segment n stay as they were.
 pub record KeepsNeeded (late : List ℕ) (n : ℕ) (old new : List (List ℕ)) : Type 0 where
   pub rows : length new ≡ length old

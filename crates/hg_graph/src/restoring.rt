@@ -1,16 +1,19 @@
 //! Rebuilding what a graph keeps beside its segments.
 
-ghost use Rattle.std.specs.Prelude.{◌≡◌, ◌==◌, ◌+◌, ◌<◌, ◌≤◌, ◌∷◌, [], ℕ, if◌then◌else◌, length, slice_index_or, IfOk};
+ghost use Rattle.std.specs.Prelude.{◌≡◌, ◌==◌, ◌+◌, ◌<◌, ◌≤◌, ◌∷◌, [], ℕ, if◌then◌else◌, length, slice_index, slice_index_or, take, IfOk, OnOk};
 ghost use Rattle.hg_model.specs.Paths.{before as before_of};
 ghost use Rattle.hg_graph.specs.Clocks.{AreClocks};
 ghost use Rattle.hg_graph.specs.Kept.{ArePresent};
-ghost use Rattle.hg_graph.specs.Needed.{AreApart, AreEnds, AreLastUses, AreMoved, AreNeeded, AreUses};
+ghost use Rattle.hg_graph.specs.Needed.{AreApart, AreBehind, AreEnds, AreLastUses, AreMoved, AreNeeded, AreUses};
+ghost use Rattle.hg_graph.specs.Pending.{AreKept, ArePending};
 ghost use Rattle.hg_graph.specs.Restoring.{AreSegments};
 
 use crate::clock::Clock;
+use crate::pending::{Pending, keep, make_message_room, take_out};
 use hg_model::limits::{MOST_SEGMENTS, THREAD_NUMBERS};
-use hg_model::segment::Segment;
+use hg_model::segment::{Mark, Segment};
 use std::alloc::{AllocError, Global};
+use std::collections::HashMap;
 use std::mem::replace;
 
 /// The present segment of each thread, and 0 where it has none.
@@ -28,21 +31,24 @@ pub(crate) fn present_segments(alloc: Global, segments: &[Segment]) -> Result<Ve
 }
 
 /// The clock of the present segment of each thread. Each segment's is made from those of its predecessors, and let go
-/// behind the last segment that needs it.
+/// behind the last segment that needs it. What the messages need is kept meanwhile.
 pub(crate) fn present_clocks(
     alloc: Global,
     segments: &[Segment],
     present: &[u32],
+    pending: &mut HashMap<u32, Pending>,
 ) -> Result<Vec<Clock>, AllocError>
     requires some { 0 < length segments.now }
     requires few { length segments.now ≤ MOST_SEGMENTS }
     requires lawful { AreSegments segments.now }
     requires rows { length present.now ≡ THREAD_NUMBERS }
     requires each { ArePresent segments.now present.now }
-    ensures { IfOk result (λ clocks. AreClocks segments.now clocks.items) }
+    requires none { pending.old.entries ≡ [] }
+    ensures clocks { IfOk result (λ clocks. AreClocks segments.now clocks.items) }
+    ensures pending { OnOk result (ArePending segments.now pending.new.entries) }
 {
     let late = last_uses(alloc, segments, present)?;
-    let clocks = needed_clocks(alloc, segments, late.as_slice())?;
+    let clocks = needed_clocks(alloc, segments, late.as_slice(), pending)?;
     Ok(by_thread(alloc, present, clocks)?)
 }
 
@@ -84,6 +90,7 @@ fn ends(segments: &[Segment], number: usize) -> (usize, usize)
     requires within { number < length segments.now }
     requires lawful { AreSegments segments.now }
     ensures ends { AreEnds (before_of segments.now number) result.0 result.1 }
+    ensures begin { result.0 ≡ slice_index (before_of segments.now number) 0 }
     ensures first { result.0 < number }
     ensures last { result.1 < number }
 {
@@ -91,24 +98,60 @@ fn ends(segments: &[Segment], number: usize) -> (usize, usize)
     (before[0] as usize, before[before.len() - 1] as usize)
 }
 
-/// The clock of each segment that is needed at the end. What stands for each other is not told.
+/// The clock of each segment that is needed at the end. What stands for each other is not told. What the messages need
+/// is kept.
 fn needed_clocks(
     alloc: Global,
     segments: &[Segment],
     late: &[u32],
+    pending: &mut HashMap<u32, Pending>,
 ) -> Result<Vec<Clock>, AllocError>
     requires some { 0 < length segments.now }
     requires few { length segments.now ≤ MOST_SEGMENTS }
     requires lawful { AreSegments segments.now }
     requires late { AreLastUses segments.now late.now }
-    ensures { IfOk result (λ clocks. AreNeeded segments.now late.now (length segments.now) clocks.items) }
+    requires none { pending.old.entries ≡ [] }
+    ensures clocks { IfOk result (λ clocks. AreNeeded segments.now late.now (length segments.now) clocks.items) }
+    ensures pending { OnOk result (ArePending segments.now pending.new.entries) }
 {
     let mut clocks = Vec::with_capacity(alloc, segments.len())?;
     clocks.push(Clock::first(alloc)?)?;
     for number in 1..segments.len() {
+        note_message(alloc, segments, number, clocks.as_slice(), pending)?;
         push_clock(alloc, segments, late, number, &mut clocks)?;
     }
     Ok(clocks)
+}
+
+/// Keeps what a message needs that the segment sends, and lets go of one that it receives. The clocks are those of the
+/// segments before it.
+fn note_message(
+    alloc: Global,
+    segments: &[Segment],
+    number: usize,
+    clocks: &[Clock],
+    pending: &mut HashMap<u32, Pending>,
+) -> Result<(), AllocError>
+    requires some { 0 < number }
+    requires within { number < length segments.now }
+    requires few { length segments.now ≤ MOST_SEGMENTS }
+    requires lawful { AreSegments segments.now }
+    requires clocks { AreBehind segments.now number clocks.now }
+    requires pending { AreKept segments.now (take number segments.now) pending.old.entries }
+    ensures { OnOk result (AreKept segments.now (take (number + 1) segments.now) pending.new.entries) }
+{
+    match segments[number].mark {
+        Mark::Plain => {}
+        Mark::Sent(message) => {
+            let (ended, _) = ends(segments, number);
+            let clock = clocks[ended].copy(alloc)?;
+            make_message_room(pending)?;
+            let segment = ended as u32;
+            keep(pending, message, Pending { segment, clock });
+        }
+        Mark::Got(message) => take_out(pending, message),
+    }
+    Ok(())
 }
 
 /// Adds the clock of a segment, made from those of its predecessors, and lets go of theirs where it was the last use.

@@ -33,6 +33,7 @@ returns c =
     (ap (λ (xs : List ℕ). get_or xs 0 0) is) (ap (λ (xs : List ℕ). get_or xs (length xs - 1) 0) is) in
     record {
       ends = ends;
+      begin = ap (λ (xs : List ℕ). get_or xs 0 0) is;
       first = member_below segments rising _ c.args.number ends.first;
       last = member_below segments rising _ c.args.number ends.last;
     }
