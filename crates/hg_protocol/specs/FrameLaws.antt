@@ -5,7 +5,7 @@ use Rattle.std.proofs.lemmas.List.{append-nil}
 use Rattle.std.proofs.lemmas.Nat.{from_be_bytes-to_be_bytes_2, from_be_bytes-to_be_bytes_8}
 use Rattle.hg_protocol.specs.declared.frame.TheConstants.{MOST_FRAME_BYTES}
 use Rattle.hg_model.specs.declared.event.Event.{Event}
-use Rattle.hg_model.specs.declared.event.Event.TheVariants.{Fork, Join, Lock, RdLock, Unlock, Read, Write, Alloc, Free}
+use Rattle.hg_model.specs.declared.event.Event.TheVariants.{Fork, Join, Lock, RdLock, Unlock, Read, Write, Alloc, Free, Send, Recv}
 use Rattle.hg_records.specs.Records.{EventFits, event_text}
 use Rattle.hg_records.proofs.RecordLemmas.{one_event}
 use Rattle.hg_protocol.specs.declared.frame.Frame.{Frame}
@@ -25,6 +25,8 @@ few_bytes (Read a) = omega arith
 few_bytes (Write a) = omega arith
 few_bytes (Alloc b) = omega arith
 few_bytes (Free b) = omega arith
+few_bytes (Send t k) = omega arith
+few_bytes (Recv t k) = omega arith
 
 pub frame_within : (frame : Frame) → FrameFits frame → (1 ≤ length (body_text frame)) × (length (body_text frame) ≤ MOST_FRAME_BYTES)
 frame_within (Hello source) fits = (omega arith, omega arith)

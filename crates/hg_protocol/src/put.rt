@@ -52,6 +52,8 @@ fn body_len(event: &Event) -> u8
         Event::Write(_) => 21,
         Event::Alloc(_) => 22,
         Event::Free(_) => 22,
+        Event::Send { .. } => 16,
+        Event::Recv { .. } => 16,
     }
 }
 

@@ -1,16 +1,16 @@
 -- Where bytes are long enough for their kind, they begin with a record, and nowhere else.
 use Rattle.std.proofs.Common.{◌≡◌, inl, inr, ℕ, ◌+◌, ◌-◌, ◌^◌, ◌<◌, ◌≤◌, false, cond, ltb, nat_eq, List, [], ◌∷◌, ◌++◌, length, get_or, take, drop, refl, sym, ap, subst, ◌∙◌, arith}
-use Rattle.std.specs.Int.{Width, w16, w64, byte_len, from_be_bytes, to_be_bytes}
+use Rattle.std.specs.Int.{Width, w16, w32, w64, byte_len, from_be_bytes, to_be_bytes}
 use Rattle.std.proofs.lemmas.Bool.{eqb-true, le-ltb}
 use Rattle.std.proofs.lemmas.List.{length-append}
 use Rattle.hg_model.specs.declared.event.Access.{Access}
 use Rattle.hg_model.specs.declared.event.Block.{Block}
 use Rattle.hg_model.specs.declared.event.Event.{Event}
-use Rattle.hg_model.specs.declared.event.Event.TheVariants.{Fork, Join, Lock, RdLock, Unlock, Read, Write, Alloc, Free}
+use Rattle.hg_model.specs.declared.event.Event.TheVariants.{Fork, Join, Lock, RdLock, Unlock, Read, Write, Alloc, Free, Send, Recv}
 use Rattle.hg_model.specs.declared.event.Named.{Named}
 use Rattle.hg_records.specs.Lengths.{HasRecord, length_by_kind}
-use Rattle.hg_records.specs.Records.{AccessFits, BlockFits, EventFits, PairFits, access_text, block_text, event_text, pair_text, record_text}
-use Rattle.hg_records.proofs.RecordLemmas.{IsBytes, IsBytes-rest, IsWide, Takes, Takes-then, chosen, number_takes, taken, wide16, wide64}
+use Rattle.hg_records.specs.Records.{AccessFits, BlockFits, EventFits, access_text, block_text, event_text, record_text}
+use Rattle.hg_records.proofs.RecordLemmas.{IsBytes, IsBytes-rest, IsWide, Takes, Takes-then, chosen, number_takes, taken, wide16, wide32, wide64}
 
 -- a number is there where there are bytes enough
 record Number (w : Width) (limit : ℕ) (bytes : List ℕ) : Type 0 where
@@ -91,10 +91,13 @@ with_kind : (kind k : ℕ) (text : List ℕ) → kind ≡ k → k ∷ text ≡ k
 with_kind kind k text is = ap (λ (n : ℕ). n ∷ text) (sym is)
 
 module _ (bytes : List ℕ) (h : Head bytes) where
-  pair_given : (k : ℕ) (make : ℕ → ℕ → Event) → h.kind.byte ≡ k → ((t n : ℕ) → event_text (make t n) ≡ k ∷ pair_text t n) → ((t n : ℕ) → PairFits t n → EventFits (make t n)) → 15 ≤ length bytes → HasRecord bytes (drop 15 bytes)
-  pair_given k make is text fits long =
-      let n = number_given w16 (2 ^ 16) wide16 h.thread.rest h.thread.takes.rest_fits (omega (arith, long, h.left)) in
-      whole_given bytes h (to_be_bytes w16 n.n) n.rest (make h.thread.n n.n) 15 n.takes (fits h.thread.n n.n (h.thread.small, n.small)) (text h.thread.n n.n ∙ with_kind h.kind.byte k (pair_text h.thread.n n.n) is) refl
+  -- an event with one number behind its acting thread
+  given : (w : Width) (limit : ℕ) (wide : IsWide w limit) (k : ℕ) (make : ℕ → ℕ → Event) → h.kind.byte ≡ k → ((t n : ℕ) → event_text (make t n) ≡ k ∷ (to_be_bytes w16 t ++ to_be_bytes w n)) → ((t n : ℕ) → (t < 2 ^ 16) × (n < limit) → EventFits (make t n))
+      → byte_len w + 13 ≤ length bytes → HasRecord bytes (drop (byte_len w + 13) bytes)
+  given w limit wide k make is text fits long =
+      let n = number_given w limit wide h.thread.rest h.thread.takes.rest_fits (omega (arith, long, h.left)) in
+      whole_given bytes h (to_be_bytes w n.n) n.rest (make h.thread.n n.n) (byte_len w + 13) n.takes (fits h.thread.n n.n (h.thread.small, n.small)) (text h.thread.n n.n ∙ with_kind h.kind.byte k (to_be_bytes w16 h.thread.n ++ to_be_bytes w n.n) is)
+      (ap (λ (m : ℕ). m + 13) (wide.len n.n))
 
   access_given : (k : ℕ) (make : Access → Event) → h.kind.byte ≡ k → ((a : Access) → event_text (make a) ≡ k ∷ access_text a) → ((a : Access) → AccessFits a → EventFits (make a)) → 22 ≤ length bytes → HasRecord bytes (drop 22 bytes)
   access_given k make is text fits long =
@@ -115,16 +118,18 @@ module _ (bytes : List ℕ) (h : Head bytes) where
   by_kind : (kind len : ℕ) → h.kind.byte ≡ kind → length_by_kind kind ≡ len → 1 ≤ len → len ≤ length bytes → HasRecord bytes (drop len bytes)
   unfolding length_by_kind
   by_kind kind len same is some long =
-      one 1 15 _ (λ e. pair_given 1 Fork e (λ t n. refl) (λ t n f. f)) (
-      one 2 15 _ (λ e. pair_given 2 Join e (λ t n. refl) (λ t n f. f)) (
-      one 3 15 _ (λ e. pair_given 3 Lock e (λ t n. refl) (λ t n f. f)) (
-      one 4 15 _ (λ e. pair_given 4 RdLock e (λ t n. refl) (λ t n f. f)) (
-      one 5 15 _ (λ e. pair_given 5 Unlock e (λ t n. refl) (λ t n f. f)) (
+      one 1 15 _ (λ e. given w16 (2 ^ 16) wide16 1 Fork e (λ t n. refl) (λ t n f. f)) (
+      one 2 15 _ (λ e. given w16 (2 ^ 16) wide16 2 Join e (λ t n. refl) (λ t n f. f)) (
+      one 3 15 _ (λ e. given w16 (2 ^ 16) wide16 3 Lock e (λ t n. refl) (λ t n f. f)) (
+      one 4 15 _ (λ e. given w16 (2 ^ 16) wide16 4 RdLock e (λ t n. refl) (λ t n f. f)) (
+      one 5 15 _ (λ e. given w16 (2 ^ 16) wide16 5 Unlock e (λ t n. refl) (λ t n f. f)) (
       one 6 22 _ (λ e. access_given 6 Read e (λ a. refl) (λ a f. f)) (
       one 7 22 _ (λ e. access_given 7 Write e (λ a. refl) (λ a f. f)) (
       one 8 23 _ (λ e. block_given 8 Alloc e (λ b. refl) (λ b f. f)) (
       one 9 23 _ (λ e. block_given 9 Free e (λ b. refl) (λ b f. f)) (
-      λ none. absurd (omega (arith, none, some))))))))))) is
+      one 10 17 _ (λ e. given w32 (2 ^ 32) wide32 10 Send e (λ t n. refl) (λ t n f. f)) (
+      one 11 17 _ (λ e. given w32 (2 ^ 32) wide32 11 Recv e (λ t n. refl) (λ t n f. f)) (
+      λ none. absurd (omega (arith, none, some))))))))))))) is
     where
       one : (k size other : ℕ) → (h.kind.byte ≡ k → size ≤ length bytes → HasRecord bytes (drop size bytes)) → (other ≡ len → HasRecord bytes (drop len bytes)) → cond (nat_eq kind k) size other ≡ len → HasRecord bytes (drop len bytes)
       one k size other there later e =
@@ -153,3 +158,5 @@ record_long n rest = of_event n.event where
   of_event (Write a) = (omega arith, (omega arith, omega arith))
   of_event (Alloc b) = (omega arith, (omega arith, omega arith))
   of_event (Free b) = (omega arith, (omega arith, omega arith))
+  of_event (Send t k) = (omega arith, (omega arith, omega arith))
+  of_event (Recv t k) = (omega arith, (omega arith, omega arith))

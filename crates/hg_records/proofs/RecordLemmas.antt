@@ -1,16 +1,16 @@
 -- A record that is read is the record that was written, and what was written is read again.
 use Rattle.std.proofs.Common.{◌≡◌, ℕ, suc, ◌+◌, ◌-◌, ◌^◌, ◌<◌, ◌≤◌, Bool, true, false, cond, ltb, nat_eq, List, [], ◌∷◌, ◌++◌, length, get_or, take, drop, Option, Some, None, refl, sym, ap, subst, ◌∙◌, append_assoc, arith, inl, inr, ◌⊎◌}
-use Rattle.std.specs.Int.{Width, w16, w64, byte_len, from_be_bytes, to_be_bytes}
+use Rattle.std.specs.Int.{Width, w16, w32, w64, byte_len, from_be_bytes, to_be_bytes}
 use Rattle.std.specs.List.{flat_map, AllByRecursion}
 use Rattle.std.proofs.lemmas.Bool.{cases_lt, eqb-true, ltb-false, le-ltb}
 use Rattle.std.proofs.lemmas.List.{take_at, drop_at, take-append-drop, length-append, length-take, get_or-drop, get_or-take, get_or_past}
-use Rattle.std.proofs.lemmas.Nat.{be_bytes_2, be_bytes_8, from_be_bytes-to_be_bytes_2, from_be_bytes-to_be_bytes_8}
+use Rattle.std.proofs.lemmas.Nat.{be_bytes_2, be_bytes_4, be_bytes_8, from_be_bytes-to_be_bytes_2, from_be_bytes-to_be_bytes_4, from_be_bytes-to_be_bytes_8}
 use Rattle.hg_model.specs.declared.event.Access.{Access}
 use Rattle.hg_model.specs.declared.event.Block.{Block}
 use Rattle.hg_model.specs.declared.event.Event.{Event}
-use Rattle.hg_model.specs.declared.event.Event.TheVariants.{Fork, Join, Lock, RdLock, Unlock, Read, Write, Alloc, Free}
+use Rattle.hg_model.specs.declared.event.Event.TheVariants.{Fork, Join, Lock, RdLock, Unlock, Read, Write, Alloc, Free, Send, Recv}
 use Rattle.hg_model.specs.declared.event.Named.{Named}
-use Rattle.hg_records.specs.Records.{AccessFits, BlockFits, EventFits, RecordFits, access_text, block_text, event_text, pair_text, record_text}
+use Rattle.hg_records.specs.Records.{AccessFits, BlockFits, EventFits, RecordFits, access_text, block_text, event_text, record_text}
 use Rattle.hg_records.specs.RecordReading.{◌>>=◌, access_at, block_at, byte_at, event_at, making, number_at, operands_at, record_at}
 
 abbrev pub IsBytes : List ℕ → Type 0
@@ -70,6 +70,14 @@ wide16 = record {
   back = λ bytes len fits. be_bytes_2 bytes _ len fits refl;
   again = λ n lt. from_be_bytes-to_be_bytes_2 n lt;
   below = λ bytes fits. omega (arith, fits 0, fits 1);
+}
+
+pub wide32 : IsWide w32 (2 ^ 32)
+wide32 = record {
+  len = λ n. refl;
+  back = λ bytes len fits. be_bytes_4 bytes _ len fits refl;
+  again = λ n lt. from_be_bytes-to_be_bytes_4 n lt;
+  below = λ bytes fits. omega (arith, fits 0, fits 1, fits 2, fits 3);
 }
 
 pub wide64 : IsWide w64 (2 ^ 64)
@@ -171,13 +179,14 @@ record Operands (kind t : ℕ) (bytes : List ℕ) (e : Event) (rest : List ℕ) 
 with_kind : (kind k : ℕ) (text : List ℕ) → kind ≡ k → k ∷ text ≡ kind ∷ text
 with_kind kind k text is = ap (λ (n : ℕ). n ∷ text) (sym is)
 
-pair_case : (kind k t : ℕ) (make : ℕ → Event) (bytes : List ℕ) (e : Event) (rest : List ℕ) → kind ≡ k → ((n : ℕ) → event_text (make n) ≡ k ∷ pair_text t n) → ((n : ℕ) → n < 2 ^ 16 → EventFits (make n))
-    → IsBytes bytes → making make (number_at w16 bytes) ≡ Some (e, rest) → Operands kind t bytes e rest
-pair_case kind k t make bytes e rest is text fits bytes_fit h =
-    let from = made_from make (number_at w16 bytes) e rest h in
-    let one = number_takes w16 (2 ^ 16) wide16 bytes from.0 rest bytes_fit from.1 in
+-- an event with one number behind its acting thread
+number_case : (w : Width) (limit : ℕ) (wide : IsWide w limit) (kind k t : ℕ) (make : ℕ → Event) (bytes : List ℕ) (e : Event) (rest : List ℕ) → kind ≡ k → ((n : ℕ) → event_text (make n) ≡ k ∷ (to_be_bytes w16 t ++ to_be_bytes w n))
+    → ((n : ℕ) → n < limit → EventFits (make n)) → IsBytes bytes → making make (number_at w bytes) ≡ Some (e, rest) → Operands kind t bytes e rest
+number_case w limit wide kind k t make bytes e rest is text fits bytes_fit h =
+    let from = made_from make (number_at w bytes) e rest h in
+    let one = number_takes w limit wide bytes from.0 rest bytes_fit from.1 in
     subst (λ (x : Event). Operands kind t bytes x rest) from.2
-    (record { text = to_be_bytes w16 from.0; takes = one.0; fits = fits from.0 one.1; is = text from.0 ∙ with_kind kind k (pair_text t from.0) is })
+    (record { text = to_be_bytes w from.0; takes = one.0; fits = fits from.0 one.1; is = text from.0 ∙ with_kind kind k (to_be_bytes w16 t ++ to_be_bytes w from.0) is })
 
 access_case : (kind k t : ℕ) (make : Access → Event) (bytes : List ℕ) (e : Event) (rest : List ℕ) → kind ≡ k → ((a : Access) → event_text (make a) ≡ k ∷ access_text a) → ((a : Access) → AccessFits a → EventFits (make a))
     → IsBytes bytes → t < 2 ^ 16 → making make (access_at t bytes) ≡ Some (e, rest) → Operands kind t bytes e rest
@@ -210,22 +219,24 @@ block_case kind k t make bytes e rest is text fits bytes_fit small h =
 operands_takes : (kind t : ℕ) (bytes : List ℕ) (e : Event) (rest : List ℕ) → IsBytes bytes → t < 2 ^ 16 → operands_at kind t bytes ≡ Some (e, rest) → Operands kind t bytes e rest
 unfolding operands_at
 operands_takes kind t bytes e rest fits small h =
-    pair 1 (λ c. Fork t c) _ (λ n. refl) (λ n lt. (small, lt)) (
-    pair 2 (λ c. Join t c) _ (λ n. refl) (λ n lt. (small, lt)) (
-    pair 3 (λ l. Lock t l) _ (λ n. refl) (λ n lt. (small, lt)) (
-    pair 4 (λ l. RdLock t l) _ (λ n. refl) (λ n lt. (small, lt)) (
-    pair 5 (λ l. Unlock t l) _ (λ n. refl) (λ n lt. (small, lt)) (
+    number w16 (2 ^ 16) wide16 1 (λ c. Fork t c) _ (λ n. refl) (λ n lt. (small, lt)) (
+    number w16 (2 ^ 16) wide16 2 (λ c. Join t c) _ (λ n. refl) (λ n lt. (small, lt)) (
+    number w16 (2 ^ 16) wide16 3 (λ l. Lock t l) _ (λ n. refl) (λ n lt. (small, lt)) (
+    number w16 (2 ^ 16) wide16 4 (λ l. RdLock t l) _ (λ n. refl) (λ n lt. (small, lt)) (
+    number w16 (2 ^ 16) wide16 5 (λ l. Unlock t l) _ (λ n. refl) (λ n lt. (small, lt)) (
     access 6 Read _ (λ a. refl) (λ a f. f) (
     access 7 Write _ (λ a. refl) (λ a f. f) (
     block 8 Alloc _ (λ b. refl) (λ b f. f) (
     block 9 Free _ (λ b. refl) (λ b f. f) (
-    λ none. absurd cc))))))))) h
+    number w32 (2 ^ 32) wide32 10 (λ k. Send t k) _ (λ n. refl) (λ n lt. (small, lt)) (
+    number w32 (2 ^ 32) wide32 11 (λ k. Recv t k) _ (λ n. refl) (λ n lt. (small, lt)) (
+    λ none. absurd cc))))))))))) h
   where
-    pair : (k : ℕ) (make : ℕ → Event) (other : Option (Event × List ℕ)) → ((n : ℕ) → event_text (make n) ≡ k ∷ pair_text t n) → ((n : ℕ) → n < 2 ^ 16 → EventFits (make n))
-        → (other ≡ Some (e, rest) → Operands kind t bytes e rest) → cond (nat_eq kind k) (making make (number_at w16 bytes)) other ≡ Some (e, rest) → Operands kind t bytes e rest
-    pair k make other text fit later h =
-        elim (chosen (nat_eq kind k) (making make (number_at w16 bytes)) other (Some (e, rest)) h) [
-          | inl same ↦ pair_case kind k t make bytes e rest (eqb-true kind k same.0) text fit fits same.1
+    number : (w : Width) (limit : ℕ) (wide : IsWide w limit) (k : ℕ) (make : ℕ → Event) (other : Option (Event × List ℕ)) → ((n : ℕ) → event_text (make n) ≡ k ∷ (to_be_bytes w16 t ++ to_be_bytes w n)) → ((n : ℕ) → n < limit → EventFits (make n))
+        → (other ≡ Some (e, rest) → Operands kind t bytes e rest) → cond (nat_eq kind k) (making make (number_at w bytes)) other ≡ Some (e, rest) → Operands kind t bytes e rest
+    number w limit wide k make other text fit later h =
+        elim (chosen (nat_eq kind k) (making make (number_at w bytes)) other (Some (e, rest)) h) [
+          | inl same ↦ number_case w limit wide kind k t make bytes e rest (eqb-true kind k same.0) text fit fits same.1
           | inr differs ↦ later differs.1
         ]
 
@@ -286,8 +297,14 @@ thread_again kind t text rest small =
     ap (λ bytes. number_at w16 bytes >>= λ x. operands_at kind x.0 x.1) (append_assoc (to_be_bytes w16 t) text rest)
     ∙ ap (λ r. r >>= λ x. operands_at kind x.0 x.1) (number_again w16 (2 ^ 16) wide16 t (text ++ rest) small)
 
+made_again : (w : Width) (limit : ℕ) (wide : IsWide w limit) (make : ℕ → Event) (n : ℕ) (rest : List ℕ) → n < limit → making make (number_at w (to_be_bytes w n ++ rest)) ≡ Some (make n, rest)
+made_again w limit wide make n rest lt = ap (λ r. making make r) (number_again w limit wide n rest lt)
+
 pair_again : (make : ℕ → Event) (n : ℕ) (rest : List ℕ) → n < 2 ^ 16 → making make (number_at w16 (to_be_bytes w16 n ++ rest)) ≡ Some (make n, rest)
-pair_again make n rest lt = ap (λ r. making make r) (number_again w16 (2 ^ 16) wide16 n rest lt)
+pair_again = made_again w16 (2 ^ 16) wide16
+
+message_again : (make : ℕ → Event) (n : ℕ) (rest : List ℕ) → n < 2 ^ 32 → making make (number_at w32 (to_be_bytes w32 n ++ rest)) ≡ Some (make n, rest)
+message_again = made_again w32 (2 ^ 32) wide32
 
 pub event_again : (e : Event) (rest : List ℕ) → EventFits e → event_at (event_text e ++ rest) ≡ Some (e, rest)
 unfolding operands_at
@@ -300,6 +317,8 @@ event_again (Read a) rest fits = thread_again 6 a.t (to_be_bytes w64 a.at ++ a.l
 event_again (Write a) rest fits = thread_again 7 a.t (to_be_bytes w64 a.at ++ a.len ∷ []) rest fits.0 ∙ ap (λ r. making Write r) (access_again a rest fits)
 event_again (Alloc b) rest fits = thread_again 8 b.t (to_be_bytes w64 b.at ++ to_be_bytes w16 b.len) rest fits.0 ∙ ap (λ r. making Alloc r) (block_again b rest fits)
 event_again (Free b) rest fits = thread_again 9 b.t (to_be_bytes w64 b.at ++ to_be_bytes w16 b.len) rest fits.0 ∙ ap (λ r. making Free r) (block_again b rest fits)
+event_again (Send t n) rest fits = thread_again 10 t (to_be_bytes w32 n) rest fits.0 ∙ message_again (λ k. Send t k) n rest fits.1
+event_again (Recv t n) rest fits = thread_again 11 t (to_be_bytes w32 n) rest fits.0 ∙ message_again (λ k. Recv t k) n rest fits.1
 
 pub record_again : (n : Named) (rest : List ℕ) → RecordFits n → record_at (record_text n ++ rest) ≡ Some (n, rest)
 unfolding record_at

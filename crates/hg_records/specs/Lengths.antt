@@ -36,4 +36,6 @@ length_by_kind kind =
     if kind == 7 then 22 else
     if kind == 8 then 23 else
     if kind == 9 then 23 else
+    if kind == 10 then 17 else
+    if kind == 11 then 17 else
     0

@@ -1,10 +1,10 @@
 -- Reading a record from left to right: a value and the bytes after it, or nothing.
 use Rattle.std.specs.Prelude.{◌≡◌, ℕ, nat_lt, List, [], ◌∷◌, length, take, drop, Option, Some, None, if◌then◌else◌, ◌==◌}
-use Rattle.std.specs.Int.{Width, w16, w64, byte_len, from_be_bytes}
+use Rattle.std.specs.Int.{Width, w16, w32, w64, byte_len, from_be_bytes}
 use Rattle.hg_model.specs.declared.event.Access.{Access}
 use Rattle.hg_model.specs.declared.event.Block.{Block}
 use Rattle.hg_model.specs.declared.event.Event.{Event}
-use Rattle.hg_model.specs.declared.event.Event.TheVariants.{Fork, Join, Lock, RdLock, Unlock, Read, Write, Alloc, Free}
+use Rattle.hg_model.specs.declared.event.Event.TheVariants.{Fork, Join, Lock, RdLock, Unlock, Read, Write, Alloc, Free, Send, Recv}
 use Rattle.hg_model.specs.declared.event.Named.{Named}
 
 infixl 10 ◌>>=◌
@@ -47,6 +47,8 @@ operands_at kind t bytes =
     if kind == 7 then making Write (access_at t bytes) else
     if kind == 8 then making Alloc (block_at t bytes) else
     if kind == 9 then making Free (block_at t bytes) else
+    if kind == 10 then making (λ k. Send t k) (number_at w32 bytes) else
+    if kind == 11 then making (λ k. Recv t k) (number_at w32 bytes) else
     None
 
 unfoldable pub event_at : List ℕ → Option (Event × List ℕ)

@@ -1,10 +1,10 @@
 -- How an event is spelled in a journal: all numbers high byte first.
 use Rattle.std.specs.Prelude.{◌≡◌, ℕ, ◌<◌, ◌^◌, List, [], ◌∷◌, ◌++◌}
-use Rattle.std.specs.Int.{w16, w64, to_be_bytes}
+use Rattle.std.specs.Int.{w16, w32, w64, to_be_bytes}
 use Rattle.hg_model.specs.declared.event.Access.{Access}
 use Rattle.hg_model.specs.declared.event.Block.{Block}
 use Rattle.hg_model.specs.declared.event.Event.{Event}
-use Rattle.hg_model.specs.declared.event.Event.TheVariants.{Fork, Join, Lock, RdLock, Unlock, Read, Write, Alloc, Free}
+use Rattle.hg_model.specs.declared.event.Event.TheVariants.{Fork, Join, Lock, RdLock, Unlock, Read, Write, Alloc, Free, Send, Recv}
 use Rattle.hg_model.specs.declared.event.Named.{Named}
 
 -- a thread, and another thread or a lock
@@ -17,6 +17,10 @@ access_text a = to_be_bytes w16 a.t ++ (to_be_bytes w64 a.at ++ a.len ∷ [])
 abbrev pub block_text : Block → List ℕ
 block_text b = to_be_bytes w16 b.t ++ (to_be_bytes w64 b.at ++ to_be_bytes w16 b.len)
 
+-- a thread and a message
+abbrev pub message_text : ℕ → ℕ → List ℕ
+message_text t k = to_be_bytes w16 t ++ to_be_bytes w32 k
+
 -- the event's kind, its acting thread and its operands
 abbrev pub event_text : Event → List ℕ
 event_text (Fork p c) = 1 ∷ pair_text p c
@@ -28,6 +32,8 @@ event_text (Read a) = 6 ∷ access_text a
 event_text (Write a) = 7 ∷ access_text a
 event_text (Alloc b) = 8 ∷ block_text b
 event_text (Free b) = 9 ∷ block_text b
+event_text (Send t k) = 10 ∷ message_text t k
+event_text (Recv t k) = 11 ∷ message_text t k
 
 -- The record of an event under its name.
 abbrev pub record_text : Named → List ℕ
@@ -42,6 +48,9 @@ AccessFits a = (a.t < 2 ^ 16) × ((a.at < 2 ^ 64) × (a.len < 2 ^ 8))
 abbrev pub BlockFits : Block → Type 0
 BlockFits b = (b.t < 2 ^ 16) × ((b.at < 2 ^ 64) × (b.len < 2 ^ 16))
 
+abbrev pub MessageFits : ℕ → ℕ → Type 0
+MessageFits t k = (t < 2 ^ 16) × (k < 2 ^ 32)
+
 -- each field is within its width
 abbrev pub EventFits : Event → Type 0
 EventFits (Fork p c) = PairFits p c
@@ -53,6 +62,8 @@ EventFits (Read a) = AccessFits a
 EventFits (Write a) = AccessFits a
 EventFits (Alloc b) = BlockFits b
 EventFits (Free b) = BlockFits b
+EventFits (Send t k) = MessageFits t k
+EventFits (Recv t k) = MessageFits t k
 
 -- The events that have a record: each field is within its width.
 abbrev pub RecordFits : Named → Type 0

@@ -1,9 +1,9 @@
 //! Events as a journal has them.
 
 ghost use Rattle.std.specs.Prelude.{◌≡◌, ◌≤◌, ◌++◌, ◌+◌, ◌∷◌, List, ℕ, Some, length, drop, vec_capacity, IsOk, OnOk, OnErr, IfSome, IfNone};
-ghost use Rattle.std.specs.Int.{w16, w64, to_be_bytes};
+ghost use Rattle.std.specs.Int.{w16, w32, w64, to_be_bytes};
 ghost use Rattle.hg_model.specs.declared.event.Event.{Event as EventOf};
-ghost use Rattle.hg_records.specs.Records.{AccessFits, BeginsWith, BeginsWithEvent, BlockFits, EventFits, PairFits, RecordFits, access_text, block_text, event_text, pair_text, record_text};
+ghost use Rattle.hg_records.specs.Records.{AccessFits, BeginsWith, BeginsWithEvent, BlockFits, EventFits, MessageFits, PairFits, RecordFits, access_text, block_text, event_text, message_text, pair_text, record_text};
 ghost use Rattle.hg_records.specs.Lengths.{HasNoRecord, IsRecordLength, TakesEvent, TakesRecord, length_by_kind};
 ghost use Rattle.hg_records.specs.RecordReading.{Gives, access_at, block_at, byte_at, event_at, number_at, operands_at, record_at};
 
@@ -21,6 +21,17 @@ fn u16_at(bytes: &[u8]) -> Option<(u16, &[u8])>
     }
     let (front, rest) = bytes.split_at(2);
     Some((u16::from_be_bytes([front[0], front[1]]), rest))
+}
+
+fn u32_at(bytes: &[u8]) -> Option<(u32, &[u8])>
+    ensures { Gives (λ x. (x.0, x.1.now)) result (number_at w32 bytes.now) }
+{
+    if bytes.len() < 4 {
+        return None;
+    }
+    let (front, rest) = bytes.split_at(4);
+    let number = u32::from_be_bytes([front[0], front[1], front[2], front[3]]);
+    Some((number, rest))
 }
 
 fn u64_at(bytes: &[u8]) -> Option<(u64, &[u8])>
@@ -105,6 +116,14 @@ fn operands_of(kind: u8, t: u16, bytes: &[u8]) -> Option<(Event, &[u8])>
             let (block, rest) = block_of(t, bytes)?;
             Some((Event::Free(block), rest))
         }
+        10 => {
+            let (k, rest) = u32_at(bytes)?;
+            Some((Event::Send { t, k }, rest))
+        }
+        11 => {
+            let (k, rest) = u32_at(bytes)?;
+            Some((Event::Recv { t, k }, rest))
+        }
         _ => None,
     }
 }
@@ -163,6 +182,8 @@ fn len_of(kind: u8) -> usize
         7 => 22,
         8 => 23,
         9 => 23,
+        10 => 17,
+        11 => 17,
         _ => 0,
     }
 }
@@ -223,6 +244,8 @@ fn events_fit(event: Event)
         Event::Write(access) => accesses_fit(access),
         Event::Alloc(block) => blocks_fit(block),
         Event::Free(block) => blocks_fit(block),
+        Event::Send { t: _t, k: _k } => (),
+        Event::Recv { t: _t, k: _k } => (),
     }
 }
 
@@ -293,6 +316,8 @@ pub fn put_event(event: &Event, out: &mut Vec<u8>) -> Result<(), AllocError>
         Event::Write(access) => put_access(7, *access, out),
         Event::Alloc(block) => put_block(8, *block, out),
         Event::Free(block) => put_block(9, *block, out),
+        Event::Send { t, k } => put_message(10, *t, *k, out),
+        Event::Recv { t, k } => put_message(11, *t, *k, out),
     }
 }
 
@@ -335,4 +360,16 @@ fn put_block(kind: u8, block: Block, out: &mut Vec<u8>) -> Result<(), AllocError
     out.extend_from_slice(&[
         kind, t[0], t[1], at[0], at[1], at[2], at[3], at[4], at[5], at[6], at[7], len[0], len[1],
     ])
+}
+
+fn put_message(kind: u8, t: u16, k: u32, out: &mut Vec<u8>) -> Result<(), AllocError>
+    ensures ok { OnOk result (out.new.items ≡ out.old.items ++ (kind ∷ message_text t k)) }
+    ensures err { OnErr result (out.new.items ≡ out.old.items) }
+    ensures room { length out.old.items + 7 ≤ vec_capacity out.old → IsOk result }
+    ensures capacity { vec_capacity out.old ≤ vec_capacity out.new }
+    ensures fits { MessageFits t k }
+{
+    let t = t.to_be_bytes();
+    let k = k.to_be_bytes();
+    out.extend_from_slice(&[kind, t[0], t[1], k[0], k[1], k[2], k[3]])
 }

@@ -5,7 +5,7 @@ use Rattle.std.proofs.lemmas.Slice.Eq.{bytes_eq-Decides}
 use Rattle.std.specs.List.{AllByRecursion, list_all, find}
 use Rattle.std.specs.Str.{bytes_eq}
 use Rattle.hg_wire.specs.declared.verb.Verb.{Verb}
-use Rattle.hg_wire.specs.declared.verb.Verb.TheVariants.{Fork, Join, Lock, RdLock, Unlock, Read, Write, Alloc, Free}
+use Rattle.hg_wire.specs.declared.verb.Verb.TheVariants.{Fork, Join, Lock, RdLock, Unlock, Read, Write, Alloc, Free, Send, Recv}
 use Rattle.hg_wire.specs.Verbs.{row_of, verbs}
 use Rattle.hg_wire.specs.Lines.{verb_named}
 use Rattle.hg_wire.specs.Bytes.{NoByte}
@@ -62,6 +62,8 @@ each_is_verb Read = is_verb Read refl refl refl refl refl
 each_is_verb Write = is_verb Write refl refl refl refl refl
 each_is_verb Alloc = is_verb Alloc refl refl refl refl refl
 each_is_verb Free = is_verb Free refl refl refl refl refl
+each_is_verb Send = is_verb Send refl refl refl refl refl
+each_is_verb Recv = is_verb Recv refl refl refl refl refl
 
 pub verb_spaceless : (verb : Verb) → NoByte 32 (row_of verb).text
 verb_spaceless verb = no_low_byte 35 32 (row_of verb).text (omega arith) (each_is_verb verb).letters

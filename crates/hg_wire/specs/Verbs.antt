@@ -7,7 +7,7 @@ use Rattle.hg_wire.specs.declared.verb.Verb.{Verb}
 use Rattle.hg_wire.specs.declared.verb.Verb.TheVariants as verb
 use Rattle.hg_wire.specs.declared.verb.VerbKind.{VerbKind}
 use Rattle.hg_wire.specs.declared.verb.VerbKind.TheVariants as kind
-use Rattle.hg_model.specs.declared.event.Event.TheVariants.{Fork, Join, Lock, RdLock, Unlock, Read, Write, Alloc, Free}
+use Rattle.hg_model.specs.declared.event.Event.TheVariants.{Fork, Join, Lock, RdLock, Unlock, Read, Write, Alloc, Free, Send, Recv}
 
 -- A verb: its text, the width of each operand in bits, and the event that the values of the operands make.
 pub record VerbRow : Type 0 where
@@ -25,6 +25,10 @@ access_widths = 16 ∷ 64 ∷ 8 ∷ []
 
 abbrev pub block_widths : List ℕ
 block_widths = 16 ∷ 64 ∷ 16 ∷ []
+
+-- a thread and a message
+abbrev pub message_widths : List ℕ
+message_widths = 16 ∷ 32 ∷ []
 
 abbrev pub of_pair : (ℕ → ℕ → Event) → List ℕ → Event
 of_pair make values = make (slice_index values 0) (slice_index values 1)
@@ -48,10 +52,12 @@ row_of verb.Read = row (codes "read") access_widths (of_access (λ a. Read a))
 row_of verb.Write = row (codes "write") access_widths (of_access (λ a. Write a))
 row_of verb.Alloc = row (codes "alloc") block_widths (of_block (λ b. Alloc b))
 row_of verb.Free = row (codes "free") block_widths (of_block (λ b. Free b))
+row_of verb.Send = row (codes "send") message_widths (of_pair (λ t k. Send t k))
+row_of verb.Recv = row (codes "recv") message_widths (of_pair (λ t k. Recv t k))
 
--- The nine verbs.
+-- The eleven verbs.
 abbrev pub verbs : List Verb
-verbs = verb.Fork ∷ verb.Join ∷ verb.Lock ∷ verb.RdLock ∷ verb.Unlock ∷ verb.Read ∷ verb.Write ∷ verb.Alloc ∷ verb.Free ∷ []
+verbs = verb.Fork ∷ verb.Join ∷ verb.Lock ∷ verb.RdLock ∷ verb.Unlock ∷ verb.Read ∷ verb.Write ∷ verb.Alloc ∷ verb.Free ∷ verb.Send ∷ verb.Recv ∷ []
 
 -- The verb of a kind.
 abbrev pub verb_of : VerbKind → Verb

@@ -10,7 +10,7 @@ ghost use Rattle.hg_wire.specs.Verbs.{row_of};
 
 use crate::line::MOST_LINE_BYTES;
 use crate::number::{is_number, number_of_token};
-use crate::tokens::{byte_of_token, short_of_token, split_token};
+use crate::tokens::{byte_of_token, message_of_token, short_of_token, split_token};
 use crate::verb::Verb;
 
 /// Why a line is bad, and where. Its tokens are counted from 0 on, the verb first, with one space between each two.
@@ -77,19 +77,20 @@ fn count_tokens(line: &[u8]) -> usize
 
 /// Whether a token spells a number of so many bits.
 fn is_operand(token: &[u8], bits: u8) -> bool
-    requires { (bits ≡ 8) ⊎ ((bits ≡ 16) ⊎ (bits ≡ 64)) }
+    requires { (bits ≡ 8) ⊎ ((bits ≡ 16) ⊎ ((bits ≡ 32) ⊎ (bits ≡ 64))) }
     ensures { result ≡ is_some (operand_of bits token.now) }
 {
     match bits {
         8 => byte_of_token(token).is_some(),
         16 => short_of_token(token).is_some(),
+        32 => message_of_token(token).is_some(),
         _ => number_of_token(token).is_some(),
     }
 }
 
 /// The first token that is no operand of its width.
 fn first_misfit<'a>(widths: &[u8], tokens: Option<&'a [u8]>) -> Option<Misfit<'a>>
-    requires { AllByRecursion (λ bits. (bits ≡ 8) ⊎ ((bits ≡ 16) ⊎ (bits ≡ 64))) widths.now }
+    requires { AllByRecursion (λ bits. (bits ≡ 8) ⊎ ((bits ≡ 16) ⊎ ((bits ≡ 32) ⊎ (bits ≡ 64)))) widths.now }
     ensures first { GivesMisfit widths.now (tokens_after tokens.entry) result }
     ensures within { IfSome result (λ found. found.place < length widths.now) }
 {

@@ -18,7 +18,7 @@ use hg_model::event::{Access, Event, Hold};
 pub enum LineFault {
     /// It has more than 256 bytes.
     TooLong,
-    /// Its first token is none of the nine verbs.
+    /// Its first token is none of the eleven verbs.
     Verb,
     /// A token is missing, too many or empty.
     Count,

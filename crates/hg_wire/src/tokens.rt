@@ -3,7 +3,7 @@
 ghost use Rattle.std.specs.Prelude.{◌≡◌, [], ◌∷◌, ℕ, List, ◌<◌, length, false, IfSome, position, ◌==◌};
 ghost use Rattle.hg_wire.specs.Lines.{tokens_of, tokens_after, are_counted, operand_of, operands_of, result_map, of_verb, line_of};
 ghost use Rattle.hg_wire.specs.Taken.{GivesThree, GivesTwo, GivesToken};
-ghost use Rattle.hg_wire.specs.Verbs.{pair_widths, access_widths, block_widths};
+ghost use Rattle.hg_wire.specs.Verbs.{pair_widths, access_widths, block_widths, message_widths};
 
 use crate::line::{LineFault, MOST_LINE_BYTES};
 use crate::number::number_of_token;
@@ -79,6 +79,16 @@ pub(crate) fn byte_of_token(token: &[u8]) -> Option<u8>
     Some(value as u8)
 }
 
+pub(crate) fn message_of_token(token: &[u8]) -> Option<u32>
+    ensures { result ≡ operand_of 32 token.now }
+{
+    let value = number_of_token(token)?;
+    if value > 0xffff_ffff {
+        return None;
+    }
+    Some(value as u32)
+}
+
 /// A thread and a child or a lock.
 fn pair_of_tokens(tokens: Option<&[u8]>) -> Result<(u16, u16), LineFault>
     ensures { result_map (λ p. p.0 ∷ p.1 ∷ []) result ≡ operands_of pair_widths (tokens_after tokens.entry) }
@@ -111,6 +121,16 @@ fn block_of_tokens(tokens: Option<&[u8]>) -> Result<Block, LineFault>
     Ok(Block { t, at, len })
 }
 
+/// A thread and a message.
+fn message_of_tokens(tokens: Option<&[u8]>) -> Result<(u16, u32), LineFault>
+    ensures { result_map (λ p. p.0 ∷ p.1 ∷ []) result ≡ operands_of message_widths (tokens_after tokens.entry) }
+{
+    let (t, k) = two_tokens(tokens).ok_or(LineFault::Count)?;
+    let t = short_of_token(t).ok_or(LineFault::Number)?;
+    let k = message_of_token(k).ok_or(LineFault::Number)?;
+    Ok((t, k))
+}
+
 /// The event of a verb and some tokens.
 fn event_of_tokens(verb: Verb, tokens: Option<&[u8]>) -> Result<Event, LineFault>
     ensures { result ≡ of_verb (Some verb) (tokens_after tokens.entry) }
@@ -125,6 +145,8 @@ fn event_of_tokens(verb: Verb, tokens: Option<&[u8]>) -> Result<Event, LineFault
         Verb::Write => access_of_tokens(tokens).map(Event::Write),
         Verb::Alloc => block_of_tokens(tokens).map(Event::Alloc),
         Verb::Free => block_of_tokens(tokens).map(Event::Free),
+        Verb::Send => message_of_tokens(tokens).map(|(t, k)| Event::Send { t, k }),
+        Verb::Recv => message_of_tokens(tokens).map(|(t, k)| Event::Recv { t, k }),
     }
 }
 

@@ -20,9 +20,11 @@ pub enum Verb {
     Write,
     Alloc,
     Free,
+    Send,
+    Recv,
 }
 
-const VERBS: [Verb; 9] = [
+const VERBS: [Verb; 11] = [
     Verb::Fork,
     Verb::Join,
     Verb::Lock,
@@ -32,6 +34,8 @@ const VERBS: [Verb; 9] = [
     Verb::Write,
     Verb::Alloc,
     Verb::Free,
+    Verb::Send,
+    Verb::Recv,
 ];
 
 impl Verb {
@@ -53,6 +57,8 @@ impl Verb {
             Verb::Write => b"write",
             Verb::Alloc => b"alloc",
             Verb::Free => b"free",
+            Verb::Send => b"send",
+            Verb::Recv => b"recv",
         }
     }
 
@@ -65,6 +71,7 @@ impl Verb {
             Verb::Fork | Verb::Join | Verb::Lock | Verb::RdLock | Verb::Unlock => &[16, 16],
             Verb::Read | Verb::Write => &[16, 64, 8],
             Verb::Alloc | Verb::Free => &[16, 64, 16],
+            Verb::Send | Verb::Recv => &[16, 32],
         }
     }
 
@@ -80,7 +87,7 @@ impl Verb {
 /// A verb by the kind of its operands.
 #[derive(Clone, Copy, Debug, PartialEq, Eq, Drop)]
 pub enum VerbKind {
-    /// `fork`, `join`, `lock`, `rdlock` or `unlock`: a thread and a child or a lock.
+    /// `fork`, `join`, `lock`, `rdlock`, `unlock`, `send` or `recv`: a thread and a child, a lock or a message.
     Pair { verb: Verb },
     /// `read` or `write`: a thread, an address and a length of 8 bits.
     Access { is_write: bool },
@@ -106,6 +113,10 @@ const FIRST_OF_RDLOCK: u32 = 0x6f6c_6472;
 const FIRST_OF_FORK: u32 = 0x6b72_6f66;
 
 const FIRST_OF_JOIN: u32 = 0x6e69_6f6a;
+
+const FIRST_OF_SEND: u32 = 0x646e_6573;
+
+const FIRST_OF_RECV: u32 = 0x7663_6572;
 
 /// The first four bytes as a number, low byte first.
 #[inline(always)]
@@ -216,7 +227,35 @@ fn pair_verb_in_front(bytes: &[u8]) -> Option<(Verb, usize)>
     if first == FIRST_OF_JOIN {
         return Some((Verb::Join, 4));
     }
+    if first == FIRST_OF_SEND {
+        return Some((Verb::Send, 4));
+    }
+    if first == FIRST_OF_RECV {
+        return Some((Verb::Recv, 4));
+    }
     None
+}
+
+/// The value, where it fits 16 bits.
+#[inline(always)]
+fn short_of(value: u64) -> Option<u16>
+    ensures { IfSome result (λ short. short ≡ value) }
+{
+    if value > 0xffff {
+        return None;
+    }
+    Some(value as u16)
+}
+
+/// The value, where it fits 32 bits.
+#[inline(always)]
+fn message_of(value: u64) -> Option<u32>
+    ensures { IfSome result (λ message. message ≡ value) }
+{
+    if value > 0xffff_ffff {
+        return None;
+    }
+    Some(value as u32)
 }
 
 /// The event of a verb that takes two operands, where they fit.
@@ -224,30 +263,34 @@ fn pair_verb_in_front(bytes: &[u8]) -> Option<(Verb, usize)>
 pub fn pair_event(verb: Verb, first: u16, second: u64) -> Option<Event>
     ensures { IfSome result (λ event. Makes verb (first ∷ second ∷ []) event) }
 {
-    if second > 0xffff {
-        return None;
-    }
-    let second = second as u16;
     match verb {
         Verb::Fork => Some(Event::Fork {
             p: first,
-            c: second,
+            c: short_of(second)?,
         }),
         Verb::Join => Some(Event::Join {
             p: first,
-            c: second,
+            c: short_of(second)?,
         }),
         Verb::Lock => Some(Event::Lock {
             t: first,
-            l: second,
+            l: short_of(second)?,
         }),
         Verb::RdLock => Some(Event::RdLock {
             t: first,
-            l: second,
+            l: short_of(second)?,
         }),
         Verb::Unlock => Some(Event::Unlock {
             t: first,
-            l: second,
+            l: short_of(second)?,
+        }),
+        Verb::Send => Some(Event::Send {
+            t: first,
+            k: message_of(second)?,
+        }),
+        Verb::Recv => Some(Event::Recv {
+            t: first,
+            k: message_of(second)?,
         }),
         Verb::Read | Verb::Write | Verb::Alloc | Verb::Free => None,
     }
