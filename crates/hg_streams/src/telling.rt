@@ -39,6 +39,9 @@ fn fault_line(refusal: Refusal) -> &'static [u8]
         Refusal::FullSlots => b"fault 20\n",
         Refusal::DeviceFault => b"fault 21\n",
         Refusal::OutOfMemory => b"fault 22\n",
+        Refusal::MessageUsed => b"fault 23\n",
+        Refusal::NotSent => b"fault 24\n",
+        Refusal::MessageTaken => b"fault 25\n",
     }
 }
 
