@@ -39,6 +39,8 @@ VERBS = {
     b"write": (0xFFFF, (1 << 64) - 1, 0xFF),
     b"alloc": (0xFFFF, (1 << 64) - 1, 0xFFFF),
     b"free": (0xFFFF, (1 << 64) - 1, 0xFFFF),
+    b"send": (0xFFFF, 0xFFFFFFFF),
+    b"recv": (0xFFFF, 0xFFFFFFFF),
 }
 
 
@@ -106,6 +108,9 @@ class Trace:
     joined: set = field(default_factory=set)
     # for each thread that was used its greatest segment
     segment_of: dict = field(default_factory=lambda: {0: 0})
+    # for each message that was sent the segment that its send ended, and the messages that were received
+    sent_in: dict = field(default_factory=dict)
+    received: set = field(default_factory=set)
     # for each thread and lock the last of lock, rdlock and unlock
     last_of: dict = field(default_factory=dict)
     # the accesses of each word since its last alloc or free, and the lists that such an event ended
@@ -156,6 +161,14 @@ class Trace:
             return 15 if len(self.held(thread)) == MOST_HELD else None
         if verb == "unlock":
             return None if second in self.held(thread) else 14
+        if verb in ("send", "recv"):
+            if verb == "send" and second in self.sent_in:
+                return 23
+            if verb == "recv" and second not in self.sent_in:
+                return 24
+            if verb == "recv" and second in self.received:
+                return 25
+            return 16 if len(self.segments) + 1 > MOST_SEGMENTS else None
         return None
 
     def accept(self, line, event):
@@ -171,6 +184,12 @@ class Trace:
         elif verb == "join":
             self.joined.add(second)
             self.open_segment(thread, [self.segment_of[thread], self.segment_of[second]])
+        elif verb == "send":
+            self.sent_in[second] = self.segment_of[thread]
+            self.open_segment(thread, [self.segment_of[thread]])
+        elif verb == "recv":
+            self.received.add(second)
+            self.open_segment(thread, [self.segment_of[thread], self.sent_in[second]])
         elif verb in ("lock", "rdlock", "unlock"):
             self.last_of.setdefault(thread, {})[second] = verb
         else:
@@ -194,17 +213,24 @@ class Trace:
 
 
 def reaching(segments):
-    """Returns for each segment the set of segments from which a path leads to it."""
+    """Returns for each segment the set of segments from which a path leads to it, as a number whose bit s stands for segment s."""
     from_which = []
     for number, (_, before) in enumerate(segments):
-        from_which.append({number}.union(*(from_which[it] for it in before)))
+        those = 1 << number
+        for it in before:
+            those |= from_which[it]
+        from_which.append(those)
     return from_which
+
+
+def reaches(from_which, segment, other):
+    return from_which[other] >> segment & 1 == 1
 
 
 def sharing_point(history, from_which):
     """Returns the least place k > 0 whose access is not ordered after the one before it, or None."""
     for k in range(1, len(history)):
-        if history[k - 1].segment not in from_which[history[k].segment]:
+        if not reaches(from_which, history[k - 1].segment, history[k].segment):
             return k
     return None
 

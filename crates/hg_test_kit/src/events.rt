@@ -97,6 +97,8 @@ fn parts_of(event: Event) -> (&'static str, u16, u64, Option<u64>) {
         Event::Write(Access { t, at, len }) => ("write", t, at, Some(u64::from(len))),
         Event::Alloc(Block { t, at, len }) => ("alloc", t, at, Some(u64::from(len))),
         Event::Free(Block { t, at, len }) => ("free", t, at, Some(u64::from(len))),
+        Event::Send { t, k } => ("send", t, u64::from(k), None),
+        Event::Recv { t, k } => ("recv", t, u64::from(k), None),
     }
 }
 

