@@ -109,6 +109,14 @@ impl Trace {
         }
     }
 
+    fn send(&mut self, thread: u64, message: u64) -> Step {
+        self.two("send", thread, message)
+    }
+
+    fn receive(&mut self, thread: u64, message: u64) -> Step {
+        self.two("recv", thread, message)
+    }
+
     /// Thread 0 forks the threads from 1 up to `threads` - 1.
     fn fork_up_to(&mut self, threads: u64) -> Step {
         (1..threads).try_for_each(|child| self.fork(0, child))
@@ -373,6 +381,43 @@ fn few(trace: &mut Trace, random: &mut Random) -> Step {
     }
 }
 
+/// 4 threads make blocks of 64 bytes, and put them into a queue under one lock; 4 others take them out, read and free them. Each
+/// block is handed over by a message: two segments a block, so 9 million events have as many as there may be.
+fn queue(trace: &mut Trace, random: &mut Random) -> Step {
+    const LOCK: u64 = 1;
+    const BLOCKS: u64 = 524_000;
+    const MOST_QUEUED: u64 = 64;
+    let block = |item: u64| HEAP + item % 4096 * 64;
+    let entry = |item: u64| TABLES + item % MOST_QUEUED * 8;
+    trace.fork_up_to(8)?;
+    let (mut put, mut taken) = (0, 0);
+    while taken < BLOCKS {
+        let may_put = put < BLOCKS && put - taken < MOST_QUEUED;
+        if put == taken || may_put && random.once_in(2) {
+            let thread = random.below(4);
+            trace.three("alloc", thread, block(put), 64)?;
+            (0..4).try_for_each(|part| trace.write(thread, block(put) + 16 * part, 8))?;
+            trace.lock(thread, LOCK)?;
+            trace.write(thread, entry(put), 8)?;
+            trace.send(thread, put)?;
+            trace.unlock(thread, LOCK)?;
+            put += 1;
+        } else {
+            let thread = 4 + random.below(4);
+            trace.lock(thread, LOCK)?;
+            trace.read(thread, entry(taken), 8)?;
+            trace.receive(thread, taken)?;
+            trace.unlock(thread, LOCK)?;
+            (0..4).try_for_each(|part| trace.read(thread, block(taken) + 16 * part, 8))?;
+            trace.three("free", thread, block(taken), 64)?;
+            taken += 1;
+        }
+    }
+    loop {
+        trace.read(0, STACKS + random.below(64) * 4, 4)?;
+    }
+}
+
 struct Wanted {
     shape: String,
     events: u64,
@@ -430,6 +475,7 @@ fn write_trace(wanted: &Wanted) -> Result<(), String> {
         "heap" => heap(&mut trace, &mut random),
         "copies" => copies(&mut trace, &mut random),
         "few" => few(&mut trace, &mut random),
+        "queue" => queue(&mut trace, &mut random),
         other => return Err(format!("no shape is called {other:?}")),
     };
     match stop {

@@ -6,9 +6,11 @@
  *     return hgd_trace_close() ? 1 : 0;
  *
  * Threads are numbers from 0 (the one that is there at the beginning) to 1023, and never used twice; locks are numbers from 0 to
- * 65535. Each call writes its lines whole, from whichever thread it is called. Their order is the order of the calls, and has to be one
- * that could have happened: call hgd_lock after the lock was taken and hgd_unlock before it is let go, hgd_fork before the thread
- * runs, hgd_join after it has ended, hgd_alloc after the memory was given and hgd_free before it is given back.
+ * 65535; messages are numbers from 0 to 4294967295, each sent once, and received once at most. Each call writes its lines whole,
+ * from whichever thread it is called. Their order is the order of the calls, and has to be one that could have happened: call hgd_lock
+ * after the lock was taken and hgd_unlock before it is let go, hgd_fork before the thread runs, hgd_join after it has ended, hgd_send
+ * before any thread can see what it tells of and hgd_recv after the receiver has seen it, hgd_alloc after the memory was given and
+ * hgd_free before it is given back.
  *
  * One file of a program includes this, since each that does has a trace of its own. It needs C99 or C++, and stdio.
  */
@@ -71,6 +73,12 @@ static inline void hgd_join(unsigned thread, unsigned child) { hgd_pair_("join",
 static inline void hgd_lock(unsigned thread, unsigned lock) { hgd_pair_("lock", thread, lock); }
 static inline void hgd_rdlock(unsigned thread, unsigned lock) { hgd_pair_("rdlock", thread, lock); }
 static inline void hgd_unlock(unsigned thread, unsigned lock) { hgd_pair_("unlock", thread, lock); }
+
+/* A thread sends a message, or receives it: what the sender did before the send comes before what the receiver does from the receive
+ * on. Whatever hands memory over is one: an item that is put into a queue and taken out, a post and a wait of a semaphore. Send no
+ * message that nobody will receive: the detector keeps it. */
+static inline void hgd_send(unsigned thread, uint32_t message) { hgd_pair_("send", thread, message); }
+static inline void hgd_recv(unsigned thread, uint32_t message) { hgd_pair_("recv", thread, message); }
 
 /* A thread reads or writes memory. A length of 0 is nothing. */
 static inline void hgd_read(unsigned thread, uint64_t address, uint64_t length)

@@ -1,7 +1,10 @@
 //! The detector: threads, segments, locks and shadow memory.
 //!
 //! Segments are ordered by vector clocks: of each thread, the greatest of its segments that reaches
-//! the present one. Two forks or joins of one thread are ordered, so that is enough.
+//! the present one. The segments of one thread are ordered, so that is enough.
+
+use std::collections::HashMap;
+use std::hash::{BuildHasherDefault, Hasher};
 
 use crate::event::{Events, Refusal};
 use crate::sets::{Full, Sets};
@@ -10,6 +13,7 @@ use crate::shadow::{Cell, Shadow, State, WORDS_OF_PAGE};
 const THREADS: usize = 1024;
 const LOCKS: usize = 65_536;
 const MOST_HELD: usize = 64;
+const MOST_SEGMENTS: usize = 1 << 20;
 const MOST_KEPT: usize = 65_536;
 const LONGEST_ACCESS: u64 = 64;
 const LONGEST_BLOCK: u64 = 1024;
@@ -28,6 +32,36 @@ struct Thread {
     writing: Vec<u16>,
 }
 
+/// A message that was sent.
+enum Message {
+    /// With the segment that its send ended, and the clock of the sender there.
+    Pending {
+        segment: u32,
+        clock: Box<[u32]>,
+    },
+    Received,
+}
+
+/// Spreads the number of a message over 64 bits.
+#[derive(Default)]
+struct Spread(u64);
+
+impl Hasher for Spread {
+    fn write(&mut self, bytes: &[u8]) {
+        for byte in bytes {
+            self.write_u32(*byte as u32);
+        }
+    }
+
+    fn write_u32(&mut self, number: u32) {
+        self.0 = (self.0 ^ number as u64).wrapping_mul(0x9E37_79B9_7F4A_7C15);
+    }
+
+    fn finish(&self) -> u64 {
+        self.0 ^ self.0 >> 32
+    }
+}
+
 pub struct Report {
     pub event: u64,
     pub word: u64,
@@ -39,6 +73,9 @@ pub struct Report {
 pub struct Detector {
     pub events: u64,
     threads: Box<[Thread; THREADS]>,
+    /// One more than the greatest thread that was forked: no clock has an entry from there on.
+    numbers: usize,
+    messages: HashMap<u32, Message, BuildHasherDefault<Spread>>,
     /// Of each segment its thread and its predecessors.
     pub thread_of: Vec<u16>,
     pub before: Vec<[u32; 2]>,
@@ -70,6 +107,8 @@ impl Detector {
         Detector {
             events: 0,
             threads,
+            numbers: 1,
+            messages: HashMap::default(),
             thread_of: vec![0],
             before: vec![[NONE, NONE]],
             writer: vec![0; LOCKS],
@@ -92,6 +131,20 @@ impl Detector {
             Ok(thread)
         } else {
             Err(Refusal::NoThread)
+        }
+    }
+
+    fn room_for(&self, segments: usize) -> Result<(), Refusal> {
+        if self.thread_of.len() + segments > MOST_SEGMENTS {
+            return Err(Refusal::FullSegments);
+        }
+        Ok(())
+    }
+
+    /// The thread has behind it what this clock has.
+    fn take_over(&mut self, thread: u16, clock: &[u32]) {
+        for (own, other) in self.threads[thread as usize].clock.iter_mut().zip(clock) {
+            *own = (*own).max(*other);
         }
     }
 
@@ -223,11 +276,12 @@ impl Events for Detector {
         }
         let Thread { segment, clock, .. } = self.living(parent)?;
         let (segment, clock) = (*segment, clock.clone());
-        let forked = &mut self.threads[child as usize];
-        if forked.is_used {
+        if self.threads[child as usize].is_used {
             return Err(Refusal::ChildUsed);
         }
-        *forked = Thread {
+        self.room_for(2)?;
+        self.numbers = self.numbers.max(child as usize + 1);
+        self.threads[child as usize] = Thread {
             is_used: true,
             is_alive: true,
             clock,
@@ -247,18 +301,18 @@ impl Events for Detector {
         if parent == child {
             return Err(Refusal::SelfJoin);
         }
-        let joined = &mut self.threads[child as usize];
+        let joined = &self.threads[child as usize];
         if !joined.is_alive {
             return Err(Refusal::ChildNotAlive);
         }
         if !joined.held.is_empty() {
             return Err(Refusal::ChildHoldsLocks);
         }
+        self.room_for(1)?;
+        let joined = &mut self.threads[child as usize];
         joined.is_alive = false;
         let (last, clock) = (joined.segment, std::mem::take(&mut joined.clock));
-        for (own, other) in self.threads[parent as usize].clock.iter_mut().zip(&clock) {
-            *own = (*own).max(*other);
-        }
+        self.take_over(parent, &clock);
         self.open_segment(parent, [segment.min(last), segment.max(last)]);
         self.events += 1;
         Ok(())
@@ -367,6 +421,42 @@ impl Events for Detector {
             }
             word = split + 1;
         }
+        Ok(())
+    }
+
+    #[inline(never)]
+    fn send(&mut self, thread: u16, message: u32) -> Result<(), Refusal> {
+        let segment = self.living(thread)?.segment;
+        if self.messages.contains_key(&message) {
+            return Err(Refusal::MessageUsed);
+        }
+        self.room_for(1)?;
+        let clock = self.threads[thread as usize].clock[..self.numbers].into();
+        self.messages
+            .insert(message, Message::Pending { segment, clock });
+        self.open_segment(thread, [segment, NONE]);
+        self.events += 1;
+        Ok(())
+    }
+
+    #[inline(never)]
+    fn receive(&mut self, thread: u16, message: u32) -> Result<(), Refusal> {
+        let segment = self.living(thread)?.segment;
+        match self.messages.get(&message) {
+            None => return Err(Refusal::NotSent),
+            Some(Message::Received) => return Err(Refusal::MessageTaken),
+            Some(Message::Pending { .. }) => self.room_for(1)?,
+        }
+        let taken = self.messages.insert(message, Message::Received);
+        if let Some(Message::Pending {
+            segment: sent,
+            clock,
+        }) = taken
+        {
+            self.take_over(thread, &clock);
+            self.open_segment(thread, [segment.min(sent), segment.max(sent)]);
+        }
+        self.events += 1;
         Ok(())
     }
 }

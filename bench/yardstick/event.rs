@@ -16,7 +16,11 @@ pub enum Refusal {
     LockBusy = 13,
     NotHeld = 14,
     FullHeld = 15,
+    FullSegments = 16,
     FullSets = 19,
+    MessageUsed = 23,
+    NotSent = 24,
+    MessageTaken = 25,
 }
 
 /// What takes the events of a trace.
@@ -34,6 +38,8 @@ pub trait Events {
     ) -> Result<(), Refusal>;
     /// An alloc or a free.
     fn renew(&mut self, thread: u16, at: u64, length: u64) -> Result<(), Refusal>;
+    fn send(&mut self, thread: u16, message: u32) -> Result<(), Refusal>;
+    fn receive(&mut self, thread: u16, message: u32) -> Result<(), Refusal>;
 }
 
 /// What came of a line.
@@ -142,6 +148,14 @@ unsafe fn two(at: *const u8) -> Option<(u16, u16, *const u8)> {
 }
 
 #[inline(always)]
+unsafe fn message(at: *const u8) -> Option<(u16, u32, *const u8)> {
+    let (thread, at) = number_and_space(at)?;
+    let (number, end) = number(at)?;
+    let message = u32::try_from(number).ok()?;
+    Some((thread, message, line_end(end)?))
+}
+
+#[inline(always)]
 unsafe fn three(at: *const u8, greatest_length: u64) -> Option<(u16, u64, u64, *const u8)> {
     let (thread, at) = number_and_space(at)?;
     let (address, end) = number(at)?;
@@ -214,6 +228,10 @@ pub unsafe fn read_line<E: Events>(events: &mut E, at: *const u8) -> Step {
         hand_over!(two(at.add(5)), |p, c| events.fork(p, c))
     } else if begins_with!(b"join ") {
         hand_over!(two(at.add(5)), |p, c| events.join(p, c))
+    } else if begins_with!(b"send ") {
+        hand_over!(message(at.add(5)), |t, k| events.send(t, k))
+    } else if begins_with!(b"recv ") {
+        hand_over!(message(at.add(5)), |t, k| events.receive(t, k))
     } else {
         skip_line(at)
     }

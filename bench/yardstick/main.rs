@@ -116,6 +116,14 @@ impl Events for Sums {
     fn renew(&mut self, thread: u16, at: u64, length: u64) -> Result<(), Refusal> {
         self.add(thread as u64, at, length)
     }
+    #[inline(always)]
+    fn send(&mut self, thread: u16, message: u32) -> Result<(), Refusal> {
+        self.add(thread as u64, message as u64, 6)
+    }
+    #[inline(always)]
+    fn receive(&mut self, thread: u16, message: u32) -> Result<(), Refusal> {
+        self.add(thread as u64, message as u64, 7)
+    }
 }
 
 fn failed_stream() -> ExitCode {
