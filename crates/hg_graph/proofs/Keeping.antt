@@ -68,15 +68,13 @@ kept_after all segments x old new before stays comes goes =
     received : (k : ℕ) → was_received (segments ++ x ∷ []) k ≡ true → kept_of new k ≡ None
     received k taken = by (is_got k x.mark) (is_sent k x.mark) refl refl
       where
+        was : is_got k x.mark ≡ false → was_received segments k ≡ true
+        was not_got = ⊎_elim (λ earlier. earlier) (λ here. absurd (false≢true (sym not_got ∙ here))) (in_one (was_received segments k) (is_got k x.mark) (sym (received_is k) ∙ taken))
+
         by : (b d : Bool) → is_got k x.mark ≡ b → is_sent k x.mark ≡ d → kept_of new k ≡ None
         by true d got _ = (goes k got).1
-        by false d not_got is =
-            let was : was_received segments k ≡ true = ⊎_elim (λ earlier. earlier) (λ here. absurd (false≢true (sym not_got ∙ here))) (in_one (was_received segments k) (is_got k x.mark) (sym (received_is k) ∙ taken)) in
-            of_old d is was
-          where
-            of_old : (d : Bool) → is_sent k x.mark ≡ d → was_received segments k ≡ true → kept_of new k ≡ None
-            of_old true here was = absurd (false≢true (sym (comes k here).0 ∙ before.sent_first k was))
-            of_old false not_here was = stays k not_here not_got ∙ before.received k was
+        by false true not_got here = absurd (false≢true (sym (comes k here).0 ∙ before.sent_first k (was not_got)))
+        by false false not_got not_here = stays k not_here not_got ∙ before.received k (was not_got)
 
     sent_first : (k : ℕ) → was_received (segments ++ x ∷ []) k ≡ true → was_sent (segments ++ x ∷ []) k ≡ true
     sent_first k taken =

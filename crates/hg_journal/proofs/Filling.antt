@@ -3,7 +3,7 @@ use Rattle.std.proofs.Common.{◌≡◌, ◌≤◌, ◌<◌, ◌+◌, ◌*◌, �
 use Rattle.std.proofs.lemmas.List.{append-nil, drop_all, drop_more}
 use Rattle.std.specs.List.{AllByRecursion}
 use Rattle.hg_model.specs.declared.event.Event.{Event}
-use Rattle.hg_model.specs.declared.event.Event.TheVariants.{Fork, Join, Lock, RdLock, Unlock, Read, Write, Alloc, Free}
+use Rattle.hg_model.specs.declared.event.Event.TheVariants.{Fork, Join, Lock, RdLock, Unlock, Read, Write, Alloc, Free, Send, Recv}
 use Rattle.hg_model.specs.declared.event.Named.{Named}
 use Rattle.hg_records.specs.Records.{RecordFits, event_text, record_text}
 use Rattle.hg_gate.specs.Batches.{IsBody}
@@ -19,6 +19,8 @@ event_len (Read a) = omega arith
 event_len (Write a) = omega arith
 event_len (Alloc b) = omega arith
 event_len (Free b) = omega arith
+event_len (Send t k) = omega arith
+event_len (Recv t k) = omega arith
 
 -- a record has at most 23 bytes
 pub record_len : (n : Named) → length (record_text n) ≤ 23

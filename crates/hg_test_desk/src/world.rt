@@ -19,8 +19,8 @@ use hg_protocol::put::put_reply;
 use hg_protocol::reply::{Reply, ReplyFeed};
 use hg_store::devices::{Caps, Devices};
 use hg_store::store::Store;
-use hg_test_kit::digits::bytes_of;
-use hg_test_kit::text::Text;
+use hg_test_kit::digits::put_spelled;
+use hg_test_kit::text::{Text, roomy};
 use hg_test_kit::tokens::front;
 use std::alloc::{AllocError, Global};
 use std::marker::Brand;
@@ -31,6 +31,9 @@ const ROOM_OF_CALLS: usize = 4096;
 
 const ROOM_OF_BYTES: usize = 1 << 20;
 
+/// How many bytes of a piece, and of what it is answered, there is room for beforehand.
+const ROOM_OF_BYTES_SENT: usize = 4_096;
+
 /// A store, what its one thread was told, and a conversation.
 pub struct World<A: Opening, B: Column> {
     pub core: Core<MemDisk, A, B>,
@@ -39,6 +42,8 @@ pub struct World<A: Opening, B: Column> {
     pub frames: Feed<Frame>,
     pub replies: ReplyFeed,
     pub answered: Vec<u8>,
+    /// What a client or a server sent last.
+    sent: Vec<u8>,
 }
 
 impl<A: Opening, B: Column> Drop for World<A, B> {
@@ -50,6 +55,7 @@ impl<A: Opening, B: Column> Drop for World<A, B> {
             frames: _,
             replies: _,
             answered: _,
+            sent: _,
         } = self;
     }
 }
@@ -76,13 +82,19 @@ impl<A: Opening, B: Column> World<A, B> {
         }
     }
 
+    /// Has the bytes that these digits spell as what was sent. Tells whether they are there.
+    fn takes(&mut self, digits: &str) -> bool {
+        self.sent.clear();
+        put_spelled(digits, &mut self.sent).is_some()
+    }
+
     /// Takes a piece of what a client sends.
     fn take_piece(&mut self, alloc: Global, digits: &str, out: &mut Text) {
-        let Some(bytes) = bytes_of(alloc, digits) else {
+        if !self.takes(digits) {
             out.put(b"no bytes");
             return;
-        };
-        match self.frames.push(&bytes) {
+        }
+        match self.frames.push(&self.sent) {
             Ok(fed) => self.answer_all(alloc, &fed, out),
             Err(FeedRefusal::Failed) => out.put(b"failed"),
             Err(FeedRefusal::OutOfMemory) => out.put(b"no memory"),
@@ -90,12 +102,12 @@ impl<A: Opening, B: Column> World<A, B> {
     }
 
     /// Takes a piece of what a server answers.
-    fn take_reply(&mut self, alloc: Global, digits: &str, out: &mut Text) {
-        let Some(bytes) = bytes_of(alloc, digits) else {
+    fn take_reply(&mut self, digits: &str, out: &mut Text) {
+        if !self.takes(digits) {
             out.put(b"no bytes");
             return;
-        };
-        match self.replies.push(&bytes) {
+        }
+        match self.replies.push(&self.sent) {
             Ok(fed) => put_replies(&fed, out),
             Err(FeedRefusal::Failed) => out.put(b"failed"),
             Err(FeedRefusal::OutOfMemory) => out.put(b"no memory"),
@@ -122,7 +134,7 @@ impl<A: Opening, B: Column> World<A, B> {
                 out.put(b"client");
             }
             "piece" => self.take_piece(alloc, rest, out),
-            "reply" => self.take_reply(alloc, rest, out),
+            "reply" => self.take_reply(rest, out),
             "told" => self.put_told(out),
             "load" => load(alloc, self, rest, out),
             _ => out.put(b"not understood"),
@@ -183,7 +195,8 @@ fn world_over<A: Opening, B: Column>(
         desk: Desk::new(),
         frames: Feed::new(alloc),
         replies: Feed::new(alloc),
-        answered: Vec::new(alloc),
+        answered: roomy(alloc, ROOM_OF_BYTES_SENT),
+        sent: roomy(alloc, ROOM_OF_BYTES_SENT),
     }
 }
 

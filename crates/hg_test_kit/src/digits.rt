@@ -42,6 +42,12 @@ pub fn byte_of(digits: &str) -> Option<u8> {
 /// The bytes that pairs of digits spell. `None` says that the text is no such pairs, or that memory was refused.
 pub fn bytes_of(alloc: Global, text: &str) -> Option<Vec<u8>> {
     let mut bytes = Vec::new(alloc);
+    put_spelled(text, &mut bytes)?;
+    Some(bytes)
+}
+
+/// Appends the bytes that pairs of digits spell. `None` says that the text is no such pairs, or that memory was refused.
+pub fn put_spelled(text: &str, bytes: &mut Vec<u8>) -> Option<()> {
     let mut high = 16u8;
     for digit in text.as_bytes() {
         let low = worth(*digit);
@@ -58,5 +64,5 @@ pub fn bytes_of(alloc: Global, text: &str) -> Option<Vec<u8>> {
     if high < 16 {
         return None;
     }
-    Some(bytes)
+    Some(())
 }

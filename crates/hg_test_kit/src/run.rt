@@ -5,6 +5,9 @@ use crate::text::Text;
 use crate::tokens::Halt;
 use std::alloc::Global;
 
+/// How many bytes an answer has room for beforehand: it is given also where all memory is refused.
+const ROOM_OF_ANSWER: usize = 4_096;
+
 /// What the lines of a scenario act on.
 pub trait World {
     /// Does what a line asks for, and answers it. Where it tells nothing, the answer is `ok`.
@@ -106,7 +109,7 @@ pub fn run_scenarios(alloc: Global, world: &mut impl World, text: &str, out: &mu
         failed: 0,
         name: "",
         has_failed: false,
-        answer: Text::new(alloc),
+        answer: Text::with_room(alloc, ROOM_OF_ANSWER),
     };
     let mut number = 0_u64;
     for line in text.lines() {

@@ -5,6 +5,14 @@ use itoa::Buffer;
 use std::alloc::Global;
 use std::io::{ErrorKind, Result, Write};
 
+/// A list with room for so many items where there is memory for it: what fits into it takes none later.
+pub fn roomy<T: Copy>(alloc: Global, most: usize) -> Vec<T> {
+    match Vec::with_capacity(alloc, most) {
+        Ok(list) => list,
+        Err(_) => Vec::new(alloc),
+    }
+}
+
 /// A text that is written piece by piece. Where memory is refused for one, that is noted, and nobody need ask before the end.
 #[derive(Drop)]
 pub struct Text {
@@ -17,6 +25,14 @@ impl Text {
     pub fn new(alloc: Global) -> Text {
         Text {
             bytes: Vec::new(alloc),
+            is_whole: true,
+        }
+    }
+
+    /// No text, with room for so many bytes where there is memory for it.
+    pub fn with_room(alloc: Global, most: usize) -> Text {
+        Text {
+            bytes: roomy(alloc, most),
             is_whole: true,
         }
     }

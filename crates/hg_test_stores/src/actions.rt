@@ -9,7 +9,6 @@ use hg_test_kit::answers::put_refusal;
 use hg_test_kit::events::put_events;
 use hg_test_kit::text::Text;
 use hg_test_kit::tokens::{Halt, Tokens};
-use std::alloc::Global;
 
 /// A step of a store. `Put` hands in the page of the job that was taken last.
 #[derive(Clone, Copy)]
@@ -105,9 +104,9 @@ fn action_of(token: &str) -> Result<Action, Halt> {
     }
 }
 
-fn put_offers(alloc: Global, text: &str, actions: &mut Vec<Action>) -> Result<(), Halt> {
-    let mut events = Vec::new(alloc);
-    put_events(text, &mut events)?;
+fn put_offers(text: &str, events: &mut Vec<Named>, actions: &mut Vec<Action>) -> Result<(), Halt> {
+    events.clear();
+    put_events(text, events)?;
     for event in events.iter() {
         actions.push(Action::Offer(*event))?;
     }
@@ -122,15 +121,15 @@ fn load_of(text: &str) -> Result<Action, Halt> {
     Ok(Action::Load(page))
 }
 
-/// Appends the actions that a line names: a row of offers, or one step.
+/// Appends the actions that a line names: a row of offers, whose events are put into `events`, or one step.
 pub fn put_actions(
-    alloc: Global,
     token: &str,
     rest: &str,
+    events: &mut Vec<Named>,
     actions: &mut Vec<Action>,
 ) -> Result<(), Halt> {
     match token {
-        "offer" => put_offers(alloc, rest, actions),
+        "offer" => put_offers(rest, events, actions),
         "load" => Ok(actions.push(load_of(rest)?)?),
         _ => Ok(actions.push(action_of(token)?)?),
     }

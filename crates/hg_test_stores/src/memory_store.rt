@@ -19,9 +19,15 @@ use hg_store::store::Store;
 use hg_test_kit::device::PerDevice;
 use hg_test_kit::disks::Disks;
 use hg_test_kit::shelf::{Fuse, Image, TestDisk};
-use hg_test_kit::text::Text;
+use hg_test_kit::text::{Text, roomy};
 use hg_test_kit::tokens::Halt;
-use std::alloc::{AllocError, Global};
+use std::alloc::Global;
+
+/// How many actions there is room for beforehand, so that noting them takes no memory.
+const ROOM_OF_ACTIONS: usize = 1_024;
+
+/// For how many bytes of what one action is answered.
+const ROOM_OF_WORDS: usize = 256;
 
 /// A store over disks in memory.
 pub type OpenStore = Store<TestDisk>;
@@ -152,33 +158,33 @@ fn put_times(times: u64, answer: &Text, out: &mut Text) {
     out.put(answer.bytes());
 }
 
-/// Appends the answers of a run. Equal ones in a row become their number and one of them.
-fn put_answers(alloc: Global, answers: &[StepAnswer<TestDisk>], out: &mut Text) {
-    let mut last = Text::new(alloc);
-    let mut next = Text::new(alloc);
+/// Appends the answers of a run. Equal ones in a row become their number and one of them. `last` and `next` have no text yet.
+fn put_answers(answers: &[StepAnswer<TestDisk>], last: &mut Text, next: &mut Text, out: &mut Text) {
     let mut times = 0_u64;
     for answer in answers {
         next.clear();
-        put_told(told_of(&answer.result), &mut next);
+        put_told(told_of(&answer.result), next);
         if next.bytes() == last.bytes() {
             times = times.wrapping_add(1);
         } else {
-            put_times(times, &last, out);
+            put_times(times, last, out);
             last.clear();
             last.put(next.bytes());
             times = 1;
         }
     }
-    put_times(times, &last, out);
+    put_times(times, last, out);
 }
 
-/// Has a store make all steps at once.
+/// Has a store make all steps at once. What it answers has its room beforehand.
 fn drive(alloc: Global, store: &mut OpenStore, steps: &[Step], out: &mut Text) -> Result<(), Halt> {
     let [done @ .., last] = steps else {
         return Err(Halt::Misspelt);
     };
+    let mut former = Text::with_room(alloc, ROOM_OF_WORDS);
+    let mut next = Text::with_room(alloc, ROOM_OF_WORDS);
     let answers = store.drive(alloc, done, last)?;
-    put_answers(alloc, &answers, out);
+    put_answers(&answers, &mut former, &mut next, out);
     Ok(())
 }
 
@@ -190,7 +196,7 @@ impl MemoryStore {
             opened: None,
             left: None,
             page: None,
-            made: Vec::new(alloc),
+            made: roomy(alloc, ROOM_OF_ACTIONS),
         }
     }
 
@@ -212,6 +218,14 @@ impl MemoryStore {
         match &self.opened {
             Some(store) => Ok(store),
             None => Err(Halt::Closed),
+        }
+    }
+
+    /// Takes back the page that a step handed in.
+    fn take_back(&mut self, step: Step) {
+        match step {
+            Step::Put(page) => self.put_page(Some(page)),
+            _ => {}
         }
     }
 
@@ -268,14 +282,12 @@ impl Machine for MemoryStore {
         if self.made.push(action).is_err() {
             return Told::NoMemory;
         }
-        match step_of(self.alloc, action, &self.page) {
-            Ok(Some(step)) => {
-                let answer = store.step(self.alloc, &step);
-                self.keep(answer)
-            }
-            Ok(None) => Told::NoPage,
-            Err(AllocError) => Told::NoMemory,
-        }
+        let Some(step) = step_of(action, &mut self.page) else {
+            return Told::NoPage;
+        };
+        let answer = store.step(self.alloc, &step);
+        self.take_back(step);
+        self.keep(answer)
     }
 
     fn drive(&mut self, actions: &[Action], out: &mut Text) -> Result<(), Halt> {

@@ -47,6 +47,23 @@ pub fn told_of(answer: &StepResult) -> Told {
     }
 }
 
+/// An action but `Put` as a step: none of `Load` with a number that no page has.
+fn plain_step(action: Action) -> Option<Step> {
+    match action {
+        Action::Offer(named) => Some(Step::Offer(named)),
+        Action::Commit => Some(Step::Commit),
+        Action::Freeze => Some(Step::Freeze),
+        Action::Take => Some(Step::TakeJob),
+        Action::Put => None,
+        Action::Seal => Some(Step::SealPages),
+        Action::Prepare => Some(Step::PrepareRoot),
+        Action::WriteRoot => Some(Step::WriteRoot),
+        Action::OpenRoot => Some(Step::OpenRoot),
+        Action::Evict => Some(Step::Evict),
+        Action::Load(page) => PageNumber::new(page).map(Step::Load),
+    }
+}
+
 /// A step that hands in a copy of a page, if there is one.
 fn put_step(alloc: Global, page: &Option<EncodedPage>) -> Result<Option<Step>, AllocError> {
     match page {
@@ -58,24 +75,24 @@ fn put_step(alloc: Global, page: &Option<EncodedPage>) -> Result<Option<Step>, A
     }
 }
 
-/// An action as a step. `Put` gives none where there is no page, and `Load` none of a number that no page has.
-pub fn step_of(
+/// An action as a step, which takes no memory. `Put` takes the page, and gives none where there is no page; `Load` gives none of a number
+/// that no page has.
+pub fn step_of(action: Action, page: &mut Option<EncodedPage>) -> Option<Step> {
+    match action {
+        Action::Put => page.take().map(Step::Put),
+        _ => plain_step(action),
+    }
+}
+
+/// An action as one of several steps. `Put` gets a copy of the page.
+fn copied_step(
     alloc: Global,
     action: Action,
     page: &Option<EncodedPage>,
 ) -> Result<Option<Step>, AllocError> {
     match action {
-        Action::Offer(named) => Ok(Some(Step::Offer(named))),
-        Action::Commit => Ok(Some(Step::Commit)),
-        Action::Freeze => Ok(Some(Step::Freeze)),
-        Action::Take => Ok(Some(Step::TakeJob)),
         Action::Put => put_step(alloc, page),
-        Action::Seal => Ok(Some(Step::SealPages)),
-        Action::Prepare => Ok(Some(Step::PrepareRoot)),
-        Action::WriteRoot => Ok(Some(Step::WriteRoot)),
-        Action::OpenRoot => Ok(Some(Step::OpenRoot)),
-        Action::Evict => Ok(Some(Step::Evict)),
-        Action::Load(page) => Ok(PageNumber::new(page).map(Step::Load)),
+        _ => Ok(plain_step(action)),
     }
 }
 
@@ -88,7 +105,7 @@ pub fn steps_of(
 ) -> Result<Vec<Step>, Halt> {
     let mut steps = Vec::new(alloc);
     for action in actions {
-        match step_of(alloc, *action, page)? {
+        match copied_step(alloc, *action, page)? {
             Some(step) => steps.push(step)?,
             None => {
                 put_told(Told::NoPage, out);

@@ -8,14 +8,21 @@ use crate::running::{Origin, Progress, Rerun, Run, stop_run};
 use crate::stops::put_stops;
 use hg_detect::detector::Answer;
 use hg_disk::Tear;
+use hg_model::event::Named;
 use hg_store::devices::Caps;
 use hg_test_kit::device::{DEVICES, Device, read_device};
 use hg_test_kit::run::World;
 use hg_test_kit::shelf::{Image, NO_FUSES, Shelf};
 use hg_test_kit::tears::{tear, tears_of};
-use hg_test_kit::text::Text;
+use hg_test_kit::text::{Text, roomy};
 use hg_test_kit::tokens::{Halt, Tokens, front};
 use std::alloc::{AllocError, Global};
+
+/// For how many bytes of what a store tells there is room beforehand, so that telling it takes no memory of the trial's.
+const ROOM_OF_PICTURE: usize = 65_536;
+
+/// For how many actions of a line.
+const ROOM_OF_ROW: usize = 256;
 
 /// What there is in a scenario.
 #[derive(Drop)]
@@ -31,6 +38,9 @@ pub struct StoreWorld<M> {
     picture: Text,
     /// What is to be done at once.
     noted: Vec<Action>,
+    /// What a line asks for, and the events that it names.
+    asked: Vec<Action>,
+    events: Vec<Named>,
 }
 
 /// `N events`
@@ -64,26 +74,6 @@ fn make_all(machine: &mut impl Machine, actions: &[Action], out: &mut Text) {
         }
     }
     out.put(b"accepted");
-}
-
-/// Offers a row of events, or makes a step.
-fn make(
-    alloc: Global,
-    machine: &mut impl Machine,
-    token: &str,
-    rest: &str,
-    out: &mut Text,
-) -> Result<(), Halt> {
-    let mut actions = Vec::new(alloc);
-    put_actions(alloc, token, rest, &mut actions)?;
-    make_all(machine, &actions, out);
-    Ok(())
-}
-
-/// Notes what a line says, to be done at once.
-fn note(alloc: Global, text: &str, noted: &mut Vec<Action>) -> Result<(), Halt> {
-    let (token, rest) = front(text);
-    put_actions(alloc, token, rest, noted)
 }
 
 /// Has a text have all that a store tells: how far it is, and what it tells of its events.
@@ -136,9 +126,11 @@ impl<M: Machine> StoreWorld<M> {
                 base: 0,
             },
             rerun: Rerun::new(alloc, other),
-            remembered: Text::new(alloc),
-            picture: Text::new(alloc),
-            noted: Vec::new(alloc),
+            remembered: Text::with_room(alloc, ROOM_OF_PICTURE),
+            picture: Text::with_room(alloc, ROOM_OF_PICTURE),
+            noted: roomy(alloc, ROOM_OF_ROW),
+            asked: roomy(alloc, ROOM_OF_ROW),
+            events: roomy(alloc, ROOM_OF_ROW),
         }
     }
 
@@ -242,6 +234,20 @@ impl<M: Machine> StoreWorld<M> {
         }
     }
 
+    /// Offers a row of events, or makes a step.
+    fn make(&mut self, token: &str, rest: &str, out: &mut Text) -> Result<(), Halt> {
+        self.asked.clear();
+        put_actions(token, rest, &mut self.events, &mut self.asked)?;
+        make_all(&mut self.machine, &self.asked, out);
+        Ok(())
+    }
+
+    /// Notes what a line says, to be done at once.
+    fn note(&mut self, text: &str) -> Result<(), Halt> {
+        let (token, rest) = front(text);
+        put_actions(token, rest, &mut self.events, &mut self.noted)
+    }
+
     /// Does all that was noted at once, and nothing is noted any more.
     fn drive(&mut self, out: &mut Text) -> Result<(), Halt> {
         let driven = self.machine.drive(&self.noted, out);
@@ -255,11 +261,11 @@ impl<M: Machine> StoreWorld<M> {
             "expect" => self.tell(rest, out),
             "read" => self.machine.put_durable(rest, out),
             "remember" => draw(&self.machine, &mut self.remembered),
-            "then" => note(self.alloc, rest, &mut self.noted),
+            "then" => self.note(rest),
             "run" => self.drive(out),
             "pages" => put_pages(&mut self.machine, out),
             "checkpoint" => put_checkpoint(&mut self.machine, out),
-            _ => make(self.alloc, &mut self.machine, token, rest, out),
+            _ => self.make(token, rest, out),
         }
     }
 }

@@ -49,6 +49,9 @@ const BAD_COMMAND_LINE: u8 = 4;
 const WORDS: &str =
     "hg_test_trials: the first word is store, log, conversations, flusher, roots, pool or pool-checks; behind pool-checks stand memory, or pool FRAMES EVERY\n";
 
+/// How many bytes of what is printed there is room for beforehand: they are printed also where all memory is refused.
+const ROOM_OF_TEXT: usize = 65_536;
+
 /// What one word names.
 fn trial_named(word: &str) -> Option<Trial> {
     match word {
@@ -127,7 +130,7 @@ fn perform<R: Threads + Wait + Clock + Sync>(
     if !matches!(trial, Trial::Version) {
         rt.stdin().read_to_end(&mut input)?;
     }
-    let mut out = Text::new(alloc);
+    let mut out = Text::with_room(alloc, ROOM_OF_TEXT);
     let status = answer_bytes(threads, rt, trial, &input, &mut out);
     out.print(&mut rt.stdout())?;
     Ok(status)

@@ -70,6 +70,15 @@ device_fault = sym (ap (λ t. codes "fault " ++ t ++ 10 ∷ []) (decimal-digits_
 out_of_memory : codes "fault 22\n" ≡ fault_text 22
 out_of_memory = sym (ap (λ t. codes "fault " ++ t ++ 10 ∷ []) (decimal-digits_of 22 (omega arith) (omega arith)))
 
+message_used : codes "fault 23\n" ≡ fault_text 23
+message_used = sym (ap (λ t. codes "fault " ++ t ++ 10 ∷ []) (decimal-digits_of 23 (omega arith) (omega arith)))
+
+not_sent : codes "fault 24\n" ≡ fault_text 24
+not_sent = sym (ap (λ t. codes "fault " ++ t ++ 10 ∷ []) (decimal-digits_of 24 (omega arith) (omega arith)))
+
+message_taken : codes "fault 25\n" ≡ fault_text 25
+message_taken = sym (ap (λ t. codes "fault " ++ t ++ 10 ∷ []) (decimal-digits_of 25 (omega arith) (omega arith)))
+
 pub returns-in-Gap : goal.returns-in-Gap
 returns-in-Gap c = subst (λ r. codes "fault 1\n" ≡ fault_text (code_of r)) (sym c.in-Gap.is) gap
 
@@ -135,3 +144,12 @@ returns-in-DeviceFault c = subst (λ r. codes "fault 21\n" ≡ fault_text (code_
 
 pub returns-in-OutOfMemory : goal.returns-in-OutOfMemory
 returns-in-OutOfMemory c = subst (λ r. codes "fault 22\n" ≡ fault_text (code_of r)) (sym c.in-OutOfMemory.is) out_of_memory
+
+pub returns-in-MessageUsed : goal.returns-in-MessageUsed
+returns-in-MessageUsed c = subst (λ r. codes "fault 23\n" ≡ fault_text (code_of r)) (sym c.in-MessageUsed.is) message_used
+
+pub returns-in-NotSent : goal.returns-in-NotSent
+returns-in-NotSent c = subst (λ r. codes "fault 24\n" ≡ fault_text (code_of r)) (sym c.in-NotSent.is) not_sent
+
+pub returns-in-MessageTaken : goal.returns-in-MessageTaken
+returns-in-MessageTaken c = subst (λ r. codes "fault 25\n" ≡ fault_text (code_of r)) (sym c.in-MessageTaken.is) message_taken

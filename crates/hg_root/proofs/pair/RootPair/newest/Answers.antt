@@ -4,7 +4,7 @@ use Rattle.hg_root.specs.Finding.{number_in, root_in}
 use Rattle.hg_root.specs.Pairs.{Stands}
 use Rattle.hg_root.specs.declared.fault.RootFault.TheVariants.{Damaged}
 use Rattle.hg_root.proofs.Choosing.{durable_in, file_is, first_read, if_ok, in_err, no_newest, none_newest, not_read, not_so, of_first, on_err, only_roots, second_read, stands_still, swapped, to_first}
-use Rattle.hg_root.proofs.Refusing.{ok_is_no_err, passed_on}
+use Rattle.hg_root.proofs.Refusing.{newer_failed, ok_is_no_err, passed_on}
 use Rattle.hg_root.proofs.pair.RootPair.newest.Goals as goal
 
 pub returns-in_err-older-clause-damaged : goal.returns-in_err-older-clause-damaged
@@ -84,3 +84,8 @@ pub returns-clause-stays : goal.returns-clause-stays
 returns-clause-stays g c root former stands =
     let still = stands_still g.D.Disk c.args.self.now c.root_of.new.file c.root_of-2.new.file c.root_of.ensures.rests c.root_of-2.ensures.rests root former stands in
     on_err c.choose.result (λ same. subst (λ p. Stands g.D.Disk p root former) (sym same) still) c.choose.ensures.same
+
+pub returns-in_err-newer-clause-device : goal.returns-in_err-newer-clause-device
+returns-in_err-newer-clause-device g c =
+    newer_failed g.D.Disk.failures c.args.self.now.is_turned c.from_residual-in_err-newer.result c.in_err-newer.field-0.0 c.args.self.now.older.disk c.root_of.new.file.disk c.args.self.now.newer.disk c.root_of-2.new.file.disk
+    c.from_residual-in_err-newer.ensures.1 c.in_ok-older.ensures.device c.in_err-newer.ensures.device
