@@ -10,7 +10,7 @@ use Rattle.hg_streams.specs.Shown.{Outgoing}
 use Rattle.hg_wire.specs.declared.reader.Reading.{Reading}
 use Rattle.hg_wire.specs.Streams.{GivesNoReading, GivesReading, LinesRead, between_lines, ended_from, readings_from}
 use Rattle.hg_reading.specs.declared.queued.Queued.{Queued}
-use Rattle.hg_reading.specs.declared.queued.Queued.TheVariants.{Passed, Fork, Join, Hold, Access as QueuedAccess, Alloc, Free}
+use Rattle.hg_reading.specs.declared.queued.Queued.TheVariants.{Passed, Fork, Join, Hold, Access as QueuedAccess, Alloc, Free, Send, Recv}
 use Rattle.hg_reading.specs.declared.part.Next.{Next}
 use Rattle.hg_reading.specs.declared.part.Next.TheVariants.{Bad, End}
 use Rattle.hg_reading.specs.declared.part.Next.TheVariants as next
@@ -43,6 +43,8 @@ reading_queued n (Hold kind t l) = one n (hold_event (record { t = t; l = l; kin
 reading_queued n (QueuedAccess len is_write t at) = one_access n is_write (record { t = t; at = at; len = len })
 reading_queued n (Alloc t len at) = one n (events.Alloc (record { t = t; at = at; len = len }))
 reading_queued n (Free t len at) = one n (events.Free (record { t = t; at = at; len = len }))
+reading_queued n (Send t k) = one n (events.Send t k)
+reading_queued n (Recv t k) = one n (events.Recv t k)
 
 -- how many lines all queued items stand for
 abbrev pub lines_queued : List Queued → ℕ

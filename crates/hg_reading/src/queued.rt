@@ -47,6 +47,14 @@ pub enum Queued {
         len: u16,
         at: u64,
     },
+    Send {
+        t: u16,
+        k: u32,
+    },
+    Recv {
+        t: u16,
+        k: u32,
+    },
 }
 
 impl Queued {
@@ -102,6 +110,8 @@ impl Queued {
             Event::Write(access) => Queued::of_access(true, access),
             Event::Alloc(Block { t, at, len }) => Queued::Alloc { t, len, at },
             Event::Free(Block { t, at, len }) => Queued::Free { t, len, at },
+            Event::Send { t, k } => Queued::Send { t, k },
+            Event::Recv { t, k } => Queued::Recv { t, k },
         }
     }
 
@@ -203,6 +213,8 @@ fn offer<W, S: Sink<W>>(
             sink,
             output,
         ),
+        Queued::Send { t, k } => offer_event(lines, Event::Send { t, k }, sink, output),
+        Queued::Recv { t, k } => offer_event(lines, Event::Recv { t, k }, sink, output),
     }
 }
 
