@@ -5,7 +5,7 @@ use Rattle.std.proofs.lemmas.List.{length-append, take_all}
 use Rattle.std.specs.List.{list_any}
 use Rattle.std.specs.Fmt.{decimal}
 use Rattle.hg_model.specs.declared.event.Event.{Event}
-use Rattle.hg_model.specs.declared.event.Event.TheVariants.{Fork, Join, Lock, RdLock, Unlock, Read, Write, Alloc, Free}
+use Rattle.hg_model.specs.declared.event.Event.TheVariants.{Fork, Join, Lock, RdLock, Unlock, Read, Write, Alloc, Free, Send, Recv}
 use Rattle.hg_model.specs.declared.report.Report.{Report}
 use Rattle.hg_model.specs.Reporting.{all_reports, is_reported, report, reports_at_last, words_of}
 use Rattle.hg_model.proofs.AllReported.{none_missed}
@@ -62,6 +62,8 @@ none_at w k m past (RdLock t l) h = nothing k w m
 none_at w k m past (Unlock t l) h = nothing k w m
 none_at w k m past (Alloc b) h = nothing k w m
 none_at w k m past (Free b) h = nothing k w m
+none_at w k m past (Send t n) h = nothing k w m
+none_at w k m past (Recv t n) h = nothing k w m
 
 pub races_told : (w : ℕ) (past : List Event) (e : Event) → is_reported (e ∷ past) w ≡ true → length (all_reports (e ∷ past)) ≤ 65536 → (k : ℕ) × (race_in w past e ≡ codes " ; race " ++ decimal k)
 races_told w past e h few =

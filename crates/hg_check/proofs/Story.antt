@@ -6,7 +6,7 @@ use Rattle.std.specs.List.{list_any}
 use Rattle.std.specs.Fmt.{decimal}
 use Rattle.hg_streams.specs.Texts.{line_text}
 use Rattle.hg_model.specs.declared.event.Event.{Event}
-use Rattle.hg_model.specs.declared.event.Event.TheVariants.{Fork, Join, Lock, RdLock, Unlock, Read, Write, Alloc, Free}
+use Rattle.hg_model.specs.declared.event.Event.TheVariants.{Fork, Join, Lock, RdLock, Unlock, Read, Write, Alloc, Free, Send, Recv}
 use Rattle.hg_model.specs.declared.event.Named.{Named}
 use Rattle.hg_model.specs.declared.segment.Segment.{Segment}
 use Rattle.hg_model.specs.declared.verdict.Verdict.{Verdict}
@@ -77,6 +77,8 @@ told_same w form k line past number (Join p c) ok = refl
 told_same w form k line past number (Lock t l) ok = refl
 told_same w form k line past number (RdLock t l) ok = refl
 told_same w form k line past number (Unlock t l) ok = refl
+told_same w form k line past number (Send t m) ok = refl
+told_same w form k line past number (Recv t m) ok = refl
 told_same w form k line past number (Read a) ok =
     let n : Named = record { source = 0; number = number; event = Read a } in
     told_by_line w form k line past n (line_by w form line past n (access_same (events_of past) false a.t (passes past n ok).actor_used) (ap (λ segments. present segments a.t) (append-nil (segments_of (events_of past)))))

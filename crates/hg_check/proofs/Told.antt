@@ -5,7 +5,7 @@ use Rattle.std.proofs.lemmas.List.{append-nil}
 use Rattle.hg_model.specs.declared.event.Event.{Event}
 use Rattle.hg_model.specs.declared.event.Access.{Access}
 use Rattle.hg_model.specs.History.{overlaps}
-use Rattle.hg_model.specs.declared.event.Event.TheVariants.{Fork, Join, Lock, RdLock, Unlock, Read, Write, Alloc, Free}
+use Rattle.hg_model.specs.declared.event.Event.TheVariants.{Fork, Join, Lock, RdLock, Unlock, Read, Write, Alloc, Free, Send, Recv}
 use Rattle.hg_model.specs.declared.event.Named.{Named}
 use Rattle.hg_model.specs.declared.verdict.Verdict.{Verdict}
 use Rattle.hg_model.specs.declared.verdict.Verdict.TheVariants.{Accept, Duplicate, Refuse}
@@ -41,6 +41,8 @@ accesses_few (Read a) = omega arith
 accesses_few (Write a) = omega arith
 accesses_few (Alloc b) = omega arith
 accesses_few (Free b) = omega arith
+accesses_few (Send t m) = omega arith
+accesses_few (Recv t m) = omega arith
 
 shown_few : (b : Bool) (text : List ℕ) (k m : ℕ) → m ≤ 1 → (cond {A = List ℕ × ℕ} b (text, 0) ([], k + m)).1 ≤ k + 1
 shown_few true text k m few = omega arith
@@ -97,6 +99,8 @@ unmoved c (Read a) w apart = ap (λ b. cond b (touched c.segments a.t (present c
 unmoved c (Write a) w apart = ap (λ b. cond b (touched c.segments a.t (present c.segments a.t) true (locks_of c.threads a.t true) (c.words w)) (c.words w)) apart
 unmoved c (Alloc b) w apart = ap (λ x. cond x New (c.words w)) apart
 unmoved c (Free b) w apart = ap (λ x. cond x New (c.words w)) apart
+unmoved c (Send t m) w apart = refl
+unmoved c (Recv t m) w apart = refl
 
 pub looks_same : (w : ℕ) (c d : Content) (e : Event) → d ≡ after c (next_named c e) → concerns w e ≡ false → look_of (c.words w) ≡ look_of (d.words w)
 looks_same w c d e content apart = ap look_of (sym (ap (λ (x : Content). x.words w) content ∙ unmoved c e w apart))
@@ -129,6 +133,8 @@ low_actor source (Read a) low = small a.t (neither (is_bad_source source) (is_ba
 low_actor source (Write a) low = small a.t (neither (is_bad_source source) (is_bad_thread a.t) low)
 low_actor source (Alloc b) low = small b.t (neither (is_bad_source source) (is_bad_thread b.t) low)
 low_actor source (Free b) low = small b.t (neither (is_bad_source source) (is_bad_thread b.t) low)
+low_actor source (Send t m) low = omega arith
+low_actor source (Recv t m) low = omega arith
 
 pub actor_is_low : (s : Standing) (n : Named) → verdict s n ≡ Accept → actor_of n.event < 1024
 actor_is_low s n accepts = low_actor n.source n.event (no_cause s n accepts).0

@@ -31,6 +31,11 @@ fn put_pair(verb: &str, t: u16, other: u16, text: &mut String) -> Result<(), All
     write!(text, "{verb} {t} {other}\n")
 }
 
+/// Appends a line of a verb, a thread and a message.
+fn put_message(verb: &str, t: u16, k: u32, text: &mut String) -> Result<(), AllocError> {
+    write!(text, "{verb} {t} {k}\n")
+}
+
 /// Appends a line of a verb, a thread, and where memory begins and how long it is.
 fn put_range(verb: &str, t: u16, at: u64, len: u16, text: &mut String) -> Result<(), AllocError> {
     write!(text, "{verb} {t} {at} {len}\n")
@@ -48,6 +53,8 @@ fn put_event(event: Event, text: &mut String) -> Result<(), AllocError> {
         Event::Write(Access { t, at, len }) => put_range("write", t, at, u16::from(len), text),
         Event::Alloc(Block { t, at, len }) => put_range("alloc", t, at, len, text),
         Event::Free(Block { t, at, len }) => put_range("free", t, at, len, text),
+        Event::Send { t, k } => put_message("send", t, k, text),
+        Event::Recv { t, k } => put_message("recv", t, k, text),
     }
 }
 

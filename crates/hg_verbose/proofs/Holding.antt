@@ -3,7 +3,7 @@ use Rattle.std.proofs.Common.{◌≡◌, inl, inr, ℕ, ◌+◌, true, false, no
 use Rattle.std.specs.List.{AllByRecursion, filter}
 use Rattle.std.proofs.lemmas.Bool.{cases_Bool, cond-true, cond-false, eq-eqb, and_from, true≢false}
 use Rattle.hg_model.specs.declared.event.Event.{Event}
-use Rattle.hg_model.specs.declared.event.Event.TheVariants.{Fork, Join, Lock, RdLock, Unlock, Read, Write, Alloc, Free}
+use Rattle.hg_model.specs.declared.event.Event.TheVariants.{Fork, Join, Lock, RdLock, Unlock, Read, Write, Alloc, Free, Send, Recv}
 use Rattle.hg_verbose.specs.declared.holds.Hold.{Hold}
 use Rattle.hg_verbose.specs.Holds.{BeginsHold, IsHeld, LetsGo}
 
@@ -48,3 +48,5 @@ lets_nothing_go (Read a) other h goes = goes
 lets_nothing_go (Write a) other h goes = goes
 lets_nothing_go (Alloc b) other h goes = goes
 lets_nothing_go (Free b) other h goes = goes
+lets_nothing_go (Send t k) other h goes = goes
+lets_nothing_go (Recv t k) other h goes = goes

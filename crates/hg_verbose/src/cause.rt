@@ -24,6 +24,16 @@ fn parties(event: Event) -> (u16, u16) {
         Event::Write(a) => (a.t, 0),
         Event::Alloc(b) => (b.t, 0),
         Event::Free(b) => (b.t, 0),
+        Event::Send { t, k: _ } => (t, 0),
+        Event::Recv { t, k: _ } => (t, 0),
+    }
+}
+
+/// The message of an event that names one.
+fn message_of(event: Event) -> u32 {
+    match event {
+        Event::Send { t: _, k } | Event::Recv { t: _, k } => k,
+        _ => 0,
     }
 }
 
@@ -177,6 +187,32 @@ fn put_of_threads(
     }
 }
 
+/// Appends what was done with a message before, and by which event where that is known.
+fn put_done(message: u32, done: &str, event: u64, text: &mut String) -> Result<(), AllocError> {
+    put_number("message ", u64::from(message), done, text)?;
+    if event == 0 {
+        return text.push_str(" before");
+    }
+    put_number(" by event ", event, "", text)
+}
+
+/// Appends that a message was sent before.
+fn put_sent(past: &Past, message: u32, text: &mut String) -> Result<(), AllocError> {
+    put_done(message, " was sent", past.sent(message), text)?;
+    text.push_str(", and no message is sent twice")
+}
+
+/// Appends that a message was not sent.
+fn put_not_sent(message: u32, text: &mut String) -> Result<(), AllocError> {
+    put_number("message ", u64::from(message), " was not sent", text)
+}
+
+/// Appends that a message was received before.
+fn put_taken(past: &Past, message: u32, text: &mut String) -> Result<(), AllocError> {
+    put_done(message, " was received", past.received(message), text)?;
+    text.push_str(", and no message is received twice")
+}
+
 /// Appends that an access passes the end of the addresses.
 fn put_past_the_end(event: Event, text: &mut String) -> Result<(), AllocError> {
     let (address, length) = place(event);
@@ -224,6 +260,9 @@ pub fn put_cause(
         16 => put_full_graph(past, text),
         17 => put_full_trace(text),
         19 => put_full_table(text),
+        23 => put_sent(past, message_of(event), text),
+        24 => put_not_sent(message_of(event), text),
+        25 => put_taken(past, message_of(event), text),
         _ => put_of_threads(past, event, code, text),
     }
 }

@@ -4,14 +4,18 @@ use crate::holds::Holds;
 use hg_model::event::Event;
 use hg_model::limits::THREAD_NUMBERS;
 use std::alloc::{AllocError, Global};
+use std::collections::HashMap;
 
-/// What some accepted events left: which locks are held since when, and when each thread was forked and joined.
+/// What some accepted events left: which locks are held since when, when each thread was forked and joined, and when each
+/// message was sent and received.
 #[derive(Drop)]
 pub struct Past {
     segments: u64,
     holds: Holds,
     forked: Vec<u64>,
     joined: Vec<u64>,
+    sent: HashMap<u32, u64>,
+    received: HashMap<u32, u64>,
 }
 
 /// Writes the number of an event at a thread's place.
@@ -29,6 +33,23 @@ fn at(places: &[u64], thread: u16) -> u64 {
     }
 }
 
+/// Writes the number of an event at a message, unless memory is refused.
+fn note_message(events: &mut HashMap<u32, u64>, message: u32, event: u64) -> bool {
+    if events.reserve(1).is_err() {
+        return false;
+    }
+    let _ = events.insert(message, event);
+    true
+}
+
+/// The number at a message, 0 where there is none.
+fn at_message(events: &HashMap<u32, u64>, message: u32) -> u64 {
+    match events.get(&message) {
+        Some(event) => *event,
+        None => 0,
+    }
+}
+
 impl Past {
     /// The past before any event.
     pub fn new(alloc: Global) -> Result<Past, AllocError> {
@@ -37,12 +58,16 @@ impl Past {
             holds: Holds::new(alloc),
             forked: vec![in alloc; 0; THREAD_NUMBERS]?,
             joined: vec![in alloc; 0; THREAD_NUMBERS]?,
+            sent: HashMap::new(alloc),
+            received: HashMap::new(alloc),
         })
     }
 
     /// Takes the next accepted event, and answers whether there was room for it.
     pub fn follow(&mut self, event: Event) -> bool {
-        let is_followed = self.holds.follow(event);
+        if !self.holds.follow(event) {
+            return false;
+        }
         let number = self.holds.events();
         match event {
             Event::Fork { p: _, c } => {
@@ -53,9 +78,17 @@ impl Past {
                 self.segments = self.segments.saturating_add(1);
                 note(&mut self.joined, c, number);
             }
+            Event::Send { t: _, k } => {
+                self.segments = self.segments.saturating_add(1);
+                return note_message(&mut self.sent, k, number);
+            }
+            Event::Recv { t: _, k } => {
+                self.segments = self.segments.saturating_add(1);
+                return note_message(&mut self.received, k, number);
+            }
             _ => {}
         }
-        is_followed
+        true
     }
 
     /// The locks that are held.
@@ -76,5 +109,15 @@ impl Past {
     /// The event that joined a thread, 0 where none did.
     pub fn joined(&self, thread: u16) -> u64 {
         at(self.joined.as_slice(), thread)
+    }
+
+    /// The event that sent a message, 0 where none did.
+    pub fn sent(&self, message: u32) -> u64 {
+        at_message(&self.sent, message)
+    }
+
+    /// The event that received a message, 0 where none did.
+    pub fn received(&self, message: u32) -> u64 {
+        at_message(&self.received, message)
     }
 }

@@ -12,6 +12,7 @@ fn greatest(bits: u8) -> u64 {
     match bits {
         8 => 0xff,
         16 => 0xffff,
+        32 => 0xffff_ffff,
         _ => u64::MAX,
     }
 }
@@ -28,6 +29,8 @@ fn name(verb: Verb) -> &'static str {
         Verb::Write => "write",
         Verb::Alloc => "alloc",
         Verb::Free => "free",
+        Verb::Send => "send",
+        Verb::Recv => "recv",
     }
 }
 
