@@ -29,7 +29,7 @@ by_rules s n = first (nat_le n.number (s.last n.source)) (nat_lt (s.last n.sourc
     first : (a b : Bool) → more_by (if a then Duplicate (s.last n.source) else if b then Refuse (refusal.Gap (s.last n.source + 1)) else first_cause (causes s n)) ≡ 0
     first true b = refl
     first false true = refl
-    first false false = none (causes s n) (refl, (refl, (refl, (refl, (refl, (refl, (refl, (refl, (refl, (refl, (refl, (refl, (refl, (refl, tt))))))))))))))
+    first false false = none (causes s n) (refl, (refl, (refl, (refl, (refl, (refl, (refl, (refl, (refl, (refl, (refl, (refl, (refl, (refl, (refl, (refl, (refl, tt)))))))))))))))))
 
 counted : (r : Refusal) (n : ℕ) → more r ≡ 0 → after_refusal r n ≡ n
 counted (refusal.Gap k) n is = refl

@@ -13,7 +13,7 @@ use Rattle.hg_store.proofs.replay.follow.Goals as goal
 
 -- before an event that is accepted there are fewer than 2^58
 few_events : (s : Standing) (n : Named) → verdict s n ≡ Accept → s.events < 2 ^ 58
-few_events s n accepts = leb-false (2 ^ 58) s.events (no_cause s n accepts).1.1.1.1.1.1.1.1.1.1.1.1.1.0
+few_events s n accepts = leb-false (2 ^ 58) s.events (no_cause s n accepts).1.1.1.1.1.1.1.1.1.1.1.1.1.1.1.1.0
 
 always : {T E P : Type 0} (result : Result T E) → P → OnOk result P
 always (Ok value) holds = holds
