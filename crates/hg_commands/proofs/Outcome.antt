@@ -34,7 +34,7 @@ first_is_not (c ∷ later) none h = either c.0 c.1 (first_cause later) none.0 (f
 
 no_cause : (s : Standing) (n : Named) → NoneIsOfSlots (causes s n)
 no_cause s n =
-    ((λ h. absurd (cc)), ((λ h. absurd (cc)), ((λ h. absurd (cc)), ((λ h. absurd (cc)), ((λ h. absurd (cc)), ((λ h. absurd (cc)), ((λ h. absurd (cc)), ((λ h. absurd (cc)), ((λ h. absurd (cc)), ((λ h. absurd (cc)), ((λ h. absurd (cc)), ((λ h. absurd (cc)), ((λ h. absurd (cc)), ((λ h. absurd (cc)), tt))))))))))))))
+    ((λ h. absurd (cc)), ((λ h. absurd (cc)), ((λ h. absurd (cc)), ((λ h. absurd (cc)), ((λ h. absurd (cc)), ((λ h. absurd (cc)), ((λ h. absurd (cc)), ((λ h. absurd (cc)), ((λ h. absurd (cc)), ((λ h. absurd (cc)), ((λ h. absurd (cc)), ((λ h. absurd (cc)), ((λ h. absurd (cc)), ((λ h. absurd (cc)), ((λ h. absurd (cc)), ((λ h. absurd (cc)), ((λ h. absurd (cc)), tt)))))))))))))))))
 
 known_is_not : (b : Bool) (k : ℕ) (v : Verdict) → (v ≡ Refuse FullSlots → ⊥) → cond b (Duplicate k) v ≡ Refuse FullSlots → ⊥
 known_is_not true k v never h = absurd (cc)

@@ -30,7 +30,7 @@ by_rules s n = first (nat_le n.number (s.last n.source)) (nat_lt (s.last n.sourc
     first : (a b : Bool) → blames_store (if a then Duplicate (s.last n.source) else if b then Refuse (refusal.Gap (s.last n.source + 1)) else first_cause (causes s n)) ≡ false
     first true b = refl
     first false true = refl
-    first false false = none (causes s n) (refl, (refl, (refl, (refl, (refl, (refl, (refl, (refl, (refl, (refl, (refl, (refl, (refl, (refl, tt))))))))))))))
+    first false false = none (causes s n) (refl, (refl, (refl, (refl, (refl, (refl, (refl, (refl, (refl, (refl, (refl, (refl, (refl, (refl, (refl, (refl, (refl, tt)))))))))))))))))
 
 pub rules_find_no_damage : (s : Standing) (n : Named) → verdict s n ≡ Refuse refusal.Damaged → ⊥
 rules_find_no_damage s n is = true≢false (sym (ap (λ (v : Verdict). blames_store v) is) ∙ by_rules s n)
