@@ -87,3 +87,8 @@ returns-in-Err-clause-full_slots g c honest told =
     let is : c.replay.result ≡ Err FullSlots = c.in-Err.is ∙ ap (λ (r : Refusal). Err r) told in
     subst (λ (n : ℕ). HasFullSlots g.D.Disk n (pools.disk_of new)) went.limits.1
     (full_slots g.D.Disk new (at_rest g.D.Disk old new went c.requires.rests) (went.whole start.3.ready.faithful.whole) (c.replay.ensures.unbroken (λ fault. absurd (cc (sym is ∙ fault)))) (c.replay.ensures.slots is))
+
+pub returns-in-Err-clause-full : goal.returns-in-Err-clause-full
+returns-in-Err-clause-full g c honest told =
+    let start = c.requires.started honest in
+    c.in-Err.ensures.full start.0 honest start.2 start.3.ready.faithful (ap (λ (r : Refusal). Err r) told)
