@@ -9,11 +9,10 @@ ghost use Rattle.hg_graph.specs.Pending.{AreKept, ArePending};
 ghost use Rattle.hg_graph.specs.Restoring.{AreSegments};
 
 use crate::clock::Clock;
-use crate::pending::{Pending, keep, make_message_room, take_out};
+use crate::pending::PendingTable;
 use hg_model::limits::{MOST_SEGMENTS, THREAD_NUMBERS};
 use hg_model::segment::{Mark, Segment};
 use std::alloc::{AllocError, Global};
-use std::collections::HashMap;
 use std::mem::replace;
 
 /// The present segment of each thread, and 0 where it has none.
@@ -36,16 +35,16 @@ pub(crate) fn present_clocks(
     alloc: Global,
     segments: &[Segment],
     present: &[u32],
-    pending: &mut HashMap<u32, Pending>,
+    pending: &mut PendingTable,
 ) -> Result<Vec<Clock>, AllocError>
     requires some { 0 < length segments.now }
     requires few { length segments.now ≤ MOST_SEGMENTS }
     requires lawful { AreSegments segments.now }
     requires rows { length present.now ≡ THREAD_NUMBERS }
     requires each { ArePresent segments.now present.now }
-    requires none { pending.old.entries ≡ [] }
+    requires none { pending.old ≡ [] }
     ensures clocks { IfOk result (λ clocks. AreClocks segments.now clocks.items) }
-    ensures pending { OnOk result (ArePending segments.now pending.new.entries) }
+    ensures pending { OnOk result (ArePending segments.now pending.new) }
 {
     let late = last_uses(alloc, segments, present)?;
     let clocks = needed_clocks(alloc, segments, late.as_slice(), pending)?;
@@ -104,15 +103,15 @@ fn needed_clocks(
     alloc: Global,
     segments: &[Segment],
     late: &[u32],
-    pending: &mut HashMap<u32, Pending>,
+    pending: &mut PendingTable,
 ) -> Result<Vec<Clock>, AllocError>
     requires some { 0 < length segments.now }
     requires few { length segments.now ≤ MOST_SEGMENTS }
     requires lawful { AreSegments segments.now }
     requires late { AreLastUses segments.now late.now }
-    requires none { pending.old.entries ≡ [] }
+    requires none { pending.old ≡ [] }
     ensures clocks { IfOk result (λ clocks. AreNeeded segments.now late.now (length segments.now) clocks.items) }
-    ensures pending { OnOk result (ArePending segments.now pending.new.entries) }
+    ensures pending { OnOk result (ArePending segments.now pending.new) }
 {
     let mut clocks = Vec::with_capacity(alloc, segments.len())?;
     clocks.push(Clock::first(alloc)?)?;
@@ -130,26 +129,23 @@ fn note_message(
     segments: &[Segment],
     number: usize,
     clocks: &[Clock],
-    pending: &mut HashMap<u32, Pending>,
+    pending: &mut PendingTable,
 ) -> Result<(), AllocError>
     requires some { 0 < number }
     requires within { number < length segments.now }
     requires few { length segments.now ≤ MOST_SEGMENTS }
     requires lawful { AreSegments segments.now }
     requires clocks { AreBehind segments.now number clocks.now }
-    requires pending { AreKept segments.now (take number segments.now) pending.old.entries }
-    ensures { OnOk result (AreKept segments.now (take (number + 1) segments.now) pending.new.entries) }
+    requires pending { AreKept segments.now (take number segments.now) pending.old }
+    ensures { OnOk result (AreKept segments.now (take (number + 1) segments.now) pending.new) }
 {
     match segments[number].mark {
         Mark::Plain => {}
         Mark::Sent(message) => {
             let (ended, _) = ends(segments, number);
-            let clock = clocks[ended].copy(alloc)?;
-            make_message_room(pending)?;
-            let segment = ended as u32;
-            keep(pending, message, Pending { segment, clock });
+            pending.add(alloc, message, ended as u32, &clocks[ended])?;
         }
-        Mark::Got(message) => take_out(pending, message),
+        Mark::Got(message) => pending.take_out(message),
     }
     Ok(())
 }

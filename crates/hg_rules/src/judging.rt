@@ -311,11 +311,10 @@ fn judge_recv(state: &TraceState, source: u16, t: u16, k: u32) -> Verdict
     if !state.threads.is_alive(t) {
         return Verdict::Refuse(Refusal::NoThread);
     }
-    if !state.messages.is_sent(k) {
-        return Verdict::Refuse(Refusal::NotSent);
-    }
-    if state.messages.is_received(k) {
-        return Verdict::Refuse(Refusal::MessageTaken);
+    match state.messages.received(k) {
+        None => return Verdict::Refuse(Refusal::NotSent),
+        Some(true) => return Verdict::Refuse(Refusal::MessageTaken),
+        Some(false) => {}
     }
     if u64::from(state.segments()) + 1 > u64::from(MOST_SEGMENTS) {
         return Verdict::Refuse(Refusal::FullSegments);

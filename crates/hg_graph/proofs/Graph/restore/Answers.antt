@@ -12,5 +12,5 @@ invariant_of-result c =
       restored c.args.segments.items c.in_ok-present.present.items c.in_ok-visited.visited.items c.requires.some c.requires.few c.requires.lawful c.in_ok-present.ensures.rows
           (λ t lt. c.in_ok-present.ensures.each t lt ∙ ap (λ (s : List Segment). present s t) c.as_slice.ensures.value) (c.in_ok-visited.ensures.items_if_clones_equal (λ y h. h) ∙ ap (λ n. replicate n false) count),
       subst (λ (s : List Segment). AreClocks s c.in_ok-clocks.clocks.items) c.as_slice-2.ensures.value c.in_ok-clocks.ensures.clocks,
-      subst (λ (s : List Segment). ArePending s c.present_clocks.new.pending.entries) c.as_slice-2.ensures.value c.in_ok-clocks.ensures.pending,
+      subst (λ (s : List Segment). ArePending s c.present_clocks.new.pending) c.as_slice-2.ensures.value c.in_ok-clocks.ensures.pending,
     )

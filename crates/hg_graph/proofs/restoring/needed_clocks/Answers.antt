@@ -9,7 +9,7 @@ pub loop-number-init : goal.loop-number-init
 loop-number-init c = (
   needed_first c.args.segments.now c.args.late.now c.push.new.self.items c.requires.some (first_thread c.args.segments.now c.requires.lawful c.requires.some)
       (c.in_ok-push.ensures.items ∙ (λ i. c.in_ok-clocks.ensures.items i ++ c.in_ok-first.ensures i ∷ [])),
-  first_kept c.args.segments.now c.args.pending.now.entries c.requires.lawful c.requires.some c.requires.none,
+  first_kept c.args.segments.now c.args.pending.now c.requires.lawful c.requires.some c.requires.none,
 )
 
 pub note_message-requires-clause-clocks : goal.note_message-requires-clause-clocks
@@ -19,4 +19,4 @@ note_message-requires-clause-clocks c =
     (behind_at segments c.args.late.now c.loop-number.number c.loop-number.clocks.items (lawful_rising segments c.requires.lawful) c.requires.late c.loop-number.invariant.0 c.loop-number-test.true)
 
 pub returns-clause-pending : goal.returns-clause-pending
-returns-clause-pending c = kept_all c.args.segments.now c.loop-number.number c.loop-number.pending.entries (omega (arith, c.loop-number-test.false)) c.loop-number.invariant.1
+returns-clause-pending c = kept_all c.args.segments.now c.loop-number.number c.loop-number.pending (omega (arith, c.loop-number-test.false)) c.loop-number.invariant.1

@@ -5,4 +5,4 @@ use Rattle.hg_graph.proofs.restoring.needed_clocks.Given as goal
 
 -- the segments so far have their clocks, and their messages are kept
 abbrev pub invariant-loop-number : goal.invariant-loop-number
-invariant-loop-number l = AreNeeded l.segments l.late l.number l.clocks.items × AreKept l.segments (take l.number l.segments) l.pending.entries
+invariant-loop-number l = AreNeeded l.segments l.late l.number l.clocks.items × AreKept l.segments (take l.number l.segments) l.pending

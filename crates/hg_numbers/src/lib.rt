@@ -1,0 +1,6 @@
+//! Values by number.
+#![tactic(auto)]
+
+mod table;
+
+pub use table::NumberTable;
