@@ -111,6 +111,8 @@ class Trace:
     # for each message that was sent the segment that its send ended, and the messages that were received
     sent_in: dict = field(default_factory=dict)
     received: set = field(default_factory=set)
+    # for each receive the thread, the segments before and behind it, and the message
+    receives: list = field(default_factory=list)
     # for each thread and lock the last of lock, rdlock and unlock
     last_of: dict = field(default_factory=dict)
     # the accesses of each word since its last alloc or free, and the lists that such an event ended
@@ -189,6 +191,7 @@ class Trace:
             self.open_segment(thread, [self.segment_of[thread]])
         elif verb == "recv":
             self.received.add(second)
+            self.receives.append((thread, self.segment_of[thread], second))
             self.open_segment(thread, [self.segment_of[thread], self.sent_in[second]])
         elif verb in ("lock", "rdlock", "unlock"):
             self.last_of.setdefault(thread, {})[second] = verb
@@ -305,13 +308,24 @@ def state_text(state):
     return f"{state[0]} threads {members(state[1])} candidates {members(state[2])}"
 
 
-def became(before, after, segment):
+def handed_by(trace, from_which, owner, segment):
+    """Returns what an owner change says of the message by which the segment's thread came behind the owner: the one receive of the
+    thread that has the owner behind its send, and not in the thread's own segment right before it."""
+    thread = trace.segments[segment][0]
+    for receiver, former, message in trace.receives:
+        is_handed = from_which[trace.sent_in[message]] >> owner & 1
+        if receiver == thread and former < segment and is_handed and not from_which[former] >> owner & 1:
+            return f" by message {message}"
+    return ""
+
+
+def became(trace, from_which, before, after, segment):
     """Yields what became of a word."""
     shared = ("shared-read", "shared-modified")
     if after[0] == "new" and before[0] != "new":
         yield "new again"
     if before[0] == after[0] == "exclusive" and before != after:
-        yield f"owner changes along {before[1]} -> {after[1]}"
+        yield f"owner changes along {before[1]} -> {after[1]}{handed_by(trace, from_which, before[1], after[1])}"
     if before[0] == "exclusive" and after[0] in shared:
         yield f"shared from here on: segment {before[1]} does not reach segment {segment}"
     if after[0] in shared and not after[2] and not (before[0] in shared and not before[2]):
@@ -337,7 +351,7 @@ def life(trace, word, reports, last, every, told):
         if hidden:
             yield f"{hidden} more accesses"
             hidden = 0
-        notes = [*became(before, state, it.segment)]
+        notes = [*became(trace, from_which, before, state, it.segment)]
         if (it.event, word) in kept:
             notes.append(f"race {kept[it.event, word]}")
         locks = "" if it.verb in ("alloc", "free") else f" locks {members(it.counted)}"

@@ -1,5 +1,5 @@
 -- What reading a whole text leads to, by the detector alone.
-use Rattle.std.proofs.Common.{List, [], ◌++◌, Option, None, Some, Result, Ok, Err, refl, sym, ap, ◌∙◌, subst, inl, inr, ⊎_elim, arith}
+use Rattle.std.proofs.Common.{◌≡◌, ℕ, List, [], ◌++◌, Option, None, Some, Result, Ok, Err, refl, sym, ap, ◌∙◌, subst, inl, inr, ⊎_elim, arith}
 use Rattle.std.proofs.lemmas.List.{append-nil}
 use Rattle.hg_model.specs.declared.verdict.Refusal.{Refusal}
 use Rattle.hg_model.specs.Change.{empty_content}
@@ -46,6 +46,14 @@ passed_to d e lines fresh h =
 ended_to : (d e : Detector PagedWords) (lines rest : List Reading) (end : Ending) → IsStart d → Steps d lines (Ok (Some end)) e
     → LeadsTo (lines ++ rest) (first_table 262144) empty_content (content_of e) end
 ended_to d e lines rest end fresh h = checks_from d (lines ++ rest) (content_of e) end fresh (h.ends end refl rest)
+
+-- a text in memory leads there too
+pub text_leads : (d e : Detector PagedWords) (input : List ℕ) (lines rest : List Reading) (stop : Option Ending) → IsStart d → readings input ≡ lines ++ rest
+    → (◌≡◌ {A = Result (Option Ending) Refusal} (Ok stop) (Ok None) → rest ≡ []) → Steps d lines (Ok stop) e → LeadsTo (readings input) (first_table 262144) empty_content (content_of e) (ending_of stop)
+text_leads d e input lines rest None fresh is whole h =
+    subst (λ xs. LeadsTo xs (first_table 262144) empty_content (content_of e) Ended) (sym (is ∙ (ap (λ xs. lines ++ xs) (whole refl) ∙ append-nil lines))) (passed_to d e lines fresh h)
+text_leads d e input lines rest (Some end) fresh is whole h =
+    subst (λ xs. LeadsTo xs (first_table 262144) empty_content (content_of e) end) (sym is) (ended_to d e lines rest end fresh h)
 
 pub ends_by : (d e : Detector PagedWords) (reads : List ReadCall) (lines : List Reading) (stop : Option Ending) → IsStart d → Steps d lines (Ok stop) e
     → AreDue StepsTaken reads lines (Ok stop) → EndsBy reads (content_of e) (ending_of stop)

@@ -51,7 +51,7 @@ wrote_graph reads reads_new first now w = record {
   front = λ input d end m l. front_more first now [] (graph_text d end) (graph_text d end) refl (w.front input d end m l);
 }
 
-checks_to_one : (input : List ℕ) (c d : Content) (first second : Ending) → ChecksTo input c first → ChecksTo input d second → (c ≡ d) × (first ≡ second)
+pub checks_to_one : (input : List ℕ) (c d : Content) (first second : Ending) → ChecksTo input c first → ChecksTo input d second → (c ≡ d) × (first ≡ second)
 checks_to_one input c d first second h k = leads_to_one (readings input) (first_table 262144) empty_content c d first second h k
 
 met_some : (reads earlier : List ReadCall) → reads ≡ ReadCall.Gave [] ∷ earlier → 0 < ends_met reads

@@ -11,6 +11,7 @@ use Rattle.hg_streams.specs.Calls.{given}
 use Rattle.hg_wire.specs.declared.reader.Reading.{Reading}
 use Rattle.hg_wire.specs.Streams.{ended_readings, readings}
 use Rattle.hg_reading.specs.Taking.{ReadBroke, Reads, WasRead}
+use Rattle.hg_reading.specs.Whole.{TakesText}
 use Rattle.hg_reading.proofs.Through.{read_through}
 use Rattle.hg_reading.specs.declared.ending.Ending.{Ending}
 use Rattle.hg_streams.specs.Holding.{IsDue}
@@ -21,7 +22,7 @@ use Rattle.hg_streams.specs.Faults.{HasCause}
 use Rattle.hg_reading.specs.Endings.{ending_of}
 use Rattle.hg_streams.specs.Written.{TookFront}
 use Rattle.hg_reading.proofs.Inputs.{begins_with}
-use Rattle.hg_check.proofs.Ends.{ends_by, from_fresh, passed_to}
+use Rattle.hg_check.proofs.Ends.{ends_by, from_fresh, passed_to, text_leads}
 use Rattle.hg_streams.proofs.Inputs.{none_refused}
 use Rattle.hg_streams.proofs.Printed.{front_due, front_more}
 use Rattle.hg_check.proofs.Whole.{cause_by_read, cause_of}
@@ -30,7 +31,8 @@ use Rattle.hg_check.specs.Explaining.{WroteFrontOf, explain_text, word_line}
 use Rattle.hg_check.specs.Life.{life, more_text}
 use Rattle.hg_check.specs.LifeTaking.{ExplainsLines, IsFresh}
 use Rattle.hg_check.specs.LifeTakingLaws.{events_grow}
-use Rattle.hg_check.specs.Telling.{HasRun}
+use Rattle.hg_check.specs.RaceLife.{TellsLifeFront}
+use Rattle.hg_check.specs.Telling.{HasRun, HasRunText}
 use Rattle.hg_check.proofs.Told.{life_none}
 
 steps_seen : (a b : Explaining) (at_a at_b : List WriteCall) (lines : List Reading) (r : Result (Option Ending) Refusal) → ExplainsLines a at_a lines r b at_b → StepsTaken a.detector at_a lines r b.detector at_b
@@ -146,3 +148,31 @@ broke first now s t o p begun x fresh reads due =
 pub broke_cause : (first now : List ReadCall) (s t : Explaining) (o p : List WriteCall) (x : Refusal) → Reads ExplainsLines first now s o (Err x) t p → HasCause first now o p x
 broke_cause first now s t o p x reads =
     ⊎_elim (λ w. cause_of first now o p x (none_refused first now w.later w.since w.intact) (w.steps.cause x refl)) (λ w. cause_by_read ExplainsLines first now s t o p x w) reads
+
+-- ---- a text in memory
+
+pub has_run_text : (input : List ℕ) (s t : Explaining) (o p : List WriteCall) (stop : Option Ending) → IsFresh s → TakesText ExplainsLines input s o (Ok stop) t p
+    → HasRunText s.asked.word s.asked.form input o p s.held.items t.held.items (content_of t.detector) t.more (ending_of stop)
+has_run_text input s t o p stop fresh w =
+    let count : (content_of t.detector).events ≡ w.steps.adds.count = omega (arith, w.steps.adds.counted (no_error stop), no_events s fresh) in
+    record {
+      told = w.steps.text;
+      leads = text_leads s.detector t.detector input w.lines w.rest stop fresh.start w.joined w.whole w.steps.steps;
+      text = ap (λ (n : ℕ). life s.asked.word s.asked.form empty_content 0 n (readings input)) count
+          ∙ (ap (λ xs. life s.asked.word s.asked.form empty_content 0 w.steps.adds.count xs) w.joined
+          ∙ (sym (from_empty s w.steps.adds.count (w.lines ++ w.rest) fresh) ∙ told_to s t o p w.lines w.rest stop w.steps));
+      due = λ begun goal h. w.steps.due (no_error stop) begun goal h;
+    }
+
+pub front_of_text : (input : List ℕ) (s t : Explaining) (o p begun : List WriteCall) (x : Refusal) → IsFresh s → TakesText ExplainsLines input s o (Err x) t p
+    → IsDue begun o s.held.items [] (line_text (word_line s.asked.word)) → TellsLifeFront input s.asked begun p
+front_of_text input s t o p begun x fresh w due last end l =
+    let led = subst (λ xs. LeadsFrom s.detector xs last end) w.joined (from_fresh s.detector (readings input) last end fresh.start l) in
+    let counted : last.events ≡ (content_of s.detector).events + last.events = omega (arith, no_events s fresh) in
+    front_last s begun p last.events (w.lines ++ w.rest) input last end fresh w.joined refl
+    (w.steps.front x refl begun (line_text (word_line s.asked.word)) due last.events w.rest last end led counted)
+
+-- where nothing but the line of the word is held
+pub front_of_word : (input : List ℕ) (s : Explaining) (o begun : List WriteCall) → IsDue begun o s.held.items [] (line_text (word_line s.asked.word)) → TellsLifeFront input s.asked begun o
+front_of_word input s o begun due last end l =
+    front_more begun o (line_text (word_line s.asked.word)) _ (explain_text s.asked.word s.asked.form input last end) refl (front_due begun o s.held.items [] (line_text (word_line s.asked.word)) due)

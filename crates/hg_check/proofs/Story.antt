@@ -50,17 +50,18 @@ access_same past write t is_used =
 
 -- the line of an event is that of its item, where the event opens no segment
 line_by : (w : ℕ) (form : Form) (line : ℕ) (past : List Named) (n : Named) → acts_text (summary (n ∷ past)) n.event ≡ acts_in (events_of past) n.event
-    → present (summary (n ∷ past)).segments (actor_of n.event) ≡ present (segments_of (events_of past)) (actor_of n.event)
+    → (summary (n ∷ past)).segments ≡ segments_of (events_of past)
     → event_line w form (look_of (state_in w (events_of past))) (length (kept_in (events_of past))) (summary (n ∷ past)) line n.event ≡ line_in w form (events_of past) line n.event
 line_by w form line past n acts segment =
     let evs = events_of past in
     let before = look_of (state_in w evs) in
     let after_it = state_in w (n.event ∷ evs) in
     let race = race_text (length (kept_in evs) + 1) w (drop (length (kept_in evs)) (kept_in (n.event ∷ evs))) in
-    ap (λ (m : ℕ). (codes "event " ++ decimal m ++ place_in form line) ++ (acts_text (summary (n ∷ past)) n.event ++ (state_text after_it ++ (changes_text before after_it (present (summary (n ∷ past)).segments (actor_of n.event)) ++ race))))
+    let segments = (summary (n ∷ past)).segments in
+    ap (λ (m : ℕ). (codes "event " ++ decimal m ++ place_in form line) ++ (acts_text (summary (n ∷ past)) n.event ++ (state_text after_it ++ (changes_text segments before after_it (present segments (actor_of n.event)) ++ race))))
     (ap (λ (m : ℕ). suc m) (sym (length-map past (λ (x : Named). x.event))))
-    ∙ (ap (λ (x : List ℕ). (codes "event " ++ decimal (suc (length evs)) ++ place_in form line) ++ (x ++ (state_text after_it ++ (changes_text before after_it (present (summary (n ∷ past)).segments (actor_of n.event)) ++ race)))) acts
-    ∙ ap (λ (g : ℕ). (codes "event " ++ decimal (suc (length evs)) ++ place_in form line) ++ (acts_in evs n.event ++ (state_text after_it ++ (changes_text before after_it g ++ race)))) segment)
+    ∙ (ap (λ (x : List ℕ). (codes "event " ++ decimal (suc (length evs)) ++ place_in form line) ++ (x ++ (state_text after_it ++ (changes_text segments before after_it (present segments (actor_of n.event)) ++ race)))) acts
+    ∙ ap (λ (g : List Segment). (codes "event " ++ decimal (suc (length evs)) ++ place_in form line) ++ (acts_in evs n.event ++ (state_text after_it ++ (changes_text g before after_it (present g (actor_of n.event)) ++ race)))) segment)
 
 told_by_line : (w : ℕ) (form : Form) (k line : ℕ) (past : List Named) (n : Named)
     → event_line w form (look_of (state_in w (events_of past))) (length (kept_in (events_of past))) (summary (n ∷ past)) line n.event ≡ line_in w form (events_of past) line n.event
@@ -81,18 +82,18 @@ told_same w form k line past number (Send t m) ok = refl
 told_same w form k line past number (Recv t m) ok = refl
 told_same w form k line past number (Read a) ok =
     let n : Named = record { source = 0; number = number; event = Read a } in
-    told_by_line w form k line past n (line_by w form line past n (access_same (events_of past) false a.t (passes past n ok).actor_used) (ap (λ segments. present segments a.t) (append-nil (segments_of (events_of past)))))
+    told_by_line w form k line past n (line_by w form line past n (access_same (events_of past) false a.t (passes past n ok).actor_used) (append-nil (segments_of (events_of past))))
 told_same w form k line past number (Write a) ok =
     let n : Named = record { source = 0; number = number; event = Write a } in
-    told_by_line w form k line past n (line_by w form line past n (access_same (events_of past) true a.t (passes past n ok).actor_used) (ap (λ segments. present segments a.t) (append-nil (segments_of (events_of past)))))
+    told_by_line w form k line past n (line_by w form line past n (access_same (events_of past) true a.t (passes past n ok).actor_used) (append-nil (segments_of (events_of past))))
 told_same w form k line past number (Alloc b) ok =
     let n : Named = record { source = 0; number = number; event = Alloc b } in
     let same = append-nil (segments_of (events_of past)) in
-    told_by_line w form k line past n (line_by w form line past n (ap (λ segments. codes " alloc" ++ segment_text b.t (present segments b.t)) same) (ap (λ segments. present segments b.t) same))
+    told_by_line w form k line past n (line_by w form line past n (ap (λ segments. codes " alloc" ++ segment_text b.t (present segments b.t)) same) same)
 told_same w form k line past number (Free b) ok =
     let n : Named = record { source = 0; number = number; event = Free b } in
     let same = append-nil (segments_of (events_of past)) in
-    told_by_line w form k line past n (line_by w form line past n (ap (λ segments. codes " free" ++ segment_text b.t (present segments b.t)) same) (ap (λ segments. present segments b.t) same))
+    told_by_line w form k line past n (line_by w form line past n (ap (λ segments. codes " free" ++ segment_text b.t (present segments b.t)) same) same)
 
 -- one event more
 went : (w : ℕ) (form : Form) (k line n : ℕ) (past : List Named) (e : Event) (later : List Reading) → IsAccepted past → verdict (standing_of (summary past)) (next_named (summary past) e) ≡ Accept

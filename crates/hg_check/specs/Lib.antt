@@ -11,3 +11,4 @@ pub mod Holding
 pub mod LifeLaws
 pub mod LifeTaking
 pub mod LifeTakingLaws
+pub mod RaceLife

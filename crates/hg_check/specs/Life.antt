@@ -1,5 +1,5 @@
 -- Definition: part of what `explain` promises. The life of a word, as lines.
-use Rattle.std.specs.Prelude.{ℕ, zero, suc, ◌+◌, ◌*◌, Bool, true, false, ◌||◌, ◌&&◌, not, ◌==◌, List, [], ◌∷◌, ◌++◌, length, drop, codes, if◌then◌else◌, Result, Ok, Err}
+use Rattle.std.specs.Prelude.{ℕ, zero, suc, ◌+◌, ◌*◌, Bool, true, false, ◌||◌, ◌&&◌, not, ◌==◌, List, [], ◌∷◌, ◌++◌, length, drop, codes, if◌then◌else◌, Result, Ok, Err, slice_index_or}
 use Rattle.std.specs.Fmt.{decimal}
 use Rattle.hg_model.specs.declared.event.Event.{Event}
 use Rattle.hg_model.specs.declared.event.Event.TheVariants.{Read, Write, Alloc, Free}
@@ -7,7 +7,11 @@ use Rattle.hg_model.specs.declared.report.Report.{Report}
 use Rattle.hg_model.specs.declared.word.WordState.{WordState}
 use Rattle.hg_model.specs.declared.word.WordState.TheVariants as state
 use Rattle.hg_model.specs.History.{overlaps}
-use Rattle.hg_model.specs.Segments.{present}
+use Rattle.hg_model.specs.declared.segment.Mark.{Mark}
+use Rattle.hg_model.specs.declared.segment.Mark.TheVariants.{Got}
+use Rattle.hg_model.specs.declared.segment.Segment.{Segment}
+use Rattle.hg_model.specs.Segments.{of_thread, present}
+use Rattle.hg_graph.specs.Entering.{entry}
 use Rattle.hg_model.specs.Contents.{Content}
 use Rattle.hg_model.specs.Change.{after, locks_of}
 use Rattle.hg_wire.specs.declared.line.LineFault.{LineFault}
@@ -81,13 +85,32 @@ state_text (state.Exclusive s) = codes " state exclusive segment " ++ decimal s
 state_text (state.SharedRead threads locks) = sets_text (codes " state shared-read threads ") threads locks
 state_text (state.SharedModified threads locks) = sets_text (codes " state shared-modified threads ") threads locks
 
+-- the mark of segment s
+abbrev pub mark_at : List Segment → ℕ → Mark
+mark_at segments s = (slice_index_or segments s (of_thread 0 [])).mark
+
+-- the message of a receive
+abbrev pub message_text : Mark → List ℕ
+message_text (Got k) = codes " by message " ++ decimal k
+message_text mark = []
+
+-- The message by which a segment came behind segment s of another thread, if it came so: the mark of the first segment of its thread that s
+-- reaches. (Where s is of that thread too, that is s itself.)
+abbrev pub by_text : List Segment → ℕ → ℕ → List ℕ
+by_text segments s o = if entry segments s o == s then [] else message_text (mark_at segments (entry segments s o))
+
+-- a word that segment s owned is owned by segment o
+abbrev pub owner_text : List Segment → ℕ → ℕ → List ℕ
+owner_text segments s o =
+    if s == o then [] else (codes " ; owner changes along " ++ decimal s ++ codes " -> " ++ decimal o) ++ by_text segments s o
+
 -- what became of the state, where the present segment of the acting thread is g
-abbrev pub change_text : Look → Look → ℕ → List ℕ
-change_text Fresh after g = []
-change_text before Fresh g = codes " ; new again"
-change_text (Owned s) (Owned o) g = if s == o then [] else codes " ; owner changes along " ++ decimal s ++ codes " -> " ++ decimal o
-change_text (Owned s) after g = codes " ; shared from here on: segment " ++ decimal s ++ codes " does not reach segment " ++ decimal g
-change_text before after g = []
+abbrev pub change_text : List Segment → Look → Look → ℕ → List ℕ
+change_text segments Fresh after g = []
+change_text segments before Fresh g = codes " ; new again"
+change_text segments (Owned s) (Owned o) g = owner_text segments s o
+change_text segments (Owned s) after g = codes " ; shared from here on: segment " ++ decimal s ++ codes " does not reach segment " ++ decimal g
+change_text segments before after g = []
 
 -- the last candidate lock is gone
 abbrev pub bare_text : Look → Look → List ℕ
@@ -119,12 +142,12 @@ abbrev pub front_text : Form → Content → ℕ → List ℕ
 front_text form c line = codes "event " ++ decimal c.events ++ place_in form line
 
 -- what became of the state
-abbrev pub changes_text : Look → WordState → ℕ → List ℕ
-changes_text before after g = change_text before (look_of after) g ++ bare_text before (look_of after)
+abbrev pub changes_text : List Segment → Look → WordState → ℕ → List ℕ
+changes_text segments before after g = change_text segments before (look_of after) g ++ bare_text before (look_of after)
 
 -- what became of the state of the word w, where thread t acts, by the content after the event
 abbrev pub changes_of : Look → ℕ → Content → ℕ → List ℕ
-changes_of before w d t = changes_text before (d.words w) (present d.segments t)
+changes_of before w d t = changes_text d.segments before (d.words w) (present d.segments t)
 
 -- The line of an event, by the content after it, how the word looked before it, and how many reports were kept before it.
 abbrev pub event_line : ℕ → Form → Look → ℕ → Content → ℕ → Event → List ℕ

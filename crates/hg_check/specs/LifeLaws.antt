@@ -58,7 +58,7 @@ abbrev pub line_in : ℕ → Form → List Event → ℕ → Event → List ℕ
 line_in w form past line e =
     (codes "event " ++ decimal (suc (length past)) ++ place_in form line)
     ++ (acts_in past e ++ (state_text (state_in w (e ∷ past))
-    ++ (changes_text (look_of (state_in w past)) (state_in w (e ∷ past)) (present (segments_of past) (actor_of e))
+    ++ (changes_text (segments_of past) (look_of (state_in w past)) (state_in w (e ∷ past)) (present (segments_of past) (actor_of e))
     ++ race_in w past e)))
 
 -- what the event adds to the text, and how many accesses were not shown since its last line

@@ -22,7 +22,8 @@ use Rattle.hg_streams.specs.Texts.{line_text}
 use Rattle.hg_check.specs.declared.explain.event_line.Accepted.{Accepted}
 use Rattle.hg_check.specs.Holding.{event_text}
 use Rattle.hg_check.specs.Life.{life, look_of, more_text, told_by}
-use Rattle.hg_check.specs.Telling.{HasRun, Stays, Tells}
+use Rattle.hg_check.specs.RaceLife.{TellsLifeFront}
+use Rattle.hg_check.specs.Telling.{HasRun, HasRunText, Stays, Tells}
 
 -- `look` is how the word looks now, and `more` counts at most as many accesses as events came.
 pub record IsReady (s : Explaining) : Type 0 where
@@ -112,3 +113,12 @@ HasTold old new reads later writes now end =
 abbrev pub LeavesFrontOfHeld : {T E R W : Type 0} → Result T E → Explaining → Incoming R → Incoming R → Outgoing W → Outgoing W → Type 0
 LeavesFrontOfHeld r s reads later writes now =
     (first : List WriteCall) → HoldsWord s first writes.calls → OnErr r (WroteFrontOf s.asked.word s.asked.form reads.calls later.calls first now.calls)
+
+-- `HasTold` of a text in memory.
+abbrev pub HasToldText : {W : Type 0} → List ℕ → Explaining → Explaining → Outgoing W → Outgoing W → Ending → Type 0
+HasToldText input old new writes now end =
+    HasRunText old.asked.word old.asked.form input writes.calls now.calls old.held.items new.held.items (content_of new.detector) new.more end
+
+-- `LeavesFrontOfHeld` of a text in memory.
+abbrev pub LeavesFrontOfText : {T E W : Type 0} → Result T E → List ℕ → Explaining → Outgoing W → Outgoing W → Type 0
+LeavesFrontOfText r input s writes now = (first : List WriteCall) → HoldsWord s first writes.calls → OnErr r (TellsLifeFront input s.asked first now.calls)

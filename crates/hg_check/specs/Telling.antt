@@ -12,6 +12,7 @@ use Rattle.hg_wire.specs.declared.reader.Reading.{Reading}
 use Rattle.hg_wire.specs.Streams.{readings}
 use Rattle.hg_reading.specs.declared.ending.Ending.{Ending}
 use Rattle.hg_streams.specs.Calls.{MayBe}
+use Rattle.hg_check.specs.Checking.{ChecksTo}
 use Rattle.hg_check.specs.Printing.{ReadsTo}
 use Rattle.hg_check.specs.Running.{ReportsGrow}
 use Rattle.hg_check.specs.declared.explain.form.Form.{Form}
@@ -41,4 +42,11 @@ pub record HasToldAll (w : ℕ) (form : Form) (first now : List ReadCall) (c : C
 pub record HasRun (w : ℕ) (form : Form) (reads_old reads_new : List ReadCall) (old now : List WriteCall) (held kept : List ℕ) (c : Content) (k : ℕ) (end : Ending) : Type 0 where
   pub told : List ℕ
   pub leads : HasToldAll w form reads_old reads_new c end k told
+  pub due : (first : List WriteCall) (goal : List ℕ) → IsDue first old held [] goal → IsDue first now kept [] (goal ++ told)
+
+-- The lines of a text were offered, up to an ending, and what was told of it was written or is held.
+pub record HasRunText (w : ℕ) (form : Form) (input : List ℕ) (old now : List WriteCall) (held kept : List ℕ) (c : Content) (k : ℕ) (end : Ending) : Type 0 where
+  pub told : List ℕ
+  pub leads : ChecksTo input c end
+  pub text : life w form empty_content 0 c.events (readings input) ≡ told ++ more_text k
   pub due : (first : List WriteCall) (goal : List ℕ) → IsDue first old held [] goal → IsDue first now kept [] (goal ++ told)

@@ -6,6 +6,8 @@ pub mod explaining;
 pub mod form;
 pub mod laws;
 pub mod look;
+pub mod owner;
 pub mod passing;
 pub mod pieces;
+pub mod race;
 pub mod run;

@@ -26,7 +26,7 @@ was_opened s frames calls none moments moment new limits empty pushed is same = 
 }
 
 -- its listing was broken off, if it was not printed
-pub listing_breaks : {D V : Type 0} (g : disk.Ghosts D) (frames : ℕ) (old new : Devices D) (moments : List (Instant D)) (before after : Outgoing V) (result : Result (Unit {0}) Refusal) → WasOpened frames before.calls moments new
+pub listing_breaks : {D V T : Type 0} (g : disk.Ghosts D) (frames : ℕ) (old new : Devices D) (moments : List (Instant D)) (before after : Outgoing V) (result : Result T Refusal) → WasOpened frames before.calls moments new
     → NoCallFailed g old new → IfErr result IsStreamFault → failed_writes after.calls ≡ told result + failed_writes before.calls → IfErr result (HasListingCause g frames old new moments before after)
 listing_breaks g frames old new moments before after (Ok x) opened device is failed = tt
 listing_breaks g frames old new moments before after (Err r) opened device is failed = inr (record {

@@ -10,3 +10,4 @@ pub mod TakingLaws
 pub mod Stepping
 pub mod Storing
 pub mod Listings
+pub mod Races

@@ -8,4 +8,5 @@ pub mod laws;
 pub mod lines;
 pub mod listing;
 pub mod moment;
+pub mod races;
 pub mod settings;

@@ -1,12 +1,12 @@
 //! The commands that print what a store holds.
 
-ghost use Rattle.std.specs.Prelude.{◌≡◌, ◌⊎◌, ◌++◌, ◌+◌, [], Ok, Err, OnErr, OnOk, IfErr, IsTrue, false};
+ghost use Rattle.std.specs.Prelude.{◌≡◌, ◌⊎◌, ◌++◌, ◌+◌, [], Ok, Err, OnErr, OnOk, IfErr, IfOk, IsTrue, false};
 ghost use Rattle.hg_streams.specs.Calls.{failed_writes};
 ghost use Rattle.hg_streams.specs.Told.{told};
 ghost use Rattle.hg_store.specs.Images.{KeepsFiles, Recovers};
 ghost use Rattle.hg_streams.specs.Written.{Took};
 ghost use Rattle.hg_streams.specs.Faults.{IsStreamFault};
-ghost use Rattle.hg_commands.specs.Listings.{BreaksReports, CantList, FailedFor, HoldsReports, IsListed, ListedWhere, ListsButHeld, ListsFront, ListsStore, WroteListing};
+ghost use Rattle.hg_commands.specs.Listings.{BreaksReports, CantList, CountsRaces, FailedFor, HoldsReports, IsListed, ListedWhere, ListsButHeld, ListsFront, ListsStore, WroteListing};
 ghost use Rattle.hg_store.specs.Limits.{IsFrameCount};
 ghost use Rattle.hg_commands.specs.Storing.{end_text};
 
@@ -24,6 +24,15 @@ use hg_streams::telling::end_by_fault;
 use hg_trail::Trail;
 use std::alloc::Global;
 use std::io::Write;
+
+/// What listing a store comes to.
+#[derive(Drop)]
+pub struct Listed<D: Disk, W> {
+    /// The exit status, the devices and the moments.
+    pub outcome: Outcome<D, W>,
+    /// Whether the store counted races, be they kept or not. None are told of with status 3.
+    pub has_races: bool,
+}
 
 /// Holds the end line of a store that is not broken: the counts of its accepted events, its reports and its segments.
 pub fn hold_end_line<D: Disk>(store: &Store<D>, held: &mut Vec<u8>) -> Result<(), Refusal>
@@ -82,34 +91,36 @@ fn print_listing<D: Disk, W: Write>(
     }
 }
 
-/// Prints a listing of a store that is not broken.
+/// Prints a listing of a store that is not broken. Answers whether it counted races, kept or not.
 fn print_store<D: Disk, W: Write>(
     alloc: Global,
     store: &Store<D>,
     listing: Listing,
     output: &mut Output<W>,
-) -> Result<(), Refusal>
+) -> Result<bool, Refusal>
     requires works { store.now.is_broken ≡ false }
+    ensures races { IfOk result (CountsRaces ⟦<D as Disk>⟧ store.now) }
     ensures printed { OnOk result (ListsStore ⟦<D as Disk>⟧ listing store.now output.old output.new) }
     ensures front { OnErr result (ListsFront ⟦<D as Disk>⟧ listing store.now output.old output.new) }
     ensures cause { IfErr result IsStreamFault }
     ensures fault { failed_writes output.new.calls ≡ told result + failed_writes output.old.calls }
 {
     let mut held = Vec::new(alloc);
+    let has_races = store.total()? > 0;
     print_listing(alloc, store, listing, &mut held, output)?;
     write_out(&mut held, output)?;
     output.flush()?;
-    Ok(())
+    Ok(has_races)
 }
 
-/// Recovers a store, prints what it holds, and hands its devices back, with the moment of its opening.
+/// Recovers a store, prints what it holds, and hands its devices back, with the moment of its opening. Answers whether there were races.
 fn recover_and_print<D: Disk, W: Write>(
     alloc: Global,
     devices: Devices<D>,
     frames: u16,
     listing: Listing,
     output: &mut Output<W>,
-) -> (Result<(), Refusal>, Devices<D>, Trail<Moment<D, W>>)
+) -> (Result<bool, Refusal>, Devices<D>, Trail<Moment<D, W>>)
     requires { IsFrameCount frames }
     ensures prints { ListedWhere ⟦<D as Disk>⟧ listing frames devices output.old output.new result }
     ensures front { OnErr result.0 (WroteListing ⟦<D as Disk>⟧ listing devices output.old output.new) }
@@ -134,20 +145,22 @@ fn recover_and_print<D: Disk, W: Write>(
 /// journal and the roots, and a crash at any moment leaves an image with the content of an image before.
 ///
 /// The store is opened with so many frames and the greatest caps, and only looked at then. The one moment in the outcome shows it.
+/// Beside the outcome stands whether the store counted races, kept or not.
 pub fn list_store<D: Disk, W: Write, V: Write>(
     alloc: Global,
     devices: Devices<D>,
     frames: u16,
     listing: Listing,
     outputs: &mut Outputs<W, V>,
-) -> Outcome<D, W>
+) -> Listed<D, W>
     requires { IsFrameCount frames }
-    ensures status { (result.status ≡ 0) ⊎ (result.status ≡ 3) }
+    ensures status { (result.outcome.status ≡ 0) ⊎ (result.outcome.status ≡ 3) }
     ensures prints { IsListed ⟦<D as Disk>⟧ listing frames devices outputs.old outputs.new result }
-    ensures quiet { result.status ≡ 0 → Took outputs.old.faults.calls outputs.new.faults.calls [] }
+    ensures quiet { result.outcome.status ≡ 0 → Took outputs.old.faults.calls outputs.new.faults.calls [] }
     ensures fault { CantList ⟦<D as Disk>⟧ listing frames devices outputs.old outputs.new result }
-    ensures files { KeepsFiles ⟦<D as Disk>⟧ devices result.devices }
-    ensures images { IsTrue D.is_honest → Recovers ⟦<D as Disk>⟧ devices result.devices }
+    ensures files { KeepsFiles ⟦<D as Disk>⟧ devices result.outcome.devices }
+    ensures images { IsTrue D.is_honest → Recovers ⟦<D as Disk>⟧ devices result.outcome.devices }
+    ensures none { result.outcome.status ≡ 3 → result.has_races ≡ false }
 {
     let (printed, devices, moments) = recover_and_print(
         alloc,
@@ -157,17 +170,23 @@ pub fn list_store<D: Disk, W: Write, V: Write>(
         &mut outputs.output,
     );
     match printed {
-        Ok(()) => Outcome {
-            status: 0,
-            devices,
-            moments,
+        Ok(has_races) => Listed {
+            outcome: Outcome {
+                status: 0,
+                devices,
+                moments,
+            },
+            has_races,
         },
         Err(refusal) => {
             let status = end_by_fault(refusal, &mut outputs.faults);
-            Outcome {
-                status,
-                devices,
-                moments,
+            Listed {
+                outcome: Outcome {
+                    status,
+                    devices,
+                    moments,
+                },
+                has_races: false,
             }
         }
     }

@@ -1,64 +1,59 @@
 -- Commands that ask for nothing.
-use Rattle.std.proofs.Common.{◌≡◌, Some, None, List, codes, inl, inr, refl, sym, ap, ◌∙◌, slice_index_or, arith}
+use Rattle.std.proofs.Common.{◌≡◌, ℕ, Option, Some, None, Result, Ok, Err, List, [], codes, refl, sym, subst, ◌∙◌}
 use Rattle.clap.specs.Words.{Row, Text, first_of}
 use Rattle.hg_options.specs.declared.task.Misread.{Misread}
-use Rattle.hg_options.specs.declared.task.StoreTask.TheVariants as store
+use Rattle.hg_options.specs.declared.task.Misread.TheVariants as misread
+use Rattle.hg_options.specs.declared.task.Task.{Task}
 use Rattle.hg_options.specs.declared.task.Task.TheVariants as task
-use Rattle.hg_options.specs.Tasks.{AsksForNothing, IsExplaining, IsStoreTask, IsTask, IsUnasked}
+use Rattle.hg_options.specs.Tasks.{AsksFor, AsksForNothing, IsReading, IsNoStoreOfRace, IsNoWord, IsRace, HasNoRace, IsStoreTask, IsTask, IsUnasked}
 
--- where words begin with other letters, they differ
-begins : (a b : Text) → a ≡ b → slice_index_or a 0 0 ≡ slice_index_or b 0 0
-begins a b = ap (λ (t : Text). slice_index_or t 0 0)
-
-explain≢create : codes "explain" ≡ codes "create" → ⊥
-explain≢create e = absurd (let bad : 101 ≡ 99 = begins (codes "explain") (codes "create") e in omega (arith, bad))
-
-explain≢graph : codes "explain" ≡ codes "graph" → ⊥
-explain≢graph e = absurd (let bad : 101 ≡ 103 = begins (codes "explain") (codes "graph") e in omega (arith, bad))
-
-explain≢reports : codes "explain" ≡ codes "reports" → ⊥
-explain≢reports e = absurd (let bad : 101 ≡ 114 = begins (codes "explain") (codes "reports") e in omega (arith, bad))
-
-explain≢feed : codes "explain" ≡ codes "feed" → ⊥
-explain≢feed e = absurd (let bad : 101 ≡ 102 = begins (codes "explain") (codes "feed") e in omega (arith, bad))
-
-explain≢serve : codes "explain" ≡ codes "serve" → ⊥
-explain≢serve e = absurd (let bad : 101 ≡ 115 = begins (codes "explain") (codes "serve") e in omega (arith, bad))
-
-explain≢check : codes "explain" ≡ codes "check" → ⊥
-explain≢check e = absurd (let bad : 101 ≡ 99 = begins (codes "explain") (codes "check") e in omega (arith, bad))
-
-no_store_task : (name : Text) (rows : List Row) → name ≡ codes "explain" → AsksForNothing (IsExplaining rows) → AsksForNothing (IsStoreTask name rows)
-no_store_task name rows is none store.Create h = explain≢create (sym is ∙ h)
-no_store_task name rows is none (store.Graph verbose) h = explain≢graph (sym is ∙ h.0)
-no_store_task name rows is none (store.Explain explaining) h = none explaining h.1
-no_store_task name rows is none (store.Reports frames verbose) h = explain≢reports (sym is ∙ h.0)
-no_store_task name rows is none (store.Feed source frames checkpoint verbose) h = explain≢feed (sym is ∙ h.0)
-no_store_task name rows is none (store.Serve serving) h = explain≢serve (sym is ∙ h.0)
-
-no_stream_task : (name : Text) (rows : List Row) → name ≡ codes "explain" → first_of (codes "DIR") rows ≡ None → AsksForNothing (IsExplaining rows) → AsksForNothing (IsTask (name, rows))
-no_stream_task name rows is alone none (task.Check jobs verbose) h = explain≢check (sym is ∙ h.0)
-no_stream_task name rows is alone none (task.Graph jobs verbose) h = explain≢graph (sym is ∙ h.0)
-no_stream_task name rows is alone none (task.Explain explaining) h = none explaining h.2
-no_stream_task name rows is alone none (task.OnStore directory given) h = absurd (let bad : None ≡ Some directory.now = sym alone ∙ h.0 in cc bad)
-
-no_task_on_store : (name : Text) (rows : List Row) (directory : Text) → first_of (codes "DIR") rows ≡ Some directory → AsksForNothing (IsStoreTask name rows) → AsksForNothing (IsTask (name, rows))
-no_task_on_store name rows directory there none (task.Check jobs verbose) h = absurd (let bad : Some directory ≡ None = sym there ∙ h.1 in cc bad)
-no_task_on_store name rows directory there none (task.Graph jobs verbose) h = absurd (let bad : Some directory ≡ None = sym there ∙ h.1 in cc bad)
-no_task_on_store name rows directory there none (task.Explain explaining) h = absurd (let bad : Some directory ≡ None = sym there ∙ h.1 in cc bad)
-no_task_on_store name rows directory there none (task.OnStore other given) h = none given h.1
-
--- `explain` of a store
-pub of_store : (name : Text) (rows : List Row) (r : Misread) → name ≡ codes "explain" → IsUnasked (IsExplaining rows) (codes "explain", rows) r → IsUnasked (IsStoreTask name rows) (name, rows) r
-of_store name rows r is (inl h) = inl (h.0, (no_store_task name rows is h.1.0, λ bad. h.1.1 (refl, bad.1)))
-of_store name rows r is (inr h) = inr (h.0, (is, h.1.1))
-
--- `explain` of a trace text
-pub of_stream : (name : Text) (rows : List Row) (r : Misread) → name ≡ codes "explain" → first_of (codes "DIR") rows ≡ None → IsUnasked (IsExplaining rows) (codes "explain", rows) r → IsUnasked (IsTask (name, rows)) (name, rows) r
-of_stream name rows r is alone (inl h) = inl (h.0, (no_stream_task name rows is alone h.1.0, λ bad. h.1.1 (refl, bad.1)))
-of_stream name rows r is alone (inr h) = inr (h.0, (is, h.1.1))
+no_task_on_store : (name : Text) (rows : List Row) (directory : Text) → first_of (codes "DIR") rows ≡ Some directory → (name ≡ codes "explain" → ⊥) → AsksForNothing (IsStoreTask name rows) → AsksForNothing (IsTask (name, rows))
+no_task_on_store name rows directory there other none (task.Check jobs status verbose) h = absurd (let bad : Some directory ≡ None = sym there ∙ h.1 in cc bad)
+no_task_on_store name rows directory there other none (task.Graph jobs verbose) h = absurd (let bad : Some directory ≡ None = sym there ∙ h.1 in cc bad)
+no_task_on_store name rows directory there other none (task.Explain of explaining) h = other h.0
+no_task_on_store name rows directory there other none (task.OnStore it given) h = none given h.1
 
 -- what asks for nothing of a store asks for nothing
 pub of_directory : (name : Text) (rows : List Row) (directory : Text) (r : Misread) → first_of (codes "DIR") rows ≡ Some directory → IsUnasked (IsStoreTask name rows) (name, rows) r → IsUnasked (IsTask (name, rows)) (name, rows) r
-of_directory name rows directory r there (inl h) = inl (h.0, (no_task_on_store name rows directory there h.1.0, h.1.1))
-of_directory name rows directory r there (inr h) = inr h
+of_directory name rows directory misread.Incomplete there h = (no_task_on_store name rows directory there h.1 h.0, h.1)
+of_directory name rows directory misread.BadAddress there h = h
+of_directory name rows directory misread.NoWord there h = h
+of_directory name rows directory misread.TwoWords there h = h
+of_directory name rows directory (misread.Help text) there h = h
+of_directory name rows directory (misread.Bad text) there h = h
+of_directory name rows directory misread.OutOfMemory there h = h
+
+-- `explain` that names no word
+pub of_no_word : (rows : List Row) (r : Misread) → HasNoRace rows → IsNoWord rows r → IsUnasked (IsTask (codes "explain", rows)) (codes "explain", rows) r
+of_no_word rows misread.Incomplete none h = absurd h
+of_no_word rows misread.BadAddress none h = (refl, none, h)
+of_no_word rows misread.NoWord none h = (refl, none, h)
+of_no_word rows misread.TwoWords none h = absurd h
+of_no_word rows (misread.Help text) none h = absurd h
+of_no_word rows (misread.Bad text) none h = absurd h
+of_no_word rows misread.OutOfMemory none h = absurd h
+
+-- `explain` of a report, of no store that can be
+pub of_no_store : (rows : List Row) (k : ℕ) (r : Misread) → IsRace rows k → IsNoStoreOfRace rows r → IsUnasked (IsTask (codes "explain", rows)) (codes "explain", rows) r
+of_no_store rows k misread.Incomplete is h = absurd h
+of_no_store rows k misread.BadAddress is h = absurd h
+of_no_store rows k misread.NoWord is h = absurd h
+of_no_store rows k misread.TwoWords is h = (refl, (k, is), h)
+of_no_store rows k (misread.Help text) is h = absurd h
+of_no_store rows k (misread.Bad text) is h = absurd h
+of_no_store rows k misread.OutOfMemory is h = absurd h
+
+same : (a b : Text × List Row) → Some a ≡ Some b → b ≡ a
+same a b is = sym (cc is)
+
+-- what is made of a command line without another fault
+pub reads_command : (command : Option (Text × List Row)) (name : Text) (rows : List Row) (r : Result Task Misread) → command ≡ Some (name, rows) → AsksFor name rows r → IsReading [] command r
+reads_command None name rows r is h = absurd (cc is)
+reads_command (Some given) name rows (Ok it) is h = (refl, subst (λ (x : Text × List Row). IsTask x it) (same given (name, rows) is) h)
+reads_command (Some given) name rows (Err misread.Incomplete) is h = (refl, subst (λ (x : Text × List Row). IsUnasked (IsTask x) x misread.Incomplete) (same given (name, rows) is) h)
+reads_command (Some given) name rows (Err misread.BadAddress) is h = (refl, subst (λ (x : Text × List Row). IsUnasked (IsTask x) x misread.BadAddress) (same given (name, rows) is) h)
+reads_command (Some given) name rows (Err misread.NoWord) is h = (refl, subst (λ (x : Text × List Row). IsUnasked (IsTask x) x misread.NoWord) (same given (name, rows) is) h)
+reads_command (Some given) name rows (Err misread.TwoWords) is h = (refl, subst (λ (x : Text × List Row). IsUnasked (IsTask x) x misread.TwoWords) (same given (name, rows) is) h)
+reads_command (Some given) name rows (Err (misread.Help text)) is h = absurd h
+reads_command (Some given) name rows (Err (misread.Bad text)) is h = absurd h
+reads_command (Some given) name rows (Err misread.OutOfMemory) is h = tt

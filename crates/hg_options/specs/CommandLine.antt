@@ -5,7 +5,7 @@ use Rattle.clap.specs.Words.{App, Rule, Text, new_app, new_rule, with_rule, with
 use Rattle.clap.specs.declared.builder.action.ArgAction.TheVariants.{SetTrue}
 use Rattle.clap.specs.declared.builder.value_parser.ValueParser.TheVariants as parser
 use Rattle.hg_model.specs.declared.limits.TheConstants.{GREATEST_SOURCE}
-use Rattle.hg_options.specs.declared.limits.TheConstants.{GREATEST_PORT, LEAST_FRAMES, MOST_CONNECTIONS, MOST_EVERY, MOST_FRAMES, MOST_JOBS, MOST_SILENCE, MOST_WORKERS}
+use Rattle.hg_options.specs.declared.limits.TheConstants.{GREATEST_PORT, GREATEST_STATUS, LEAST_FRAMES, MOST_CONNECTIONS, MOST_EVERY, MOST_FRAMES, MOST_JOBS, MOST_RACE, MOST_SILENCE, MOST_WORKERS}
 
 -- a store's directory: any text but the empty one
 abbrev pub directory : Bool → Rule
@@ -87,10 +87,22 @@ jobs = record (option (codes "jobs")) {
   defaults = codes "1" ∷ [];
 }
 
--- the address of a word, whose text is read as one of a trace
+-- the status where races are counted: 1 to 255
+abbrev pub error_exitcode : Rule
+error_exitcode = record (option (codes "error-exitcode")) {
+  parser = Some (parser.Signed (pos 1) (pos GREATEST_STATUS));
+}
+
+-- the address of a word, whose text is read as one of a trace; or, with `--race`, the directory of a store
 abbrev pub address : Rule
 address = record (new_rule (codes "ADDRESS")) {
-  required = true;
+  parser = Some parser.NonEmptyString;
+}
+
+-- the number of a report: 1 to 2 ^ 32 - 1
+abbrev pub race : Rule
+race = record (option (codes "race")) {
+  parser = Some (parser.Signed (pos 1) (pos MOST_RACE));
 }
 
 -- that each line is printed
@@ -102,19 +114,19 @@ abbrev pub verbose : Rule
 verbose = flag (codes "verbose")
 
 abbrev pub check : App
-check = with_rule (with_rule (new_app (codes "check")) jobs) verbose
+check = with_rule (with_rule (with_rule (new_app (codes "check")) jobs) error_exitcode) verbose
 
 abbrev pub graph : App
 graph = with_rule (with_rule (with_rule (new_app (codes "graph")) (directory false)) jobs) verbose
 
 abbrev pub explain : App
-explain = with_rule (with_rule (with_rule (new_app (codes "explain")) address) (directory false)) all
+explain = with_rule (with_rule (with_rule (with_rule (new_app (codes "explain")) address) (directory false)) race) all
 
 abbrev pub create : App
 create = with_rule (new_app (codes "create")) (directory true)
 
 abbrev pub reports : App
-reports = with_rule (with_rule (with_rule (new_app (codes "reports")) (directory true)) frames) verbose
+reports = with_rule (with_rule (with_rule (with_rule (new_app (codes "reports")) (directory true)) frames) error_exitcode) verbose
 
 abbrev pub feed : App
 feed = with_rule (with_rule (with_rule (with_rule (with_rule (new_app (codes "feed")) (directory true)) source) checkpoint) frames) verbose

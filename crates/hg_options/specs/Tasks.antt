@@ -1,5 +1,5 @@
 -- What a command line asks for, by the command that it names and the texts of that command's arguments.
-use Rattle.std.specs.Prelude.{◌≡◌, ◌⊎◌, ◌↔◌, ◌≤◌, ℕ, ⊤, Bool, true, List, [], Option, Some, None, IfSome, IsSomeAnd, Result, MatchResult, codes}
+use Rattle.std.specs.Prelude.{◌≡◌, ◌⊎◌, ◌↔◌, ◌≤◌, ℕ, ⊤, Bool, true, List, [], Option, Some, None, IfSome, IsSomeAnd, Result, MatchResult, option_map, codes}
 use Rattle.std.specs.Str.Parse.{IsNumeral, digits_value, without_leading_plus}
 use Rattle.clap.specs.Words.{App, HasKind, IsAmong, Kinds, Row, Text, fault_of, first_of, one_of, subcommand_of}
 use Rattle.clap.specs.declared.error.Error.{Error}
@@ -7,7 +7,8 @@ use Rattle.clap.specs.declared.error.kind.ErrorKind.{ErrorKind}
 use Rattle.clap.specs.declared.error.kind.ErrorKind.TheVariants as kind
 use Rattle.hg_model.specs.declared.limits.TheConstants.{GREATEST_SOURCE}
 use Rattle.hg_wire.specs.Lines.{operand_of}
-use Rattle.hg_options.specs.declared.limits.TheConstants.{DEFAULT_EVERY, DEFAULT_FRAMES, GREATEST_PORT, LEAST_FRAMES, MOST_CONNECTIONS, MOST_EVERY, MOST_FRAMES, MOST_JOBS, MOST_SILENCE, MOST_WORKERS}
+use Rattle.hg_options.specs.declared.limits.TheConstants.{DEFAULT_EVERY, DEFAULT_FRAMES, GREATEST_PORT, GREATEST_STATUS, LEAST_FRAMES, MOST_CONNECTIONS, MOST_EVERY, MOST_FRAMES, MOST_JOBS, MOST_RACE, MOST_SILENCE, MOST_WORKERS}
+use Rattle.hg_options.specs.declared.task.ErrorExitcode.{ErrorExitcode}
 use Rattle.hg_options.specs.declared.task.Explaining.{Explaining}
 use Rattle.hg_options.specs.declared.task.Frames.{Frames}
 use Rattle.hg_options.specs.declared.task.Jobs.{Jobs}
@@ -15,6 +16,8 @@ use Rattle.hg_options.specs.declared.task.Serving.{Serving}
 use Rattle.hg_options.specs.declared.task.Source.{Source}
 use Rattle.hg_options.specs.declared.task.StoreTask.{StoreTask}
 use Rattle.hg_options.specs.declared.task.StoreTask.TheVariants as store
+use Rattle.hg_options.specs.declared.task.Subject.{Subject}
+use Rattle.hg_options.specs.declared.task.Subject.TheVariants as subject
 use Rattle.hg_options.specs.declared.task.Task.{Task}
 use Rattle.hg_options.specs.declared.task.Task.TheVariants as task
 use Rattle.hg_options.specs.declared.task.Misread.{Misread}
@@ -47,6 +50,11 @@ pub record AreServing (rows : List Row) (serving : Serving) : Type 0 where
   pub every : IsNumber (codes "every") 1 MOST_EVERY DEFAULT_EVERY rows serving.every
   pub silence : IsNumber (codes "silence") 1 MOST_SILENCE 0 rows serving.silence
 
+-- the status that `--error-exitcode` spells, from 1 to 255; or it spells none
+abbrev pub IsErrorExitcode : List Row → Option ErrorExitcode → Type 0
+IsErrorExitcode rows (Some given) = Spells (codes "error-exitcode") rows given.status × (1 ≤ given.status) × (given.status ≤ GREATEST_STATUS)
+IsErrorExitcode rows None = (m : ℕ) → Spells (codes "error-exitcode") rows m → 1 ≤ m → m ≤ GREATEST_STATUS → ⊥
+
 -- the flag was given
 abbrev pub IsFlag : Text → List Row → Bool → Type 0
 IsFlag id rows flag = (flag ≡ true) ↔ (first_of id rows ≡ Some (codes "true"))
@@ -59,24 +67,50 @@ IsAddress rows address = (t : Text) × (first_of (codes "ADDRESS") rows ≡ Some
 abbrev pub HasNoAddress : List Row → Type 0
 HasNoAddress rows = (t : Text) × (first_of (codes "ADDRESS") rows ≡ Some t) × (operand_of 64 t ≡ None)
 
-abbrev pub IsExplaining : List Row → Explaining → Type 0
-IsExplaining rows explaining = IsAddress rows explaining.address × IsFlag (codes "all") rows explaining.all
+-- `--race` spells the number of a report
+abbrev pub IsRace : List Row → ℕ → Type 0
+IsRace rows k = Spells (codes "race") rows k × (1 ≤ k) × (k ≤ MOST_RACE)
+
+-- it spells none
+abbrev pub HasNoRace : List Row → Type 0
+HasNoRace rows = (m : ℕ) → Spells (codes "race") rows m → 1 ≤ m → m ≤ MOST_RACE → ⊥
+
+abbrev pub IsRaceOption : List Row → Option ℕ → Type 0
+IsRaceOption rows None = HasNoRace rows
+IsRaceOption rows (Some k) = IsRace rows k
+
+-- what stands where else ADDRESS does, and is no address
+abbrev pub IsFirst : List Row → Option Text → Type 0
+IsFirst rows directory = (first_of (codes "ADDRESS") rows ≡ directory) × IfSome directory (λ t. operand_of 64 t ≡ None)
+
+-- With `--race` that is the directory of a store, or none.
+abbrev pub IsStoreOfRace : List Row → Option Text → Type 0
+IsStoreOfRace rows directory = (first_of (codes "DIR") rows ≡ None) × IsFirst rows directory
+
+-- the word that is asked for, and the directory of the store
+abbrev pub IsSubject : List Row → Option Text → Subject → Type 0
+IsSubject rows directory (subject.Word address) = HasNoRace rows × IsAddress rows address × (first_of (codes "DIR") rows ≡ directory)
+IsSubject rows directory (subject.Race number) = IsRace rows number × IsStoreOfRace rows directory
+
+abbrev pub IsExplaining : List Row → Option Text → Explaining → Type 0
+IsExplaining rows directory explaining = IsSubject rows directory explaining.subject × IsFlag (codes "all") rows explaining.all
 
 -- what the command `name` with these arguments asks for of a store
 abbrev pub IsStoreTask : Text → List Row → StoreTask → Type 0
 IsStoreTask name rows store.Create = name ≡ codes "create"
 IsStoreTask name rows (store.Graph verbose) = (name ≡ codes "graph") × IsFlag (codes "verbose") rows verbose
-IsStoreTask name rows (store.Explain explaining) = (name ≡ codes "explain") × IsExplaining rows explaining
-IsStoreTask name rows (store.Reports frames verbose) = (name ≡ codes "reports") × AreFrames rows frames × IsFlag (codes "verbose") rows verbose
+IsStoreTask name rows (store.Reports frames status verbose) = (name ≡ codes "reports") × AreFrames rows frames × IsErrorExitcode rows status
+    × IsFlag (codes "verbose") rows verbose
 IsStoreTask name rows (store.Feed source frames checkpoint verbose) = (name ≡ codes "feed") × IsSource rows source × AreFrames rows frames
     × IsFlag (codes "checkpoint") rows checkpoint × IsFlag (codes "verbose") rows verbose
 IsStoreTask name rows (store.Serve serving) = (name ≡ codes "serve") × AreServing rows serving
 
 -- what the command `name` with these arguments asks for
 abbrev pub IsTask : Text × List Row → Task → Type 0
-IsTask (name, rows) (task.Check jobs verbose) = (name ≡ codes "check") × (first_of (codes "DIR") rows ≡ None) × AreJobs rows jobs × IsFlag (codes "verbose") rows verbose
+IsTask (name, rows) (task.Check jobs status verbose) = (name ≡ codes "check") × (first_of (codes "DIR") rows ≡ None) × AreJobs rows jobs
+    × IsErrorExitcode rows status × IsFlag (codes "verbose") rows verbose
 IsTask (name, rows) (task.Graph jobs verbose) = (name ≡ codes "graph") × (first_of (codes "DIR") rows ≡ None) × AreJobs rows jobs × IsFlag (codes "verbose") rows verbose
-IsTask (name, rows) (task.Explain explaining) = (name ≡ codes "explain") × (first_of (codes "DIR") rows ≡ None) × IsExplaining rows explaining
+IsTask (name, rows) (task.Explain directory explaining) = (name ≡ codes "explain") × IsExplaining rows (option_map (λ t. t.now) directory) explaining
 IsTask (name, rows) (task.OnStore directory given) =
     (first_of (codes "DIR") rows ≡ Some directory.now) × IsStoreTask name rows given
 
@@ -94,17 +128,30 @@ SomeKind P kinds = (k : ErrorKind) × IsAmong k kinds × P k
 
 -- it is `explain`, and its address is no number
 abbrev pub HasBadAddress : Text × List Row → Type 0
-HasBadAddress (name, rows) = (name ≡ codes "explain") × HasNoAddress rows
+HasBadAddress (name, rows) = (name ≡ codes "explain") × HasNoRace rows × HasNoAddress rows
 
--- A command lacks something: it asks for no value, and its address is not bad.
+-- it is `explain`, and names no word
+abbrev pub HasNoWord : Text × List Row → Type 0
+HasNoWord (name, rows) = (name ≡ codes "explain") × HasNoRace rows × (first_of (codes "ADDRESS") rows ≡ None)
+
+-- it is `explain` of a report, and an address stands there too: two texts, or one that is an address
+abbrev pub NamesTwo : List Row → Type 0
+NamesTwo rows = ((t : Text) × (first_of (codes "DIR") rows ≡ Some t)) ⊎ ((address : ℕ) × IsAddress rows address)
+
+abbrev pub HasTwoWords : Text × List Row → Type 0
+HasTwoWords (name, rows) = (name ≡ codes "explain") × ((k : ℕ) × IsRace rows k) × NamesTwo rows
+
+-- A command lacks something: it asks for no value, and is not `explain`.
 abbrev pub LacksSome : {T : Type 0} → (T → Type 0) → Text × List Row → Type 0
-LacksSome is_asked given = AsksForNothing is_asked × (HasBadAddress given → ⊥)
+LacksSome is_asked given = AsksForNothing is_asked × (given.0 ≡ codes "explain" → ⊥)
 
--- what is told of a command line whose first fault has one of these kinds, or which has no fault but in an address
+-- what is told of a command line whose first fault has one of these kinds, or which has no fault but in how it names a word
 abbrev pub IsMisread : Kinds → Option (Text × List Row) → Misread → Type 0
 IsMisread kinds command (misread.Help text) = SomeKind AsksForText kinds
 IsMisread kinds command (misread.Bad text) = SomeKind (λ k. AsksForText k → ⊥) kinds
 IsMisread kinds command misread.BadAddress = (kinds ≡ []) × IsSomeAnd command HasBadAddress
+IsMisread kinds command misread.NoWord = (kinds ≡ []) × IsSomeAnd command HasNoWord
+IsMisread kinds command misread.TwoWords = (kinds ≡ []) × IsSomeAnd command HasTwoWords
 IsMisread kinds command misread.Incomplete = (kinds ≡ []) × IfSome command (λ given. LacksSome (IsTask given) given)
 IsMisread kinds command misread.OutOfMemory = ⊤
 
@@ -122,13 +169,24 @@ IsReadBy app words r = IsReading (fault_of app words) (subcommand_of app words) 
 abbrev pub IsToldOf : Error → Misread → Type 0
 IsToldOf error r = (kinds : Kinds) (command : Option (Text × List Row)) → HasKind kinds error → IsMisread kinds command r
 
--- Why a command with its arguments asks for nothing: it lacks something, or the address is no number.
+-- Why a command with its arguments asks for nothing: it lacks something, or it names no word, or none that can be.
 abbrev pub IsUnasked : {T : Type 0} → (T → Type 0) → Text × List Row → Misread → Type 0
-IsUnasked is_asked given r = ((r ≡ misread.Incomplete) × LacksSome is_asked given) ⊎ ((r ≡ misread.BadAddress) × HasBadAddress given)
+IsUnasked is_asked given misread.Incomplete = LacksSome is_asked given
+IsUnasked is_asked given misread.BadAddress = HasBadAddress given
+IsUnasked is_asked given misread.NoWord = HasNoWord given
+IsUnasked is_asked given misread.TwoWords = HasTwoWords given
+IsUnasked is_asked given r = ⊥
 
--- The command `explain` with these arguments asks for the life of a word, or for nothing.
-abbrev pub AsksToExplain : List Row → Result Explaining Misread → Type 0
-AsksToExplain rows r = MatchResult r (IsExplaining rows) (IsUnasked (IsExplaining rows) (codes "explain", rows))
+-- Why the text of ADDRESS is the address of no word: there is none, or it is no number.
+abbrev pub IsNoWord : List Row → Misread → Type 0
+IsNoWord rows misread.NoWord = first_of (codes "ADDRESS") rows ≡ None
+IsNoWord rows misread.BadAddress = HasNoAddress rows
+IsNoWord rows r = ⊥
+
+-- Why no store, nor standard input, is named with `--race`: an address is named too.
+abbrev pub IsNoStoreOfRace : List Row → Misread → Type 0
+IsNoStoreOfRace rows misread.TwoWords = NamesTwo rows
+IsNoStoreOfRace rows r = ⊥
 
 -- The command `name` with these arguments asks for something of a store, or for nothing.
 abbrev pub AsksOfStore : Text → List Row → Result StoreTask Misread → Type 0

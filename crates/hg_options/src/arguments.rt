@@ -1,7 +1,8 @@
 //! The arguments and options of the commands, as data.
 
 use crate::limits::{
-    LEAST_FRAMES, MOST_CONNECTIONS, MOST_EVERY, MOST_FRAMES, MOST_JOBS, MOST_SILENCE, MOST_WORKERS,
+    GREATEST_STATUS, LEAST_FRAMES, MOST_CONNECTIONS, MOST_EVERY, MOST_FRAMES, MOST_JOBS, MOST_RACE,
+    MOST_SILENCE, MOST_WORKERS,
 };
 
 /// The name of the argument for a store's directory.
@@ -34,8 +35,14 @@ pub const SILENCE: &str = "silence";
 /// The name of the option for the number of threads that read a trace.
 pub const JOBS: &str = "jobs";
 
+/// The name of the option for the status where races are counted.
+pub const ERROR_EXITCODE: &str = "error-exitcode";
+
 /// The name of the argument for the address of a word.
 pub const ADDRESS: &str = "ADDRESS";
+
+/// The name of the option for the number of a report.
+pub const RACE: &str = "race";
 
 /// The name of the flag that asks for each line.
 pub const ALL: &str = "all";
@@ -145,4 +152,26 @@ pub(crate) const JOBS_OPTION: NumberOption = NumberOption {
     least: 1,
     most: MOST_JOBS as i64,
     otherwise: &["1"],
+};
+
+/// The status of a run that counts races, in place of 0.
+pub(crate) const ERROR_EXITCODE_OPTION: NumberOption = NumberOption {
+    name: ERROR_EXITCODE,
+    value: "N",
+    help: "The status where there are races, in place of 0",
+    required: false,
+    least: 1,
+    most: GREATEST_STATUS as i64,
+    otherwise: &[],
+};
+
+/// The number of the report whose word is explained.
+pub(crate) const RACE_OPTION: NumberOption = NumberOption {
+    name: RACE,
+    value: "K",
+    help: "Explain the word of the race that `check` and `reports` print as number K, in place of ADDRESS",
+    required: false,
+    least: 1,
+    most: MOST_RACE as i64,
+    otherwise: &[],
 };

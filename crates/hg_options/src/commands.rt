@@ -7,8 +7,9 @@ ghost use Rattle.hg_options.specs.CommandLine as spec;
 ghost use Rattle.hg_options.specs.Tools.{GainsArgument, GainsSubcommand, HasNoGlobals};
 
 use crate::arguments::{
-    ADDRESS, ALL_FLAG, CHECKPOINT_FLAG, CONNECTIONS_OPTION, DIRECTORY, EVERY_OPTION, FRAMES_OPTION,
-    JOBS_OPTION, NumberOption, PORT, SILENCE_OPTION, SOURCE, Switch, VERBOSE_FLAG, WORKERS_OPTION,
+    ADDRESS, ALL_FLAG, CHECKPOINT_FLAG, CONNECTIONS_OPTION, DIRECTORY, ERROR_EXITCODE_OPTION,
+    EVERY_OPTION, FRAMES_OPTION, JOBS_OPTION, NumberOption, PORT, RACE_OPTION, SILENCE_OPTION,
+    SOURCE, Switch, VERBOSE_FLAG, WORKERS_OPTION,
 };
 use crate::help::LANGUAGE;
 use crate::limits::GREATEST_PORT;
@@ -47,9 +48,9 @@ fn address<'a>(alloc: Global) -> Arg<'a>
     ensures rule { rule_of result ≡ spec.address }
     ensures local { result.global ≡ false }
 {
-    Arg::new(alloc, ADDRESS).required(true).help(
-        "The address of the word, in decimal or in hexadecimal after 0x",
-    )
+    Arg::new(alloc, ADDRESS)
+        .value_parser(ValueParser::NonEmptyString)
+        .help("The address of the word, in decimal or in hexadecimal after 0x")
 }
 
 /// A flag.
@@ -103,7 +104,7 @@ fn with_argument<'a>(
     }
 }
 
-/// `check [--jobs N] [--verbose]`.
+/// `check [--jobs N] [--error-exitcode N] [--verbose]`.
 fn check<'a>(alloc: Global) -> Result<Command<'a>, AllocError>
     ensures app { IfOk result (λ c. app_of c ≡ spec.check) }
     ensures local { IfOk result HasNoGlobals }
@@ -114,7 +115,8 @@ fn check<'a>(alloc: Global) -> Result<Command<'a>, AllocError>
         "Reads a trace on standard input, and prints its data races",
     );
     let with_jobs = with_argument(Ok(begun), option(alloc, JOBS_OPTION));
-    with_argument(with_jobs, flag(alloc, VERBOSE_FLAG))
+    let with_status = with_argument(with_jobs, option(alloc, ERROR_EXITCODE_OPTION));
+    with_argument(with_status, flag(alloc, VERBOSE_FLAG))
 }
 
 /// `graph [DIR] [--jobs N] [--verbose]`.
@@ -132,7 +134,7 @@ fn graph<'a>(alloc: Global) -> Result<Command<'a>, AllocError>
     with_argument(with_jobs, flag(alloc, VERBOSE_FLAG))
 }
 
-/// `explain ADDRESS [DIR] [--all]`.
+/// `explain ADDRESS [DIR] [--all]`, or `explain --race K [DIR] [--all]`.
 fn explain<'a>(alloc: Global) -> Result<Command<'a>, AllocError>
     ensures app { IfOk result (λ c. app_of c ≡ spec.explain) }
     ensures local { IfOk result HasNoGlobals }
@@ -144,7 +146,8 @@ fn explain<'a>(alloc: Global) -> Result<Command<'a>, AllocError>
     );
     let of_word = with_argument(Ok(begun), address(alloc));
     let of_store = with_argument(of_word, directory(alloc, false));
-    with_argument(of_store, flag(alloc, ALL_FLAG))
+    let of_race = with_argument(of_store, option(alloc, RACE_OPTION));
+    with_argument(of_race, flag(alloc, ALL_FLAG))
 }
 
 /// `create DIR`.
@@ -156,7 +159,7 @@ fn create<'a>(alloc: Global) -> Result<Command<'a>, AllocError>
     with_argument(Ok(begun), directory(alloc, true))
 }
 
-/// `reports DIR [--frames F] [--verbose]`.
+/// `reports DIR [--frames F] [--error-exitcode N] [--verbose]`.
 fn reports<'a>(alloc: Global) -> Result<Command<'a>, AllocError>
     ensures app { IfOk result (λ c. app_of c ≡ spec.reports) }
     ensures local { IfOk result HasNoGlobals }
@@ -164,7 +167,8 @@ fn reports<'a>(alloc: Global) -> Result<Command<'a>, AllocError>
     let begun = command(alloc, "reports", "Prints the data races that a store holds");
     let of_store = with_argument(Ok(begun), directory(alloc, true));
     let with_frames = with_argument(of_store, option(alloc, FRAMES_OPTION));
-    with_argument(with_frames, flag(alloc, VERBOSE_FLAG))
+    let with_status = with_argument(with_frames, option(alloc, ERROR_EXITCODE_OPTION));
+    with_argument(with_status, flag(alloc, VERBOSE_FLAG))
 }
 
 /// `feed DIR SOURCE [--checkpoint] [--frames F] [--verbose]`.

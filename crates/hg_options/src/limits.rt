@@ -29,3 +29,9 @@ pub const DEFAULT_EVERY: u32 = 4_096;
 
 /// The longest time that a client may be told to be silent, in seconds.
 pub const MOST_SILENCE: u16 = 65_535;
+
+/// The greatest exit status.
+pub const GREATEST_STATUS: u8 = 255;
+
+/// The greatest number of a report that is asked for.
+pub const MOST_RACE: u32 = 4_294_967_295;

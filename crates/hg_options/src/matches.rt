@@ -1,18 +1,20 @@
 //! From the matches of a command line to what it asks for.
 
-ghost use Rattle.std.specs.Prelude.{◌≡◌, ◌≤◌, ℕ, Some, None, codes};
+ghost use Rattle.std.specs.Prelude.{◌≡◌, ◌≤◌, ℕ, Some, None, IfErr, IfOk, codes, option_map};
 ghost use Rattle.clap.specs.Words.{first_of, found_of, rows_of};
-ghost use Rattle.hg_options.specs.Tasks.{AreFrames, AreJobs, AreServing, AsksFor, AsksOfStore, AsksToExplain, IsFlag, IsNumber, IsSource};
+ghost use Rattle.hg_options.specs.Tasks.{AreFrames, AreJobs, AreServing, AsksFor, AsksOfStore, IsAddress, IsErrorExitcode, IsFirst, IsFlag, IsNoStoreOfRace, IsNoWord, IsNumber, IsRaceOption, IsSource, IsStoreOfRace};
 
 use crate::arguments::{
-    ADDRESS, ALL, CHECKPOINT, CONNECTIONS, DIRECTORY, EVERY, FRAMES, JOBS, PORT, SILENCE, SOURCE,
-    VERBOSE, WORKERS,
+    ADDRESS, ALL, CHECKPOINT, CONNECTIONS, DIRECTORY, ERROR_EXITCODE, EVERY, FRAMES, JOBS, PORT,
+    RACE, SILENCE, SOURCE, VERBOSE, WORKERS,
 };
 use crate::limits::{
     DEFAULT_EVERY, DEFAULT_FRAMES, GREATEST_PORT, LEAST_FRAMES, MOST_CONNECTIONS, MOST_EVERY,
-    MOST_FRAMES, MOST_JOBS, MOST_SILENCE, MOST_WORKERS,
+    MOST_FRAMES, MOST_JOBS, MOST_RACE, MOST_SILENCE, MOST_WORKERS,
 };
-use crate::task::{Explaining, Frames, Jobs, Misread, Serving, Source, StoreTask, Task};
+use crate::task::{
+    ErrorExitcode, Explaining, Frames, Jobs, Misread, Serving, Source, StoreTask, Subject, Task,
+};
 use clap::ArgMatches;
 use hg_model::limits::GREATEST_SOURCE;
 use hg_wire::number::number_of_token;
@@ -67,6 +69,19 @@ fn jobs(given: &ArgMatches<'_>) -> Jobs
     }
 }
 
+/// The status where races are counted, if one is asked for.
+fn error_exitcode(given: &ArgMatches<'_>) -> Option<ErrorExitcode>
+    ensures { IsErrorExitcode (rows_of (found_of given.now)) result }
+{
+    let Some(status) = given.get_one::<u8>(ERROR_EXITCODE) else {
+        return None;
+    };
+    if status == 0 {
+        return None;
+    }
+    Some(ErrorExitcode { status })
+}
+
 /// The source of the events.
 fn source(given: &ArgMatches<'_>) -> Source
     ensures { IsSource (rows_of (found_of given.now)) result }
@@ -101,24 +116,84 @@ fn is_set(given: &ArgMatches<'_>, id: &str) -> bool
     }
 }
 
-/// The word whose life is printed.
-fn explaining(given: &ArgMatches<'_>) -> Result<Explaining, Misread>
-    ensures { AsksToExplain (rows_of (found_of given.now)) result }
+/// The number of the report whose word is asked for, if one is.
+fn race(given: &ArgMatches<'_>) -> Option<u32>
+    ensures { IsRaceOption (rows_of (found_of given.now)) result }
+{
+    let number = wide_number(given, RACE, 1, MOST_RACE, 0);
+    if number == 0 {
+        return None;
+    }
+    Some(number)
+}
+
+/// The word at an address.
+fn word_at(given: &ArgMatches<'_>) -> Result<u64, Misread>
+    ensures word { IfOk result (IsAddress (rows_of (found_of given.now))) }
+    ensures none { IfErr result (IsNoWord (rows_of (found_of given.now))) }
 {
     let Some(text) = given.get_str(ADDRESS) else {
-        return Err(Misread::Incomplete);
+        return Err(Misread::NoWord);
     };
-    let Some(address) = number_of_token(text.as_bytes()) else {
-        return Err(Misread::BadAddress);
+    match number_of_token(text.as_bytes()) {
+        Some(address) => Ok(address),
+        None => Err(Misread::BadAddress),
+    }
+}
+
+/// The text that stands where else ADDRESS does, as the directory of a store. One that is an address is none.
+fn first_directory<'a>(given: &ArgMatches<'a>) -> Result<Option<&'a str>, Misread>
+    ensures first { IfOk result (λ directory. IsFirst (rows_of (found_of given.now)) (option_map (λ t. t.now) directory)) }
+    ensures none { IfErr result (IsNoStoreOfRace (rows_of (found_of given.now))) }
+{
+    let Some(text) = given.get_str(ADDRESS) else {
+        return Ok(None);
     };
-    Ok(Explaining {
-        address,
-        all: is_set(given, ALL),
-    })
+    match number_of_token(text.as_bytes()) {
+        Some(_address) => Err(Misread::TwoWords),
+        None => Ok(Some(text)),
+    }
+}
+
+/// The directory of a store behind `--race`, where at most one text stands beside it.
+fn directory_of_race<'a>(given: &ArgMatches<'a>) -> Result<Option<&'a str>, Misread>
+    ensures store { IfOk result (λ directory. IsStoreOfRace (rows_of (found_of given.now)) (option_map (λ t. t.now) directory)) }
+    ensures none { IfErr result (IsNoStoreOfRace (rows_of (found_of given.now))) }
+{
+    match given.get_str(DIRECTORY) {
+        Some(_second) => Err(Misread::TwoWords),
+        None => first_directory(given),
+    }
+}
+
+/// The word whose life is printed, and of which store.
+fn explain_task<'a>(given: &ArgMatches<'a>) -> Result<Task<'a>, Misread>
+    ensures { AsksFor (codes "explain") (rows_of (found_of given.now)) result }
+{
+    let all = is_set(given, ALL);
+    match race(given) {
+        Some(number) => {
+            let directory = directory_of_race(given)?;
+            let subject = Subject::Race { number };
+            Ok(Task::Explain {
+                directory,
+                explaining: Explaining { subject, all },
+            })
+        }
+        None => {
+            let address = word_at(given)?;
+            let subject = Subject::Word { address };
+            Ok(Task::Explain {
+                directory: given.get_str(DIRECTORY),
+                explaining: Explaining { subject, all },
+            })
+        }
+    }
 }
 
 /// What a command asks for of a store, if it is one of those that may.
 fn store_task(name: &str, given: &ArgMatches<'_>) -> Result<StoreTask, Misread>
+    requires { name.now ≡ codes "explain" → ⊥ }
     ensures { AsksOfStore name.now (rows_of (found_of given.now)) result }
 {
     match name {
@@ -126,11 +201,9 @@ fn store_task(name: &str, given: &ArgMatches<'_>) -> Result<StoreTask, Misread>
         "graph" => Ok(StoreTask::Graph {
             verbose: is_set(given, VERBOSE),
         }),
-        "explain" => Ok(StoreTask::Explain {
-            explaining: explaining(given)?,
-        }),
         "reports" => Ok(StoreTask::Reports {
             frames: frames(given),
+            error_exitcode: error_exitcode(given),
             verbose: is_set(given, VERBOSE),
         }),
         "feed" => Ok(StoreTask::Feed {
@@ -148,20 +221,19 @@ fn store_task(name: &str, given: &ArgMatches<'_>) -> Result<StoreTask, Misread>
 
 /// What a command asks for without a store, if it is one of those that may.
 fn stream_task<'a>(name: &str, given: &ArgMatches<'_>) -> Result<Task<'a>, Misread>
-    requires { first_of (codes "DIR") (rows_of (found_of given.now)) ≡ None }
+    requires other { name.now ≡ codes "explain" → ⊥ }
+    requires alone { first_of (codes "DIR") (rows_of (found_of given.now)) ≡ None }
     ensures { AsksFor name.now (rows_of (found_of given.now)) result }
 {
     match name {
         "check" => Ok(Task::Check {
             jobs: jobs(given),
+            error_exitcode: error_exitcode(given),
             verbose: is_set(given, VERBOSE),
         }),
         "graph" => Ok(Task::Graph {
             jobs: jobs(given),
             verbose: is_set(given, VERBOSE),
-        }),
-        "explain" => Ok(Task::Explain {
-            explaining: explaining(given)?,
         }),
         _ => Err(Misread::Incomplete),
     }
@@ -171,6 +243,9 @@ fn stream_task<'a>(name: &str, given: &ArgMatches<'_>) -> Result<Task<'a>, Misre
 pub fn task<'a>(name: &str, given: &ArgMatches<'a>) -> Result<Task<'a>, Misread>
     ensures { AsksFor name.now (rows_of (found_of given.now)) result }
 {
+    if name == "explain" {
+        return explain_task(given);
+    }
     match given.get_str(DIRECTORY) {
         Some(directory) => {
             let task = store_task(name, given)?;

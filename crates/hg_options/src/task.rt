@@ -9,14 +9,28 @@ use std::string::String;
 /// What a command line asks for.
 #[derive(Clone, Copy, Drop)]
 pub enum Task<'a> {
-    /// The races of the trace on standard input; and, where `verbose` is set, its last line in words.
-    Check { jobs: Jobs, verbose: bool },
+    /// The races of the trace on standard input; and, where `verbose` is set, its last line in words. Where races are counted, the status
+    /// is `error_exitcode`, if it is given, in place of 0.
+    Check {
+        jobs: Jobs,
+        error_exitcode: Option<ErrorExitcode>,
+        verbose: bool,
+    },
     /// The segments of the trace on standard input; `verbose` as in `Check`.
-    Graph { jobs: Jobs, verbose: bool },
-    /// The life of a word in the trace on standard input.
-    Explain { explaining: Explaining },
+    Graph {
+        jobs: Jobs,
+        verbose: bool,
+    },
+    /// The life of a word in the store in a directory, or in the trace on standard input.
+    Explain {
+        directory: Option<&'a str>,
+        explaining: Explaining,
+    },
     /// What is asked for of the store in a directory.
-    OnStore { directory: &'a str, task: StoreTask },
+    OnStore {
+        directory: &'a str,
+        task: StoreTask,
+    },
 }
 
 /// What a command line asks for of a store.
@@ -28,13 +42,10 @@ pub enum StoreTask {
     Graph {
         verbose: bool,
     },
-    /// The life of a word.
-    Explain {
-        explaining: Explaining,
-    },
-    /// Its races.
+    /// Its races; `error_exitcode` as in `Task::Check`.
     Reports {
         frames: Frames,
+        error_exitcode: Option<ErrorExitcode>,
         verbose: bool,
     },
     /// To accept the events of the trace on standard input as those of a source; and, where `checkpoint` is set, to make a checkpoint at
@@ -51,13 +62,29 @@ pub enum StoreTask {
     },
 }
 
+/// How a word is named.
+#[derive(Clone, Copy, Drop)]
+pub enum Subject {
+    /// By an address in it.
+    Word { address: u64 },
+    /// By the report of it that is kept as this number, from 1 on.
+    Race { number: u32 },
+}
+
 /// A word whose life is printed.
 #[derive(Clone, Copy, Drop)]
 pub struct Explaining {
-    /// An address in it.
-    pub address: u64,
+    /// Which word.
+    pub subject: Subject,
     /// Whether each access has a line, even if it changes nothing.
     pub all: bool,
+}
+
+/// The status of a run that counts races, in place of 0: 1 to 255.
+#[derive(Clone, Copy, Drop)]
+pub struct ErrorExitcode {
+    pub status: u8,
+    ghost fits: { 1 ≤ status },
 }
 
 /// How many threads read a trace: 1 to 64.
@@ -108,6 +135,10 @@ pub enum Misread {
     Bad(String),
     /// Its address is no number of 64 bits as a trace writes them.
     BadAddress,
+    /// It asks for a word, and names none.
+    NoWord,
+    /// It names a word by an address and by a report.
+    TwoWords,
     /// It has no fault, and yet its command lacks what it needs. No command line is known that ends here.
     Incomplete,
     /// A growth was refused.

@@ -6,3 +6,5 @@ pub mod Parsing
 pub mod Pushing
 pub mod Endings
 pub mod Inputs
+mod Keeping
+mod Texts

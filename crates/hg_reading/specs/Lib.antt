@@ -1,3 +1,4 @@
 pub mod Taking
 pub mod Queueing
 pub mod Endings
+pub mod Whole

@@ -3,6 +3,7 @@
 #![tactic(auto)]
 
 pub mod ending;
+pub mod kept;
 pub mod part;
 pub mod pieces;
 pub mod queued;

@@ -43,7 +43,7 @@ impl Intake {
 
 /// Offers the lines of a piece. Where each was passed, the sink prints.
 #[inline(always)]
-fn take_piece<P: Pieces<W, S>, W, S: Sink<W>>(
+pub(crate) fn take_piece<P: Pieces<W, S>, W, S: Sink<W>>(
     pieces: &mut P,
     reader: &mut EventReader,
     sink: &mut S,
@@ -65,7 +65,7 @@ fn take_piece<P: Pieces<W, S>, W, S: Sink<W>>(
 }
 
 /// Offers the last line, which may lack its line feed.
-fn finish<W, S: Sink<W>>(
+pub(crate) fn finish<W, S: Sink<W>>(
     reader: EventReader,
     sink: &mut S,
     output: &mut Output<W>,

@@ -80,6 +80,15 @@ fn beside_streams(file: File) -> io::Result<File> {
     Ok(file)
 }
 
+/// Says so where something other than a regular file, or a link to one, has a path. One that has none is not looked at. To open a FIFO
+/// would wait for a writer.
+fn see_that_it_is_a_file(rt: &HostRuntime, path: &str) -> io::Result<()> {
+    match fs::metadata(rt, path) {
+        Ok(found) if !found.is_file() => Err(io::Error::other("it is no regular file")),
+        _ => Ok(()),
+    }
+}
+
 /// Opens a file. `None` says that the directory exists, and has no such file.
 fn open_file(
     rt: &HostRuntime,
@@ -88,6 +97,9 @@ fn open_file(
     mode: OpenMode,
 ) -> Result<Option<File>, OpenFault> {
     let path = path_of(rt, directory, name)?;
+    if let Err(error) = see_that_it_is_a_file(rt, path.as_str()) {
+        return Err(failed(name, error));
+    }
     let mut options = OpenOptions::new();
     options
         .read(true)
@@ -126,15 +138,19 @@ fn lock(file: &File, mode: OpenMode) -> Result<(), OpenFault>
 }
 
 /// A file as a device. One that is missing has no byte.
-fn device(name: &'static str, file: Option<File>) -> Result<FileDisk, OpenFault>
+fn device(name: &'static str, file: Option<File>, mode: OpenMode) -> Result<FileDisk, OpenFault>
     ensures { IfErr result (λ f. f.cause ≡ Cause.DeviceFault) }
 {
-    match file {
-        Some(file) => match FileDisk::new(file) {
-            Ok(disk) => Ok(disk),
-            Err(error) => Err(failed(name, error)),
-        },
-        None => Ok(FileDisk::missing()),
+    let Some(file) = file else {
+        return Ok(FileDisk::missing());
+    };
+    let opened = match mode {
+        OpenMode::Look => FileDisk::for_reading(file),
+        _ => FileDisk::new(file),
+    };
+    match opened {
+        Ok(disk) => Ok(disk),
+        Err(error) => Err(failed(name, error)),
     }
 }
 
@@ -144,7 +160,7 @@ fn open_journal(rt: &HostRuntime, directory: &str, mode: OpenMode) -> Result<Fil
     if let Some(file) = &file {
         lock(file, mode)?;
     }
-    device("journal", file)
+    device("journal", file, mode)
 }
 
 /// Where a scratch file is made: a name in the system's folder for temporary files, of a random number.
@@ -200,7 +216,7 @@ fn open_pages(rt: &HostRuntime, directory: &str, mode: OpenMode) -> Result<FileD
     let pages = open_file(rt, directory, "pages", mode)?;
     if mode == OpenMode::Look {
         match scratch_copy(rt, &pages) {
-            Ok(copy) => return device("pages", Some(copy)),
+            Ok(copy) => return device("pages", Some(copy), OpenMode::Make),
             Err(error) if error.kind() == ErrorKind::OutOfMemory => {
                 return Err(out_of_memory("pages"));
             }
@@ -212,7 +228,7 @@ fn open_pages(rt: &HostRuntime, directory: &str, mode: OpenMode) -> Result<FileD
             sync("pages", file)?;
         }
     }
-    device("pages", pages)
+    device("pages", pages, mode)
 }
 
 /// Opens one of the two roots.
@@ -222,7 +238,7 @@ fn open_root(
     name: &'static str,
     mode: OpenMode,
 ) -> Result<FileDisk, OpenFault> {
-    device(name, open_file(rt, directory, name, mode)?)
+    device(name, open_file(rt, directory, name, mode)?, mode)
 }
 
 /// Opens the files.

@@ -4,6 +4,7 @@
 pub mod directory;
 pub mod events;
 pub mod faults;
+pub mod status;
 pub mod stores;
 pub mod streams;
 pub mod texts;

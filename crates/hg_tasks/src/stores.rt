@@ -1,18 +1,22 @@
 //! Commands on the store in a directory.
 
+ghost use Rattle.std.specs.Prelude.{◌≡◌, false};
+
 use crate::directory::{OpenMode, make_directory, open_directory};
 use crate::events::EventText;
 use crate::faults::{fail_to_open, tell_of_feeding, tell_of_listing};
+use crate::status::exit_status;
 use crate::streams::{noted_outputs, noted_streams, plain_outputs, plain_streams};
 use hg_check::explain::commands::explain;
 use hg_check::explain::form::Form;
 use hg_commands::creating::create_store;
 use hg_commands::feeding::feed;
-use hg_commands::listing::list_store;
+use hg_commands::listing::{Listed, list_store};
+use hg_commands::races::{address_of_race, print_no_race};
 use hg_commands::settings::FeedSettings;
 use hg_disk::FileDisk;
 use hg_options::limits::DEFAULT_FRAMES;
-use hg_options::task::{Explaining, Frames};
+use hg_options::task::{ErrorExitcode, Explaining, Frames, Subject};
 use hg_store::devices::{Caps, Devices};
 use hg_store::store::Store;
 use hg_streams::input::Input;
@@ -21,6 +25,9 @@ use hg_streams::output::Output;
 use hg_streams::streams::Streams;
 use hg_streams::telling::end_by_fault;
 use hg_verbose::lines::Lines;
+
+/// The status where a store has no such report.
+const NO_RACE: u8 = 2;
 
 /// Makes the store.
 pub fn create_in(rt: &HostRuntime, directory: &str) -> u8 {
@@ -72,12 +79,13 @@ pub fn feed_in(rt: &HostRuntime, directory: &str, settings: FeedSettings, verbos
     feed(rt.alloc(), devices, settings, &mut plain_streams(rt)).status
 }
 
-/// Prints what is asked for of the store.
+/// Prints what is asked for of the store. Where it counts races, the status is `error_exitcode`, if it is given, in place of 0.
 pub fn print_of_store(
     rt: &HostRuntime,
     directory: &str,
     listing: Listing,
     frames: Frames,
+    error_exitcode: Option<ErrorExitcode>,
     verbose: bool,
 ) -> u8 {
     let devices = match open_directory(rt, directory, OpenMode::Look) {
@@ -85,32 +93,65 @@ pub fn print_of_store(
         Err(fault) => return fail_to_open(rt, &fault, verbose),
     };
     let mut outputs = noted_outputs(rt);
-    let outcome = list_store(rt.alloc(), devices, frames.pages, listing, &mut outputs);
-    let (status, devices) = (outcome.status, outcome.devices);
+    let Listed { outcome, has_races } = list_store(
+        rt.alloc(),
+        devices,
+        frames.pages,
+        listing,
+        &mut outputs,
+    );
+    let status = exit_status(outcome.status, has_races, error_exitcode);
     if verbose {
-        tell_of_listing(rt, &outputs, devices);
+        tell_of_listing(rt, &outputs, outcome.devices);
     }
     status
 }
 
-/// Prints the life of a word by the store's events. They have no lines.
-pub fn explain_in(rt: &HostRuntime, directory: &str, explaining: Explaining) -> u8 {
-    let devices = match open_directory(rt, directory, OpenMode::Look) {
-        Ok(devices) => devices,
-        Err(fault) => return fail_to_open(rt, &fault, false),
-    };
-    let store = match Store::recover(rt.alloc(), devices, DEFAULT_FRAMES, Caps::profile()) {
-        Ok(store) => store,
-        Err((refusal, _)) => return end_by_fault(refusal, &mut Output::new(rt.stderr())),
-    };
-    let form = Form {
-        all: explaining.all,
-        lines: false,
-    };
+/// Prints the life of the word at an address by the events of a store. They have no lines.
+fn explain_address(rt: &HostRuntime, store: Store<FileDisk>, address: u64, all: bool) -> u8 {
+    let form = Form { all, lines: false };
     let mut streams = Streams {
         input: Input::new(EventText::new(rt.alloc(), store)),
         output: Output::new(rt.stdout()),
         faults: Output::new(rt.stderr()),
     };
-    explain(rt.alloc(), explaining.address, form, &mut streams)
+    explain(rt.alloc(), address, form, &mut streams)
+}
+
+/// Prints that a store keeps no report as this number, and answers the status.
+fn tell_no_race(rt: &HostRuntime, store: &Store<FileDisk>, number: u32) -> u8
+    requires works { store.now.is_broken ≡ false }
+{
+    let mut outputs = plain_outputs(rt);
+    match print_no_race(rt.alloc(), number, store, &mut outputs.output) {
+        Ok(()) => NO_RACE,
+        Err(refusal) => end_by_fault(refusal, &mut outputs.faults),
+    }
+}
+
+/// Prints the life of a word by the events of a store, or that there is no such report.
+fn explain_store(rt: &HostRuntime, store: Store<FileDisk>, explaining: Explaining) -> u8
+    requires works { store.is_broken ≡ false }
+{
+    let address = match explaining.subject {
+        Subject::Word { address } => address,
+        Subject::Race { number } => match address_of_race(rt.alloc(), &store, number) {
+            Ok(Some(address)) => address,
+            Ok(None) => return tell_no_race(rt, &store, number),
+            Err(refusal) => return end_by_fault(refusal, &mut Output::new(rt.stderr())),
+        },
+    };
+    explain_address(rt, store, address, explaining.all)
+}
+
+/// Prints the life of a word by the events of the store in a directory, or that there is no such report.
+pub fn explain_in(rt: &HostRuntime, directory: &str, explaining: Explaining) -> u8 {
+    let devices = match open_directory(rt, directory, OpenMode::Look) {
+        Ok(devices) => devices,
+        Err(fault) => return fail_to_open(rt, &fault, false),
+    };
+    match Store::recover(rt.alloc(), devices, DEFAULT_FRAMES, Caps::profile()) {
+        Ok(store) => explain_store(rt, store, explaining),
+        Err((refusal, _)) => end_by_fault(refusal, &mut Output::new(rt.stderr())),
+    }
 }

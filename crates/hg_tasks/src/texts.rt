@@ -1,29 +1,59 @@
 //! Commands over the trace on standard input.
 
+ghost use Rattle.hg_tasks.specs.Exits.{ChecksAndExits};
+
 use crate::faults::tell_of_text;
+use crate::status::exit_status;
 use crate::streams::{noted_streams, plain_streams};
 use hg_check::commands::{check, graph};
 use hg_check::explain::commands::explain;
 use hg_check::explain::form::Form;
-use hg_options::task::{Explaining, Jobs};
-use hg_streams::listing::Listing;
+use hg_check::explain::race::explain_race;
+use hg_options::task::{ErrorExitcode, Explaining, Jobs, Subject};
 use hg_streams::streams::Streams;
 use hg_verbose::lines::Lines;
 use std::alloc::Global;
 use std::io::{Read, Write};
 use std::thread::Threads;
 
+/// What is printed of a trace.
+#[derive(Clone, Copy, Drop)]
+pub enum Printing {
+    /// Its races. Where some are counted, the status is `error_exitcode`, if it is given, in place of 0.
+    Races {
+        error_exitcode: Option<ErrorExitcode>,
+    },
+    /// Its thread segments.
+    Segments,
+}
+
+/// Prints the races of a trace, whose lines are read by up to `jobs` threads, and answers the status.
+fn check_text<T: Threads + Sync, R: Read, W: Write, V: Write>(
+    threads: &T,
+    jobs: usize,
+    alloc: Global,
+    error_exitcode: Option<ErrorExitcode>,
+    streams: &mut Streams<R, W, V>,
+) -> u8
+    ensures { ChecksAndExits error_exitcode result streams.old streams.new }
+{
+    let checked = check(threads, jobs, alloc, streams);
+    exit_status(checked.status, checked.has_races, error_exitcode)
+}
+
 /// Prints what is asked for of a trace, whose lines are read by up to `jobs` threads, and answers the status.
 fn print_text<T: Threads + Sync, R: Read, W: Write, V: Write>(
     threads: &T,
     jobs: usize,
     alloc: Global,
-    listing: Listing,
+    printing: Printing,
     streams: &mut Streams<R, W, V>,
 ) -> u8 {
-    match listing {
-        Listing::Reports => check(threads, jobs, alloc, streams),
-        Listing::Segments => graph(threads, jobs, alloc, streams),
+    match printing {
+        Printing::Races { error_exitcode } => {
+            check_text(threads, jobs, alloc, error_exitcode, streams)
+        }
+        Printing::Segments => graph(threads, jobs, alloc, streams),
     }
 }
 
@@ -32,11 +62,11 @@ fn print_and_tell<T: Threads + Sync>(
     threads: &T,
     jobs: usize,
     rt: &HostRuntime,
-    listing: Listing,
+    printing: Printing,
     lines: Lines,
 ) -> u8 {
     let mut streams = noted_streams(rt, lines);
-    let status = print_text(threads, jobs, rt.alloc(), listing, &mut streams);
+    let status = print_text(threads, jobs, rt.alloc(), printing, &mut streams);
     let Streams {
         input,
         output,
@@ -50,7 +80,7 @@ fn print_and_tell<T: Threads + Sync>(
 /// memory for a meaning it is left out.
 pub fn print_of_input<T: Threads + Sync>(
     threads: &T,
-    listing: Listing,
+    printing: Printing,
     jobs: Jobs,
     rt: &HostRuntime,
     verbose: bool,
@@ -58,10 +88,10 @@ pub fn print_of_input<T: Threads + Sync>(
     let jobs = usize::from(jobs.threads);
     if verbose {
         if let Ok(lines) = Lines::new(rt.alloc()) {
-            return print_and_tell(threads, jobs, rt, listing, lines);
+            return print_and_tell(threads, jobs, rt, printing, lines);
         }
     }
-    print_text(threads, jobs, rt.alloc(), listing, &mut plain_streams(rt))
+    print_text(threads, jobs, rt.alloc(), printing, &mut plain_streams(rt))
 }
 
 /// Explains a word by the trace on standard input.
@@ -70,5 +100,9 @@ pub fn explain_input(rt: &HostRuntime, explaining: Explaining) -> u8 {
         all: explaining.all,
         lines: true,
     };
-    explain(rt.alloc(), explaining.address, form, &mut plain_streams(rt))
+    let mut streams = plain_streams(rt);
+    match explaining.subject {
+        Subject::Word { address } => explain(rt.alloc(), address, form, &mut streams),
+        Subject::Race { number } => explain_race(rt.alloc(), number, form, &mut streams),
+    }
 }

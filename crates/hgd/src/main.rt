@@ -18,7 +18,7 @@ use hg_tasks::directory::{Cause, OpenMode, open_directory};
 use hg_tasks::faults::{fail, fail_to_open};
 use hg_tasks::stores::{create_in, explain_in, feed_in, print_of_store};
 use hg_tasks::streams::plain_outputs;
-use hg_tasks::texts::{explain_input, print_of_input};
+use hg_tasks::texts::{Printing, explain_input, print_of_input};
 use std::alloc::Global;
 use std::env;
 use std::io::{ErrorKind, Write};
@@ -31,22 +31,25 @@ use std::time::{Clock, Duration};
 /// The status of a bad command line.
 const BAD_COMMAND_LINE: u8 = 4;
 
+/// What is told of a command line whose fault clap does not see.
+fn fault_text(misread: &Misread) -> &'static str {
+    match misread {
+        Misread::BadAddress => {
+            "error: ADDRESS is no number from 0 to 2^64-1, in decimal or in hexadecimal after 0x\n"
+        }
+        Misread::NoWord => "error: one of ADDRESS and --race K is wanted\n",
+        Misread::TwoWords => "error: ADDRESS and --race K can't both be given\n",
+        _ => "error: the command lacks an argument\n",
+    }
+}
+
 /// Prints the text for a command line that asks for no task, and answers the status.
 fn tell_misread(rt: &HostRuntime, misread: &Misread) -> u8 {
     let (printed, status) = match misread {
         Misread::Help(text) => (rt.print(text), 0),
         Misread::Bad(text) => (rt.eprint(text), BAD_COMMAND_LINE),
-        Misread::BadAddress => (
-            rt.eprint(
-                "error: ADDRESS is no number from 0 to 2^64-1, in decimal or in hexadecimal after 0x\n",
-            ),
-            BAD_COMMAND_LINE,
-        ),
-        Misread::Incomplete => (
-            rt.eprint("error: the command lacks an argument\n"),
-            BAD_COMMAND_LINE,
-        ),
         Misread::OutOfMemory => return fail(rt, Cause::OutOfMemory),
+        other => (rt.eprint(fault_text(other)), BAD_COMMAND_LINE),
     };
     if printed.is_err() {
         return fail(rt, Cause::DeviceFault);
@@ -63,7 +66,7 @@ enum Outcome<'a> {
     },
     /// The trace on standard input is to be read. Threads can be made in `main` alone.
     Text {
-        listing: Listing,
+        printing: Printing,
         jobs: Jobs,
         verbose: bool,
     },
@@ -91,16 +94,24 @@ fn perform_on_store<'a>(rt: &HostRuntime, directory: &'a str, task: StoreTask) -
             };
             feed_in(rt, directory, settings, verbose)
         }
-        StoreTask::Reports { frames, verbose } => {
-            print_of_store(rt, directory, Listing::Reports, frames, verbose)
-        }
+        StoreTask::Reports {
+            frames,
+            error_exitcode,
+            verbose,
+        } => print_of_store(
+            rt,
+            directory,
+            Listing::Reports,
+            frames,
+            error_exitcode,
+            verbose,
+        ),
         StoreTask::Graph { verbose } => {
             let frames = Frames {
                 pages: DEFAULT_FRAMES,
             };
-            print_of_store(rt, directory, Listing::Segments, frames, verbose)
+            print_of_store(rt, directory, Listing::Segments, frames, None, verbose)
         }
-        StoreTask::Explain { explaining } => explain_in(rt, directory, explaining),
         StoreTask::Serve { serving } => return Outcome::Serve { directory, serving },
     };
     Outcome::Done { status }
@@ -117,18 +128,31 @@ fn perform<'a>(rt: &HostRuntime, words: &'a [String]) -> Outcome<'a> {
         }
     };
     match task {
-        Task::Check { jobs, verbose } => Outcome::Text {
-            listing: Listing::Reports,
+        Task::Check {
+            jobs,
+            error_exitcode,
+            verbose,
+        } => Outcome::Text {
+            printing: Printing::Races { error_exitcode },
             jobs,
             verbose,
         },
         Task::Graph { jobs, verbose } => Outcome::Text {
-            listing: Listing::Segments,
+            printing: Printing::Segments,
             jobs,
             verbose,
         },
-        Task::Explain { explaining } => Outcome::Done {
+        Task::Explain {
+            directory: None,
+            explaining,
+        } => Outcome::Done {
             status: explain_input(rt, explaining),
+        },
+        Task::Explain {
+            directory: Some(directory),
+            explaining,
+        } => Outcome::Done {
+            status: explain_in(rt, directory, explaining),
         },
         Task::OnStore { directory, task } => perform_on_store(rt, directory, task),
     }
@@ -220,10 +244,10 @@ fn main(rt: HostRuntime) -> ExitCode {
     let status = match perform(&rt, words.as_slice()) {
         Outcome::Done { status } => status,
         Outcome::Text {
-            listing,
+            printing,
             jobs,
             verbose,
-        } => print_of_input(&rt, listing, jobs, &rt, verbose),
+        } => print_of_input(&rt, printing, jobs, &rt, verbose),
         Outcome::Serve { directory, serving } => serve_in(&rt, &rt, directory, serving),
     };
     ExitCode::from(status)

@@ -51,7 +51,7 @@ fn run_explain<R: Read, W: Write>(
 }
 
 /// Holds the count of accesses that were not shown at the end, and the last line.
-fn hold_end(
+pub(crate) fn hold_end(
     detector: &MemoryDetector,
     more: u64,
     end: Ending,

@@ -3,12 +3,13 @@
 ghost use Rattle.std.specs.Prelude.{◌≡◌, ◌++◌, ◌+◌, ◌*◌, ◌<◌, ◌^◌, IfErr, length};
 ghost use Rattle.std.specs.Fmt.{decimal};
 ghost use Rattle.hg_detect.specs.Memory.{IsWhole, content_of};
-ghost use Rattle.hg_check.specs.Holding.{HoldsMore, event_text, interned_text};
+ghost use Rattle.hg_check.specs.Holding.{HasOwnerBelow, HoldsMore, event_text, interned_text};
 ghost use Rattle.hg_check.specs.Life as life;
 
 use crate::explain::form::{Asked, Form};
 use crate::explain::look::{Look, is_bare, look_at};
-use crate::explain::pieces::{hold, hold_all, hold_members, hold_number};
+use crate::explain::owner::hold_owner;
+use crate::explain::pieces::{hold, hold_all, hold_members, hold_number, hold_two};
 use hg_cells::Cell;
 use hg_cells::words::Words;
 use hg_detect::memory::MemoryDetector;
@@ -140,43 +141,22 @@ fn hold_state(detector: &MemoryDetector, word: u64, held: &mut Vec<u8>) -> Resul
     }
 }
 
-/// Holds two numbers, each behind its bytes.
-fn hold_two(
-    front: &[u8],
-    first: u32,
-    between: &[u8],
-    second: u32,
+/// Holds what became of the state, where the present segment of the acting thread is `segment`.
+fn hold_change(
+    detector: &MemoryDetector,
+    before: Look,
+    after: Look,
+    segment: u32,
     held: &mut Vec<u8>,
 ) -> Result<(), Refusal>
-    ensures ok { HoldsMore result held.old held.new (front.now ++ decimal first ++ between.now ++ decimal second) }
-    ensures cause { IfErr result (λ r. r ≡ Refusal.OutOfMemory) }
-{
-    let mut one = Buffer::new();
-    let mut other = Buffer::new();
-    let pieces = [
-        front,
-        one.format(first).as_bytes(),
-        between,
-        other.format(second).as_bytes(),
-    ];
-    hold_all(&pieces, held)
-}
-
-/// Holds what became of the state, where the present segment of the acting thread is `segment`.
-fn hold_change(before: Look, after: Look, segment: u32, held: &mut Vec<u8>) -> Result<(), Refusal>
-    ensures ok { HoldsMore result held.old held.new (life.change_text before after segment) }
+    requires { HasOwnerBelow (length detector.now.segments) after }
+    ensures ok { HoldsMore result held.old held.new (life.change_text detector.now.segments before after segment) }
     ensures cause { IfErr result (λ r. r ≡ Refusal.OutOfMemory) }
 {
     match (before, after) {
         (Look::Fresh, _) => Ok(()),
         (_, Look::Fresh) => hold(b" ; new again", held),
-        (Look::Owned(owner), Look::Owned(next)) => {
-            if owner == next {
-                Ok(())
-            } else {
-                hold_two(b" ; owner changes along ", owner, b" -> ", next, held)
-            }
-        }
+        (Look::Owned(owner), Look::Owned(next)) => hold_owner(detector, owner, next, held),
         (Look::Owned(owner), _) => hold_two(
             b" ; shared from here on: segment ",
             owner,
@@ -273,7 +253,8 @@ fn hold_changes(
     ensures cause { IfErr result (λ r. r ≡ Refusal.OutOfMemory) }
 {
     let after = look_at(detector, word);
-    hold_change(before, after, detector.graph().present(t), held)?;
+    let segment = detector.graph().present(t);
+    hold_change(detector, before, after, segment, held)?;
     hold_bare(before, after, held)
 }
 

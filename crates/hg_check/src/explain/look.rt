@@ -1,7 +1,8 @@
 //! What is compared of a word's state.
 
-ghost use Rattle.std.specs.Prelude.{◌≡◌, ◌<◌, ◌^◌};
+ghost use Rattle.std.specs.Prelude.{◌≡◌, ◌<◌, ◌^◌, length};
 ghost use Rattle.hg_detect.specs.Memory.{IsWhole, content_of};
+ghost use Rattle.hg_check.specs.Holding.{HasOwnerBelow};
 ghost use Rattle.hg_check.specs.Life as life;
 ghost use Rattle.hg_model.specs.History as history;
 
@@ -27,7 +28,8 @@ pub enum Look {
 #[inline(always)]
 pub fn look_at(detector: &MemoryDetector, word: u64) -> Look
     requires whole { IsWhole detector.now }
-    ensures { result ≡ life.look_of ((content_of detector.now).words word) }
+    ensures value { result ≡ life.look_of ((content_of detector.now).words word) }
+    ensures owner { HasOwnerBelow (length detector.now.segments) result }
 {
     let sets = detector.sets();
     match detector.words().get(word) {

@@ -52,3 +52,25 @@ pub fn hold_members(members: &[u16], held: &mut Vec<u8>) -> Result<(), Refusal>
     }
     Ok(())
 }
+
+/// Holds two numbers, each behind its bytes.
+pub fn hold_two(
+    front: &[u8],
+    first: u32,
+    between: &[u8],
+    second: u32,
+    held: &mut Vec<u8>,
+) -> Result<(), Refusal>
+    ensures ok { HoldsMore result held.old held.new (front.now ++ decimal first ++ between.now ++ decimal second) }
+    ensures cause { IfErr result (λ r. r ≡ Refusal.OutOfMemory) }
+{
+    let mut one = Buffer::new();
+    let mut other = Buffer::new();
+    let pieces = [
+        front,
+        one.format(first).as_bytes(),
+        between,
+        other.format(second).as_bytes(),
+    ];
+    hold_all(&pieces, held)
+}

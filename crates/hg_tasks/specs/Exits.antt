@@ -1,0 +1,21 @@
+-- The exit status of commands that count races.
+use Rattle.std.specs.Prelude.{◌≡◌, ℕ, Bool, true, false, Option, None, Some, IfSome}
+use Rattle.hg_options.specs.declared.task.ErrorExitcode.{ErrorExitcode}
+use Rattle.hg_check.specs.declared.checked.Checked.{Checked}
+use Rattle.hg_check.specs.Printing.{EndsChecked}
+use Rattle.hg_streams.specs.Faults.{EndsByFault}
+use Rattle.hg_streams.specs.declared.streams.Streams.{Streams}
+
+-- The exit status where a command came to a status, and counted races or none: the one that was asked for in place of 0 where there were
+-- races, and else the command's own.
+pub record IsExit (given : Option ErrorExitcode) (status : ℕ) (races : Bool) (exit : ℕ) : Type 0 where
+  pub asked : IfSome given (λ asked. status ≡ 0 → races ≡ true → exit ≡ asked.status)
+  pub unasked : given ≡ None → exit ≡ status
+  pub none : races ≡ false → exit ≡ status
+  pub other : (status ≡ 0 → ⊥) → exit ≡ status
+
+-- A trace text was checked, and the exit status is that of what it came to.
+abbrev pub ChecksAndExits : {R W V : Type 0} → Option ErrorExitcode → ℕ → Streams R W V → Streams R W V → Type 0
+ChecksAndExits given exit before after =
+    (checked : Checked) × EndsChecked checked before after × EndsByFault checked.status before after
+    × IsExit given checked.status checked.has_races exit
