@@ -5,6 +5,7 @@
  *   CALLS_FAIL_FROM=N   the N-th pwrite, and each one after it, fails with ENOSPC
  *   CALLS_KILL=N        the program is killed as it makes the N-th call
  *   CALLS_STOP=N        it is stopped there, until it gets SIGCONT
+ *   CALLS_NO_SYNC=1     the file system knows no fsync, but for scratch files: it answers EINVAL
  *   CALLS_READ_ONLY=1   files that are opened for writing, or to be made, answer EROFS
  *   CALLS_SHORT=N       a read or write of a standard stream takes N bytes at most
  *   CALLS_ROOM=N        standard output takes N bytes in all, and then fails with ENOSPC
@@ -211,6 +212,10 @@ int ftruncate(int fd, off_t len)
 int fsync(int fd)
 {
     int result = fails(0) ? -1 : REAL(fsync)(fd);
+    if (number("CALLS_NO_SYNC") && result == 0 && !strstr(name_of(fd), "hgd-")) {
+        errno = EINVAL;
+        result = -1;
+    }
     note("fsync %s = %d", name_of(fd), result);
     return result;
 }

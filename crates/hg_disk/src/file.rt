@@ -10,6 +10,7 @@ use crate::history::History;
 use crate::{Disk, DiskFault};
 use std::fs::File;
 use std::io;
+use std::io::ErrorKind;
 use std::os::unix::fs::FileExt;
 
 /// Safe whatever the file does. Nothing is promised about the file's bytes, so this disk is not honest.
@@ -17,6 +18,7 @@ use std::os::unix::fs::FileExt;
 /// A missing file is an empty disk that can't be changed: each write, cut and read fails, and a sync succeeds.
 pub struct FileDisk {
     file: Option<File>,
+    is_for_reading: bool,
     opened_len: u64,
     len: u64,
     history: History,
@@ -30,6 +32,7 @@ impl Drop for FileDisk {
     fn drop(self) {
         let FileDisk {
             file,
+            is_for_reading: _,
             opened_len: _,
             len: _,
             history,
@@ -49,12 +52,31 @@ impl FileDisk {
         ensures past { IfOk result (λ f. file_past f ≡ []) }
         ensures failures { IfOk result (λ f. file_failures f ≡ 0) }
     {
+        FileDisk::opened(file, false)
+    }
+
+    /// The same of a file that was opened for reading alone. Where its file system knows no sync, a sync of it succeeds: nothing of it
+    /// is owed.
+    pub fn for_reading(file: File) -> io::Result<FileDisk>
+        ensures synced { IfOk result (λ f. (file_state f).since ≡ []) }
+        ensures past { IfOk result (λ f. file_past f ≡ []) }
+        ensures failures { IfOk result (λ f. file_failures f ≡ 0) }
+    {
+        FileDisk::opened(file, true)
+    }
+
+    fn opened(file: File, is_for_reading: bool) -> io::Result<FileDisk>
+        ensures synced { IfOk result (λ f. (file_state f).since ≡ []) }
+        ensures past { IfOk result (λ f. file_past f ≡ []) }
+        ensures failures { IfOk result (λ f. file_failures f ≡ 0) }
+    {
         let len = file.metadata()?.len();
         if len > MAX_LEN {
             return Err(io::ErrorKind::FileTooLarge.into());
         }
         Ok(FileDisk {
             file: Some(file),
+            is_for_reading,
             opened_len: len,
             len,
             history: History::new(),
@@ -71,6 +93,7 @@ impl FileDisk {
     {
         FileDisk {
             file: None,
+            is_for_reading: true,
             opened_len: 0,
             len: 0,
             history: History::new(),
@@ -162,10 +185,26 @@ impl Disk for FileDisk {
 
     fn sync(&mut self) -> Result<(), DiskFault> {
         let answer = match &self.file {
-            Some(file) => file.sync_all(),
+            Some(file) => synced(file, self.is_for_reading),
             None => Ok(()),
         };
         note(&mut self.history, &mut self.error, Call::Sync, &[], answer)
+    }
+}
+
+// Makes a file's bytes durable. Of one that is only read nothing is owed where its file system knows no sync.
+fn synced(file: &File, is_for_reading: bool) -> io::Result<()> {
+    match file.sync_all() {
+        Err(error) if is_for_reading && is_unknown(error.kind()) => Ok(()),
+        answer => answer,
+    }
+}
+
+// Whether a call failed since the file system does not know it, or can't be written to.
+fn is_unknown(kind: ErrorKind) -> bool {
+    match kind {
+        ErrorKind::InvalidInput | ErrorKind::ReadOnlyFilesystem | ErrorKind::Unsupported => true,
+        _ => false,
     }
 }
 

@@ -84,7 +84,7 @@ module _ {D : Type 0} (g : disk.Ghosts D) where
   abbrev pub IsToldTruly : (old new : Devices D) → ServingFault → Type 0
   IsToldTruly old new told = told ≡ fault.Broken → failures_of g old < failures_of g new
 
-  -- Why serving a store ends early: a device failed for a client, which broke the store; a device, the listener or the output failed; or memory was
+  -- Why serving a store ends early: a device failed for a client, which broke the store; a device or the output failed; or memory was
   -- refused.
   abbrev pub IsServingFault : (old new : Devices D) → Refusal → Type 0
   IsServingFault old new r = ((r ≡ Broken) × (failures_of g old < failures_of g new)) ⊎ ((r ≡ DeviceFault) ⊎ (r ≡ OutOfMemory))

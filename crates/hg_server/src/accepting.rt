@@ -2,7 +2,6 @@
 
 use crate::settings::Settings;
 use crossbeam_channel::Sender;
-use hg_model::verdict::Refusal;
 use std::io::ErrorKind;
 use std::net::{TcpListener, TcpStream};
 use std::sync::Wait;
@@ -15,9 +14,6 @@ const WRITE_SECONDS: u64 = 30;
 /// How long the server waits before it listens on, where the system had no room for a connection, in milliseconds.
 const PAUSE_MILLISECONDS: u64 = 10;
 
-/// How often it does so in a row before it gives up: for ten seconds.
-const MOST_PAUSES: u16 = 1_000;
-
 /// Makes a connection ready for a worker.
 fn prepare(stream: &TcpStream, settings: Settings) -> io::Result<()> {
     stream.set_nodelay(true)?;
@@ -25,38 +21,34 @@ fn prepare(stream: &TcpStream, settings: Settings) -> io::Result<()> {
     stream.set_write_timeout(Some(Duration::from_secs(WRITE_SECONDS)))
 }
 
-/// Takes the next connection from the listener. `None` says that it ended before it was taken; it counts.
-fn accept<R: Clock>(rt: &R, listener: &TcpListener) -> Result<Option<TcpStream>, Refusal> {
-    for _ in 0..MOST_PAUSES {
+/// Takes the next connection from the listener. `None` says that it ended before it was taken; it counts. Where the system has no room
+/// for a connection, it waits for as long as that lasts: a listener that is bound fails for no other cause.
+fn accept<R: Clock + Wait>(rt: &R, listener: &TcpListener) -> Option<TcpStream> {
+    for _ in rt.forever() {
         match listener.accept() {
-            Ok((stream, _)) => return Ok(Some(stream)),
+            Ok((stream, _)) => return Some(stream),
             Err(error) => match error.kind() {
                 ErrorKind::Interrupted => {}
-                ErrorKind::ConnectionAborted => return Ok(None),
+                ErrorKind::ConnectionAborted => return None,
                 _ => thread::sleep(rt, Duration::from_millis(PAUSE_MILLISECONDS)),
             },
         }
     }
-    Err(Refusal::DeviceFault)
+    None
 }
 
-/// Takes connections from the listener, and hands each to the workers. A connection that fails counts as taken. Tells whether all were
-/// taken.
+/// Takes so many connections from the listener as are asked for, and hands each to the workers. A connection that fails counts as taken.
 pub(crate) fn accept_all<R: Clock + Wait>(
     rt: &R,
     listener: &TcpListener,
     settings: Settings,
     to: Sender<TcpStream>,
-) -> bool {
+) {
     for _ in 0..settings.connections {
-        let Ok(accepted) = accept(rt, listener) else {
-            return false;
-        };
-        if let Some(stream) = accepted {
+        if let Some(stream) = accept(rt, listener) {
             if prepare(&stream, settings).is_ok() {
                 let _ = to.send(rt, stream);
             }
         }
     }
-    true
 }

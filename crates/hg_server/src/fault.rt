@@ -10,7 +10,7 @@ use std::alloc::AllocError;
 pub(crate) enum ServingFault {
     /// A device failed for a client, who was told.
     Broken,
-    /// The listener failed, or a device.
+    /// A device failed.
     DeviceFault,
     /// Memory was refused.
     OutOfMemory,

@@ -46,7 +46,7 @@ pub struct Door<'a, G> {
     pub gate: &'a G,
 }
 
-/// Runs the workers until the connections are served: their shares, and whether all connections were taken. Their nudges end with them.
+/// Runs the workers until the connections are served, and gives their shares back. Their nudges end with them.
 fn run_workers<
     D: Disk + Send + Drop,
     A: Opening + Send + Sync,
@@ -60,16 +60,16 @@ fn run_workers<
     shares: Vec<Share<A, B>>,
     nudges: Sender<()>,
     door: &Door<G>,
-) -> (Result<Vec<Share<A, B>>, AllocError>, bool) {
+) -> Result<Vec<Share<A, B>>, AllocError> {
     let Ok((to, from)) = crossbeam_channel::unbounded(alloc) else {
-        return (Err(AllocError), false);
+        return Err(AllocError);
     };
     let queue = &from;
     let nudges = &nudges;
     let listener = door.listener;
     let settings = door.settings;
     let gate = door.gate;
-    thread::join(
+    let (shares, ()) = thread::join(
         rt,
         move || {
             thread::map_vec(
@@ -91,11 +91,12 @@ fn run_workers<
             )
         },
         move || accept_all(rt, listener, settings, to),
-    )
+    );
+    shares
 }
 
-/// Runs the flusher and the workers until the connections are served: the shares of all, and whether all connections were taken. The last
-/// of the shares is the flusher's. It ends behind the workers, with its checkpoint in progress.
+/// Runs the flusher and the workers until the connections are served, and gives the shares of all back, the flusher's last. It ends behind
+/// the workers, with its checkpoint in progress.
 fn run_all<
     D: Disk + Send + Drop,
     A: Opening + Send + Sync,
@@ -109,20 +110,20 @@ fn run_all<
     shares: Vec<Share<A, B>>,
     begun: u64,
     door: &Door<G>,
-) -> (Result<Vec<Share<A, B>>, AllocError>, bool) {
+) -> Result<Vec<Share<A, B>>, AllocError> {
     let mut shares = shares;
     let Some(share) = shares.pop() else {
-        return (Err(AllocError), false);
+        return Err(AllocError);
     };
     let Ok((to, from)) = crossbeam_channel::unbounded(alloc) else {
-        return (Err(AllocError), false);
+        return Err(AllocError);
     };
     let gate = door.gate;
     let due = Due {
         every: u64::from(door.settings.every),
         begun,
     };
-    let (share, (shares, are_all_taken)) = thread::join(
+    let (share, shares) = thread::join(
         rt,
         move || {
             flusher(
@@ -139,7 +140,7 @@ fn run_all<
         },
         move || run_workers(rt, alloc, shared, shares, to, door),
     );
-    (with_one_more(shares, share), are_all_taken)
+    with_one_more(shares, share)
 }
 
 /// The shares of all threads, that of the flusher last.
@@ -179,7 +180,7 @@ struct Service<D: Disk, E> {
 }
 
 /// Opens the lock over a store, runs flusher and workers until the connections are served, and takes them in. At `Ok` all accepted events are
-/// durable. `DeviceFault` says that the listener or a device failed, `Broken` that a device failed for a client before, and
+/// durable. `DeviceFault` says that a device failed, `Broken` that a device failed for a client before, and
 /// `OutOfMemory` that memory was refused.
 ///
 /// It waits until so many connections were served.
@@ -219,20 +220,14 @@ fn serve_by<
             };
         }
     };
-    let (back, are_all_taken) = run_all(rt, alloc, &shared, shares, begun, door);
+    let back = run_all(rt, alloc, &shared, shares, begun, door);
     let (back, taken_in) = take_in(back, shared);
     let TakenIn {
         mut store,
         mut moments,
         has_failed,
     } = back;
-    let ended = settle(
-        &mut store,
-        &mut moments,
-        has_failed,
-        taken_in,
-        are_all_taken,
-    );
+    let ended = settle(&mut store, &mut moments, has_failed, taken_in);
     Service {
         store,
         moments,
@@ -370,7 +365,7 @@ pub struct Outcome<D: Disk> {
 
 /// Recovers the store that the devices hold, prints `ready` and the port, takes the connections, holds their conversations, makes
 /// checkpoints meanwhile, and prints `served`, how many were taken, and the end line. All accepted events are durable then. Answers the status, 0 with the store, or 3
-/// with the devices where they hold no store, the listener, a device or the output failed, or memory or room was refused,
+/// with the devices where they hold no store, a device or the output failed, or memory or room was refused,
 /// which is told among the faults. A connection that fails ends alone. Whatever ends it, no durable event is lost, and each image between two
 /// neighbouring moments has a front of the accepted events. The store is opened with the frames of the settings and the greatest caps.
 ///

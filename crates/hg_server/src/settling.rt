@@ -44,13 +44,12 @@ fn commit_all<D: Disk>(
     }
 }
 
-/// Makes all accepted events of a store durable, where the workers were taken in. `are_all_taken` is false where the listener failed.
+/// Makes all accepted events of a store durable, where the workers were taken in.
 pub(crate) fn settle<D: Disk>(
     store: &mut Store<D>,
     moments: &mut Trail<Moment<D>>,
     has_failed: bool,
     taken_in: Result<(), AllocError>,
-    are_all_taken: bool,
 ) -> Result<(), ServingFault>
     ensures went { StillWentOn ⟦<D as Disk>⟧ moments.old store.old moments.new store.new }
     ensures device { failures_of ⟦<D as Disk>⟧ store.old.devices ≤ failures_of ⟦<D as Disk>⟧ store.new.devices }
@@ -59,9 +58,5 @@ pub(crate) fn settle<D: Disk>(
     ensures broken { IfErr result (λ fault. fault ≡ ServingFault.Broken → IsTrue has_failed) }
 {
     taken_in?;
-    commit_all(store, moments, has_failed)?;
-    match are_all_taken {
-        true => Ok(()),
-        false => Err(ServingFault::DeviceFault),
-    }
+    commit_all(store, moments, has_failed)
 }

@@ -14,8 +14,8 @@ use Rattle.hg_desk.proofs.share.Share.TheSendSync as share
 use Rattle.hg_server.proofs.Crossing.{shared_sync, closure_send}
 use Rattle.hg_server.proofs.serving.run_workers.Goals as goal
 
-pub join-requires-send-F : goal.join-requires-send-F
-join-requires-send-F g c κs within =
+pub join-shares-requires-send-F : goal.join-shares-requires-send-F
+join-shares-requires-send-F g c κs within =
     let clock : IsSync g.row.R = search (rules, c.type_bounds) parts 8 in
     let gate : IsSync g.row.G = search (rules, c.type_bounds) parts 8 in
     let shared = shared_sync (param 0 g.row.D) (param 1 g.row.A) (param 2 g.row.B) g.D.Disk g.A.Opening g.A.Column g.A.Ledger g.B.Column g.B.Ledger c.type_bounds.send-D in
