@@ -1,7 +1,7 @@
 /* hgd-record: runs a program that was built with hgd-cc, and writes its trace.
  *
- * It takes the program's events from the ring (runtime/ring.h) and makes lines of them: to a file, to standard output, or to a `hgd`
- * that it starts. The program does nothing with the trace itself, so a full disk or a reader that has gone ends the trace and not
+ * It takes the program's events from the ring (runtime/ring.h), sees what threads hand over (handovers.c), and makes lines of them: to a
+ * file, to standard output, or to a `hgd` that it starts. The program does nothing with the trace itself, so a full disk or a reader that has gone ends the trace and not
  * the program.
  */
 #include <errno.h>
@@ -24,6 +24,7 @@
 #include <time.h>
 #include <unistd.h>
 
+#include "handovers.h"
 #include "runtime/ring.h"
 
 enum {
@@ -34,6 +35,9 @@ enum {
     LONGEST_LINE = 128,
     LONGEST_BLOCK = 1024,
     MOST_LINES_OF_A_STACK = 1024,
+    /* so many milliseconds an event is held back for messages: who reads along is not to wait */
+    LONGEST_HOLD = 2000,
+    LONGEST_HOLD_READ_ALONG = 100,
     BUFFER = 1 << 16,
 };
 
@@ -57,7 +61,14 @@ static const char HELP[] =
     "                        had been joined\n"
     "      --unfiltered FILE writes the trace with the former to FILE too, of the same run\n"
     "      --no-stacks       writes no call stacks into that file\n"
-    "      --no-comments     writes no comments of semaphores, barriers, condition variables and atomics\n"
+    "      --messages WHICH  which messages `send` and `recv` the trace has of what orders threads, each word more than\n"
+    "                        the one before it:\n"
+    "                        none   none\n"
+    "                        waits  of condition waits, semaphores, barriers, what runs once, annotations and atomics\n"
+    "                        read   of holds of a lock that read what another thread's hold of it wrote (the default)\n"
+    "                        locks  of each lock that another thread had before\n"
+    "      --no-hand-overs   the same as --messages none\n"
+    "      --no-comments     writes no comments of atomics\n"
     "  -l, --limit N         the trace ends after N events\n"
     "  -q, --quiet           tells only what went wrong\n"
     "  -h, --help            prints this\n"
@@ -73,6 +84,7 @@ struct options {
     const char *pcs;
     const char *unfiltered;
     bool check, report, filter, comments, stacks, quiet;
+    enum messages messages;
     uint64_t limit;
     char **program;
 };
@@ -97,7 +109,8 @@ static int program_status = -1, detector_status;
 static int recorded = -1;
 static uint64_t events, lines_of_comments, limit;
 static int most_thread, locks_seen = -1;
-static bool is_quiet;
+static bool is_quiet, puts_comments;
+static enum messages messages;
 /* a number that the trace and the codes of one run have together */
 static uint64_t run_number;
 /* how much of the ring's maps the codes have, and which of its stacks */
@@ -337,16 +350,20 @@ static void put_range(struct sink *sink, const char *verb, const struct event *e
 
 static void put_atomic(struct sink *sink, const char *verb, const struct event *event)
 {
+    if (!puts_comments) {
+        return;
+    }
     static const char *const orders[] = {"relaxed", "consume", "acquire", "release", "acq_rel", "seq_cst"};
     char *at = put_thread(sink, verb, event->thread);
     if (event->kind != KIND_FENCE) {
         *at++ = ' ';
         at = put_hexadecimal(at, event->value);
         *at++ = ' ';
-        at = put_decimal(at, event->length);
+        at = put_decimal(at, event->length & ((1u << ATOMIC_LENGTH_BITS) - 1));
     }
+    unsigned order = event->order & ATOMIC_ORDER;
     *at++ = ' ';
-    end_line(sink, put_word(at, orders[event->order < 6 ? event->order : 5]));
+    end_line(sink, put_word(at, orders[order < 6 ? order : 5]));
     lines_of_comments += sink == &trace;
 }
 
@@ -412,12 +429,15 @@ static void put_lines(struct sink *sink, enum kind kind, const struct event *eve
     static const char *const verbs[] = {
         [KIND_FORK] = "fork ",     [KIND_JOIN] = "join ",  [KIND_LOCK] = "lock ",     [KIND_READ_LOCK] = "rdlock ",
         [KIND_UNLOCK] = "unlock ", [KIND_READ] = "read ",  [KIND_WRITE] = "write ",   [KIND_ALLOC] = "alloc ",
-        [KIND_FREE] = "free ",     [KIND_SEND] = "#send ", [KIND_RECEIVE] = "#recv ", [KIND_ATOMIC_LOAD] = "#load ",
-        [KIND_FENCE] = "#fence ",  [KIND_ATOMIC_STORE] = "#store ",
+        [KIND_FREE] = "free ",     [KIND_FENCE] = "#fence ", [KIND_ATOMIC_LOAD] = "#load ", [KIND_ATOMIC_STORE] = "#store ",
     };
     switch (kind) {
     case KIND_NOTHING:
     case KIND_STOP:
+    case KIND_SEND:
+    case KIND_RECEIVE:
+    case KIND_RELEASE:
+    case KIND_ACQUIRE:
         break;
     case KIND_FORK:
     case KIND_JOIN:
@@ -433,11 +453,6 @@ static void put_lines(struct sink *sink, enum kind kind, const struct event *eve
     case KIND_FREE:
         put_range(sink, verbs[kind], event);
         break;
-    case KIND_SEND:
-    case KIND_RECEIVE:
-        put_pair(sink, verbs[kind], event);
-        lines_of_comments += sink == &trace;
-        break;
     case KIND_ATOMIC_LOAD:
     case KIND_ATOMIC_STORE:
     case KIND_FENCE:
@@ -450,6 +465,11 @@ static void put_lines(struct sink *sink, enum kind kind, const struct event *eve
         put_early_block(sink, event);
         break;
     }
+}
+
+static bool goes_on(void)
+{
+    return !trace.failed && !is_at_limit();
 }
 
 /* False where the trace ends with this event. */
@@ -470,7 +490,30 @@ static bool put_event(const struct event *event)
         note_numbers(event);
         put_lines(&trace, event->kind, event);
     }
-    return true;
+    return goes_on();
+}
+
+/* `send 0 17` or `recv 1 17`, in both traces. */
+static void put_message_line(struct sink *sink, bool is_send, unsigned thread, uint32_t number)
+{
+    char *at = put_thread(sink, is_send ? "send " : "recv ", thread);
+    *at++ = ' ';
+    end_line(sink, put_decimal(at, number));
+}
+
+static bool put_message(bool is_send, unsigned thread, uint32_t number, uint64_t code)
+{
+    if (all_events.file >= 0) {
+        put_message_line(&all_events, is_send, thread, number);
+    }
+    put_message_line(&trace, is_send, thread, number);
+    event_is_put(&trace, code);
+    return goes_on();
+}
+
+static void tell_end_of_messages(void)
+{
+    tell("hand-overs are left out from event %" PRIu64 " on: reports behind it may be false", events + 1);
 }
 
 /* ---- the program and its end ---- */
@@ -502,24 +545,36 @@ static bool has_ended(void)
     return owner_has_ended && program_status >= 0;
 }
 
+static uint64_t milliseconds(void)
+{
+    struct timespec now;
+    clock_gettime(CLOCK_MONOTONIC_COARSE, &now);
+    return (uint64_t)now.tv_sec * 1000 + (uint64_t)now.tv_nsec / 1000000;
+}
+
+/* What was written leaves the ring. */
+static void show_progress(void)
+{
+    atomic_store_explicit(&ring->taken, first_held(), memory_order_release);
+}
+
 /* Takes what is published in the ring. False where the trace ends there. */
 static bool take_events(void)
 {
-    uint64_t taken = atomic_load_explicit(&ring->taken, memory_order_relaxed);
-    for (;; taken++) {
-        struct event *event = &ring->events[taken % RING_EVENTS];
-        if (atomic_load_explicit(&event->published, memory_order_acquire) != taken + 1) {
+    bool goes_on = true;
+    for (uint64_t next = next_taken(); goes_on; next++) {
+        struct event *event = &ring->events[next % RING_EVENTS];
+        if (atomic_load_explicit(&event->published, memory_order_acquire) != next + 1) {
             break;
         }
-        if (!put_event(event) || trace.failed || is_at_limit()) {
-            return false;
-        }
-        if (taken % 1024 == 0) {
-            atomic_store_explicit(&ring->taken, taken, memory_order_release);
+        goes_on = take_event();
+        if (next % 1024 == 0) {
+            show_progress();
         }
     }
-    atomic_store_explicit(&ring->taken, taken, memory_order_release);
-    return true;
+    goes_on = goes_on && write_old(milliseconds());
+    show_progress();
+    return goes_on;
 }
 
 /* Whether the next event has been missing for long while all others wait for it. */
@@ -541,16 +596,19 @@ static void follow_program(void)
     unsigned idle = 0;
     for (;;) {
         uint64_t before = atomic_load(&ring->taken);
+        uint64_t seen = next_taken();
         /* In this order: what it published before it ended is taken after. */
         bool is_last = has_ended();
         if (!take_events()) {
             return;
         }
-        bool is_idle = atomic_load(&ring->taken) == before;
-        if (is_last && is_idle) {
+        bool is_idle = atomic_load(&ring->taken) == before && next_taken() == seen;
+        if (is_last && next_taken() == seen) {
+            write_all();
             return;
         }
         if (is_idle && is_stuck()) {
+            write_all();
             tell("the trace ends after %" PRIu64 " events: a thread was stopped in the midst of one", events);
             return;
         }
@@ -615,6 +673,7 @@ static void make_ring(const struct options *options)
     ring->magic = RING_MAGIC;
     ring->filter = options->unfiltered ? FILTER_MARKS : options->filter ? FILTER_LEAVES_OUT : FILTER_NOTHING;
     ring->comments = options->comments;
+    ring->messages = options->messages != MESSAGES_NONE;
     ring->wants_codes = options->pcs != NULL;
     ring->wants_stacks = options->pcs != NULL && options->stacks;
     atomic_store(&ring->reader, (int32_t)getpid());
@@ -750,10 +809,10 @@ static void open_outputs(const struct options *options, bool is_output_closed)
 static void tell_counts(void)
 {
     static const char *const told[COUNTS] = {
-        [COUNT_SEMAPHORES] = "semaphore posts: the trace has them as comments",
-        [COUNT_BARRIERS] = "arrivals at barriers: the trace has them as comments",
-        [COUNT_CONDITIONS] = "signals of condition variables: the trace has those that met a waiting thread as comments",
-        [COUNT_ATOMICS] = "atomic accesses: the trace has them as comments",
+        [COUNT_SEMAPHORES] = "semaphore posts",
+        [COUNT_BARRIERS] = "arrivals at barriers",
+        [COUNT_CONDITIONS] = "signals of condition variables",
+        [COUNT_ATOMICS] = "atomic accesses",
         [COUNT_IN_HANDLERS] = "accesses of signal handlers that interrupted the recorder are not in the trace",
         [COUNT_OTHERS_UNLOCKS] = "locks were let go by a thread that did not hold them: the trace has the holder let them go",
         [COUNT_HOLDS_OVER_64] = "holds are not in the trace: the thread held 64 locks already",
@@ -762,8 +821,8 @@ static void tell_counts(void)
         [COUNT_LARGE_UNMAPS] = "areas above 16 MiB were unmapped: the trace does not free them",
         [COUNT_FORKED_PROCESSES] = "processes were forked: what they did is not in the trace",
         [COUNT_OTHER_PROGRAMS] = "other programs built with hgd-cc were started: they were not recorded",
-        [COUNT_LOST_MESSAGES] = "messages are not among the comments: there was no room for them",
-        [COUNT_ANNOTATIONS] = "hand-overs that the program tells of: the trace has them as comments",
+        [COUNT_LOST_MESSAGES] = "hand-overs are not in the trace: there was no room for them",
+        [COUNT_ANNOTATIONS] = "hand-overs that the program tells of",
         [COUNT_BENIGN] = "accesses of memory whose races the program calls benign are not in the trace",
         [COUNT_IGNORED] = "accesses that the program asks to ignore are not in the trace",
         [COUNT_UNSAID] = "annotations of the program are not in the trace: it has no word for them",
@@ -773,7 +832,8 @@ static void tell_counts(void)
     for (int i = 0; i < COUNTS; i++) {
         uint64_t counted = atomic_load(&ring->counts[i]);
         if (counted) {
-            tell("%" PRIu64 " %s", counted, told[i]);
+            bool is_left_out = messages == MESSAGES_NONE && (i <= COUNT_CONDITIONS || i == COUNT_ANNOTATIONS);
+            tell("%" PRIu64 " %s%s", counted, told[i], is_left_out ? ": the trace has no messages of them" : "");
         }
     }
 }
@@ -786,6 +846,15 @@ static void tell_end(void)
     }
     tell("%" PRIu64 " events, %d threads, %d locks; %" PRIu64 " accesses left out, since they change nothing; %" PRIu64 " comments", events,
          most_thread + 1, locks_seen + 1, left_out, lines_of_comments);
+    struct message_counts counted = message_counts();
+    if (counted.pairs && counted.late) {
+        tell("%" PRIu64 " messages, %" PRIu64 " of them later than what they tell of", counted.pairs, counted.late);
+    } else if (counted.pairs) {
+        tell("%" PRIu64 " messages", counted.pairs);
+    }
+    if (counted.forgotten) {
+        tell("%" PRIu64 " times there was no room for what was handed over: reports may be false", counted.forgotten);
+    }
     if (ring->left_out_alone.value) {
         tell("%" PRIu64 " accesses left out, since all other threads had been joined", ring->left_out_alone.value);
     }
@@ -875,7 +944,29 @@ static uint64_t read_limit(const char *text)
     return number;
 }
 
-enum { OPTION_CHECK = 256, OPTION_FEED, OPTION_REPORT, OPTION_HGD, OPTION_NO_COMMENTS, OPTION_NO_STACKS, OPTION_UNFILTERED };
+static enum messages read_messages(const char *word)
+{
+    static const char *const known[] = {
+        [MESSAGES_NONE] = "none", [MESSAGES_WAITS] = "waits", [MESSAGES_READ] = "read", [MESSAGES_LOCKS] = "locks"};
+    for (size_t i = 0; i < sizeof known / sizeof *known; i++) {
+        if (strcmp(word, known[i]) == 0) {
+            return (enum messages)i;
+        }
+    }
+    fail(STATUS_FAILED, "messages are none, waits, read or locks, and not `%s`", word);
+}
+
+enum {
+    OPTION_CHECK = 256,
+    OPTION_FEED,
+    OPTION_REPORT,
+    OPTION_HGD,
+    OPTION_MESSAGES,
+    OPTION_NO_HAND_OVERS,
+    OPTION_NO_COMMENTS,
+    OPTION_NO_STACKS,
+    OPTION_UNFILTERED,
+};
 
 static void take_option(struct options *options, int option, int number, char **words)
 {
@@ -914,6 +1005,12 @@ static void take_option(struct options *options, int option, int number, char **
     case OPTION_HGD:
         options->hgd = optarg;
         break;
+    case OPTION_MESSAGES:
+        options->messages = read_messages(optarg);
+        break;
+    case OPTION_NO_HAND_OVERS:
+        options->messages = MESSAGES_NONE;
+        break;
     case OPTION_NO_COMMENTS:
         options->comments = false;
         break;
@@ -947,10 +1044,11 @@ static struct options read_options(int number, char **words)
         {"pcs", required_argument, NULL, 'p'},          {"no-filter", no_argument, NULL, 'n'},
         {"limit", required_argument, NULL, 'l'},        {"no-comments", no_argument, NULL, OPTION_NO_COMMENTS},
         {"no-stacks", no_argument, NULL, OPTION_NO_STACKS}, {"unfiltered", required_argument, NULL, OPTION_UNFILTERED},
+        {"messages", required_argument, NULL, OPTION_MESSAGES}, {"no-hand-overs", no_argument, NULL, OPTION_NO_HAND_OVERS},
         {"quiet", no_argument, NULL, 'q'},              {"help", no_argument, NULL, 'h'},
         {NULL, 0, NULL, 0},
     };
-    struct options options = {.filter = true, .comments = true, .stacks = true, .hgd = getenv("HGD")};
+    struct options options = {.filter = true, .comments = true, .stacks = true, .messages = MESSAGES_READ, .hgd = getenv("HGD")};
     int option;
     while ((option = getopt_long(number, words, "+o:p:nl:qh", known, NULL)) != -1) {
         take_option(&options, option, number, words);
@@ -977,19 +1075,23 @@ static struct options read_options(int number, char **words)
 
 int main(int number, char **words)
 {
+    static const struct writer writer = {.put_event = put_event, .put_message = put_message, .messages_end = tell_end_of_messages};
     bool closed[] = {is_closed(STDIN_FILENO), is_closed(STDOUT_FILENO), is_closed(STDERR_FILENO)};
     fill_standard_streams();
     struct options options = read_options(number, words);
     limit = options.limit;
     is_quiet = options.quiet;
-    bool output_is_taken = options.check || options.directory || strcmp(options.output, "-") == 0;
+    puts_comments = options.comments;
+    messages = options.messages;
+    bool is_read_along = options.check || options.directory || strcmp(options.output, "-") == 0;
     if (getrandom(&run_number, sizeof run_number, GRND_NONBLOCK) != sizeof run_number) {
         run_number = (uint64_t)time(NULL) << 32 | (uint32_t)getpid();
     }
     set_signals();
     make_ring(&options);
+    begin_hand_overs(messages, is_read_along ? LONGEST_HOLD_READ_ALONG : LONGEST_HOLD, ring->events, &writer);
     open_outputs(&options, closed[STDOUT_FILENO]);
-    start_program(&options, closed, output_is_taken);
+    start_program(&options, closed, is_read_along);
     follow_program();
     atomic_store(&ring->closed, 1);
     finish_sinks();

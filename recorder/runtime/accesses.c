@@ -21,13 +21,6 @@ enum {
     ADDRESS_BITS = 48,
 };
 
-struct line {
-    /* the address of the line, and above it the number and 1 of the thread that has it locked, or 0 */
-    _Atomic uintptr_t key;
-    /* who knows it: 10 bits of thread and 22 of epoch; then a bit for each word written and one for each word touched */
-    _Atomic uint64_t known;
-};
-
 static struct line *lines;
 
 static uintptr_t address_of(const struct line *line, memory_order order)
@@ -100,7 +93,7 @@ static bool try_line(struct line *line)
                                                    memory_order_relaxed);
 }
 
-static void lock_line(struct line *line)
+void lock_line(struct line *line)
 {
     unsigned spins = 0, naps = 0;
     /* Told before: should a jump leave it locked, this thread will know. */

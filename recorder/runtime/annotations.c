@@ -1,6 +1,6 @@
 /* What a program tells a race detector itself: the interface of the compiler's own runtime (`__tsan_acquire`, `__tsan_mutex_post_lock` and
- * their like) and the older `Annotate..` calls. Locks become events, hand-overs the comments of messages.c. What the language of traces
- * cannot say is counted, and told at the end.
+ * their like) and the older `Annotate..` calls. Locks become events, hand-overs messages. What the language of traces cannot say is
+ * counted, and told at the end.
  *
  * A program may define a call of these itself, so each gives way to one of the program's.
  */
@@ -176,14 +176,20 @@ enum {
     MUTEX_RECURSIVE_UNLOCK = 1 << 7,
 };
 
+static void said_release(const void *address, uintptr_t code)
+{
+    count(COUNT_ANNOTATIONS);
+    place_is_released(address, code);
+}
+
 REPLACES void __tsan_acquire(void *address)
 {
-    message_is_received(address, CALLER);
+    place_is_acquired(address, CALLER);
 }
 
 REPLACES void __tsan_release(void *address)
 {
-    message_is_sent(address, COUNT_ANNOTATIONS, CALLER);
+    said_release(address, CALLER);
 }
 
 REPLACES void __tsan_mutex_create(void *address, unsigned flags)
@@ -298,25 +304,25 @@ REPLACES void __tsan_flush_memory(void) {}
 REPLACES void AnnotateHappensBefore(PLACE, const volatile void *address)
 {
     NO_PLACE;
-    message_is_sent((const void *)address, COUNT_ANNOTATIONS, CALLER);
+    said_release((const void *)address, CALLER);
 }
 
 REPLACES void AnnotateHappensAfter(PLACE, const volatile void *address)
 {
     NO_PLACE;
-    message_is_received((const void *)address, CALLER);
+    place_is_acquired((const void *)address, CALLER);
 }
 
 REPLACES void WTFAnnotateHappensBefore(PLACE, const volatile void *address)
 {
     NO_PLACE;
-    message_is_sent((const void *)address, COUNT_ANNOTATIONS, CALLER);
+    said_release((const void *)address, CALLER);
 }
 
 REPLACES void WTFAnnotateHappensAfter(PLACE, const volatile void *address)
 {
     NO_PLACE;
-    message_is_received((const void *)address, CALLER);
+    place_is_acquired((const void *)address, CALLER);
 }
 
 REPLACES void AnnotateBenignRace(PLACE, const volatile void *address, const char *reason)

@@ -1,84 +1,113 @@
-/* Atomic accesses. The language of traces has no event for them. They are counted, and written as comments: a `#load` after the atomic
- * was loaded, a `#store` before it is stored, and both for one that does both. So a load stands behind the store whose value it got.
+/* Atomic accesses. No other thread makes one of the same atomic between an access and its event: so the events of an atomic stand in the order
+ * of its values, and a load stands behind the store that it read. hgd-record makes messages of them; and each is a comment of the trace: a
+ * `#load`, a `#store`, both for one that does both.
  */
 #include "recorder.h"
 
 /* Every access is made in the strongest order; the one that the program wrote stands in the comment. */
 #define ORDER memory_order_seq_cst
 
-static void note(enum kind kind, const volatile void *address, size_t length, uint64_t value, int order, uintptr_t code)
+enum { PLACES = 4096 };
+
+/* What is locked for it, by a hash of the address. */
+static struct line places[PLACES];
+
+static bool is_wanted(void)
 {
-    if (ring->comments && begin_event()) {
-        publish_atomic(kind, (uintptr_t)address, length, value, order, code);
-        end_event();
-    }
+    return is_recording() && (ring->comments || ring->messages);
 }
 
-static void before_store(const volatile void *address, size_t length, int order, uintptr_t code)
-{
-    if (is_recording()) {
-        count(COUNT_ATOMICS);
-        note(KIND_ATOMIC_STORE, address, length, 0, order, code);
-    }
-}
-
-static void after_load(const volatile void *address, size_t length, uint64_t value, int order, uintptr_t code)
+/* Null where nothing is recorded. It is part of its caller, whose frame is the one that records. */
+static inline __attribute__((always_inline)) struct line *begin_atomic(const volatile void *address)
 {
     if (is_recording()) {
         count(COUNT_ATOMICS);
-        note(KIND_ATOMIC_LOAD, address, length, value, order, code);
     }
+    if (!is_wanted() || !begin_event()) {
+        return NULL;
+    }
+    struct line *line = &places[((uintptr_t)address >> 3) * 0x9E3779B97F4A7C15ull >> 52];
+    lock_line(line);
+    return line;
 }
 
-/* The part of an access that does both, after it: it was counted before. */
-static void after_update(const volatile void *address, size_t length, uint64_t value, int order, uintptr_t code)
+static void end_atomic(struct line *line)
 {
-    if (is_recording()) {
-        note(KIND_ATOMIC_LOAD, address, length, value, order, code);
+    unlock_line(line);
+    end_event();
+}
+
+static void end_load(struct line *line, const volatile void *address, size_t length, uint64_t value, int order, uintptr_t code)
+{
+    if (line) {
+        publish_atomic(KIND_ATOMIC_LOAD, (uintptr_t)address, (uint32_t)length, value, (unsigned)order, code);
+        end_atomic(line);
     }
 }
 
-#define UPDATE(bits, type, name, function)                                                                   \
+static void end_store(struct line *line, const volatile void *address, size_t length, uint64_t value, int order, uintptr_t code)
+{
+    if (line) {
+        publish_atomic(KIND_ATOMIC_STORE, (uintptr_t)address, (uint32_t)length, value, (unsigned)order, code);
+        end_atomic(line);
+    }
+}
+
+static void end_update(struct line *line, const volatile void *address, size_t length, uint64_t old, uint64_t new, int order, uintptr_t code)
+{
+    if (line) {
+        publish_atomic(KIND_ATOMIC_LOAD, (uintptr_t)address, (uint32_t)length, old, (unsigned)order | ATOMIC_UPDATE, code);
+        publish_atomic(KIND_ATOMIC_STORE, (uintptr_t)address, (uint32_t)length, new, (unsigned)order | ATOMIC_UPDATE, code);
+        end_atomic(line);
+    }
+}
+
+/* A loop that waits keeps nobody from storing: what it has loaded already is no event. */
+static bool is_loaded_already(const volatile void *address, uint64_t value, int order)
+{
+    return self.latest_load == (uintptr_t)address && self.latest_value == value && self.latest_order == (unsigned)order;
+}
+
+#define UPDATE(bits, type, name, function, result)                                                           \
     CALLED_BY_COMPILER type __tsan_atomic##bits##_##name(volatile type *atomic, type value, int order)       \
     {                                                                                                        \
-        before_store(atomic, sizeof *atomic, order, CALLER);                                                 \
+        struct line *line = begin_atomic(atomic);                                                            \
         type old = function(atomic, value, ORDER);                                                           \
-        after_update(atomic, sizeof *atomic, (uint64_t)old, order, CALLER);                                  \
+        end_update(line, atomic, sizeof *atomic, old, (type)(result), order, CALLER);                        \
         return old;                                                                                          \
     }
 
-/* A comparison that fails for what stands there now is a load alone. So a loop that waits is no list of stores. */
+/* A comparison that fails is a load alone. */
 #define COMPARE(bits, type)                                                                                  \
-    static bool compare##bits(volatile type *atomic, type *expected, type value, int order, uintptr_t code)  \
+    static bool compare##bits(volatile type *atomic, type *expected, type value, int order, int failure, uintptr_t code) \
     {                                                                                                        \
-        type found = __atomic_load_n(atomic, ORDER);                                                         \
-        bool is_exchanged = false;                                                                           \
-        if (found == *expected) {                                                                            \
-            before_store(atomic, sizeof *atomic, order, code);                                               \
-            found = *expected;                                                                               \
-            is_exchanged = __atomic_compare_exchange_n(atomic, &found, value, false, ORDER, ORDER);          \
+        struct line *line = begin_atomic(atomic);                                                            \
+        type found = *expected;                                                                              \
+        bool is_exchanged = __atomic_compare_exchange_n(atomic, &found, value, false, ORDER, ORDER);         \
+        if (is_exchanged) {                                                                                  \
+            end_update(line, atomic, sizeof *atomic, found, value, order, code);                             \
+        } else {                                                                                             \
+            end_load(line, atomic, sizeof *atomic, found, failure, code);                                    \
         }                                                                                                    \
-        after_load(atomic, sizeof *atomic, (uint64_t)found, order, code);                                    \
         *expected = found;                                                                                   \
         return is_exchanged;                                                                                 \
-    }                                                                                                        \
+    }
+
+#define COMPARISONS(bits, type)                                                                              \
     CALLED_BY_COMPILER int __tsan_atomic##bits##_compare_exchange_strong(                                    \
         volatile type *atomic, type *expected, type value, int order, int failure)                           \
     {                                                                                                        \
-        (void)failure;                                                                                       \
-        return compare##bits(atomic, expected, value, order, CALLER);                                        \
+        return compare##bits(atomic, expected, value, order, failure, CALLER);                               \
     }                                                                                                        \
     CALLED_BY_COMPILER int __tsan_atomic##bits##_compare_exchange_weak(                                      \
         volatile type *atomic, type *expected, type value, int order, int failure)                           \
     {                                                                                                        \
-        (void)failure;                                                                                       \
-        return compare##bits(atomic, expected, value, order, CALLER);                                        \
+        return compare##bits(atomic, expected, value, order, failure, CALLER);                               \
     }                                                                                                        \
     CALLED_BY_COMPILER type __tsan_atomic##bits##_compare_exchange_val(                                      \
         volatile type *atomic, type expected, type value, int order, int failure)                            \
     {                                                                                                        \
-        (void)failure;                                                                                       \
-        compare##bits(atomic, &expected, value, order, CALLER);                                              \
+        compare##bits(atomic, &expected, value, order, failure, CALLER);                                     \
         return expected;                                                                                     \
     }
 
@@ -86,22 +115,29 @@ static void after_update(const volatile void *address, size_t length, uint64_t v
     CALLED_BY_COMPILER type __tsan_atomic##bits##_load(const volatile type *atomic, int order)               \
     {                                                                                                        \
         type value = __atomic_load_n(atomic, ORDER);                                                         \
-        after_load(atomic, sizeof *atomic, (uint64_t)value, order, CALLER);                                  \
+        if (is_loaded_already(atomic, value, order)) {                                                       \
+            return value;                                                                                    \
+        }                                                                                                    \
+        struct line *line = begin_atomic(atomic);                                                            \
+        value = __atomic_load_n(atomic, ORDER);                                                              \
+        end_load(line, atomic, sizeof *atomic, value, order, CALLER);                                        \
         return value;                                                                                        \
     }                                                                                                        \
     CALLED_BY_COMPILER void __tsan_atomic##bits##_store(volatile type *atomic, type value, int order)        \
     {                                                                                                        \
-        before_store(atomic, sizeof *atomic, order, CALLER);                                                 \
+        struct line *line = begin_atomic(atomic);                                                            \
         __atomic_store_n(atomic, value, ORDER);                                                              \
+        end_store(line, atomic, sizeof *atomic, value, order, CALLER);                                       \
     }                                                                                                        \
-    UPDATE(bits, type, exchange, __atomic_exchange_n)                                                        \
-    UPDATE(bits, type, fetch_add, __atomic_fetch_add)                                                        \
-    UPDATE(bits, type, fetch_sub, __atomic_fetch_sub)                                                        \
-    UPDATE(bits, type, fetch_and, __atomic_fetch_and)                                                        \
-    UPDATE(bits, type, fetch_or, __atomic_fetch_or)                                                          \
-    UPDATE(bits, type, fetch_xor, __atomic_fetch_xor)                                                        \
-    UPDATE(bits, type, fetch_nand, __atomic_fetch_nand)                                                      \
-    COMPARE(bits, type)
+    UPDATE(bits, type, exchange, __atomic_exchange_n, value)                                                 \
+    UPDATE(bits, type, fetch_add, __atomic_fetch_add, old + value)                                           \
+    UPDATE(bits, type, fetch_sub, __atomic_fetch_sub, old - value)                                           \
+    UPDATE(bits, type, fetch_and, __atomic_fetch_and, old &value)                                            \
+    UPDATE(bits, type, fetch_or, __atomic_fetch_or, old | value)                                             \
+    UPDATE(bits, type, fetch_xor, __atomic_fetch_xor, old ^ value)                                           \
+    UPDATE(bits, type, fetch_nand, __atomic_fetch_nand, ~(old & value))                                      \
+    COMPARE(bits, type)                                                                                      \
+    COMPARISONS(bits, type)
 
 ATOMICS(8, uint8_t)
 ATOMICS(16, uint16_t)
@@ -122,15 +158,20 @@ static uint128 load_16_bytes(const volatile uint128 *atomic)
     return exchange_if((volatile uint128 *)atomic, 0, 0);
 }
 
+static uint64_t half_of(uint128 value)
+{
+    return (uint64_t)(value ^ value >> 64);
+}
+
 #define UPDATE_16_BYTES(name, result)                                                                        \
     CALLED_BY_COMPILER uint128 __tsan_atomic128_##name(volatile uint128 *atomic, uint128 value, int order)   \
     {                                                                                                        \
-        before_store(atomic, sizeof *atomic, order, CALLER);                                                 \
+        struct line *line = begin_atomic(atomic);                                                            \
         uint128 old = load_16_bytes(atomic), found;                                                          \
         while ((found = exchange_if(atomic, old, result)) != old) {                                          \
             old = found;                                                                                     \
         }                                                                                                    \
-        after_update(atomic, sizeof *atomic, (uint64_t)old, order, CALLER);                                  \
+        end_update(line, atomic, sizeof *atomic, half_of(old), half_of(result), order, CALLER);              \
         return old;                                                                                          \
     }
 
@@ -145,62 +186,73 @@ UPDATE_16_BYTES(fetch_nand, ~(old & value))
 CALLED_BY_COMPILER uint128 __tsan_atomic128_load(const volatile uint128 *atomic, int order)
 {
     uint128 value = load_16_bytes(atomic);
-    after_load(atomic, sizeof *atomic, (uint64_t)value, order, CALLER);
+    if (is_loaded_already(atomic, half_of(value), order)) {
+        return value;
+    }
+    struct line *line = begin_atomic(atomic);
+    value = load_16_bytes(atomic);
+    end_load(line, atomic, sizeof *atomic, half_of(value), order, CALLER);
     return value;
 }
 
 CALLED_BY_COMPILER void __tsan_atomic128_store(volatile uint128 *atomic, uint128 value, int order)
 {
-    before_store(atomic, sizeof *atomic, order, CALLER);
+    struct line *line = begin_atomic(atomic);
     uint128 old = load_16_bytes(atomic), found;
     while ((found = exchange_if(atomic, old, value)) != old) {
         old = found;
     }
+    end_store(line, atomic, sizeof *atomic, half_of(value), order, CALLER);
 }
 
-static bool compare_16_bytes(volatile uint128 *atomic, uint128 *expected, uint128 value, int order, uintptr_t code)
+static bool compare128(volatile uint128 *atomic, uint128 *expected, uint128 value, int order, int failure, uintptr_t code)
 {
-    uint128 found = load_16_bytes(atomic);
-    bool is_exchanged = false;
-    if (found == *expected) {
-        before_store(atomic, sizeof *atomic, order, code);
-        found = exchange_if(atomic, *expected, value);
-        is_exchanged = found == *expected;
+    struct line *line = begin_atomic(atomic);
+    uint128 found = exchange_if(atomic, *expected, value);
+    bool is_exchanged = found == *expected;
+    if (is_exchanged) {
+        end_update(line, atomic, sizeof *atomic, half_of(found), half_of(value), order, code);
+    } else {
+        end_load(line, atomic, sizeof *atomic, half_of(found), failure, code);
     }
-    after_load(atomic, sizeof *atomic, (uint64_t)found, order, code);
     *expected = found;
     return is_exchanged;
 }
 
-CALLED_BY_COMPILER int __tsan_atomic128_compare_exchange_strong(volatile uint128 *atomic, uint128 *expected, uint128 value, int order, int failure)
-{
-    (void)failure;
-    return compare_16_bytes(atomic, expected, value, order, CALLER);
-}
-
-CALLED_BY_COMPILER int __tsan_atomic128_compare_exchange_weak(volatile uint128 *atomic, uint128 *expected, uint128 value, int order, int failure)
-{
-    (void)failure;
-    return compare_16_bytes(atomic, expected, value, order, CALLER);
-}
-
-CALLED_BY_COMPILER uint128 __tsan_atomic128_compare_exchange_val(volatile uint128 *atomic, uint128 expected, uint128 value, int order, int failure)
-{
-    (void)failure;
-    compare_16_bytes(atomic, &expected, value, order, CALLER);
-    return expected;
-}
+COMPARISONS(128, uint128)
 
 CALLED_BY_COMPILER void __tsan_atomic_thread_fence(int order)
 {
     __atomic_thread_fence(ORDER);
-    if (is_recording()) {
+    if (is_wanted() && begin_event()) {
         count(COUNT_ATOMICS);
-        note(KIND_FENCE, NULL, 0, 0, order, CALLER);
+        publish_atomic(KIND_FENCE, 0, 0, 0, (unsigned)order, CALLER);
+        end_event();
     }
 }
 
 CALLED_BY_COMPILER void __tsan_atomic_signal_fence(int order)
 {
     (void)order;
+}
+
+/* ---- static variables of C++ that are made when they are first met ---- */
+
+/* The compiler itself looks at the guard's first byte by an atomic load: what is handed over by it stands there. */
+extern int __cxa_guard_acquire(int64_t *guard);
+extern void __cxa_guard_release(int64_t *guard);
+
+REPLACES int __cxa_guard_acquire(int64_t *guard)
+{
+    int is_to_be_made = REAL(__cxa_guard_acquire)(guard);
+    if (!is_to_be_made) {
+        end_load(begin_atomic(guard), guard, 1, 1, memory_order_acquire, CALLER);
+    }
+    return is_to_be_made;
+}
+
+REPLACES void __cxa_guard_release(int64_t *guard)
+{
+    end_store(begin_atomic(guard), guard, 1, 1, memory_order_release, CALLER);
+    REAL(__cxa_guard_release)(guard);
 }

@@ -215,21 +215,28 @@ void publish(unsigned kind, int thread, uint64_t value, uint64_t length, uintptr
     publish_event(kind, thread, value, (uint32_t)length, 0, code);
 }
 
-/* What the language of traces has no word for. An acquiring or releasing access moves the epoch on, since a later version of
- * the language may order threads by it. */
-void publish_atomic(enum kind kind, uintptr_t address, uint64_t length, uint64_t value, int order, uintptr_t code)
+/* As much of a value as fits beside a length: small ones wholly. */
+static uint32_t folded(uint64_t value)
+{
+    enum { BITS = 32 - ATOMIC_LENGTH_BITS };
+    return (uint32_t)(value ^ value >> BITS ^ value >> 2 * BITS) << ATOMIC_LENGTH_BITS;
+}
+
+/* An access that acquires or releases may order threads, so it moves the epoch on. */
+void publish_atomic(enum kind kind, uintptr_t address, uint32_t length, uint64_t value, unsigned order, uintptr_t code)
 {
     /* A loop that waits for an atomic loads the same value again and again: once is enough. */
     bool is_load = kind == KIND_ATOMIC_LOAD;
-    if (is_load && self.latest_load == address && self.latest_value == value) {
+    if (is_load && self.latest_load == address && self.latest_value == value && self.latest_order == order) {
         return;
     }
-    publish_event(kind, self.number, address, (uint32_t)length, order, code);
-    if (order != memory_order_relaxed) {
+    publish_event(kind, self.number, address, length | folded(value), (int)order, code);
+    if ((order & ATOMIC_ORDER) != memory_order_relaxed) {
         next_epoch(self.number);
     }
     self.latest_load = is_load ? address : 0;
     self.latest_value = value;
+    self.latest_order = order;
 }
 
 /* A block is one event of the ring, as long as its length can be written there. */

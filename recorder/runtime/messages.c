@@ -1,8 +1,9 @@
-/* Semaphores, condition variables, barriers and what a program says of itself: what one thread hands to another through them.
+/* Semaphores, condition variables, barriers, what runs once and what a program says of itself: what one thread hands to another
+ * through them.
  *
- * The language of traces has no event for it yet. It is written as comments, `#send T K` and `#recv T K`, where K is a number that each
- * message has alone, and each is received once at most. Where it isn't known which message a thread was woken by, the oldest one
- * that waits is taken.
+ * A message has a number of its own, and is received once at most. Where it isn't known which message a thread was woken by, the oldest
+ * one that waits is taken. What is released at an address hands over to each who acquires it there. Which of these become events of the
+ * trace is hgd-record's business.
  */
 #include <sys/mman.h>
 
@@ -44,13 +45,13 @@ static void *make_table(size_t length)
 
 void make_channels(void)
 {
-    if (ring->comments) {
+    if (ring->messages) {
         channels = make_table(CHANNELS * sizeof *channels);
         messages = make_table(MESSAGES * sizeof *messages);
     }
 }
 
-/* These are comments: where the lock is not to be had, one is left out rather than waited for without end. */
+/* Where the lock is not to be had, a message is left out rather than waited for without end. */
 static bool take_lock(void)
 {
     unsigned spins = 0, naps = 0;
@@ -196,6 +197,29 @@ void message_is_received(const void *address, uintptr_t code)
     if (channel) {
         receive(channel, code);
         leave_channel();
+    }
+}
+
+static void publish_place(enum kind kind, const void *address, uintptr_t code)
+{
+    if (ring->messages && begin_event()) {
+        publish(kind, self.number, (uintptr_t)address, 0, code);
+        next_epoch(self.number);
+        end_event();
+    }
+}
+
+void place_is_released(const void *address, uintptr_t code)
+{
+    if (is_recording()) {
+        publish_place(KIND_RELEASE, address, code);
+    }
+}
+
+void place_is_acquired(const void *address, uintptr_t code)
+{
+    if (is_recording()) {
+        publish_place(KIND_ACQUIRE, address, code);
     }
 }
 

@@ -324,3 +324,48 @@ REPLACES int pthread_barrier_wait(pthread_barrier_t *barrier)
     }
     return answer;
 }
+
+/* ---- what runs once ---- */
+
+/* What the thread is running once, and what it was running around that. */
+struct once {
+    void (*routine)(void);
+    const void *control;
+    struct once *outer;
+    bool has_run;
+    uintptr_t code;
+};
+
+static void run_once(void)
+{
+    struct once *once = self.once;
+    once->has_run = true;
+    once->routine();
+    place_is_released(once->control, once->code);
+}
+
+/* Also where the routine ends by an exception. */
+static void end_once(struct once **given)
+{
+    self.once = (*given)->outer;
+}
+
+REPLACES int pthread_once(pthread_once_t *control, void (*routine)(void))
+{
+    struct once once = {.routine = routine, .control = control, .outer = self.once, .code = CALLER};
+    int error;
+    {
+        __attribute__((cleanup(end_once))) struct once *running = &once;
+        self.once = running;
+        error = REAL(pthread_once)(control, run_once);
+    }
+    if (!error && !once.has_run) {
+        place_is_acquired(control, CALLER);
+    }
+    return error;
+}
+
+REPLACES void call_once(once_flag *flag, void (*routine)(void))
+{
+    pthread_once((pthread_once_t *)flag, routine);
+}

@@ -69,6 +69,9 @@ struct self {
     /* the latest atomic load, so that a loop which waits is written once */
     uintptr_t latest_load;
     uint64_t latest_value;
+    unsigned latest_order;
+    /* what the thread is running once now */
+    struct once *once;
     /* how often the program asked to leave its reads and its writes alone, and has not taken it back */
     unsigned ignores_reads, ignores_writes;
     /* the functions that the thread is in, and how many of them; above MOST_FRAMES they are only counted */
@@ -98,7 +101,7 @@ void stop_recording(void);
 bool begin_event_at(uintptr_t frame);
 void end_event(void);
 void publish(unsigned kind, int thread, uint64_t value, uint64_t length, uintptr_t code);
-void publish_atomic(enum kind kind, uintptr_t address, uint64_t length, uint64_t value, int order, uintptr_t code);
+void publish_atomic(enum kind kind, uintptr_t address, uint32_t length, uint64_t value, unsigned order, uintptr_t code);
 /* Whether the ring has room now. */
 bool has_room(void);
 void publish_block(unsigned kind, int thread, uintptr_t address, size_t length, uintptr_t code);
@@ -118,7 +121,16 @@ static inline void next_epoch(int thread)
 }
 
 /* ---- accesses.c ---- */
+struct line {
+    /* the address of the line, and above it the number and 1 of the thread that has it locked, or 0 */
+    _Atomic uintptr_t key;
+    /* who knows it: 10 bits of thread and 22 of epoch; then a bit for each word written and one for each word touched */
+    _Atomic uint64_t known;
+};
+
 void make_filter(void);
+/* One line at a time, while an event has begun. */
+void lock_line(struct line *line);
 void record_own_block(enum kind kind, uintptr_t address, size_t length, uintptr_t code);
 void record_block(enum kind kind, uintptr_t address, size_t length, uintptr_t code);
 void record_access(bool is_write, uintptr_t address, size_t length, uintptr_t code);
@@ -171,6 +183,9 @@ void channel_is_new(const void *channel, unsigned parties);
 void wait_begins(const void *channel);
 void wait_ends(const void *channel, bool was_woken, uintptr_t code);
 void waiters_are_woken(const void *channel, bool all, uintptr_t code);
+/* What is released at an address is acquired there by any number of threads. */
+void place_is_released(const void *address, uintptr_t code);
+void place_is_acquired(const void *address, uintptr_t code);
 bool barrier_is_reached(const void *channel, uintptr_t code);
 
 /* ---- real.c ---- */

@@ -16,7 +16,7 @@
 
 enum {
     RING_EVENTS = 1 << 16,
-    RING_MAGIC = 0x68676431,
+    RING_MAGIC = 0x68676432,
     MOST_THREADS = 1024,
     MOST_LOCKS = 65536,
     MOST_STACKS = 1 << 17,
@@ -36,9 +36,13 @@ enum kind {
     KIND_WRITE,
     KIND_ALLOC,
     KIND_FREE,
-    /* what the language of traces does not have yet, written as comments */
+    /* one message, by a number that it has alone */
     KIND_SEND,
     KIND_RECEIVE,
+    /* all that was done before is released at an address, to whoever acquires it there */
+    KIND_RELEASE,
+    KIND_ACQUIRE,
+    /* `length` has the bytes, and above them the value */
     KIND_ATOMIC_LOAD,
     KIND_ATOMIC_STORE,
     KIND_FENCE,
@@ -48,6 +52,14 @@ enum kind {
     KIND_EARLY_BLOCK,
     /* the trace ends here; `value` says why */
     KIND_STOP,
+};
+
+enum {
+    /* the bits of `order` that are the memory order; the next one says that an atomic access loads and stores at once */
+    ATOMIC_ORDER = 7,
+    ATOMIC_UPDATE = 8,
+    /* above so many bits of `length` stands the value, as far as it fits there */
+    ATOMIC_LENGTH_BITS = 8,
 };
 
 /* Set in the kind of an event that the filter leaves out, where all events were asked for. */
@@ -113,6 +125,7 @@ struct ring {
     /* an `enum filter` */
     uint8_t filter;
     uint8_t comments;
+    uint8_t messages;
     uint8_t wants_codes;
     uint8_t wants_stacks;
     /* the process that records; 0 until one has begun */

@@ -1,6 +1,6 @@
 /* A lock of the program's own, which it tells of; memory whose races it calls benign; accesses that it asks to ignore; a hand-over by a
  * flag. `counter` has the lock. `shared` has none, and `later` is benign only at first.
- * expect threads 3, locks 1, races shared, comments send recv, told whose races the program calls benign
+ * expect threads 3, locks 1, races shared, events send recv, told whose races the program calls benign
  */
 #include <stdatomic.h>
 

@@ -1,5 +1,5 @@
 /* An atomic flag hands `value` over. A loop that waits for the flag is written as often as it sees another value.
-   expect threads 2, locks 0, races value, comments load store, lines #load 2 #store 1 */
+   expect threads 2, locks 0, races none, comments load store, lines #load 2 #store 1 send 1 recv 1 */
 #include <stdatomic.h>
 
 #include "threads.h"

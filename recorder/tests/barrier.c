@@ -1,5 +1,5 @@
 /* Three threads meet at a barrier four times: six messages each time.
-   expect threads 4, locks 0, races cells, comments send recv, told 12 arrivals, lines #send 16 #recv 16 */
+   expect threads 4, locks 0, races none, told 12 arrivals, lines send 16 recv 16 */
 #include "threads.h"
 
 int cells[3];

@@ -1,5 +1,5 @@
-/* A block that one thread changes under one lock, and another thread under another one, in turns. The atomic that gives the turns is no
- * order to the detector, which would report the block all the same.
+/* A block that one thread changes under one lock, and another thread under another one, in turns. The atomic that gives the turns is
+ * relaxed, and so hands nothing over.
  * expect threads 3, locks 2, races heap, comments load store
  */
 #include <pthread.h>
@@ -8,12 +8,12 @@
 
 int turn;
 struct node { long value; };
-static struct node *node;
+struct node *node;
 static pthread_mutex_t first_lock = PTHREAD_MUTEX_INITIALIZER, second_lock = PTHREAD_MUTEX_INITIALIZER;
 
 static void wait_for(int wanted)
 {
-    while (__atomic_load_n(&turn, __ATOMIC_SEQ_CST) != wanted) {
+    while (__atomic_load_n(&turn, __ATOMIC_RELAXED) != wanted) {
         sched_yield();
     }
 }
@@ -23,7 +23,7 @@ static void *one(void *given)
     pthread_mutex_lock(&first_lock);
     node->value = 7;
     pthread_mutex_unlock(&first_lock);
-    __atomic_store_n(&turn, 1, __ATOMIC_SEQ_CST);
+    __atomic_store_n(&turn, 1, __ATOMIC_RELAXED);
     wait_for(2);
     pthread_mutex_lock(&first_lock);
     node->value--;
@@ -37,7 +37,7 @@ static void *two(void *given)
     pthread_mutex_lock(&second_lock);
     node->value += 2;
     pthread_mutex_unlock(&second_lock);
-    __atomic_store_n(&turn, 2, __ATOMIC_SEQ_CST);
+    __atomic_store_n(&turn, 2, __ATOMIC_RELAXED);
     return given;
 }
 

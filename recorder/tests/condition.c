@@ -1,6 +1,6 @@
 /* A worker makes a result, and tells so by a condition variable; main waits for it, and goes on with the result. What orders them is the
-   condition variable and its mutex, by no rule of the detector.
-   expect threads 2, locks 1, races result, comments send recv */
+   condition variable, and what main reads under its mutex.
+   expect threads 2, locks 1, races none, events send recv */
 #include "threads.h"
 
 int result, is_done;

@@ -1,5 +1,6 @@
-/* Detached threads are never joined, and their handles are used again: one after them is joined, and it is the right one.
-   expect threads 12, locks 1, races left, lines join 1 fork 11 */
+/* Detached threads are never joined, and their handles are used again: one after them is joined, and it is the right one. Each begins when
+   main has read under the lock that the one before it is done, so `left` is handed over.
+   expect threads 12, locks 1, races none, lines join 1 fork 11 */
 #include "threads.h"
 
 int done, left;

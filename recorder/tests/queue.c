@@ -1,6 +1,6 @@
-/* A job is written by one thread, handed over through a queue under a mutex and a condition variable, and changed by the other. It is
-   ordered in time, but by no rule of the detector: the job is reported, the queue is not.
-   expect threads 2, locks 1, races job, comments send recv */
+/* A job is written by one thread, handed over through a queue under a mutex and a condition variable, and changed by the other. The
+   consumer reads under the mutex that there is a job, so it is handed over. Without messages it is reported.
+   expect threads 2, locks 1, races none, events send recv */
 #include "threads.h"
 
 int job, queued, waiting;

@@ -1,5 +1,5 @@
-/* A semaphore orders two threads, which the detector does not know. What it hands over is in comments.
-   expect threads 2, locks 0, races value, comments send recv, told 5 semaphore */
+/* A semaphore hands a value over: the first of five posts, since nothing is written between them.
+   expect threads 2, locks 0, races none, told 5 semaphore, lines send 1 recv 1 */
 #include <semaphore.h>
 
 #include "threads.h"

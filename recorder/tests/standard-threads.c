@@ -1,5 +1,5 @@
 /* Threads, mutexes and condition variables of C11.
-   expect threads 3, locks 1, races unprotected, comments send recv */
+   expect threads 3, locks 1, races unprotected, events send recv */
 #include <threads.h>
 
 #include "threads.h"
