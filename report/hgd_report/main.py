@@ -6,10 +6,11 @@ import os
 import sys
 
 from . import output, suppressions
-from .pairs import Pair, find_pairs
+from .bare import BareHgd, ordered_by_messages
+from .pairs import Pair, Source, find_pairs, group
 from .places import Codes, OtherRun, run_of
 from .progress import Progress
-from .verdicts import Hgd, HgdFailed
+from .verdicts import Hgd, HgdFailed, Verdict
 
 BAD_COMMAND_LINE, FAULT, REFUSED = 4, 3, 2
 
@@ -36,6 +37,9 @@ def parser() -> Parser:
     made.add_argument("trace", metavar="TRACE", help="a trace, as hgd-record writes it")
     made.add_argument("codes", metavar="CODES", nargs="?", help="the file of hgd-record --pcs of the same run, for places in the source")
     made.add_argument("--format", choices=("text", "json", "sarif"), default="text", help="text by default")
+    made.add_argument("--all", action="store_true",
+                      help="lists also the places that race only where the trace's messages are left out: a hand-over of this run alone orders them. "
+                           "They are told as a count else, and never change the status")
     made.add_argument("--suppressions", metavar="FILE", action="append", default=[],
                       help="leaves out what FILE fits: lines `function GLOB and variable GLOB`, with the keys function, frame, file, variable and lock; "
                            "or a file of Helgrind or ThreadSanitizer, as far as it says the same")
@@ -79,24 +83,36 @@ def report(options) -> int:
         see_that_it_is_one_run(options.trace, options.codes)
     progress = Progress(options.quiet)
     hgd = Hgd(options.hgd, options.trace, options.verbose)
-    verdict = hgd.check()
-    pairs = find_pairs(hgd, verdict, options.codes, progress)
+    verdict, source = hgd.check(), Source(options.codes)
+    pairs, around = find_pairs(hgd, group(verdict.races, source), verdict.last, source, progress)
+    ordered = find_ordered(BareHgd(hgd, around.messages, verdict.last), verdict, source, options.all, progress) if around.messages else output.Ordered(0, [])
     progress.end()
-    for pair in pairs:
+    for pair in (*pairs, *ordered.pairs):
         pair.is_suppressed = any(it.fits(pair.facts()) for it in known)
-    sys.stdout.write(written(options, pairs, verdict))
+    sys.stdout.write(written(options, pairs, ordered, verdict))
     sys.stdout.flush()
     if verdict.status == REFUSED:
         return REFUSED
     return options.error_exitcode if any(not pair.is_suppressed for pair in pairs) else 0
 
 
-def written(options, pairs: list[Pair], verdict) -> str:
+def find_ordered(hgd: BareHgd, verdict: Verdict, source: Source, lists_all: bool, progress) -> output.Ordered:
+    """What only the messages of the trace order: how many places, and their pairs where they are to be listed."""
+    progress("judging without the messages")
+    bare = hgd.check()
+    places = ordered_by_messages(bare.races, verdict.races, source)
+    if not lists_all:
+        return output.Ordered(len(places), [])
+    groups = [races for some in places.values() for races in some]
+    return output.Ordered(len(places), find_pairs(hgd, groups, bare.last, source, progress)[0])
+
+
+def written(options, pairs: list[Pair], ordered: output.Ordered, verdict: Verdict) -> str:
     if options.format == "json":
-        return output.as_json(pairs, verdict)
+        return output.as_json(pairs, ordered, verdict)
     if options.format == "sarif":
-        return output.as_sarif(pairs, verdict)
-    return output.Text(is_coloured(options.colour), options.gen_suppressions).whole(pairs, verdict)
+        return output.as_sarif(pairs, ordered, verdict)
+    return output.Text(is_coloured(options.colour), options.gen_suppressions).whole(pairs, ordered, verdict)
 
 
 def run():

@@ -4,6 +4,7 @@ from __future__ import annotations
 import hashlib
 import json
 import os
+from dataclasses import dataclass
 from pathlib import Path
 
 from .pairs import Creation, Memory, Pair, Place, Side
@@ -14,6 +15,14 @@ BOLD, RED, PLAIN = "\033[1m", "\033[1;31m", "\033[0m"
 
 # So many calls of a stack are shown; JSON has them all.
 MOST_SHOWN = 12
+
+
+@dataclass(frozen=True)
+class Ordered:
+    """How many places race only where the messages of the trace are left out, and their pairs where they are listed."""
+
+    places: int
+    pairs: list[Pair]
 
 
 def shown(place: Place) -> str:
@@ -66,21 +75,31 @@ class Text:
         self.red, self.bold, self.plain = (RED, BOLD, PLAIN) if is_coloured else ("", "", "")
         self.generates = generates
 
-    def pair(self, number: int, pair: Pair) -> str:
-        lines = [f"{self.red}race {number}{self.plain}: {self.bold}{side_text(pair.racy)}{self.plain}"]
+    def pair(self, name: str, pair: Pair, of: str = "`hgd check`") -> str:
+        lines = [f"{self.red}{name}{self.plain}: {self.bold}{side_text(pair.racy)}{self.plain}"]
         if pair.other:
             lines.append(f"  conflicts with {side_text(pair.other)}")
         lines.append(f"  {memory_text(pair.memory)}")
         lines += [f"  {thread_text(thread)}" for thread in pair.threads]
-        lines.append(f"  {count_of(pair.words, 'word')} and {count_of(pair.events, 'event')} of this pair; race {pair.races[0].number} of `hgd check`")
+        lines.append(f"  {count_of(pair.words, 'word')} and {count_of(pair.events, 'event')} of this pair; race {pair.races[0].number} of {of}")
         if self.generates:
             lines.append(f"  to suppress it: {suppression_of(pair)}")
         return "\n".join(lines) + "\n"
 
-    def whole(self, pairs: list[Pair], verdict: Verdict) -> str:
+    def ordered(self, ordered: Ordered) -> tuple[list[str], str]:
+        """The listed pairs that messages alone order, and a line that counts their places."""
+        left = [pair for pair in ordered.pairs if not pair.is_suppressed]
+        parts = [self.pair(f"ordered {number}", pair, "the trace without its messages") for number, pair in enumerate(left, 1)]
+        if not ordered.places:
+            return parts, ""
+        how = "" if ordered.pairs else "; --all lists them"
+        return parts, f"{count_of(ordered.places, 'place')} more, ordered in this run by a hand-over alone{how}\n"
+
+    def whole(self, pairs: list[Pair], ordered: Ordered, verdict: Verdict) -> str:
         left = [pair for pair in pairs if not pair.is_suppressed]
         listed = sum(len(pair.races) for pair in pairs)
-        parts = [self.pair(number, pair) for number, pair in enumerate(left, 1)]
+        more, count = self.ordered(ordered)
+        parts = [*(self.pair(f"race {number}", pair) for number, pair in enumerate(left, 1)), *more]
         last = f"{count_of(len(left), 'pair')} of places, {count_of(sum(len(pair.races) for pair in left), 'race')}"
         if len(left) < len(pairs):
             last += f"; {count_of(len(pairs) - len(left), 'pair')} suppressed"
@@ -88,7 +107,7 @@ class Text:
             last += f"; {verdict.total - listed} races more that `hgd check` counts and does not list"
         if verdict.status == 2:
             last += f"; the trace ends there: {verdict.last}"
-        return "\n".join([*parts, last]) + "\n"
+        return "\n".join([*parts, last]) + "\n" + count
 
 
 def suppression_of(pair: Pair) -> str:
@@ -128,8 +147,9 @@ def pair_json(pair: Pair):
     }
 
 
-def as_json(pairs: list[Pair], verdict: Verdict) -> str:
-    whole = {"pairs": [pair_json(pair) for pair in pairs], "races": verdict.total, "listed": len(verdict.races), "end": verdict.last}
+def as_json(pairs: list[Pair], ordered: Ordered, verdict: Verdict) -> str:
+    whole = {"pairs": [pair_json(pair) for pair in pairs], "races": verdict.total, "listed": len(verdict.races), "end": verdict.last,
+             "ordered_by_messages": {"places": ordered.places, "pairs": [pair_json(pair) for pair in ordered.pairs]}}
     return json.dumps(whole, indent=1) + "\n"
 
 
@@ -153,10 +173,11 @@ def sarif_stack(place: Place, message: str):
     return {"message": {"text": message}, "frames": [{"location": location(it, it.function)} for it in (place, *place.callers) if it.file]}
 
 
-def sarif_result(pair: Pair):
+def sarif_result(pair: Pair, is_ordered: bool = False):
     other = f" conflicts with {sarif_side(pair.other)}" if pair.other else ""
-    text = f"Data race: {sarif_side(pair.racy)}{other}; {memory_text(pair.memory).splitlines()[0]}"
-    result = {"ruleId": "data-race", "ruleIndex": 0, "level": "error", "message": {"text": " ".join(text.split())},
+    what = "Ordered in this run by a hand-over alone" if is_ordered else "Data race"
+    text = f"{what}: {sarif_side(pair.racy)}{other}; {memory_text(pair.memory).splitlines()[0]}"
+    result = {"ruleId": "data-race", "ruleIndex": 0, "level": "note" if is_ordered else "error", "message": {"text": " ".join(text.split())},
               "partialFingerprints": {"pairOfPlaces/v1": fingerprint(pair)}}
     if pair.racy.place.file:
         result["locations"] = [location(pair.racy.place, "the access at which no common lock is left")]
@@ -178,8 +199,8 @@ RULE = {
 }
 
 
-def as_sarif(pairs: list[Pair], verdict: Verdict) -> str:
+def as_sarif(pairs: list[Pair], ordered: Ordered, verdict: Verdict) -> str:
     run = {"tool": {"driver": {"name": "hgd", "rules": [RULE]}}, "columnKind": "unicodeCodePoints",
-           "results": [sarif_result(pair) for pair in pairs],
+           "results": [*(sarif_result(pair) for pair in pairs), *(sarif_result(pair, True) for pair in ordered.pairs)],
            "invocations": [{"executionSuccessful": verdict.status == 0}]}
     return json.dumps({"$schema": "https://json.schemastore.org/sarif-2.1.0.json", "version": "2.1.0", "runs": [run]}, indent=1) + "\n"

@@ -8,7 +8,7 @@ from dataclasses import dataclass
 
 from .places import Codes, Places
 from .trace import Block, Surroundings, look_round
-from .verdicts import Access, Hgd, Race, Verdict
+from .verdicts import Access, Hgd, Race
 
 PLACE = re.compile(r"(?P<function>.*) at (?P<file>\S.*):(?P<line>\d+|\?)")
 
@@ -129,13 +129,12 @@ def group(races: list[Race], source: Source) -> list[list[Race]]:
     return list(groups.values())
 
 
-def find_pairs(hgd: Hgd, verdict: Verdict, codes: str | None, progress) -> list[Pair]:
-    """A pair for each group of races, by the life of its first word. Groups that turn out to be one pair of places are put together."""
-    source = Source(codes)
-    groups = group(verdict.races, source)
+def find_pairs(hgd: Hgd, groups: list[list[Race]], last: str, source: Source, progress) -> tuple[list[Pair], Surroundings]:
+    """A pair for each group of races, by the life of its first word, and what stands round them. Groups that turn out to be one pair of
+    places are put together. `last` is the last line of `hgd check`."""
     with ThreadPoolExecutor(max(2, os.cpu_count() or 2)) as pool:
         lives = [pool.submit(hgd.life, races[0]) for races in groups]
-        around = look_round(hgd.trace, (races[0].word for races in groups), verdict.last, lambda events: progress(f"{events} events read"))
+        around = look_round(hgd.trace, (races[0].word for races in groups), last, lambda events: progress(f"{events} events read"))
         answers = []
         for done, life in enumerate(lives, 1):
             answers.append(life.result())
@@ -149,7 +148,7 @@ def find_pairs(hgd: Hgd, verdict: Verdict, codes: str | None, progress) -> list[
         elif block:
             early[block.event] = block.code
     places, names = source.places(events, early)
-    return merged([make_pair(life, races, around, places, names) for life, races in zip(answers, groups)])
+    return merged([make_pair(life, races, around, places, names) for life, races in zip(answers, groups)]), around
 
 
 def make_pair(life, races: list[Race], around: Surroundings, places: dict[int, Place], names: Places | None) -> Pair:

@@ -2,6 +2,7 @@
 from __future__ import annotations
 
 import bisect
+import itertools
 import re
 from dataclasses import dataclass, field
 
@@ -30,11 +31,14 @@ class Block:
 
 @dataclass
 class Surroundings:
-    """Of each thread the event that created it and who did, of each lock where it lies, of each word asked for its blocks."""
+    """Of each thread the event that created it and who did, of each lock where it lies, of each word asked for its blocks, and which events
+    are of messages."""
 
     forks: dict[int, tuple[int, int]] = field(default_factory=dict)
     locks: dict[int, int] = field(default_factory=dict)
     blocks: dict[int, list[Block]] = field(default_factory=dict)
+    # the events that send or receive a message
+    messages: list[int] = field(default_factory=list)
     events: int = 0
 
     def block_at(self, word: int, event: int) -> Block | None:
@@ -70,13 +74,18 @@ class Blocks:
             at += 1
 
 
+def lines_taken(last: str) -> int | None:
+    """How many lines hgd took, where one was refused or bad; else it took all. `last` is the last line that it printed."""
+    end = ENDS_AT.match(last)
+    return int(end.group(1)) - 1 if end else None
+
+
 def look_round(path: str, words, last: str, progress=None) -> Surroundings:
     """Reads a trace once, as far as hgd took it: `last` is the last line that `hgd check` printed."""
     found = Surroundings()
     blocks, early = Blocks(words, found.blocks), 0
-    end = ENDS_AT.match(last)
     with open(path, encoding="latin-1", newline="\n") as lines:
-        for line, _ in zip(lines, range(int(end.group(1)) - 1)) if end else ((line, None) for line in lines):
+        for line in itertools.islice(lines, lines_taken(last)):
             if line[0] == "#":
                 note_lock(line, found)
                 block = early_block(line, -early)
@@ -87,8 +96,10 @@ def look_round(path: str, words, last: str, progress=None) -> Surroundings:
             if line.isspace():
                 continue
             found.events += 1
-            if line.lstrip()[0] in "af":
+            if line[0] in "af":
                 note_event(line.split(), found, blocks)
+            elif line[:5] in ("send ", "recv "):
+                found.messages.append(found.events)
             if progress and found.events % 65536 == 0:
                 progress(found.events)
     blocks.close()

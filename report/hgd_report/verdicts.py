@@ -5,6 +5,7 @@ from __future__ import annotations
 import re
 import subprocess
 import sys
+from contextlib import contextmanager
 from dataclasses import dataclass
 
 RACE = re.compile(r"race (\d+) event (\d+) (read|write) thread (\d+) word (0x[0-9a-f]+) threads ([\d,]+)")
@@ -66,18 +67,26 @@ class Hgd:
     def lines(self, *words: str):
         """The lines that a command prints of the trace, and its status behind them as the last item."""
         if self.tells_commands:
-            print(f"hgd-report: {self.program} {' '.join(words)} < {self.trace}", file=sys.stderr)
+            print(f"hgd-report: {self.command(words)}", file=sys.stderr)
         try:
-            with open(self.trace, "rb") as given:
-                child = subprocess.Popen([self.program, *words], stdin=given, stdout=subprocess.PIPE, stderr=subprocess.PIPE, text=True)
+            with self.input() as given, \
+                    subprocess.Popen([self.program, *words], stdin=given, stdout=subprocess.PIPE, stderr=subprocess.PIPE, text=True) as child:
+                yield from (line.rstrip("\n") for line in child.stdout)
+                told = child.stderr.read().strip()
         except OSError as fault:
             raise HgdFailed(f"{fault.filename}: {fault.strerror}") from fault
-        with child:
-            yield from (line.rstrip("\n") for line in child.stdout)
-            told = child.stderr.read().strip()
         if child.returncode not in (0, 2):
             raise HgdFailed(f"{self.program} {words[0]}: {told or f'status {child.returncode}'}")
         yield child.returncode
+
+    def command(self, words) -> str:
+        return f"{self.program} {' '.join(words)} < {self.trace}"
+
+    @contextmanager
+    def input(self):
+        """What the program reads."""
+        with open(self.trace, "rb") as given:
+            yield given
 
     def check(self) -> Verdict:
         races, total, last, status = [], 0, "", 3
