@@ -1,7 +1,7 @@
 # make try      the program on an example in a minute or two, without its proof
 # make run      proves and builds the program, and checks a trace that has a race
 # make build    leaves the proved program at build/hgd
-# make quick    the tests that need no proof, on the built program, in about a minute
+# make quick    the tests that need no proof, on the built program, in two minutes
 # make scenarios  proves and builds the program that runs tests/scenarios, and runs them
 # make test     proves all crates from nothing, and tries what no proof says
 # make mutants  tries every wrong program, also those that make test leaves out (dev/mutants)
