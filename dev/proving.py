@@ -14,6 +14,20 @@ LOGS = f"{ROOT}/build/log"
 PROVED = f"{ROOT}/build/proved"
 
 
+# What a program is made of.
+PARTS = ("crates", "crates.txt")
+
+
+def version_of(kit):
+    """Returns what a program tells behind its version's number: the last commit that changed its text, and the kit that proves it."""
+    how = {"cwd": ROOT, "capture_output": True, "text": True, "check": False}
+    if not shutil.which("git") or not os.path.exists(f"{ROOT}/.git"):
+        return f"commit unknown, proved by {kit}"
+    commit = subprocess.run(["git", "log", "-1", "--format=%h", "--", *PARTS], **how).stdout.strip()
+    changed = subprocess.run(["git", "status", "--porcelain", "--", *PARTS], **how).stdout
+    return f"commit {commit or 'unknown'}{' with changes' if changed else ''}, proved by {kit}"
+
+
 class Checks:
     """Commands that run meanwhile, each in a process group of its own, so that none is left behind."""
 
@@ -50,6 +64,22 @@ class Proving:
         self.repository, self.checks, self.room = repository, checks, room
         self.kit = os.path.dirname(subprocess.run(["rt", "doc"], capture_output=True, text=True, check=True).stdout.strip())
         self.identity = subprocess.run(["rt", "version"], capture_output=True, text=True, check=True).stdout
+        self.version = version_of(self.identity.strip())
+
+    def tells_version(self, name):
+        return os.path.isfile(f"{ROOT}/crates/{name}/src/version.rt")
+
+    def text(self, name):
+        """Returns the folder that a crate is read from: for a program that tells its version a copy, which has all of it."""
+        folder = f"{ROOT}/crates/{name}"
+        if not self.tells_version(name):
+            return folder
+        copy = f"{self.room}/text/{name}"
+        shutil.copytree(folder, copy, ignore=shutil.ignore_patterns("out"))
+        number = contents(f"{copy}/src/version.rt").decode()
+        with open(f"{copy}/src/version.rt", "w", encoding="utf-8") as file:
+            file.write(number.replace('";', f' ({self.version})";'))
+        return copy
 
     def made(self, name):
         """Returns where a crate's library or program is kept."""
@@ -60,6 +90,7 @@ class Proving:
         parts = [self.identity, name, *self.repository.lines[name]]
         parts += [f"{os.path.relpath(it, ROOT)} {sum_of(it)}" for it in self.repository.files(name)]
         parts += [f"{it} {self.kept(it)[1]}" for it in self.repository.needed(self.repository.below(name))]
+        parts += [self.version] if self.tells_version(name) else []
         return hashlib.sha256("\n".join(parts).encode()).hexdigest()
 
     def kept(self, name):
@@ -97,7 +128,7 @@ class Proving:
 
     def build(self, name, jobs):
         """Proves a crate and keeps what it made. Returns whether it was proved."""
-        key, folder, made = self.key(name), f"{ROOT}/crates/{name}", f"{self.room}/{name}"
+        key, folder, made = self.key(name), self.text(name), f"{self.room}/{name}"
         with open(f"{LOGS}/{name}", "wb") as log:
             if self.repository.is_program(name):
                 well = self.checks.run(self.words(name, jobs, f"{made}.o"), folder, log) and self.link(name, made, log)

@@ -221,8 +221,8 @@ fn serve<'a>(alloc: Global) -> Result<Command<'a>, AllocError>
     with_argument(with_every, option(alloc, SILENCE_OPTION))
 }
 
-/// The command line of `hgd`, without its commands.
-fn start<'a>(alloc: Global) -> Command<'a>
+/// The command line of `hgd`, without its commands. `version` is what `--version` tells.
+fn start<'a>(alloc: Global, version: &'a str) -> Command<'a>
     ensures app { app_of result ≡ spec.start }
     ensures local { HasNoGlobals result }
 {
@@ -231,7 +231,7 @@ fn start<'a>(alloc: Global) -> Command<'a>
         "hgd",
         "Finds data races in traces of programs with threads",
     )
-    .version("0.1.0")
+    .version(version)
     .subcommand_required(true)
 }
 
@@ -263,12 +263,12 @@ fn with_command<'a>(
     }
 }
 
-/// The command line of `hgd`.
-pub fn hgd<'a>(alloc: Global) -> Result<Command<'a>, AllocError>
+/// The command line of `hgd`. `version` is what `--version` tells behind the name.
+pub fn hgd<'a>(alloc: Global, version: &'a str) -> Result<Command<'a>, AllocError>
     ensures app { IfOk result (λ c. app_of c ≡ spec.hgd) }
     ensures local { IfOk result HasNoGlobals }
 {
-    let checking = with_command(Ok(start(alloc)), check(alloc));
+    let checking = with_command(Ok(start(alloc, version)), check(alloc));
     let graphing = with_command(checking, graph(alloc));
     let explaining = with_command(graphing, explain(alloc));
     let creating = with_command(explaining, create(alloc));

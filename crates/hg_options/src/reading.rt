@@ -14,13 +14,18 @@ use clap::{ArgMatches, Error};
 use std::alloc::{AllocError, Global};
 use std::string::String;
 
-/// What the words of a command line ask for, or what is to be told instead. The first word is the program's name.
+/// What the words of a command line ask for, or what is to be told instead. The first word is the program's name, and
+/// `version` is what `--version` tells behind it.
 ///
 /// The commands are those of `specs/CommandLine.antt`.
-pub fn read<'a>(alloc: Global, words: &'a [String]) -> Result<Task<'a>, Misread>
+pub fn read<'a>(
+    alloc: Global,
+    words: &'a [String],
+    version: &'a str,
+) -> Result<Task<'a>, Misread>
     ensures { IsReadBy spec.hgd (texts words.entry.now) result }
 {
-    match matches(alloc, words) {
+    match matches(alloc, words, version) {
         Ok(matches) => asked_for(&matches),
         Err(error) => Err(misread(alloc, &error)),
     }
@@ -37,11 +42,15 @@ fn asked_for<'a>(matches: &ArgMatches<'a>) -> Result<Task<'a>, Misread>
 }
 
 /// The matches of the words.
-fn matches<'a>(alloc: Global, words: &'a [String]) -> Result<ArgMatches<'a>, Error>
+fn matches<'a>(
+    alloc: Global,
+    words: &'a [String],
+    version: &'a str,
+) -> Result<ArgMatches<'a>, Error>
     ensures matches { IfOk result (HasMatchesOf spec.hgd (texts words.entry.now)) }
     ensures kinds { FailsBy (fault_of spec.hgd (texts words.entry.now)) result }
 {
-    hgd(alloc)?.try_get_matches_from(words)
+    hgd(alloc, version)?.try_get_matches_from(words)
 }
 
 /// What is told of an error.

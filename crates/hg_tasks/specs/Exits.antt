@@ -4,7 +4,13 @@ use Rattle.hg_options.specs.declared.task.ErrorExitcode.{ErrorExitcode}
 use Rattle.hg_check.specs.declared.checked.Checked.{Checked}
 use Rattle.hg_check.specs.Printing.{EndsChecked}
 use Rattle.hg_streams.specs.Faults.{EndsByFault}
+use Rattle.hg_streams.specs.declared.listing.Listing.{Listing}
+use Rattle.hg_streams.specs.declared.output.Outputs.{Outputs}
 use Rattle.hg_streams.specs.declared.streams.Streams.{Streams}
+use Rattle.hg_disk.specs.declared.disk.Disk as disk
+use Rattle.hg_store.specs.declared.devices.Devices.{Devices}
+use Rattle.hg_commands.specs.declared.listing.Listed.{Listed}
+use Rattle.hg_commands.specs.Listings.{CantList, IsListed}
 
 -- The exit status where a command came to a status, and counted races or none: the one that was asked for in place of 0 where there were
 -- races, and else the command's own.
@@ -19,3 +25,9 @@ abbrev pub ChecksAndExits : {R W V : Type 0} → Option ErrorExitcode → ℕ �
 ChecksAndExits given exit before after =
     (checked : Checked) × EndsChecked checked before after × EndsByFault checked.status before after
     × IsExit given checked.status checked.has_races exit
+
+-- A store was listed with so many frames, or that ended by a fault. The exit status is that of what it came to, and these devices are left.
+abbrev pub ListsAndExits : {D W V : Type 0} → disk.Ghosts D → Option ErrorExitcode → Listing → ℕ → Devices D → Outputs W V → Outputs W V → ℕ × Devices D → Type 0
+ListsAndExits {D} {W} g given listing frames devices before after left =
+    (listed : Listed D W) × IsListed g listing frames devices before after listed × CantList g listing frames devices before after listed
+    × IsExit given listed.outcome.status listed.has_races left.0 × (left.1 ≡ listed.outcome.devices)

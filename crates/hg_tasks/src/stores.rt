@@ -1,6 +1,8 @@
 //! Commands on the store in a directory.
 
 ghost use Rattle.std.specs.Prelude.{◌≡◌, false};
+ghost use Rattle.hg_store.specs.Limits.{IsFrameCount};
+ghost use Rattle.hg_tasks.specs.Exits.{ListsAndExits};
 
 use crate::directory::{OpenMode, make_directory, open_directory};
 use crate::events::EventText;
@@ -14,17 +16,19 @@ use hg_commands::feeding::feed;
 use hg_commands::listing::{Listed, list_store};
 use hg_commands::races::{address_of_race, print_no_race};
 use hg_commands::settings::FeedSettings;
-use hg_disk::FileDisk;
+use hg_disk::{Disk, FileDisk};
 use hg_options::limits::DEFAULT_FRAMES;
 use hg_options::task::{ErrorExitcode, Explaining, Frames, Subject};
 use hg_store::devices::{Caps, Devices};
 use hg_store::store::Store;
 use hg_streams::input::Input;
 use hg_streams::listing::Listing;
-use hg_streams::output::Output;
+use hg_streams::output::{Output, Outputs};
 use hg_streams::streams::Streams;
 use hg_streams::telling::end_by_fault;
 use hg_verbose::lines::Lines;
+use std::alloc::Global;
+use std::io::Write;
 
 /// The status where a store has no such report.
 const NO_RACE: u8 = 2;
@@ -79,6 +83,23 @@ pub fn feed_in(rt: &HostRuntime, directory: &str, settings: FeedSettings, verbos
     feed(rt.alloc(), devices, settings, &mut plain_streams(rt)).status
 }
 
+/// Lists a store, and answers the exit status and the devices.
+fn list_and_exit<D: Disk, W: Write, V: Write>(
+    alloc: Global,
+    devices: Devices<D>,
+    frames: u16,
+    listing: Listing,
+    error_exitcode: Option<ErrorExitcode>,
+    outputs: &mut Outputs<W, V>,
+) -> (u8, Devices<D>)
+    requires { IsFrameCount frames }
+    ensures { ListsAndExits ⟦<D as Disk>⟧ error_exitcode listing frames devices outputs.old outputs.new result }
+{
+    let Listed { outcome, has_races } = list_store(alloc, devices, frames, listing, outputs);
+    let status = exit_status(outcome.status, has_races, error_exitcode);
+    (status, outcome.devices)
+}
+
 /// Prints what is asked for of the store. Where it counts races, the status is `error_exitcode`, if it is given, in place of 0.
 pub fn print_of_store(
     rt: &HostRuntime,
@@ -93,16 +114,16 @@ pub fn print_of_store(
         Err(fault) => return fail_to_open(rt, &fault, verbose),
     };
     let mut outputs = noted_outputs(rt);
-    let Listed { outcome, has_races } = list_store(
+    let (status, devices) = list_and_exit(
         rt.alloc(),
         devices,
         frames.pages,
         listing,
+        error_exitcode,
         &mut outputs,
     );
-    let status = exit_status(outcome.status, has_races, error_exitcode);
     if verbose {
-        tell_of_listing(rt, &outputs, outcome.devices);
+        tell_of_listing(rt, &outputs, devices);
     }
     status
 }

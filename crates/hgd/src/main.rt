@@ -1,6 +1,9 @@
 //! `hgd`: a detector of data races in traces of programs with threads.
 #![tactic(auto)]
 
+mod version;
+
+use crate::version::VERSION;
 use hg_commands::settings::FeedSettings;
 use hg_disk::FileDisk;
 use hg_model::verdict::Refusal;
@@ -119,7 +122,7 @@ fn perform_on_store<'a>(rt: &HostRuntime, directory: &'a str, task: StoreTask) -
 
 /// Does what the words of the command line ask for, except what needs threads.
 fn perform<'a>(rt: &HostRuntime, words: &'a [String]) -> Outcome<'a> {
-    let task = match read(rt.alloc(), words) {
+    let task = match read(rt.alloc(), words, VERSION) {
         Ok(task) => task,
         Err(misread) => {
             return Outcome::Done {
