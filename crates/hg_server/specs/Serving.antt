@@ -27,9 +27,13 @@ use Rattle.hg_server.specs.declared.settings.Settings.{Settings}
 abbrev pub served_text : ℕ → Content → List ℕ
 served_text connections c = number_text (codes "served ") connections ++ line_text (counts_line c)
 
+-- that it listens on its port
+abbrev pub ready_text : Settings → List ℕ
+ready_text settings = number_text (codes "ready ") settings.port
+
 -- all that a server prints if its store ends with this content
 abbrev pub serving_text : Settings → Content → List ℕ
-serving_text settings c = number_text (codes "ready ") settings.port ++ served_text settings.connections c
+serving_text settings c = ready_text settings ++ served_text settings.connections c
 
 -- the refusal of the same name
 abbrev pub refusal_of : ServingFault → Refusal

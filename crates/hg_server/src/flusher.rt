@@ -4,14 +4,19 @@ ghost use Rattle.std.specs.Prelude.{◌≡◌};
 ghost use Rattle.hg_desk.specs.Told.{may_accept};
 ghost use Rattle.hg_server.specs.Flushing.{IsToldOfNone};
 
+use crate::health::WorksTask;
 use crate::worker::{Gate, Pass, Point, Seat};
-use crossbeam_channel::Receiver;
+use crossbeam_channel::{Receiver, RecvTimeoutError};
 use hg_desk::share::{Column, Opening, Share};
 use hg_desk::tasks::{BeginTask, StepTask};
 use hg_disk::Disk;
 use hg_model::verdict::Refusal;
 use hg_store::steps::{Cause, EncodedPage, Job, Step, StepFault, StepResult, StorePhase};
 use std::sync::Wait;
+use std::time::{Clock, Duration};
+
+/// How long the flusher waits for a nudge before it asks whether the store works, in milliseconds.
+const WATCH_MILLISECONDS: u64 = 1000;
 
 /// When a checkpoint is due.
 #[derive(Clone, Copy, Debug, PartialEq, Eq, Drop)]
@@ -227,6 +232,19 @@ impl<'a, D: Disk, A: Opening, B: Column, G: Gate, R: Wait> Round<'a, D, A, B, G,
         }
     }
 
+    /// Notes it where the store is broken.
+    fn watch(&mut self)
+        ensures told { IsToldOfNone self.old.seat.share self.new.seat.share }
+    {
+        let works = self
+            .seat
+            .shared
+            .hold(self.seat.rt, &mut self.seat.share, WorksTask);
+        if !works {
+            self.seat.terms.health.note_broken();
+        }
+    }
+
     /// Goes on with the checkpoint in progress as far as it comes, or begins one where none is and one is due. Tells whether the flusher
     /// goes on.
     fn run(&mut self) -> Pass
@@ -252,10 +270,10 @@ impl<'a, D: Disk, A: Opening, B: Column, G: Gate, R: Wait> Round<'a, D, A, B, G,
 /// Makes checkpoints, until its channel is closed and empty, the gate says stop or the store is broken, and gives the share back. At a
 /// nudge it goes on with the checkpoint that a refusal has held up. Where none is in progress, it commits, and begins one if it is due.
 /// Each step is made in a hold of the lock of its own, and pages are encoded outside of it, so clients are answered meanwhile. It offers no
-/// event.
+/// event. Where the store is broken it notes that, at the latest when no nudge came for a second.
 ///
 /// It waits for the lock and for nudges.
-pub fn flusher<D: Disk, A: Opening, B: Column, G: Gate, R: Wait>(
+pub fn flusher<D: Disk, A: Opening, B: Column, G: Gate, R: Wait + Clock>(
     seat: Seat<D, A, B, G, R>,
     nudges: &Receiver<()>,
     due: Due,
@@ -269,9 +287,16 @@ pub fn flusher<D: Disk, A: Opening, B: Column, G: Gate, R: Wait>(
         phase: StorePhase::Idle,
     };
     for _ in rt.forever() {
-        if nudges.recv(rt).is_err() || round.run() == Pass::Stop {
-            break;
+        match nudges.recv_timeout(rt, Duration::from_millis(WATCH_MILLISECONDS)) {
+            Ok(()) => {
+                if round.run() == Pass::Stop {
+                    break;
+                }
+            }
+            Err(RecvTimeoutError::Timeout) => round.watch(),
+            Err(RecvTimeoutError::Disconnected) => break,
         }
     }
+    round.watch();
     round.seat.share
 }

@@ -3,18 +3,22 @@
 ghost use Rattle.std.specs.Prelude.{◌≡◌, ◌+◌, Some, IfErr, IsTrue, OnOk, false};
 ghost use Rattle.hg_store.specs.Shown.{live};
 ghost use Rattle.hg_streams.specs.Faults.{IsStreamFault};
+ghost use Rattle.hg_streams.specs.Printed.{IsPrintedNow};
+ghost use Rattle.hg_streams.specs.Written.{Took};
 ghost use Rattle.hg_store.specs.Limits.{IsFrameCount};
 ghost use Rattle.hg_desk.specs.Blanks.{IsBlankOf};
 ghost use Rattle.hg_desk.specs.Going.{FailedSince, WentOn, WentOnSince, began};
-ghost use Rattle.hg_server.specs.Serving.{AddsFrontOnErr, AddsOnOk, EndsEarlyFor, EndsWellWhere, IsServingFault, IsSettled, IsStatusOf, IsToldTruly, PrintsAllOnOk, PrintsFrontOnErr, ServesWell, StopsEarly, WroteServingOnErr, served_by};
+ghost use Rattle.hg_server.specs.Serving.{AddsFrontOnErr, AddsOnOk, EndsEarlyFor, EndsWellWhere, IsServingFault, IsSettled, IsStatusOf, IsToldTruly, PrintsAllOnOk, PrintsFrontOnErr, ready_text, ServesWell, StopsEarly, WroteServingOnErr, served_by};
 
 use crate::accepting::accept_all;
 use crate::ending::hold_end_line;
 use crate::fault::ServingFault;
 use crate::flusher::{Due, flusher};
+use crate::health::Terms;
 use crate::opened::Opened;
 use crate::settings::Settings;
 use crate::settling::settle;
+use crate::starting::can_start;
 use crate::worker::{Gate, Seat, worker};
 use crossbeam_channel::Sender;
 use hg_desk::moment::Moment;
@@ -38,6 +42,9 @@ use std::thread;
 use std::thread::Threads;
 use std::time::Clock;
 
+/// How many threads a server has beside its workers: the flusher, and the one that takes connections.
+const OTHER_THREADS: usize = 2;
+
 /// Where a server takes its connections, how it runs, and what its threads ask between two holds of the lock.
 #[derive(Drop)]
 pub struct Door<'a, G> {
@@ -46,7 +53,7 @@ pub struct Door<'a, G> {
     pub gate: &'a G,
 }
 
-/// Runs the workers until the connections are served, and gives their shares back. Their nudges end with them.
+/// Runs the workers until the connections are served or the store is broken, and gives their shares back. Their nudges end with them.
 fn run_workers<
     D: Disk + Send + Drop,
     A: Opening + Send + Sync,
@@ -60,15 +67,17 @@ fn run_workers<
     shares: Vec<Share<A, B>>,
     nudges: Sender<()>,
     door: &Door<G>,
+    terms: &Terms,
 ) -> Result<Vec<Share<A, B>>, AllocError> {
-    let Ok((to, from)) = crossbeam_channel::unbounded(alloc) else {
+    // No connection waits in it: one is handed over where a worker takes it.
+    let Ok((to, from)) = crossbeam_channel::bounded(alloc, 0) else {
         return Err(AllocError);
     };
     let queue = &from;
     let nudges = &nudges;
-    let listener = door.listener;
-    let settings = door.settings;
     let gate = door.gate;
+    let connections = door.settings.connections;
+    let listener = door.listener;
     let (shares, ()) = thread::join(
         rt,
         move || {
@@ -83,6 +92,7 @@ fn run_workers<
                             shared,
                             share,
                             gate,
+                            terms,
                         },
                         queue,
                         nudges,
@@ -90,7 +100,7 @@ fn run_workers<
                 },
             )
         },
-        move || accept_all(rt, listener, settings, to),
+        move || accept_all(rt, listener, connections, &terms.health, to),
     );
     shares
 }
@@ -119,6 +129,8 @@ fn run_all<
         return Err(AllocError);
     };
     let gate = door.gate;
+    let terms = Terms::new(door.settings.silence);
+    let terms = &terms;
     let due = Due {
         every: u64::from(door.settings.every),
         begun,
@@ -133,12 +145,13 @@ fn run_all<
                     shared,
                     share,
                     gate,
+                    terms,
                 },
                 &from,
                 due,
             )
         },
-        move || run_workers(rt, alloc, shared, shares, to, door),
+        move || run_workers(rt, alloc, shared, shares, to, door, terms),
     );
     with_one_more(shares, share)
 }
@@ -254,7 +267,28 @@ fn print_end<D: Disk, W: Write>(
     Ok(())
 }
 
-/// Prints `ready` and the port, serves the connections, and prints what is due then.
+/// Prints `ready` and the port, where all threads can be made.
+fn announce<G, R: Threads + Clock + Sync, W: Write>(
+    rt: &R,
+    alloc: Global,
+    door: &Door<G>,
+    output: &mut Output<W>,
+) -> Result<(), Refusal>
+    ensures printed { OnOk result (Took output.old.calls output.new.calls (ready_text door.now.settings)) }
+    ensures calls { IsPrintedNow output.old.calls output.new.calls (ready_text door.now.settings) }
+    ensures cause { IfErr result IsStreamFault }
+{
+    if !can_start(
+        rt,
+        alloc,
+        usize::from(door.settings.workers) + OTHER_THREADS,
+    ) {
+        return Err(Refusal::OutOfMemory);
+    }
+    print_number(b"ready ", u64::from(door.settings.port), output)
+}
+
+/// Prints `ready` and the port where all threads can be made, serves the connections, and prints what is due then.
 fn serve_and_print<
     D: Disk + Send + Drop,
     G: Gate + Sync,
@@ -275,7 +309,7 @@ fn serve_and_print<
     ensures cause { IfErr result.ended (IsServingFault ⟦<D as Disk>⟧ store.devices result.store.devices) }
 {
     store.stands();
-    if let Err(refusal) = print_number(b"ready ", u64::from(door.settings.port), output) {
+    if let Err(refusal) = announce(rt, alloc, door, output) {
         return Service {
             store,
             moments: Trail::new(),

@@ -2,6 +2,8 @@
 
 ghost use Rattle.std.specs.Prelude.{◌≤◌};
 
+use crate::health::Terms;
+use crate::patience::{Patience, may_read_on};
 use crossbeam_channel::{Receiver, Sender};
 use hg_desk::desk::Desk;
 use hg_desk::share::{Column, Opening, Share};
@@ -14,9 +16,10 @@ use hg_protocol::put::put_reply;
 use hg_protocol::reply::Reply;
 use hg_streams::streams::{MOST_READS, PIECE_BYTES};
 use std::alloc::Global;
-use std::io::{ErrorKind, Read, Write};
+use std::io::{Read, Write};
 use std::mem::replace;
 use std::sync::Wait;
+use std::time::Clock;
 
 /// Where a thread is between two holds of the lock.
 #[derive(Clone, Copy, Debug, PartialEq, Eq, Drop)]
@@ -78,6 +81,7 @@ pub struct Seat<'a, D: Disk, A: Opening, B: Column, G, R> {
     /// What this thread was told of it.
     pub share: Share<A, B>,
     pub gate: &'a G,
+    pub terms: &'a Terms,
 }
 
 /// One conversation under way: its connection, how far it is, the bytes of a frame that is not whole yet, the replies that are not
@@ -88,6 +92,8 @@ struct Talk<'a, S> {
     desk: Desk,
     feed: Feed<Frame>,
     replies: Vec<u8>,
+    /// Whether replies were written since that was asked last.
+    was_answered: bool,
     nudges: &'a Sender<()>,
 }
 
@@ -99,6 +105,7 @@ impl<'a, S> Talk<'a, S> {
             desk: Desk::new(),
             feed: Feed::new(alloc),
             replies: Vec::new(alloc),
+            was_answered: false,
             nudges,
         }
     }
@@ -140,6 +147,7 @@ impl<'a, S: Write> Talk<'a, S> {
     /// Writes the replies out, all in one write where the connection takes them.
     fn write_out(&mut self) -> bool {
         let is_written = self.stream.write_all(self.replies.as_slice()).is_ok();
+        self.was_answered = self.was_answered || !self.replies.is_empty();
         self.replies.clear();
         is_written
     }
@@ -198,9 +206,9 @@ impl<'a, S: Write> Talk<'a, S> {
     }
 }
 
-/// Holds one conversation to its end: until the client ends it, or breaks its rules, or the connection fails, or the gate says stop,
-/// or after 2^32 reads.
-fn converse<D: Disk, A: Opening, B: Column, S: Read + Write + Drop, G: Gate, R: Wait>(
+/// Holds one conversation to its end: until the client ends it, or breaks its rules, or is waited for no longer, or the connection
+/// fails, or the gate says stop, or after 2^32 reads.
+fn converse<D: Disk, A: Opening, B: Column, S: Read + Write + Drop, G: Gate, R: Wait + Clock>(
     seat: &mut Seat<D, A, B, G, R>,
     stream: S,
     nudges: &Sender<()>,
@@ -210,16 +218,23 @@ fn converse<D: Disk, A: Opening, B: Column, S: Read + Write + Drop, G: Gate, R: 
     ensures durable { seat.old.share.durable ≤ seat.new.share.durable }
 {
     let mut talk = Talk::new(seat.alloc, stream, nudges);
+    let mut patience = Patience::new(seat.rt, seat.terms);
     for _ in 0..MOST_READS {
+        if patience.is_over(seat.rt) {
+            break;
+        }
         let len = match talk.stream.read(piece) {
             Ok(0) => break,
             Ok(len) => len,
-            Err(error) if error.kind() == ErrorKind::Interrupted => continue,
+            Err(error) if may_read_on(&error) => continue,
             Err(_) => break,
         };
         let course = talk.take(seat, &piece[..len]);
         if course != Course::ReadOn {
             return course;
+        }
+        if replace(&mut talk.was_answered, false) {
+            patience.renew(seat.rt);
         }
     }
     Course::End
@@ -230,7 +245,7 @@ fn converse<D: Disk, A: Opening, B: Column, S: Read + Write + Drop, G: Gate, R: 
 /// Where memory is refused for a piece of 64 KiB no conversation is held. Behind each Ack it leaves a nudge for the flusher, if none waits.
 ///
 /// It waits for the lock, for connections, and in reads and writes.
-pub fn worker<D: Disk, A: Opening, B: Column, S: Read + Write + Drop, G: Gate, R: Wait>(
+pub fn worker<D: Disk, A: Opening, B: Column, S: Read + Write + Drop, G: Gate, R: Wait + Clock>(
     seat: Seat<D, A, B, G, R>,
     connections: &Receiver<S>,
     nudges: &Sender<()>,

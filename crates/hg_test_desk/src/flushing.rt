@@ -16,6 +16,7 @@ use hg_desk::shared::{Shared, TakenIn, gather};
 use hg_disk::{Disk, MemDisk};
 use hg_model::event::{Access, Event};
 use hg_server::flusher::{Due, flusher};
+use hg_server::health::Terms;
 use hg_server::worker::{OpenGate, Seat, worker};
 use hg_store::store::Store;
 use hg_test_kit::digits::bytes_of;
@@ -114,6 +115,7 @@ fn flush_meanwhile<
     let rt = table.rt;
     let alloc = table.alloc;
     let shared = table.shared;
+    let terms = table.terms;
     let due = Due { every: 1, begun: 0 };
     let (first, second) = thread::join(
         rt,
@@ -125,6 +127,7 @@ fn flush_meanwhile<
                     shared,
                     share,
                     gate: meeting,
+                    terms,
                 },
                 &nudges,
                 due,
@@ -155,7 +158,7 @@ fn run_job<A: Opening + Send + Sync, B: Column + Send + Sync, R: Threads + Wait 
 }
 
 /// Runs a flusher behind each commit, or behind the first one alone. A checkpoint is due behind two events.
-fn run_every<A: Opening, B: Column, R: Wait>(
+fn run_every<A: Opening, B: Column, R: Wait + Clock>(
     table: &Table<MemDisk, A, B, R>,
     share: Share<A, B>,
     is_twice: bool,
@@ -173,7 +176,7 @@ fn run_every<A: Opening, B: Column, R: Wait>(
 }
 
 /// Holds one conversation with a worker.
-fn hold_conversation<A: Opening, B: Column, R: Wait>(
+fn hold_conversation<A: Opening, B: Column, R: Wait + Clock>(
     table: &Table<MemDisk, A, B, R>,
     share: Share<A, B>,
     peer: Peer<R>,
@@ -188,7 +191,7 @@ fn hold_conversation<A: Opening, B: Column, R: Wait>(
 }
 
 /// Sends bytes to a worker, and tells the replies and how many nudges wait then.
-fn run_worker<A: Opening, B: Column, R: Wait>(
+fn run_worker<A: Opening, B: Column, R: Wait + Clock>(
     table: &Table<MemDisk, A, B, R>,
     share: Share<A, B>,
     sent: &[u8],
@@ -212,7 +215,7 @@ fn run_worker<A: Opening, B: Column, R: Wait>(
 }
 
 /// Stops a flusher that has taken a page, and where that is asked for, lets another one go on.
-fn run_stopped<A: Opening, B: Column, R: Wait>(
+fn run_stopped<A: Opening, B: Column, R: Wait + Clock>(
     table: &Table<MemDisk, A, B, R>,
     pair: Pair<A, B>,
     is_resumed: bool,
@@ -327,10 +330,12 @@ fn run_over<A: Opening + Send + Sync, B: Column + Send + Sync, R: Threads + Wait
     let (Some(first), Some(second)) = (shares.pop(), shares.pop()) else {
         return;
     };
+    let terms = Terms::new(None);
     let table = Table {
         rt,
         alloc,
         shared: &shared,
+        terms: &terms,
     };
     let pair = run_row(&table, row, Pair { first, second }, sent, out);
     if row != Row::Apart {

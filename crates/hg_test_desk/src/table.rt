@@ -9,11 +9,13 @@ use hg_detect::detector::Answer;
 use hg_disk::Disk;
 use hg_model::event::{Event, Named};
 use hg_server::flusher::{Due, flusher};
+use hg_server::health::Terms;
 use hg_server::worker::{Gate, Seat};
 use hg_store::steps::{Step, StepFault, StepResult};
 use hg_test_kit::text::Text;
 use std::alloc::Global;
 use std::sync::Wait;
+use std::time::Clock;
 
 /// Who sends the events.
 const SOURCE: u16 = 3;
@@ -24,6 +26,7 @@ pub struct Table<'a, D: Disk, A: Opening, B: Column, R> {
     pub rt: &'a R,
     pub alloc: Global,
     pub shared: &'a Shared<D, A, B>,
+    pub terms: &'a Terms,
 }
 
 /// A channel that is closed, with one nudge in it.
@@ -33,7 +36,7 @@ pub fn one_nudge<R: Wait>(rt: &R, alloc: Global) -> Option<Receiver<()>> {
     Some(from)
 }
 
-impl<'a, D: Disk, A: Opening, B: Column, R: Wait> Table<'a, D, A, B, R> {
+impl<'a, D: Disk, A: Opening, B: Column, R: Wait + Clock> Table<'a, D, A, B, R> {
     fn step(&self, share: &mut Share<A, B>, step: Step) -> StepResult {
         let task = StepTask {
             alloc: self.alloc,
@@ -82,6 +85,7 @@ impl<'a, D: Disk, A: Opening, B: Column, R: Wait> Table<'a, D, A, B, R> {
             shared: self.shared,
             share,
             gate,
+            terms: self.terms,
         }
     }
 

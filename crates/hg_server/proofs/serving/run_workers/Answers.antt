@@ -12,6 +12,7 @@ use Rattle.crossbeam_channel.proofs.channel.Receiver.TheSendSync as receiver
 use Rattle.crossbeam_channel.proofs.channel.Sender.TheSendSync as sender
 use Rattle.hg_desk.proofs.share.Share.TheSendSync as share
 use Rattle.hg_server.proofs.Crossing.{shared_sync, closure_send}
+use Rattle.hg_server.proofs.health.Terms.TheSendSync as terms
 use Rattle.hg_server.proofs.serving.run_workers.Goals as goal
 
 pub join-shares-requires-send-F : goal.join-shares-requires-send-F
@@ -23,10 +24,10 @@ join-shares-requires-send-F g c κs within =
     let queue = receiver.the_sync _ _ _ stream.the_send heap.the_send heap.the_sync allocator.the_frees in
     let nothing : IsSend unit = search (sendable, crosses) depth 20 in
     let nudges = sender.the_sync _ _ _ nothing heap.the_send heap.the_sync allocator.the_frees in
-    param_send 1 _ (arg_send _ no _ (closure_send _ (_ ∷ (_ ∷ (_ ∷ (_ ∷ (_ ∷ (_ ∷ (_ ∷ []))))))) (
+    param_send 1 _ (arg_send _ no _ (closure_send _ (_ ∷ (_ ∷ (_ ∷ (_ ∷ (_ ∷ (_ ∷ (_ ∷ (_ ∷ [])))))))) (
       shr_send _ κs.1.1.1.1.1.1.0 (param 4 g.row.R) (param_sync 4 g.row.R clock),
       (
         shares,
-        (heap.the_send, (shr_send _ κs.1.1.1.1.1.1.1.0 _ shared, (shr_send _ κs.1.1.1.1.1.1.1.1.0 (param 3 g.row.G) (param_sync 3 g.row.G gate), (shr_send _ κs.1.1.1.1.1.1.1.1.1.0 _ queue, (shr_send _ κs.1.1.1.1.1.1.1.1.1.1.0 _ nudges, tt))))),
+        (heap.the_send, (shr_send _ κs.1.1.1.1.1.1.1.0 _ shared, (shr_send _ κs.1.1.1.1.1.1.1.1.0 (param 3 g.row.G) (param_sync 3 g.row.G gate), (shr_send _ κs.1.1.1.1.1.1.1.1.1.0 _ terms.the_sync, (shr_send _ κs.1.1.1.1.1.1.1.1.1.1.0 _ queue, (shr_send _ κs.1.1.1.1.1.1.1.1.1.1.1.0 _ nudges, tt)))))),
       ),
     )))

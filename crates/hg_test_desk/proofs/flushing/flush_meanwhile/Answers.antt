@@ -10,6 +10,7 @@ use Rattle.crossbeam_channel.proofs.channel.Receiver.TheSendSync as receiver
 use Rattle.hg_desk.proofs.share.Share.TheSendSync as share
 use Rattle.hg_server.proofs.Crossing.{shared_sync, closure_send}
 use Rattle.hg_server.proofs.flusher.Due.TheSendSync as due
+use Rattle.hg_server.proofs.health.Terms.TheSendSync as terms
 use Rattle.hg_test_desk.proofs.meeting.Meeting.TheSendSync as meeting
 use Rattle.hg_test_desk.proofs.flushing.flush_meanwhile.Goals as goal
 
@@ -21,13 +22,13 @@ join-first-requires-send-F g c κs within =
     let own = share.the_send (param 1 g.row.A) (param 2 g.row.B) g.A.Column g.A.Ledger g.B.Column g.B.Ledger in
     let nothing : IsSend unit = search (sendable, crosses) depth 20 in
     let nudges = receiver.the_send _ _ _ nothing heap.the_send heap.the_sync allocator.the_frees in
-    param_send 1 _ (arg_send _ no _ (closure_send _ (_ ∷ (_ ∷ (_ ∷ (_ ∷ (_ ∷ (_ ∷ (_ ∷ []))))))) (
+    param_send 1 _ (arg_send _ no _ (closure_send _ (_ ∷ (_ ∷ (_ ∷ (_ ∷ (_ ∷ (_ ∷ (_ ∷ (_ ∷ [])))))))) (
       shr_send _ κs.1.1.1.1.1.1.0 (param 3 g.row.R) clock_there,
       (
         heap.the_send,
         (
           shr_send _ κs.1.1.1.1.1.1.1.0 _ shared,
-          (own, (shr_send _ κs.1.1.1.1.1.1.1.1.0 _ (meeting.the_sync _ (param 3 g.row.R) clock_there), (nudges, (due.the_send, tt)))),
+          (own, (shr_send _ κs.1.1.1.1.1.1.1.1.0 _ (meeting.the_sync _ (param 3 g.row.R) clock_there), (shr_send _ κs.1.1.1.1.1.1.1.1.1.0 _ terms.the_sync, (nudges, (due.the_send, tt))))),
         ),
       ),
     )))

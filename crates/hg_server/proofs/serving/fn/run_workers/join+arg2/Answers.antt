@@ -10,6 +10,7 @@ use Rattle.std.proofs.net.tcp.TcpStream.TheSendSync as stream
 use Rattle.crossbeam_channel.proofs.channel.Receiver.TheSendSync as receiver
 use Rattle.crossbeam_channel.proofs.channel.Sender.TheSendSync as sender
 use Rattle.hg_server.proofs.Crossing.{shared_sync, closure_sync}
+use Rattle.hg_server.proofs.health.Terms.TheSendSync as terms
 use Rattle.hg_server.proofs.serving.fn.run_workers.join+arg2.Goals as goal
 
 pub map_vec-requires-sync-F : goal.map_vec-requires-sync-F
@@ -21,13 +22,13 @@ map_vec-requires-sync-F g c κs within =
     let queue = receiver.the_sync _ _ _ stream.the_send heap.the_send heap.the_sync allocator.the_frees in
     let nothing : IsSend unit = search (sendable, crosses) depth 20 in
     let nudges = sender.the_sync _ _ _ nothing heap.the_send heap.the_sync allocator.the_frees in
-    param_sync 4 _ (arg_sync _ no _ (closure_sync _ (_ ∷ (_ ∷ (_ ∷ (_ ∷ (_ ∷ (_ ∷ [])))))) (
+    param_sync 4 _ (arg_sync _ no _ (closure_sync _ (_ ∷ (_ ∷ (_ ∷ (_ ∷ (_ ∷ (_ ∷ (_ ∷ []))))))) (
       shr_sync _ κs.1.1.1.1.1.1.1.0 (param 4 g.row.R) (param_sync 4 g.row.R clock),
       (
         shr_sync _ κs.1.1.1.1.1.1.1.1.0 _ heap.the_sync,
         (
           shr_sync _ κs.1.1.1.1.1.1.1.1.1.0 _ shared,
-          (shr_sync _ κs.1.1.1.1.1.1.1.1.1.1.0 (param 3 g.row.G) (param_sync 3 g.row.G gate), (shr_sync _ κs.1.1.1.1.1.1.1.1.1.1.1.0 _ queue, (shr_sync _ κs.1.1.1.1.1.1.1.1.1.1.1.1.0 _ nudges, tt))),
+          (shr_sync _ κs.1.1.1.1.1.1.1.1.1.1.0 (param 3 g.row.G) (param_sync 3 g.row.G gate), (shr_sync _ κs.1.1.1.1.1.1.1.1.1.1.1.0 _ terms.the_sync, (shr_sync _ κs.1.1.1.1.1.1.1.1.1.1.1.1.0 _ queue, (shr_sync _ κs.1.1.1.1.1.1.1.1.1.1.1.1.1.0 _ nudges, tt)))),
         ),
       ),
     )))
