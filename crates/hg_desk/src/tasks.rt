@@ -5,15 +5,16 @@ ghost use Rattle.hg_protocol.specs.Spelling.{FitsFrames};
 ghost use Rattle.hg_store.specs.Shown.{live};
 ghost use Rattle.hg_desk.specs.Conversation.{Answers, AskTold};
 ghost use Rattle.hg_desk.specs.Counting.{AreSince, FindsAtLeast};
-ghost use Rattle.hg_desk.specs.Told.{BeginKept, BeginTold, Told, StepKept, StepToldOf};
+ghost use Rattle.hg_desk.specs.Told.{BeginKept, BeginTold, CommitKept, Told, StepKept, StepToldOf};
 
 use crate::desk::Desk;
 use crate::locked::{Core, Counts};
 use crate::share::{Column, Opening, Share};
 use hg_disk::Disk;
+use hg_model::verdict::Refusal;
 use hg_protocol::frame::Frame;
 use hg_protocol::reply::Reply;
-use hg_store::steps::{Step, StepFault, StepResult};
+use hg_store::steps::{Cause, Step, StepFault, StepResult};
 use std::alloc::Global;
 
 /// A task that may run under the lock.
@@ -49,6 +50,20 @@ impl<D: Disk, A: Opening, B: Column> Task<D, A, B> for StepTask {
     }
 }
 
+/// A commit, whose refusal is told as that of a step of a checkpoint.
+fn commit<D: Disk, A: Opening, B: Column>(
+    core: &mut Core<D, A, B>,
+    share: &mut Share<A, B>,
+) -> Result<u64, StepFault>
+    ensures { CommitKept ⟦<D as Disk>⟧ core.old core.new share.old share.new result }
+{
+    match core.commit(share) {
+        Ok(count) => Ok(count),
+        Err(Refusal::Broken) => Err(StepFault::Refused(Cause::Broken)),
+        Err(_) => Err(StepFault::Refused(Cause::DeviceFault)),
+    }
+}
+
 /// Begins a checkpoint: a commit and, where it answers Ok, a freeze of what it made durable.
 #[derive(Drop)]
 pub struct BeginTask {
@@ -66,7 +81,7 @@ impl<D: Disk, A: Opening, B: Column> Task<D, A, B> for BeginTask {
         ensures promise { BeginTold share.old share.new }
         ensures steps { BeginKept ⟦<D as Disk>⟧ core.old core.new share.old share.new result }
     {
-        let count = core.commit(self.alloc, share)?;
+        let count = commit(core, share)?;
         core.freeze(self.alloc, share)?;
         Ok(count)
     }
