@@ -1,6 +1,6 @@
 //! One conversation with a client.
 
-ghost use Rattle.std.specs.Prelude.{◌≡◌, OnErr};
+ghost use Rattle.std.specs.Prelude.{◌≡◌, All, IfOk, OnErr};
 ghost use Rattle.hg_protocol.specs.Spelling.{FitsFrames};
 ghost use Rattle.hg_store.specs.Shown.{live};
 ghost use Rattle.hg_desk.specs.Conversation.{Answers, Commits, Conversed, Greets, Offers, Talks, expected_of, hello_reply, offer_reply, refused as refused_reply, stage_after_hello};
@@ -107,6 +107,7 @@ impl Desk {
         frames: &[Frame],
     ) -> Result<Vec<Reply>, AllocError>
         ensures ok { Conversed ⟦<D as Disk>⟧ self.old core.old core.new share.old share.new frames.now self.new result }
+        ensures fits { IfOk result (λ replies. All FitsFrames replies.items) }
         ensures err { OnErr result ((self.new ≡ self.old) × ((core.new ≡ core.old) × (share.new ≡ share.old))) }
     {
         let Ok(mut replies) = Vec::with_capacity(alloc, frames.len()) else {
