@@ -1,5 +1,5 @@
 -- What a frame is answered, and what it does to the store.
-use Rattle.std.specs.Prelude.{◌≡◌, ◌⊎◌, ◌+◌, ◌≤◌, ℕ, nat_lt, Bool, List, [], ◌∷◌, length, Vec, cond, Result, Ok, Err, IfOk, IsTrue}
+use Rattle.std.specs.Prelude.{◌≡◌, ◌⊎◌, ◌+◌, ◌<◌, ◌≤◌, ℕ, nat_lt, Bool, List, [], ◌∷◌, All, length, slice_get, Some, Vec, cond, Result, Ok, Err, IfOk, IsTrue, OnErr}
 use Rattle.hg_model.specs.Contents.{Content}
 use Rattle.hg_model.specs.Codes.{code_of}
 use Rattle.hg_model.specs.declared.event.Named.{Named}
@@ -14,10 +14,12 @@ use Rattle.hg_protocol.specs.declared.frame.Frame.TheVariants.{Hello, Event as N
 use Rattle.hg_protocol.specs.declared.reply.Reply.{Reply}
 use Rattle.hg_protocol.specs.declared.reply.Reply.TheVariants.{Welcome, Accepted, Duplicate, Refused, Ack, Line, Fault, Lines, Nothing}
 use Rattle.hg_protocol.specs.declared.lines.ReportLines.{ReportLines}
+use Rattle.hg_protocol.specs.Spelling.{FitsFrames}
 use Rattle.hg_store.specs.declared.steps.Step.TheVariants.{Offer, Commit}
 use Rattle.hg_store.specs.declared.steps.StepResult.TheVariants.{Offered, Committed}
 use Rattle.hg_store.specs.Shown.{ShownStore, live}
 use Rattle.hg_desk.specs.declared.desk.Stage.{Stage}
+use Rattle.hg_desk.specs.declared.turn.TheConstants.{MOST_TURN}
 use Rattle.hg_desk.specs.declared.desk.Stage.TheVariants.{Greeting, Talking, Over}
 use Rattle.hg_desk.specs.Told.{Told, StepKept}
 
@@ -109,13 +111,29 @@ accepted_by (Fault code) = 0
 accepted_by (Lines lines) = 0
 accepted_by Nothing = 0
 
--- What a frame tells a share, whatever the store was. The share's counts never fall, and it counts only Accepted replies; over honest
--- devices it counts each of them.
-pub record AskTold (is_honest : Bool) (told new : Told) (reply : Reply) : Type 0 where
-  pub accepted : IsTrue is_honest → new.accepted ≡ told.accepted + accepted_by reply
-  pub at_most : new.accepted ≤ told.accepted + accepted_by reply
+-- how many accepted events replies tell the share of
+abbrev pub accepted_by_all : List Reply → ℕ
+accepted_by_all [] = 0
+accepted_by_all (reply ∷ replies) = accepted_by reply + accepted_by_all replies
+
+-- A share is told of so many Accepted replies. Its counts never fall, and it counts no more than these; over honest devices it counts each.
+pub record ToldAccepted (is_honest : Bool) (told new : Told) (count : ℕ) : Type 0 where
+  pub accepted : IsTrue is_honest → new.accepted ≡ told.accepted + count
+  pub at_most : new.accepted ≤ told.accepted + count
   pub at_least : told.accepted ≤ new.accepted
   pub durable : told.durable ≤ new.durable
+
+-- What the answers to frames tell, whatever the store was: there is a reply for each frame, each fits frames, and the share is told of
+-- those that say Accepted.
+pub record TurnTold (is_honest : Bool) (frames : List Frame) (told new : Told) (replies : List Reply) : Type 0 where
+  pub count : length replies ≡ length frames
+  pub fits : All FitsFrames replies
+  pub share : ToldAccepted is_honest told new (accepted_by_all replies)
+
+-- Where there was room for the replies, the share is told of them, and else of nothing.
+abbrev pub ConverseTold : {X Z E : Type 0} → (is_honest : Bool) → List Frame → (told new : Told) → Result (X × Vec Reply Z) E → Type 0
+ConverseTold is_honest frames told new (Ok answered) = TurnTold is_honest frames told new answered.1.items
+ConverseTold is_honest frames told new (Err error) = new ≡ told
 
 -- Frames are answered one after another, each as the conversation and the store stand by then.
 abbrev pub Converses : {D : Type 0} → disk.Ghosts D → Stage → (old new : ShownStore D) → (told told_after : Told) → List Frame → Stage → List Reply → Type 0
@@ -128,3 +146,25 @@ Converses g stage old new told told_after (frame ∷ frames) to [] = ⊥
 -- Where there was room for the replies, the frames are answered so.
 abbrev pub Conversed : {D Z E : Type 0} → disk.Ghosts D → Stage → (old new : ShownStore D) → (told told_after : Told) → List Frame → Stage → Result (Vec Reply Z) E → Type 0
 Conversed g stage old new told told_after frames to result = IfOk result (λ replies. Converses g stage old new told told_after frames to replies.items)
+
+-- The same, where the stage is answered too.
+abbrev pub TurnKept : {D Z E : Type 0} → disk.Ghosts D → Stage → (old new : ShownStore D) → (told told_after : Told) → List Frame → Result (Stage × Vec Reply Z) E → Type 0
+TurnKept g stage old new told told_after frames result = IfOk result (λ r. Converses g stage old new told told_after frames r.0 r.1.items)
+
+-- Nothing was changed where memory was refused.
+abbrev pub StillOnErr : {D T E : Type 0} → (old new : ShownStore D) → (told told_after : Told) → Result T E → Type 0
+StillOnErr old new told told_after result = OnErr result (Still old new told told_after)
+
+abbrev pub IsEvent : Frame → Type 0
+IsEvent (Numbered number event) = Unit {0}
+IsEvent (Hello source) = ⊥
+IsEvent Ask = ⊥
+IsEvent Reports = ⊥
+IsEvent Bye = ⊥
+
+-- So many of these frames are one turn: events, and the frame behind them, at most MOST_TURN. It has a frame where there is one.
+pub record IsTurn (frames : List Frame) (len : ℕ) : Type 0 where
+  pub most : len ≤ MOST_TURN
+  pub within : len ≤ length frames
+  pub some : 1 ≤ length frames → 1 ≤ len
+  pub events : (k : ℕ) (frame : Frame) → k + 1 < len → slice_get frames k ≡ Some frame → IsEvent frame

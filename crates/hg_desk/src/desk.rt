@@ -1,9 +1,6 @@
 //! One conversation with a client.
 
-ghost use Rattle.std.specs.Prelude.{◌≡◌, IfOk, OnErr, Result};
-ghost use Rattle.hg_model.specs.declared.verdict.Refusal.{Refusal};
-ghost use Rattle.hg_detect.specs.declared.detector.Answer.{Answer};
-ghost use Rattle.hg_store.specs.declared.steps.StepResult.TheVariants.{Offered};
+ghost use Rattle.std.specs.Prelude.{◌≡◌, All, IfOk, OnErr};
 ghost use Rattle.hg_protocol.specs.Spelling.{FitsFrames};
 ghost use Rattle.hg_store.specs.Shown.{live};
 ghost use Rattle.hg_desk.specs.Conversation.{Answers, Commits, Conversed, Greets, Offers, Talks, expected_of, hello_reply, offer_reply, refused as refused_reply, stage_after_hello};
@@ -18,7 +15,6 @@ use hg_model::limits::GREATEST_SOURCE;
 use hg_model::verdict::Refusal;
 use hg_protocol::frame::Frame;
 use hg_protocol::reply::Reply;
-use hg_store::steps::{Step, StepResult};
 use std::alloc::{AllocError, Global};
 use std::marker::Model;
 
@@ -111,6 +107,7 @@ impl Desk {
         frames: &[Frame],
     ) -> Result<Vec<Reply>, AllocError>
         ensures ok { Conversed ⟦<D as Disk>⟧ self.old core.old core.new share.old share.new frames.now self.new result }
+        ensures fits { IfOk result (λ replies. All FitsFrames replies.items) }
         ensures err { OnErr result ((self.new ≡ self.old) × ((core.new ≡ core.old) × (share.new ≡ share.old))) }
     {
         let Ok(mut replies) = Vec::with_capacity(alloc, frames.len()) else {
@@ -171,11 +168,11 @@ fn talk<D: Disk, A: Opening, B: Column>(
                 number: *number,
                 event: *event,
             };
-            let reply = offer(alloc, core, share, &named);
+            let reply = offer(core, share, &named);
             (Stage::Talking { source }, reply)
         }
         Frame::Ask => {
-            let reply = commit(alloc, core, share, source);
+            let reply = commit(core, share, source);
             (Stage::Talking { source }, reply)
         }
         Frame::Reports => (Stage::Talking { source }, core.report_lines(alloc)),
@@ -184,7 +181,6 @@ fn talk<D: Disk, A: Opening, B: Column>(
 }
 
 fn offer<D: Disk, A: Opening, B: Column>(
-    alloc: Global,
     core: &mut Core<D, A, B>,
     share: &mut Share<A, B>,
     named: &Named,
@@ -192,26 +188,16 @@ fn offer<D: Disk, A: Opening, B: Column>(
     ensures answer { Offers ⟦<D as Disk>⟧ named.now core.old core.new share.old share.new result }
     ensures fits { FitsFrames result }
 {
-    let answer = core.step(alloc, share, &Step::Offer(*named));
-    offered(named.number, answer)
-}
-
-/// The reply to an offer.
-fn offered(number: u64, answer: StepResult) -> Reply
-    requires { (told : Result Answer Refusal) × (answer ≡ Offered told) }
-    ensures answer { (told : Result Answer Refusal) → answer ≡ Offered told → result ≡ offer_reply number told }
-    ensures fits { FitsFrames result }
-{
-    match answer {
-        StepResult::Offered(Ok(Answer::Accepted)) => Reply::Accepted { number },
-        StepResult::Offered(Ok(Answer::Duplicate(last))) => Reply::Duplicate { last },
-        StepResult::Offered(Err(refusal)) => refused(number, refusal),
-        _ => unreachable!(),
+    match core.offer(share, named) {
+        Ok(Answer::Accepted) => Reply::Accepted {
+            number: named.number,
+        },
+        Ok(Answer::Duplicate(last)) => Reply::Duplicate { last },
+        Err(refusal) => refused(named.number, refusal),
     }
 }
 
 fn commit<D: Disk, A: Opening, B: Column>(
-    alloc: Global,
     core: &mut Core<D, A, B>,
     share: &mut Share<A, B>,
     source: u16,
@@ -219,11 +205,10 @@ fn commit<D: Disk, A: Opening, B: Column>(
     ensures answer { Commits ⟦<D as Disk>⟧ source core.old core.new share.old share.new result }
     ensures fits { FitsFrames result }
 {
-    match core.step(alloc, share, &Step::Commit) {
-        StepResult::Committed(Ok(_)) => Reply::Ack {
+    match core.commit(share) {
+        Ok(_) => Reply::Ack {
             number: core.last(source).unwrap_or(0),
         },
-        StepResult::Committed(Err(refusal)) => refused(0, refusal),
-        _ => unreachable!(),
+        Err(refusal) => refused(0, refusal),
     }
 }

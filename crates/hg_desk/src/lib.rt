@@ -8,3 +8,4 @@ mod sets;
 pub mod share;
 pub mod shared;
 pub mod tasks;
+pub mod turn;

@@ -1,16 +1,18 @@
 //! The value behind the lock.
 
-ghost use Rattle.std.specs.Prelude.{◌≡◌, ◌+◌, ◌<◌, ◌≤◌, ℕ, Ok, Err, cond, vec_len, All, IfOk, IfSome, IfErr, IsTrue};
+ghost use Rattle.std.specs.Prelude.{◌≡◌, ◌+◌, ◌<◌, ◌≤◌, ◌^◌, ◌∷◌, ℕ, Ok, Err, cond, false, vec_len, All, IfOk, IfSome, IfErr, IsTrue};
 ghost use Rattle.hg_model.specs.declared.verdict.Refusal.TheVariants.{Broken};
 ghost use Rattle.hg_protocol.specs.Spelling.{FitsFrames};
 ghost use Rattle.hg_store.specs.Doing.{fails_by};
-ghost use Rattle.hg_store.specs.Shown.{live};
+ghost use Rattle.hg_store.specs.Journal.{failed_after};
+ghost use Rattle.hg_store.specs.Shown.{HasCounted, live};
+ghost use Rattle.hg_store.specs.Store.{Backs};
 ghost use Rattle.hg_desk.specs.Blanks.{IsBlankOf};
 ghost use Rattle.hg_desk.specs.Conversation.{ReportsAnswer};
 ghost use Rattle.hg_desk.specs.Going.{began};
 ghost use Rattle.hg_store.specs.declared.steps.Step.TheVariants as step;
 ghost use Rattle.hg_store.specs.declared.steps.StepResult.TheVariants as told;
-ghost use Rattle.hg_desk.specs.Told.{CommitKept, StepKept, fitting, made_durable, nothing_told, taken};
+ghost use Rattle.hg_desk.specs.Told.{StepKept, fitting, made_durable, nothing_told, taken};
 
 use crate::desk::refused;
 use crate::moment::Moment;
@@ -18,6 +20,7 @@ use crate::sets::are_thread_sets;
 use crate::share::{Column, Opening, Share};
 use hg_detect::detector::Answer;
 use hg_disk::Disk;
+use hg_model::event::Named;
 use hg_model::verdict::Refusal;
 use hg_protocol::lines::{ReportLines, ReportList};
 use hg_protocol::reply::Reply;
@@ -102,15 +105,34 @@ fn note_durable<A: Column, B: Column>(
     share.durable += more;
 }
 
+/// How many events an offer accepted.
+fn accepted_by_offer(answer: &Result<Answer, Refusal>) -> u64
+    ensures { result ≡ taken (told.Offered answer.now) }
+{
+    match answer {
+        Ok(Answer::Accepted) => 1,
+        Ok(Answer::Duplicate(_)) => 0,
+        Err(_) => 0,
+    }
+}
+
 /// How many events a step accepted.
 fn accepted_by(answer: &StepResult) -> u64
     ensures { result ≡ taken answer.now }
 {
     match answer {
-        StepResult::Offered(Ok(Answer::Accepted)) => 1,
-        StepResult::Offered(Ok(Answer::Duplicate(_))) => 0,
-        StepResult::Offered(Err(_)) => 0,
+        StepResult::Offered(answer) => accepted_by_offer(answer),
         _ => 0,
+    }
+}
+
+/// How many events a commit made durable, if `before` were durable already.
+fn durable_by_commit(before: u64, answer: &Result<u64, Refusal>) -> u64
+    ensures { result ≡ made_durable before (told.Committed answer.now) }
+{
+    match answer {
+        Ok(count) => count.saturating_sub(before),
+        Err(_) => 0,
     }
 }
 
@@ -119,9 +141,18 @@ fn durable_by(before: u64, answer: &StepResult) -> u64
     ensures { result ≡ made_durable before answer.now }
 {
     match answer {
-        StepResult::Committed(Ok(count)) => count.saturating_sub(before),
-        StepResult::Committed(Err(_)) => 0,
+        StepResult::Committed(answer) => durable_by_commit(before, answer),
         _ => 0,
+    }
+}
+
+/// Whether an offer or a commit tells a device failure.
+fn is_failure<T>(answer: &Result<T, Refusal>) -> bool
+    ensures { IsTrue result → (n : ℕ) → n < failed_after answer.now n }
+{
+    match answer {
+        Err(Refusal::DeviceFault) => true,
+        _ => false,
     }
 }
 
@@ -130,8 +161,8 @@ fn tells_failure(answer: &StepResult) -> bool
     ensures { IsTrue result → (n : ℕ) → n < fails_by answer.now n }
 {
     match answer {
-        StepResult::Offered(Err(Refusal::DeviceFault)) => true,
-        StepResult::Committed(Err(Refusal::DeviceFault)) => true,
+        StepResult::Offered(answer) => is_failure(answer),
+        StepResult::Committed(answer) => is_failure(answer),
         StepResult::Put(Err(StepFault::Refused(Cause::DeviceFault))) => true,
         StepResult::Sealed(Err(StepFault::Refused(Cause::DeviceFault))) => true,
         StepResult::Prepared(Err(StepFault::Refused(Cause::DeviceFault))) => true,
@@ -141,6 +172,20 @@ fn tells_failure(answer: &StepResult) -> bool
         StepResult::Loaded(Err(StepFault::Refused(Cause::DeviceFault))) => true,
         _ => false,
     }
+}
+
+/// Notes the moment at which a step begins. Answers how many events are durable then, 0 where the store is broken.
+fn note_moment<D: Disk>(store: &Store<D>, moments: &mut Trail<Moment<D>>) -> u64
+    ensures moments { moments.new ≡ store.now.devices ∷ moments.old }
+    ensures durable { store.now.is_broken ≡ false → result ≡ store.now.durable }
+    ensures events { store.now.is_broken ≡ false → (live ⟦<D as Disk>⟧ store.now).events < 2 ^ 64 }
+    ensures backs { IsTrue D.is_honest → Backs ⟦<D as Disk>⟧ store.now }
+    ensures count { IsTrue D.is_honest → HasCounted ⟦<D as Disk>⟧ store.now }
+{
+    moments.push(Moment::of(store));
+    store.stands();
+    let _all = store.events();
+    store.durable().unwrap_or(0)
 }
 
 impl<D: Disk, A: Opening, B: Column> Core<D, A, B> {
@@ -190,10 +235,7 @@ impl<D: Disk, A: Opening, B: Column> Core<D, A, B> {
     pub fn step(&mut self, alloc: Global, share: &mut Share<A, B>, step: &Step) -> StepResult
         ensures { StepKept ⟦<D as Disk>⟧ self.old self.new share.old share.new step.now result }
     {
-        self.moments.push(Moment::of(&self.store));
-        self.store.stands();
-        let _all = self.store.events();
-        let before = self.store.durable().unwrap_or(0);
+        let before = note_moment(&self.store, &mut self.moments);
         let result = self.store.step(alloc, step);
         let _more = self.store.events();
         self.has_failed = self.has_failed || tells_failure(&result);
@@ -212,19 +254,38 @@ impl<D: Disk, A: Opening, B: Column> Core<D, A, B> {
         result
     }
 
-    /// The step `Commit`.
-    pub(crate) fn commit(
-        &mut self,
-        alloc: Global,
-        share: &mut Share<A, B>,
-    ) -> Result<u64, StepFault>
-        ensures { CommitKept ⟦<D as Disk>⟧ self.old self.new share.old share.new result }
+    /// The step `Offer`, with an answer that has no room for a page.
+    pub fn offer(&mut self, share: &mut Share<A, B>, named: &Named) -> Result<Answer, Refusal>
+        ensures { StepKept ⟦<D as Disk>⟧ self.old self.new share.old share.new (step.Offer named.now) (told.Offered result) }
     {
-        match self.step(alloc, share, &Step::Commit) {
-            StepResult::Committed(Ok(count)) => Ok(count),
-            StepResult::Committed(Err(Refusal::Broken)) => Err(StepFault::Refused(Cause::Broken)),
-            _ => Err(StepFault::Refused(Cause::DeviceFault)),
-        }
+        let _before = note_moment(&self.store, &mut self.moments);
+        let answer = self.store.offer(named);
+        let _more = self.store.events();
+        self.has_failed = self.has_failed || is_failure(&answer);
+        note_accepted(
+            &mut self.accepted,
+            &mut self.accepted_count,
+            share,
+            accepted_by_offer(&answer),
+        );
+        answer
+    }
+
+    /// The step `Commit`, with an answer that has no room for a page.
+    pub fn commit(&mut self, share: &mut Share<A, B>) -> Result<u64, Refusal>
+        ensures { StepKept ⟦<D as Disk>⟧ self.old self.new share.old share.new step.Commit (told.Committed result) }
+    {
+        let before = note_moment(&self.store, &mut self.moments);
+        let answer = self.store.commit();
+        let _more = self.store.events();
+        self.has_failed = self.has_failed || is_failure(&answer);
+        note_durable(
+            &mut self.durable,
+            &mut self.durable_count,
+            share,
+            durable_by_commit(before, &answer),
+        );
+        answer
     }
 
     /// The step `Freeze`.

@@ -1,20 +1,20 @@
 //! Tasks that run under the lock.
 
 ghost use Rattle.std.specs.Prelude.{◌≡◌, ◌+◌, ◌≤◌, IsTrue};
-ghost use Rattle.hg_protocol.specs.Spelling.{FitsFrames};
 ghost use Rattle.hg_store.specs.Shown.{live};
-ghost use Rattle.hg_desk.specs.Conversation.{Answers, AskTold};
+ghost use Rattle.hg_desk.specs.Conversation.{ConverseTold, StillOnErr, TurnKept};
 ghost use Rattle.hg_desk.specs.Counting.{AreSince, FindsAtLeast};
-ghost use Rattle.hg_desk.specs.Told.{BeginKept, BeginTold, Told, StepKept, StepToldOf};
+ghost use Rattle.hg_desk.specs.Told.{BeginKept, BeginTold, CommitKept, Told, StepKept, StepToldOf};
 
 use crate::desk::Desk;
 use crate::locked::{Core, Counts};
 use crate::share::{Column, Opening, Share};
 use hg_disk::Disk;
+use hg_model::verdict::Refusal;
 use hg_protocol::frame::Frame;
 use hg_protocol::reply::Reply;
-use hg_store::steps::{Step, StepFault, StepResult};
-use std::alloc::Global;
+use hg_store::steps::{Cause, Step, StepFault, StepResult};
+use std::alloc::{AllocError, Global};
 
 /// A task that may run under the lock.
 pub trait Task<D: Disk, A: Opening, B: Column> {
@@ -49,6 +49,20 @@ impl<D: Disk, A: Opening, B: Column> Task<D, A, B> for StepTask {
     }
 }
 
+/// A commit, whose refusal is told as that of a step of a checkpoint.
+fn commit<D: Disk, A: Opening, B: Column>(
+    core: &mut Core<D, A, B>,
+    share: &mut Share<A, B>,
+) -> Result<u64, StepFault>
+    ensures { CommitKept ⟦<D as Disk>⟧ core.old core.new share.old share.new result }
+{
+    match core.commit(share) {
+        Ok(count) => Ok(count),
+        Err(Refusal::Broken) => Err(StepFault::Refused(Cause::Broken)),
+        Err(_) => Err(StepFault::Refused(Cause::DeviceFault)),
+    }
+}
+
 /// Begins a checkpoint: a commit and, where it answers Ok, a freeze of what it made durable.
 #[derive(Drop)]
 pub struct BeginTask {
@@ -66,38 +80,45 @@ impl<D: Disk, A: Opening, B: Column> Task<D, A, B> for BeginTask {
         ensures promise { BeginTold share.old share.new }
         ensures steps { BeginKept ⟦<D as Disk>⟧ core.old core.new share.old share.new result }
     {
-        let count = core.commit(self.alloc, share)?;
+        let count = commit(core, share)?;
         core.freeze(self.alloc, share)?;
         Ok(count)
     }
 }
 
-/// One frame of a conversation.
+/// Frames of a conversation, answered one after another in one hold. `turn_len` says how many those are.
 #[derive(Drop)]
-pub struct AskTask {
+pub struct ConverseTask<'a> {
     pub alloc: Global,
     pub desk: Desk,
-    pub frame: Frame,
+    pub frames: &'a [Frame],
 }
 
-impl<D: Disk, A: Opening, B: Column> Task<D, A, B> for AskTask {
-    type Out = (Desk, Reply);
+impl<'a, D: Disk, A: Opening, B: Column> Task<D, A, B> for ConverseTask<'a> {
+    type Out = Result<(Desk, Vec<Reply>), AllocError>;
 
-    ghost promise = { λ t old new res. AskTold D.is_honest old new res.1 × FitsFrames res.1 };
+    ghost promise = { λ t old new res. ConverseTold D.is_honest t.frames.now old new res };
 
-    fn run(self, core: &mut Core<D, A, B>, share: &mut Share<A, B>) -> (Desk, Reply)
-        ensures promise { AskTold D.is_honest share.old share.new result.1 × FitsFrames result.1 }
-        ensures answer { Answers ⟦<D as Disk>⟧ self.desk core.old core.new share.old share.new self.frame
-            result.0 result.1 }
-        ensures fits { FitsFrames result.1 }
+    /// The conversation as it stands then, and a reply for each frame. Where memory for the replies is refused, nothing was changed.
+    fn run(
+        self,
+        core: &mut Core<D, A, B>,
+        share: &mut Share<A, B>,
+    ) -> Result<(Desk, Vec<Reply>), AllocError>
+        ensures promise { ConverseTold D.is_honest self.entry.frames.now share.old share.new result }
+        ensures turn { TurnKept ⟦<D as Disk>⟧ self.entry.desk core.old core.new share.old share.new
+            self.entry.frames.now result }
+        ensures err { StillOnErr core.old core.new share.old share.new result }
     {
-        let AskTask {
+        let ConverseTask {
             alloc,
             mut desk,
-            frame,
+            frames,
         } = self;
-        let reply = desk.answer(alloc, core, share, &frame);
-        (desk, reply)
+        match desk.answer_all(alloc, core, share, frames) {
+            Ok(replies) => Ok((desk, replies)),
+            Err(error) => Err(error),
+        }
     }
 }
 

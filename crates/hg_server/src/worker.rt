@@ -1,6 +1,8 @@
 //! Workers, which hold conversations.
 
-ghost use Rattle.std.specs.Prelude.{◌≤◌};
+ghost use Rattle.std.specs.Prelude.{◌≡◌, ◌≤◌, ◌++◌, All, IsTrue};
+ghost use Rattle.hg_protocol.specs.Spelling.{FitsFrames};
+ghost use Rattle.hg_server.specs.Replying.{replies_text};
 
 use crate::health::Terms;
 use crate::patience::{Patience, may_read_on};
@@ -8,7 +10,8 @@ use crossbeam_channel::{Receiver, Sender};
 use hg_desk::desk::Desk;
 use hg_desk::share::{Column, Opening, Share};
 use hg_desk::shared::Shared;
-use hg_desk::tasks::AskTask;
+use hg_desk::tasks::ConverseTask;
+use hg_desk::turn::turn_len;
 use hg_disk::Disk;
 use hg_protocol::feed::Feed;
 use hg_protocol::frame::Frame;
@@ -24,7 +27,7 @@ use std::time::Clock;
 /// Where a thread is between two holds of the lock.
 #[derive(Clone, Copy, Debug, PartialEq, Eq, Drop)]
 pub enum Point {
-    /// A worker answered a frame.
+    /// A worker answered a turn of frames.
     Answered,
     /// The flusher took a page that is to be written.
     JobTaken,
@@ -117,29 +120,45 @@ impl<'a, S> Talk<'a, S> {
         }
     }
 
-    /// Answers a frame under one hold of the lock, and holds the reply back. Nudges the flusher behind an Ack. Tells whether the
-    /// conversation goes on: it ends at a Bye, and where no memory is left for the reply.
+    /// Holds the replies to a turn back, and nudges the flusher behind an Ack. Tells whether the conversation goes on: it ends at the reply
+    /// to a Bye, and where no memory is left for a reply.
+    fn hold_back<R: Wait>(&mut self, rt: &R, replies: &[Reply]) -> bool
+        requires fits { All FitsFrames replies.now }
+        ensures all { IsTrue result → self.new.replies.items ≡ self.old.replies.items ++ replies_text replies.now }
+    {
+        for reply in replies {
+            match reply {
+                Reply::Nothing => return false,
+                Reply::Ack { .. } => self.nudge(rt),
+                _ => {}
+            }
+            let Ok(()) = put_reply(reply, &mut self.replies) else {
+                return false;
+            };
+        }
+        true
+    }
+
+    /// Answers a turn of frames under one hold of the lock, and holds the replies back. Tells whether the conversation goes on, as
+    /// `hold_back` does. It ends too where no memory is left for the list of replies.
     fn answer<D: Disk, A: Opening, B: Column, G, R: Wait>(
         &mut self,
         seat: &mut Seat<D, A, B, G, R>,
-        frame: Frame,
+        turn: &[Frame],
     ) -> bool
         ensures accepted { seat.old.share.accepted ≤ seat.new.share.accepted }
         ensures durable { seat.old.share.durable ≤ seat.new.share.durable }
     {
-        let task = AskTask {
+        let task = ConverseTask {
             alloc: seat.alloc,
             desk: replace(&mut self.desk, Desk::new()),
-            frame,
+            frames: turn,
         };
-        let (desk, reply) = seat.shared.hold(seat.rt, &mut seat.share, task);
+        let Ok((desk, replies)) = seat.shared.hold(seat.rt, &mut seat.share, task) else {
+            return false;
+        };
         self.desk = desk;
-        match reply {
-            Reply::Nothing => return false,
-            Reply::Ack { .. } => self.nudge(seat.rt),
-            _ => {}
-        }
-        put_reply(&reply, &mut self.replies).is_ok()
+        self.hold_back(seat.rt, replies.as_slice())
     }
 }
 
@@ -160,7 +179,7 @@ impl<'a, S: Write> Talk<'a, S> {
         self.write_out()
     }
 
-    /// Answers frames, each under a hold of its own.
+    /// Answers frames turn by turn, each turn under a hold of its own.
     fn answer_all<D: Disk, A: Opening, B: Column, G: Gate, R: Wait>(
         &mut self,
         seat: &mut Seat<D, A, B, G, R>,
@@ -169,8 +188,11 @@ impl<'a, S: Write> Talk<'a, S> {
         ensures accepted { seat.old.share.accepted ≤ seat.new.share.accepted }
         ensures durable { seat.old.share.durable ≤ seat.new.share.durable }
     {
-        for frame in frames {
-            let goes_on = self.answer(seat, *frame);
+        let mut rest = frames;
+        while !rest.is_empty() {
+            let (turn, behind) = rest.split_at(turn_len(rest));
+            rest = behind;
+            let goes_on = self.answer(seat, turn);
             if seat.gate.at(Point::Answered) == Pass::Stop {
                 return Course::Stop;
             }

@@ -1,0 +1,58 @@
+use Rattle.std.proofs.Common.{rules, ◌≡◌, ◌⊎◌, inl, inr, ◌+◌, ◌<◌, ℕ, IsTrue, ap, refl, subst, sym, ◌∙◌, arith}
+use Rattle.hg_model.specs.declared.verdict.Refusal.{Refusal}
+use Rattle.hg_detect.specs.declared.detector.Answer.{Answer}
+use Rattle.hg_store.specs.Doing.{fails_by}
+use Rattle.hg_store.specs.Shown.{ShownStore}
+use Rattle.hg_store.specs.declared.steps.Step.TheVariants.{Offer}
+use Rattle.hg_store.specs.declared.steps.StepResult.TheVariants.{Offered}
+use Rattle.hg_desk.specs.Told.{StepKept, Told, fitting, taken}
+use Rattle.hg_desk.proofs.Counts.{Steps, core_after, fitting_none, kept_on}
+use Rattle.hg_desk.proofs.locked.Core.offer.Given as given
+use Rattle.hg_desk.proofs.locked.Core.offer.Goals as goal
+use Rattle.hg_desk.proofs.locked.Core.offer.Goals.{then-self, else-self}
+
+-- what holds once the offer was made
+module _ (g : given.Over) (c : goal.After-note_accepted g) where
+  steps : Steps g.D.Disk c.self.inside.store c.offer-answer.new.self (Offer c.args.named.now) (Offered c.offer-answer.result)
+  steps = record {
+    done = (c.offer-answer.result, refl, c.offer-answer.ensures.done);
+    content = λ honest. (c.offer-answer.result, refl, c.offer-answer.ensures.content honest);
+    device = c.offer-answer.ensures.device;
+    backs = λ honest. c.note_moment-before.ensures.backs honest;
+    images = λ honest. c.offer-answer.ensures.images honest;
+    count = λ honest. c.note_moment-before.ensures.count honest;
+    all = λ works. c.note_moment-before.ensures.events works;
+    more = λ works. search rules;
+  }
+
+  -- no event was made durable
+  none : (n : ℕ) → n ≡ n + fitting c.self.inside.durable.total 0
+  none n = let is = fitting_none c.self.inside.durable.total in omega (arith, is)
+
+pub invariant_of-self : goal.invariant_of-self
+invariant_of-self g c =
+    let from : IsTrue c.if-self.self → IsTrue c.self.inside.has_failed ⊎ ((n : ℕ) → n < fails_by (Offered c.offer-answer.result) n) = λ is. elim c.if-self.branch [
+      | then-self w ↦ inl w.if-self.true
+      | else-self w ↦ inr (w.is_failure-self-inside.ensures (subst IsTrue w.self-is is))
+    ] in
+    core_after g.D.Disk g.A.Opening.start g.A.Column.opening g.B.Column.opening c.self.inside.store c.offer-answer.new.self (Offer c.args.named.now) (Offered c.offer-answer.result) (steps g c)
+    c.self.inside.accepted.total c.self.inside.durable.total c.self.inside.accepted_count c.self.inside.durable_count c.self.inside.moments c.self.inside.has_failed c.self.invariant
+    c.note_moment-before.result c.note_moment-before.ensures.durable
+    c.note_accepted.new.book.total c.self.inside.durable.total c.note_accepted.new.count c.self.inside.durable_count c.note_moment-before.new.moments c.if-self.self
+    (c.note_accepted.ensures.book ∙ ap (λ (n : ℕ). c.self.inside.accepted.total + fitting c.self.inside.accepted.total n) c.accepted_by_offer.ensures)
+    (none g c c.self.inside.durable.total) c.note_accepted.ensures.count c.self.invariant.durable_counted c.note_moment-before.ensures.moments from
+
+pub returns : goal.returns
+returns g c =
+    let old = c.self.inside.store in
+    let new = c.offer-answer.new.self in
+    let result = Offered c.offer-answer.result in
+    let one : c.note_accepted.new.share.accepted ≡ c.args.share.now.accepted + fitting c.self.inside.accepted.total (taken result) =
+    ap (λ (t : Told). t.accepted) c.note_accepted.ensures.share ∙ ap (λ (n : ℕ). c.args.share.now.accepted + fitting c.self.inside.accepted.total n) c.accepted_by_offer.ensures in
+    let two : c.note_accepted.new.share.durable ≡ c.args.share.now.durable + fitting c.self.inside.durable.total 0 =
+    ap (λ (t : Told). t.durable) c.note_accepted.ensures.share ∙ none g c c.args.share.now.durable in
+    let kept : StepKept g.D.Disk old new c.args.share.now c.note_accepted.new.share (Offer c.args.named.now) result =
+    kept_on g.D.Disk g.A.Opening.start g.A.Column.opening g.B.Column.opening old new (Offer c.args.named.now) result (steps g c)
+    c.self.inside.accepted.total c.self.inside.durable.total c.self.inside.accepted_count c.self.inside.durable_count c.self.inside.moments c.self.inside.has_failed c.self.invariant
+    c.note_moment-before.result c.note_moment-before.ensures.durable c.args.share.now c.note_accepted.new.share one two in
+    subst (λ (s : ShownStore g.row.D.Denot). StepKept g.D.Disk s new c.args.share.now c.note_accepted.new.share (Offer c.args.named.now) result) c.self.view_is kept
