@@ -1,10 +1,10 @@
 /* Hand-overs between threads: which messages stand in the trace, and where.
  *
  * The latest 8,192 events stay in their slots of the ring before they are written, for a time that is given. So when it is seen that a
- * thread took what another one handed over, `send` can stand where that was handed over (behind an unlock, say) and `recv` where it
- * was taken (behind a lock). What has been written is past: then the line stands before the first event that is held, which is as
- * near as can be. So a message that was sent is received within these events, but for those of semaphores and conditions, which are
- * sent when their place is written, since they may be received at any time.
+ * thread took what another one handed over, `recv` stands behind the event by which it did (the read of a word, say), and `send` can stand
+ * where that was handed over (behind an unlock). What has been written is past: then `send` stands before the first event that is held,
+ * which is as near as can be. So a message that was sent is received within these events, but for those of semaphores and conditions, which
+ * are sent when their place is written, since they may be received at any time.
  *
  * A pair that the order of the trace has already is left out, and so is one that hands over nothing (clocks.c).
  *
@@ -251,10 +251,6 @@ static unsigned speaker_for(unsigned thread)
 
 static void put_behind(uint64_t place, bool is_send, unsigned thread, uint32_t number)
 {
-    if (!is_held(place)) {
-        put_message(is_send, is_send ? speaker_for(thread) : thread, number, event_at(end)->code);
-        return;
-    }
     uint32_t at = free_note;
     if (at) {
         free_note = notes[at].next;
@@ -275,8 +271,18 @@ static void make_room_for_notes(void)
     }
 }
 
-/* What was done up to the moment comes before what the thread does behind the event at `place`. */
-static void hand_over(const struct moment *from, unsigned to, uint64_t place)
+static void put_send(const struct moment *from, uint32_t number)
+{
+    if (is_held(from->place)) {
+        put_behind(from->place, true, from->thread, number);
+    } else {
+        counts.late++;
+        put_message(true, speaker_for(from->thread), number, event_at(end)->code);
+    }
+}
+
+/* What was done up to the moment comes before what the thread does behind the latest event. */
+static void hand_over(const struct moment *from, unsigned to)
 {
     if (knows(to, from) || !may_pair()) {
         return;
@@ -286,12 +292,11 @@ static void hand_over(const struct moment *from, unsigned to, uint64_t place)
     if (!is_held(from->place) && speaker_for(from->thread) == to) {
         return;
     }
-    put_behind(from->place, true, from->thread, next_number);
-    put_behind(place, false, to, next_number);
+    put_send(from, next_number);
+    put_behind(end, false, to, next_number);
     next_number++;
     segments += 2;
     counts.pairs++;
-    counts.late += !is_held(from->place) || !is_held(place);
 }
 
 /* ---- messages that the program has numbered ---- */
@@ -310,7 +315,7 @@ static void message_is_received(const struct event *event)
     }
     sent->is_open = false;
     if (!sent->is_sent) {
-        hand_over(&sent->sent, event->thread, end);
+        hand_over(&sent->sent, event->thread);
         return;
     }
     make_room_for_notes();
@@ -500,7 +505,7 @@ static void add_release(struct object *object, struct moment moment)
 static void acquire(const struct object *object, unsigned thread)
 {
     for (uint32_t at = object ? object->releases : 0; at; at = releases[at].next) {
-        hand_over(&releases[at].moment, thread, end);
+        hand_over(&releases[at].moment, thread);
     }
 }
 
@@ -629,7 +634,6 @@ static void lock_is_let_go(const struct event *event)
 static void word_is_read(unsigned thread, uint32_t at)
 {
     const struct hold *latest = NULL;
-    const struct open_hold *taken_in = NULL;
     for (; at; at = holds[at].outer) {
         const struct hold *hold = &holds[at];
         if (hold->end.place == NEVER || knows(thread, &hold->end) || (latest && latest->end.tick > hold->end.tick)) {
@@ -638,11 +642,10 @@ static void word_is_read(unsigned thread, uint32_t at)
         const struct open_hold *open = find_open(thread, hold->lock);
         if (open && open->place > hold->end.place && (open->for_writing || hold->for_writing)) {
             latest = hold;
-            taken_in = open;
         }
     }
     if (latest) {
-        hand_over(&latest->end, thread, taken_in->place);
+        hand_over(&latest->end, thread);
     }
 }
 
