@@ -8,7 +8,7 @@ import sys
 from . import output, suppressions
 from .bare import BareHgd, ordered_by_messages
 from .pairs import Pair, Source, find_pairs, group
-from .places import Codes, OtherRun, run_of
+from .places import CodesFile, OtherRun, run_of
 from .progress import Progress
 from .verdicts import Hgd, HgdFailed, Verdict
 
@@ -71,19 +71,20 @@ def read_suppressions(paths: list[str]) -> list[suppressions.Suppression]:
     return found
 
 
-def see_that_it_is_one_run(trace: str, codes: str):
-    of_trace, of_codes = run_of(trace), Codes(codes, set()).run
-    if of_trace != of_codes:
-        raise OtherRun(f"{codes} is of run {of_codes or 'unknown'}, and {trace} of run {of_trace or 'unknown'}")
+def see_that_it_is_one_run(trace: str, codes: CodesFile):
+    of_trace = run_of(trace)
+    if of_trace != codes.run:
+        raise OtherRun(f"{codes.path} is of run {codes.run or 'unknown'}, and {trace} of run {of_trace or 'unknown'}")
 
 
 def report(options) -> int:
     known = read_suppressions(options.suppressions)
-    if options.codes:
-        see_that_it_is_one_run(options.trace, options.codes)
+    source = Source(options.codes)
+    if source.codes:
+        see_that_it_is_one_run(options.trace, source.codes)
     progress = Progress(options.quiet)
     hgd = Hgd(options.hgd, options.trace, options.verbose)
-    verdict, source = hgd.check(), Source(options.codes)
+    verdict = hgd.check()
     pairs, around = find_pairs(hgd, group(verdict.races, source), verdict.last, source, progress)
     ordered = find_ordered(BareHgd(hgd, around.messages, verdict.last), verdict, source, options.all, progress) if around.messages else output.Ordered(0, [])
     progress.end()

@@ -6,7 +6,7 @@ import re
 from concurrent.futures import ThreadPoolExecutor
 from dataclasses import dataclass
 
-from .places import Codes, Places
+from .places import Codes, CodesFile, Places
 from .trace import Block, Surroundings, look_round
 from .verdicts import Access, Hgd, Race
 
@@ -102,7 +102,7 @@ class Source:
     """The places of events, by the codes of a run; without codes an event's place is not known."""
 
     def __init__(self, codes: str | None):
-        self.codes = codes
+        self.codes = CodesFile(codes) if codes else None
 
     def addresses(self, events) -> dict[int, int]:
         return Codes(self.codes, set(events)).address if self.codes else {}

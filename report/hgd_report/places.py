@@ -10,31 +10,66 @@ class OtherRun(Exception):
     pass
 
 
-class Codes:
-    """The addresses of the events asked for, and where the program's files lay in memory."""
+# Where so many events stand in a file of codes is remembered, so that one of them is found without those before.
+EACH = 4096
 
-    def __init__(self, path, wanted):
-        self.address, self.stack, self.frames, self.maps, self.run = {}, {}, {}, [], None
-        number = 0
-        with open(path) as lines:
+
+class CodesFile:
+    """A file of `hgd-record --pcs`, which is read through once: its run, where the program's files lay in memory, who called whom, and
+    where its events stand. The line of an event begins with a digit, any other one with a letter."""
+
+    def __init__(self, path):
+        self.path, self.run, self.maps, self.frames, self.events, self.marks = path, None, [], {}, 0, []
+        at = 0
+        with open(path, "rb") as lines:
             for line in lines:
-                if line.startswith("run "):
-                    self.run = line.split()[1]
-                    continue
-                if line.startswith("map "):
-                    low, high, offset, name = line.split(maxsplit=4)[1:]
-                    self.maps.append((int(low, 0), int(high, 0), int(offset, 0), name.rstrip("\n")))
-                    continue
-                if line.startswith("stack "):
-                    stack, outer, caller = line.split()[1:]
-                    self.frames[int(stack)] = (int(outer), int(caller, 0))
-                    continue
-                number += 1
-                if number in wanted:
-                    self.note(number, line.split())
-        if wanted and max(wanted) > number:
-            raise OtherRun(f"{path} has {number} events, and not event {max(wanted)}: it is of another run")
+                if line[0] == 0x30:
+                    if self.events % EACH == 0:
+                        self.marks.append(at)
+                    self.events += 1
+                else:
+                    self.read(line.decode())
+                at += len(line)
         self.maps.sort()
+
+    def read(self, line):
+        if line.startswith("run "):
+            self.run = line.split()[1]
+        elif line.startswith("map "):
+            low, high, offset, name = line.split(maxsplit=4)[1:]
+            self.maps.append((int(low, 0), int(high, 0), int(offset, 0), name.rstrip("\n")))
+        elif line.startswith("stack "):
+            stack, outer, caller = line.split()[1:]
+            self.frames[int(stack)] = (int(outer), int(caller, 0))
+
+    def lines(self, wanted):
+        """Each event asked for that is there, with its line."""
+        mark, number = None, 0
+        with open(self.path, "rb") as file:
+            for event in sorted(wanted):
+                if not 1 <= event <= self.events:
+                    continue
+                if (event - 1) // EACH != mark:
+                    mark = (event - 1) // EACH
+                    number = mark * EACH
+                    file.seek(self.marks[mark])
+                while number < event:
+                    line = file.readline()
+                    number += line[0] == 0x30
+                yield event, line
+
+
+class Codes:
+    """The addresses of the events asked for, and where the program's files lay in memory. A file that is asked several times is best read
+    beforehand: `file` is one, or its path."""
+
+    def __init__(self, file, wanted):
+        file = file if isinstance(file, CodesFile) else CodesFile(file)
+        self.address, self.stack, self.frames, self.maps, self.run = {}, {}, file.frames, file.maps, file.run
+        for event, line in file.lines(wanted):
+            self.note(event, line.split())
+        if wanted and max(wanted) > file.events:
+            raise OtherRun(f"{file.path} has {file.events} events, and not event {max(wanted)}: it is of another run")
         self.begins = [part[0] for part in self.maps]
 
     def note(self, event, words):
