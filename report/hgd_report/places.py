@@ -5,31 +5,33 @@ import os
 import re
 import subprocess
 
+from .trace import pieces_of
+
 
 class OtherRun(Exception):
     pass
 
 
-# Where so many events stand in a file of codes is remembered, so that one of them is found without those before.
-EACH = 4096
+# A line of a file of codes that is of no event: that of an event begins with 0.
+OTHER = re.compile(rb"^(?!0)(?:[^\n]+\n?|\n)", re.MULTILINE)
 
 
 class CodesFile:
     """A file of `hgd-record --pcs`, which is read through once: its run, where the program's files lay in memory, who called whom, and
-    where its events stand. The line of an event begins with a digit, any other one with a letter."""
+    how many events stand before each of its pieces, so that one of them is found without those before."""
 
     def __init__(self, path):
-        self.path, self.run, self.maps, self.frames, self.events, self.marks = path, None, [], {}, 0, []
-        at = 0
-        with open(path, "rb") as lines:
-            for line in lines:
-                if line[0] == 0x30:
-                    if self.events % EACH == 0:
-                        self.marks.append(at)
-                    self.events += 1
-                else:
+        self.path, self.run, self.maps, self.frames, self.events = path, None, [], {}, 0
+        self.places, self.before, at = [], [], 0
+        with open(path, "rb") as file:
+            for piece in pieces_of(file):
+                others = OTHER.findall(piece)
+                for line in others:
                     self.read(line.decode())
-                at += len(line)
+                self.places.append(at)
+                self.before.append(self.events)
+                self.events += piece.count(b"\n") + (not piece.endswith(b"\n")) - len(others)
+                at += len(piece)
         self.maps.sort()
 
     def read(self, line):
@@ -44,19 +46,17 @@ class CodesFile:
 
     def lines(self, wanted):
         """Each event asked for that is there, with its line."""
-        mark, number = None, 0
+        known = None
         with open(self.path, "rb") as file:
             for event in sorted(wanted):
                 if not 1 <= event <= self.events:
                     continue
-                if (event - 1) // EACH != mark:
-                    mark = (event - 1) // EACH
-                    number = mark * EACH
-                    file.seek(self.marks[mark])
-                while number < event:
-                    line = file.readline()
-                    number += line[0] == 0x30
-                yield event, line
+                piece = bisect.bisect_left(self.before, event) - 1
+                if piece != known:
+                    known = piece
+                    file.seek(self.places[piece])
+                    lines = [line for line in next(pieces_of(file)).split(b"\n") if line[:1] == b"0"]
+                yield event, lines[event - 1 - self.before[piece]]
 
 
 class Codes:

@@ -2,11 +2,22 @@
 from __future__ import annotations
 
 import bisect
-import itertools
 import re
 from dataclasses import dataclass, field
 
 SPLIT = 1024
+
+# How many bytes of a file are read at once, and up to the end of a line.
+PIECE = 1 << 20
+
+# The lines of a trace that are no access and no lock: what makes memory new or threads, messages, comments and empty lines.
+TOLD = re.compile(rb"^(?:(?P<memory>[af][^\n]*)|(?P<message>(?:send|recv) [^\n]*)|(?P<comment>#[^\n]*)|[^\S\n]*(?=\n)|[^\S\n]+\Z)", re.MULTILINE)
+
+
+def pieces_of(file):
+    """The bytes of a file, in pieces of whole lines."""
+    while piece := file.read(PIECE):
+        yield piece + file.readline()
 
 # `refused line N code C` and `bad line N`: what hgd took ends before that line.
 ENDS_AT = re.compile(r"(?:refused|bad) line (\d+)")
@@ -40,6 +51,8 @@ class Surroundings:
     # the events that send or receive a message
     messages: list[int] = field(default_factory=list)
     events: int = 0
+    # how many blocks were allocated before there was a second thread
+    early: int = 0
 
     def block_at(self, word: int, event: int) -> Block | None:
         """The block that a word lay in at an event."""
@@ -51,21 +64,24 @@ class Blocks:
     """Puts the parts of a block together, and notes each block that has one of some words."""
 
     def __init__(self, words, out: dict[int, list[Block]]):
-        self.words, self.out, self.open = sorted(words), out, None
+        self.words, self.out, self.open, self.next = sorted(words), out, None, None
 
     def part(self, kind: str, event: int, thread: int, address: int, length: int):
-        block = self.open
-        if block and (block.kind, block.thread) == (kind, thread) and block.length % SPLIT == 0 and address == block.address + block.length \
-                and event == block.event + block.length // SPLIT:
-            self.open = Block(kind, block.event, thread, block.address, block.length + length)
+        """A part of a block: of the one before, where it is what comes `next` behind that."""
+        if (kind, thread, event, address) == self.next:
+            length += self.open[4]
+            kind, event, thread, address = self.open[:4]
         else:
             self.close()
-            self.open = Block(kind, event, thread, address, length)
+        self.open = kind, event, thread, address, length
+        self.next = (kind, thread, event + length // SPLIT, address + length) if length % SPLIT == 0 else None
 
     def close(self):
         block, self.open = self.open, None
         if block is not None:
-            self.put(block)
+            at = bisect.bisect_left(self.words, block[3] - 3)
+            if at < len(self.words) and self.words[at] < block[3] + block[4]:
+                self.put(Block(*block))
 
     def put(self, block: Block):
         at = bisect.bisect_left(self.words, block.address - 3)
@@ -80,30 +96,54 @@ def lines_taken(last: str) -> int | None:
     return int(end.group(1)) - 1 if end else None
 
 
+def first_lines(pieces, most: int | None):
+    """The first lines of some pieces."""
+    for piece in pieces:
+        if most is not None:
+            count = piece.count(b"\n") + (not piece.endswith(b"\n"))
+            if count > most:
+                yield b"".join(piece.splitlines(True)[:most]) if most else b""
+                return
+            most -= count
+        yield piece
+
+
 def look_round(path: str, words, last: str, progress=None) -> Surroundings:
     """Reads a trace once, as far as hgd took it: `last` is the last line that `hgd check` printed."""
     found = Surroundings()
-    blocks, early = Blocks(words, found.blocks), 0
-    with open(path, encoding="latin-1", newline="\n") as lines:
-        for line in itertools.islice(lines, lines_taken(last)):
-            if line[0] == "#":
-                note_lock(line, found)
-                block = early_block(line, -early)
-                if block:
-                    early += 1
-                    blocks.put(block)
-                continue
-            if line.isspace():
-                continue
-            found.events += 1
-            if line[0] in "af":
-                note_event(line.split(), found, blocks)
-            elif line[:5] in ("send ", "recv "):
-                found.messages.append(found.events)
-            if progress and found.events % 65536 == 0:
+    blocks = Blocks(words, found.blocks)
+    with open(path, "rb") as file:
+        for piece in first_lines(pieces_of(file), lines_taken(last)):
+            look_at(piece, found, blocks)
+            if progress:
                 progress(found.events)
     blocks.close()
     return found
+
+
+def look_at(piece: bytes, found: Surroundings, blocks: Blocks):
+    """Takes a piece of a trace. Each line that is not among those that tell something is an event."""
+    at = 0
+    for told in TOLD.finditer(piece):
+        found.events += piece.count(b"\n", at, told.start())
+        at = told.end() + 1
+        if told.lastgroup == "comment":
+            note_comment(told[0].decode("latin-1"), found, blocks)
+        elif told.lastgroup:
+            found.events += 1
+            if told.lastgroup == "memory":
+                note_event(told[0].decode("latin-1").split(), found, blocks)
+            else:
+                found.messages.append(found.events)
+    found.events += piece.count(b"\n", at) + (at < len(piece) and not piece.endswith(b"\n"))
+
+
+def note_comment(line: str, found: Surroundings, blocks: Blocks):
+    note_lock(line, found)
+    block = early_block(line, -found.early)
+    if block:
+        found.early += 1
+        blocks.put(block)
 
 
 def note_lock(line: str, found: Surroundings):
