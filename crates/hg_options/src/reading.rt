@@ -18,11 +18,7 @@ use std::string::String;
 /// `version` is what `--version` tells behind it.
 ///
 /// The commands are those of `specs/CommandLine.antt`.
-pub fn read<'a>(
-    alloc: Global,
-    words: &'a [String],
-    version: &'a str,
-) -> Result<Task<'a>, Misread>
+pub fn read<'a>(alloc: Global, words: &'a [String], version: &'a str) -> Result<Task<'a>, Misread>
     ensures { IsReadBy spec.hgd (texts words.entry.now) result }
 {
     match matches(alloc, words, version) {

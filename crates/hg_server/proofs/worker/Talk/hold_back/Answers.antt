@@ -19,4 +19,4 @@ pub returns : goal.returns
 returns g c =
     let replies = c.args.replies.now in
     let items = c.loop-reply.self.replies.items in
-    record { all = λ is. sym (append-nil items) ∙ ap (λ (l : List Reply). items ++ replies_text l) (sym (drop_all c.loop-reply.reply-index replies (omega arith))) ∙ c.loop-reply.invariant; }
+    record { all = λ is. sym (append-nil items) ∙ ap (λ (l : List Reply). items ++ replies_text l) (sym (drop_all c.loop-reply.reply-index replies (omega arith))) ∙ c.loop-reply.invariant }
