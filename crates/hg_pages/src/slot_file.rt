@@ -5,7 +5,7 @@ ghost use Rattle.hg_disk.specs.State.{after_sync, counted};
 ghost use Rattle.hg_disk.specs.Moments.{AddsNoImage, IsNeverShorter};
 ghost use Rattle.hg_disk.specs.Calls.{CallsAtMost};
 ghost use Rattle.hg_pages.specs.Slots.{AreKnown, HasBytes, IsOutside};
-ghost use Rattle.hg_pages.specs.Tables.{IsLeastFree, IsLeastFreeFrom, SomeNames};
+ghost use Rattle.hg_pages.specs.Tables.{EachNamed, IsLeastFree, IsLeastFreeFrom, SomeNames};
 ghost use Rattle.hg_pages.specs.Fault.{failures_after, failures_after_write};
 ghost use Rattle.hg_pages.specs.declared.fault.SlotFault.TheVariants.{Damaged};
 
@@ -22,16 +22,20 @@ use std::snapshot::Snapshot;
 /// The most slots that may be named.
 pub const MOST_SLOTS: u32 = 1_048_576;
 
-// Whether one of the tables names the slot.
-fn is_named(tables: &[&Table], slot: u32) -> bool
-    ensures { IsTrue result ↔ SomeNames (map (λ t. t.now) tables.now) slot }
+// The end of a run of slots from this one on that one of the tables names, or this slot if none of them names it.
+fn end_of_run(tables: &[&Table], from: u32) -> u32
+    requires { from ≤ MOST_SLOTS }
+    ensures within { (from ≤ result) × (result ≤ MOST_SLOTS) }
+    ensures named { EachNamed (SomeNames (map (λ t. t.now) tables.now)) from result }
+    ensures free { result ≡ from → from < MOST_SLOTS → ¬ SomeNames (map (λ t. t.now) tables.now) from }
 {
     for table in tables {
-        if table.names(slot) {
-            return true;
+        let end = table.end_of_named(from, MOST_SLOTS);
+        if end > from {
+            return end;
         }
     }
-    false
+    from
 }
 
 // A sync, which adds no image.
@@ -115,14 +119,18 @@ impl<D: Disk> SlotFile<D> {
     }
 
     /// The least slot from this one on that none of the tables names. To pick several slots, start each search behind the
-    /// last one found: then no slot is looked at twice. It makes no device call.
+    /// last one found: then no slot is looked at twice. A run of slots that one table names is passed over at once. It makes
+    /// no device call.
     pub fn free_slot_from(&self, from: u32, tables: &[&Table]) -> Option<u32>
         ensures { IsLeastFreeFrom from (map (λ t. t.now) tables.now) MOST_SLOTS result }
     {
-        for slot in from..MOST_SLOTS {
-            if !is_named(tables, slot) {
+        let mut slot = from;
+        while slot < MOST_SLOTS {
+            let end = end_of_run(tables, slot);
+            if end == slot {
                 return Some(slot);
             }
+            slot = end;
         }
         None
     }

@@ -2,7 +2,7 @@
 ghost use Rattle.std.specs.Prelude.{◌≡◌, ◌+◌, ◌≤◌, ◌<◌, ◌↔◌, ℕ, [], Some, length, is_some, slice_index_or, false, IsTrue, IsOk, OnOk, OnErr, IfOk, if◌then◌else◌};
 ghost use Rattle.std.specs.Option.{ForSome};
 ghost use Rattle.hg_pages.specs.Marks.{cleared, marked};
-ghost use Rattle.hg_pages.specs.Tables.{AreEntries, GivesSlot, GrowsByNew, IsNamed, LosesPage, slot_in};
+ghost use Rattle.hg_pages.specs.Tables.{AreEntries, EachNamed, GivesSlot, GrowsByNew, IsNamed, LosesPage, slot_in};
 
 use crate::entries::{find, put, take_out};
 use crate::gap_buffer::GapBuffer;
@@ -104,11 +104,27 @@ impl Table {
     }
 
     /// Whether a page lies in the slot.
+    #[inline]
     pub fn names(&self, slot: u32) -> bool
         ensures { IsTrue result ↔ IsNamed self.now.entries slot }
     {
         let slot = slot as usize;
         slot < self.named.len() && self.named[slot]
+    }
+
+    /// The first slot from this one on and below `most` in which no page lies, or `most` if each has a page.
+    pub(crate) fn end_of_named(&self, from: u32, most: u32) -> u32
+        requires { from ≤ most }
+        ensures within { (from ≤ result) × (result ≤ most) }
+        ensures named { EachNamed (IsNamed self.now.entries) from result }
+        ensures end { result < most → ¬ IsNamed self.now.entries result }
+    {
+        for slot in from..most {
+            if !self.names(slot) {
+                return slot;
+            }
+        }
+        most
     }
 
     /// Makes room for `more` more entries, and for slots below `slots`. An `Err` leaves the entries as they are.
