@@ -28,7 +28,7 @@ join-first-requires-send-F g c κs within =
         heap.the_send,
         (
           shr_send _ κs.1.1.1.1.1.1.1.0 _ shared,
-          (own, (shr_send _ κs.1.1.1.1.1.1.1.1.0 _ (meeting.the_sync _ (param 3 g.row.R) clock_there), (shr_send _ κs.1.1.1.1.1.1.1.1.1.0 _ terms.the_sync, (nudges, (due.the_send, tt))))),
+          (own, (shr_send _ κs.1.1.1.1.1.1.1.1.0 _ (meeting.the_sync _ (param 3 g.row.R) clock_there), (shr_send _ κs.1.1.1.1.1.1.1.1.1.1.0 _ terms.the_sync, (nudges, (due.the_send, tt))))),
         ),
       ),
     )))
