@@ -1,5 +1,5 @@
 -- What the answers to frames tell the share.
-use Rattle.std.proofs.Common.{◌≡◌, ◌+◌, ◌≤◌, inl, inr, ℕ, List, [], ◌∷◌, length, Bool, true, false, cond, Result, Ok, Err, IsTrue, arith, ap, refl, ◌∙◌}
+use Rattle.std.proofs.Common.{◌≡◌, ◌+◌, ◌≤◌, inl, inr, ℕ, List, [], ◌∷◌, length, Bool, true, false, cond, nat_lt, Result, Ok, Err, IsTrue, arith, ap, refl, ◌∙◌}
 use Rattle.hg_model.specs.Contents.{Content}
 use Rattle.hg_model.specs.declared.verdict.Refusal.{Refusal}
 use Rattle.hg_model.specs.declared.verdict.Refusal.TheVariants.{BadNumber, Broken}
@@ -12,10 +12,11 @@ use Rattle.hg_protocol.specs.declared.reply.Reply.{Reply}
 use Rattle.hg_protocol.specs.declared.reply.Reply.TheVariants.{Welcome}
 use Rattle.hg_store.specs.declared.steps.StepResult.{StepResult}
 use Rattle.hg_store.specs.declared.steps.StepResult.TheVariants.{Committed, Offered}
+use Rattle.hg_store.specs.declared.store.TheConstants.{MOST_PENDING}
 use Rattle.hg_store.specs.Shown.{ShownStore, live}
 use Rattle.hg_desk.specs.declared.desk.Stage.{Stage}
 use Rattle.hg_desk.specs.declared.desk.Stage.TheVariants.{Greeting, Talking, Over}
-use Rattle.hg_desk.specs.Conversation.{Answers, Converses, ReportsAnswer, ToldAccepted, accepted_by, accepted_by_all, commit_reply, offer_reply, refused}
+use Rattle.hg_desk.specs.Conversation.{Answers, AnswersTurn, Converses, ReportsAnswer, Still, ToldAccepted, WasCommitted, accepted_by, accepted_by_all, commit_reply, offer_reply, refused}
 use Rattle.hg_desk.specs.Told.{StepTold, Told, taken}
 
 -- ---- one frame
@@ -100,3 +101,25 @@ module _ {D : Type 0} (g : disk.Ghosts D) where
   replies_count stage old new told after (frame ∷ frames) to (reply ∷ replies) is = let rest = replies_count is.2 is.0 new is.1 after frames to replies is.4 in omega (arith, rest)
   replies_count stage old new told after [] to (reply ∷ replies) is = absurd is
   replies_count stage old new told after (frame ∷ frames) to [] is = absurd is
+
+  -- ---- a turn
+
+  room_told : (is_full : Bool) (old new : ShownStore D) (told after : Told) → cond is_full (WasCommitted g old new told after) (Still old new told after) → ToldAccepted g.is_honest told after 0
+  room_told true old new told after is = step_told g.is_honest told after (Committed is.0) 0 is.1.told_of refl
+  room_told false old new told after is = none_told g.is_honest told after 0 is.1 refl
+
+  pub turn_told : (stage : Stage) (old new : ShownStore D) (told after : Told) (frames : List Frame) (to : Stage) (replies : List Reply) → AnswersTurn g stage old new told after frames to replies
+      → ToldAccepted g.is_honest told after (accepted_by_all replies)
+  turn_told stage old new told after frames to replies is =
+      let room = room_told (nat_lt MOST_PENDING (length old.pending + length frames)) old is.0 told is.1 is.2 in
+      let rest = replies_told stage is.0 new is.1 after frames to replies is.3 in
+      record {
+        accepted = λ honest. let a = room.accepted honest in let b = rest.accepted honest in omega (arith, a, b);
+        at_most = let a = room.at_most in let b = rest.at_most in omega (arith, a, b);
+        at_least = let a = room.at_least in let b = rest.at_least in omega (arith, a, b);
+        durable = let a = room.durable in let b = rest.durable in omega (arith, a, b);
+      }
+
+  pub turn_count : (stage : Stage) (old new : ShownStore D) (told after : Told) (frames : List Frame) (to : Stage) (replies : List Reply) → AnswersTurn g stage old new told after frames to replies
+      → length replies ≡ length frames
+  turn_count stage old new told after frames to replies is = replies_count stage is.0 new is.1 after frames to replies is.3

@@ -17,6 +17,7 @@ use Rattle.hg_protocol.specs.declared.lines.ReportLines.{ReportLines}
 use Rattle.hg_protocol.specs.Spelling.{FitsFrames}
 use Rattle.hg_store.specs.declared.steps.Step.TheVariants.{Offer, Commit}
 use Rattle.hg_store.specs.declared.steps.StepResult.TheVariants.{Offered, Committed}
+use Rattle.hg_store.specs.declared.store.TheConstants.{MOST_PENDING}
 use Rattle.hg_store.specs.Shown.{ShownStore, live}
 use Rattle.hg_desk.specs.declared.desk.Stage.{Stage}
 use Rattle.hg_desk.specs.declared.turn.TheConstants.{MOST_TURN}
@@ -143,13 +144,26 @@ Converses {D} g stage old new told told_after (frame ∷ frames) to (reply ∷ r
 Converses g stage old new told told_after [] to (reply ∷ replies) = ⊥
 Converses g stage old new told told_after (frame ∷ frames) to [] = ⊥
 
+-- One commit was made.
+abbrev pub WasCommitted : {D : Type 0} → disk.Ghosts D → (old new : ShownStore D) → (told told_after : Told) → Type 0
+WasCommitted g old new told told_after = (result : Result ℕ Refusal) × StepKept g old new told told_after Commit (Committed result)
+
+-- Where so many more events fit behind those that wait for a commit, nothing is done, and else one commit is made.
+abbrev pub MakesRoom : {D : Type 0} → disk.Ghosts D → ℕ → (old new : ShownStore D) → (told told_after : Told) → Type 0
+MakesRoom g more old new told told_after = cond (nat_lt MOST_PENDING (length old.pending + more)) (WasCommitted g old new told told_after) (Still old new told told_after)
+
+-- Room for as many events as there are frames is made in the store. Then the frames are answered one after another.
+abbrev pub AnswersTurn : {D : Type 0} → disk.Ghosts D → Stage → (old new : ShownStore D) → (told told_after : Told) → List Frame → Stage → List Reply → Type 0
+AnswersTurn {D} g stage old new told told_after frames to replies =
+    (mid : ShownStore D) × (between : Told) × MakesRoom g (length frames) old mid told between × Converses g stage mid new between told_after frames to replies
+
 -- Where there was room for the replies, the frames are answered so.
 abbrev pub Conversed : {D Z E : Type 0} → disk.Ghosts D → Stage → (old new : ShownStore D) → (told told_after : Told) → List Frame → Stage → Result (Vec Reply Z) E → Type 0
-Conversed g stage old new told told_after frames to result = IfOk result (λ replies. Converses g stage old new told told_after frames to replies.items)
+Conversed g stage old new told told_after frames to result = IfOk result (λ replies. AnswersTurn g stage old new told told_after frames to replies.items)
 
 -- The same, where the stage is answered too.
 abbrev pub TurnKept : {D Z E : Type 0} → disk.Ghosts D → Stage → (old new : ShownStore D) → (told told_after : Told) → List Frame → Result (Stage × Vec Reply Z) E → Type 0
-TurnKept g stage old new told told_after frames result = IfOk result (λ r. Converses g stage old new told told_after frames r.0 r.1.items)
+TurnKept g stage old new told told_after frames result = IfOk result (λ r. AnswersTurn g stage old new told told_after frames r.0 r.1.items)
 
 -- Nothing was changed where memory was refused.
 abbrev pub StillOnErr : {D T E : Type 0} → (old new : ShownStore D) → (told told_after : Told) → Result T E → Type 0

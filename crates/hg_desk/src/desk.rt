@@ -1,9 +1,9 @@
 //! One conversation with a client.
 
-ghost use Rattle.std.specs.Prelude.{◌≡◌, All, IfOk, OnErr};
+ghost use Rattle.std.specs.Prelude.{◌≡◌, ◌≤◌, All, IfOk, OnErr, [], length, vec_capacity};
 ghost use Rattle.hg_protocol.specs.Spelling.{FitsFrames};
 ghost use Rattle.hg_store.specs.Shown.{live};
-ghost use Rattle.hg_desk.specs.Conversation.{Answers, Commits, Conversed, Greets, Offers, Talks, expected_of, hello_reply, offer_reply, refused as refused_reply, stage_after_hello};
+ghost use Rattle.hg_desk.specs.Conversation.{Answers, Commits, Conversed, Converses, Greets, Offers, Talks, expected_of, hello_reply, offer_reply, refused as refused_reply, stage_after_hello};
 ghost use Rattle.hg_desk.specs.Told.{Told};
 
 use crate::locked::Core;
@@ -98,7 +98,30 @@ impl Desk {
         reply
     }
 
-    /// Answers frames in their order. Room for the replies is made first: where it is refused, nothing was changed.
+    /// Answers frames in their order, and appends the replies.
+    fn answer_each<D: Disk, A: Opening, B: Column>(
+        &mut self,
+        alloc: Global,
+        core: &mut Core<D, A, B>,
+        share: &mut Share<A, B>,
+        frames: &[Frame],
+        replies: &mut Vec<Reply>,
+    )
+        requires none { replies.old.items ≡ [] }
+        requires room { length frames.now ≤ vec_capacity replies.old }
+        ensures answered { Converses ⟦<D as Disk>⟧ self.old core.old core.new share.old share.new frames.now
+            self.new replies.new.items }
+        ensures fits { All FitsFrames replies.new.items }
+    {
+        for frame in frames {
+            replies.push_reserved(self.answer(alloc, core, share, frame));
+        }
+    }
+
+    /// Answers frames in their order. Room for the replies is made first: where it is refused, nothing was changed. Then room for as many
+    /// events is made in the store: where so many do not fit behind those that wait for a commit, one is made. So no client is refused for
+    /// what others have not asked for yet. Nobody is told what that commit answers; one that fails breaks the store, which the offers
+    /// behind it tell.
     pub fn answer_all<D: Disk, A: Opening, B: Column>(
         &mut self,
         alloc: Global,
@@ -113,9 +136,8 @@ impl Desk {
         let Ok(mut replies) = Vec::with_capacity(alloc, frames.len()) else {
             return Err(AllocError);
         };
-        for frame in frames {
-            replies.push_reserved(self.answer(alloc, core, share, frame));
-        }
+        core.make_room(share, frames.len());
+        self.answer_each(alloc, core, share, frames, &mut replies);
         Ok(replies)
     }
 }

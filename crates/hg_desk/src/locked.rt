@@ -8,7 +8,7 @@ ghost use Rattle.hg_store.specs.Journal.{failed_after};
 ghost use Rattle.hg_store.specs.Shown.{HasCounted, live};
 ghost use Rattle.hg_store.specs.Store.{Backs};
 ghost use Rattle.hg_desk.specs.Blanks.{IsBlankOf};
-ghost use Rattle.hg_desk.specs.Conversation.{ReportsAnswer};
+ghost use Rattle.hg_desk.specs.Conversation.{MakesRoom, ReportsAnswer};
 ghost use Rattle.hg_desk.specs.Going.{began};
 ghost use Rattle.hg_store.specs.declared.steps.Step.TheVariants as step;
 ghost use Rattle.hg_store.specs.declared.steps.StepResult.TheVariants as told;
@@ -286,6 +286,15 @@ impl<D: Disk, A: Opening, B: Column> Core<D, A, B> {
             durable_by_commit(before, &answer),
         );
         answer
+    }
+
+    /// Commits where so many more events do not fit behind those that wait for a commit.
+    pub(crate) fn make_room(&mut self, share: &mut Share<A, B>, more: usize)
+        ensures { MakesRoom ⟦<D as Disk>⟧ more self.old self.new share.old share.new }
+    {
+        if more > self.store.room() {
+            let _ = self.commit(share);
+        }
     }
 
     /// The step `Freeze`.

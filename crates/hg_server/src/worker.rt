@@ -139,8 +139,8 @@ impl<'a, S> Talk<'a, S> {
         true
     }
 
-    /// Answers a turn of frames under one hold of the lock, and holds the replies back. Tells whether the conversation goes on, as
-    /// `hold_back` does. It ends too where no memory is left for the list of replies.
+    /// Answers a turn of frames under one hold of the lock, and holds the replies back. Where the turn made events durable, it nudges the
+    /// flusher. Tells whether the conversation goes on, as `hold_back` does. It ends too where no memory is left for the list of replies.
     fn answer<D: Disk, A: Opening, B: Column, G, R: Wait>(
         &mut self,
         seat: &mut Seat<D, A, B, G, R>,
@@ -154,10 +154,14 @@ impl<'a, S> Talk<'a, S> {
             desk: replace(&mut self.desk, Desk::new()),
             frames: turn,
         };
+        let durable = seat.share.durable();
         let Ok((desk, replies)) = seat.shared.hold(seat.rt, &mut seat.share, task) else {
             return false;
         };
         self.desk = desk;
+        if durable < seat.share.durable() {
+            self.nudge(seat.rt);
+        }
         self.hold_back(seat.rt, replies.as_slice())
     }
 }

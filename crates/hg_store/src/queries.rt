@@ -1,6 +1,6 @@
 //! The queries of a store.
 
-ghost use Rattle.std.specs.Prelude.{◌≡◌, ◌≢◌, ◌⊎◌, ◌+◌, ◌-◌, ◌*◌, Ok, Err, false, IsTrue, OnOk, IfOk, IfErr};
+ghost use Rattle.std.specs.Prelude.{◌≡◌, ◌≢◌, ◌⊎◌, ◌+◌, ◌-◌, ◌*◌, Ok, Err, false, length, IsTrue, OnOk, IfOk, IfErr};
 ghost use Rattle.hg_model.specs.ThreadSets.{HasThreadSets};
 ghost use Rattle.hg_journal.specs.Journal.{IsOfReading, failed_after};
 ghost use Rattle.hg_store.specs.Shown.{HasCounted, IsSameButJournal, broken_or_no_memory, live, phase_of, unless_broken};
@@ -8,7 +8,7 @@ ghost use Rattle.hg_store.specs.Store.{Backs, HasFoundEvents, HasItsNumber, Jour
 ghost use Rattle.hg_store.specs.Images.{FailuresBecome, KeepImages};
 
 use crate::steps::StorePhase;
-use crate::store::Store;
+use crate::store::{MOST_PENDING, Store};
 use hg_disk::Disk;
 use hg_journal::collect::collect;
 use hg_model::event::Named;
@@ -46,6 +46,13 @@ impl<D: Disk> Store<D> {
             return Err(Refusal::Broken);
         }
         Ok(self.durable)
+    }
+
+    /// How many more events may be accepted before a commit.
+    pub fn room(&self) -> usize
+        ensures { result + length self.now.pending ≡ MOST_PENDING }
+    {
+        MOST_PENDING - self.pending.len()
     }
 
     /// The last accepted number of a source, 0 if it sent nothing.

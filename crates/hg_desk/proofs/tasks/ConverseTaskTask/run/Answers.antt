@@ -1,9 +1,9 @@
-use Rattle.hg_desk.proofs.Turns.{replies_count, replies_told}
+use Rattle.hg_desk.proofs.Turns.{turn_count, turn_told}
 use Rattle.hg_desk.proofs.tasks.ConverseTaskTask.run.Goals as goal
 
 pub returns-in-Ok-clause-promise : goal.returns-in-Ok-clause-promise
 returns-in-Ok-clause-promise g c = record {
-  count = replies_count g.D.Disk c.args.self.desk c.args.core.now c.answer_all.new.core c.args.share.now c.answer_all.new.share c.args.self.frames.now c.answer_all.new.self c.in-Ok.replies.items c.in-Ok.ensures.ok;
+  count = turn_count g.D.Disk c.args.self.desk c.args.core.now c.answer_all.new.core c.args.share.now c.answer_all.new.share c.args.self.frames.now c.answer_all.new.self c.in-Ok.replies.items c.in-Ok.ensures.ok;
   fits = c.in-Ok.ensures.fits;
-  share = replies_told g.D.Disk c.args.self.desk c.args.core.now c.answer_all.new.core c.args.share.now c.answer_all.new.share c.args.self.frames.now c.answer_all.new.self c.in-Ok.replies.items c.in-Ok.ensures.ok;
+  share = turn_told g.D.Disk c.args.self.desk c.args.core.now c.answer_all.new.core c.args.share.now c.answer_all.new.share c.args.self.frames.now c.answer_all.new.self c.in-Ok.replies.items c.in-Ok.ensures.ok;
 }
