@@ -113,7 +113,7 @@ takes_broken old new calls reading y asked steps memory = record {
   front = λ x is first goal due n later last end h counted.
       let more = life old.asked.word old.asked.form (content_of old.detector) old.more n ((reading ∷ []) ++ later) in
       front_more first calls goal more (goal ++ more) refl (front_due first calls old.held.items [] goal due);
-  cause = λ x is. let same : y ≡ x = cc in inl (sym same ∙ memory);
+  cause = λ x is. let same : y ≡ x = cc in inl (sym same ∙ memory, refl);
   failures = none_failed (Err y) (failed_writes calls) memory;
 }
 

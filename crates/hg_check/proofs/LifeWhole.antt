@@ -23,7 +23,7 @@ use Rattle.hg_reading.specs.Endings.{ending_of}
 use Rattle.hg_streams.specs.Written.{TookFront}
 use Rattle.hg_reading.proofs.Inputs.{begins_with}
 use Rattle.hg_check.proofs.Ends.{ends_by, from_fresh, passed_to, text_leads}
-use Rattle.hg_streams.proofs.Inputs.{none_refused}
+use Rattle.hg_streams.proofs.Inputs.{none_failed}
 use Rattle.hg_streams.proofs.Printed.{front_due, front_more}
 use Rattle.hg_check.proofs.Whole.{cause_by_read, cause_of}
 use Rattle.hg_check.specs.declared.explain.explaining.Explaining.{Explaining}
@@ -147,7 +147,7 @@ broke first now s t o p begun x fresh reads due =
 
 pub broke_cause : (first now : List ReadCall) (s t : Explaining) (o p : List WriteCall) (x : Refusal) → Reads ExplainsLines first now s o (Err x) t p → HasCause first now o p x
 broke_cause first now s t o p x reads =
-    ⊎_elim (λ w. cause_of first now o p x (none_refused first now w.later w.since w.intact) (w.steps.cause x refl)) (λ w. cause_by_read ExplainsLines first now s t o p x w) reads
+    ⊎_elim (λ w. cause_of first now o p x (none_failed first now w.later w.since w.intact) (w.steps.cause x refl)) (λ w. cause_by_read ExplainsLines first now s t o p x w w.steps.failures) reads
 
 -- ---- a text in memory
 

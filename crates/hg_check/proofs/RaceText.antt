@@ -11,7 +11,7 @@ use Rattle.hg_streams.specs.Written.{Took, TookFront}
 use Rattle.hg_model.specs.declared.verdict.Refusal.{Refusal}
 use Rattle.hg_streams.specs.Faults.{HasCause, HasWriteCause}
 use Rattle.hg_streams.specs.Holding.{IsDue}
-use Rattle.hg_streams.proofs.Inputs.{none_refused}
+use Rattle.hg_streams.proofs.Inputs.{none_failed}
 use Rattle.hg_streams.proofs.Printed.{appends_none, front_none}
 use Rattle.hg_reading.specs.declared.ending.Ending.{Ending}
 use Rattle.hg_reading.specs.declared.ending.Ending.TheVariants.{Ended, Refused, Bad}
@@ -101,13 +101,13 @@ life_settled input asked old new last end leads front c stop l =
 pub write_cause : (old new : List WriteCall) (r : Refusal) → HasCause [] [] old new r → HasWriteCause old new r
 write_cause old new r h =
     ⊎_elim
-    (λ memory. inl memory)
+    (λ memory. inl (memory.0, memory.1.1))
     (λ device. inr (device.0, ⊎_elim (λ read. absurd (⊎_elim (λ one. omega (arith, one)) (λ many. omega (arith, many)) read)) (λ written. written) device.1.1))
     h
 
 pub any_cause : (first now : List ReadCall) (input : List ℕ) (old new : List WriteCall) (r : Refusal) → IsKept first now input → HasWriteCause old new r → HasCause first now old new r
 any_cause first now input old new r h cause =
-    cause_of first now old new r (none_refused first now (Gave [] ∷ h.kept.earlier) (h.met ∙ ap (λ xs. Gave [] ∷ xs) h.kept.since) h.kept.intact) cause
+    cause_of first now old new r (none_failed first now (Gave [] ∷ h.kept.earlier) (h.met ∙ ap (λ xs. Gave [] ∷ xs) h.kept.since) h.kept.intact) cause
 
 -- all is held and nothing written
 pub due_held : (old : List WriteCall) (held : List ℕ) → IsDue old old held [] held

@@ -55,7 +55,7 @@ takes_line old new calls reading r steps memory listing printed held = record {
     due = subst (λ items. IsDue first calls items [] (live_text new.listing p.before)) (sym held) (subst (λ l. IsDue first calls old.held.items [] (live_text l p.before)) (sym listing) p.due);
   };
   front = λ x is first p. front_grown first calls p.before (content_of old.detector) (content_of new.detector) old.listing p.grow steps.reports (front_due first calls old.held.items [] (live_text old.listing p.before) p.due);
-  cause = λ x is. inl (memory_alone r memory x is);
+  cause = λ x is. inl (memory_alone r memory x is, refl);
   failures = none_failed r (failed_writes calls) memory;
 }
 

@@ -12,8 +12,8 @@ use Rattle.hg_cells.specs.declared.paged.PagedWords.{PagedWords}
 use Rattle.hg_detect.specs.Memory.{content_of}
 use Rattle.hg_streams.specs.declared.call.ReadCall.{ReadCall}
 use Rattle.hg_streams.specs.declared.call.WriteCall.{WriteCall}
-use Rattle.hg_streams.specs.Calls.{NoneRefused, failed_reads, refused_reads}
-use Rattle.hg_streams.proofs.Inputs.{failed_reads_on, none_refused, refused_reads_on}
+use Rattle.hg_streams.specs.Calls.{NoneFailedSince, failed_reads, refused_reads}
+use Rattle.hg_streams.proofs.Inputs.{failed_reads_on, none_failed, refused_reads_on}
 use Rattle.hg_wire.specs.declared.reader.Reading.{Reading}
 use Rattle.hg_reading.specs.Taking.{ReadBroke, Reads, Taking, WasRead}
 use Rattle.hg_reading.specs.declared.ending.Ending.{Ending}
@@ -81,8 +81,8 @@ all_printed s first now all p =
 
 -- ---- a run that was broken off
 
-pub cause_of : (reads now : List ReadCall) (before after : List WriteCall) (x : Refusal) → NoneRefused reads now → HasWriteCause before after x → HasCause reads now before after x
-cause_of reads now before after x none h = ⊎_elim (λ memory. inl memory) (λ failed. inr (failed.0, (none, inr failed.1))) h
+pub cause_of : (reads now : List ReadCall) (before after : List WriteCall) (x : Refusal) → NoneFailedSince reads now → HasWriteCause before after x → HasCause reads now before after x
+cause_of reads now before after x none h = ⊎_elim (λ memory. inl (memory.0, (none.0, memory.1))) (λ failed. inr (failed.0, (none.1, inr failed.1))) h
 
 due_of : (s t : Checking) (o p : List WriteCall) (lines : List Reading) (listing : Listing) → IsFresh listing s → ChecksLines s o lines (Ok None) t p → IsPrinted o t p
 due_of s t o p lines listing fresh h = h.printed (no_error None) o (printed_first listing s o fresh)
@@ -92,10 +92,10 @@ front_printed t first now p =
     let more = live_text_grows t.listing p.before (content_of t.detector) p.grow in
     front_more first now (live_text t.listing p.before) more.0 (live_text t.listing (content_of t.detector)) more.1 (front_due first now t.held.items [] (live_text t.listing p.before) p.due)
 
-pub cause_by_read : {S : Type 0} (takes : Taking S Ending) (first now : List ReadCall) (s t : S) (o p : List WriteCall) (x : Refusal) → ReadBroke takes first now s o x t p → HasCause first now o p x
-cause_by_read takes first now s t o p x w =
+pub cause_by_read : {S : Type 0} (takes : Taking S Ending) (first now : List ReadCall) (s t : S) (o p : List WriteCall) (x : Refusal) → ReadBroke takes first now s o x t p → failed_writes p ≡ 0 + failed_writes o → HasCause first now o p x
+cause_by_read takes first now s t o p x w written =
     ⊎_elim
-    (λ memory. inl memory.0)
+    (λ memory. inl (memory.0, (omega (arith, memory.1.0, ap failed_reads w.since, failed_reads_on w.later first), omega (arith, written))))
     (λ failed. inr (
       failed.0,
       (
@@ -114,12 +114,12 @@ broke listing first now s t o p x fresh reads =
     ⊎_elim
     (λ w. (
       wrote_live s.listing first now o p (content_of t.detector) (reports_read first now s.detector t.detector o p (Err x) fresh.start (seen first now s t o p (Err x) w)) (w.steps.front x refl o (printed_first listing s o fresh)),
-      cause_of first now o p x (none_refused first now w.later w.since w.intact) (w.steps.cause x refl),
+      cause_of first now o p x (none_failed first now w.later w.since w.intact) (w.steps.cause x refl),
     ))
     (λ w. (
       wrote_live s.listing first now o p (content_of t.detector) (reports_broke first now s.detector t.detector o p x fresh.start (seen_broke first now s t o p x w))
           (subst (λ l. TookFront o p (live_text l (content_of t.detector))) w.steps.listing (front_printed t o p (due_of s t o p w.lines listing fresh w.steps))),
-      cause_by_read ChecksLines first now s t o p x w,
+      cause_by_read ChecksLines first now s t o p x w w.steps.failures,
     ))
     reads
 
@@ -133,7 +133,7 @@ broke_printing listing first now s t u o p q stop x fresh w h same = (
   wrote_live s.listing first now o q (content_of t.detector) (reports_read first now s.detector t.detector o p (Ok stop) fresh.start (seen first now s t o p (Ok stop) w))
       (subst (λ l. TookFront o q (live_text l (content_of t.detector))) w.steps.listing
       (subst (λ (d : Detector PagedWords). TookFront o q (live_text t.listing (content_of d))) same (h.front x refl o (w.steps.printed (no_error stop) o (printed_first listing s o fresh))))),
-  cause_of first now o q x (none_refused first now w.later w.since w.intact) (⊎_elim (λ memory. inl memory) (λ failed. inr (failed.0, omega (arith, failed.1, w.steps.failures))) (h.cause x refl)),
+  cause_of first now o q x (none_failed first now w.later w.since w.intact) (⊎_elim (λ memory. inl (memory.0, omega (arith, memory.1, w.steps.failures))) (λ failed. inr (failed.0, omega (arith, failed.1, w.steps.failures))) (h.cause x refl)),
 )
 
 -- all reports were printed or are held

@@ -58,7 +58,7 @@ takes_none s calls = record {
 }
 
 pub cause_on : (a b c : List WriteCall) (x : Refusal) → failed_writes b ≡ 0 + failed_writes a → HasWriteCause b c x → HasWriteCause a c x
-cause_on a b c x same h = ⊎_elim (λ memory. inl memory) (λ failed. inr (failed.0, omega (arith, same, failed.1))) h
+cause_on a b c x same h = ⊎_elim (λ memory. inl (memory.0, omega (arith, same, memory.1))) (λ failed. inr (failed.0, omega (arith, same, failed.1))) h
 
 pub takes_on : (a b c : Checking) (at_a at_b at_c : List WriteCall) (first later : List Reading) (r : Result (Option Ending) Refusal)
     → ChecksLines a at_a first (Ok None) b at_b → ChecksLines b at_b later r c at_c → ChecksLines a at_a (first ++ later) r c at_c

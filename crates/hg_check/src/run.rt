@@ -3,7 +3,7 @@
 ghost use Rattle.std.specs.Prelude.{IfErr, IfOk, OnOk};
 ghost use Rattle.hg_check.specs.Printing.{LeavesFront, ReadsTo};
 ghost use Rattle.hg_check.specs.Running.{live_part};
-ghost use Rattle.hg_streams.specs.Calls.{NoneRefused};
+ghost use Rattle.hg_streams.specs.Calls.{NoneFailedSince};
 ghost use Rattle.hg_streams.specs.Faults.{HasCause};
 ghost use Rattle.hg_check.specs.Taking.{HasPrinted, IsFresh};
 ghost use Rattle.hg_detect.specs.Memory.{content_of};
@@ -33,7 +33,7 @@ pub fn run<T: Threads + Sync, R: Read, W: Write>(
     ensures printed { OnOk result (HasPrinted output.old.calls output.new.calls checking.old.listing checking.new) }
     ensures front { LeavesFront result (live_part checking.old.listing) input.old input.new output.old output.new }
     ensures cause { IfErr result (HasCause input.old.calls input.new.calls output.old.calls output.new.calls) }
-    ensures memory { OnOk result (NoneRefused input.old.calls input.new.calls) }
+    ensures memory { OnOk result (NoneFailedSince input.old.calls input.new.calls) }
 {
     let alloc = checking.alloc;
     let stop = read_side_by_side(rt, jobs, alloc, input, checking, output)?;

@@ -51,7 +51,7 @@ cant_read first reads now bytes kind r is failed refused fault h =
       later = Erred kind ∷ h.earlier;
       since = is ∙ ap (λ xs. Erred kind ∷ xs) h.since;
       cause = ⊎_elim
-          (λ memory. inl memory)
+          (λ memory. inl (memory, omega (arith, failed, ap told_refusal memory, before.0)))
           (λ device. inr (
             device,
             (omega (arith, refused, ap lacked_refusal device, before.1), inl (omega (arith, failed, ap told_refusal device, before.0))),
@@ -69,7 +69,7 @@ cant_go_on first now bytes reads counted many h = record {
 
 -- memory was refused
 pub cant_hold : (first now : List ReadCall) (bytes : List ℕ) (r : Refusal) → r ≡ OutOfMemory → HasKept first now bytes → CantKeep first now r
-cant_hold first now bytes r memory h = record { later = h.earlier; since = h.since; cause = inl memory }
+cant_hold first now bytes r memory h = record { later = h.earlier; since = h.since; cause = inl (memory, (none_so_far first now bytes h).0) }
 
 -- the last read met the end
 pub kept_all : (first reads now : List ReadCall) (bytes : List ℕ) → now ≡ Gave [] ∷ reads → HasKept first reads bytes → IsKept first now bytes

@@ -5,7 +5,7 @@ use Rattle.hg_model.specs.declared.verdict.Refusal.TheVariants.{DeviceFault, Out
 use Rattle.hg_streams.specs.declared.call.ReadCall.{ReadCall}
 use Rattle.hg_streams.specs.declared.call.ReadCall.TheVariants.{Gave}
 use Rattle.hg_streams.specs.declared.call.WriteCall.{WriteCall}
-use Rattle.hg_streams.specs.Calls.{NoneFailed, NoneRefused, ends_met, given}
+use Rattle.hg_streams.specs.Calls.{NoneFailed, NoneRefused, ends_met, failed_reads, given}
 use Rattle.hg_streams.specs.Faults.{ReadFailed}
 use Rattle.hg_wire.specs.declared.reader.Reading.{Reading}
 use Rattle.hg_wire.specs.Streams.{readings}
@@ -26,11 +26,11 @@ pub record IsKept (first now : List ReadCall) (bytes : List ℕ) : Type 0 where
   pub met : now ≡ Gave [] ∷ before
   pub kept : HasKept first before bytes
 
--- Why an input could not be kept: memory was refused, or a read failed or too many were made.
+-- Why an input could not be kept: memory was refused where no read failed, or a read failed or too many were made.
 pub record CantKeep (old new : List ReadCall) (r : Refusal) : Type 0 where
   pub later : List ReadCall
   pub since : new ≡ later ++ old
-  pub cause : (r ≡ OutOfMemory) ⊎ ((r ≡ DeviceFault) × (NoneRefused old new × ReadFailed old new))
+  pub cause : ((r ≡ OutOfMemory) × (failed_reads new ≡ failed_reads old)) ⊎ ((r ≡ DeviceFault) × (NoneRefused old new × ReadFailed old new))
 
 -- The lines of a whole text were offered: all of them, or a front of them, the last of which ended the run or was broken off.
 pub record TakesText {S E : Type 0} (takes : Taking S E) (bytes : List ℕ) (before : S) (at_first : List WriteCall) (r : Result (Option E) Refusal) (here : S) (at_last : List WriteCall) : Type 0 where

@@ -2,7 +2,7 @@
 use Rattle.std.proofs.Common.{◌≡◌, ℕ, ◌+◌, ◌<◌, Result, Ok, Err, OnErr, OnOk, List, [], ◌∷◌, ◌++◌, drop, arith, inl, inr, ⊎_elim, refl, sym, ap, subst, ◌∙◌}
 use Rattle.std.proofs.lemmas.List.{append-nil, append_assoc}
 use Rattle.hg_streams.specs.declared.call.WriteCall.{WriteCall}
-use Rattle.hg_streams.specs.Calls.{NoneRefused, failed_writes, taken, torn}
+use Rattle.hg_streams.specs.Calls.{NoneFailedSince, failed_writes, taken, torn}
 use Rattle.hg_streams.specs.declared.call.ReadCall.{ReadCall}
 use Rattle.hg_model.specs.declared.verdict.Refusal.{Refusal}
 use Rattle.hg_model.specs.declared.verdict.Refusal.TheVariants as refusal
@@ -170,23 +170,23 @@ pub due_failed : (first now : List WriteCall) (held rest goal : List ℕ) → Is
 due_failed first now held rest goal p = ap failed_writes p.appended.since ∙ omega (arith, failed_on p.appended.later first, p.appended.whole)
 
 -- a device fault after which one call more has failed
-pub cause_by_write : (reads reads_new : List ReadCall) (first now new : List WriteCall) (held rest goal : List ℕ) (r : Refusal) → NoneRefused reads reads_new → IsDue first now held rest goal → r ≡ refusal.DeviceFault → failed_writes new ≡ told_refusal r + failed_writes now
+pub cause_by_write : (reads reads_new : List ReadCall) (first now new : List WriteCall) (held rest goal : List ℕ) (r : Refusal) → NoneFailedSince reads reads_new → IsDue first now held rest goal → r ≡ refusal.DeviceFault → failed_writes new ≡ told_refusal r + failed_writes now
     → HasCause reads reads_new first new r
 cause_by_write reads reads_new first now new held rest goal r none p is more =
     let same : failed_writes now ≡ failed_writes first = due_failed first now held rest goal p in
     let one : failed_writes new ≡ 1 + failed_writes now = more ∙ ap (λ x. told_refusal x + failed_writes now) is in
-    inr (is, (none, inr (omega (arith, same, one))))
+    inr (is, (none.1, inr (omega (arith, same, one))))
 
-pub cause_on : (reads reads_new : List ReadCall) (first now new : List WriteCall) (held rest goal : List ℕ) (r : Refusal) → NoneRefused reads reads_new → IsDue first now held rest goal → HasWriteCause now new r → HasCause reads reads_new first new r
+pub cause_on : (reads reads_new : List ReadCall) (first now new : List WriteCall) (held rest goal : List ℕ) (r : Refusal) → NoneFailedSince reads reads_new → IsDue first now held rest goal → HasWriteCause now new r → HasCause reads reads_new first new r
 cause_on reads reads_new first now new held rest goal r none p =
     let same : failed_writes now ≡ failed_writes first = due_failed first now held rest goal p in
-    ⊎_elim (λ memory. inl memory) (λ device. inr (device.0, (none, inr (subst (λ (n : ℕ). n < failed_writes new) same device.1))))
+    ⊎_elim (λ memory. inl (memory.0, (none.0, memory.1 ∙ same))) (λ device. inr (device.0, (none.1, inr (subst (λ (n : ℕ). n < failed_writes new) same device.1))))
 
-pub cause_by_flush : (reads reads_new : List ReadCall) (first now new : List WriteCall) (held rest goal : List ℕ) (r : Refusal) → NoneRefused reads reads_new → IsDue first now held rest goal → r ≡ refusal.DeviceFault → new ≡ WriteCall.NotFlushed ∷ now → HasCause reads reads_new first new r
+pub cause_by_flush : (reads reads_new : List ReadCall) (first now new : List WriteCall) (held rest goal : List ℕ) (r : Refusal) → NoneFailedSince reads reads_new → IsDue first now held rest goal → r ≡ refusal.DeviceFault → new ≡ WriteCall.NotFlushed ∷ now → HasCause reads reads_new first new r
 cause_by_flush reads reads_new first now new held rest goal r none p is more =
     let same : failed_writes now ≡ failed_writes first = due_failed first now held rest goal p in
     let one : failed_writes new ≡ 1 + failed_writes now = ap failed_writes more in
-    inr (is, (none, inr (omega (arith, same, one))))
+    inr (is, (none.1, inr (omega (arith, same, one))))
 
 -- a front of a front
 pub front_more : (first now : List WriteCall) (text more goal : List ℕ) → text ++ more ≡ goal → TookFront first now text → TookFront first now goal

@@ -44,6 +44,10 @@ NoneFailed reads = failed_reads reads + refused_reads reads ≡ 0
 abbrev pub NoneRefused : List ReadCall → List ReadCall → Type 0
 NoneRefused old new = refused_reads new ≡ refused_reads old
 
+-- From some reads to later ones none failed, and none was refused memory.
+abbrev pub NoneFailedSince : List ReadCall → List ReadCall → Type 0
+NoneFailedSince old new = (failed_reads new ≡ failed_reads old) × NoneRefused old new
+
 -- how many reads met the end of the input
 abbrev pub ends_met : List ReadCall → ℕ
 ends_met [] = 0

@@ -18,10 +18,14 @@ WriteFailed old new = failed_writes old < failed_writes new
 abbrev pub ReadFailed : List ReadCall → List ReadCall → Type 0
 ReadFailed old new = (failed_reads old < failed_reads new) ⊎ (2 ^ 32 + length old ≤ length new)
 
--- A device fault has its cause in a stream that failed, where no read was refused memory. The one other fault is want of memory.
+-- No read, write or flush failed.
+abbrev pub NothingFailed : List ReadCall → List ReadCall → List WriteCall → List WriteCall → Type 0
+NothingFailed reads_old reads_new old new = (failed_reads reads_new ≡ failed_reads reads_old) × (failed_writes new ≡ failed_writes old)
+
+-- Want of memory is told where no stream failed. A device fault has its cause in a stream that failed, where no read was refused memory.
 abbrev pub HasCause : List ReadCall → List ReadCall → List WriteCall → List WriteCall → Refusal → Type 0
 HasCause reads_old reads_new old new r =
-    (r ≡ OutOfMemory) ⊎ ((r ≡ DeviceFault) × (NoneRefused reads_old reads_new × (ReadFailed reads_old reads_new ⊎ WriteFailed old new)))
+    ((r ≡ OutOfMemory) × NothingFailed reads_old reads_new old new) ⊎ ((r ≡ DeviceFault) × (NoneRefused reads_old reads_new × (ReadFailed reads_old reads_new ⊎ WriteFailed old new)))
 
 -- a fault of a stream or a device, or want of memory
 abbrev pub IsStreamFault : Refusal → Type 0
@@ -29,7 +33,7 @@ IsStreamFault r = (r ≡ OutOfMemory) ⊎ (r ≡ DeviceFault)
 
 -- why a call that only writes was broken off
 abbrev pub HasWriteCause : List WriteCall → List WriteCall → Refusal → Type 0
-HasWriteCause old new r = (r ≡ OutOfMemory) ⊎ ((r ≡ DeviceFault) × WriteFailed old new)
+HasWriteCause old new r = ((r ≡ OutOfMemory) × (failed_writes new ≡ failed_writes old)) ⊎ ((r ≡ DeviceFault) × WriteFailed old new)
 
 -- The fault was told, or telling it failed.
 abbrev pub IsTold : List WriteCall → List WriteCall → Refusal → Type 0

@@ -1,7 +1,7 @@
 //! A run over a whole trace text.
 
 ghost use Rattle.std.specs.Prelude.{IfOk, IfErr, OnOk};
-ghost use Rattle.hg_streams.specs.Calls.{NoneRefused};
+ghost use Rattle.hg_streams.specs.Calls.{NoneFailedSince};
 ghost use Rattle.hg_streams.specs.Faults.{HasCause};
 ghost use Rattle.hg_check.specs.LifeTaking.{HasTold, IsFresh, LeavesFrontOfHeld};
 
@@ -26,7 +26,7 @@ pub fn run<R: Read, W: Write>(
     ensures ends { IfOk result (HasTold explaining.old explaining.new input.old input.new output.old output.new) }
     ensures front { LeavesFrontOfHeld result explaining.old input.old input.new output.old output.new }
     ensures cause { IfErr result (HasCause input.old.calls input.new.calls output.old.calls output.new.calls) }
-    ensures memory { OnOk result (NoneRefused input.old.calls input.new.calls) }
+    ensures memory { OnOk result (NoneFailedSince input.old.calls input.new.calls) }
 {
     let stop = read(alloc, input, explaining, output)?;
     Ok(ended(stop))

@@ -1,7 +1,7 @@
 use Rattle.std.proofs.Common.{arith, sym, ap, subst}
 use Rattle.std.proofs.lemmas.Result.{err_from_is_err_and}
 use Rattle.hg_model.specs.Contents.{Content}
-use Rattle.hg_streams.proofs.Inputs.{none_refused}
+use Rattle.hg_streams.proofs.Inputs.{none_failed}
 use Rattle.hg_streams.proofs.Printed.{always_err}
 use Rattle.hg_detect.specs.Memory.{content_of}
 use Rattle.hg_check.specs.Telling.{HasRun}
@@ -29,4 +29,4 @@ returns-clause-ends g c =
 
 pub returns-clause-memory : goal.returns-clause-memory
 returns-clause-memory g c =
-    none_refused c.args.input.now.calls c.read.new.input.calls c.in_ok-stop.ensures.later c.in_ok-stop.ensures.since c.in_ok-stop.ensures.intact
+    none_failed c.args.input.now.calls c.read.new.input.calls c.in_ok-stop.ensures.later c.in_ok-stop.ensures.since c.in_ok-stop.ensures.intact
