@@ -1,5 +1,5 @@
 -- A slot is read: one cell more, and all of them.
-use Rattle.std.proofs.Common.{◌≡◌, ◌≢◌, ◌⊎◌, inl, inr, ◌<◌, ◌≤◌, ◌+◌, ◌*◌, ◌^◌, ◌&&◌, ◌∙◌, ℕ, zero, suc, Bool, true, false, IsTrue, List, [], ◌∷◌, length, take, drop, set, get_or, refl, sym, ap, subst, nat_le, if◌then◌else◌, rules, arith, ⊎_elim}
+use Rattle.std.proofs.Common.{◌≡◌, ◌≢◌, ◌⊎◌, inl, inr, ◌<◌, ◌≤◌, ◌+◌, ◌*◌, ◌^◌, ◌&&◌, ◌||◌, ◌∙◌, ℕ, zero, suc, Bool, true, false, IsTrue, List, [], ◌∷◌, length, take, drop, set, get_or, refl, sym, ap, subst, nat_le, if◌then◌else◌, rules, arith, ⊎_elim}
 use Rattle.std.specs.List.{flat_map, AllByRecursion}
 use Rattle.hg_cells.specs.declared.cell.Cell.{Cell}
 use Rattle.hg_cells.specs.declared.cell.Cell.TheVariants.{New, Exclusive, SharedRead, SharedModified}
@@ -21,6 +21,10 @@ both false b is = absurd (cc is)
 pub either : (a b : Bool) → (a && b) ≡ false → (a ≡ false) ⊎ (b ≡ false)
 either true b is = inr is
 either false b is = inl refl
+
+pub neither : (a b : Bool) → (a || b) ≡ false → (a ≡ false) × (b ≡ false)
+neither true b is = absurd (cc is)
+neither false b is = (refl, is)
 
 pub truth : (b : Bool) → (b ≡ false → ⊥) → IsTrue b
 truth true never = search rules

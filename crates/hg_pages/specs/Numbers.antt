@@ -96,6 +96,10 @@ AreOfNoneWithin segments sets bytes = (page : ℕ) (cells : List Cell) → IsSlo
 abbrev pub HaveThreadSets : List (List ℕ) → (count : ℕ) → List ℕ → Type 0
 HaveThreadSets sets count bytes = (word threads : ℕ) → word < count → IsSharedBy threads (cell_bytes bytes word) → threads < length sets → IsThreadSet sets threads
 
+-- No cell of a slot, of the first ones, is shared.
+abbrev pub HasNoShared : (count : ℕ) → List ℕ → Type 0
+HasNoShared count bytes = (word : ℕ) → word < count → 2 ≤ get_or (cell_bytes bytes word) 0 0 → ⊥
+
 -- A shared cell of a slot has threads that can't be shared.
 abbrev pub LacksThreadSet : List (List ℕ) → List ℕ → Type 0
 LacksThreadSet sets bytes = (word : ℕ) × (threads : ℕ) × (word < 256) × IsSharedBy threads (cell_bytes bytes word) × (¬ IsThreadSet sets threads)

@@ -1,5 +1,5 @@
 //! A cell as twelve bytes, and back.
-ghost use Rattle.std.specs.Prelude.{◌≡◌, ◌+◌, ◌≤◌, ◌↔◌, ◌==◌, length, false, IsTrue, if◌then◌else◌};
+ghost use Rattle.std.specs.Prelude.{◌≡◌, ◌+◌, ◌≤◌, ◌↔◌, ◌==◌, get_or, length, false, IsTrue, if◌then◌else◌};
 ghost use Rattle.std.specs.Int.{from_be_bytes};
 ghost use Rattle.hg_pages.specs.Numbers.{SpellNew, SpellOwned, SpellShared, SpellsNoneWithin, SpellsWithin, cell_by, first_in, kind_in, mark_in, second_in, threads_in_or};
 ghost use Rattle.hg_pages.specs.Reading.{number_at, text_of};
@@ -188,6 +188,15 @@ pub(crate) fn cell_from(numbers: (u32, u32, u32)) -> Cell
         Cell::Exclusive(first)
     };
     if head >= READ { shared } else { other }
+}
+
+/// Whether a cell that is spelled so is shared.
+#[inline(always)]
+pub(crate) fn is_shared(bytes: &[u8]) -> bool
+    requires { length bytes.now ≡ CELL_LEN }
+    ensures { IsTrue result ↔ (2 ≤ get_or bytes.now 0 0) }
+{
+    bytes[0] >= 2
 }
 
 /// The set of threads of a cell that is spelled so, if it is shared, or else these.

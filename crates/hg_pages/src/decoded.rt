@@ -1,11 +1,13 @@
 //! The bytes of a slot as a page.
 ghost use Rattle.std.specs.Prelude.{◌≡◌, ◌⊎◌, ◌↔◌, ◌<◌, ◌≤◌, length, take, false, IfSome, IfNone, IsTrue};
 ghost use Rattle.std.specs.Int.{w64, to_be_bytes};
-ghost use Rattle.hg_pages.specs.Numbers.{AreOfNoneWithin, AreRead, HaveThreadSets, LacksThreadSet};
+ghost use Rattle.hg_pages.specs.Numbers.{AreOfNoneWithin, AreRead, HasNoShared, HaveThreadSets, LacksThreadSet};
 ghost use Rattle.hg_pages.specs.Reading.{cell_bytes};
 ghost use Rattle.hg_pages.specs.Slots.{AreKnown, IsNoKnownSlot, IsSlot, IsThreadSet};
 
-use crate::cell::{CELL_LEN, cell_from, is_thread_set, numbers_in, spell_within, threads_or};
+use crate::cell::{
+    CELL_LEN, cell_from, is_shared, is_thread_set, numbers_in, spell_within, threads_or,
+};
 use crate::encoded::SLOT_LEN;
 use hg_cells::{PAGE_WORDS, Page};
 use hg_sets::SetTable;
@@ -94,6 +96,20 @@ fn is_none_or_thread_set(sets: &SetTable, id: u32) -> bool
     is_thread_set(sets, id)
 }
 
+// Whether some cell is shared.
+#[inline(always)]
+fn has_shared(bytes: &[u8]) -> bool
+    requires { length bytes.now ≡ SLOT_LEN }
+    ensures { result ≡ false → HasNoShared 256 bytes.now }
+{
+    let mut has_one = false;
+    for word in 0..PAGE_WORDS {
+        let is_one = is_shared(cell_part(bytes, word));
+        has_one = has_one | is_one;
+    }
+    has_one
+}
+
 // Whether the threads of each shared cell can be. Those of the shared cell before stand for a cell that is not shared, so that
 // what is done depends on no kind of cell.
 #[inline(always)]
@@ -103,6 +119,9 @@ fn have_thread_sets(bytes: &[u8], sets: &SetTable) -> bool
     ensures no { result ≡ false → LacksThreadSet sets.now.sets bytes.now }
 {
     let _sets = sets.len();
+    if !has_shared(bytes) {
+        return true;
+    }
     let mut threads = NO_SET;
     for word in 0..PAGE_WORDS {
         threads = threads_or(cell_part(bytes, word), threads);

@@ -22,3 +22,6 @@ loop-word-preserved c =
 
 pub returns-clause-yes : goal.returns-clause-yes
 returns-clause-yes c _ = subst (λ (n : ℕ). HaveThreadSets c.args.sets.now.sets n c.args.bytes.now) (omega (arith, c.loop-word-test.false, c.loop-word.auto.word-end)) c.loop-word.invariant.before
+
+pub returns-then-not-has_shared-clause-yes : goal.returns-then-not-has_shared-clause-yes
+returns-then-not-has_shared-clause-yes c _ word threads lt by small = absurd (c.has_shared.ensures c.if-not-has_shared.true word lt by.0)
