@@ -40,17 +40,32 @@ pub fn decode(bytes: &[u8], page: u64, segments: u32, sets: &SetTable) -> Option
     ensures some { IfSome result (λ cells. IsSlot page cells bytes.now × AreKnown segments sets.now.sets cells) }
     ensures none { IfNone result (IsNoKnownSlot page segments sets.now.sets bytes.now) }
 {
-    if page >= MOST_PAGES || page_in(bytes) != page {
-        return None;
-    }
     let mut cells = Page::new();
-    if !read_cells(bytes, segments, sets.len(), &mut cells) {
-        return None;
-    }
-    if !have_thread_sets(bytes, sets) {
+    if !decode_into(bytes, page, segments, sets, &mut cells) {
         return None;
     }
     Some(cells)
+}
+
+/// The same into a page, in place. Answers whether these bytes are its slot; if not, the page has any cells.
+pub(crate) fn decode_into(
+    bytes: &[u8],
+    page: u64,
+    segments: u32,
+    sets: &SetTable,
+    cells: &mut Page,
+) -> bool
+    requires { length bytes.now ≡ SLOT_LEN }
+    ensures yes { IsTrue result → IsSlot page cells.new bytes.now × AreKnown segments sets.now.sets cells.new }
+    ensures no { result ≡ false → IsNoKnownSlot page segments sets.now.sets bytes.now }
+{
+    if page >= MOST_PAGES || page_in(bytes) != page {
+        return false;
+    }
+    if !read_cells(bytes, segments, sets.len(), cells) {
+        return false;
+    }
+    have_thread_sets(bytes, sets)
 }
 
 // The bytes of a word's cell.
