@@ -3,6 +3,7 @@ pub mod Decoding
 pub mod Members
 mod Numbers
 mod Putting
+mod Reading
 pub mod Rising
 pub mod Parting
 pub mod Keeping

@@ -3,6 +3,7 @@ pub mod Fault
 pub mod Files
 pub mod Slots
 pub mod Reading
+pub mod Numbers
 pub mod Stored
 pub mod Tables
 pub mod Marks

@@ -1,9 +1,9 @@
 //! A cell as twelve bytes, and back.
-ghost use Rattle.std.specs.Prelude.{◌≡◌, ◌≢◌, ◌+◌, ◌≤◌, ◌↔◌, length, IsTrue, IfSome, IfNone};
+ghost use Rattle.std.specs.Prelude.{◌≡◌, ◌+◌, ◌≤◌, ◌↔◌, ◌==◌, get_or, length, false, IsTrue, if◌then◌else◌};
 ghost use Rattle.std.specs.Int.{from_be_bytes};
-ghost use Rattle.hg_cells.specs.declared.cell.Cell.{Cell as CellOf};
-ghost use Rattle.hg_pages.specs.Reading.{cell_with, number_at, text_of};
-ghost use Rattle.hg_pages.specs.Slots.{CellFits, IsKnown, IsThreadSet, cell_of_parts, cell_text};
+ghost use Rattle.hg_pages.specs.Numbers.{SpellNew, SpellOwned, SpellShared, SpellsNoneWithin, SpellsWithin, cell_by, first_in, kind_in, mark_in, second_in, threads_in_or};
+ghost use Rattle.hg_pages.specs.Reading.{number_at, text_of};
+ghost use Rattle.hg_pages.specs.Slots.{CellFits, IsThreadSet, cell_text};
 
 use hg_cells::Cell;
 use hg_model::limits::GREATEST_THREAD;
@@ -12,31 +12,89 @@ use hg_sets::SetTable;
 /// How many bytes a cell has.
 pub(crate) const CELL_LEN: usize = 12;
 
-// A state, whether it was reported, two zeros, and two numbers: as three numbers of four bytes each.
+// The first numbers of cells, and what is added for a word that was reported.
+const NEW: u32 = 0;
+
+const OWNED: u32 = 0x100_0000;
+
+const READ: u32 = 0x200_0000;
+
+const MODIFIED: u32 = 0x300_0000;
+
+const REPORTED: u32 = 0x1_0000;
+
+// What the first number of a cell says: its state.
 #[inline(always)]
-fn parts(state: u8, reported: u8, first: u32, second: u32) -> (u32, u32, u32)
-    ensures { text_of result ≡ cell_of_parts state reported first second }
+fn kind_of(cell: Cell) -> u32
+    ensures kind { result ≡ kind_in cell }
+    ensures small { result ≤ 0x300_0000 }
 {
-    let head = state as u32 * 0x100_0000 + reported as u32 * 0x1_0000;
-    (head, first, second)
+    match cell {
+        Cell::New => NEW,
+        Cell::Exclusive(_) => OWNED,
+        Cell::SharedRead(_, _) => READ,
+        Cell::SharedModified(_, _) => MODIFIED,
+    }
 }
 
-/// The three numbers of four bytes each that spell a cell. While they are numbers, and not yet bytes, a cell is spelled and
-/// compared in a few instructions.
+// What is added to it where the cell has no lock left.
+#[inline(always)]
+fn mark_of(cell: Cell) -> u32
+    ensures mark { result ≡ mark_in cell }
+    ensures small { result ≤ 0x1_0000 }
+{
+    match cell {
+        Cell::SharedModified(_, _) => REPORTED,
+        _ => 0,
+    }
+}
+
+// Its owner, or its set of threads.
+#[inline(always)]
+fn first_of(cell: Cell) -> u32
+    ensures first { result ≡ first_in cell }
+{
+    match cell {
+        Cell::New => 0,
+        Cell::Exclusive(segment) => segment,
+        Cell::SharedRead(threads, _) => threads,
+        Cell::SharedModified(threads, _) => threads,
+    }
+}
+
+// Its set of locks.
+#[inline(always)]
+fn second_of(cell: Cell) -> u32
+    ensures second { result ≡ second_in cell }
+    ensures fits { CellFits cell }
+{
+    match cell {
+        Cell::New => 0,
+        Cell::Exclusive(_) => 0,
+        Cell::SharedRead(_, locks) => locks,
+        Cell::SharedModified(_, locks) => locks,
+    }
+}
+
+// The mark of a word that was reported, where no lock is left.
+#[inline(always)]
+fn mark_without(mark: u32, locks: u32) -> u32
+    ensures mark { result ≡ (if locks == 0 then mark else 0) }
+    ensures small { result ≤ mark }
+{
+    if locks == 0 { mark } else { 0 }
+}
+
+/// The three numbers of four bytes each that spell a cell. Each is found apart, so that there is no branch: which kind of cell
+/// comes next can't be foreseen.
 #[inline(always)]
 pub(crate) fn numbers_of(cell: Cell) -> (u32, u32, u32)
     ensures spelled { text_of result ≡ cell_text cell }
     ensures fits { CellFits cell }
 {
-    match cell {
-        Cell::New => parts(0, 0, 0, 0),
-        Cell::Exclusive(segment) => parts(1, 0, segment, 0),
-        Cell::SharedRead(threads, locks) => parts(2, 0, threads, locks),
-        Cell::SharedModified(threads, locks) => {
-            let reported = if locks == 0 { 1 } else { 0 };
-            parts(3, reported, threads, locks)
-        }
-    }
+    let locks = second_of(cell);
+    let mark = mark_without(mark_of(cell), locks);
+    (kind_of(cell) + mark, first_of(cell), locks)
 }
 
 // The number that four of the bytes spell.
@@ -49,31 +107,21 @@ fn number(bytes: &[u8], at: usize) -> u32
     u32::from_be_bytes([part[0], part[1], part[2], part[3]])
 }
 
-// The three numbers that twelve bytes spell.
+/// The three numbers that twelve bytes spell.
 #[inline(always)]
-fn numbers_in(bytes: &[u8]) -> (u32, u32, u32)
+pub(crate) fn numbers_in(bytes: &[u8]) -> (u32, u32, u32)
     requires { length bytes.now ≡ CELL_LEN }
     ensures { text_of result ≡ bytes.now }
 {
     (number(bytes, 0), number(bytes, 4), number(bytes, 8))
 }
 
-// Whether they are the same three numbers.
+// Whether they are the same three numbers. All three are compared, so that there is no branch.
 #[inline(always)]
 fn are_same_numbers(a: (u32, u32, u32), b: (u32, u32, u32)) -> bool
     ensures { IsTrue result ↔ (text_of a ≡ text_of b) }
 {
-    a.0 == b.0 && a.1 == b.1 && a.2 == b.2
-}
-
-/// Whether two cells have the same bytes.
-#[inline(always)]
-pub(crate) fn are_same_bytes(bytes: &[u8], others: &[u8]) -> bool
-    requires length { length bytes.now ≡ CELL_LEN }
-    requires others { length others.now ≡ CELL_LEN }
-    ensures { IsTrue result ↔ (bytes.now ≡ others.now) }
-{
-    are_same_numbers(numbers_in(bytes), numbers_in(others))
+    (a.0 == b.0) & (a.1 == b.1) & (a.2 == b.2)
 }
 
 /// Whether twelve bytes spell this cell.
@@ -86,33 +134,83 @@ pub(crate) fn spell(bytes: &[u8], cell: Cell) -> bool
     are_same_numbers(numbers_in(bytes), numbers_of(cell))
 }
 
-// The cell with these parts; `New` for every state but 1, 2 and 3.
+// Whether three numbers spell a new word.
 #[inline(always)]
-fn cell_from(state: u8, first: u32, second: u32) -> Cell
-    ensures { result ≡ cell_with state first second }
+fn are_new(head: u32, first: u32, second: u32) -> bool
+    ensures { IsTrue result ↔ SpellNew head first second }
 {
-    match state {
-        1 => Cell::Exclusive(first),
-        2 => Cell::SharedRead(first, second),
-        3 => Cell::SharedModified(first, second),
-        _ => Cell::New,
-    }
+    (head == NEW) & (first == 0) & (second == 0)
 }
 
-/// The cell that twelve bytes spell, or none if they spell none. A cell has one spelling, and the bytes are compared with
-/// it.
+// Whether three numbers spell an owned word, with a segment below this number.
 #[inline(always)]
-pub(crate) fn cell_of(bytes: &[u8]) -> Option<Cell>
+fn are_owned(head: u32, first: u32, second: u32, segments: u32) -> bool
+    ensures { IsTrue result ↔ SpellOwned segments head first second }
+{
+    (head == OWNED) & (first < segments) & (second == 0)
+}
+
+// Whether three numbers spell a shared word, with sets below this number.
+#[inline(always)]
+fn are_shared(head: u32, first: u32, second: u32, sets: u32) -> bool
+    ensures { IsTrue result ↔ SpellShared sets head first second }
+{
+    let modified = MODIFIED + mark_without(REPORTED, second);
+    ((head == READ) | (head == modified)) & (first < sets) & (second < sets)
+}
+
+/// Whether three numbers spell a cell that names only segments and sets below these numbers. There is no branch in it.
+#[inline(always)]
+pub(crate) fn spell_within(numbers: (u32, u32, u32), segments: u32, sets: u32) -> bool
+    ensures yes { IsTrue result → SpellsWithin segments sets numbers }
+    ensures no { result ≡ false → SpellsNoneWithin segments sets numbers }
+{
+    let (head, first, second) = numbers;
+    are_new(head, first, second)
+        | are_owned(head, first, second, segments)
+        | are_shared(head, first, second, sets)
+}
+
+/// The cell that three numbers spell, if they spell one.
+#[inline(always)]
+pub(crate) fn cell_from(numbers: (u32, u32, u32)) -> Cell
+    ensures { result ≡ cell_by numbers }
+{
+    let (head, first, second) = numbers;
+    let shared = if head == READ {
+        Cell::SharedRead(first, second)
+    } else {
+        Cell::SharedModified(first, second)
+    };
+    let other = if head == NEW {
+        Cell::New
+    } else {
+        Cell::Exclusive(first)
+    };
+    if head >= READ { shared } else { other }
+}
+
+/// Whether a cell that is spelled so is shared.
+#[inline(always)]
+pub(crate) fn is_shared(bytes: &[u8]) -> bool
     requires { length bytes.now ≡ CELL_LEN }
-    ensures some { IfSome result (λ cell. CellFits cell × (bytes.now ≡ cell_text cell)) }
-    ensures none { IfNone result ((cell : CellOf) → CellFits cell → bytes.now ≢ cell_text cell) }
+    ensures { IsTrue result ↔ (2 ≤ get_or bytes.now 0 0) }
 {
-    let cell = cell_from(bytes[0], number(bytes, 4), number(bytes, 8));
-    if spell(bytes, cell) { Some(cell) } else { None }
+    bytes[0] >= 2
 }
 
-// Whether this set can be the set of threads of a shared word.
-fn is_thread_set(sets: &SetTable, id: u32) -> bool
+/// The set of threads of a cell that is spelled so, if it is shared, or else these.
+#[inline(always)]
+pub(crate) fn threads_or(bytes: &[u8], others: u32) -> u32
+    requires { length bytes.now ≡ CELL_LEN }
+    ensures { result ≡ threads_in_or bytes.now others }
+{
+    let threads = number(bytes, 4);
+    if bytes[0] >= 2 { threads } else { others }
+}
+
+/// Whether this set can be the set of threads of a shared word.
+pub(crate) fn is_thread_set(sets: &SetTable, id: u32) -> bool
     ensures { IsTrue result ↔ IsThreadSet sets.now.sets id }
 {
     if id >= sets.len() {
@@ -120,18 +218,4 @@ fn is_thread_set(sets: &SetTable, id: u32) -> bool
     }
     let members = sets.members(id);
     members.len() >= 2 && members[members.len() - 1] <= GREATEST_THREAD
-}
-
-/// Whether a cell names only segments below this number, sets of the table, and sets of threads that may be shared.
-#[inline(always)]
-pub(crate) fn is_known(cell: Cell, segments: u32, sets: &SetTable) -> bool
-    ensures { IsTrue result ↔ IsKnown segments sets.now.sets cell }
-{
-    match cell {
-        Cell::New => true,
-        Cell::Exclusive(segment) => segment < segments,
-        Cell::SharedRead(threads, locks) | Cell::SharedModified(threads, locks) => {
-            is_thread_set(sets, threads) && locks < sets.len()
-        }
-    }
 }

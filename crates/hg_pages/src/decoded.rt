@@ -1,12 +1,15 @@
 //! The bytes of a slot as a page.
-ghost use Rattle.std.specs.Prelude.{◌≡◌, ◌<◌, ◌≤◌, ◌-◌, length, take, IfSome, IfNone, IsTrue};
+ghost use Rattle.std.specs.Prelude.{◌≡◌, ◌⊎◌, ◌↔◌, ◌<◌, ◌≤◌, length, take, false, IfSome, IfNone, IsTrue};
 ghost use Rattle.std.specs.Int.{w64, to_be_bytes};
+ghost use Rattle.hg_pages.specs.Numbers.{AreOfNoneWithin, AreRead, HasNoShared, HaveThreadSets, LacksThreadSet};
 ghost use Rattle.hg_pages.specs.Reading.{cell_bytes};
-ghost use Rattle.hg_pages.specs.Slots.{AreKnown, IsKnownCell, IsNoKnownCell, IsNoKnownSlot, IsSlot};
+ghost use Rattle.hg_pages.specs.Slots.{AreKnown, IsNoKnownSlot, IsSlot, IsThreadSet};
 
-use crate::cell::{CELL_LEN, are_same_bytes, cell_of, is_known};
+use crate::cell::{
+    CELL_LEN, cell_from, is_shared, is_thread_set, numbers_in, spell_within, threads_or,
+};
 use crate::encoded::SLOT_LEN;
-use hg_cells::{Cell, PAGE_WORDS, Page};
+use hg_cells::{PAGE_WORDS, Page};
 use hg_sets::SetTable;
 
 /// How many page numbers there are: an address has 64 bits, and a page 1,024 bytes.
@@ -14,6 +17,9 @@ pub const MOST_PAGES: u64 = 1 << 54;
 
 // Where the cells begin, behind the number of the page.
 const CELLS_AT: usize = 8;
+
+// The number of no set: a table has fewer.
+const NO_SET: u32 = u32::MAX;
 
 /// The number of the page, as the bytes have it.
 pub(crate) fn page_in(bytes: &[u8]) -> u64
@@ -34,21 +40,32 @@ pub fn decode(bytes: &[u8], page: u64, segments: u32, sets: &SetTable) -> Option
     ensures some { IfSome result (λ cells. IsSlot page cells bytes.now × AreKnown segments sets.now.sets cells) }
     ensures none { IfNone result (IsNoKnownSlot page segments sets.now.sets bytes.now) }
 {
-    if page >= MOST_PAGES || page_in(bytes) != page {
+    let mut cells = Page::new();
+    if !decode_into(bytes, page, segments, sets, &mut cells) {
         return None;
     }
-    let mut cells = Page::new();
-    let mut former = Cell::New;
-    for word in 0..PAGE_WORDS {
-        match known_cell(bytes, word, former, segments, sets) {
-            Some(cell) => {
-                cells.set(word, cell);
-                former = cell;
-            }
-            None => return None,
-        }
-    }
     Some(cells)
+}
+
+/// The same into a page, in place. Answers whether these bytes are its slot; if not, the page has any cells.
+pub(crate) fn decode_into(
+    bytes: &[u8],
+    page: u64,
+    segments: u32,
+    sets: &SetTable,
+    cells: &mut Page,
+) -> bool
+    requires { length bytes.now ≡ SLOT_LEN }
+    ensures yes { IsTrue result → IsSlot page cells.new bytes.now × AreKnown segments sets.now.sets cells.new }
+    ensures no { result ≡ false → IsNoKnownSlot page segments sets.now.sets bytes.now }
+{
+    if page >= MOST_PAGES || page_in(bytes) != page {
+        return false;
+    }
+    if !read_cells(bytes, segments, sets.len(), cells) {
+        return false;
+    }
+    have_thread_sets(bytes, sets)
 }
 
 // The bytes of a word's cell.
@@ -63,43 +80,69 @@ fn cell_part(bytes: &[u8], word: usize) -> &[u8]
     &bytes[at..at + CELL_LEN]
 }
 
-// Whether a word's cell has the bytes of the cell before it.
+// Reads each cell, and answers whether each is spelled right and names only segments and sets below these numbers. No cell is
+// looked at twice, and no branch depends on one: the compiler takes four cells at a time.
 #[inline(always)]
-fn repeats(bytes: &[u8], word: usize) -> bool
-    requires word { word < 256 }
-    requires length { length bytes.now ≡ SLOT_LEN }
-    ensures first { IsTrue result → 0 < word }
-    ensures same { IsTrue result → cell_bytes bytes.now word ≡ cell_bytes bytes.now (word - 1) }
+fn read_cells(bytes: &[u8], segments: u32, sets: u32, cells: &mut Page) -> bool
+    requires { length bytes.now ≡ SLOT_LEN }
+    ensures words { length cells.new ≡ 256 }
+    ensures read { IsTrue result → AreRead segments sets 256 bytes.now cells.new }
+    ensures none { result ≡ false → AreOfNoneWithin segments sets bytes.now }
 {
-    if word == 0 {
-        return false;
+    let _lowest = cells.get(0);
+    let mut are_right = true;
+    for word in 0..PAGE_WORDS {
+        let numbers = numbers_in(cell_part(bytes, word));
+        let is_right = spell_within(numbers, segments, sets);
+        are_right = are_right & is_right;
+        cells.set(word, cell_from(numbers));
     }
-    are_same_bytes(cell_part(bytes, word), cell_part(bytes, word - 1))
+    are_right
 }
 
-// The cell of a word, if it is spelled right and names only known segments and sets. What is known of the cell before it,
-// `former`, holds of one with the same bytes, so a run of equal cells is looked at once.
+// Whether this is the number of no set, or that of a set of threads.
 #[inline(always)]
-fn known_cell(
-    bytes: &[u8],
-    word: usize,
-    former: Cell,
-    segments: u32,
-    sets: &SetTable,
-) -> Option<Cell>
-    requires word { word < 256 }
-    requires length { length bytes.now ≡ SLOT_LEN }
-    requires former { 0 < word → IsKnownCell segments sets.now.sets (cell_bytes bytes.now (word - 1)) former }
-    ensures some { IfSome result (IsKnownCell segments sets.now.sets (cell_bytes bytes.now word)) }
-    ensures none { IfNone result (IsNoKnownCell segments sets.now.sets (cell_bytes bytes.now word)) }
+fn is_none_or_thread_set(sets: &SetTable, id: u32) -> bool
+    ensures { IsTrue result ↔ (id ≡ 4294967295) ⊎ IsThreadSet sets.now.sets id }
 {
-    if repeats(bytes, word) {
-        return Some(former);
+    if id == NO_SET {
+        return true;
     }
-    let cell = cell_of(cell_part(bytes, word))?;
-    if is_known(cell, segments, sets) {
-        Some(cell)
-    } else {
-        None
+    is_thread_set(sets, id)
+}
+
+// Whether some cell is shared.
+#[inline(always)]
+fn has_shared(bytes: &[u8]) -> bool
+    requires { length bytes.now ≡ SLOT_LEN }
+    ensures { result ≡ false → HasNoShared 256 bytes.now }
+{
+    let mut has_one = false;
+    for word in 0..PAGE_WORDS {
+        let is_one = is_shared(cell_part(bytes, word));
+        has_one = has_one | is_one;
     }
+    has_one
+}
+
+// Whether the threads of each shared cell can be. Those of the shared cell before stand for a cell that is not shared, so that
+// what is done depends on no kind of cell.
+#[inline(always)]
+fn have_thread_sets(bytes: &[u8], sets: &SetTable) -> bool
+    requires { length bytes.now ≡ SLOT_LEN }
+    ensures yes { IsTrue result → HaveThreadSets sets.now.sets 256 bytes.now }
+    ensures no { result ≡ false → LacksThreadSet sets.now.sets bytes.now }
+{
+    let _sets = sets.len();
+    if !has_shared(bytes) {
+        return true;
+    }
+    let mut threads = NO_SET;
+    for word in 0..PAGE_WORDS {
+        threads = threads_or(cell_part(bytes, word), threads);
+        if !is_none_or_thread_set(sets, threads) {
+            return false;
+        }
+    }
+    true
 }

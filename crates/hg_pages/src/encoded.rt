@@ -97,12 +97,24 @@ fn is_text(bytes: &[u8], page: u64, cells: &Page) -> bool
     if page_in(bytes) != page {
         return false;
     }
+    let mut are_same = true;
     for word in 0..PAGE_WORDS {
-        if !has_cell(bytes, word, cells.get(word)) {
-            return false;
-        }
+        let is_same = has_cell(bytes, word, cells.get(word));
+        are_same = are_same & is_same;
     }
-    true
+    are_same
+}
+
+// Writes a number into its four bytes: one write, since they are an array.
+#[inline(always)]
+fn write_number(place: &mut [u8], number: u32)
+    requires { length place.old ≡ 4 }
+    ensures { place.new ≡ to_be_bytes w32 number }
+{
+    let Some(digits) = place.as_mut_array::<4>() else {
+        unreachable!()
+    };
+    *digits = number.to_be_bytes();
 }
 
 // Puts a number into bytes, at a place.
@@ -112,7 +124,7 @@ fn put_number(bytes: &mut [u8], at: usize, number: u32)
     ensures bytes { bytes.new ≡ replaced bytes.old at (to_be_bytes w32 number) }
     ensures length { length bytes.new ≡ length bytes.old }
 {
-    bytes[at..at + 4].copy_from_slice(&number.to_be_bytes());
+    write_number(&mut bytes[at..at + 4], number);
 }
 
 // Puts the cell of a word into the bytes of a slot.

@@ -9,7 +9,7 @@ ghost use Rattle.hg_pages.specs.Tables.{EachNamed, IsLeastFree, IsLeastFreeFrom,
 ghost use Rattle.hg_pages.specs.Fault.{failures_after, failures_after_write};
 ghost use Rattle.hg_pages.specs.declared.fault.SlotFault.TheVariants.{Damaged};
 
-use crate::decoded::{decode, page_in};
+use crate::decoded::{decode_into, page_in};
 use crate::encoded::{EncodedPage, SLOT_LEN};
 use crate::fault::{SlotFault, WriteFault};
 use crate::table::Table;
@@ -235,10 +235,11 @@ impl<D: Disk> SlotFile<D> {
     {
         let mut bytes = [0; SLOT_LEN];
         self.fill(slot, &mut bytes)?;
-        match decode(&bytes, page, segments, sets) {
-            Some(cells) => Ok(cells),
-            None => Err(SlotFault::Damaged),
+        let mut cells = Page::new();
+        if !decode_into(&bytes, page, segments, sets, &mut cells) {
+            return Err(SlotFault::Damaged);
         }
+        Ok(cells)
     }
 
     // Fills a buffer with the bytes of a slot.
