@@ -5,7 +5,7 @@ use Rattle.clap.specs.Words.{App, Rule, Text, new_app, new_rule, with_rule, with
 use Rattle.clap.specs.declared.builder.action.ArgAction.TheVariants.{SetTrue}
 use Rattle.clap.specs.declared.builder.value_parser.ValueParser.TheVariants as parser
 use Rattle.hg_model.specs.declared.limits.TheConstants.{GREATEST_SOURCE}
-use Rattle.hg_options.specs.declared.limits.TheConstants.{GREATEST_PORT, GREATEST_STATUS, LEAST_FRAMES, MOST_CONNECTIONS, MOST_EVERY, MOST_FRAMES, MOST_JOBS, MOST_RACE, MOST_SILENCE, MOST_WORKERS}
+use Rattle.hg_options.specs.declared.limits.TheConstants.{GREATEST_STATUS, LEAST_FRAMES, MOST_CONNECTIONS, MOST_EVERY, MOST_FRAMES, MOST_JOBS, MOST_RACE, MOST_SILENCE, MOST_WORKERS}
 
 -- a store's directory: any text but the empty one
 abbrev pub directory : Bool → Rule
@@ -46,11 +46,11 @@ frames = record (option (codes "frames")) {
   defaults = codes "64" ∷ [];
 }
 
--- the port that a server listens on
+-- the port that a server listens on, or `unix`
 abbrev pub port : Rule
 port = record (new_rule (codes "PORT")) {
   required = true;
-  parser = Some (parser.Signed (pos 1) (pos GREATEST_PORT));
+  parser = Some parser.NonEmptyString;
 }
 
 -- how many connections a server takes
@@ -132,8 +132,8 @@ abbrev pub feed : App
 feed = with_rule (with_rule (with_rule (with_rule (with_rule (new_app (codes "feed")) (directory true)) source) checkpoint) frames) verbose
 
 abbrev pub serve : App
-serve = with_rule (with_rule (with_rule (with_rule (with_rule (with_rule (with_rule (new_app (codes "serve")) (directory true)) port)
-    connections) workers) frames) every) silence
+serve = with_rule (with_rule (with_rule (with_rule (with_rule (with_rule (with_rule (with_rule (new_app (codes "serve")) (directory true)) port)
+    connections) workers) frames) every) silence) verbose
 
 -- `hgd --version` tells the version, and one of the commands is wanted
 abbrev pub start : App

@@ -12,6 +12,8 @@ use Rattle.hg_options.specs.declared.task.ErrorExitcode.{ErrorExitcode}
 use Rattle.hg_options.specs.declared.task.Explaining.{Explaining}
 use Rattle.hg_options.specs.declared.task.Frames.{Frames}
 use Rattle.hg_options.specs.declared.task.Jobs.{Jobs}
+use Rattle.hg_options.specs.declared.task.Place.{Place}
+use Rattle.hg_options.specs.declared.task.Place.TheVariants as place
 use Rattle.hg_options.specs.declared.task.Serving.{Serving}
 use Rattle.hg_options.specs.declared.task.Source.{Source}
 use Rattle.hg_options.specs.declared.task.StoreTask.{StoreTask}
@@ -42,22 +44,39 @@ AreJobs rows jobs = IsNumber (codes "jobs") 1 MOST_JOBS 1 rows jobs.threads
 abbrev pub IsSource : List Row → Source → Type 0
 IsSource rows source = IsNumber (codes "SOURCE") 0 GREATEST_SOURCE 0 rows source.number
 
+-- the flag was given
+abbrev pub IsFlag : Text → List Row → Bool → Type 0
+IsFlag id rows flag = (flag ≡ true) ↔ (first_of id rows ≡ Some (codes "true"))
+
+-- PORT spells the number of a port
+abbrev pub IsPort : List Row → ℕ → Type 0
+IsPort rows n = Spells (codes "PORT") rows n × (1 ≤ n) × (n ≤ GREATEST_PORT)
+
+-- it spells none
+abbrev pub HasNoPort : List Row → Type 0
+HasNoPort rows = (m : ℕ) → Spells (codes "PORT") rows m → 1 ≤ m → m ≤ GREATEST_PORT → ⊥
+
+-- PORT is the word for a socket
+abbrev pub IsSocket : List Row → Type 0
+IsSocket rows = first_of (codes "PORT") rows ≡ Some (codes "unix")
+
+abbrev pub IsPlace : List Row → Place → Type 0
+IsPlace rows (place.Port port) = IsPort rows port
+IsPlace rows place.Socket = HasNoPort rows × IsSocket rows
+
 pub record AreServing (rows : List Row) (serving : Serving) : Type 0 where
-  pub port : IsNumber (codes "PORT") 1 GREATEST_PORT 1 rows serving.port
+  pub place : IsPlace rows serving.place
   pub connections : IsNumber (codes "connections") 1 MOST_CONNECTIONS 1 rows serving.connections
   pub workers : IsNumber (codes "workers") 1 MOST_WORKERS 1 rows serving.workers
   pub frames : AreFrames rows serving.frames
   pub every : IsNumber (codes "every") 1 MOST_EVERY DEFAULT_EVERY rows serving.every
   pub silence : IsNumber (codes "silence") 1 MOST_SILENCE 0 rows serving.silence
+  pub verbose : IsFlag (codes "verbose") rows serving.verbose
 
 -- the status that `--error-exitcode` spells, from 1 to 255; or it spells none
 abbrev pub IsErrorExitcode : List Row → Option ErrorExitcode → Type 0
 IsErrorExitcode rows (Some given) = Spells (codes "error-exitcode") rows given.status × (1 ≤ given.status) × (given.status ≤ GREATEST_STATUS)
 IsErrorExitcode rows None = (m : ℕ) → Spells (codes "error-exitcode") rows m → 1 ≤ m → m ≤ GREATEST_STATUS → ⊥
-
--- the flag was given
-abbrev pub IsFlag : Text → List Row → Bool → Type 0
-IsFlag id rows flag = (flag ≡ true) ↔ (first_of id rows ≡ Some (codes "true"))
 
 -- the text of ADDRESS is a number of 64 bits, as in a trace
 abbrev pub IsAddress : List Row → ℕ → Type 0
@@ -141,6 +160,10 @@ NamesTwo rows = ((t : Text) × (first_of (codes "DIR") rows ≡ Some t)) ⊎ ((a
 abbrev pub HasTwoWords : Text × List Row → Type 0
 HasTwoWords (name, rows) = (name ≡ codes "explain") × ((k : ℕ) × IsRace rows k) × NamesTwo rows
 
+-- it is `serve`, and names no port and no socket
+abbrev pub HasBadPort : Text × List Row → Type 0
+HasBadPort (name, rows) = (name ≡ codes "serve") × HasNoPort rows × ¬ IsSocket rows
+
 -- A command lacks something: it asks for no value, and is not `explain`.
 abbrev pub LacksSome : {T : Type 0} → (T → Type 0) → Text × List Row → Type 0
 LacksSome is_asked given = AsksForNothing is_asked × (given.0 ≡ codes "explain" → ⊥)
@@ -152,6 +175,7 @@ IsMisread kinds command (misread.Bad text) = SomeKind (λ k. AsksForText k → �
 IsMisread kinds command misread.BadAddress = (kinds ≡ []) × IsSomeAnd command HasBadAddress
 IsMisread kinds command misread.NoWord = (kinds ≡ []) × IsSomeAnd command HasNoWord
 IsMisread kinds command misread.TwoWords = (kinds ≡ []) × IsSomeAnd command HasTwoWords
+IsMisread kinds command misread.BadPort = (kinds ≡ []) × IsSomeAnd command HasBadPort
 IsMisread kinds command misread.Incomplete = (kinds ≡ []) × IfSome command (λ given. LacksSome (IsTask given) given)
 IsMisread kinds command misread.OutOfMemory = ⊤
 
@@ -175,6 +199,7 @@ IsUnasked is_asked given misread.Incomplete = LacksSome is_asked given
 IsUnasked is_asked given misread.BadAddress = HasBadAddress given
 IsUnasked is_asked given misread.NoWord = HasNoWord given
 IsUnasked is_asked given misread.TwoWords = HasTwoWords given
+IsUnasked is_asked given misread.BadPort = HasBadPort given
 IsUnasked is_asked given r = ⊥
 
 -- Why the text of ADDRESS is the address of no word: there is none, or it is no number.
@@ -182,6 +207,11 @@ abbrev pub IsNoWord : List Row → Misread → Type 0
 IsNoWord rows misread.NoWord = first_of (codes "ADDRESS") rows ≡ None
 IsNoWord rows misread.BadAddress = HasNoAddress rows
 IsNoWord rows r = ⊥
+
+-- Why PORT names no place: it is no number of a port, nor the word for a socket.
+abbrev pub IsNoPlace : List Row → Misread → Type 0
+IsNoPlace rows misread.BadPort = HasNoPort rows × ¬ IsSocket rows
+IsNoPlace rows r = ⊥
 
 -- Why no store, nor standard input, is named with `--race`: an address is named too.
 abbrev pub IsNoStoreOfRace : List Row → Misread → Type 0

@@ -11,8 +11,7 @@ use crate::arguments::{
     EVERY_OPTION, FRAMES_OPTION, JOBS_OPTION, NumberOption, PORT, RACE_OPTION, SILENCE_OPTION,
     SOURCE, Switch, VERBOSE_FLAG, WORKERS_OPTION,
 };
-use crate::help::LANGUAGE;
-use crate::limits::GREATEST_PORT;
+use crate::help::{CONNECTING, LANGUAGE};
 use clap::builder::ValueParser;
 use clap::{Arg, ArgAction, Command};
 use hg_model::limits::GREATEST_SOURCE;
@@ -53,6 +52,17 @@ fn address<'a>(alloc: Global) -> Arg<'a>
         .help("The address of the word, in decimal or in hexadecimal after 0x")
 }
 
+/// What a server listens on.
+fn place<'a>(alloc: Global) -> Arg<'a>
+    ensures rule { rule_of result ≡ spec.port }
+    ensures local { result.global ≡ false }
+{
+    Arg::new(alloc, PORT)
+        .required(true)
+        .value_parser(ValueParser::NonEmptyString)
+        .help("The port of 127.0.0.1 to listen on, or `unix` for the file `socket` in DIR")
+}
+
 /// A flag.
 fn flag<'a>(alloc: Global, given: Switch) -> Arg<'a>
     ensures rule { rule_of result ≡ spec.flag given.name.now }
@@ -88,6 +98,14 @@ fn command<'a>(alloc: Global, name: &'a str, about: &'a str) -> Command<'a>
     ensures local { HasNoGlobals result }
 {
     Command::new(alloc, name).about(about).after_help(LANGUAGE)
+}
+
+/// A command without arguments, before whose help a text stands.
+fn introduced<'a>(alloc: Global, name: &'a str, about: &'a str, text: &'a str) -> Command<'a>
+    ensures app { app_of result ≡ new_app name.entry.now }
+    ensures local { HasNoGlobals result }
+{
+    command(alloc, name, about).before_help(text)
 }
 
 /// A command with one argument more, unless memory was refused for that command or is refused now.
@@ -195,30 +213,25 @@ fn feed<'a>(alloc: Global) -> Result<Command<'a>, AllocError>
     with_argument(with_frames, flag(alloc, VERBOSE_FLAG))
 }
 
-/// `serve DIR PORT --connections N --workers W [--frames F] [--every E] [--silence SECONDS]`.
+/// `serve DIR PORT --connections N --workers W [--frames F] [--every E] [--silence SECONDS] [--verbose]`.
 fn serve<'a>(alloc: Global) -> Result<Command<'a>, AllocError>
     ensures app { IfOk result (λ c. app_of c ≡ spec.serve) }
     ensures local { IfOk result HasNoGlobals }
 {
-    let begun = command(
+    let begun = introduced(
         alloc,
         "serve",
         "Takes events from clients that connect, and answers them",
+        CONNECTING,
     );
     let of_store = with_argument(Ok(begun), directory(alloc, true));
-    let port = number(
-        alloc,
-        PORT,
-        1,
-        GREATEST_PORT as i64,
-        "The port of 127.0.0.1 to listen on",
-    );
-    let at_port = with_argument(of_store, port);
+    let at_port = with_argument(of_store, place(alloc));
     let with_connections = with_argument(at_port, option(alloc, CONNECTIONS_OPTION));
     let with_workers = with_argument(with_connections, option(alloc, WORKERS_OPTION));
     let with_frames = with_argument(with_workers, option(alloc, FRAMES_OPTION));
     let with_every = with_argument(with_frames, option(alloc, EVERY_OPTION));
-    with_argument(with_every, option(alloc, SILENCE_OPTION))
+    let with_silence = with_argument(with_every, option(alloc, SILENCE_OPTION));
+    with_argument(with_silence, flag(alloc, VERBOSE_FLAG))
 }
 
 /// The command line of `hgd`, without its commands. `version` is what `--version` tells.

@@ -36,3 +36,10 @@ Codes of faults:
  10  a commit of `serve` had failed       20  the pages of the store have no room
  11  the files are not a store's          21  a stream, a file or a listener failed
  19  the sets of the store have no room   22  memory was refused";
+
+/// Who may connect to a server.
+pub const CONNECTING: &str =
+    "To a port any user of this machine may connect, as any source, without a name. Such a client can send events under
+the numbers of another source, read the reports, and use up --connections. Where not every user may do that, give
+`unix` in place of a port: clients then connect to the file `socket` in DIR, and only those can who may enter DIR and
+write to that file, which is made with the rights 0777 less the umask (022 leaves its owner alone).";

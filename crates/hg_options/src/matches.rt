@@ -1,8 +1,8 @@
 //! From the matches of a command line to what it asks for.
 
-ghost use Rattle.std.specs.Prelude.{◌≡◌, ◌≤◌, ℕ, Some, None, IfErr, IfOk, codes, option_map};
+ghost use Rattle.std.specs.Prelude.{◌≡◌, ◌↔◌, ◌≤◌, ℕ, Some, None, IfErr, IfOk, codes, option_map, true};
 ghost use Rattle.clap.specs.Words.{first_of, found_of, rows_of};
-ghost use Rattle.hg_options.specs.Tasks.{AreFrames, AreJobs, AreServing, AsksFor, AsksOfStore, IsAddress, IsErrorExitcode, IsFirst, IsFlag, IsNoStoreOfRace, IsNoWord, IsNumber, IsRaceOption, IsSource, IsStoreOfRace};
+ghost use Rattle.hg_options.specs.Tasks.{AreFrames, AreJobs, AreServing, AsksFor, AsksOfStore, IsAddress, IsErrorExitcode, IsFirst, IsFlag, IsNoPlace, IsNoStoreOfRace, IsNoWord, IsNumber, IsPlace, IsRaceOption, IsSocket, IsSource, IsStoreOfRace};
 
 use crate::arguments::{
     ADDRESS, ALL, CHECKPOINT, CONNECTIONS, DIRECTORY, ERROR_EXITCODE, EVERY, FRAMES, JOBS, PORT,
@@ -13,7 +13,8 @@ use crate::limits::{
     MOST_FRAMES, MOST_JOBS, MOST_RACE, MOST_SILENCE, MOST_WORKERS,
 };
 use crate::task::{
-    ErrorExitcode, Explaining, Frames, Jobs, Misread, Serving, Source, StoreTask, Subject, Task,
+    ErrorExitcode, Explaining, Frames, Jobs, Misread, Place, Serving, Source, StoreTask, Subject,
+    Task,
 };
 use clap::ArgMatches;
 use hg_model::limits::GREATEST_SOURCE;
@@ -91,19 +92,47 @@ fn source(given: &ArgMatches<'_>) -> Source
     }
 }
 
-/// How a store is served.
-fn serving(given: &ArgMatches<'_>) -> Serving
-    ensures { AreServing (rows_of (found_of given.now)) result }
+/// Whether PORT is the word for a socket.
+fn is_socket(given: &ArgMatches<'_>) -> bool
+    ensures { (result ≡ true) ↔ IsSocket (rows_of (found_of given.now)) }
 {
+    match given.get_str(PORT) {
+        Some(text) => text == "unix",
+        None => false,
+    }
+}
+
+/// Where clients connect.
+fn place(given: &ArgMatches<'_>) -> Result<Place, Misread>
+    ensures place { IfOk result (IsPlace (rows_of (found_of given.now))) }
+    ensures none { IfErr result (IsNoPlace (rows_of (found_of given.now))) }
+{
+    let port = number(given, PORT, 1, GREATEST_PORT, 0);
+    if port > 0 {
+        return Ok(Place::Port { port });
+    }
+    if is_socket(given) {
+        return Ok(Place::Socket);
+    }
+    Err(Misread::BadPort)
+}
+
+/// How a store is served.
+fn serving(given: &ArgMatches<'_>) -> Result<Serving, Misread>
+    ensures serving { IfOk result (AreServing (rows_of (found_of given.now))) }
+    ensures none { IfErr result (IsNoPlace (rows_of (found_of given.now))) }
+{
+    let place = place(given)?;
     let workers = number(given, WORKERS, 1, MOST_WORKERS, 1);
-    Serving {
-        port: number(given, PORT, 1, GREATEST_PORT, 1),
+    Ok(Serving {
+        place,
         connections: number(given, CONNECTIONS, 1, MOST_CONNECTIONS, 1),
         workers,
         frames: frames(given),
         every: wide_number(given, EVERY, 1, MOST_EVERY, DEFAULT_EVERY),
         silence: number(given, SILENCE, 1, MOST_SILENCE, 0),
-    }
+        verbose: is_set(given, VERBOSE),
+    })
 }
 
 /// Whether a flag was given.
@@ -212,9 +241,10 @@ fn store_task(name: &str, given: &ArgMatches<'_>) -> Result<StoreTask, Misread>
             checkpoint: is_set(given, CHECKPOINT),
             verbose: is_set(given, VERBOSE),
         }),
-        "serve" => Ok(StoreTask::Serve {
-            serving: serving(given),
-        }),
+        "serve" => {
+            let serving = serving(given)?;
+            Ok(StoreTask::Serve { serving })
+        }
         _ => Err(Misread::Incomplete),
     }
 }

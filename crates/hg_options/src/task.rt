@@ -108,11 +108,20 @@ pub struct Source {
     ghost fits: { number ≤ GREATEST_SOURCE },
 }
 
+/// Where clients connect.
+#[derive(Clone, Copy, Drop)]
+pub enum Place {
+    /// A port of 127.0.0.1, 1 to 65,535.
+    Port { port: u16 },
+    /// A socket in the store's directory.
+    Socket,
+}
+
 /// How a store is served.
 #[derive(Clone, Copy, Drop)]
 pub struct Serving {
-    /// The port, 1 to 65,535.
-    pub port: u16,
+    /// Where clients connect.
+    pub place: Place,
     /// How many connections are taken, 1 to 65,535.
     pub connections: u16,
     /// How many conversations are held at once, 1 to 64.
@@ -123,6 +132,8 @@ pub struct Serving {
     pub every: u32,
     /// How many seconds a client may be silent, or 0 for ever.
     pub silence: u16,
+    /// Whether it is told in words what the server waits for or ended by.
+    pub verbose: bool,
     ghost fits: { (1 ≤ workers) × (workers ≤ MOST_WORKERS) },
 }
 
@@ -139,6 +150,8 @@ pub enum Misread {
     NoWord,
     /// It names a word by an address and by a report.
     TwoWords,
+    /// It serves a store on no port and no socket.
+    BadPort,
     /// It has no fault, and yet its command lacks what it needs. No command line is known that ends here.
     Incomplete,
     /// A growth was refused.

@@ -21,15 +21,21 @@ use Rattle.hg_store.specs.Refusals.{IsNotOpened}
 use Rattle.hg_server.specs.declared.fault.ServingFault.{ServingFault}
 use Rattle.hg_server.specs.declared.fault.ServingFault.TheVariants as fault
 use Rattle.hg_server.specs.declared.serving.Outcome.{Outcome}
+use Rattle.hg_server.specs.declared.settings.Place.{Place}
+use Rattle.hg_server.specs.declared.settings.Place.TheVariants as place
 use Rattle.hg_server.specs.declared.settings.Settings.{Settings}
 
 -- how many connections were served, and the end line of a store with this content
 abbrev pub served_text : ℕ → Content → List ℕ
 served_text connections c = number_text (codes "served ") connections ++ line_text (counts_line c)
 
--- that it listens on its port
+-- that it listens, and on what
+abbrev pub place_text : Place → List ℕ
+place_text (place.Port port) = number_text (codes "ready ") port
+place_text place.Socket = line_text (codes "ready unix")
+
 abbrev pub ready_text : Settings → List ℕ
-ready_text settings = number_text (codes "ready ") settings.port
+ready_text settings = place_text settings.place
 
 -- all that a server prints if its store ends with this content
 abbrev pub serving_text : Settings → Content → List ℕ

@@ -6,6 +6,7 @@ mod ending;
 mod fault;
 pub mod flusher;
 pub mod health;
+pub mod listening;
 pub mod opened;
 mod patience;
 pub mod serving;

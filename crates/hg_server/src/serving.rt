@@ -15,8 +15,9 @@ use crate::ending::hold_end_line;
 use crate::fault::ServingFault;
 use crate::flusher::{Due, flusher};
 use crate::health::Terms;
+use crate::listening::Listener;
 use crate::opened::Opened;
-use crate::settings::Settings;
+use crate::settings::{Place, Settings};
 use crate::settling::settle;
 use crate::starting::can_start;
 use crate::worker::{Gate, Seat, worker};
@@ -35,7 +36,6 @@ use hg_trail::Trail;
 use std::alloc::{AllocError, Global};
 use std::io::Write;
 use std::marker::Brand;
-use std::net::TcpListener;
 use std::sync::Wait;
 use std::sync::ledger::Blank;
 use std::thread;
@@ -48,7 +48,7 @@ const OTHER_THREADS: usize = 2;
 /// Where a server takes its connections, how it runs, and what its threads ask between two holds of the lock.
 #[derive(Drop)]
 pub struct Door<'a, G> {
-    pub listener: &'a TcpListener,
+    pub listener: &'a Listener,
     pub settings: Settings,
     pub gate: &'a G,
 }
@@ -100,7 +100,7 @@ fn run_workers<
                 },
             )
         },
-        move || accept_all(rt, listener, connections, &terms.health, to),
+        move || accept_all(rt, listener, connections, &terms.health, gate, to),
     );
     shares
 }
@@ -267,7 +267,22 @@ fn print_end<D: Disk, W: Write>(
     Ok(())
 }
 
-/// Prints `ready` and the port, where all threads can be made.
+/// Prints `ready` and what the server listens on.
+fn print_ready<W: Write>(settings: Settings, output: &mut Output<W>) -> Result<(), Refusal>
+    ensures printed { OnOk result (Took output.old.calls output.new.calls (ready_text settings)) }
+    ensures calls { IsPrintedNow output.old.calls output.new.calls (ready_text settings) }
+    ensures cause { IfErr result IsStreamFault }
+{
+    match settings.place {
+        Place::Port { port } => print_number(b"ready ", u64::from(port), output),
+        Place::Socket => {
+            print_now(b"ready unix\n", output)?;
+            Ok(())
+        }
+    }
+}
+
+/// Prints `ready` and what the server listens on, where all threads can be made.
 fn announce<G, R: Threads + Clock + Sync, W: Write>(
     rt: &R,
     alloc: Global,
@@ -285,10 +300,10 @@ fn announce<G, R: Threads + Clock + Sync, W: Write>(
     ) {
         return Err(Refusal::OutOfMemory);
     }
-    print_number(b"ready ", u64::from(door.settings.port), output)
+    print_ready(door.settings, output)
 }
 
-/// Prints `ready` and the port where all threads can be made, serves the connections, and prints what is due then.
+/// Prints `ready` and what the server listens on where all threads can be made, serves the connections, and prints what is due then.
 fn serve_and_print<
     D: Disk + Send + Drop,
     G: Gate + Sync,
@@ -397,7 +412,7 @@ pub struct Outcome<D: Disk> {
     pub opened: Trail<Opened<D>>,
 }
 
-/// Recovers the store that the devices hold, prints `ready` and the port, takes the connections, holds their conversations, makes
+/// Recovers the store that the devices hold, prints `ready` and what the server listens on, takes the connections, holds their conversations, makes
 /// checkpoints meanwhile, and prints `served`, how many were taken, and the end line. All accepted events are durable then. Answers the status, 0 with the store, or 3
 /// with the devices where they hold no store, a device or the output failed, or memory or room was refused,
 /// which is told among the faults. A connection that fails ends alone. Whatever ends it, no durable event is lost, and each image between two

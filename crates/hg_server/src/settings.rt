@@ -2,11 +2,20 @@
 
 use std::time::Duration;
 
+/// What a server listens on.
+#[derive(Clone, Copy, Drop)]
+pub enum Place {
+    /// A port.
+    Port { port: u16 },
+    /// A socket in a folder.
+    Socket,
+}
+
 /// How a server runs.
 #[derive(Clone, Copy, Drop)]
 pub struct Settings {
-    /// The port that the listener has, which is printed.
-    pub port: u16,
+    /// What the listener has, which is printed.
+    pub place: Place,
     /// How many pages may be in memory: 4 to 4,096.
     pub frames: u16,
     /// How many connections are taken.

@@ -39,6 +39,8 @@ pub enum Point {
     BeforeSeal,
     /// The flusher opened the root.
     RootOpen,
+    /// The system had no room for a connection that waits: no descriptor, or no memory. It is listened on.
+    NoRoom,
 }
 
 /// Whether a thread goes on.

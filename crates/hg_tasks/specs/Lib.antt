@@ -1,1 +1,3 @@
 pub mod Exits
+pub mod Look
+pub mod Looking

@@ -1,18 +1,14 @@
 //! The files of a store's directory: opened, made, locked and made durable.
 ghost use Rattle.std.specs.Prelude.{◌≡◌, IfErr};
 
+use crate::look::LookDisk;
+use crate::scratch::{Scratch, beside_streams};
 use hg_disk::FileDisk;
-use hg_store::devices::{Devices, MOST_SLOTS, SLOT_LEN};
+use hg_store::devices::Devices;
 use std::fs::{File, OpenOptions, TryLockError};
-use std::io::{ErrorKind, Read};
-use std::os::fd::AsRawFd;
-use std::os::unix::fs::OpenOptionsExt;
-use std::random::RandomSource;
+use std::io::ErrorKind;
 use std::string::String;
-use std::{env, fs, io};
-
-/// The greatest length of a store's `pages`: that of all slots.
-const MAX_PAGES_LEN: u64 = MOST_SLOTS as u64 * SLOT_LEN as u64;
+use std::{fs, io};
 
 /// Why a store's files can't be used.
 #[derive(Clone, Copy, Drop)]
@@ -70,14 +66,6 @@ fn path_of(rt: &HostRuntime, directory: &str, name: &'static str) -> Result<Stri
         Ok(path) => Ok(path),
         Err(_) => Err(out_of_memory(name)),
     }
-}
-
-/// The file, unless it got one of the descriptors 0 to 2. These belong to the standard streams, even where they are closed.
-fn beside_streams(file: File) -> io::Result<File> {
-    if file.as_raw_fd() <= 2 {
-        return Err(io::Error::other("it got the descriptor of a closed standard stream"));
-    }
-    Ok(file)
 }
 
 /// Says so where something other than a regular file, or a link to one, has a path. One that has none is not looked at. To open a FIFO
@@ -163,42 +151,6 @@ fn open_journal(rt: &HostRuntime, directory: &str, mode: OpenMode) -> Result<Fil
     device("journal", file, mode)
 }
 
-/// Where a scratch file is made: a name in the system's folder for temporary files, of a random number.
-fn scratch_path(rt: &HostRuntime) -> io::Result<String> {
-    let mut random = [0; 8];
-    rt.fill_bytes(&mut random)?;
-    let number = u64::from_be_bytes(random);
-    let folder = env::temp_dir(rt)?;
-    Ok(format!(in rt.alloc(); "{}/hgd-{number:016x}", folder.as_str())?)
-}
-
-/// A new file without a byte, in the system's folder for temporary files, that no other user may open. Its name is removed at once, so that
-/// nothing of it stays behind when the program ends.
-fn scratch_file(rt: &HostRuntime) -> io::Result<File> {
-    let path = scratch_path(rt)?;
-    let file = OpenOptions::new()
-        .read(true)
-        .write(true)
-        .create_new(true)
-        .mode(0o600)
-        .open(rt, path.as_str())?;
-    fs::remove_file(rt, path.as_str())?;
-    beside_streams(file)
-}
-
-/// A scratch file with the bytes of `pages`, or without a byte where that is missing. One that is longer than a store's is not copied.
-fn scratch_copy(rt: &HostRuntime, pages: &Option<File>) -> io::Result<File> {
-    let mut copy = scratch_file(rt)?;
-    if let Some(file) = pages {
-        let len = file.metadata()?.len();
-        if len > MAX_PAGES_LEN {
-            return Err(ErrorKind::FileTooLarge.into());
-        }
-        io::copy(&mut file.take(len), &mut copy)?;
-    }
-    Ok(copy)
-}
-
 /// Makes a file's bytes durable, or a folder's names.
 fn sync(name: &'static str, file: &File) -> Result<(), OpenFault>
     ensures { IfErr result (λ f. f.cause ≡ Cause.DeviceFault) }
@@ -209,20 +161,9 @@ fn sync(name: &'static str, file: &File) -> Result<(), OpenFault>
     }
 }
 
-/// Opens `pages`. `Make` makes the empty file durable: a new store has no page to write. `Look` gets a scratch copy, since opening a store
-/// may write pages. Where no copy can be made it gets `pages` itself, which is enough as long as all pages have room in memory; but
-/// where memory for the copy is refused, that is told.
+/// Opens `pages`. `Make` makes the empty file durable: a new store has no page to write.
 fn open_pages(rt: &HostRuntime, directory: &str, mode: OpenMode) -> Result<FileDisk, OpenFault> {
     let pages = open_file(rt, directory, "pages", mode)?;
-    if mode == OpenMode::Look {
-        match scratch_copy(rt, &pages) {
-            Ok(copy) => return device("pages", Some(copy), OpenMode::Make),
-            Err(error) if error.kind() == ErrorKind::OutOfMemory => {
-                return Err(out_of_memory("pages"));
-            }
-            Err(_) => {}
-        }
-    }
     if mode == OpenMode::Make {
         if let Some(file) = &pages {
             sync("pages", file)?;
@@ -256,7 +197,7 @@ fn open_files(
 }
 
 /// Opens the files of a store's directory: `journal`, `pages`, `root0` and `root1`. Only `OpenMode::Make` makes files; for
-/// another mode a file that is missing is read as an empty one. With `OpenMode::Look` none of them is changed. The journal is
+/// another mode a file that is missing is read as an empty one. With `OpenMode::Look` each is opened for reading. The journal is
 /// locked, so that the store is used by one program that changes it, or by programs that look at it. `DeviceFault` says that a
 /// file can't be opened, or that another program uses the store.
 ///
@@ -272,6 +213,37 @@ pub fn open_directory(
     let devices = open_files(rt, directory, mode);
     drop((first, second, third));
     devices
+}
+
+/// What is written to `pages` in a look.
+fn scratch_of(rt: &HostRuntime) -> Result<Scratch<'_>, OpenFault>
+    ensures { IfErr result (λ f. f.cause ≡ Cause.OutOfMemory) }
+{
+    match Scratch::new(rt) {
+        Ok(scratch) => Ok(scratch),
+        Err(_) => Err(out_of_memory("pages")),
+    }
+}
+
+/// Opens the files of a store's directory to look at them. Opening a store may write pages, where not all of them have room in memory:
+/// these go to a scratch file, which is made then. Nothing of the store is changed.
+pub fn look_at_directory<'a>(
+    rt: &'a HostRuntime,
+    directory: &str,
+) -> Result<Devices<LookDisk<'a>>, OpenFault> {
+    let scratch = scratch_of(rt)?;
+    let Devices {
+        journal,
+        slots,
+        root0,
+        root1,
+    } = open_directory(rt, directory, OpenMode::Look)?;
+    Ok(Devices {
+        journal: LookDisk::new(journal, None),
+        slots: LookDisk::new(slots, Some(scratch)),
+        root0: LookDisk::new(root0, None),
+        root1: LookDisk::new(root1, None),
+    })
 }
 
 /// Makes a directory's names durable.

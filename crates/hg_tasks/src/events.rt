@@ -2,7 +2,7 @@
 
 ghost use Rattle.std.specs.Prelude.{◌≡◌};
 
-use hg_disk::FileDisk;
+use crate::look::LookDisk;
 use hg_model::event::{Access, Block, Event};
 use hg_model::verdict::Refusal;
 use hg_store::store::Store;
@@ -17,9 +17,9 @@ const PIECE: usize = 1_024;
 
 /// The events of a store in the order in which they were accepted, one a line.
 #[derive(Drop)]
-pub struct EventText {
+pub struct EventText<'a> {
     alloc: Global,
-    store: Store<FileDisk>,
+    store: Store<LookDisk<'a>>,
     /// The place of the next event that is taken, counted from 1.
     next: u64,
     text: String,
@@ -69,9 +69,9 @@ fn kind_of(refusal: Refusal) -> ErrorKind
     }
 }
 
-impl EventText {
+impl<'a> EventText<'a> {
     /// For a store of which no event was taken yet.
-    pub fn new(alloc: Global, store: Store<FileDisk>) -> EventText {
+    pub fn new(alloc: Global, store: Store<LookDisk<'a>>) -> EventText<'a> {
         EventText {
             alloc,
             store,
@@ -94,7 +94,7 @@ impl EventText {
     }
 }
 
-impl Read for EventText {
+impl<'a> Read for EventText<'a> {
     fn read(&mut self, buf: &mut [u8]) -> io::Result<usize> {
         if self.used >= self.text.len() {
             if let Err(refusal) = self.refill() {

@@ -1,7 +1,8 @@
 //! Faults, and what the last line means, told on standard error.
 
 use crate::directory::{Cause, OpenFault};
-use hg_disk::FileDisk;
+use crate::look::LookDisk;
+use hg_disk::{Disk, FileDisk};
 use hg_model::verdict::Refusal;
 use hg_store::devices::Devices;
 use hg_streams::output::{Output, Outputs};
@@ -93,8 +94,37 @@ pub fn tell_of_text<R, W, V>(
     }
 }
 
+/// The system's error of the first call that failed, of each file of a store.
+#[derive(Clone, Copy, Drop)]
+struct FileErrors {
+    journal: Option<io::Error>,
+    pages: Option<io::Error>,
+    root0: Option<io::Error>,
+    root1: Option<io::Error>,
+}
+
+/// Those of files that were changed.
+fn errors_of_files(devices: &Devices<FileDisk>) -> FileErrors {
+    FileErrors {
+        journal: devices.journal.error(),
+        pages: devices.slots.error(),
+        root0: devices.root0.error(),
+        root1: devices.root1.error(),
+    }
+}
+
+/// Those of files that were looked at.
+fn errors_of_looks(devices: &Devices<LookDisk<'_>>) -> FileErrors {
+    FileErrors {
+        journal: devices.journal.error(),
+        pages: devices.slots.error(),
+        root0: devices.root0.error(),
+        root1: devices.root1.error(),
+    }
+}
+
 /// Tells which device of a store is not a store's.
-fn tell_damage(rt: &HostRuntime, devices: Devices<FileDisk>) {
+fn tell_damage<D: Disk + Drop>(rt: &HostRuntime, devices: Devices<D>) {
     let Devices {
         journal,
         slots: _,
@@ -107,21 +137,22 @@ fn tell_damage(rt: &HostRuntime, devices: Devices<FileDisk>) {
 
 /// Tells a fault of a command on a store. `input` and `output` are the errors of its streams, if any; `pages` is the name of the file with
 /// the slots.
-fn tell_fault_of_store(
+fn tell_fault_of_store<D: Disk + Drop>(
     rt: &HostRuntime,
     code: u64,
     input: Option<io::Error>,
     output: Option<io::Error>,
     pages: &str,
-    devices: Devices<FileDisk>,
+    errors: FileErrors,
+    devices: Devices<D>,
 ) {
     let sources = [
         source("standard input", input),
         source("standard output", output),
-        source("journal", devices.journal.error()),
-        source(pages, devices.slots.error()),
-        source("root0", devices.root0.error()),
-        source("root1", devices.root1.error()),
+        source("journal", errors.journal),
+        source(pages, errors.pages),
+        source("root0", errors.root0),
+        source("root1", errors.root1),
     ];
     if code == 11 {
         tell_damage(rt, devices);
@@ -134,11 +165,26 @@ fn tell_fault_of_store(
 pub fn tell_of_listing<W, V>(
     rt: &HostRuntime,
     outputs: &Outputs<NotedWriter<W>, NotedWriter<V>>,
+    devices: Devices<LookDisk<'_>>,
+) {
+    if let Some(Last::Fault { code }) = last_line(&outputs.output, &outputs.faults) {
+        let output = outputs.output.stream().error();
+        let errors = errors_of_looks(&devices);
+        let pages = "pages, or its copy";
+        tell_fault_of_store(rt, code, None, output, pages, errors, devices);
+    }
+}
+
+/// Tells the last line of a server.
+pub fn tell_of_serving<W, V>(
+    rt: &HostRuntime,
+    outputs: &Outputs<NotedWriter<W>, NotedWriter<V>>,
     devices: Devices<FileDisk>,
 ) {
     if let Some(Last::Fault { code }) = last_line(&outputs.output, &outputs.faults) {
         let output = outputs.output.stream().error();
-        tell_fault_of_store(rt, code, None, output, "pages, or its copy", devices);
+        let errors = errors_of_files(&devices);
+        tell_fault_of_store(rt, code, None, output, "pages", errors, devices);
     }
 }
 
@@ -175,7 +221,8 @@ pub fn tell_of_feeding<R, W, V>(
     match last_line(output, faults) {
         Some(Last::Fault { code }) => {
             let (input, output) = (input.error(), output.stream().error());
-            tell_fault_of_store(rt, code, input, output, "pages", devices);
+            let errors = errors_of_files(&devices);
+            tell_fault_of_store(rt, code, input, output, "pages", errors, devices);
         }
         Some(last) => print_of_fed_line(rt, last, input.lines(), devices),
         None => {}

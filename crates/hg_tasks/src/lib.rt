@@ -4,6 +4,8 @@
 pub mod directory;
 pub mod events;
 pub mod faults;
+pub mod look;
+mod scratch;
 pub mod status;
 pub mod stores;
 pub mod streams;

@@ -4,9 +4,10 @@ ghost use Rattle.std.specs.Prelude.{◌≡◌, false};
 ghost use Rattle.hg_store.specs.Limits.{IsFrameCount};
 ghost use Rattle.hg_tasks.specs.Exits.{ListsAndExits};
 
-use crate::directory::{OpenMode, make_directory, open_directory};
+use crate::directory::{OpenMode, look_at_directory, make_directory, open_directory};
 use crate::events::EventText;
 use crate::faults::{fail_to_open, tell_of_feeding, tell_of_listing};
+use crate::look::LookDisk;
 use crate::status::exit_status;
 use crate::streams::{noted_outputs, noted_streams, plain_outputs, plain_streams};
 use hg_check::explain::commands::explain;
@@ -109,7 +110,7 @@ pub fn print_of_store(
     error_exitcode: Option<ErrorExitcode>,
     verbose: bool,
 ) -> u8 {
-    let devices = match open_directory(rt, directory, OpenMode::Look) {
+    let devices = match look_at_directory(rt, directory) {
         Ok(devices) => devices,
         Err(fault) => return fail_to_open(rt, &fault, verbose),
     };
@@ -129,7 +130,7 @@ pub fn print_of_store(
 }
 
 /// Prints the life of the word at an address by the events of a store. They have no lines.
-fn explain_address(rt: &HostRuntime, store: Store<FileDisk>, address: u64, all: bool) -> u8 {
+fn explain_address(rt: &HostRuntime, store: Store<LookDisk<'_>>, address: u64, all: bool) -> u8 {
     let form = Form { all, lines: false };
     let mut streams = Streams {
         input: Input::new(EventText::new(rt.alloc(), store)),
@@ -140,7 +141,7 @@ fn explain_address(rt: &HostRuntime, store: Store<FileDisk>, address: u64, all: 
 }
 
 /// Prints that a store keeps no report as this number, and answers the status.
-fn tell_no_race(rt: &HostRuntime, store: &Store<FileDisk>, number: u32) -> u8
+fn tell_no_race(rt: &HostRuntime, store: &Store<LookDisk<'_>>, number: u32) -> u8
     requires works { store.now.is_broken ≡ false }
 {
     let mut outputs = plain_outputs(rt);
@@ -151,7 +152,7 @@ fn tell_no_race(rt: &HostRuntime, store: &Store<FileDisk>, number: u32) -> u8
 }
 
 /// Prints the life of a word by the events of a store, or that there is no such report.
-fn explain_store(rt: &HostRuntime, store: Store<FileDisk>, explaining: Explaining) -> u8
+fn explain_store(rt: &HostRuntime, store: Store<LookDisk<'_>>, explaining: Explaining) -> u8
     requires works { store.is_broken ≡ false }
 {
     let address = match explaining.subject {
@@ -167,7 +168,7 @@ fn explain_store(rt: &HostRuntime, store: Store<FileDisk>, explaining: Explainin
 
 /// Prints the life of a word by the events of the store in a directory, or that there is no such report.
 pub fn explain_in(rt: &HostRuntime, directory: &str, explaining: Explaining) -> u8 {
-    let devices = match open_directory(rt, directory, OpenMode::Look) {
+    let devices = match look_at_directory(rt, directory) {
         Ok(devices) => devices,
         Err(fault) => return fail_to_open(rt, &fault, false),
     };

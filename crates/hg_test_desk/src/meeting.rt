@@ -23,6 +23,7 @@ fn name_of(point: Point) -> &'static str {
         Point::Put => "put\n",
         Point::BeforeSeal => "before seal\n",
         Point::RootOpen => "root open\n",
+        Point::NoRoom => "no room\n",
     }
 }
 

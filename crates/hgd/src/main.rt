@@ -1,35 +1,24 @@
 //! `hgd`: a detector of data races in traces of programs with threads.
 #![tactic(auto)]
 
+mod listening;
+mod serving;
 mod version;
 
+use crate::serving::serve_in;
 use crate::version::VERSION;
 use hg_commands::settings::FeedSettings;
-use hg_disk::FileDisk;
-use hg_model::verdict::Refusal;
 use hg_options::limits::DEFAULT_FRAMES;
 use hg_options::reading::read;
 use hg_options::task::{Frames, Jobs, Misread, Serving, StoreTask, Task};
-use hg_server::serving::{Door, serve};
-use hg_server::settings::Settings;
-use hg_server::worker::OpenGate;
-use hg_store::devices::Devices;
 use hg_streams::listing::Listing;
-use hg_streams::output::Outputs;
-use hg_streams::telling::end_by_fault;
-use hg_tasks::directory::{Cause, OpenMode, open_directory};
-use hg_tasks::faults::{fail, fail_to_open};
+use hg_tasks::directory::Cause;
+use hg_tasks::faults::fail;
 use hg_tasks::stores::{create_in, explain_in, feed_in, print_of_store};
-use hg_tasks::streams::plain_outputs;
 use hg_tasks::texts::{Printing, explain_input, print_of_input};
-use std::alloc::Global;
 use std::env;
-use std::io::{ErrorKind, Write};
-use std::net::{Ipv4Addr, Net, SocketAddr, TcpListener, TcpStream};
+use std::io::ErrorKind;
 use std::process::ExitCode;
-use std::sync::Wait;
-use std::thread::Threads;
-use std::time::{Clock, Duration};
 
 /// The status of a bad command line.
 const BAD_COMMAND_LINE: u8 = 4;
@@ -42,6 +31,7 @@ fn fault_text(misread: &Misread) -> &'static str {
         }
         Misread::NoWord => "error: one of ADDRESS and --race K is wanted\n",
         Misread::TwoWords => "error: ADDRESS and --race K can't both be given\n",
+        Misread::BadPort => "error: PORT is neither a number from 1 to 65535 nor `unix`\n",
         _ => "error: the command lacks an argument\n",
     }
 }
@@ -159,66 +149,6 @@ fn perform<'a>(rt: &HostRuntime, words: &'a [String]) -> Outcome<'a> {
         },
         Task::OnStore { directory, task } => perform_on_store(rt, directory, task),
     }
-}
-
-/// How long a client may be silent.
-fn silence_of(serving: Serving) -> Option<Duration> {
-    if serving.silence == 0 {
-        return None;
-    }
-    Some(Duration::from_secs(u64::from(serving.silence)))
-}
-
-/// Listens on the port, and serves the store on these devices. Answers the status.
-fn serve_on<
-    R: Threads + Wait + Clock + Net<Listener = TcpListener, Stream = TcpStream> + Sync,
-    W: Write,
-    V: Write,
->(
-    rt: &R,
-    alloc: Global,
-    devices: Devices<FileDisk>,
-    serving: Serving,
-    outputs: &mut Outputs<W, V>,
-) -> u8 {
-    let address = SocketAddr::from((Ipv4Addr::LOCALHOST, serving.port));
-    let Ok(listener) = TcpListener::bind(rt, address) else {
-        return end_by_fault(Refusal::DeviceFault, &mut outputs.faults);
-    };
-    let settings = Settings {
-        port: serving.port,
-        frames: serving.frames.pages,
-        connections: serving.connections,
-        workers: serving.workers,
-        every: serving.every,
-        silence: silence_of(serving),
-    };
-    let door = Door {
-        listener: &listener,
-        settings,
-        gate: &OpenGate,
-    };
-    serve(rt, alloc, devices, &door, outputs).status
-}
-
-/// Serves the store in a directory. Answers the status.
-fn serve_in<R: Threads + Wait + Clock + Net<Listener = TcpListener, Stream = TcpStream> + Sync>(
-    threads: &R,
-    rt: &HostRuntime,
-    directory: &str,
-    serving: Serving,
-) -> u8 {
-    let devices = match open_directory(rt, directory, OpenMode::Change) {
-        Ok(devices) => devices,
-        Err(fault) => return fail_to_open(rt, &fault, false),
-    };
-    serve_on(
-        threads,
-        rt.alloc(),
-        devices,
-        serving,
-        &mut plain_outputs(rt),
-    )
 }
 
 /// The words of the command line. Where they can't be read, that is told, and the status is answered.

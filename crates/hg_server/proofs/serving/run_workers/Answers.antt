@@ -6,7 +6,7 @@ use Rattle.std.proofs.Common.{rules, [], ◌∷◌}
 use Rattle.std.proofs.Crossing.{crosses}
 use Rattle.std.below.std_heap.proofs.GlobalAllocator.TheSendSync as allocator
 use Rattle.std.proofs.alloc.Global.TheSendSync as heap
-use Rattle.std.proofs.net.tcp.TcpStream.TheSendSync as stream
+use Rattle.hg_server.proofs.listening.Connection.TheSendSync as stream
 use Rattle.std.proofs.vec.Vec.TheSendSync as vec
 use Rattle.crossbeam_channel.proofs.channel.Receiver.TheSendSync as receiver
 use Rattle.crossbeam_channel.proofs.channel.Sender.TheSendSync as sender

@@ -1,0 +1,191 @@
+//! A file that a command only looks at, as a disk of a store.
+ghost use Rattle.std.specs.Prelude.{◌≡◌, ◌+◌, ◌≤◌, ◌^◌, ◌∷◌, false, [], length, replicate, OnOk, is_ok};
+ghost use Rattle.hg_tasks.specs.Looking.{after_answer, replay};
+
+use crate::scratch::{Scratch, error_of, read_base};
+use hg_disk::{Answer, Answered, Call, Disk, DiskFault, FileDisk, MAX_LEN};
+use hg_trail::Trail;
+use std::io;
+use std::io::ErrorKind;
+
+/// A call of a disk with its answer, for contracts alone. A write that took effect has its bytes too.
+#[derive(Drop)]
+pub(crate) struct Event {
+    pub told: Answered,
+    pub bytes: Trail<u8>,
+}
+
+/// A file that is only read, as a disk. What is written to it goes to a scratch file, and is read from there; where there is none, each
+/// write fails. It is never cut.
+///
+/// Nothing is promised about a file's bytes, so this disk is not honest.
+#[derive(Drop)]
+pub struct LookDisk<'a> {
+    base: FileDisk,
+    scratch: Option<Scratch<'a>>,
+    opened_len: u64,
+    len: u64,
+    events: Trail<Event>,
+    error: Option<io::Error>,
+    ghost shows: { len ≡ length (replay (replicate opened_len 0) events).contents },
+    ghost fits: { len ≤ 2 ^ 62 },
+}
+
+/// Notes a call with its answer. Keeps its error if it is the first one.
+fn note(
+    events: &mut Trail<Event>,
+    error: &mut Option<io::Error>,
+    call: Call,
+    bytes: &[u8],
+    answer: io::Result<()>,
+) -> Result<(), DiskFault>
+    ensures same { is_ok result ≡ is_ok answer }
+    ensures noted { events.new ≡ after_answer call bytes.now (is_ok answer) events.old }
+{
+    match answer {
+        Ok(()) => {
+            events.push(Event {
+                told: Answered {
+                    call,
+                    answer: Answer::Done,
+                },
+                bytes: Trail::of(bytes),
+            });
+            Ok(())
+        }
+        Err(cause) => {
+            if error.is_none() {
+                *error = Some(cause);
+            }
+            events.push(Event {
+                told: Answered {
+                    call,
+                    answer: Answer::Failed,
+                },
+                bytes: Trail::new(),
+            });
+            Err(DiskFault)
+        }
+    }
+}
+
+/// The answer of a write or a cut of a file that is only read.
+fn only_read() -> io::Result<()>
+    ensures { is_ok result ≡ false }
+{
+    Err(io::Error::new(ErrorKind::PermissionDenied, "it is only looked at"))
+}
+
+impl<'a> LookDisk<'a> {
+    ghost use Rattle.hg_tasks.specs.Look.{look_failures, look_past, look_state};
+
+    /// A disk over a file that is only read, with no calls yet. What is written goes to `scratch`, if there is one.
+    pub(crate) fn new(base: FileDisk, scratch: Option<Scratch<'a>>) -> LookDisk<'a>
+        ensures synced { (look_state result).since ≡ [] }
+        ensures past { look_past result ≡ [] }
+        ensures failures { look_failures result ≡ 0 }
+    {
+        let len = base.len();
+        LookDisk {
+            base,
+            scratch,
+            opened_len: len,
+            len,
+            events: Trail::new(),
+            error: None,
+        }
+    }
+
+    /// The system's error of the first call that failed, or none.
+    pub fn error(&self) -> Option<io::Error> {
+        self.error
+    }
+}
+
+/// Fills a buffer with what was written last.
+fn fill(
+    base: &mut FileDisk,
+    scratch: &Option<Scratch<'_>>,
+    at: u64,
+    buf: &mut [u8],
+) -> io::Result<()>
+    requires { at + length buf.old ≤ 2 ^ 62 }
+{
+    match scratch {
+        Some(scratch) => scratch.read(base, at, buf),
+        None => read_base(base, at, buf),
+    }
+}
+
+/// Writes bytes where they may go, if they end within the greatest length.
+fn written(
+    base: &mut FileDisk,
+    scratch: &mut Option<Scratch<'_>>,
+    at: u64,
+    bytes: &[u8],
+) -> io::Result<()>
+    ensures { OnOk result (at + length bytes.now ≤ 2 ^ 62) }
+{
+    if at > MAX_LEN || bytes.len() as u64 > MAX_LEN - at {
+        return Err(ErrorKind::FileTooLarge.into());
+    }
+    match scratch {
+        Some(scratch) => scratch.write(base, at, bytes),
+        None => only_read(),
+    }
+}
+
+/// Makes the file's bytes durable, as far as that is owed.
+fn synced(base: &mut FileDisk) -> io::Result<()> {
+    match base.sync() {
+        Ok(()) => Ok(()),
+        Err(_) => Err(error_of(base)),
+    }
+}
+
+impl<'a> Disk for LookDisk<'a> {
+    ghost use Rattle.hg_tasks.specs.Look.{look_failures, look_past, look_state};
+    ghost use Rattle.hg_tasks.specs.Looking.{has_contents};
+
+    ghost is_honest = { false };
+
+    ghost state = { look_state };
+
+    ghost past = { look_past };
+
+    ghost failures = { look_failures };
+
+    ghost has_its_bytes = { λ d. has_contents (replicate d.opened_len 0) d.events };
+
+    fn len(&self) -> u64 {
+        self.len
+    }
+
+    fn read_at(&mut self, at: u64, buf: &mut [u8]) -> Result<(), DiskFault> {
+        let answer = fill(&mut self.base, &self.scratch, at, buf);
+        note(&mut self.events, &mut self.error, Call::Read, &[], answer)
+    }
+
+    fn write_at(&mut self, at: u64, bytes: &[u8]) -> Result<(), DiskFault> {
+        let call = Call::Write {
+            at,
+            len: bytes.len(),
+        };
+        let answer = written(&mut self.base, &mut self.scratch, at, bytes);
+        note(&mut self.events, &mut self.error, call, bytes, answer)?;
+        self.len = self.len.max(at + bytes.len() as u64);
+        Ok(())
+    }
+
+    fn cut(&mut self, to: u64) -> Result<(), DiskFault> {
+        let call = Call::Cut { to };
+        note(&mut self.events, &mut self.error, call, &[], only_read())?;
+        self.len = to;
+        Ok(())
+    }
+
+    fn sync(&mut self) -> Result<(), DiskFault> {
+        let answer = synced(&mut self.base);
+        note(&mut self.events, &mut self.error, Call::Sync, &[], answer)
+    }
+}
