@@ -1,10 +1,10 @@
 -- What an open file has behind its gate.
 use Rattle.std.proofs.Common.{◌≡◌, ◌≤◌, ◌<◌, ◌^◌, ◌+◌, ℕ, List, [], ◌∷◌, ◌++◌, length, take, drop, get_or, refl, sym, ◌∙◌, ap, arith, append_assoc, length-append, length-drop, take-append-drop}
-use Rattle.std.proofs.lemmas.List.{drop-drop, length-take-le, take_at}
+use Rattle.std.proofs.lemmas.List.{drop-drop, length-take-le, take_all, take-take, take_at}
 use Rattle.std.proofs.lemmas.Nat.{from_be_bytes-to_be_bytes_8}
 use Rattle.std.specs.Int.{w64, to_be_bytes, from_be_bytes}
 use Rattle.hg_gate.specs.Batches.{open_gate, IsClosed}
-use Rattle.hg_gate.specs.Gated.{framed, IsOpenWith}
+use Rattle.hg_gate.specs.Gated.{framed, HasFront, HasLength, IsOpenWith}
 
 -- a file by its first byte
 by_gate : (file : List ℕ) → 1 ≤ length file → file ≡ get_or file 0 0 ∷ drop 1 file
@@ -41,3 +41,18 @@ pub one_body : (file first second : List ℕ) → length file < 2 ^ 64 → IsOpe
 one_body file first second small one two =
     let same : length first ≡ length second = length_is file first small one ∙ sym (length_is file second small two) in
     sym (body_is file first one) ∙ ap (λ (n : ℕ). take n (drop 9 file)) same ∙ body_is file second two
+
+-- the whole of a front
+pub whole_front : (head : List ℕ) → length head ≡ 36 → take 28 (drop 8 head) ≡ drop 8 head
+whole_front head is = take_all 28 (drop 8 head) (omega (arith, is, length-drop 8 head))
+
+-- the length of an open file's body, and its front
+pub front_is : (file head body : List ℕ) (n : ℕ) → length file < 2 ^ 64 → 9 + n ≤ length file → get_or file 0 0 ≡ open_gate → HasLength file n → HasFront file head n → IsOpenWith body file
+    → (length body ≡ n) × (28 ≤ n → drop 8 head ≡ take 28 body)
+front_is file head body n small within gate number front opened =
+    let whole = open_with file (take n (drop 9 file)) n within gate number refl in
+    let same : body ≡ take n (drop 9 file) = one_body file body (take n (drop 9 file)) small opened whole in
+    (
+      ap length same ∙ length-take-le n (drop 9 file) (omega (arith, within, length-drop 9 file)),
+      λ more. front more ∙ (sym (take-take 28 n (drop 9 file) more) ∙ ap (take 28) (sym same)),
+    )

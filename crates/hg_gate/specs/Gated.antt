@@ -1,5 +1,5 @@
 -- A file that is open or closed by its first byte, and what a gated file shows.
-use Rattle.std.specs.Prelude.{◌≡◌, ◌≢◌, ◌⊎◌, ◌↔◌, ℕ, Bool, false, IsTrue, List, ◌∷◌, ◌++◌, length, take, drop, get_or, Option, MatchOption, Result, Ok, Err, OnOk, IsErrOf}
+use Rattle.std.specs.Prelude.{◌≡◌, ◌≢◌, ◌≤◌, ◌⊎◌, ◌↔◌, ℕ, Bool, false, IsTrue, List, ◌∷◌, ◌++◌, length, take, drop, get_or, Option, MatchOption, Result, Ok, Err, OnOk, IsErrOf}
 use Rattle.std.specs.Global.{Vec}
 use Rattle.std.specs.Int.{w64, to_be_bytes}
 use Rattle.hg_disk.specs.declared.disk.Disk as disk
@@ -42,6 +42,14 @@ TellsGate bytes is_open = IsTrue is_open ↔ (get_or bytes 0 0 ≡ open_gate)
 -- The eight bytes behind the first spell this length.
 abbrev pub HasLength : List ℕ → ℕ → Type 0
 HasLength bytes len = take 8 (drop 1 bytes) ≡ to_be_bytes w64 len
+
+-- If the body has this length, and so has a front, the front is what stands behind these eight bytes.
+abbrev pub HasFront : (file head : List ℕ) → ℕ → Type 0
+HasFront file head len = 28 ≤ len → drop 8 head ≡ take 28 (drop 9 file)
+
+-- No body that is wanted has this length, and this front if it has one.
+abbrev pub HaveNoBody : (List ℕ → Type 0) → ℕ → List ℕ → Type 0
+HaveNoBody wants len front = (body : List ℕ) → length body ≡ len → (28 ≤ len → front ≡ take 28 body) → ¬ wants body
 
 -- If the bytes are open with both bodies, the two are one.
 abbrev pub AreOneBody : (first second bytes : List ℕ) → Type 0
@@ -107,6 +115,12 @@ module _ {D : Type 0} (g : disk.Ghosts D) where
   -- If an honest disk is told as damaged, its file is neither closed nor open.
   abbrev pub TellsTrueDamage : {T : Type 0} → Gated D → Result T GateFault → Type 0
   TellsTrueDamage it result = IsTrue g.is_honest → IsErrOf result Damaged → IsNotGated (g.state (disk_of it)).contents
+
+  -- If an honest disk is told as damaged, its file is not closed, and it is open with no body that is wanted.
+  abbrev pub TellsUnwanted : {T : Type 0} → (wants : List ℕ → Type 0) → Gated D → Result T GateFault → Type 0
+  TellsUnwanted wants it result =
+      IsTrue g.is_honest → IsErrOf result Damaged
+      → (¬ IsClosed (g.state (disk_of it)).contents) × ((body : List ℕ) → IsOpenWith body (g.state (disk_of it)).contents → ¬ wants body)
 
   -- Behind the first byte of a durable disk stands this body, and nothing else.
   abbrev pub ReplacesBody : {T E : Type 0} → (body : List ℕ) → (old new : D) → Result T E → Type 0

@@ -4,7 +4,7 @@ ghost use Rattle.hg_disk.specs.State.{counted};
 ghost use Rattle.hg_disk.specs.Calls.{CallsAtMost};
 ghost use Rattle.hg_disk.specs.Moments.{LeavesTorn};
 ghost use Rattle.std.specs.Int.{w64, to_be_bytes};
-ghost use Rattle.hg_gate.specs.Gated.{HasLength, IsNotOpen, LeavesClosed, ReplacesBody, TellsGate};
+ghost use Rattle.hg_gate.specs.Gated.{HasFront, HasLength, HaveNoBody, IsNotOpen, LeavesClosed, ReplacesBody, TellsGate};
 ghost use Rattle.hg_gate.specs.Batches.{closed_gate, open_gate};
 ghost use Rattle.hg_gate.specs.Reading.{RefusesIfBroken, WasRead};
 ghost use Rattle.hg_gate.specs.Fault.{failures_after, IsBrokenOrDevice, IsDamagedOrDevice};
@@ -17,6 +17,23 @@ use std::alloc::Global;
 
 // Where the body begins: behind the gate and its length.
 const BODY_AT: u64 = 9;
+
+/// How many bytes of a body are its front.
+pub const FRONT_LEN: usize = 28;
+
+// How many bytes are read behind the gate before the body is: its length, and its front.
+const HEAD_LEN: usize = 8 + FRONT_LEN;
+
+/// Says by the front of a body that it is not wanted, before the rest of it is read.
+pub trait BodyTest {
+    /// The bodies that are wanted.
+    ghost wants: { Self → List ℕ → Type 0 };
+
+    /// Whether a body of this length with this front may be wanted. Where it has fewer than 28 bytes, the front is any bytes.
+    fn may_want(&self, len: u64, front: &[u8]) -> bool
+        requires { length front.now ≡ FRONT_LEN }
+        ensures { result ≡ false → HaveNoBody (wants self.now) len front.now };
+}
 
 /// A file that is closed, or open with a body: a gate, the length of the body in eight bytes (big-endian), the body, and
 /// then anything.
@@ -33,7 +50,7 @@ impl<D: Disk + Drop> Drop for Gated<D> {
 }
 
 impl<D: Disk> Gated<D> {
-    ghost use Rattle.hg_gate.specs.Gated.{ClosesGate, HasBody, LeavesRest, OpensDurably, OpensGate, PutsBody, Rests, StaysClosed, StaysClosedOrOpens, TellsTrueDamage, disk_after, disk_of, is_broken};
+    ghost use Rattle.hg_gate.specs.Gated.{ClosesGate, HasBody, TellsUnwanted, LeavesRest, OpensDurably, OpensGate, PutsBody, Rests, StaysClosed, StaysClosedOrOpens, TellsTrueDamage, disk_after, disk_of, is_broken};
 
     /// The file on a disk, whatever its bytes are. It makes no device call.
     pub fn attach(disk: D) -> Gated<D>
@@ -173,6 +190,39 @@ impl<D: Disk> Gated<D> {
         let body = read_vec(&mut self.disk, alloc, BODY_AT, len as usize)?;
         Ok(Some(body))
     }
+
+    /// The body, or none where the gate is closed, as `read` answers it; but one that is not wanted is told as `Damaged` by its front,
+    /// and takes no memory. It makes three device calls at most.
+    pub fn read_wanted<T: BodyTest>(
+        &mut self,
+        alloc: Global,
+        test: &T,
+    ) -> Result<Option<Vec<u8>>, GateFault>
+        ensures read { IsTrue D.is_honest → IfOk result (HasBody (D.state (disk_of self.old)).contents) }
+        ensures damaged { TellsUnwanted ⟦<D as Disk>⟧ (T.wants test.now) self.old result }
+        ensures fits { OnOk result (length (D.state (disk_of self.old)).contents ≤ 2 ^ 62) }
+
+        // The file stays as it is.
+        ensures rests { (file : List ℕ) → Rests ⟦<D as Disk>⟧ self.old file → Rests ⟦<D as Disk>⟧ self.new file }
+        ensures reads { WasRead ⟦<D as Disk>⟧ 3 (disk_of self.old) (disk_of self.new) }
+        ensures device { D.failures (disk_of self.new) ≡ failures_after result (D.failures (disk_of self.old)) }
+        ensures works { is_broken self.new ≡ is_broken self.old }
+        ensures broken { RefusesIfBroken (is_broken self.old) GateFault.Broken self.old self.new result }
+    {
+        if self.is_broken {
+            return Err(GateFault::Broken);
+        }
+        if !is_open(&mut self.disk)? {
+            return Ok(None);
+        }
+        let mut head = [0; HEAD_LEN];
+        let len = read_head(&mut self.disk, &mut head)?;
+        if !test.may_want(len, &head[8..]) {
+            return Err(GateFault::Damaged);
+        }
+        let body = read_vec(&mut self.disk, alloc, BODY_AT, len as usize)?;
+        Ok(Some(body))
+    }
 }
 
 // Puts a length and a body behind the first byte of a file, and ends it there.
@@ -222,6 +272,31 @@ fn read_length<D: Disk>(disk: &mut D) -> Result<u64, GateFault>
     let mut bytes = [0; 8];
     read_bytes(disk, 1, &mut bytes)?;
     let len = number_of(&bytes);
+    if len > file_len - BODY_AT {
+        return Err(GateFault::Damaged);
+    }
+    Ok(len)
+}
+
+// The length behind the first byte of a file, and the bytes behind it: the front of the body, if that has one. `Damaged` as for
+// `read_length`.
+fn read_head<D: Disk>(disk: &mut D, head: &mut [u8]) -> Result<u64, GateFault>
+    requires { length head.old ≡ HEAD_LEN }
+    ensures size { length head.new ≡ HEAD_LEN }
+    ensures within { IfOk result (λ len. 9 + len ≤ length (D.state disk.old).contents) }
+    ensures bytes { IsTrue D.is_honest → IfOk result (HasLength (D.state disk.old).contents) }
+    ensures front { IsTrue D.is_honest → IfOk result (HasFront (D.state disk.old).contents head.new) }
+    ensures damaged { IsTrue D.is_honest → IsErrOf result GateFault.Damaged → IsNotOpen (D.state disk.old).contents }
+    ensures fault { IfErr result IsDamagedOrDevice }
+    ensures device { D.failures disk.new ≡ failures_after result (D.failures disk.old) }
+    ensures reads { WasRead ⟦<D as Disk>⟧ 1 disk.old disk.new }
+{
+    let file_len = disk.len();
+    if file_len < BODY_AT + FRONT_LEN as u64 {
+        return read_length(disk);
+    }
+    read_bytes(disk, 1, head)?;
+    let len = number_of(&head[..8]);
     if len > file_len - BODY_AT {
         return Err(GateFault::Damaged);
     }

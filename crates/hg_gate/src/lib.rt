@@ -11,5 +11,5 @@ mod scan;
 
 pub use batch::{Batch, MAX_BODY_LEN};
 pub use fault::GateFault;
-pub use gated::Gated;
+pub use gated::{BodyTest, FRONT_LEN, Gated};
 pub use log::{CLOSED, Log, LogPlace, LogRoom, OPEN};

@@ -14,3 +14,4 @@ pub mod HeadChain
 pub mod Pairs
 pub mod Choosing
 pub mod Joining
+pub mod Opened

@@ -10,6 +10,7 @@ pub mod Checking
 pub mod Heads
 pub mod Roots
 pub mod Newest
+pub mod Opening
 pub mod Pairs
 pub mod Finding
 pub mod Checkpoints

@@ -21,7 +21,7 @@ use std::alloc::Global;
 pub(crate) const HEADER: u64 = 0x4847_524F_4F54_320A;
 
 /// "HGROOT1" and a line feed, as a number: the header of the former form.
-const FORMER_HEADER: u64 = 0x4847_524F_4F54_310A;
+pub(crate) const FORMER_HEADER: u64 = 0x4847_524F_4F54_310A;
 
 /// The part before the threads: the number of the checkpoint, the count of events, and the segments.
 pub(crate) type Front = (u64, (u64, Vec<Segment>));

@@ -6,6 +6,7 @@ ghost use Rattle.hg_root.specs.Finding.{HasRoot, IsDue, IsWholeIn, TellsTrueDama
 
 use crate::fault::RootFault;
 use crate::root::Root;
+use crate::root_test::RootTest;
 use hg_disk::Disk;
 use hg_gate::Gated;
 use std::alloc::Global;
@@ -27,7 +28,7 @@ pub(crate) fn root_of<D: Disk>(
     ensures refuses { IsTrue (is_broken file.old) → result ≡ Err RootFault.Broken }
     ensures same { IsTrue (is_broken file.old) → file.new ≡ file.old }
 {
-    match file.read(alloc)? {
+    match file.read_wanted(alloc, &RootTest)? {
         Some(body) => Ok(Some(Root::decode(alloc, &body)?)),
         None => Ok(None),
     }

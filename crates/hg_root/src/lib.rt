@@ -13,6 +13,7 @@ mod pair;
 mod parts;
 mod piece;
 mod root;
+mod root_test;
 mod rules;
 mod threads;
 
