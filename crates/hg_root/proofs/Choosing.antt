@@ -4,7 +4,7 @@ use Rattle.std.proofs.lemmas.Bool.{cases_lt}
 use Rattle.hg_disk.specs.State.{DiskState, settled}
 use Rattle.hg_disk.specs.declared.disk.Disk as disk
 use Rattle.hg_gate.specs.Batches.{IsClosed}
-use Rattle.hg_gate.specs.Gated.{IsClosedOrOpenWith, IsOpenWith, Rests}
+use Rattle.hg_gate.specs.Gated.{IsOpenWith, Rests}
 use Rattle.hg_gate.specs.declared.gated.Gated.{Gated}
 use Rattle.hg_gate.proofs.Opening.{not_closed, one_body}
 use Rattle.hg_gate.specs.declared.fault.GateFault.{GateFault}
@@ -13,6 +13,7 @@ use Rattle.hg_root.specs.declared.fault.RootFault.TheVariants.{Damaged}
 use Rattle.hg_root.specs.Fault.{of_gate}
 use Rattle.hg_root.specs.Finding.{AreRootsOf, IsDue, WasRead, number_in, root_in}
 use Rattle.hg_root.specs.Lawful.{IsRoot}
+use Rattle.hg_root.specs.Opening.{IsSomeRoot}
 use Rattle.hg_root.specs.Newest.{IsBelow, IsFormer, IsNewest, IsRootFile}
 use Rattle.hg_root.specs.Pairs.{IsKnown, Stands, failures, first_bytes, first_of, newer, older, second_bytes, second_of}
 use Rattle.hg_root.specs.Parts.{Parts}
@@ -55,10 +56,10 @@ one_root bytes (Some p) (Some q) small a b =
     let body : a.0 ≡ b.0 = one_body bytes a.0 b.0 small a.1 b.1 in
     ap (λ (r : Parts). Some r) (one_reading b.0 p q (subst (λ (l : List ℕ). IsRoot l p) body a.2) b.2)
 
--- a file that is neither closed nor open has no root
-pub no_file : (bytes : List ℕ) → ((body : List ℕ) → IsClosedOrOpenWith body bytes → ⊥) → (x : Option Parts) → IsRootFile bytes x → ⊥
-no_file bytes none None has = none [] (inl has)
-no_file bytes none (Some p) has = none has.0 (inr has.1)
+-- a file that is not closed, and open with no root's body, has no root
+pub no_such_root : (bytes : List ℕ) → (IsClosed bytes → ⊥) → ((body : List ℕ) → IsOpenWith body bytes → IsSomeRoot body → ⊥) → (x : Option Parts) → IsRootFile bytes x → ⊥
+no_such_root bytes shut none None has = shut has
+no_such_root bytes shut none (Some p) has = none has.0 has.1 (p, has.2)
 
 pub of_damaged : (fault : GateFault) → of_gate fault ≡ Damaged → fault ≡ gate.Damaged
 of_damaged gate.Damaged is = refl

@@ -1,5 +1,5 @@
 -- What a root begins with.
-use Rattle.std.proofs.Common.{◌≡◌, ◌⊎◌, inl, inr, ⊎_elim, ℕ, ◌<◌, ◌≤◌, ◌^◌, List, [], length, take, Some, refl, sym, ◌∙◌, ap, arith}
+use Rattle.std.proofs.Common.{◌≡◌, ◌⊎◌, inl, inr, ⊎_elim, ℕ, ◌<◌, ◌≤◌, ◌^◌, List, [], length, take, Some, refl, sym, ◌∙◌, ap, subst, arith}
 use Rattle.std.proofs.lemmas.Nat.{from_be_bytes-to_be_bytes_4, from_be_bytes-to_be_bytes_8}
 use Rattle.hg_root.specs.declared.form.Form.{Form}
 use Rattle.hg_root.specs.declared.form.Form.TheVariants.{Former, Written}
@@ -33,9 +33,25 @@ opened_in form front body p begins text is = record {
   form = form;
   parts = p;
   read = ap opening_at (begins ∙ ap (take 28) text) ∙ read_of form p is;
-  is = record { header = is_form form; number = is.number; events = is.events; segments = is.segment_count };
+  is = record { is_header = is_form form; is_number = is.number; few_events = is.events; some_segments = is.segment_count };
 }
 
 pub opened : (front body : List ℕ) (p : Parts) → front ≡ take 28 body → IsRoot body p → Opened front
 opened front body p begins root =
     ⊎_elim (λ written. opened_in Written front body p begins written root.lawful.head) (λ former. opened_in Former front body p begins former.0 root.lawful.head) root.spelled
+
+-- a root's body is as long as a front, at least
+long : (form : Form) (p : Parts) → 28 ≤ length (text_in form p)
+long Written p = omega arith
+long Former p = omega arith
+
+pub no_short_root : (body : List ℕ) (p : Parts) → IsRoot body p → 28 ≤ length body
+no_short_root body p root =
+    ⊎_elim (λ written. omega (arith, ap length written, long Written p)) (λ former. omega (arith, ap length former.0, long Former p)) root.spelled
+
+-- what is read of the front of a root's body is what a root may have
+pub possible : (front : List ℕ) (header number events segments : ℕ) (rest : List ℕ) → opening_at front ≡ Some ((header, (number, (events, segments))), rest) → Opened front → IsOpening header number events segments
+possible front header number events segments rest read o =
+    let same : Some ((header, (number, (events, segments))), rest) ≡ Some (opening_of o.form o.parts, []) = sym read ∙ o.read in
+    let both : ((header, (number, (events, segments))), rest) ≡ (opening_of o.form o.parts, []) = cc same in
+    subst (λ (x : (ℕ × (ℕ × (ℕ × ℕ))) × List ℕ). IsOpening x.0.0 x.0.1.0 x.0.1.1.0 x.0.1.1.1) (sym both) o.is

@@ -19,10 +19,10 @@ opening_at = both (number_at w64) (both (number_at w64) (both (number_at w64) (n
 
 -- a root may have these
 pub record IsOpening (header number events segments : ℕ) : Type 0 where
-  pub header : (header ≡ header_number Written) ⊎ (header ≡ header_number Former)
-  pub number : (1 ≤ number) × (number ≤ MOST_CHECKPOINTS)
-  pub events : events ≤ MOST_EVENTS
-  pub segments : (1 ≤ segments) × (segments ≤ MOST_SEGMENTS)
+  pub is_header : (header ≡ header_number Written) ⊎ (header ≡ header_number Former)
+  pub is_number : (1 ≤ number) × (number ≤ MOST_CHECKPOINTS)
+  pub few_events : events ≤ MOST_EVENTS
+  pub some_segments : (1 ≤ segments) × (segments ≤ MOST_SEGMENTS)
 
 -- No root begins with these 28 bytes.
 abbrev pub BeginsNoRoot : List ℕ → Type 0

@@ -4,7 +4,7 @@ use Rattle.hg_root.specs.Fault.{of_gate}
 use Rattle.hg_root.specs.Lawful.{IsRoot}
 use Rattle.hg_root.specs.Roots.{parts_of}
 use Rattle.hg_root.specs.declared.fault.RootFault.TheVariants.{Damaged}
-use Rattle.hg_root.proofs.Choosing.{no_file, no_root, of_damaged}
+use Rattle.hg_root.proofs.Choosing.{no_root, no_such_root, of_damaged}
 use Rattle.hg_root.proofs.found.root_of.Goals as goal
 
 pub returns-in_err-body-clause-damaged : goal.returns-in_err-body-clause-damaged
@@ -12,7 +12,8 @@ returns-in_err-body-clause-damaged g c honest is =
     let file = (g.D.Disk.state c.args.file.now.disk).contents in
     let told : of_gate c.in_err-body.field-0.0 ≡ Damaged = grind arith in
     let same = of_damaged c.in_err-body.field-0.0 told in
-    no_file file (c.in_err-body.ensures.damaged honest (λ i. Err (same i)))
+    let none = c.in_err-body.ensures.damaged honest (λ i. Err (same i)) in
+    no_such_root file none.0 none.1
 
 pub returns-in_err-decode-in-Some-clause-damaged :
     goal.returns-in_err-decode-in-Some-clause-damaged
