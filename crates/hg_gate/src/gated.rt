@@ -220,7 +220,8 @@ impl<D: Disk> Gated<D> {
         if !test.may_want(len, &head[8..]) {
             return Err(GateFault::Damaged);
         }
-        let body = read_vec(&mut self.disk, alloc, BODY_AT, len as usize)?;
+        let at = BODY_AT;
+        let body = read_vec(&mut self.disk, alloc, at, len as usize)?;
         Ok(Some(body))
     }
 }
@@ -297,7 +298,7 @@ fn read_head<D: Disk>(disk: &mut D, head: &mut [u8]) -> Result<u64, GateFault>
     }
     read_bytes(disk, 1, head)?;
     let len = number_of(&head[..8]);
-    if len > file_len - BODY_AT {
+    if file_len - BODY_AT < len {
         return Err(GateFault::Damaged);
     }
     Ok(len)
