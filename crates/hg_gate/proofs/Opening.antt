@@ -51,8 +51,7 @@ pub front_is : (file head body : List ℕ) (n : ℕ) → length file < 2 ^ 64 �
     → (length body ≡ n) × (28 ≤ n → drop 8 head ≡ take 28 body)
 front_is file head body n small within gate number front opened =
     let whole = open_with file (take n (drop 9 file)) n within gate number refl in
-    let same : body ≡ take n (drop 9 file) = one_body file body (take n (drop 9 file)) small opened whole in
-    (
+    let same : body ≡ take n (drop 9 file) = one_body file body (take n (drop 9 file)) small opened whole in (
       ap length same ∙ length-take-le n (drop 9 file) (omega (arith, within, length-drop 9 file)),
       λ more. front more ∙ (sym (take-take 28 n (drop 9 file) more) ∙ ap (take 28) (sym same)),
     )

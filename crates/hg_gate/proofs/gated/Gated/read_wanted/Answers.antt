@@ -11,8 +11,7 @@ pub returns-in_err-len-clause-damaged : goal.returns-in_err-len-clause-damaged
 returns-in_err-len-clause-damaged g c honest is =
     let file = (g.D.Disk.state c.args.self.now.disk).contents in
     let same : c.in_err-len.field-0.0 ≡ Damaged = grind arith in
-    let gate : get_or file 0 0 ≡ open_gate = (c.in_ok-is_open.ensures.open honest).0 c.if-not-branch.false in
-    (
+    let gate : get_or file 0 0 ≡ open_gate = (c.in_ok-is_open.ensures.open honest).0 c.if-not-branch.false in (
       not_closed file gate,
       λ body opened wanted. c.in_err-len.ensures.damaged honest (λ i. Err (same i)) body (subst (λ (s : DiskState). IsOpenWith body s.contents) (sym c.is_open.ensures.reads.state) opened),
     )
@@ -26,11 +25,10 @@ returns-then-not-may_want-clause-damaged g c honest is =
     let within : 9 + n ≤ length file = omega (arith, c.in_ok-len.ensures.within, ap length bytes) in
     let small : length file < 2 ^ 64 = let fits = c.in_ok-is_open.ensures.fits in omega (arith, fits) in
     let number : HasLength file n = subst (λ (l : List ℕ). HasLength l n) bytes (c.in_ok-len.ensures.bytes honest) in
-    let front : HasFront file c.read_head.new.head n = subst (λ (l : List ℕ). HasFront l c.read_head.new.head n) bytes (c.in_ok-len.ensures.front honest) in
-    (
+    let front : HasFront file c.read_head.new.head n = subst (λ (l : List ℕ). HasFront l c.read_head.new.head n) bytes (c.in_ok-len.ensures.front honest) in (
       not_closed file gate,
       λ body opened. let its = front_is file c.read_head.new.head body n small within gate number front opened in
-      c.may_want.ensures c.if-not-may_want.true body its.0 (λ more. whole_front c.read_head.new.head c.in_ok-len.ensures.size ∙ its.1 more),
+          c.may_want.ensures c.if-not-may_want.true body its.0 (λ more. whole_front c.read_head.new.head c.in_ok-len.ensures.size ∙ its.1 more),
     )
 
 pub returns-then-not-may_want-clause-reads : goal.returns-then-not-may_want-clause-reads
