@@ -13,6 +13,7 @@ use std::alloc::AllocError;
 /// The most bytes that a record has.
 pub const MAX_RECORD_LEN: usize = 23;
 
+#[inline(always)]
 fn u16_at(bytes: &[u8]) -> Option<(u16, &[u8])>
     ensures { Gives (λ x. (x.0, x.1.now)) result (number_at w16 bytes.now) }
 {
@@ -23,6 +24,7 @@ fn u16_at(bytes: &[u8]) -> Option<(u16, &[u8])>
     Some((u16::from_be_bytes([front[0], front[1]]), rest))
 }
 
+#[inline(always)]
 fn u32_at(bytes: &[u8]) -> Option<(u32, &[u8])>
     ensures { Gives (λ x. (x.0, x.1.now)) result (number_at w32 bytes.now) }
 {
@@ -34,6 +36,7 @@ fn u32_at(bytes: &[u8]) -> Option<(u32, &[u8])>
     Some((number, rest))
 }
 
+#[inline(always)]
 fn u64_at(bytes: &[u8]) -> Option<(u64, &[u8])>
     ensures { Gives (λ x. (x.0, x.1.now)) result (number_at w64 bytes.now) }
 {
@@ -47,6 +50,7 @@ fn u64_at(bytes: &[u8]) -> Option<(u64, &[u8])>
     Some((number, rest))
 }
 
+#[inline(always)]
 fn u8_at(bytes: &[u8]) -> Option<(u8, &[u8])>
     ensures { Gives (λ x. (x.0, x.1.now)) result (byte_at bytes.now) }
 {
@@ -56,6 +60,7 @@ fn u8_at(bytes: &[u8]) -> Option<(u8, &[u8])>
     }
 }
 
+#[inline(always)]
 #[tactic(auto, unfolding(crate::specs::RecordReading::access_at))]
 fn access_of(t: u16, bytes: &[u8]) -> Option<(Access, &[u8])>
     ensures { Gives (λ x. (x.0, x.1.now)) result (access_at t bytes.now) }
@@ -65,6 +70,7 @@ fn access_of(t: u16, bytes: &[u8]) -> Option<(Access, &[u8])>
     Some((Access { t, at, len }, rest))
 }
 
+#[inline(always)]
 #[tactic(auto, unfolding(crate::specs::RecordReading::block_at))]
 fn block_of(t: u16, bytes: &[u8]) -> Option<(Block, &[u8])>
     ensures { Gives (λ x. (x.0, x.1.now)) result (block_at t bytes.now) }
@@ -75,6 +81,7 @@ fn block_of(t: u16, bytes: &[u8]) -> Option<(Block, &[u8])>
 }
 
 /// The event of a kind and an acting thread, read from its operands on.
+#[inline(always)]
 #[tactic(auto, unfolding(crate::specs::RecordReading::operands_at))]
 fn operands_of(kind: u8, t: u16, bytes: &[u8]) -> Option<(Event, &[u8])>
     ensures { Gives (λ x. (x.0, x.1.now)) result (operands_at kind t bytes.now) }
@@ -128,6 +135,7 @@ fn operands_of(kind: u8, t: u16, bytes: &[u8]) -> Option<(Event, &[u8])>
     }
 }
 
+#[inline(always)]
 #[tactic(auto, unfolding(crate::specs::RecordReading::event_at))]
 fn event_of(bytes: &[u8]) -> Option<(Event, &[u8])>
     ensures { Gives (λ x. (x.0, x.1.now)) result (event_at bytes.now) }
@@ -137,6 +145,7 @@ fn event_of(bytes: &[u8]) -> Option<(Event, &[u8])>
     operands_of(kind, t, rest)
 }
 
+#[inline(always)]
 #[tactic(auto, unfolding(crate::specs::RecordReading::record_at))]
 fn record_of(bytes: &[u8]) -> Option<(Named, &[u8])>
     ensures { Gives (λ x. (x.0, x.1.now)) result (record_at bytes.now) }
@@ -156,6 +165,7 @@ fn record_of(bytes: &[u8]) -> Option<(Named, &[u8])>
 
 /// Reads the record at the front of the bytes: the event under its name, and the record's length in bytes.
 /// `None` says that the bytes begin with no record. Takes no memory.
+#[inline(always)]
 pub fn read_record(bytes: &[u8]) -> Option<(Named, usize)>
     ensures read { IfSome result (λ r. TakesRecord bytes.now r.0 r.1) }
     ensures none { IfNone result (HasNoRecord bytes.now) }
