@@ -1,5 +1,5 @@
 //! The pieces of a body. Each is read from the front of the remaining bytes, and written at the end of the bytes so far.
-ghost use Rattle.std.specs.Prelude.{◌≡◌, ◌∷◌, ◌++◌, ◌<◌, ◌^◌, ℕ, List, Option, All, OnOk};
+ghost use Rattle.std.specs.Prelude.{◌≡◌, [], ◌∷◌, ◌++◌, ◌<◌, ◌^◌, ℕ, List, Option, All, OnOk};
 ghost use Rattle.std.specs.Int.{w16, w32, w64, to_be_bytes};
 ghost use Rattle.std.specs.List.{flat_map};
 ghost use Rattle.hg_root.specs.Grammar as text;
@@ -44,7 +44,20 @@ pub(crate) fn take_times<T: Piece + Drop>(
 ) -> Result<(Vec<T>, &[u8]), RootFault>
     ensures { Gives (λ x. (x.0.items, x.1.now)) result (times T.reading count bytes.now) }
 {
-    let mut items = Vec::new(alloc);
+    take_into(alloc, Vec::new(alloc), count, bytes)
+}
+
+/// Reads `count` pieces into an empty vector, which may have room for them.
+fn take_into<T: Piece + Drop>(
+    alloc: Global,
+    room: Vec<T>,
+    count: u32,
+    bytes: &[u8],
+) -> Result<(Vec<T>, &[u8]), RootFault>
+    requires { room.items ≡ [] }
+    ensures { Gives (λ x. (x.0.items, x.1.now)) result (times T.reading count bytes.now) }
+{
+    let mut items = room;
     let mut rest = bytes;
     for _ in 0..count {
         let (item, after) = T::take(alloc, rest)?;
@@ -305,7 +318,9 @@ impl Piece for NumberSet {
 
     fn take(alloc: Global, bytes: &[u8]) -> Result<(NumberSet, &[u8]), RootFault> {
         let (count, rest) = u16_at(bytes)?;
-        let (members, rest) = take_times(alloc, u32::from(count), rest)?;
+        // Members have two bytes each, so the room is for those that are there.
+        let room = Vec::with_capacity(alloc, usize::from(count).min(rest.len() / 2))?;
+        let (members, rest) = take_into(alloc, room, u32::from(count), rest)?;
         Ok((NumberSet::from_vec(members), rest))
     }
 

@@ -25,6 +25,7 @@ use hg_pool::Pool;
 
 /// Has the detector follow an event of the journal. A journal has no event that the rules do not accept: it is told as
 /// `Damaged`, and so is a page that reads otherwise than it was written.
+#[inline(always)]
 fn follow<D: Disk>(detector: &mut Detector<Pool<D>>, named: &Named) -> Result<(), Refusal>
     requires lawful { AtPresent MayBring detector.old }
     requires unbroken { pools.is_broken detector.old.words ≡ false }

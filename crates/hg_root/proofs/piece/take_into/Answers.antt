@@ -1,7 +1,7 @@
 use Rattle.std.proofs.lemmas.Result.{err_from_is_err_and}
 use Rattle.hg_root.specs.Reading.{times}
 use Rattle.hg_root.proofs.Times.{goes_on, ends, is_done}
-use Rattle.hg_root.proofs.piece.take_times.Goals as goal
+use Rattle.hg_root.proofs.piece.take_into.Goals as goal
 
 pub returns-in_err-item : goal.returns-in_err-item
 returns-in_err-item g c =
