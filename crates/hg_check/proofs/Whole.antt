@@ -1,10 +1,11 @@
 -- What reading a whole text leads to.
-use Rattle.std.proofs.Common.{◌≡◌, ℕ, List, [], ◌∷◌, ◌++◌, length, Option, None, Result, Ok, Err, refl, sym, ap, ◌∙◌, subst, inl, inr, ⊎_elim, arith}
+use Rattle.std.proofs.Common.{◌≡◌, ◌+◌, ℕ, List, [], ◌∷◌, ◌++◌, length, Option, None, Result, Ok, Err, refl, sym, ap, ◌∙◌, subst, inl, inr, ⊎_elim, arith}
 use Rattle.std.proofs.lemmas.List.{append-nil, length-append}
 use Rattle.hg_streams.specs.declared.listing.Listing.{Listing}
 use Rattle.hg_streams.specs.declared.listing.Listing.TheVariants.{Reports, Segments}
 use Rattle.hg_model.specs.declared.report.Report.{Report}
 use Rattle.hg_model.specs.declared.verdict.Refusal.{Refusal}
+use Rattle.hg_model.specs.declared.verdict.Refusal.TheVariants.{OutOfMemory}
 use Rattle.hg_model.specs.Change.{empty_content}
 use Rattle.hg_model.specs.Contents.{Content}
 use Rattle.hg_detect.specs.declared.detector.Detector.{Detector}
@@ -12,7 +13,7 @@ use Rattle.hg_cells.specs.declared.paged.PagedWords.{PagedWords}
 use Rattle.hg_detect.specs.Memory.{content_of}
 use Rattle.hg_streams.specs.declared.call.ReadCall.{ReadCall}
 use Rattle.hg_streams.specs.declared.call.WriteCall.{WriteCall}
-use Rattle.hg_streams.specs.Calls.{NoneFailedSince, failed_reads, refused_reads}
+use Rattle.hg_streams.specs.Calls.{NoneFailedSince, failed_reads, failed_writes, refused_reads}
 use Rattle.hg_streams.proofs.Inputs.{failed_reads_on, none_failed, refused_reads_on}
 use Rattle.hg_wire.specs.declared.reader.Reading.{Reading}
 use Rattle.hg_reading.specs.Taking.{ReadBroke, Reads, Taking, WasRead}
@@ -29,7 +30,7 @@ use Rattle.hg_streams.specs.Written.{TookFront}
 use Rattle.hg_reading.proofs.Through.{broke_through, read_through}
 use Rattle.hg_check.proofs.Ends.{reads_to, reports_broke, reports_read}
 use Rattle.hg_check.proofs.Fronts.{wrote_live}
-use Rattle.hg_streams.proofs.Printed.{front_due, front_more}
+use Rattle.hg_streams.proofs.Printed.{due_failed, front_due, front_more}
 use Rattle.hg_check.proofs.Growing.{live_text_grows}
 
 -- ---- a run as its detector sees it
@@ -83,6 +84,10 @@ all_printed s first now all p =
 
 pub cause_of : (reads now : List ReadCall) (before after : List WriteCall) (x : Refusal) → NoneFailedSince reads now → HasWriteCause before after x → HasCause reads now before after x
 cause_of reads now before after x none h = ⊎_elim (λ memory. inl (memory.0, (none.0, memory.1))) (λ failed. inr (failed.0, (none.1, inr failed.1))) h
+
+-- memory was refused where what is due so far was written, or is held
+pub cause_by_memory : (reads now : List ReadCall) (before after : List WriteCall) (held rest goal : List ℕ) (x : Refusal) → NoneFailedSince reads now → IsDue before after held rest goal → x ≡ OutOfMemory → HasCause reads now before after x
+cause_by_memory reads now before after held rest goal x none due is = inl (is, (none.0, due_failed before after held rest goal due))
 
 due_of : (s t : Checking) (o p : List WriteCall) (lines : List Reading) (listing : Listing) → IsFresh listing s → ChecksLines s o lines (Ok None) t p → IsPrinted o t p
 due_of s t o p lines listing fresh h = h.printed (no_error None) o (printed_first listing s o fresh)

@@ -9,6 +9,7 @@ use Rattle.hg_streams.proofs.Printed.{always_err, cause_by_flush, cause_by_write
 use Rattle.hg_check.specs.Explaining.{WroteFrontOf, explain_text, word_line}
 use Rattle.hg_check.specs.Life.{more_text}
 use Rattle.hg_check.proofs.Running.{whole_text, wrote_none, wrote_settled}
+use Rattle.hg_check.proofs.Whole.{cause_by_memory}
 use Rattle.hg_check.proofs.explain.commands.run_explain.Goals as goal
 
 pub returns-in_err-hold_word-clause-front : goal.returns-in_err-hold_word-clause-front
@@ -84,6 +85,18 @@ returns-in_err-flush-clause-front g c =
     always_err _ (wrote_settled c.args.explaining.now.asked.word c.args.explaining.now.asked.form c.args.input.now.calls c.run.new.input.calls old c.flush.new.self.calls last c.in_ok-end.end ran.leads.leads
     (λ input m. subst (λ x. TookFront old c.flush.new.self.calls x) (whole_text c.args.explaining.now.asked.word c.args.explaining.now.asked.form last c.in_ok-end.end ran.told c.run.new.explaining.more input (ran.leads.text input m))
     (front_by_flush old c.write_out.new.output.calls c.flush.new.self.calls c.write_out.new.held.items [] goal_text c.in_err-flush.ensures.calls (c.in_ok-write_out.ensures.printed old [] goal_text all_due))))
+
+pub returns-in_err-hold_end-clause-cause : goal.returns-in_err-hold_end-clause-cause
+returns-in_err-hold_end-clause-cause g c =
+    let old = c.args.output.now.calls in
+    let mid = c.run.new.output.calls in
+    let head = line_text (word_line c.args.explaining.now.asked.word) in
+    let start : IsDue old old c.hold_word.new.held.items [] head = due_line old old c.args.explaining.now.held.items c.hold_word.new.held.items head [] c.in_ok-hold_word.ensures.ok (due_at_first old c.args.explaining.now.held.items c.requires.none) in
+    let ran = c.in_ok-end.ensures.ends in
+    let due : IsDue old mid c.run.new.explaining.held.items [] (head ++ ran.told) = ran.due old head start in
+    let q = err_from_is_err_and c.from_residual-in_err-hold_end.result c.from_residual-in_err-hold_end.ensures.1 in
+    rw (q.1, q.2)
+    (cause_by_memory c.args.input.now.calls c.run.new.input.calls old mid c.run.new.explaining.held.items [] (head ++ ran.told) c.in_err-hold_end.field-0.0 c.in_ok-end.ensures.memory due c.in_err-hold_end.ensures.cause)
 
 pub returns-in_err-flush-clause-cause : goal.returns-in_err-flush-clause-cause
 returns-in_err-flush-clause-cause g c =

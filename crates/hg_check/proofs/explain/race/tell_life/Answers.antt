@@ -1,10 +1,10 @@
-use Rattle.std.proofs.Common.{◌≡◌, [], ◌++◌, refl, subst}
+use Rattle.std.proofs.Common.{[], ◌++◌, inl, refl, subst}
 use Rattle.std.proofs.lemmas.Result.{err_from_is_err_and}
 use Rattle.hg_detect.specs.Memory.{content_of}
 use Rattle.hg_streams.specs.Holding.{IsDue}
 use Rattle.hg_streams.specs.Texts.{line_text}
 use Rattle.hg_streams.specs.Written.{Took, TookFront}
-use Rattle.hg_streams.proofs.Printed.{always_err, cause_by_flush, cause_by_write, due_at_first, due_flushed, due_line, front_by_flush, front_due, front_more, took_by_flush}
+use Rattle.hg_streams.proofs.Printed.{always_err, cause_by_flush, cause_by_write, due_at_first, due_failed, due_flushed, due_line, front_by_flush, front_due, front_more, took_by_flush}
 use Rattle.hg_check.specs.Explaining.{explain_text, word_line}
 use Rattle.hg_check.specs.Life.{more_text}
 use Rattle.hg_check.specs.Printing.{last_line}
@@ -36,6 +36,18 @@ returns-in_err-hold_end-clause-front g c =
     let whole = whole_text a.word a.form last c.in_ok-end.end ran.told c.run_text.new.explaining.more c.args.text.now ran.text in
     always_err _ (life_settled c.args.text.now a old mid last c.in_ok-end.end ran.leads
     (front_more old mid (head ++ ran.told) rest (explain_text a.word a.form c.args.text.now last c.in_ok-end.end) whole (front_due old mid c.run_text.new.explaining.held.items [] (head ++ ran.told) due)))
+
+pub returns-in_err-hold_end-clause-cause : goal.returns-in_err-hold_end-clause-cause
+returns-in_err-hold_end-clause-cause g c =
+    let old = c.args.output.now.calls in
+    let mid = c.run_text.new.output.calls in
+    let head = line_text (word_line c.args.explaining.now.asked.word) in
+    let start : IsDue old old c.hold_word.new.held.items [] head = due_line old old c.args.explaining.now.held.items c.hold_word.new.held.items head [] c.in_ok-hold_word.ensures.ok (due_at_first old c.args.explaining.now.held.items c.requires.none) in
+    let ran = c.in_ok-end.ensures.ends in
+    let due : IsDue old mid c.run_text.new.explaining.held.items [] (head ++ ran.told) = ran.due old head start in
+    let q = err_from_is_err_and c.from_residual-in_err-hold_end.result c.from_residual-in_err-hold_end.ensures.1 in
+    rw (q.1, q.2)
+    (inl (c.in_err-hold_end.ensures.cause, due_failed old mid c.run_text.new.explaining.held.items [] (head ++ ran.told) due))
 
 pub returns-in_err-write_out-clause-front : goal.returns-in_err-write_out-clause-front
 returns-in_err-write_out-clause-front g c =
@@ -71,7 +83,7 @@ returns-in_err-write_out-clause-cause g c =
     let q = err_from_is_err_and c.from_residual-in_err-write_out.result c.from_residual-in_err-write_out.ensures.1 in
     rw (q.1, q.2)
     (write_cause old c.write_out.new.output.calls c.in_err-write_out.field-0.0
-    (cause_by_write [] [] old mid c.write_out.new.output.calls c.hold_end.new.held.items [] goal_text c.in_err-write_out.field-0.0 refl
+    (cause_by_write [] [] old mid c.write_out.new.output.calls c.hold_end.new.held.items [] goal_text c.in_err-write_out.field-0.0 (refl, refl)
     all_due c.in_err-write_out.ensures.cause c.in_err-write_out.ensures.fault))
 
 pub returns-in_err-flush-clause-front : goal.returns-in_err-flush-clause-front
@@ -109,7 +121,7 @@ returns-in_err-flush-clause-cause g c =
     let q = err_from_is_err_and c.from_residual-in_err-flush.result c.from_residual-in_err-flush.ensures.1 in
     rw (q.1, q.2)
     (write_cause old c.flush.new.self.calls c.in_err-flush.field-0.0
-    (cause_by_flush [] [] old c.write_out.new.output.calls c.flush.new.self.calls c.write_out.new.held.items [] goal_text c.in_err-flush.field-0.0 refl
+    (cause_by_flush [] [] old c.write_out.new.output.calls c.flush.new.self.calls c.write_out.new.held.items [] goal_text c.in_err-flush.field-0.0 (refl, refl)
     (c.in_ok-write_out.ensures.printed old [] goal_text all_due) c.in_err-flush.ensures.cause c.in_err-flush.ensures.calls))
 
 pub returns-clause-prints : goal.returns-clause-prints
