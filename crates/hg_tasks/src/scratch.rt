@@ -50,10 +50,12 @@ impl Marks {
 }
 
 /// The slots that were written in a look. What was written stands in a scratch file, at its own place; all else is read of the file that
-/// is looked at. The scratch file is made when the first slot is written.
+/// is looked at. The scratch file is made when the first slot is written, and takes no memory then.
 #[derive(Drop)]
 pub(crate) struct Scratch<'a> {
     rt: &'a HostRuntime,
+    /// Where the file is made, or why it can't be.
+    path: io::Result<String>,
     file: Option<File>,
     marks: Marks,
 }
@@ -75,26 +77,33 @@ fn scratch_path(rt: &HostRuntime) -> io::Result<String> {
     Ok(format!(in rt.alloc(); "{}/hgd-{number:016x}", folder.as_str())?)
 }
 
+/// Whether a path can't be had for want of memory.
+fn is_want_of_memory(path: &io::Result<String>) -> bool {
+    match path {
+        Ok(_) => false,
+        Err(error) => error.kind() == ErrorKind::OutOfMemory,
+    }
+}
+
 /// A new file without a byte, in the system's folder for temporary files, that no other user may open. Its name is removed at once, so that
 /// nothing of it stays behind when the program ends.
-fn scratch_file(rt: &HostRuntime) -> io::Result<File> {
-    let path = scratch_path(rt)?;
+fn scratch_file(rt: &HostRuntime, path: &str) -> io::Result<File> {
     let file = OpenOptions::new()
         .read(true)
         .write(true)
         .create_new(true)
         .mode(0o600)
-        .open(rt, path.as_str())?;
-    fs::remove_file(rt, path.as_str())?;
+        .open(rt, path)?;
+    fs::remove_file(rt, path)?;
     beside_streams(file)
 }
 
 /// A scratch file. Descriptors of standard streams that are closed are filled while it is made.
-fn scratch_file_beside_streams(rt: &HostRuntime) -> io::Result<File> {
+fn scratch_file_beside_streams(rt: &HostRuntime, path: &str) -> io::Result<File> {
     let first = File::open(rt, "/dev/null");
     let second = File::open(rt, "/dev/null");
     let third = File::open(rt, "/dev/null");
-    let file = scratch_file(rt);
+    let file = scratch_file(rt, path);
     drop((first, second, third));
     file
 }
@@ -171,11 +180,17 @@ fn put(
 }
 
 impl<'a> Scratch<'a> {
-    /// No slot was written yet.
+    /// No slot was written yet. All memory that is needed is taken. Where a path for the file can't be had for another reason, the first
+    /// write fails by it.
     pub(crate) fn new(rt: &'a HostRuntime) -> Result<Scratch<'a>, AllocError> {
         let marks = Marks::new(rt.alloc())?;
+        let path = scratch_path(rt);
+        if is_want_of_memory(&path) {
+            return Err(AllocError);
+        }
         Ok(Scratch {
             rt,
+            path,
             file: None,
             marks,
         })
@@ -208,7 +223,11 @@ impl<'a> Scratch<'a> {
     /// Makes the scratch file, if it is not there yet.
     fn open(&mut self) -> io::Result<()> {
         if self.file.is_none() {
-            self.file = Some(scratch_file_beside_streams(self.rt)?);
+            let path = match &self.path {
+                Ok(path) => path.as_str(),
+                Err(error) => return Err(*error),
+            };
+            self.file = Some(scratch_file_beside_streams(self.rt, path)?);
         }
         Ok(())
     }
