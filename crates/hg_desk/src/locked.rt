@@ -323,6 +323,13 @@ impl<D: Disk, A: Opening, B: Column> Core<D, A, B> {
         }
     }
 
+    /// How many events the store has accepted.
+    pub fn events(&self) -> Result<u64, Refusal>
+        ensures { result ≡ cond self.now.is_broken (Err Broken) (Ok (live ⟦<D as Disk>⟧ self.now).events) }
+    {
+        self.store.events()
+    }
+
     /// The last accepted number of a source, 0 where it sent nothing.
     pub fn last(&self, source: u16) -> Result<u64, Refusal>
         ensures { result ≡ cond self.now.is_broken (Err Broken) (Ok ((live ⟦<D as Disk>⟧ self.now).last source)) }

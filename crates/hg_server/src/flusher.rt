@@ -4,7 +4,7 @@ ghost use Rattle.std.specs.Prelude.{◌≡◌};
 ghost use Rattle.hg_desk.specs.Told.{may_accept};
 ghost use Rattle.hg_server.specs.Flushing.{IsToldOfNone};
 
-use crate::health::WorksTask;
+use crate::health::EventsTask;
 use crate::worker::{Gate, Pass, Point, Seat};
 use crossbeam_channel::{Receiver, RecvTimeoutError};
 use hg_desk::share::{Column, Opening, Share};
@@ -104,14 +104,21 @@ impl<'a, D: Disk, A: Opening, B: Column, G: Gate, R: Wait> Round<'a, D, A, B, G,
             .hold(self.seat.rt, &mut self.seat.share, task)
     }
 
-    /// Commits, and begins a checkpoint where one is due then.
+    /// How many events the store has accepted.
+    fn events(&mut self) -> Result<u64, Refusal>
+        ensures told { IsToldOfNone self.old.seat.share self.new.seat.share }
+    {
+        self.seat
+            .shared
+            .hold(self.seat.rt, &mut self.seat.share, EventsTask)
+    }
+
+    /// Commits and begins a checkpoint, where one is due when all accepted events are durable.
     fn begin(&mut self) -> Course
         ensures told { IsToldOfNone self.old.seat.share self.new.seat.share }
     {
-        let count = match self.step(Step::Commit) {
-            StepResult::Committed(Ok(count)) => count,
-            StepResult::Committed(Err(Refusal::Broken)) => return Course::Stop,
-            _ => return Course::End,
+        let Ok(count) = self.events() else {
+            return Course::Stop;
         };
         if !self.due.is_due(count) {
             return Course::End;
@@ -236,11 +243,7 @@ impl<'a, D: Disk, A: Opening, B: Column, G: Gate, R: Wait> Round<'a, D, A, B, G,
     fn watch(&mut self)
         ensures told { IsToldOfNone self.old.seat.share self.new.seat.share }
     {
-        let works = self
-            .seat
-            .shared
-            .hold(self.seat.rt, &mut self.seat.share, WorksTask);
-        if !works {
+        if self.events().is_err() {
             self.seat.terms.health.note_broken();
         }
     }
@@ -268,7 +271,7 @@ impl<'a, D: Disk, A: Opening, B: Column, G: Gate, R: Wait> Round<'a, D, A, B, G,
 }
 
 /// Makes checkpoints, until its channel is closed and empty, the gate says stop or the store is broken, and gives the share back. At a
-/// nudge it goes on with the checkpoint that a refusal has held up. Where none is in progress, it commits, and begins one if it is due.
+/// nudge it goes on with the checkpoint that a refusal has held up. Where none is in progress, it begins one, with a commit, if it is due.
 /// Each step is made in a hold of the lock of its own, and pages are encoded outside of it, so clients are answered meanwhile. It offers no
 /// event. Where the store is broken it notes that, at the latest when no nudge came for a second.
 ///

@@ -1,11 +1,14 @@
 //! Whether the store of a server works, as its threads see it.
 
-ghost use Rattle.std.specs.Prelude.{◌≡◌, IsTrue, false};
+ghost use Rattle.std.specs.Prelude.{◌≡◌, Ok, Err, cond};
+ghost use Rattle.hg_model.specs.declared.verdict.Refusal.TheVariants.{Broken};
+ghost use Rattle.hg_store.specs.Shown.{live};
 
 use hg_desk::locked::Core;
 use hg_desk::share::{Column, Opening, Share};
 use hg_desk::tasks::Task;
 use hg_disk::Disk;
+use hg_model::verdict::Refusal;
 use std::sync::atomic::{AtomicBool, Ordering};
 use std::time::Duration;
 
@@ -52,21 +55,20 @@ impl Terms {
     }
 }
 
-/// Asks whether the store works: a failed write, cut or sync breaks it.
+/// Asks how many events the store has accepted. It is `Broken` where a write, a cut or a sync has failed.
 #[derive(Drop)]
-pub(crate) struct WorksTask;
+pub(crate) struct EventsTask;
 
-impl<D: Disk, A: Opening, B: Column> Task<D, A, B> for WorksTask {
-    type Out = bool;
+impl<D: Disk, A: Opening, B: Column> Task<D, A, B> for EventsTask {
+    type Out = Result<u64, Refusal>;
 
     ghost promise = { λ t old new res. new ≡ old };
 
-    fn run(self, core: &mut Core<D, A, B>, share: &mut Share<A, B>) -> bool
+    fn run(self, core: &mut Core<D, A, B>, share: &mut Share<A, B>) -> Result<u64, Refusal>
         ensures promise { share.new ≡ share.old }
-        ensures works { IsTrue result → core.old.is_broken ≡ false }
-        ensures broken { core.old.is_broken ≡ false → IsTrue result }
+        ensures events { result ≡ cond core.old.is_broken (Err Broken) (Ok (live ⟦<D as Disk>⟧ core.old).events) }
         ensures same { core.new ≡ core.old }
     {
-        core.last(0).is_ok()
+        core.events()
     }
 }
