@@ -14,6 +14,7 @@ use Rattle.hg_model.specs.Contents.{Content}
 use Rattle.hg_model.specs.Verdicts.{IsAccepted, standing_of, verdict}
 use Rattle.hg_model.proofs.Central.{summary_step}
 use Rattle.hg_cells.specs.declared.words.Words as words
+use Rattle.hg_cells.specs.Words.{after_refusal}
 use Rattle.hg_detect.specs.declared.detector.Answer.{Answer}
 use Rattle.hg_detect.specs.declared.detector.Answer.TheVariants as answers
 use Rattle.hg_detect.specs.declared.engine.Engine.{Engine}
@@ -22,6 +23,7 @@ use Rattle.hg_detect.specs.Growing.{MayGrow}
 use Rattle.hg_detect.specs.Engine.{Answers, AtPresent, IsSound, LacksRoom, ReadsTrue, shown_of}
 use Rattle.hg_detect.specs.Shown.{Accepts, Advances, AsksFor, SameContent, ShownDetector, content, verdict_on}
 use Rattle.hg_detect.proofs.Admitting.{answered, answered_refused}
+use Rattle.hg_detect.proofs.Refusing.{rules_call_nothing}
 
 accepts_of : (v : Verdict) (may_refuse : Refusal → Type 0) → Applies v may_refuse (Ok answers.Accepted) → v ≡ Accept
 accepts_of Accept may_refuse h = refl
@@ -42,8 +44,9 @@ summary_kept g old n answer new is becomes = λ past faithful accepted was_summa
 -- An accepted event.
 pub offer_accepted : {W : Type 0} (g : words.Ghosts W) (old new : ShownDetector W) (n : Named) → Accepts g.cell_of old n
     → (AtPresent g.is_faithful old → Advances g.cell_of old n new) → (AtPresent g.is_faithful old → AsksFor g.cell_of old n.event (Ok tt) new) → length old.kept ≤ 65536
-    → AtPresent g.may_bring new → (AtPresent g.is_faithful old → AtPresent g.is_faithful new) → g.went old.words new.words → AnswersOffer g old n (Ok answers.Accepted) new
-offer_accepted g old new n accepts goes asked few lawful faithful went =
+    → AtPresent g.may_bring new → (AtPresent g.is_faithful old → AtPresent g.is_faithful new) → g.went old.words new.words → g.failures new.words ≡ g.failures old.words
+    → AnswersOffer g old n (Ok answers.Accepted) new
+offer_accepted g old new n accepts goes asked few lawful faithful went failures =
     let is = answered g old new n accepts in
     record {
       answered = is;
@@ -58,14 +61,15 @@ offer_accepted g old new n accepts goes asked few lawful faithful went =
       lawful = lawful;
       faithful = faithful;
       went = went;
+      failures = failures;
     }
 
 -- An event that the engine accepted.
 pub engine_accepted : {W : Type 0} (g : words.Ghosts W) (e e' : Engine W) (d : ShownDetector W) (n : Named) → shown_of e ≡ d → IsSound e → Accepts g.cell_of d n → Answers g e n (Ok tt) e'
-    → g.went e.words e'.words → AnswersOffer g d n (Ok answers.Accepted) (shown_of e')
-engine_accepted {W} g e e' d n shows sound accepts a went =
+    → g.went e.words e'.words → g.failures e'.words ≡ g.failures e.words → AnswersOffer g d n (Ok answers.Accepted) (shown_of e')
+engine_accepted {W} g e e' d n shows sound accepts a went failures =
     subst (λ (x : ShownDetector W). AnswersOffer g x n (Ok answers.Accepted) (shown_of e')) shows
-    (offer_accepted g (shown_of e) (shown_of e') n (subst (λ (x : ShownDetector W). Accepts g.cell_of x n) (sym shows) accepts) a.accepted a.asked sound.few a.lawful a.faithful went)
+    (offer_accepted g (shown_of e) (shown_of e') n (subst (λ (x : ShownDetector W). Accepts g.cell_of x n) (sym shows) accepts) a.accepted a.asked sound.few a.lawful a.faithful went failures)
 
 -- the refusal of an answer
 err_is : (x y : Refusal) → ◌≡◌ {A = Result Answer Refusal} (Err x) (Err y) → x ≡ y
@@ -78,9 +82,10 @@ err_of r = Err r
 -- An event that the rules accept, and that was refused.
 pub offer_lacks_room : {W : Type 0} (g : words.Ghosts W) (old new : ShownDetector W) (n : Named) (answer : Result Answer Refusal) (r : Refusal) → IsErrAnd answer (λ x. x ≡ r) → Accepts g.cell_of old n
     → (AtPresent g.is_faithful old → SameContent g.cell_of old new) → (AtPresent g.is_faithful old → AsksFor g.cell_of old n.event (Err r) new) → LacksRoom (g.may_refuse new.words) r
-    → (ReadsTrue g old → r ≢ Damaged) → (IsOnLock n.event → ⊥) → (AtPresent g.is_faithful old → r ≡ OutOfMemory → MayGrow g old n.event) → AtPresent g.may_bring new → (AtPresent g.is_faithful old → AtPresent g.is_faithful new) → g.went old.words new.words → AnswersOffer g old n answer new
-offer_lacks_room g old new n (Ok a) r refused accepts stays asked lacks undamaged no_lock grows lawful faithful went = absurd refused
-offer_lacks_room g old new n (Err x) r refused accepts stays asked lacks undamaged no_lock grows lawful faithful went =
+    → (ReadsTrue g old → r ≢ Damaged) → (IsOnLock n.event → ⊥) → (AtPresent g.is_faithful old → r ≡ OutOfMemory → MayGrow g old n.event) → AtPresent g.may_bring new → (AtPresent g.is_faithful old → AtPresent g.is_faithful new) → g.went old.words new.words
+    → g.failures new.words ≡ after_refusal r (g.failures old.words) → AnswersOffer g old n answer new
+offer_lacks_room g old new n (Ok a) r refused accepts stays asked lacks undamaged no_lock grows lawful faithful went failures = absurd refused
+offer_lacks_room g old new n (Err x) r refused accepts stays asked lacks undamaged no_lock grows lawful faithful went failures =
     let is = answered_refused g old new n (Err x) r refused accepts lacks in
     record {
       answered = is;
@@ -95,14 +100,16 @@ offer_lacks_room g old new n (Err x) r refused accepts stays asked lacks undamag
       lawful = lawful;
       faithful = faithful;
       went = went;
+      failures = failures ∙ ap (λ (y : Refusal). after_refusal y (g.failures old.words)) (sym refused);
     }
 
 -- An event that the engine refused.
 pub engine_refused : {W : Type 0} (g : words.Ghosts W) (e e' : Engine W) (d : ShownDetector W) (n : Named) (answer : Result Answer Refusal) (r : Refusal) → IsErrAnd answer (λ x. x ≡ r) → shown_of e ≡ d
-    → Accepts g.cell_of d n → Answers g e n (Err r) e' → (IsOnLock n.event → ⊥) → g.went e.words e'.words → AnswersOffer g d n answer (shown_of e')
-engine_refused {W} g e e' d n answer r refused shows accepts a no_lock went =
+    → Accepts g.cell_of d n → Answers g e n (Err r) e' → (IsOnLock n.event → ⊥) → g.went e.words e'.words
+    → g.failures e'.words ≡ after_refusal r (g.failures e.words) → AnswersOffer g d n answer (shown_of e')
+engine_refused {W} g e e' d n answer r refused shows accepts a no_lock went failures =
     subst (λ (x : ShownDetector W). AnswersOffer g x n answer (shown_of e')) shows
-    (offer_lacks_room g (shown_of e) (shown_of e') n answer r refused (subst (λ (x : ShownDetector W). Accepts g.cell_of x n) (sym shows) accepts) a.refused a.asked a.cause a.undamaged no_lock (λ h is. a.grows h (ap err_of is)) a.lawful a.faithful went)
+    (offer_lacks_room g (shown_of e) (shown_of e') n answer r refused (subst (λ (x : ShownDetector W). Accepts g.cell_of x n) (sym shows) accepts) a.refused a.asked a.cause a.undamaged no_lock (λ h is. a.grows h (ap err_of is)) a.lawful a.faithful went failures)
 
 -- A read or a write is on no lock.
 pub no_lock_named : (write : Bool) (a : Access) → IsOnLock (access_event write a) → ⊥
@@ -131,6 +138,7 @@ offer_again g old n k is lawful went =
       lawful = lawful;
       faithful = λ h. h;
       went = went;
+      failures = refl;
     }
 
 -- An event that the rules refuse.
@@ -151,6 +159,7 @@ offer_refused g old n r is lawful went =
       lawful = lawful;
       faithful = λ h. h;
       went = went;
+      failures = sym (rules_call_nothing (standing_of (content g.cell_of old)) n r (g.failures old.words) is);
     }
 
 -- A refusal that was handed on.

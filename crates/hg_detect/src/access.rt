@@ -198,6 +198,48 @@ impl<W: Words> Engine<W> {
         Ok(())
     }
 
+    /// Accepts an access whose event stands in memory: by the quick way, where the map knows its words without a search.
+    #[inline(always)]
+    pub(crate) fn accept_access(&mut self, named: NamedAccess) -> Result<(), Refusal>
+        requires sound { IsSound self.old }
+        requires accepted { MayBeNext self.old.state (named_of named) }
+        requires lawful { AtPresent W.may_bring (shown_of self.old) }
+        ensures answers { AnswersAccess ⟦<W as Words>⟧ self.old named result self.new }
+        ensures went { W.went self.old.words self.new.words }
+        ensures failures { W.failures self.new.words ≡ failed_after result (W.failures self.old.words) }
+    {
+        if let Some(quick) = self.quick(&named) {
+            self.access_quickly(named, quick);
+            return Ok(());
+        }
+        self.accept_slowly(named.source, named.number, named.access, named.write)
+    }
+
+    /// Accepts an access of which `quick` said nothing: `accept_access` takes this way, out of line, and hands the access over in
+    /// registers.
+    #[inline(never)]
+    fn accept_slowly(
+        &mut self,
+        source: u16,
+        number: u64,
+        access: Access,
+        write: bool,
+    ) -> Result<(), Refusal>
+        requires sound { IsSound self.old }
+        requires accepted { MayBeNext self.old.state (access_named source number write access) }
+        requires lawful { AtPresent W.may_bring (shown_of self.old) }
+        ensures answers { Answers ⟦<W as Words>⟧ self.old (access_named source number write access) result self.new }
+        ensures went { W.went self.old.words self.new.words }
+        ensures failures { W.failures self.new.words ≡ failed_after result (W.failures self.old.words) }
+    {
+        self.access_slowly(NamedAccess {
+            source,
+            number,
+            access,
+            write,
+        })
+    }
+
     /// Accepts an access to memory.
     #[inline(always)]
     pub(crate) fn access(&mut self, named: NamedAccess) -> Result<(), Refusal>

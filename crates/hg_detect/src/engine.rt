@@ -343,13 +343,13 @@ impl<W: Words> Engine<W> {
         ensures held { IsOnLock named.now.event → result ≡ Ok tt }
     {
         match &named.event {
-            Event::Read(access) => self.access(NamedAccess {
+            Event::Read(access) => self.accept_access(NamedAccess {
                 source: named.source,
                 number: named.number,
                 access: *access,
                 write: false,
             }),
-            Event::Write(access) => self.access(NamedAccess {
+            Event::Write(access) => self.accept_access(NamedAccess {
                 source: named.source,
                 number: named.number,
                 access: *access,

@@ -5,4 +5,5 @@ pub mod Grammar
 pub mod Opening
 pub mod Reading
 pub mod Scanning
+pub mod Turning
 pub mod Walking

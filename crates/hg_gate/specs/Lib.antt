@@ -5,3 +5,4 @@ pub mod Gated
 pub mod Log
 pub mod Reading
 pub mod Scan
+pub mod Turning

@@ -1,14 +1,11 @@
 -- What a log shows.
-use Rattle.std.specs.Prelude.{◌≡◌, ◌≢◌, ◌⊎◌, ℕ, Bool, false, IsTrue, List, [], ◌∷◌, ◌++◌, length, Option, Some, None, Result, Ok, Err, OnOk, IfOk, IfErr}
+use Rattle.std.specs.Prelude.{◌≡◌, ◌⊎◌, ℕ, Bool, false, List, [], ◌∷◌, ◌++◌, length, Result, Ok, Err, OnOk}
 use Rattle.hg_disk.specs.declared.disk.Disk as disk
 use Rattle.hg_disk.specs.Moments.{LeavesOnly}
 use Rattle.hg_disk.specs.State.{settled}
-use Rattle.hg_gate.specs.declared.batch.Batch.{Batch}
 use Rattle.hg_gate.specs.declared.fault.GateFault.{GateFault}
 use Rattle.hg_gate.specs.declared.fault.GateFault.TheVariants.{Damaged, DeviceFault, OutOfMemory}
-use Rattle.hg_gate.specs.declared.log.LogPlace.{LogPlace}
 use Rattle.hg_gate.specs.declared.log.Log.{Log}
-use Rattle.hg_gate.specs.Batch.{body_of}
 use Rattle.hg_gate.specs.Fault.{after_fault}
 use Rattle.hg_gate.specs.Batches.{IsBeforeOrAfter, IsLog, IsNoLog, LeavesLog, closed_gate, header, spelled}
 
@@ -68,20 +65,6 @@ module _ {D : Type 0} {g : disk.Ghosts D} where
   failures_of_making (Ok log) n = n
   failures_of_making (Err refused) n = after_fault refused.0 n
 
--- The next batch is the one behind these.
-abbrev pub IsBehind : LogPlace → List (List ℕ) → Type 0
-IsBehind batches seen = batches.at ≡ length (spelled seen)
-
--- the bytes of what was found
-abbrev pub given : Option Batch → List (List ℕ)
-given None = []
-given (Some batch) = body_of batch ∷ []
-
--- What was found is the first of the batches that are left, or none are left.
-abbrev pub IsFirst : Option Batch → List (List ℕ) → Type 0
-IsFirst None left = left ≡ []
-IsFirst (Some batch) left = (later : List (List ℕ)) × (left ≡ body_of batch ∷ later)
-
 -- If it was refused as damaged, the bytes are not a log's.
 abbrev pub IsNoLogIfDamaged : {D : Type 0} → List ℕ → (GateFault × D) → Type 0
 IsNoLogIfDamaged bytes refused = refused.0 ≡ Damaged → IsNoLog bytes
@@ -89,15 +72,3 @@ IsNoLogIfDamaged bytes refused = refused.0 ≡ Damaged → IsNoLog bytes
 -- Either a device call failed, or there was no memory and the disk was not called.
 abbrev pub FailedOrUncalled : {D : Type 0} → D → (GateFault × D) → Type 0
 FailedOrUncalled before refused = (refused.0 ≡ DeviceFault) ⊎ ((refused.0 ≡ OutOfMemory) × (refused.1 ≡ before))
-
-module _ {D : Type 0} {g : disk.Ghosts D} where
-  -- From an honest disk the next batch is read, if one is left, and the place is behind it,
-  abbrev pub ReadsNext : {E : Type 0} → Log D g → (old new : LogPlace) → Result (Option Batch) E → Type 0
-  ReadsNext log old new result =
-      (seen left : List (List ℕ)) → IsTrue g.is_honest → Reads log (seen ++ left) → IsBehind old seen
-      → IfOk result (λ found. IsFirst found left × IsBehind new (seen ++ given found))
-
-  -- and there is no damage.
-  abbrev pub ReadsUndamaged : {T : Type 0} → Log D g → (old : LogPlace) → Result T GateFault → Type 0
-  ReadsUndamaged log old result =
-      (seen left : List (List ℕ)) → IsTrue g.is_honest → Reads log (seen ++ left) → IsBehind old seen → IfErr result (λ e. e ≢ Damaged)

@@ -28,14 +28,6 @@ impl Batch {
         Ok(Batch { body })
     }
 
-    // A batch of these bytes, of which there are 1 to 23,552.
-    pub(crate) fn of(body: Vec<u8>) -> Batch
-        requires { IsBody body.items }
-        ensures { body_of result ≡ body.items }
-    {
-        Batch { body }
-    }
-
     /// Its bytes.
     pub fn body(&self) -> &[u8]
         ensures same { result.now ≡ body_of self.now }

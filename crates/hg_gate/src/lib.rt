@@ -7,9 +7,11 @@ mod fault;
 mod gated;
 pub mod laws;
 mod log;
+mod reader;
 mod scan;
 
 pub use batch::{Batch, MAX_BODY_LEN};
 pub use fault::GateFault;
 pub use gated::{BodyTest, FRONT_LEN, Gated};
-pub use log::{CLOSED, Log, LogPlace, LogRoom, OPEN};
+pub use log::{CLOSED, Log, LogRoom, OPEN};
+pub use reader::{LogReader, PIECE_LEN};

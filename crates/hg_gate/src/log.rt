@@ -1,5 +1,5 @@
 //! A log of batches.
-ghost use Rattle.std.specs.Prelude.{◌≡◌, ◌⊎◌, ◌+◌, ◌≤◌, ◌^◌, ◌++◌, ◌∷◌, [], ℕ, List, length, vec_capacity, false, IsTrue, IfOk, IfErr, OnOk, OnErr, IsErrOf, Err};
+ghost use Rattle.std.specs.Prelude.{◌≡◌, ◌⊎◌, ◌+◌, ◌≤◌, ◌^◌, ◌++◌, ◌∷◌, [], ℕ, List, length, vec_capacity, false, IsTrue, IfOk, IfErr, OnOk, OnErr, IsErrOf, Ok, Err};
 ghost use Rattle.hg_disk.specs.State.{IsDurable};
 ghost use Rattle.hg_disk.specs.Calls.{CallsAtMost};
 ghost use Rattle.hg_gate.specs.Batches.{OneCallABatch, closed_gate, sized};
@@ -9,7 +9,8 @@ ghost use Rattle.hg_gate.specs.Fault.{failures_after, IsBrokenOrDevice, IsDamage
 
 use crate::batch::{Batch, MAX_BODY_LEN};
 use crate::fault::GateFault;
-use crate::scan::{HEAD_LEN, HEADER, find_end, read_head, read_vec};
+use crate::reader::LogReader;
+use crate::scan::{find_end, read_ahead};
 use hg_disk::{Disk, write_through};
 use std::alloc::{AllocError, Global};
 
@@ -79,7 +80,8 @@ fn fill(buffer: &mut Vec<u8>, body: &[u8])
 
 impl<D: Disk> Log<D> {
     ghost use Rattle.hg_gate.specs.Batch.{body_of};
-    ghost use Rattle.hg_gate.specs.Log.{AddsBatch, AddsDurably, FailedOrUncalled, Has, HasSome, IsBehind, IsEmptyOn, IsNoLogIfDamaged, LeavesBeforeOrAfter, Reads, ReadsNext, ReadsSome, ReadsUndamaged, disk_after, disk_of, failures_of_making, is_broken};
+    ghost use Rattle.hg_gate.specs.Log.{AddsBatch, AddsDurably, FailedOrUncalled, Has, HasSome, IsEmptyOn, IsNoLogIfDamaged, LeavesBeforeOrAfter, Reads, ReadsSome, disk_after, disk_of, failures_of_making, is_broken};
+    ghost use Rattle.hg_gate.specs.Turning.{IsReadTo, Turns, TurnsUndamaged, rest_of};
 
     /// Makes a log without batches on an empty disk. A refusal hands the disk back; after `OutOfMemory` the disk was not
     /// called. It makes two device calls at most.
@@ -191,54 +193,57 @@ impl<D: Disk> Log<D> {
         Ok(())
     }
 
-    /// The place of the first batch, for `next_batch`.
-    pub fn first_place(&self) -> Result<LogPlace, GateFault>
-        ensures first { IfOk result (λ place. IsBehind place []) }
+    /// Whether a call of an append failed: then each later call but `into_disks` answers `Broken`.
+    #[inline(always)]
+    pub fn is_broken(&self) -> bool
+        ensures { result ≡ is_broken self.now }
+    {
+        self.is_broken
+    }
+
+    /// A reader in front of the first batch, for `turn`. It takes no memory.
+    pub fn reader(&self) -> Result<LogReader, GateFault>
+        ensures first { IfOk result (λ reader. (file : List ℕ) → IsReadTo file reader []) }
+        ensures none { IfOk result (λ reader. rest_of reader ≡ []) }
         ensures fault { IfErr result (λ e. (e ≡ GateFault.Broken) × IsTrue (is_broken self.now)) }
         ensures refuses { IsTrue (is_broken self.now) → result ≡ Err GateFault.Broken }
     {
         if self.is_broken {
             return Err(GateFault::Broken);
         }
-        Ok(LogPlace {
-            at: HEADER.len() as u64,
-        })
+        Ok(LogReader::new(*self.buffer.allocator()))
     }
 
-    /// Reads the batch at the place, or none behind the last, and moves the place on. After an `Err` it can be tried again.
-    /// It makes two device calls at most, and takes memory for the one batch alone.
-    pub fn next_batch(&mut self, place: &mut LogPlace) -> Result<Option<Batch>, GateFault>
-        ensures next { ReadsNext self.old place.old place.new result }
-        ensures whole { ReadsUndamaged self.old place.old result }
-        ensures again { OnErr result (place.new ≡ place.old) }
+    /// Makes the next batch the present one of a reader, whatever is left of that before it, and answers whether there is one.
+    /// After an `Err`, and where there is none, the reader stays as it was, and the call can be made again.
+    ///
+    /// It makes one device call at most, of `PIECE_LEN` bytes, and none where the whole batch was read ahead. It takes
+    /// memory for so many bytes.
+    pub fn turn(&mut self, reader: &mut LogReader) -> Result<bool, GateFault>
+        ensures next { Turns self.old reader.old reader.new result }
+        ensures whole { TurnsUndamaged self.old reader.old result }
+        ensures again { OnErr result (reader.new ≡ reader.old) }
+        ensures stays { result ≡ Ok false → reader.new ≡ reader.old }
 
         // The log stays as it is.
         ensures broken_or_not { is_broken self.new ≡ is_broken self.old }
         ensures reads { (bodies : List (List ℕ)) → Reads self.old bodies → Reads self.new bodies }
         ensures has { (bodies : List (List ℕ)) → Has self.old bodies → Has self.new bodies }
-        ensures disk { WasRead ⟦<D as Disk>⟧ 2 (disk_of self.old) (disk_of self.new) }
+        ensures disk { WasRead ⟦<D as Disk>⟧ 1 (disk_of self.old) (disk_of self.new) }
         ensures device { D.failures (disk_of self.new) ≡ failures_after result (D.failures (disk_of self.old)) }
         ensures broken { RefusesIfBroken (is_broken self.old) GateFault.Broken self.old self.new result }
     {
         if self.is_broken {
             return Err(GateFault::Broken);
         }
-        if place.at > self.disk.len() {
+        if reader.next > self.disk.len() {
             return Err(GateFault::Damaged);
         }
-        let Some(len) = read_head(&mut self.disk, place.at)? else {
-            return Ok(None);
-        };
-        let at = place.at + HEAD_LEN as u64;
+        if let Some(len) = reader.len_ahead() {
+            reader.turn(len);
+            return Ok(true);
+        }
         let alloc = *self.buffer.allocator();
-        let body = read_vec(&mut self.disk, alloc, at, len as usize)?;
-        place.at = at + len as u64;
-        Ok(Some(Batch::of(body)))
+        read_ahead(&mut self.disk, alloc, reader)
     }
-}
-
-/// A place in a log: the next batch to be read.
-#[derive(Clone, Copy, Debug, PartialEq, Eq)]
-pub struct LogPlace {
-    at: u64,
 }

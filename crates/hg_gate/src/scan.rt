@@ -1,15 +1,17 @@
 //! Where the batches of a log end.
-ghost use Rattle.std.specs.Prelude.{◌≡◌, ◌⊎◌, ◌+◌, ◌<◌, ◌≤◌, ◌↔◌, ◌^◌, ℕ, List, length, take, drop, IsTrue, IfOk, IfErr, OnOk, OnErr, IsErrOf};
+ghost use Rattle.std.specs.Prelude.{◌≡◌, ◌⊎◌, ◌+◌, ◌<◌, ◌≤◌, ◌↔◌, ◌^◌, ℕ, List, length, take, drop, false, IsTrue, IfOk, IfErr, OnOk, OnErr, Ok, IsErrOf};
 ghost use Rattle.hg_disk.specs.State.{Fills};
 ghost use Rattle.hg_disk.specs.Calls.{CallsAtMost};
 ghost use Rattle.hg_gate.specs.Batches.{IsBodyLength, IsNoLog, OneCallABatch};
 ghost use Rattle.hg_gate.specs.Fault.{failures_after, IsDamagedOrDevice};
 ghost use Rattle.hg_gate.specs.Reading.{WasRead};
 ghost use Rattle.hg_gate.specs.Scan.{HasNoTail, IsNoTail, IsHead, EndsAt, Walked, HasBodyLength, batch_len};
+ghost use Rattle.hg_gate.specs.Turning.{TurnsIn};
 
 use crate::batch::MAX_BODY_LEN;
 use crate::fault::GateFault;
 use crate::log::OPEN;
+use crate::reader::{LogReader, PIECE_LEN};
 use hg_disk::Disk;
 use std::alloc::Global;
 
@@ -21,7 +23,7 @@ pub(crate) const HEAD_LEN: usize = 5;
 
 // Parses the head of a batch: the length of its body, or none at a closed gate. `head` is the first five of the `room`
 // bytes that are left of the file, or all of them if there are fewer.
-fn parse_head(head: &[u8], room: u64) -> Result<Option<u32>, GateFault>
+pub(crate) fn parse_head(head: &[u8], room: u64) -> Result<Option<u32>, GateFault>
     ensures within { IfOk result (λ found. batch_len found ≤ room) }
     ensures length { IfOk result HasBodyLength }
     ensures head { (tail : List ℕ) → head.now ≡ take 5 tail → room ≡ length tail → IfOk result (IsHead tail) }
@@ -138,4 +140,32 @@ pub(crate) fn read_vec<D: Disk>(
     let mut bytes = vec![in alloc; 0; len]?;
     read_bytes(disk, at, &mut bytes)?;
     Ok(bytes)
+}
+
+// Reads on from the place of the next batch, and makes that batch the present one, if there is one.
+pub(crate) fn read_ahead<D: Disk>(
+    disk: &mut D,
+    alloc: Global,
+    reader: &mut LogReader,
+) -> Result<bool, GateFault>
+    requires within { reader.old.next ≤ length (D.state disk.old).contents }
+    ensures next { IsTrue D.is_honest → TurnsIn (D.state disk.old).contents reader.old reader.new result }
+    ensures whole { IsTrue D.is_honest → IsErrOf result GateFault.Damaged → HasNoTail reader.old.next (D.state disk.old) }
+    ensures again { OnErr result (reader.new ≡ reader.old) }
+    ensures stays { result ≡ Ok false → reader.new ≡ reader.old }
+    ensures fault { IfErr result (λ e. IsDamagedOrDevice e ⊎ (e ≡ GateFault.OutOfMemory)) }
+    ensures device { D.failures disk.new ≡ failures_after result (D.failures disk.old) }
+    ensures reads { WasRead ⟦<D as Disk>⟧ 1 disk.old disk.new }
+{
+    let room = disk.len() - reader.next;
+    let count = room.min(PIECE_LEN as u64) as usize;
+    let piece = read_vec(disk, alloc, reader.next, count)?;
+    let Some(len) = parse_head(&piece[..count.min(HEAD_LEN)], room)? else {
+        return Ok(false);
+    };
+    reader.piece = piece;
+    reader.from = 0;
+    reader.to = 0;
+    reader.turn(len);
+    Ok(true)
 }

@@ -1,23 +1,29 @@
 -- The calls of a journal over those of its log.
-use Rattle.std.proofs.Common.{◌≡◌, ◌⊎◌, inl, inr, ◌≤◌, ◌+◌, ℕ, zero, suc, List, [], ◌∷◌, ◌++◌, length, map, false, refl, sym, ◌∙◌, ap, subst, arith, append_assoc, length-append}
+use Rattle.std.proofs.Common.{◌≡◌, ◌⊎◌, inl, inr, ◌≤◌, ◌+◌, ℕ, zero, suc, List, [], ◌∷◌, ◌++◌, length, map, Result, Err, Bool, MatchBool, true, false, refl, sym, ◌∙◌, ap, subst, arith, append_assoc, length-append}
+use Rattle.std.proofs.lemmas.Bool.{true≢false}
 use Rattle.std.proofs.lemmas.List.{append-nil}
 use Rattle.std.proofs.lemmas.Grind.{flat_map-append}
 use Rattle.std.specs.List.{AllByRecursion}
 use Rattle.hg_model.specs.declared.event.Named.{Named}
+use Rattle.hg_records.specs.Lengths.{HasRecord}
 use Rattle.hg_records.specs.Records.{BeginsWith, RecordFits, record_text}
 use Rattle.hg_disk.specs.declared.disk.Disk as disk
 use Rattle.hg_disk.specs.Moments.{Leaves, LeavesOnly}
+use Rattle.hg_disk.specs.State.{DiskState}
 use Rattle.hg_disk.proofs.Moments.{weaker}
 use Rattle.hg_gate.specs.Batches.{IsBody, IsLog, IsBeforeOrAfter}
 use Rattle.hg_gate.specs.declared.fault.GateFault.{GateFault}
 use Rattle.hg_gate.specs.declared.fault.GateFault.TheVariants as fault
+use Rattle.hg_model.specs.declared.verdict.Refusal.{Refusal}
 use Rattle.hg_model.specs.declared.verdict.Refusal.TheVariants as refusal
-use Rattle.hg_gate.specs.Log.{Has, IsBehind}
+use Rattle.hg_gate.specs.Log.{Has}
+use Rattle.hg_gate.specs.Reading.{RefusesIfBroken}
+use Rattle.hg_gate.specs.Turning.{IsReadTo, IsTurned}
 use Rattle.hg_gate.proofs.Appending.{each_image}
 use Rattle.hg_journal.specs.declared.journal.Journal.{Journal}
 use Rattle.hg_journal.specs.declared.journal.JournalReader.{JournalReader}
 use Rattle.hg_journal.specs.Journal.{IsJournal, batch_text, of_gate}
-use Rattle.hg_journal.specs.Reading.{IsAt, KeepsEvents, Passes, disk_of, is_broken, rest_of}
+use Rattle.hg_journal.specs.Reading.{IsAt, KeepsEvents, Passes, StaysBehind, disk_of, is_broken, rest_of}
 use Rattle.hg_journal.proofs.Journals.{Turned, bytes_of, events_of, events_push, fits_back, fits_join, front_of, no_journal, pushed, text_push, turned}
 
 body_within : (bodies : List (List ℕ)) (body : List ℕ) (later : List (List ℕ)) → AllByRecursion IsBody (bodies ++ body ∷ later) → IsBody body
@@ -37,6 +43,28 @@ passed_text (suc n) first rest is =
       p.3 ∙ ap (λ (l : List ℕ). batch_text p.0 ++ l) begins.1 ∙ sym (append_assoc (batch_text p.0) (record_text named) rest)
           ∙ ap (λ (l : List ℕ). l ++ rest) (ap (λ (l : List ℕ). batch_text p.0 ++ l) (sym (append-nil (record_text named))) ∙ sym (flat_map-append record_text p.0 (named ∷ []))),
     )
+
+-- one record more was passed
+pub pass_one : (n : ℕ) (first mid rest : List ℕ) → Passes n first mid → HasRecord mid rest → Passes (n + 1) first rest
+pass_one n first mid rest passes has = let more : suc n ≡ n + 1 = omega arith in subst (λ (k : ℕ). Passes k first rest) more (mid, passes, has.0, has.1)
+
+gate_broken : (f : GateFault) → of_gate f ≡ refusal.Broken → f ≡ fault.Broken
+gate_broken fault.Broken is = refl
+gate_broken fault.Damaged is = absurd (cc is)
+gate_broken fault.DeviceFault is = absurd (cc is)
+gate_broken fault.OutOfMemory is = absurd (cc is)
+
+err_is : {T E : Type 0} (x y : E) → ◌≡◌ {A = Result T E} (Err x) (Err y) → x ≡ y
+err_is x y is = cc
+
+-- what a broken log answers its journal answers
+pub broken_on : {V W T S : Type 0} (broken : Bool) (f : GateFault) (r : Refusal) (old new : V) (j k : W) → r ≡ of_gate f → RefusesIfBroken {T = T} broken fault.Broken old new (Err f) → broken ≡ false
+    → RefusesIfBroken {T = S} broken refusal.Broken j k (Err r)
+broken_on {V} {W} {T} {S} broken f r old new j k told h works = record {
+  broken = λ is. h.broken (ap (λ (e : GateFault). Err e) (gate_broken f (sym told ∙ err_is {T = S} r refusal.Broken is)));
+  refuses = λ is. absurd (true≢false (sym is ∙ works));
+  same = λ is. absurd (true≢false (sym is ∙ works));
+}
 
 module _ {D : Type 0} (g : disk.Ghosts D) where
   -- ---- what a journal keeps
@@ -80,14 +108,14 @@ module _ {D : Type 0} (g : disk.Ghosts D) where
   -- ---- reading
 
   -- before the first event
-  pub at_first : (j : Journal D g) (r : JournalReader) (bodies : List (List ℕ)) → Has j.log bodies → IsBehind r.place [] → rest_of r ≡ [] → IsAt j r []
+  pub at_first : (j : Journal D g) (r : JournalReader) (bodies : List (List ℕ)) → Has j.log bodies → ((file : List ℕ) → IsReadTo file r.batches []) → rest_of r ≡ [] → IsAt j r []
   at_first j r bodies has place none = record {
     past = [];
     present = [];
     later = bodies;
     read = [];
     has = has;
-    place = place;
+    place = place (g.state (disk_of j)).contents;
     one = omega arith;
     split = sym none;
     fits = tt;
@@ -95,15 +123,15 @@ module _ {D : Type 0} (g : disk.Ghosts D) where
   }
 
   module _ (old : Journal D g) (r : JournalReader) (seen : List Named) (h : IsAt old r seen) where
-    -- a reader with another journal that has the same batches
-    pub same_batches : (new : Journal D g) → Has new.log ((map batch_text h.past ++ h.present) ++ h.later) → IsAt new r seen
-    same_batches new has = record {
+    -- a reader with another journal that has the same batches and bytes
+    pub same_batches : (new : Journal D g) → g.state (disk_of new) ≡ g.state (disk_of old) → Has new.log ((map batch_text h.past ++ h.present) ++ h.later) → IsAt new r seen
+    same_batches new same has = record {
       past = h.past;
       present = h.present;
       later = h.later;
       read = h.read;
       has = has;
-      place = h.place;
+      place = subst (λ (s : DiskState). IsReadTo s.contents r.batches (map batch_text h.past ++ h.present)) (sym same) h.place;
       one = h.one;
       split = h.split;
       fits = h.fits;
@@ -115,12 +143,14 @@ module _ {D : Type 0} (g : disk.Ghosts D) where
     behind none = turned h.past h.present h.read seen h.one (h.split ∙ ap (λ (l : List ℕ). batch_text h.read ++ l) none ∙ append-nil (batch_text h.read)) h.whole
 
     -- the next one is there
-    pub on : (new : Journal D g) (s : JournalReader) (body : List ℕ) (later : List (List ℕ)) → rest_of r ≡ [] → h.later ≡ body ∷ later → Has new.log ((map batch_text h.past ++ h.present) ++ h.later)
-        → IsBehind s.place ((map batch_text h.past ++ h.present) ++ body ∷ []) → rest_of s ≡ body → IsAt new s seen × (1 ≤ length (rest_of s))
-    on new s body later none first has place all =
+    pub on : (new : Journal D g) (s : JournalReader) → rest_of r ≡ [] → g.state (disk_of new) ≡ g.state (disk_of old) → Has new.log ((map batch_text h.past ++ h.present) ++ h.later)
+        → IsTurned (g.state (disk_of old)).contents s.batches (map batch_text h.past ++ h.present) h.later → IsAt new s seen × (1 ≤ length (rest_of s))
+    on new s none same has turned =
+        let body = rest_of s in
+        let later = turned.later in
         let t = behind none in
         let bodies = map batch_text h.past ++ h.present in
-        let moved : Has new.log (bodies ++ body ∷ later) = subst (λ (l : List (List ℕ)). Has new.log (bodies ++ l)) first has in
+        let moved : Has new.log (bodies ++ body ∷ later) = subst (λ (l : List (List ℕ)). Has new.log (bodies ++ l)) turned.first has in
         let is_body : IsBody body = body_within bodies body later moved.reads.has.each in (
           record {
             past = t.batches;
@@ -128,13 +158,14 @@ module _ {D : Type 0} (g : disk.Ghosts D) where
             later = later;
             read = [];
             has = subst (λ (l : List (List ℕ)). Has new.log l) (sym (append_assoc (map batch_text t.batches) (body ∷ []) later)) (subst (λ (l : List (List ℕ)). Has new.log (l ++ body ∷ later)) (sym t.bodies) moved);
-            place = subst (λ (l : List (List ℕ)). IsBehind s.place (l ++ body ∷ [])) (sym t.bodies) place;
+            place = subst (λ (x : DiskState). IsReadTo x.contents s.batches (map batch_text t.batches ++ body ∷ [])) (sym same)
+                (subst (λ (l : List (List ℕ)). IsReadTo (g.state (disk_of old)).contents s.batches (l ++ body ∷ [])) (sym t.bodies) turned.at);
             one = omega arith;
-            split = append-nil body ∙ sym all;
+            split = append-nil body;
             fits = h.fits;
             whole = t.whole ∙ sym (append-nil (events_of t.batches));
           },
-          omega (arith, is_body.0, ap length all),
+          is_body.0,
         )
 
     -- there is none
@@ -145,15 +176,21 @@ module _ {D : Type 0} (g : disk.Ghosts D) where
         let all : bodies ++ h.later ≡ map batch_text t.batches = ap (λ (l : List (List ℕ)). bodies ++ l) last ∙ append-nil bodies ∙ sym t.bodies in
         record { batches = t.batches; has = subst (λ (l : List (List ℕ)). Has new.log l) all has; fits = h.fits; whole = t.whole }
 
+    -- one of the two, as the log answered
+    pub found_next : (new : Journal D g) (s : JournalReader) (found : Bool) → rest_of r ≡ [] → g.state (disk_of new) ≡ g.state (disk_of old) → Has new.log ((map batch_text h.past ++ h.present) ++ h.later)
+        → MatchBool found (IsTurned (g.state (disk_of old)).contents s.batches (map batch_text h.past ++ h.present) h.later) (h.later ≡ []) → MatchBool found (IsAt new s seen × (1 ≤ length (rest_of s))) (KeepsEvents new seen)
+    found_next new s true none same has turned = on new s none same has turned
+    found_next new s false none same has last = at_last new none last has
+
     -- one event more
-    pub step : (s : JournalReader) (named : Named) → BeginsWith (rest_of r) named (rest_of s) → s.place ≡ r.place → IsAt old s (seen ++ named ∷ [])
-    step s named begins same = record {
+    pub step : (s : JournalReader) (named : Named) → BeginsWith (rest_of r) named (rest_of s) → StaysBehind r s → IsAt old s (seen ++ named ∷ [])
+    step s named begins stays = record {
       past = h.past;
       present = h.present;
       later = h.later;
       read = h.read ++ named ∷ [];
       has = h.has;
-      place = ap (λ p. p.at) same ∙ h.place;
+      place = stays (g.state (disk_of old)).contents (map batch_text h.past ++ h.present) h.place;
       one = h.one;
       split = h.split ∙ ap (λ (l : List ℕ). batch_text h.read ++ l) begins.1 ∙ sym (append_assoc (batch_text h.read) (record_text named) (rest_of s))
           ∙ ap (λ (l : List ℕ). l ++ rest_of s) (ap (λ (l : List ℕ). batch_text h.read ++ l) (sym (append-nil (record_text named))) ∙ sym (flat_map-append record_text h.read (named ∷ [])));
@@ -162,8 +199,8 @@ module _ {D : Type 0} (g : disk.Ghosts D) where
     }
 
     -- some events more
-    pub steps : (s : JournalReader) (count : ℕ) → Passes count (rest_of r) (rest_of s) → s.place ≡ r.place → (more : List Named) × (length more ≡ count) × IsAt old s (seen ++ more)
-    steps s count passes same =
+    pub steps : (s : JournalReader) (count : ℕ) → Passes count (rest_of r) (rest_of s) → StaysBehind r s → (more : List Named) × (length more ≡ count) × IsAt old s (seen ++ more)
+    steps s count passes stays =
         let p = passed_text count (rest_of r) (rest_of s) passes in (
           p.0,
           p.1,
@@ -173,7 +210,7 @@ module _ {D : Type 0} (g : disk.Ghosts D) where
             later = h.later;
             read = h.read ++ p.0;
             has = h.has;
-            place = ap (λ q. q.at) same ∙ h.place;
+            place = stays (g.state (disk_of old)).contents (map batch_text h.past ++ h.present) h.place;
             one = h.one;
             split = h.split ∙ ap (λ (l : List ℕ). batch_text h.read ++ l) p.3 ∙ sym (append_assoc (batch_text h.read) (batch_text p.0) (rest_of s))
                 ∙ ap (λ (l : List ℕ). l ++ rest_of s) (sym (flat_map-append record_text h.read p.0));

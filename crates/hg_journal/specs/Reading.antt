@@ -11,14 +11,20 @@ use Rattle.hg_disk.specs.State.{settled}
 use Rattle.hg_disk.specs.declared.disk.Disk as disk
 use Rattle.hg_gate.specs.Batches.{closed_gate, header}
 use Rattle.hg_gate.specs.Log as log
-use Rattle.hg_gate.specs.Log.{Has, IsBehind}
+use Rattle.hg_gate.specs.Log.{Has}
+use Rattle.hg_gate.specs.Turning as turning
+use Rattle.hg_gate.specs.Turning.{IsReadTo}
 use Rattle.hg_journal.specs.declared.journal.Journal.{Journal}
 use Rattle.hg_journal.specs.declared.journal.JournalReader.{JournalReader}
 use Rattle.hg_journal.specs.Journal.{IsAllOrNone, IsJournal, IsNoJournal, LeavesJournal, after_refusal, batch_text}
 
 -- the bytes of the present batch that were not read yet
 abbrev pub rest_of : JournalReader → List ℕ
-rest_of r = drop r.at r.body.items
+rest_of r = turning.rest_of r.batches
+
+-- The reader is behind the same batches as before, whatever the file has.
+abbrev pub StaysBehind : (old new : JournalReader) → Type 0
+StaysBehind old new = (file : List ℕ) (seen : List (List ℕ)) → IsReadTo file old.batches seen → IsReadTo file new.batches seen
 
 -- The first bytes are n records and then the rest.
 abbrev pub Passes : ℕ → List ℕ → List ℕ → Type 0
@@ -52,7 +58,7 @@ module _ {D : Type 0} {g : disk.Ghosts D} where
     pub later : List (List ℕ)
     pub read : List Named
     pub has : Has j.log ((map batch_text past ++ present) ++ later)
-    pub place : IsBehind r.place (map batch_text past ++ present)
+    pub place : IsReadTo (g.state (disk_of j)).contents r.batches (map batch_text past ++ present)
     pub one : length present ≤ 1
     pub split : flat_map (λ body. body) present ≡ batch_text read ++ rest_of r
     pub fits : AllByRecursion RecordFits seen

@@ -11,7 +11,7 @@ ghost use Rattle.hg_records.specs.Records.{RecordFits};
 ghost use Rattle.hg_journal.specs.Journal.{FailedOrUncalled, IsBrokenOrDevice, IsNoJournalIfDamaged, IsOfReading, batch_text, failed_after, of_gate};
 
 use hg_disk::Disk;
-use hg_gate::{Batch, GateFault, Log, LogPlace, LogRoom, MAX_BODY_LEN};
+use hg_gate::{Batch, GateFault, Log, LogReader, LogRoom, MAX_BODY_LEN};
 use hg_model::event::Named;
 use hg_model::verdict::Refusal;
 use hg_records::record::{MAX_RECORD_LEN, put_record};
@@ -58,10 +58,7 @@ impl JournalRoom {
 /// A place among the events of a journal: the next one to be read.
 #[derive(Drop)]
 pub struct JournalReader {
-    pub(crate) place: LogPlace,
-    pub(crate) body: Vec<u8>,
-    pub(crate) at: usize,
-    ghost within: { at ≤ length body.items },
+    pub(crate) batches: LogReader,
 }
 
 // The refusal that tells a log's fault.

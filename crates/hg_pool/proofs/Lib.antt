@@ -15,4 +15,5 @@ pub mod Begun
 pub mod Given
 pub mod Filled
 pub mod Overlapping
+mod Alike
 pub mod Reaching

@@ -165,6 +165,22 @@ impl<D: Disk> Pool<D> {
         answer
     }
 
+    /// The one cell of all words of a page from `from` up to `to`, if the page is the one used last and may be changed. `None`
+    /// says nothing about these words.
+    #[inline(always)]
+    fn look(&self, page: u64, from: usize, to: usize) -> Option<Cell>
+        requires in_order { from < to }
+        requires in_page { to ≤ 256 }
+        ensures cells { IfSome result (HasCell self.now.frames page from to) }
+        ensures settled { IfSome result (λ cell. IsSettled self.now page) }
+    {
+        let frame = self.last_frame(page)?;
+        if !self.is_settled(page) {
+            return None;
+        }
+        frame.cells.same(from, to)
+    }
+
     // Gives all words of a page from `from` up to `to` a cell.
     #[inline]
     fn fill_page(&mut self, number: u64, from: u64, to: u64, cell: Cell)
@@ -250,6 +266,16 @@ impl<D: Disk> Words for Pool<D> {
             return None;
         }
         self.ask(number, from as usize, (from + count) as usize)
+    }
+
+    #[inline(always)]
+    fn peek(&self, first: u64, count: u64) -> Option<Cell> {
+        let number = first / WORDS;
+        let from = first % WORDS;
+        if count == 0 || count > WORDS - from {
+            return None;
+        }
+        self.look(number, from as usize, (from + count) as usize)
     }
 
     fn fill(&mut self, first: u64, count: u64, cell: Cell) {

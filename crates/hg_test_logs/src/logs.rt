@@ -1,7 +1,7 @@
 //! What the lines of a scenario do with a log of batches. It stands on the disk of the journal.
 
 use hg_disk::Disk;
-use hg_gate::{Batch, Log, LogPlace};
+use hg_gate::{Batch, Log, LogReader};
 use hg_test_kit::answers::put_bytes;
 use hg_test_kit::device::Device;
 use hg_test_kit::shelf::{Shelf, TestDisk};
@@ -9,35 +9,33 @@ use hg_test_kit::text::Text;
 use hg_test_kit::tokens::{self, Halt, front};
 use std::alloc::{AllocError, Global};
 
-/// A log, if one is open, and where the batch stands that is read next.
+/// A log, if one is open, and a reader of it.
 #[derive(Drop)]
 pub struct LogBench {
     opened: Option<Log<TestDisk>>,
-    place: Option<LogPlace>,
+    reader: Option<LogReader>,
 }
 
 /// The most batches that are read at once.
 const MOST_BATCHES: u64 = 1_000_000;
 
 /// Appends a batch, behind a comma where it isn't the first.
-fn put_batch(batch: &Batch, out: &mut Text) {
+fn put_batch(batch: &[u8], out: &mut Text) {
     if !out.bytes().is_empty() {
         out.put(b", ");
     }
-    put_bytes(batch.body(), out);
+    put_bytes(batch, out);
 }
 
 /// Appends all batches of a log, or `none`.
 fn put_batches(log: &mut Log<TestDisk>, out: &mut Text) -> Result<(), Halt> {
-    let mut place = log.first_place()?;
+    let mut reader = log.reader()?;
     for _ in 0..MOST_BATCHES {
-        match log.next_batch(&mut place)? {
-            Some(batch) => put_batch(&batch, out),
-            None => {
-                put_none(out);
-                return Ok(());
-            }
+        if !log.turn(&mut reader)? {
+            put_none(out);
+            return Ok(());
         }
+        put_batch(reader.rest(), out);
     }
     Ok(())
 }
@@ -65,15 +63,16 @@ fn append(alloc: Global, log: &mut Log<TestDisk>, rest: &str, out: &mut Text) ->
 /// Appends the batch that is next, or `end`.
 fn put_next(
     log: &mut Log<TestDisk>,
-    place: &mut Option<LogPlace>,
+    reader: &mut Option<LogReader>,
     out: &mut Text,
 ) -> Result<(), Halt> {
-    let Some(place) = place else {
+    let Some(reader) = reader else {
         return Err(Halt::Closed);
     };
-    match log.next_batch(place)? {
-        Some(batch) => put_bytes(batch.body(), out),
-        None => out.put(b"end"),
+    if log.turn(reader)? {
+        put_bytes(reader.rest(), out);
+    } else {
+        out.put(b"end");
     }
     Ok(())
 }
@@ -98,14 +97,14 @@ impl LogBench {
     pub fn new() -> LogBench {
         LogBench {
             opened: None,
-            place: None,
+            reader: None,
         }
     }
 
     /// Has this log, or none.
     fn put_opened(&mut self, opened: Option<Log<TestDisk>>) {
         self.opened = opened;
-        self.place = None;
+        self.reader = None;
     }
 
     pub fn clear(&mut self) {
@@ -143,10 +142,10 @@ impl LogBench {
         match token {
             "append" => append(alloc, log, rest, out),
             "first" => {
-                self.place = Some(log.first_place()?);
+                self.reader = Some(log.reader()?);
                 Ok(())
             }
-            "next" => put_next(log, &mut self.place, out),
+            "next" => put_next(log, &mut self.reader, out),
             "all" => put_batches(log, out),
             _ => Err(Halt::Misspelt),
         }

@@ -1,4 +1,4 @@
-use Rattle.std.proofs.Common.{◌<◌, ◌≡◌, ◌∙◌, ◌==◌, ℕ, List, length, take, get_or, is_some, None, if◌then◌else◌, sym, ap, arith}
+use Rattle.std.proofs.Common.{◌<◌, ◌≡◌, ◌∙◌, ◌==◌, ℕ, length, take, get_or, is_some, None, if◌then◌else◌, sym, ap, arith}
 use Rattle.std.proofs.lemmas.List.{get_or_read}
 use Rattle.hg_pages.specs.Tables.{slot_in}
 use Rattle.hg_pool.proofs.Picked.{more_entries, taken_out}

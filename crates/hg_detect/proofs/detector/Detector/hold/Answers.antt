@@ -8,7 +8,7 @@ pub returns-then-admits_hold : goal.returns-then-admits_hold
 returns-then-admits_hold g c =
     let n = hold_named c.args.source c.args.number c.args.hold in
     let accepts = admitted g.W.Words.cell_of c.self.inside.engine c.args.self.now n c.self.invariant c.self.view_is (sym c.admits_hold.ensures ∙ c.if-admits_hold.true) in
-    engine_accepted g.W.Words c.self.inside.engine c.hold.new.self c.args.self.now n c.self.view_is c.self.invariant accepts c.hold.ensures.answers c.hold.ensures.went
+    engine_accepted g.W.Words c.self.inside.engine c.hold.new.self c.args.self.now n c.self.view_is c.self.invariant accepts c.hold.ensures.answers c.hold.ensures.went c.hold.ensures.failures
 
 pub returns-in_err-answer : goal.returns-in_err-answer
 returns-in_err-answer g c =

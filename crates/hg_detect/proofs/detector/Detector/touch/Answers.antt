@@ -8,7 +8,7 @@ pub returns-in-Some : goal.returns-in-Some
 returns-in-Some g c =
     let n = access_named c.args.source c.args.number c.args.write c.args.access in
     let accepts = admitted g.W.Words.cell_of c.self.inside.engine c.args.self.now n c.self.invariant c.self.view_is (sym (c.admits_access-admitted.ensures c.args.write) ∙ c.if-admitted.true) in
-    engine_accepted g.W.Words c.self.inside.engine c.access_quickly.new.self c.args.self.now n c.self.view_is c.self.invariant accepts c.access_quickly.ensures.answers c.access_quickly.ensures.went
+    engine_accepted g.W.Words c.self.inside.engine c.access_quickly.new.self c.args.self.now n c.self.view_is c.self.invariant accepts c.access_quickly.ensures.answers c.access_quickly.ensures.went c.access_quickly.ensures.failures
 
 pub returns-in_err-answer : goal.returns-in_err-answer
 returns-in_err-answer g c =

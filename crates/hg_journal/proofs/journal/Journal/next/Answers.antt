@@ -14,7 +14,7 @@ returns-in_err-find-clause-damaged g c seen honest h same =
 pub returns-in-Some-clause-next : goal.returns-in-Some-clause-next
 returns-in-Some-clause-next g c seen honest h =
     let found = subst (λ (more : Bool). MatchBool more (IsAt c.find.new.self c.find.new.reader seen × (1 ≤ length (rest_of c.find.new.reader))) (KeepsEvents c.find.new.self seen)) c.if-not-branch.false (c.in_ok-find.ensures.found seen honest h) in
-    step g.D.Disk c.find.new.self c.find.new.reader seen found.0 c.take.new.self c.in-Some.named c.in-Some.ensures.some c.take.ensures.place
+    step g.D.Disk c.find.new.self c.find.new.reader seen found.0 c.take.new.self c.in-Some.named c.in-Some.ensures.some c.take.ensures.stays
 
 pub returns-in-None-clause-damaged : goal.returns-in-None-clause-damaged
 returns-in-None-clause-damaged g c seen honest h same events is =

@@ -23,11 +23,11 @@ returns-then-count-eq0-clause-damaged g c seen honest h same events is =
 pub returns-clause-passed : goal.returns-clause-passed
 returns-clause-passed g c seen honest h some =
     let found = subst (λ (more : Bool). MatchBool more (IsAt c.find.new.self c.find.new.reader seen × (1 ≤ length (rest_of c.find.new.reader))) (KeepsEvents c.find.new.self seen)) c.if-not-branch.false (c.in_ok-find.ensures.found seen honest h) in
-    steps g.D.Disk c.find.new.self c.find.new.reader seen found.0 c.pass-count.new.self c.pass-count.result c.pass-count.ensures.passed c.pass-count.ensures.place
+    steps g.D.Disk c.find.new.self c.find.new.reader seen found.0 c.pass-count.new.self c.pass-count.result c.pass-count.ensures.passed c.pass-count.ensures.stays
 
 pub returns-then-count-eq0-clause-again : goal.returns-then-count-eq0-clause-again
 returns-then-count-eq0-clause-again g c seen honest h =
     let found = subst (λ (more : Bool). MatchBool more (IsAt c.find.new.self c.find.new.reader seen × (1 ≤ length (rest_of c.find.new.reader))) (KeepsEvents c.find.new.self seen)) c.if-not-branch.false (c.in_ok-find.ensures.found seen honest h) in
     let none : Passes 0 (rest_of c.find.new.reader) (rest_of c.pass-count.new.self) = subst (λ (n : ℕ). Passes n (rest_of c.find.new.reader) (rest_of c.pass-count.new.self)) c.if-count-eq0.true c.pass-count.ensures.passed in
-    let more = steps g.D.Disk c.find.new.self c.find.new.reader seen found.0 c.pass-count.new.self 0 none c.pass-count.ensures.place in
+    let more = steps g.D.Disk c.find.new.self c.find.new.reader seen found.0 c.pass-count.new.self 0 none c.pass-count.ensures.stays in
     no_more c.find.new.self c.pass-count.new.self seen more.0 more.1 more.2

@@ -1,0 +1,8 @@
+use Rattle.std.proofs.Common.{refl, arith}
+use Rattle.hg_gate.proofs.Turning.{turned}
+use Rattle.hg_gate.proofs.reader.LogReader.turn.Goals as goal
+
+pub returns : goal.returns
+returns c = record {
+  turned = λ file seen left has at begins. turned file c.args.self.now _ c.args.len seen left has at begins c.requires.whole refl (omega arith) (omega arith) (omega arith);
+}

@@ -1,0 +1,35 @@
+use Rattle.std.proofs.Common.{◌≡◌, ◌-◌, ◌∙◌, ℕ, List, length, take, drop, sym, ap, subst, arith, length-drop}
+use Rattle.hg_gate.specs.Batches.{IsClosed}
+use Rattle.hg_gate.specs.Scan.{IsHead, IsOpen}
+use Rattle.hg_gate.proofs.Reading.{none_left, tail_at}
+use Rattle.hg_gate.proofs.Turning.{front_is}
+use Rattle.hg_gate.proofs.scan.read_ahead.Goals as goal
+
+pub returns-in_default-clause-next : goal.returns-in_default-clause-next
+returns-in_default-clause-next g c honest seen left has at =
+    let file = (g.D.Disk.state c.args.disk.now).contents in
+    let tail = drop c.args.reader.now.next file in
+    let room : c.len.result - c.args.reader.now.next ≡ length tail = omega (arith, length-drop c.args.reader.now.next file, c.len.ensures.value) in
+    let front = ap (λ (l : List ℕ). take c.min.result l) c.deref.ensures.value ∙ front_is tail c.in_ok-piece.piece.items (c.len.result - c.args.reader.now.next) c.min-count.result c.min.result room c.min-count.ensures (c.in_ok-piece.ensures.bytes honest) c.min.ensures in
+    let closed : IsClosed tail = subst (IsHead tail) c.in_default.is (c.in_ok-len.ensures.head tail front room) in
+    none_left tail left (tail_at file c.args.reader.now.next seen left at.place has) closed
+
+pub returns-clause-next : goal.returns-clause-next
+returns-clause-next g c honest seen left has at =
+    let file = (g.D.Disk.state c.args.disk.now).contents in
+    let tail = drop c.args.reader.now.next file in
+    let piece = c.in_ok-piece.piece.items in
+    let room : c.len.result - c.args.reader.now.next ≡ length tail = omega (arith, length-drop c.args.reader.now.next file, c.len.ensures.value) in
+    let read = c.in_ok-piece.ensures.bytes honest in
+    let front = ap (λ (l : List ℕ). take c.min.result l) c.deref.ensures.value ∙ front_is tail piece (c.len.result - c.args.reader.now.next) c.min-count.result c.min.result room c.min-count.ensures read c.min.ensures in
+    let begins : IsOpen tail c.in-Some.len = subst (IsHead tail) c.in-Some.is (c.in_ok-len.ensures.head tail front room) in
+    c.turn.ensures.turned file seen left has
+    (record { place = at.place; ahead = read ∙ ap (λ (n : ℕ). take n tail) (sym c.in_ok-piece.ensures.len) }) begins
+
+pub returns-in_err-len-clause-whole : goal.returns-in_err-len-clause-whole
+returns-in_err-len-clause-whole g c honest is =
+    let file = (g.D.Disk.state c.args.disk.now).contents in
+    let tail = drop c.args.reader.now.next file in
+    let room : c.len.result - c.args.reader.now.next ≡ length tail = omega (arith, length-drop c.args.reader.now.next file, c.len.ensures.value) in
+    c.in_err-len.ensures.damaged tail
+    (ap (λ (l : List ℕ). take c.min.result l) c.deref.ensures.value ∙ front_is tail c.in_ok-piece.piece.items (c.len.result - c.args.reader.now.next) c.min-count.result c.min.result room c.min-count.ensures (c.in_ok-piece.ensures.bytes honest) c.min.ensures) room
