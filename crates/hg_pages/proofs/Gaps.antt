@@ -1,5 +1,5 @@
 -- Lists with a gap: a change, an insertion and a removal.
-use Rattle.std.proofs.Common.{◌≡◌, ◌<◌, ◌≤◌, ◌+◌, ◌-◌, ℕ, zero, suc, List, [], ◌∷◌, ◌++◌, length, take, drop, set, replicate, refl, sym, ◌∙◌, ap, arith, add-one}
+use Rattle.std.proofs.Common.{◌≡◌, ◌<◌, ◌≤◌, ◌+◌, ◌-◌, ℕ, zero, suc, List, [], ◌∷◌, ◌++◌, length, take, drop, set, refl, sym, ◌∙◌, ap, arith, add-one}
 use Rattle.std.specs.List.{insert, remove}
 use Rattle.std.proofs.lemmas.List.{append_assoc, append-nil, drop-drop, drop-set-add, drop-set-lt, drop_all, drop_at, length-append, length-drop, length-take-le, set-append_left, set-append_right, take-append-drop, take-set-le, take_at, take_more_set}
 use Rattle.hg_pages.specs.Gaps.{without_gap}

@@ -18,6 +18,10 @@ slot_in (e ∷ entries) page = if e.0 == page then Some e.1 else slot_in entries
 abbrev pub IsNamed : List (ℕ × ℕ) → ℕ → Type 0
 IsNamed entries slot = (page : ℕ) × (slot_in entries page ≡ Some slot)
 
+-- each slot is below this number
+abbrev pub AreSlotsBelow : (slots : ℕ) → List (ℕ × ℕ) → Type 0
+AreSlotsBelow slots entries = (page slot : ℕ) → slot_in entries page ≡ Some slot → slot < slots
+
 -- The entries of a table: their pages rise, and no slot has two pages.
 pub record AreEntries (entries : List (ℕ × ℕ)) : Type 0 where
   pub rising : IsStrictlyIncreasing (map (λ e. e.0) entries)

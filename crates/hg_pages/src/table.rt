@@ -2,7 +2,7 @@
 ghost use Rattle.std.specs.Prelude.{◌≡◌, ◌+◌, ◌≤◌, ◌<◌, ◌↔◌, ℕ, [], Some, length, is_some, slice_index_or, false, IsTrue, IsOk, OnOk, OnErr, IfOk, if◌then◌else◌};
 ghost use Rattle.std.specs.Option.{ForSome};
 ghost use Rattle.hg_pages.specs.Marks.{cleared, marked};
-ghost use Rattle.hg_pages.specs.Tables.{AreEntries, EachNamed, GivesSlot, GrowsByNew, IsNamed, LosesPage, slot_in};
+ghost use Rattle.hg_pages.specs.Tables.{AreEntries, AreSlotsBelow, EachNamed, GivesSlot, GrowsByNew, IsNamed, LosesPage, slot_in};
 
 use crate::entries::{find, put, take_out};
 use crate::gap_buffer::GapBuffer;
@@ -96,6 +96,14 @@ impl Table {
         self.entries.at(index)
     }
 
+    /// How many slots it has memory for. Each slot that it names is below that.
+    pub fn slots(&self) -> usize
+        ensures value { result ≡ self.now.slots }
+        ensures below { AreSlotsBelow result self.now.entries }
+    {
+        self.named.len()
+    }
+
     /// The slot of a page.
     pub fn get(&self, page: u64) -> Option<u32>
         ensures { result ≡ slot_in self.now.entries page }
@@ -128,14 +136,14 @@ impl Table {
     }
 
     /// Makes room for `more` more entries, and for slots below `slots`. An `Err` leaves the entries as they are.
-    pub fn reserve(&mut self, more: usize, slots: u32) -> Result<(), AllocError>
+    pub fn reserve(&mut self, more: usize, slots: usize) -> Result<(), AllocError>
         ensures entries { self.new.entries ≡ self.old.entries }
         ensures capacity { OnOk result (length self.old.entries + more ≤ self.new.capacity) }
         ensures slots { OnOk result (slots ≤ self.new.slots) }
         ensures no_less { (self.old.capacity ≤ self.new.capacity) × (self.old.slots ≤ self.new.slots) }
     {
         self.entries.reserve(more)?;
-        reach(&mut self.named, slots as usize)
+        reach(&mut self.named, slots)
     }
 
     /// Gives a page a slot in which no other page lies, in place of its former one. It takes no memory if there is room for

@@ -4,9 +4,10 @@ use Rattle.lru.specs.LruCache.{LruCache}
 use Rattle.hg_disk.specs.declared.disk.Disk as disk
 use Rattle.hg_cells.specs.declared.cell.Cell.{Cell}
 use Rattle.hg_pages.specs.Tables as tables
-use Rattle.hg_pages.specs.Tables.{IsNamed, slot_in}
+use Rattle.hg_pages.specs.Tables.{AreSlotsBelow, IsNamed, slot_in}
 use Rattle.hg_cache.specs.declared.frame.Frame.{Frame}
 use Rattle.hg_pool.specs.Answers.{IsTaken}
+use Rattle.hg_pool.specs.Calls.{HasRoomFor}
 use Rattle.hg_pool.specs.Kept.{IsWhole, SameMap}
 use Rattle.hg_pool.specs.Maps.{bytes_of, copy_in, frame_in, frozen, frozen_at, frozen_by, in_copy_or, in_frame_or, in_slot, live, live_at}
 use Rattle.hg_pool.specs.Picking.{HasDirty}
@@ -22,9 +23,9 @@ pub sound_begun : {D : Type 0} (p : ShownPool D) (root : tables.ShownTable) (bef
     → p.root ≡ root.entries → p.live ≡ live.entries
     → ((q : ℕ) → (is_some (slot_in waiting.entries q) ≡ true) ↔ HasDirty frames.entries q) → ((q slot : ℕ) → slot_in waiting.entries q ≡ Some slot → (¬ IsTaken p slot) × (slot < slots)) → length waiting.entries ≤ frames.cap
     → ((q : ℕ) → slot_in after.entries q ≡ (if is_some (slot_in waiting.entries q) then None else slot_in live.entries q))
-    → (length after.entries + length waiting.entries ≤ after.capacity) × (slots ≤ after.slots) → (length live.entries + length waiting.entries ≤ live.capacity) × (slots ≤ live.slots)
+    → AreSlotsBelow waiting.slots waiting.entries → HasRoomFor waiting after → HasRoomFor waiting live
     → also.entries ≡ [] → also.cap ≡ copies.cap → AreSound root (Some after) live waiting also frames slots false
-sound_begun p root before after live before_waiting waiting copies also frames slots is_sealed s root_is live_is dirty free few left frozen_room live_room none cap = record {
+sound_begun p root before after live before_waiting waiting copies also frames slots is_sealed s root_is live_is dirty free few left own_slots frozen_room live_room none cap = record {
   picked = λ q slot waits.
       let at = free q slot waits in
       let there = (dirty q).0 (ap is_some waits) in
@@ -38,8 +39,8 @@ sound_begun p root before after live before_waiting waiting copies also frames s
         own = refl;
         frozen_room = frozen_room.0;
         live_room = live_room.0;
-        frozen_slots = omega (arith, at.1, frozen_room.1);
-        live_slots = omega (arith, at.1, live_room.1);
+        frozen_slots = omega (arith, own_slots q slot waits, frozen_room.1);
+        live_slots = omega (arith, own_slots q slot waits, live_room.1);
         within = at.1;
         number = s.numbers q there.0 there.1;
       };

@@ -82,9 +82,9 @@ AreLeft pages table left = (q : ℕ) → slot_in left q ≡ (if is_some (slot_in
 abbrev pub AreOfEither : (first second table : List (ℕ × ℕ)) → Type 0
 AreOfEither first second table = (q s : ℕ) → slot_in table q ≡ Some s → (slot_in first q ≡ Some s) ⊎ (slot_in second q ≡ Some s)
 
--- The table has room for these pages, and for slots below this number.
-abbrev pub HasRoomFor : List (ℕ × ℕ) → (slots : ℕ) → tables.ShownTable → Type 0
-HasRoomFor waiting slots table = (length table.entries + length waiting ≤ table.capacity) × (slots ≤ table.slots)
+-- The table has room for these pages, and for their slots.
+abbrev pub HasRoomFor : (waiting table : tables.ShownTable) → Type 0
+HasRoomFor waiting table = (length table.entries + length waiting.entries ≤ table.capacity) × (waiting.slots ≤ table.slots)
 
 -- The table has room for these pages, and for one more.
 abbrev pub HasRoomForOne : List (ℕ × ℕ) → tables.ShownTable → Type 0

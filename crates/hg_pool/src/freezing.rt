@@ -1,6 +1,6 @@
 //! A freeze: the live map becomes the frozen one.
 ghost use Rattle.std.specs.Prelude.{◌≡◌, ◌⊎◌, ◌↔◌, ◌+◌, ◌<◌, ◌≤◌, ◌^◌, ◌==◌, ℕ, [], ◌∷◌, length, true, false, Some, None, Ok, Err, is_some, OnOk, OnErr, IfOk, IsErrOf, MatchOption, if◌then◌else◌};
-ghost use Rattle.hg_pages.specs.Tables.{slot_in};
+ghost use Rattle.hg_pages.specs.Tables.{AreSlotsBelow, slot_in};
 ghost use Rattle.hg_pool.specs.Maps.{frozen, live};
 ghost use Rattle.hg_pool.specs.Kept.{IsWhole, SameMap};
 ghost use Rattle.hg_pool.specs.Picking.{AreLeastFree, ArePicks, AreTooFew, HasDirty, LacksSlots};
@@ -68,8 +68,9 @@ impl<D: Disk> Parts<D> {
         requires free { AreFree (shown_of self.old) waiting.entries }
         requires few { length waiting.entries ≤ self.old.frames.cap }
         requires left { AreLeft waiting.entries self.old.live.entries table.entries }
-        requires frozen_room { HasRoomFor waiting.entries self.old.slots table }
-        requires live_room { HasRoomFor waiting.entries self.old.slots self.old.live }
+        requires slots { AreSlotsBelow waiting.slots waiting.entries }
+        requires frozen_room { HasRoomFor waiting table }
+        requires live_room { HasRoomFor waiting self.old.live }
         ensures sound { IsSound self.new }
         ensures frozen { FreezesLive ⟦<D as Disk>⟧ (shown_of self.old) (shown_of self.new) }
         ensures whole { IsWhole ⟦<D as Disk>⟧ (shown_of self.old) → IsWhole ⟦<D as Disk>⟧ (shown_of self.new) }
@@ -104,8 +105,9 @@ impl<D: Disk> Parts<D> {
         let _entries = changed.len();
         let waiting = self.pick(&changed)?;
         let mut frozen = without(self.alloc, &self.live, &changed)?;
-        frozen.reserve(waiting.len(), self.slots)?;
-        self.live.reserve(waiting.len(), self.slots)?;
+        let slots = waiting.slots();
+        frozen.reserve(waiting.len(), slots)?;
+        self.live.reserve(waiting.len(), slots)?;
         self.begin(waiting, frozen);
         Ok(())
     }

@@ -46,7 +46,10 @@ impl<D: Disk> Parts<D> {
         ensures slots { OnOk result (slot < self.new.live.slots) }
         ensures refusal { IfErr result (λ r. r ≡ Refusal.OutOfMemory) }
     {
-        Ok(self.live.reserve(self.waiting.len() + 1, slot + 1)?)
+        Ok(
+            self.live
+                .reserve(self.waiting.len() + 1, slot as usize + 1)?,
+        )
     }
 
     /// Gives a page that was written its slot in the live table.

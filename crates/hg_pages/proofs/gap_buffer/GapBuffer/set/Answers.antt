@@ -1,4 +1,4 @@
-use Rattle.std.proofs.Common.{◌≡◌, ◌≤◌, ◌∙◌, ap, arith, set}
+use Rattle.std.proofs.Common.{◌∙◌, ap, arith, set}
 use Rattle.hg_pages.specs.Gaps.{ShownBuffer}
 use Rattle.hg_pages.proofs.Gaps.{set_before, set_behind}
 use Rattle.hg_pages.proofs.gap_buffer.GapBuffer.set.Goals as goal

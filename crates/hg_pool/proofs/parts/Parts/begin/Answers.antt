@@ -9,7 +9,7 @@ pub returns-clause-sound : goal.returns-clause-sound
 returns-clause-sound g c =
     let p = c.args.self.now in
     let n = c.requires in
-    sound_begun (shown_of p) p.root p.frozen c.args.table p.live p.waiting c.args.waiting p.copies c.clear.new.self p.frames p.slots p.is_sealed n.sound refl refl n.dirty n.free n.few n.left n.frozen_room n.live_room
+    sound_begun (shown_of p) p.root p.frozen c.args.table p.live p.waiting c.args.waiting p.copies c.clear.new.self p.frames p.slots p.is_sealed n.sound refl refl n.dirty n.free n.few n.left n.slots n.frozen_room n.live_room
     (ap (λ (x : LruCache ℕ (List Cell)). x.entries) c.clear.ensures) (ap (λ (x : LruCache ℕ (List Cell)). x.cap) c.clear.ensures)
 
 pub returns-clause-frozen : goal.returns-clause-frozen

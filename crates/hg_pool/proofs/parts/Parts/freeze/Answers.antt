@@ -68,13 +68,16 @@ begin-requires-clause-left g c =
     left_by_picks (shown_of p) c.in_ok-changed.changed.entries c.in_ok-waiting.waiting.entries p.live.entries c.in_ok-frozen.frozen.entries _ _ c.in_ok-waiting.ensures.picks c.in_ok-frozen.ensures.looks
     c.reserve.ensures.entries c.reserve-2.ensures.entries
 
+pub begin-requires-clause-slots : goal.begin-requires-clause-slots
+begin-requires-clause-slots g c q slot is = omega (arith, c.slots-slots.ensures.below q slot is, c.slots-slots.ensures.value)
+
 pub begin-requires-clause-frozen_room : goal.begin-requires-clause-frozen_room
 begin-requires-clause-frozen_room g c =
-    (omega (arith, c.in_ok-reserve.ensures.capacity, ap (λ (es : List (ℕ × ℕ)). length es) c.reserve.ensures.entries, c.len.ensures.value), c.in_ok-reserve.ensures.slots)
+    (omega (arith, c.in_ok-reserve.ensures.capacity, ap (λ (es : List (ℕ × ℕ)). length es) c.reserve.ensures.entries, c.len.ensures.value), omega (arith, c.slots-slots.ensures.value, c.in_ok-reserve.ensures.slots))
 
 pub begin-requires-clause-live_room : goal.begin-requires-clause-live_room
 begin-requires-clause-live_room g c =
-    (omega (arith, c.in_ok-reserve-2.ensures.capacity, ap (λ (es : List (ℕ × ℕ)). length es) c.reserve-2.ensures.entries, c.len-2.ensures.value), c.in_ok-reserve-2.ensures.slots)
+    (omega (arith, c.in_ok-reserve-2.ensures.capacity, ap (λ (es : List (ℕ × ℕ)). length es) c.reserve-2.ensures.entries, c.len-2.ensures.value), omega (arith, c.slots-slots.ensures.value, c.in_ok-reserve-2.ensures.slots))
 
 pub returns-clause-picked : goal.returns-clause-picked
 returns-clause-picked g c =
