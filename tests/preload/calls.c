@@ -162,7 +162,10 @@ int open(const char *path, int flags, ...)
     }
     if (fd >= 0 && fd < MOST_FILES)
         snprintf(names[fd], sizeof names[fd], "%s", path);
-    note("open %s %s = %d", path, flags & O_CREAT ? "make" : flags & (O_WRONLY | O_RDWR) ? "change" : "look", fd);
+    if (flags & O_CREAT)
+        note("open %s make %o = %d", path, (unsigned)mode, fd);
+    else
+        note("open %s %s = %d", path, flags & (O_WRONLY | O_RDWR) ? "change" : "look", fd);
     return fd;
 }
 

@@ -1,3 +1,6 @@
 pub mod Exits
+pub mod Lines
 pub mod Look
 pub mod Looking
+pub mod Opening
+pub mod Taking

@@ -1,5 +1,6 @@
 //! The files of a store's directory: opened, made, locked and made durable.
-ghost use Rattle.std.specs.Prelude.{◌≡◌, IfErr};
+ghost use Rattle.std.specs.Prelude.{◌≡◌, ◌++◌, ◌∷◌, IfErr, IfOk, string_bytes};
+ghost use Rattle.hg_tasks.specs.Opening.{options_for, slash};
 
 use crate::look::LookDisk;
 use crate::scratch::{Scratch, beside_streams};
@@ -60,7 +61,8 @@ fn out_of_memory(name: &'static str) -> OpenFault
 
 /// The file `name` of a directory, as text for the system.
 fn path_of(rt: &HostRuntime, directory: &str, name: &'static str) -> Result<String, OpenFault>
-    ensures { IfErr result (λ f. f.cause ≡ Cause.OutOfMemory) }
+    ensures path { IfOk result (λ path. string_bytes path ≡ directory.now ++ slash ∷ name.now) }
+    ensures cause { IfErr result (λ f. f.cause ≡ Cause.OutOfMemory) }
 {
     match format!(in rt.alloc(); "{directory}/{name}") {
         Ok(path) => Ok(path),
@@ -77,6 +79,18 @@ fn see_that_it_is_a_file(rt: &HostRuntime, path: &str) -> io::Result<()> {
     }
 }
 
+/// How a file is opened.
+fn options_of(mode: OpenMode) -> OpenOptions
+    ensures { result ≡ options_for mode }
+{
+    let mut options = OpenOptions::new();
+    options
+        .read(true)
+        .write(mode != OpenMode::Look)
+        .create(mode == OpenMode::Make);
+    options
+}
+
 /// Opens a file. `None` says that the directory exists, and has no such file.
 fn open_file(
     rt: &HostRuntime,
@@ -88,12 +102,7 @@ fn open_file(
     if let Err(error) = see_that_it_is_a_file(rt, path.as_str()) {
         return Err(failed(name, error));
     }
-    let mut options = OpenOptions::new();
-    options
-        .read(true)
-        .write(mode != OpenMode::Look)
-        .create(mode == OpenMode::Make);
-    match options.open(rt, path.as_str()) {
+    match options_of(mode).open(rt, path.as_str()) {
         Ok(file) => match beside_streams(file) {
             Ok(file) => Ok(Some(file)),
             Err(error) => Err(failed(name, error)),

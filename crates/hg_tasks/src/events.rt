@@ -1,9 +1,10 @@
 //! The events of a store, as a trace text.
 
-ghost use Rattle.std.specs.Prelude.{◌≡◌};
+ghost use Rattle.std.specs.Prelude.{◌≡◌, ◌++◌, ◌∷◌, [], OnOk, string_bytes};
+ghost use Rattle.hg_tasks.specs.Lines.{event_line, line, lines};
 
 use crate::look::LookDisk;
-use hg_model::event::{Access, Block, Event};
+use hg_model::event::{Access, Block, Event, Named};
 use hg_model::verdict::Refusal;
 use hg_store::store::Store;
 use std::alloc::{AllocError, Global};
@@ -27,22 +28,30 @@ pub struct EventText<'a> {
 }
 
 /// Appends a line of a verb, a thread, and a thread or a lock.
-fn put_pair(verb: &str, t: u16, other: u16, text: &mut String) -> Result<(), AllocError> {
+fn put_pair(verb: &str, t: u16, other: u16, text: &mut String) -> Result<(), AllocError>
+    ensures { OnOk result (string_bytes text.new ≡ string_bytes text.old ++ line verb.now (t ∷ other ∷ [])) }
+{
     write!(text, "{verb} {t} {other}\n")
 }
 
 /// Appends a line of a verb, a thread and a message.
-fn put_message(verb: &str, t: u16, k: u32, text: &mut String) -> Result<(), AllocError> {
+fn put_message(verb: &str, t: u16, k: u32, text: &mut String) -> Result<(), AllocError>
+    ensures { OnOk result (string_bytes text.new ≡ string_bytes text.old ++ line verb.now (t ∷ k ∷ [])) }
+{
     write!(text, "{verb} {t} {k}\n")
 }
 
 /// Appends a line of a verb, a thread, and where memory begins and how long it is.
-fn put_range(verb: &str, t: u16, at: u64, len: u16, text: &mut String) -> Result<(), AllocError> {
+fn put_range(verb: &str, t: u16, at: u64, len: u16, text: &mut String) -> Result<(), AllocError>
+    ensures { OnOk result (string_bytes text.new ≡ string_bytes text.old ++ line verb.now (t ∷ at ∷ len ∷ [])) }
+{
     write!(text, "{verb} {t} {at} {len}\n")
 }
 
 /// Appends the line of an event.
-fn put_event(event: Event, text: &mut String) -> Result<(), AllocError> {
+fn put_event(event: Event, text: &mut String) -> Result<(), AllocError>
+    ensures { OnOk result (string_bytes text.new ≡ string_bytes text.old ++ event_line event) }
+{
     match event {
         Event::Fork { p, c } => put_pair("fork", p, c, text),
         Event::Join { p, c } => put_pair("join", p, c, text),
@@ -58,6 +67,16 @@ fn put_event(event: Event, text: &mut String) -> Result<(), AllocError> {
     }
 }
 
+/// Appends the lines of events.
+fn put_events(events: &[Named], text: &mut String) -> Result<(), AllocError>
+    ensures { OnOk result (string_bytes text.new ≡ string_bytes text.old ++ lines events.now) }
+{
+    for named in events {
+        put_event(named.event, text)?;
+    }
+    Ok(())
+}
+
 /// Why events can't be had, by the kind of a reader's error.
 fn kind_of(refusal: Refusal) -> ErrorKind
     ensures memory { refusal ≡ Refusal.OutOfMemory → result ≡ ErrorKind.OutOfMemory }
@@ -70,6 +89,8 @@ fn kind_of(refusal: Refusal) -> ErrorKind
 }
 
 impl<'a> EventText<'a> {
+    ghost use Rattle.hg_tasks.specs.Taking.{HasTaken};
+
     /// For a store of which no event was taken yet.
     pub fn new(alloc: Global, store: Store<LookDisk<'a>>) -> EventText<'a> {
         EventText {
@@ -82,13 +103,13 @@ impl<'a> EventText<'a> {
     }
 
     /// Takes the next events. Without events the text is empty.
-    fn refill(&mut self) -> Result<(), Refusal> {
+    fn refill(&mut self) -> Result<(), Refusal>
+        ensures { OnOk result (HasTaken self.old self.new) }
+    {
         self.text.clear();
         self.used = 0;
         let events = self.store.durable_events(self.alloc, self.next, PIECE)?;
-        for named in events.iter() {
-            put_event(named.event, &mut self.text)?;
-        }
+        put_events(events.as_slice(), &mut self.text)?;
         self.next = self.next.saturating_add(events.len() as u64);
         Ok(())
     }

@@ -1,4 +1,5 @@
 //! Faults, and what the last line means, told on standard error.
+ghost use Rattle.std.specs.Prelude.{◌≡◌};
 
 use crate::directory::{Cause, OpenFault};
 use crate::look::LookDisk;
@@ -25,13 +26,17 @@ fn refusal_of(cause: Cause) -> Refusal {
     }
 }
 
-/// Tells why the program ends at a stream, a file or want of memory of its own, before a command or without one.
-pub fn fail(rt: &HostRuntime, cause: Cause) -> u8 {
+/// Tells why the program ends at a stream, a file or want of memory of its own, before a command or without one. Answers the status of faults, 3.
+pub fn fail(rt: &HostRuntime, cause: Cause) -> u8
+    ensures { result ≡ 3 }
+{
     end_by_fault(refusal_of(cause), &mut Output::new(rt.stderr()))
 }
 
-/// Tells why a store could not be opened, in words too where they are asked for.
-pub fn fail_to_open(rt: &HostRuntime, fault: &OpenFault, verbose: bool) -> u8 {
+/// Tells why a store could not be opened, in words too where they are asked for. Answers the status of faults, 3.
+pub fn fail_to_open(rt: &HostRuntime, fault: &OpenFault, verbose: bool) -> u8
+    ensures { result ≡ 3 }
+{
     let status = fail(rt, fault.cause);
     if verbose {
         let code = u64::from(refusal_of(fault.cause).code());

@@ -1,4 +1,5 @@
 //! What the accepted events left, as far as a refusal rests on it.
+ghost use Rattle.std.specs.Prelude.{◌≡◌, get_or, set};
 
 use crate::holds::Holds;
 use hg_model::event::Event;
@@ -19,14 +20,18 @@ pub struct Past {
 }
 
 /// Writes the number of an event at a thread's place.
-fn note(places: &mut Vec<u64>, thread: u16, event: u64) {
+fn note(places: &mut Vec<u64>, thread: u16, event: u64)
+    ensures { places.new.items ≡ set places.old.items thread event }
+{
     if usize::from(thread) < places.len() {
         places[usize::from(thread)] = event;
     }
 }
 
 /// The number at a thread's place, 0 where there is none.
-fn at(places: &[u64], thread: u16) -> u64 {
+fn at(places: &[u64], thread: u16) -> u64
+    ensures { result ≡ get_or places.now thread 0 }
+{
     match places.get(usize::from(thread)) {
         Some(event) => *event,
         None => 0,

@@ -1,5 +1,7 @@
 //! Bytes as a text that any terminal can show, and numbers between texts.
 
+ghost use Rattle.std.specs.Prelude.{◌≡◌, ◌++◌, OnOk, decimal, string_bytes};
+
 use std::alloc::AllocError;
 use std::fmt::Write;
 use std::string::String;
@@ -13,7 +15,9 @@ pub fn put_number(
     number: u64,
     after: &str,
     text: &mut String,
-) -> Result<(), AllocError> {
+) -> Result<(), AllocError>
+    ensures { OnOk result (string_bytes text.new ≡ string_bytes text.old ++ before.now ++ decimal number ++ after.now) }
+{
     write!(text, "{before}{number}{after}")
 }
 
@@ -24,7 +28,9 @@ pub fn put_numbers(
     between: &str,
     second: u64,
     text: &mut String,
-) -> Result<(), AllocError> {
+) -> Result<(), AllocError>
+    ensures { OnOk result (string_bytes text.new ≡ string_bytes text.old ++ before.now ++ decimal first ++ between.now ++ decimal second) }
+{
     write!(text, "{before}{first}{between}{second}")
 }
 

@@ -1,5 +1,8 @@
 //! What a server listens on: a port of 127.0.0.1, or the file `socket` in the directory of its store.
 
+ghost use Rattle.std.specs.Prelude.{◌≡◌, ◌++◌, IfOk, codes, string_bytes};
+ghost use Rattle.hgd.specs.Listening.{IsOfLoopback};
+
 use hg_options::task::Place;
 use hg_server::listening::Listener;
 use std::io::ErrorKind;
@@ -11,7 +14,9 @@ use std::string::String;
 use std::{fs, io};
 
 /// The socket in the directory of a store, as text for the system.
-fn socket_path<R: AllocGlobal>(rt: &R, directory: &str) -> io::Result<String> {
+fn socket_path<R: AllocGlobal>(rt: &R, directory: &str) -> io::Result<String>
+    ensures { IfOk result (λ path. string_bytes path ≡ directory.now ++ codes "/socket") }
+{
     Ok(format!(in rt.alloc(); "{directory}/socket")?)
 }
 
@@ -33,6 +38,13 @@ fn listen_in<R: Files + AllocGlobal + Net>(rt: &R, directory: &str) -> io::Resul
     Ok(Listener::Socket(listener))
 }
 
+/// The address of a port of 127.0.0.1.
+fn address_of(port: u16) -> SocketAddr
+    ensures { IsOfLoopback port result }
+{
+    SocketAddr::from((Ipv4Addr::LOCALHOST, port))
+}
+
 /// Listens on a place.
 pub(crate) fn listen_on<R: Files + AllocGlobal + Net<Listener = TcpListener, Stream = TcpStream>>(
     rt: &R,
@@ -41,8 +53,7 @@ pub(crate) fn listen_on<R: Files + AllocGlobal + Net<Listener = TcpListener, Str
 ) -> io::Result<Listener> {
     match place {
         Place::Port { port } => {
-            let address = SocketAddr::from((Ipv4Addr::LOCALHOST, port));
-            let listener = TcpListener::bind(rt, address)?;
+            let listener = TcpListener::bind(rt, address_of(port))?;
             Ok(Listener::Port(listener))
         }
         Place::Socket => listen_in(rt, directory),

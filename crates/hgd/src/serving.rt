@@ -1,5 +1,8 @@
 //! Serving the store in a directory.
 
+ghost use Rattle.std.specs.Prelude.{◌≡◌};
+ghost use Rattle.hgd.specs.Serving.{AreSettingsOf, IsSilence, place_for};
+
 use crate::listening::{leave, listen_on};
 use hg_disk::FileDisk;
 use hg_model::verdict::Refusal;
@@ -39,7 +42,9 @@ impl<'a> Gate for Watch<'a> {
 }
 
 /// How long a client may be silent.
-fn silence_of(serving: Serving) -> Option<Duration> {
+fn silence_of(serving: Serving) -> Option<Duration>
+    ensures { IsSilence serving.silence result }
+{
     if serving.silence == 0 {
         return None;
     }
@@ -47,10 +52,26 @@ fn silence_of(serving: Serving) -> Option<Duration> {
 }
 
 /// What a server prints of the place that it listens on.
-fn place_of(place: Place) -> settings::Place {
+fn place_of(place: Place) -> settings::Place
+    ensures { result ≡ place_for place }
+{
     match place {
         Place::Port { port } => settings::Place::Port { port },
         Place::Socket => settings::Place::Socket,
+    }
+}
+
+/// What is asked of the server.
+fn settings_of(serving: Serving) -> Settings
+    ensures { AreSettingsOf serving result }
+{
+    Settings {
+        place: place_of(serving.place),
+        frames: serving.frames.pages,
+        connections: serving.connections,
+        workers: serving.workers,
+        every: serving.every,
+        silence: silence_of(serving),
     }
 }
 
@@ -63,21 +84,13 @@ fn serve_on<R: Threads + Wait + Clock + Sync>(
     directory: &str,
     listener: &Listener,
 ) -> u8 {
-    let settings = Settings {
-        place: place_of(serving.place),
-        frames: serving.frames.pages,
-        connections: serving.connections,
-        workers: serving.workers,
-        every: serving.every,
-        silence: silence_of(serving),
-    };
     let watch = Watch {
         rt,
         is_told: AtomicBool::new(!serving.verbose),
     };
     let door = Door {
         listener,
-        settings,
+        settings: settings_of(serving),
         gate: &watch,
     };
     let mut outputs = noted_outputs(rt);
