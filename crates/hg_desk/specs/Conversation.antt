@@ -1,5 +1,5 @@
 -- What a frame is answered, and what it does to the store.
-use Rattle.std.specs.Prelude.{◌≡◌, ◌⊎◌, ◌+◌, ◌<◌, ◌≤◌, ℕ, nat_lt, Bool, List, [], ◌∷◌, All, length, slice_get, Some, Vec, cond, Result, Ok, Err, IfOk, IsTrue, OnErr}
+use Rattle.std.specs.Prelude.{◌≡◌, ◌⊎◌, ◌+◌, ◌<◌, ◌≤◌, ℕ, nat_lt, Bool, List, [], ◌∷◌, All, length, slice_get, Option, Some, Vec, cond, Result, Ok, Err, IfOk, IsTrue, OnErr}
 use Rattle.hg_model.specs.Contents.{Content}
 use Rattle.hg_model.specs.Codes.{code_of}
 use Rattle.hg_model.specs.declared.event.Named.{Named}
@@ -18,10 +18,12 @@ use Rattle.hg_protocol.specs.Spelling.{FitsFrames}
 use Rattle.hg_store.specs.declared.steps.Step.TheVariants.{Offer, Commit}
 use Rattle.hg_store.specs.declared.steps.StepResult.TheVariants.{Offered, Committed}
 use Rattle.hg_store.specs.declared.store.TheConstants.{MOST_PENDING}
+use Rattle.hg_store.specs.declared.devices.Devices.{Devices}
 use Rattle.hg_store.specs.Shown.{ShownStore, live}
 use Rattle.hg_desk.specs.declared.desk.Stage.{Stage}
 use Rattle.hg_desk.specs.declared.turn.TheConstants.{MOST_TURN}
 use Rattle.hg_desk.specs.declared.desk.Stage.TheVariants.{Greeting, Talking, Over}
+use Rattle.hg_desk.specs.Going.{Began, WentOnSince}
 use Rattle.hg_desk.specs.Told.{Told, StepKept}
 
 -- the number that a source has to send next, where a refusal is of a gap
@@ -164,6 +166,22 @@ Conversed g stage old new told told_after frames to result = IfOk result (λ rep
 -- The same, where the stage is answered too.
 abbrev pub TurnKept : {D Z E : Type 0} → disk.Ghosts D → Stage → (old new : ShownStore D) → (told told_after : Told) → List Frame → Result (Stage × Vec Reply Z) E → Type 0
 TurnKept g stage old new told told_after frames result = IfOk result (λ r. AnswersTurn g stage old new told told_after frames r.0 r.1.items)
+
+-- The store that is shared had this state at some moment since the opening of the lock.
+abbrev pub HadSince : {D : Type 0} → disk.Ghosts D → Option Began → ShownStore D → Type 0
+HadSince {D} g opening s = (moments : List (Devices D)) × WentOnSince g opening moments s
+
+-- Frames were answered under one hold of the lock, from a state that the store had there to one that it had then.
+pub record WasAnswered {D : Type 0} (g : disk.Ghosts D) (opening : Option Began) (stage : Stage) (told told_after : Told) (frames : List Frame) (to : Stage) (replies : List Reply) : Type 0 where
+  pub old : ShownStore D
+  pub new : ShownStore D
+  pub had : HadSince g opening old
+  pub has : HadSince g opening new
+  pub turn : AnswersTurn g stage old new told told_after frames to replies
+
+-- Where there was room for the replies, the frames were answered so.
+abbrev pub TurnAnswered : {D Z E : Type 0} → disk.Ghosts D → Option Began → Stage → (told told_after : Told) → List Frame → Result (Stage × Vec Reply Z) E → Type 0
+TurnAnswered g opening stage told told_after frames result = IfOk result (λ r. WasAnswered g opening stage told told_after frames r.0 r.1.items)
 
 -- Nothing was changed where memory was refused.
 abbrev pub StillOnErr : {D T E : Type 0} → (old new : ShownStore D) → (told told_after : Told) → Result T E → Type 0

@@ -8,7 +8,7 @@ ghost use Rattle.hg_store.specs.Journal.{failed_after};
 ghost use Rattle.hg_store.specs.Shown.{HasCounted, live};
 ghost use Rattle.hg_store.specs.Store.{Backs};
 ghost use Rattle.hg_desk.specs.Blanks.{IsBlankOf};
-ghost use Rattle.hg_desk.specs.Conversation.{MakesRoom, ReportsAnswer};
+ghost use Rattle.hg_desk.specs.Conversation.{HadSince, MakesRoom, ReportsAnswer};
 ghost use Rattle.hg_desk.specs.Going.{began};
 ghost use Rattle.hg_store.specs.declared.steps.Step.TheVariants as step;
 ghost use Rattle.hg_store.specs.declared.steps.StepResult.TheVariants as told;
@@ -286,6 +286,13 @@ impl<D: Disk, A: Opening, B: Column> Core<D, A, B> {
             durable_by_commit(before, &answer),
         );
         answer
+    }
+
+    /// Tells contracts that the store has gone on from its opening.
+    pub(crate) fn went_on(&self)
+        ensures { HadSince ⟦<D as Disk>⟧ A.start self.now }
+    {
+        let _ = &self.moments;
     }
 
     /// Commits where so many more events do not fit behind those that wait for a commit.

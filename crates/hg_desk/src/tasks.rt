@@ -2,7 +2,7 @@
 
 ghost use Rattle.std.specs.Prelude.{◌≡◌, ◌+◌, ◌≤◌, IsTrue};
 ghost use Rattle.hg_store.specs.Shown.{live};
-ghost use Rattle.hg_desk.specs.Conversation.{ConverseTold, StillOnErr, TurnKept};
+ghost use Rattle.hg_desk.specs.Conversation.{ConverseTold, StillOnErr, TurnAnswered, TurnKept};
 ghost use Rattle.hg_desk.specs.Counting.{AreSince, FindsAtLeast};
 ghost use Rattle.hg_desk.specs.Told.{BeginKept, BeginTold, CommitKept, Told, StepKept, StepToldOf};
 
@@ -97,7 +97,7 @@ pub struct ConverseTask<'a> {
 impl<'a, D: Disk, A: Opening, B: Column> Task<D, A, B> for ConverseTask<'a> {
     type Out = Result<(Desk, Vec<Reply>), AllocError>;
 
-    ghost promise = { λ t old new res. ConverseTold D.is_honest t.frames.now old new res };
+    ghost promise = { λ t old new res. ConverseTold D.is_honest t.frames.now old new res × TurnAnswered ⟦<D as Disk>⟧ A.start t.desk old new t.frames.now res };
 
     /// The conversation as it stands then, and a reply for each frame. Where memory for the replies is refused, nothing was changed.
     fn run(
@@ -105,7 +105,8 @@ impl<'a, D: Disk, A: Opening, B: Column> Task<D, A, B> for ConverseTask<'a> {
         core: &mut Core<D, A, B>,
         share: &mut Share<A, B>,
     ) -> Result<(Desk, Vec<Reply>), AllocError>
-        ensures promise { ConverseTold D.is_honest self.entry.frames.now share.old share.new result }
+        ensures promise { ConverseTold D.is_honest self.entry.frames.now share.old share.new result
+            × TurnAnswered ⟦<D as Disk>⟧ A.start self.entry.desk share.old share.new self.entry.frames.now result }
         ensures turn { TurnKept ⟦<D as Disk>⟧ self.entry.desk core.old core.new share.old share.new
             self.entry.frames.now result }
         ensures err { StillOnErr core.old core.new share.old share.new result }
@@ -115,7 +116,10 @@ impl<'a, D: Disk, A: Opening, B: Column> Task<D, A, B> for ConverseTask<'a> {
             mut desk,
             frames,
         } = self;
-        match desk.answer_all(alloc, core, share, frames) {
+        core.went_on();
+        let answered = desk.answer_all(alloc, core, share, frames);
+        core.went_on();
+        match answered {
             Ok(replies) => Ok((desk, replies)),
             Err(error) => Err(error),
         }

@@ -1,3 +1,4 @@
 pub mod Serving
 pub mod Flushing
 pub mod Replying
+pub mod Talking

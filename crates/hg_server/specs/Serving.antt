@@ -20,6 +20,7 @@ use Rattle.hg_store.specs.Limits.{greatest_with, limits_of}
 use Rattle.hg_store.specs.Refusals.{IsNotOpened}
 use Rattle.hg_server.specs.declared.fault.ServingFault.{ServingFault}
 use Rattle.hg_server.specs.declared.fault.ServingFault.TheVariants as fault
+use Rattle.hg_server.specs.declared.handing.Taken.{Taken}
 use Rattle.hg_server.specs.declared.serving.Outcome.{Outcome}
 use Rattle.hg_server.specs.declared.settings.Place.{Place}
 use Rattle.hg_server.specs.declared.settings.Place.TheVariants as place
@@ -56,10 +57,10 @@ abbrev pub AddsFrontOnErr : {W T E : Type 0} → (old new : Outgoing W) → List
 AddsFrontOnErr old new text result =
     (first : List WriteCall) (before : List ℕ) → Took first old.calls before → OnErr result (TookFront first new.calls (before ++ text))
 
--- what recovering a store and serving it answers: the store, or why there is none, with the devices; the moments since its opening; and the
--- store as it was opened, if it was
+-- what recovering a store and serving it answers: the store, or why there is none, with the devices; the moments since its opening; the
+-- store as it was opened, if it was; and how many connections workers took
 abbrev pub Recovered : Type 0 → Type 0
-Recovered D = Result (ShownStore D) (Refusal × Devices D) × List (Devices D) × List (ShownStore D)
+Recovered D = Result (ShownStore D) (Refusal × Devices D) × List (Devices D) × List (ShownStore D) × Taken
 
 -- 0 with a store that works, 3 without
 abbrev pub IsStatusOf : {S E : Type 0} → Result S E → ℕ → Type 0
@@ -123,8 +124,9 @@ module _ {D : Type 0} (g : disk.Ghosts D) where
     pub looked : Recovers g old opened
     pub kept : EachImageAlong g opened moments new (IsOn first last)
 
-  -- A server that came to its end: all was printed, and each accepted event is durable.
-  pub record EndsWell (settings : Settings) (old : Devices D) (opened : List (ShownStore D)) (moments : List (Devices D)) (store : ShownStore D) (calls_old calls_new : List WriteCall) : Type 0 where
+  -- A server that came to its end: workers took as many connections as they should, all was printed, and each accepted event is durable.
+  pub record EndsWell (settings : Settings) (old : Devices D) (opened : List (ShownStore D)) (moments : List (Devices D)) (taken : ℕ) (store : ShownStore D) (calls_old calls_new : List WriteCall) : Type 0 where
+    pub all_taken : taken ≡ settings.connections
     pub printed : Took calls_old calls_new (serving_text settings (live g store))
     pub began : WasOpened settings.frames opened moments store.devices
     pub served : IsTrue g.is_honest → Served old moments store.devices (live g store)
@@ -149,12 +151,12 @@ module _ {D : Type 0} (g : disk.Ghosts D) where
       (r : Refusal) × (HasServeCause settings old opened moments new r × (IsTold faults_old faults_new r × WroteServing settings old moments new calls_old calls_new))
 
   -- With a store the server came to its end.
-  abbrev pub EndsWellOnOk : {W E : Type 0} → Settings → Devices D → List (ShownStore D) → List (Devices D) → (old new : Outgoing W) → Result (ShownStore D) E → Type 0
-  EndsWellOnOk settings devices opened moments old new ended = IfOk ended (λ s. EndsWell settings devices opened moments s old.calls new.calls)
+  abbrev pub EndsWellOnOk : {W E : Type 0} → Settings → Devices D → List (ShownStore D) → List (Devices D) → ℕ → (old new : Outgoing W) → Result (ShownStore D) E → Type 0
+  EndsWellOnOk settings devices opened moments taken old new ended = IfOk ended (λ s. EndsWell settings devices opened moments taken s old.calls new.calls)
 
   -- With a store that was recovered and served the server came to its end.
   abbrev pub EndsWellWhere : {W : Type 0} → Settings → Devices D → (old new : Outgoing W) → Recovered D → Type 0
-  EndsWellWhere settings devices old new result = EndsWellOnOk settings devices result.2 result.1 old new result.0
+  EndsWellWhere settings devices old new result = EndsWellOnOk settings devices result.2 result.1 result.3.count old new result.0
 
   -- Without one, why it ended early.
   abbrev pub EndsEarlyFor : Settings → Devices D → Recovered D → Type 0
@@ -168,7 +170,7 @@ module _ {D : Type 0} (g : disk.Ghosts D) where
 module _ {D W V : Type 0} (g : disk.Ghosts D) where
   -- With a store the server came to its end.
   abbrev pub ServesWell : Settings → Devices D → (before after : Outputs W V) → Outcome D → Type 0
-  ServesWell settings devices before after outcome = EndsWellOnOk g settings devices outcome.opened outcome.moments before.output after.output outcome.ended
+  ServesWell settings devices before after outcome = EndsWellOnOk g settings devices outcome.opened outcome.moments outcome.taken.count before.output after.output outcome.ended
 
   -- Without one it ended early.
   abbrev pub StopsEarly : Settings → Devices D → (before after : Outputs W V) → Outcome D → Type 0

@@ -1,7 +1,7 @@
 //! How long a client is waited for.
 
 use crate::health::Terms;
-use std::io::{Error, ErrorKind};
+use std::io::ErrorKind;
 use std::time::{Clock, Duration, Instant};
 
 /// How long a client that sends on is answered when the store is broken, in seconds.
@@ -19,8 +19,8 @@ pub(crate) struct Patience<'a> {
 }
 
 /// Whether a read failed for no longer than that call: nothing came meanwhile, or a signal did.
-pub(crate) fn may_read_on(error: &Error) -> bool {
-    match error.kind() {
+pub(crate) fn may_read_on(kind: ErrorKind) -> bool {
+    match kind {
         ErrorKind::Interrupted => true,
         ErrorKind::WouldBlock => true,
         ErrorKind::TimedOut => true,

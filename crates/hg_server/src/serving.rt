@@ -14,9 +14,11 @@ use crate::accepting::accept_all;
 use crate::ending::hold_end_line;
 use crate::fault::ServingFault;
 use crate::flusher::{Due, flusher};
+use crate::handing::Taken;
 use crate::health::Terms;
 use crate::listening::Listener;
 use crate::opened::Opened;
+use crate::piece::{Piece, Station, pieces_for, stations};
 use crate::settings::{Place, Settings};
 use crate::settling::settle;
 use crate::starting::can_start;
@@ -53,7 +55,8 @@ pub struct Door<'a, G> {
     pub gate: &'a G,
 }
 
-/// Runs the workers until the connections are served or the store is broken, and gives their shares back. Their nudges end with them.
+/// Runs the workers until the connections are served or the store is broken, and gives their shares back, and how many connections they took.
+/// Their nudges end with them.
 fn run_workers<
     D: Disk + Send + Drop,
     A: Opening + Send + Sync,
@@ -65,26 +68,32 @@ fn run_workers<
     alloc: Global,
     shared: &Shared<D, A, B>,
     shares: Vec<Share<A, B>>,
+    pieces: Vec<Piece>,
     nudges: Sender<()>,
     door: &Door<G>,
     terms: &Terms,
-) -> Result<Vec<Share<A, B>>, AllocError> {
+) -> (Result<Vec<Share<A, B>>, AllocError>, Taken) {
+    let Ok(stations) = stations(alloc, shares, pieces) else {
+        return (Err(AllocError), Taken::none());
+    };
     // No connection waits in it: one is handed over where a worker takes it.
     let Ok((to, from)) = crossbeam_channel::bounded(alloc, 0) else {
-        return Err(AllocError);
+        return (Err(AllocError), Taken::none());
     };
-    let queue = &from;
     let nudges = &nudges;
     let gate = door.gate;
     let connections = door.settings.connections;
     let listener = door.listener;
-    let (shares, ()) = thread::join(
+    thread::join(
         rt,
         move || {
+            // It ends with the last worker: then no connection is taken any more.
+            let queue = &from;
             thread::map_vec(
                 rt,
-                shares,
-                &|share| {
+                stations,
+                &|station| {
+                    let Station { share, piece } = station;
                     worker(
                         Seat {
                             rt,
@@ -94,6 +103,7 @@ fn run_workers<
                             gate,
                             terms,
                         },
+                        piece,
                         queue,
                         nudges,
                     )
@@ -101,12 +111,11 @@ fn run_workers<
             )
         },
         move || accept_all(rt, listener, connections, &terms.health, gate, to),
-    );
-    shares
+    )
 }
 
-/// Runs the flusher and the workers until the connections are served, and gives the shares of all back, the flusher's last. It ends behind
-/// the workers, with its checkpoint in progress.
+/// Runs the flusher and the workers until the connections are served, and gives the shares of all back, the flusher's last, and how many
+/// connections the workers took. It ends behind the workers, with its checkpoint in progress.
 fn run_all<
     D: Disk + Send + Drop,
     A: Opening + Send + Sync,
@@ -118,15 +127,16 @@ fn run_all<
     alloc: Global,
     shared: &Shared<D, A, B>,
     shares: Vec<Share<A, B>>,
+    pieces: Vec<Piece>,
     begun: u64,
     door: &Door<G>,
-) -> Result<Vec<Share<A, B>>, AllocError> {
+) -> (Result<Vec<Share<A, B>>, AllocError>, Taken) {
     let mut shares = shares;
     let Some(share) = shares.pop() else {
-        return Err(AllocError);
+        return (Err(AllocError), Taken::none());
     };
     let Ok((to, from)) = crossbeam_channel::unbounded(alloc) else {
-        return Err(AllocError);
+        return (Err(AllocError), Taken::none());
     };
     let gate = door.gate;
     let terms = Terms::new(door.settings.silence);
@@ -135,7 +145,7 @@ fn run_all<
         every: u64::from(door.settings.every),
         begun,
     };
-    let (share, shares) = thread::join(
+    let (share, (shares, taken)) = thread::join(
         rt,
         move || {
             flusher(
@@ -151,9 +161,9 @@ fn run_all<
                 due,
             )
         },
-        move || run_workers(rt, alloc, shared, shares, to, door, terms),
+        move || run_workers(rt, alloc, shared, shares, pieces, to, door, terms),
     );
-    with_one_more(shares, share)
+    (with_one_more(shares, share), taken)
 }
 
 /// The shares of all threads, that of the flusher last.
@@ -189,12 +199,14 @@ struct Service<D: Disk, E> {
     store: Store<D>,
     /// The moments since the opening, the newest first, which contracts alone see.
     moments: Trail<Moment<D>>,
+    /// How many connections workers took.
+    taken: Taken,
     ended: Result<(), E>,
 }
 
-/// Opens the lock over a store, runs flusher and workers until the connections are served, and takes them in. At `Ok` all accepted events are
-/// durable. `DeviceFault` says that a device failed, `Broken` that a device failed for a client before, and
-/// `OutOfMemory` that memory was refused.
+/// Opens the lock over a store, runs flusher and workers until the connections are served, and takes them in. At `Ok` workers took as many
+/// connections as they should, and all accepted events are durable. `DeviceFault` says that a device or the listener failed, `Broken` that a
+/// device failed for a client before, and `OutOfMemory` that memory was refused.
 ///
 /// It waits until so many connections were served.
 fn serve_by<
@@ -209,6 +221,7 @@ fn serve_by<
     store: Store<D>,
     accepted: Blank,
     durable: Blank,
+    pieces: Vec<Piece>,
     door: &Door<G>,
 ) -> Service<D, ServingFault>
     requires accepted { IsBlankOf A.name A.parts (door.now.settings.workers + 1) accepted }
@@ -218,6 +231,7 @@ fn serve_by<
     ensures went { WentOn ⟦<D as Disk>⟧ (began ⟦<D as Disk>⟧ store) result.moments result.store }
     ensures works { OnOk result.ended (result.store.is_broken ≡ false) }
     ensures settled { OnOk result.ended (IsTrue D.is_honest → IsSettled ⟦<D as Disk>⟧ result.store) }
+    ensures taken { OnOk result.ended (result.taken.count ≡ door.now.settings.connections) }
     ensures cause { IfErr result.ended (IsToldTruly ⟦<D as Disk>⟧ store.devices result.store.devices) }
 {
     let count = usize::from(door.settings.workers) + 1;
@@ -229,21 +243,30 @@ fn serve_by<
             return Service {
                 store,
                 moments: Trail::new(),
+                taken: Taken::none(),
                 ended: Err(ServingFault::OutOfMemory),
             };
         }
     };
-    let back = run_all(rt, alloc, &shared, shares, begun, door);
+    let (back, taken) = run_all(rt, alloc, &shared, shares, pieces, begun, door);
     let (back, taken_in) = take_in(back, shared);
     let TakenIn {
         mut store,
         mut moments,
         has_failed,
     } = back;
-    let ended = settle(&mut store, &mut moments, has_failed, taken_in);
+    let ended = settle(
+        &mut store,
+        &mut moments,
+        has_failed,
+        taken_in,
+        &taken,
+        door.settings.connections,
+    );
     Service {
         store,
         moments,
+        taken,
         ended,
     }
 }
@@ -282,17 +305,20 @@ fn print_ready<W: Write>(settings: Settings, output: &mut Output<W>) -> Result<(
     }
 }
 
-/// Prints `ready` and what the server listens on, where all threads can be made.
+/// Prints `ready` and what the server listens on, where the workers have their memory and all threads can be made. Gives that memory.
 fn announce<G, R: Threads + Clock + Sync, W: Write>(
     rt: &R,
     alloc: Global,
     door: &Door<G>,
     output: &mut Output<W>,
-) -> Result<(), Refusal>
+) -> Result<Vec<Piece>, Refusal>
     ensures printed { OnOk result (Took output.old.calls output.new.calls (ready_text door.now.settings)) }
     ensures calls { IsPrintedNow output.old.calls output.new.calls (ready_text door.now.settings) }
     ensures cause { IfErr result IsStreamFault }
 {
+    let Ok(pieces) = pieces_for(alloc, door.settings.workers) else {
+        return Err(Refusal::OutOfMemory);
+    };
     if !can_start(
         rt,
         alloc,
@@ -300,7 +326,8 @@ fn announce<G, R: Threads + Clock + Sync, W: Write>(
     ) {
         return Err(Refusal::OutOfMemory);
     }
-    print_ready(door.settings, output)
+    print_ready(door.settings, output)?;
+    Ok(pieces)
 }
 
 /// Prints `ready` and what the server listens on where all threads can be made, serves the connections, and prints what is due then.
@@ -321,20 +348,26 @@ fn serve_and_print<
     ensures settled { OnOk result.ended (IsTrue D.is_honest → IsSettled ⟦<D as Disk>⟧ result.store) }
     ensures printed { PrintsAllOnOk ⟦<D as Disk>⟧ door.now.settings result.store output.old output.new result.ended }
     ensures front { PrintsFrontOnErr ⟦<D as Disk>⟧ door.now.settings result.store output.old output.new result.ended }
+    ensures taken { OnOk result.ended (result.taken.count ≡ door.now.settings.connections) }
     ensures cause { IfErr result.ended (IsServingFault ⟦<D as Disk>⟧ store.devices result.store.devices) }
 {
     store.stands();
-    if let Err(refusal) = announce(rt, alloc, door, output) {
-        return Service {
-            store,
-            moments: Trail::new(),
-            ended: Err(refusal),
-        };
-    }
+    let pieces = match announce(rt, alloc, door, output) {
+        Ok(pieces) => pieces,
+        Err(refusal) => {
+            return Service {
+                store,
+                moments: Trail::new(),
+                taken: Taken::none(),
+                ended: Err(refusal),
+            };
+        }
+    };
     let threads = u64::from(door.settings.workers) + 1;
     let Service {
         store,
         moments,
+        taken,
         ended,
     } = serve_by::<D, Brand, Brand, G, R>(
         rt,
@@ -342,12 +375,14 @@ fn serve_and_print<
         store,
         Blank::new(threads),
         Blank::new(threads),
+        pieces,
         door,
     );
     if let Err(fault) = ended {
         return Service {
             store,
             moments,
+            taken,
             ended: Err(Refusal::from(fault)),
         };
     }
@@ -355,6 +390,7 @@ fn serve_and_print<
     Service {
         store,
         moments,
+        taken,
         ended,
     }
 }
@@ -376,6 +412,7 @@ fn recover_and_serve<
     Result<Store<D>, (Refusal, Devices<D>)>,
     Trail<Moment<D>>,
     Trail<Opened<D>>,
+    Taken,
 )
     requires frames { IsFrameCount door.now.settings.frames }
     ensures well { EndsWellWhere ⟦<D as Disk>⟧ door.now.settings devices output.old output.new result }
@@ -384,18 +421,19 @@ fn recover_and_serve<
 {
     let store = match Store::recover(alloc, devices, door.settings.frames, Caps::profile()) {
         Ok(store) => store,
-        Err(refused) => return (Err(refused), Trail::new(), Trail::new()),
+        Err(refused) => return (Err(refused), Trail::new(), Trail::new(), Taken::none()),
     };
     let mut opened = Trail::new();
     opened.push(Opened::of(&store));
     let Service {
         store,
         moments,
+        taken,
         ended,
     } = serve_and_print(rt, alloc, store, door, output);
     match ended {
-        Ok(()) => (Ok(store), moments, opened),
-        Err(refusal) => (Err((refusal, store.into_devices())), moments, opened),
+        Ok(()) => (Ok(store), moments, opened, taken),
+        Err(refusal) => (Err((refusal, store.into_devices())), moments, opened, taken),
     }
 }
 
@@ -410,6 +448,8 @@ pub struct Outcome<D: Disk> {
     pub moments: Trail<Moment<D>>,
     /// The store as it was when it was opened, if it was. Contracts alone see it.
     pub opened: Trail<Opened<D>>,
+    /// How many connections workers took.
+    pub taken: Taken,
 }
 
 /// Recovers the store that the devices hold, prints `ready` and what the server listens on, takes the connections, holds their conversations, makes
@@ -438,13 +478,20 @@ pub fn serve<
     ensures quiet { OnOk result.ended (outputs.new.faults.calls ≡ outputs.old.faults.calls) }
     ensures early { StopsEarly ⟦<D as Disk>⟧ door.now.settings devices outputs.old outputs.new result }
 {
-    let (ended, moments, opened) = recover_and_serve(rt, alloc, devices, door, &mut outputs.output);
+    let (ended, moments, opened, taken) = recover_and_serve(
+        rt,
+        alloc,
+        devices,
+        door,
+        &mut outputs.output,
+    );
     match ended {
         Ok(store) => Outcome {
             status: 0,
             ended: Ok(store),
             moments,
             opened,
+            taken,
         },
         Err((refusal, devices)) => {
             let status = end_by_fault(refusal, &mut outputs.faults);
@@ -453,6 +500,7 @@ pub fn serve<
                 ended: Err(devices),
                 moments,
                 opened,
+                taken,
             }
         }
     }

@@ -5,6 +5,7 @@ ghost use Rattle.hg_store.specs.Images.{failures_of};
 ghost use Rattle.hg_server.specs.Serving.{IsSettled, StillWentOn};
 
 use crate::fault::ServingFault;
+use crate::handing::Taken;
 use hg_desk::moment::Moment;
 use hg_disk::Disk;
 use hg_model::verdict::Refusal;
@@ -44,19 +45,27 @@ fn commit_all<D: Disk>(
     }
 }
 
-/// Makes all accepted events of a store durable, where the workers were taken in.
+/// Makes all accepted events of a store durable, where the workers were taken in. Where they took fewer connections than they should, though the
+/// store works, the listener has failed.
 pub(crate) fn settle<D: Disk>(
     store: &mut Store<D>,
     moments: &mut Trail<Moment<D>>,
     has_failed: bool,
     taken_in: Result<(), AllocError>,
+    taken: &Taken,
+    connections: u16,
 ) -> Result<(), ServingFault>
     ensures went { StillWentOn ⟦<D as Disk>⟧ moments.old store.old moments.new store.new }
     ensures device { failures_of ⟦<D as Disk>⟧ store.old.devices ≤ failures_of ⟦<D as Disk>⟧ store.new.devices }
     ensures works { OnOk result (store.new.is_broken ≡ false) }
     ensures settled { OnOk result (IsTrue D.is_honest → IsSettled ⟦<D as Disk>⟧ store.new) }
     ensures broken { IfErr result (λ fault. fault ≡ ServingFault.Broken → IsTrue has_failed) }
+    ensures all { OnOk result (taken.now.count ≡ connections) }
 {
     taken_in?;
-    commit_all(store, moments, has_failed)
+    commit_all(store, moments, has_failed)?;
+    if taken.count() != connections {
+        return Err(ServingFault::DeviceFault);
+    }
+    Ok(())
 }

@@ -1,11 +1,15 @@
 //! Workers, which hold conversations.
 
-ghost use Rattle.std.specs.Prelude.{◌≡◌, ◌≤◌, ◌++◌, All, IsTrue};
+ghost use Rattle.std.specs.Prelude.{◌≡◌, ◌≤◌, ◌++◌, ◌∷◌, ℕ, List, [], All, IsTrue, false};
 ghost use Rattle.hg_protocol.specs.Spelling.{FitsFrames};
+ghost use Rattle.hg_streams.specs.declared.call.WriteCall.TheVariants as call;
 ghost use Rattle.hg_server.specs.Replying.{replies_text};
+ghost use Rattle.hg_server.specs.Talking.{Answered, Carries, Ends, IsCutBehind, IsNew, LeavesFront, StaysDue, Takes, TellsFault};
 
 use crate::health::Terms;
 use crate::patience::{Patience, may_read_on};
+use crate::piece::Piece;
+use crate::wire::Wire;
 use crossbeam_channel::{Receiver, Sender};
 use hg_desk::desk::Desk;
 use hg_desk::share::{Column, Opening, Share};
@@ -67,11 +71,13 @@ impl Gate for OpenGate {
 
 /// What becomes of a connection, and of its worker.
 #[derive(Clone, Copy, PartialEq, Eq, Drop)]
-enum Course {
+pub(crate) enum Course {
     /// It is read on.
     ReadOn,
     /// It ends.
     End,
+    /// It ends, since a write failed.
+    Torn,
     /// It ends, and its worker too.
     Stop,
 }
@@ -92,8 +98,8 @@ pub struct Seat<'a, D: Disk, A: Opening, B: Column, G, R> {
 /// One conversation under way: its connection, how far it is, the bytes of a frame that is not whole yet, the replies that are not
 /// written yet, and where the flusher is nudged.
 #[derive(Drop)]
-struct Talk<'a, S> {
-    stream: S,
+pub(crate) struct Talk<'a, S> {
+    wire: Wire<S>,
     desk: Desk,
     feed: Feed<Frame>,
     replies: Vec<u8>,
@@ -102,11 +108,43 @@ struct Talk<'a, S> {
     nudges: &'a Sender<()>,
 }
 
+/// Whether a client said Bye, to which nothing is said, and which ends its turn.
+fn is_farewell(replies: &[Reply]) -> bool {
+    match replies.last() {
+        Some(Reply::Nothing) => true,
+        _ => false,
+    }
+}
+
+/// Whether events were acknowledged, which ends a turn.
+fn is_acknowledged(replies: &[Reply]) -> bool {
+    match replies.last() {
+        Some(Reply::Ack { .. }) => true,
+        _ => false,
+    }
+}
+
+/// Appends the bytes of replies. Tells whether there was memory for all.
+fn put_replies(replies: &[Reply], held: &mut Vec<u8>) -> bool
+    requires fits { All FitsFrames replies.now }
+    ensures all { IsTrue result → held.new.items ≡ held.old.items ++ replies_text replies.now }
+    ensures front { (rest : List ℕ) × (held.new.items ++ rest ≡ held.old.items ++ replies_text replies.now) }
+{
+    for reply in replies {
+        let Ok(()) = put_reply(reply, held) else {
+            return false;
+        };
+    }
+    true
+}
+
 impl<'a, S> Talk<'a, S> {
     /// A conversation that has not begun.
-    fn new(alloc: Global, stream: S, nudges: &'a Sender<()>) -> Talk<'a, S> {
+    fn new(alloc: Global, stream: S, nudges: &'a Sender<()>) -> Talk<'a, S>
+        ensures { IsNew result }
+    {
         Talk {
-            stream,
+            wire: Wire::new(stream),
             desk: Desk::new(),
             feed: Feed::new(alloc),
             replies: Vec::new(alloc),
@@ -122,27 +160,8 @@ impl<'a, S> Talk<'a, S> {
         }
     }
 
-    /// Holds the replies to a turn back, and nudges the flusher behind an Ack. Tells whether the conversation goes on: it ends at the reply
-    /// to a Bye, and where no memory is left for a reply.
-    fn hold_back<R: Wait>(&mut self, rt: &R, replies: &[Reply]) -> bool
-        requires fits { All FitsFrames replies.now }
-        ensures all { IsTrue result → self.new.replies.items ≡ self.old.replies.items ++ replies_text replies.now }
-    {
-        for reply in replies {
-            match reply {
-                Reply::Nothing => return false,
-                Reply::Ack { .. } => self.nudge(rt),
-                _ => {}
-            }
-            let Ok(()) = put_reply(reply, &mut self.replies) else {
-                return false;
-            };
-        }
-        true
-    }
-
-    /// Answers a turn of frames under one hold of the lock, and holds the replies back. Where the turn made events durable, it nudges the
-    /// flusher. Tells whether the conversation goes on, as `hold_back` does. It ends too where no memory is left for the list of replies.
+    /// Answers a turn of frames under one hold of the lock, and holds the replies back. Behind an Ack, and where the turn made events durable, it
+    /// nudges the flusher. Tells whether the conversation goes on: it ends behind a Bye, and where no memory is left for the replies.
     fn answer<D: Disk, A: Opening, B: Column, G, R: Wait>(
         &mut self,
         seat: &mut Seat<D, A, B, G, R>,
@@ -150,6 +169,9 @@ impl<'a, S> Talk<'a, S> {
     ) -> bool
         ensures accepted { seat.old.share.accepted ≤ seat.new.share.accepted }
         ensures durable { seat.old.share.durable ≤ seat.new.share.durable }
+        ensures answered { IsTrue result → Answered ⟦<D as Disk>⟧ A.start self.old self.new turn.now }
+        ensures cut { IsCutBehind ⟦<D as Disk>⟧ A.start self.old self.new turn.now }
+        ensures feed { self.new.feed ≡ self.old.feed }
     {
         let task = ConverseTask {
             alloc: seat.alloc,
@@ -161,24 +183,37 @@ impl<'a, S> Talk<'a, S> {
             return false;
         };
         self.desk = desk;
-        if durable < seat.share.durable() {
+        let replies = replies.as_slice();
+        if durable < seat.share.durable() || is_acknowledged(replies) {
             self.nudge(seat.rt);
         }
-        self.hold_back(seat.rt, replies.as_slice())
+        if !put_replies(replies, &mut self.replies) {
+            return false;
+        }
+        !is_farewell(replies)
     }
 }
 
 impl<'a, S: Write> Talk<'a, S> {
-    /// Writes the replies out, all in one write where the connection takes them.
-    fn write_out(&mut self) -> bool {
-        let is_written = self.stream.write_all(self.replies.as_slice()).is_ok();
+    /// Writes the replies out, all in one write where the connection takes them. Tells whether it took them.
+    fn write_out(&mut self) -> bool
+        ensures took { IsTrue result → self.new.wire.writes ≡ call.Took self.old.replies.items ∷ self.old.wire.writes }
+        ensures torn { result ≡ false → self.new.wire.writes ≡ call.Torn self.old.replies.items ∷ self.old.wire.writes }
+        ensures none { self.new.replies.items ≡ [] }
+        ensures same { (self.new.wire.reads ≡ self.old.wire.reads) × (self.new.desk ≡ self.old.desk) × (self.new.feed ≡ self.old.feed) }
+    {
+        let is_written = self.wire.write(self.replies.as_slice()).is_ok();
         self.was_answered = self.was_answered || !self.replies.is_empty();
         self.replies.clear();
         is_written
     }
 
-    /// Writes the replies out where they are many.
-    fn write_many(&mut self) -> bool {
+    /// Writes the replies out where they are many. Tells whether the connection took them.
+    fn write_many(&mut self) -> bool
+        ensures due { IsTrue result → StaysDue self.old self.new }
+        ensures front { result ≡ false → LeavesFront self.old self.new }
+        ensures same { (self.new.wire.reads ≡ self.old.wire.reads) × (self.new.desk ≡ self.old.desk) × (self.new.feed ≡ self.old.feed) }
+    {
         if self.replies.len() < PIECE_BYTES {
             return true;
         }
@@ -193,6 +228,8 @@ impl<'a, S: Write> Talk<'a, S> {
     ) -> Course
         ensures accepted { seat.old.share.accepted ≤ seat.new.share.accepted }
         ensures durable { seat.old.share.durable ≤ seat.new.share.durable }
+        ensures carried { Carries ⟦<D as Disk>⟧ A.start self.old self.new frames.now result }
+        ensures feed { self.new.feed ≡ self.old.feed }
     {
         let mut rest = frames;
         while !rest.is_empty() {
@@ -202,11 +239,23 @@ impl<'a, S: Write> Talk<'a, S> {
             if seat.gate.at(Point::Answered) == Pass::Stop {
                 return Course::Stop;
             }
-            if !goes_on || !self.write_many() {
+            if !goes_on {
                 return Course::End;
+            }
+            if !self.write_many() {
+                return Course::Torn;
             }
         }
         Course::ReadOn
+    }
+
+    /// Writes out what is held, and Fault 1 behind it where there is memory for it.
+    fn tell_fault(&mut self)
+        ensures fault { TellsFault self.old self.new }
+        ensures reads { self.new.wire.reads ≡ self.old.wire.reads }
+    {
+        let _ = put_reply(&Reply::Fault { code: 1 }, &mut self.replies);
+        let _ = self.write_out();
     }
 
     /// Takes a piece of what a client sent: answers its frames, and a fault behind them.
@@ -217,44 +266,57 @@ impl<'a, S: Write> Talk<'a, S> {
     ) -> Course
         ensures accepted { seat.old.share.accepted ≤ seat.new.share.accepted }
         ensures durable { seat.old.share.durable ≤ seat.new.share.durable }
+        ensures taken { Takes ⟦<D as Disk>⟧ A.start self.old self.new piece.now result }
     {
         let Ok(fed) = self.feed.push(piece) else {
             return Course::End;
         };
         let course = self.answer_all(seat, fed.messages.as_slice());
-        if course == Course::ReadOn && fed.fault.is_some() {
-            let _ = put_reply(&Reply::Fault { code: 1 }, &mut self.replies);
-            let _ = self.write_out();
-            return Course::End;
+        match course {
+            Course::Torn => Course::Torn,
+            Course::ReadOn if fed.fault.is_some() => {
+                self.tell_fault();
+                Course::End
+            }
+            Course::ReadOn => {
+                if !self.write_out() {
+                    return Course::Torn;
+                }
+                Course::ReadOn
+            }
+            Course::End => {
+                let _ = self.write_out();
+                Course::End
+            }
+            Course::Stop => {
+                let _ = self.write_out();
+                Course::Stop
+            }
         }
-        if !self.write_out() && course == Course::ReadOn {
-            return Course::End;
-        }
-        course
     }
 }
 
 /// Holds one conversation to its end: until the client ends it, or breaks its rules, or is waited for no longer, or the connection
-/// fails, or the gate says stop, or after 2^32 reads.
+/// fails, or the gate says stop, or after 2^32 reads. `ReadOn` says that it was whole: all frames that were read were answered.
 fn converse<D: Disk, A: Opening, B: Column, S: Read + Write + Drop, G: Gate, R: Wait + Clock>(
     seat: &mut Seat<D, A, B, G, R>,
-    stream: S,
-    nudges: &Sender<()>,
+    talk: &mut Talk<S>,
     piece: &mut [u8],
 ) -> Course
+    requires new { IsNew talk.old }
     ensures accepted { seat.old.share.accepted ≤ seat.new.share.accepted }
     ensures durable { seat.old.share.durable ≤ seat.new.share.durable }
+    ensures talked { Ends ⟦<D as Disk>⟧ A.start result talk.new }
 {
-    let mut talk = Talk::new(seat.alloc, stream, nudges);
     let mut patience = Patience::new(seat.rt, seat.terms);
     for _ in 0..MOST_READS {
         if patience.is_over(seat.rt) {
             break;
         }
-        let len = match talk.stream.read(piece) {
+        let len = match talk.wire.read(piece) {
             Ok(0) => break,
             Ok(len) => len,
-            Err(error) if may_read_on(&error) => continue,
+            Err(kind) if may_read_on(kind) => continue,
             Err(_) => break,
         };
         let course = talk.take(seat, &piece[..len]);
@@ -265,16 +327,18 @@ fn converse<D: Disk, A: Opening, B: Column, S: Read + Write + Drop, G: Gate, R: 
             patience.renew(seat.rt);
         }
     }
-    Course::End
+    Course::ReadOn
 }
 
 /// Holds the conversations of a channel, one after another, until it is closed and empty or the gate says stop, and gives the share
 /// back. A connection is one value that is read and written; it is closed when its conversation ends. One that fails ends alone.
-/// Where memory is refused for a piece of 64 KiB no conversation is held. Behind each Ack it leaves a nudge for the flusher, if none waits.
+/// What it reads into is taken before it begins, so it never ends for want of memory; a conversation may. Behind each Ack it leaves a nudge for
+/// the flusher, if none waits.
 ///
 /// It waits for the lock, for connections, and in reads and writes.
 pub fn worker<D: Disk, A: Opening, B: Column, S: Read + Write + Drop, G: Gate, R: Wait + Clock>(
     seat: Seat<D, A, B, G, R>,
+    piece: Piece,
     connections: &Receiver<S>,
     nudges: &Sender<()>,
 ) -> Share<A, B>
@@ -282,15 +346,13 @@ pub fn worker<D: Disk, A: Opening, B: Column, S: Read + Write + Drop, G: Gate, R
     ensures durable { seat.entry.share.durable ≤ result.durable }
 {
     let mut seat = seat;
-    let mut piece = Vec::new(seat.alloc);
-    if piece.resize(PIECE_BYTES, 0).is_err() {
-        return seat.share;
-    }
+    let mut piece = piece;
     for _ in seat.rt.forever() {
         let Ok(stream) = connections.recv(seat.rt) else {
             break;
         };
-        if converse(&mut seat, stream, nudges, piece.as_mut_slice()) == Course::Stop {
+        let mut talk = Talk::new(seat.alloc, stream, nudges);
+        if converse(&mut seat, &mut talk, piece.as_mut_slice()) == Course::Stop {
             break;
         }
     }

@@ -17,6 +17,7 @@ use hg_disk::{Disk, MemDisk};
 use hg_model::event::{Access, Event};
 use hg_server::flusher::{Due, flusher};
 use hg_server::health::Terms;
+use hg_server::piece::Piece;
 use hg_server::worker::{OpenGate, Seat, worker};
 use hg_store::store::Store;
 use hg_test_kit::digits::bytes_of;
@@ -185,9 +186,12 @@ fn hold_conversation<A: Opening, B: Column, R: Wait + Clock>(
     let Ok((to, from)) = crossbeam_channel::unbounded(table.alloc) else {
         return share;
     };
+    let Ok(piece) = Piece::new(table.alloc) else {
+        return share;
+    };
     let _ = to.send(table.rt, peer);
     drop(to);
-    worker(table.seat(share, &OpenGate), &from, nudges)
+    worker(table.seat(share, &OpenGate), piece, &from, nudges)
 }
 
 /// Sends bytes to a worker, and tells the replies and how many nudges wait then.

@@ -37,6 +37,7 @@ returns-in-Ok-ended-clause-well g c =
     record {
       began = was_opened g.D.Disk c.args.devices start now moments c.serve_and_print-store.ensures.went settings.frames c.new-opened.result c.push.new.self c.of.result
           (opened_with g.D.Disk start settings.frames c.profile.result c.profile.ensures c.in-Ok.ensures.limits) c.new-opened.ensures c.push.ensures c.of.ensures;
+      all_taken = subst (λ r. OnOk r (c.serve_and_print-store.result.taken.count ≡ c.args.door.now.settings.connections)) c.in-Ok-ended.is c.serve_and_print-store.ensures.taken;
       printed = subst (λ r. OnOk r (Took c.args.output.now.calls c.serve_and_print-store.new.output.calls (serving_text c.args.door.now.settings (live g.D.Disk now)))) c.in-Ok-ended.is c.serve_and_print-store.ensures.printed;
       served = served g.D.Disk c.args.devices start now moments c.serve_and_print-store.ensures.went (λ honest. c.in-Ok.ensures.content honest) (λ honest. c.in-Ok.ensures.images honest);
       settled = subst (λ r. OnOk r (IsTrue g.D.Disk.is_honest → IsSettled g.D.Disk now)) c.in-Ok-ended.is c.serve_and_print-store.ensures.settled;

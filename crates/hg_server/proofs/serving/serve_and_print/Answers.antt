@@ -66,7 +66,7 @@ returns-in-Err-ended-clause-front g c =
     let mid = c.announce.new.output.calls in
     let last = live g.D.Disk c.serve_by-store.result.store in
     front_more old mid line (served_text settings.connections last) (serving_text settings last) refl
-    (took_front old mid line c.in_default.ensures.printed)
+    (took_front old mid line c.in-Ok.ensures.printed)
 
 pub returns-clause-printed : goal.returns-clause-printed
 returns-clause-printed g c =
@@ -76,7 +76,7 @@ returns-clause-printed g c =
     let last = live g.D.Disk c.serve_by-store.result.store in
     on_ok_weaker c.print_end-ended.result
     (λ printed. appends_on old mid c.print_end-ended.new.output.calls (ready_text settings) (served_text settings.connections last)
-    c.in_default.ensures.printed printed)
+    c.in-Ok.ensures.printed printed)
     c.print_end-ended.ensures.printed
 
 pub returns-clause-front : goal.returns-clause-front
@@ -85,4 +85,4 @@ returns-clause-front g c =
     let old = c.args.output.now.calls in
     let mid = c.announce.new.output.calls in
     c.print_end-ended.ensures.front old (ready_text settings)
-    c.in_default.ensures.printed
+    c.in-Ok.ensures.printed

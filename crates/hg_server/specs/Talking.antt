@@ -1,0 +1,139 @@
+-- What a client and a worker say to each other.
+use Rattle.std.specs.Prelude.{◌≡◌, ◌⊎◌, ◌++◌, ℕ, List, [], ◌∷◌, Option, Some}
+use Rattle.std.specs.List.{flat_map}
+use Rattle.hg_disk.specs.declared.disk.Disk as disk
+use Rattle.hg_protocol.specs.declared.frame.Frame.{Frame}
+use Rattle.hg_protocol.specs.declared.message.FrameFault.{FrameFault}
+use Rattle.hg_protocol.specs.declared.message.Message as message
+use Rattle.hg_protocol.specs.declared.reply.Reply.{Reply}
+use Rattle.hg_protocol.specs.declared.reply.Reply.TheVariants.{Fault}
+use Rattle.hg_protocol.specs.declared.frame.TheConstants.{MOST_FRAME_BYTES}
+use Rattle.hg_protocol.specs.Frames.{FrameFits, body_text}
+use Rattle.hg_protocol.specs.Framing.{frame_text}
+use Rattle.hg_protocol.specs.Streams.{EndsBy}
+use Rattle.hg_streams.specs.Calls.{given}
+use Rattle.hg_streams.specs.declared.call.ReadCall.{ReadCall}
+use Rattle.hg_streams.specs.declared.call.WriteCall.{WriteCall}
+use Rattle.hg_streams.specs.Holding.{IsDue}
+use Rattle.hg_streams.specs.Written.{TookFront}
+use Rattle.hg_desk.specs.Conversation.{WasAnswered}
+use Rattle.hg_desk.specs.Going.{Began}
+use Rattle.hg_desk.specs.Told.{Told}
+use Rattle.hg_desk.specs.declared.desk.Stage.{Stage}
+use Rattle.hg_desk.specs.declared.desk.Stage.TheVariants.{Greeting}
+use Rattle.hg_server.specs.Replying.{replies_text}
+use Rattle.hg_server.specs.declared.worker.Course.{Course}
+use Rattle.hg_server.specs.declared.worker.Course.TheVariants as course
+use Rattle.hg_server.specs.declared.worker.Talk.{Talk}
+
+-- the grammar of a client's frames
+abbrev pub grammar : message.Ghosts Frame
+grammar = record { MOST_BYTES = MOST_FRAME_BYTES; body = body_text; fits = FrameFits }
+
+-- the bytes of frames, one after another
+abbrev pub frames_text : List Frame → List ℕ
+frames_text all = flat_map (frame_text grammar) all
+
+-- Frames of a client that were answered under one hold of the lock, and their replies.
+pub record Turn : Type 0 where
+  pub frames : List Frame
+  pub replies : List Reply
+
+-- the frames of turns, which have the newest first
+abbrev pub frames_of : List Turn → List Frame
+frames_of [] = []
+frames_of (turn ∷ earlier) = frames_of earlier ++ turn.frames
+
+-- the bytes sent for their replies
+abbrev pub sent_for : List Turn → List ℕ
+sent_for [] = []
+sent_for (turn ∷ earlier) = sent_for earlier ++ replies_text turn.replies
+
+module _ {D : Type 0} (g : disk.Ghosts D) (opening : Option Began) where
+  -- Turns, the newest first. Each was answered over the store, from the stage to which the ones before it led.
+  abbrev pub AreTurns : List Turn → Stage → Type 0
+  AreTurns [] stage = stage ≡ Greeting
+  AreTurns (turn ∷ earlier) stage = (from : Stage) × AreTurns earlier from × (told : Told) × (told_after : Told) × WasAnswered g opening from told told_after turn.frames stage turn.replies
+
+  -- A conversation so far. What was read are the frames of its turns, those that wait, and the tail. What was written, what is held and
+  -- the rest, which is not held yet, are the replies to its turns.
+  pub record IsTalk (stage : Stage) (reads : List ReadCall) (writes : List WriteCall) (held rest : List ℕ) (waiting : List Frame) (tail : List ℕ) : Type 0 where
+    pub turns : List Turn
+    pub answered : AreTurns turns stage
+    pub heard : given reads ≡ frames_text (frames_of turns) ++ (frames_text waiting ++ tail)
+    pub due : IsDue [] writes held rest (sent_for turns)
+
+  -- Behind the last turn there is nothing, or Fault 1 where no frame follows in what was read.
+  abbrev pub IsLast : List Reply → List ℕ → Type 0
+  IsLast last more = (last ≡ []) ⊎ ((last ≡ Fault 1 ∷ []) × (fault : FrameFault) × EndsBy grammar (Some fault) more)
+
+  -- A conversation that has ended. What was read begins with the frames of its turns, and what was written is a front of the replies to them.
+  pub record WasTalk (reads : List ReadCall) (writes : List WriteCall) : Type 0 where
+    pub turns : List Turn
+    pub stage : Stage
+    pub answered : AreTurns turns stage
+    pub more : List ℕ
+    pub heard : given reads ≡ frames_text (frames_of turns) ++ more
+    pub last : List Reply
+    pub is_last : IsLast last more
+    pub said : TookFront [] writes (sent_for turns ++ replies_text last)
+
+  module _ {S : Type 0} where
+    -- All replies to the turns so far were written or are held.
+    abbrev pub IsAt : Talk S → List Frame → List ℕ → Type 0
+    IsAt talk waiting tail = IsTalk talk.desk talk.wire.reads talk.wire.writes talk.replies.items [] waiting tail
+
+    -- Some replies to the last turn may be lacking.
+    abbrev pub IsCut : Talk S → Type 0
+    IsCut talk = (stage : Stage) × (rest : List ℕ) × (waiting : List Frame) × (tail : List ℕ) × IsTalk stage talk.wire.reads talk.wire.writes talk.replies.items rest waiting tail
+
+    -- what holds of a conversation on this course, where no frame waits
+    abbrev pub Follows : Course → Talk S → List ℕ → Type 0
+    Follows course.ReadOn talk tail = IsAt talk [] tail
+    Follows course.End talk tail = IsCut talk
+    Follows course.Torn talk tail = WasTalk talk.wire.reads talk.wire.writes
+    Follows course.Stop talk tail = IsCut talk
+
+    -- These frames were answered, so they wait no more.
+    abbrev pub Answered : (old new : Talk S) → List Frame → Type 0
+    Answered old new frames = (waiting : List Frame) (tail : List ℕ) → IsAt old (frames ++ waiting) tail → IsAt new waiting tail
+
+    -- All replies to these frames are held, or some are lacking.
+    abbrev pub IsCutBehind : (old new : Talk S) → List Frame → Type 0
+    IsCutBehind old new frames = (waiting : List Frame) (tail : List ℕ) → IsAt old (frames ++ waiting) tail → IsCut new
+
+    -- All frames that wait are answered, as far as this course leads.
+    abbrev pub Carries : (old new : Talk S) → List Frame → Course → Type 0
+    Carries old new frames going = (tail : List ℕ) → IsAt old frames tail → Follows going new tail
+
+    -- what holds of a conversation on this course, when a piece was taken: where it goes on, all replies to what was read were written
+    abbrev pub Ends : Course → Talk S → Type 0
+    Ends course.ReadOn talk = IsAt talk [] talk.feed.left × (talk.replies.items ≡ [])
+    Ends course.End talk = WasTalk talk.wire.reads talk.wire.writes
+    Ends course.Torn talk = WasTalk talk.wire.reads talk.wire.writes
+    Ends course.Stop talk = WasTalk talk.wire.reads talk.wire.writes
+
+    -- A piece that was read is taken.
+    abbrev pub Takes : (old new : Talk S) → List ℕ → Course → Type 0
+    Takes old new piece going = IsAt old [] (old.feed.left ++ piece) → Ends going new
+
+module _ {S : Type 0} where
+  -- What is due stays due.
+  abbrev pub StaysDue : (old new : Talk S) → Type 0
+  StaysDue old new = (goal : List ℕ) → IsDue [] old.wire.writes old.replies.items [] goal → IsDue [] new.wire.writes new.replies.items [] goal
+
+  -- A front of what was due was written.
+  abbrev pub LeavesFront : (old new : Talk S) → Type 0
+  LeavesFront old new = (goal : List ℕ) → IsDue [] old.wire.writes old.replies.items [] goal → TookFront [] new.wire.writes goal
+
+  -- A front of what was due and of Fault 1 behind it was written.
+  abbrev pub TellsFault : (old new : Talk S) → Type 0
+  TellsFault old new = (goal : List ℕ) → IsDue [] old.wire.writes old.replies.items [] goal → TookFront [] new.wire.writes (goal ++ replies_text (Fault 1 ∷ []))
+
+  -- A conversation that has not begun.
+  pub record IsNew (talk : Talk S) : Type 0 where
+    pub desk : talk.desk ≡ Greeting
+    pub reads : talk.wire.reads ≡ []
+    pub writes : talk.wire.writes ≡ []
+    pub held : talk.replies.items ≡ []
+    pub left : talk.feed.left ≡ []

@@ -1,0 +1,73 @@
+//! Connections that keep what was read and written.
+
+ghost use Rattle.std.specs.Prelude.{◌≡◌, ◌≤◌, ◌∷◌, [], length, IfOk};
+ghost use Rattle.hg_streams.specs.Calls.{read_call, write_call};
+
+use hg_streams::call::{ReadCall, WriteCall};
+use hg_trail::Trail;
+use std::io::{Error, ErrorKind, Read, Write};
+
+/// A connection, and its reads and writes so far, which take no memory.
+#[derive(Drop)]
+pub(crate) struct Wire<S> {
+    stream: S,
+    reads: Trail<ReadCall>,
+    writes: Trail<WriteCall>,
+}
+
+impl<S> Wire<S> {
+    /// Wraps a connection that was not read or written yet.
+    pub(crate) fn new(stream: S) -> Wire<S>
+        ensures reads { result.reads ≡ [] }
+        ensures writes { result.writes ≡ [] }
+    {
+        Wire {
+            stream,
+            reads: Trail::new(),
+            writes: Trail::new(),
+        }
+    }
+}
+
+impl<S: Read> Wire<S> {
+    /// Reads once.
+    pub(crate) fn read(&mut self, buffer: &mut [u8]) -> Result<usize, ErrorKind>
+        ensures reads { self.new.reads ≡ read_call result buffer.new ∷ self.old.reads }
+        ensures writes { self.new.writes ≡ self.old.writes }
+        ensures within { IfOk result (λ n. n ≤ length buffer.new) }
+    {
+        match self.stream.read(buffer) {
+            Ok(count) => {
+                self.reads.push(ReadCall::Gave {
+                    bytes: Trail::of(&buffer[..count]),
+                });
+                Ok(count)
+            }
+            Err(error) => {
+                let kind = error.kind();
+                self.reads.push(ReadCall::Erred { kind });
+                Err(kind)
+            }
+        }
+    }
+}
+
+impl<S: Write> Wire<S> {
+    /// Writes all of the text.
+    pub(crate) fn write(&mut self, text: &[u8]) -> Result<(), Error>
+        ensures reads { self.new.reads ≡ self.old.reads }
+        ensures writes { self.new.writes ≡ write_call result text.now ∷ self.old.writes }
+    {
+        let bytes = Trail::of(text);
+        match self.stream.write_all(text) {
+            Ok(()) => {
+                self.writes.push(WriteCall::Took { bytes });
+                Ok(())
+            }
+            Err(error) => {
+                self.writes.push(WriteCall::Torn { bytes });
+                Err(error)
+            }
+        }
+    }
+}
